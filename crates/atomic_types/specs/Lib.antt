@@ -1,0 +1,4 @@
+pub mod Operations
+pub mod Records
+pub mod Objects
+pub mod Laws

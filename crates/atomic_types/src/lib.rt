@@ -1,0 +1,11 @@
+//! Atomic types: what operations do to objects, and which of them conflict.
+//!
+//! A type brings its operations and the laws of `AtomicType`; all that is proved of runs rests on these laws and on
+//! nothing else about a type.
+#![tactic(auto)]
+
+mod atomic;
+mod op;
+
+pub use atomic::AtomicType;
+pub use op::{Class, Op, Reply, Signal};

@@ -1,0 +1,19 @@
+//! What a run of guardians is: setups, steps, answers, events and histories, with their texts, and the definitions
+//! by which everything above is measured.
+//!
+//! The definitions stand in `specs/`, one file a subject. A history is read with its newest event first. The crates
+//! above promise that each answer is `answer_of` its step at the history so far.
+#![tactic(auto)]
+
+mod answer;
+mod history;
+mod setup;
+mod step;
+
+pub use action_names::{Deps, Name, NameFault, Names};
+pub use answer::{Answer, Refusal};
+pub use atomic_types::{Class, Op, Reply, Signal};
+pub use history::{Event, History};
+pub use setup::{Setup, SetupFault};
+pub use step::{ArmKind, ArmKinds, ObjectId, Step};
+pub use values::{Content, Identifier, Kind, Value};

@@ -1,0 +1,15 @@
+//! What the objects of guardians hold: values, records of them, and their text.
+//!
+//! Each content is one JSON document and has one spelling; what is read is that document, whatever its white space
+//! and the order of its members, and what is written is that spelling.
+#![tactic(auto)]
+
+mod content;
+mod record;
+mod value;
+mod words;
+
+pub use content::Content;
+pub use record::{Field, Record};
+pub use value::{Kind, Value};
+pub use words::{Identifier, MAX_TEXT, Text, ValueFault};
