@@ -19,3 +19,5 @@ pub mod Answers
 pub mod Runs
 pub mod Places
 pub mod Versions
+pub mod Texts
+pub mod Transcripts

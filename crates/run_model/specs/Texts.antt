@@ -1,0 +1,191 @@
+-- The texts of steps and answers, and the JSON document that a setup is.
+use Rattle.std.specs.Prelude.{ℕ, ◌≤◌, List, [], ◌∷◌, ◌++◌, length, codes, decimal, IsUtf8, FitsSigned, ◌≡◌, Some}
+use Rattle.std.specs.Fmt.{signed_decimal}
+use Rattle.std.specs.List.{AllByRecursion}
+use Rattle.serde_json.specs.Data.{Data, array, object, Items, no_items, item, no_members, member}
+use Rattle.serde_json.specs.Read.{read}
+use Rattle.action_names.specs.Names.{Name, IsName, IsComponent, name_text}
+use Rattle.values.specs.declared.content.Content.{Content}
+use Rattle.values.specs.Values.{value_text}
+use Rattle.values.specs.Contents.{IsContent, content_data}
+use Rattle.atomic_types.specs.declared.op.Op as op
+use Rattle.atomic_types.specs.declared.op.Op.TheVariants.{Get, Set, Low, High, Size, Fetch, Store, AddHigh, AddLow, RemoveHigh, RemoveLow, Is, ValueOf, Change}
+use Rattle.atomic_types.specs.declared.op.Reply.{Reply}
+use Rattle.atomic_types.specs.declared.op.Reply.TheVariants.{Gives, Truth, Signals}
+use Rattle.atomic_types.specs.declared.op.Reply.TheVariants as reply
+use Rattle.atomic_types.specs.declared.op.Signal.{Signal}
+use Rattle.atomic_types.specs.declared.op.Signal.TheVariants.{Bounds, WrongTag}
+use Rattle.atomic_types.specs.declared.op.Signal.TheVariants as signal
+use Rattle.atomic_types.specs.Operations.{IsOp}
+use Rattle.run_model.specs.declared.step.ArmKind.{ArmKind}
+use Rattle.run_model.specs.declared.step.ArmKind.TheVariants as arm
+use Rattle.run_model.specs.declared.step.ObjectId.{ObjectId}
+use Rattle.run_model.specs.declared.step.Step.{Step}
+use Rattle.run_model.specs.declared.step.Step.TheVariants.{Top, NestedTop, Call, Arms, Op, Commit, Close, Prepare, Decide, Abort, Tell, Crash, Recover}
+use Rattle.run_model.specs.declared.answer.Answer.{Answer}
+use Rattle.run_model.specs.declared.answer.Answer.TheVariants.{Began, Granted, Waits, VoteYes, VoteNo, Done, Refused}
+use Rattle.run_model.specs.declared.answer.Refusal.{Refusal}
+use Rattle.run_model.specs.declared.answer.Refusal.TheVariants.{NoGuardian, NoAction, NoObject, Ended, Busy, Gone, Down, Elsewhere, Orphan, NotSo, TooDeep, NotTop, NotSub, NotClosed, Already, Unready, IsUp, Limit, BadOp}
+use Rattle.run_model.specs.Replay.{Setup}
+use Rattle.std.specs.Prelude.{true, false}
+
+-- fields of a line are parted by one space
+abbrev pub space : ℕ
+space = 32
+
+-- a guardian and an object's number there, as in 2/7
+abbrev pub object_text : ObjectId → List ℕ
+object_text x = decimal x.guardian ++ 47 ∷ decimal x.number
+
+-- an operation's name and its arguments
+abbrev pub op_text : op.Op → List ℕ
+op_text (Get field) = codes "get " ++ field
+op_text (Set field v) = codes "set " ++ field ++ space ∷ value_text v
+op_text Low = codes "low"
+op_text High = codes "high"
+op_text Size = codes "size"
+op_text (Fetch index) = codes "fetch " ++ signed_decimal index
+op_text (Store index v) = codes "store " ++ signed_decimal index ++ space ∷ value_text v
+op_text (AddHigh v) = codes "addh " ++ value_text v
+op_text (AddLow v) = codes "addl " ++ value_text v
+op_text RemoveHigh = codes "remh"
+op_text RemoveLow = codes "reml"
+op_text (Is tag) = codes "is " ++ tag
+op_text (ValueOf tag) = codes "value " ++ tag
+op_text (Change tag v) = codes "change " ++ tag ++ space ∷ value_text v
+
+-- the kinds of arms, a space before each
+abbrev pub kinds_text : List ArmKind → List ℕ
+kinds_text [] = []
+kinds_text (arm.Sub ∷ kinds) = codes " s" ++ kinds_text kinds
+kinds_text (arm.Top ∷ kinds) = codes " t" ++ kinds_text kinds
+
+-- the one spelling of a step, without its line feed
+abbrev pub step_text : Step → List ℕ
+step_text (Top g) = codes "top " ++ decimal g
+step_text (NestedTop a) = codes "nest " ++ name_text a
+step_text (Call a g) = codes "call " ++ name_text a ++ space ∷ decimal g
+step_text (Arms a kinds) = codes "arms " ++ name_text a ++ kinds_text kinds
+step_text (Op a x wanted) = codes "op " ++ name_text a ++ space ∷ object_text x ++ space ∷ op_text wanted
+step_text (Commit a) = codes "commit " ++ name_text a
+step_text (Close t) = codes "close " ++ name_text t
+step_text (Prepare g t) = codes "prepare " ++ decimal g ++ space ∷ name_text t
+step_text (Decide t) = codes "decide " ++ name_text t
+step_text (Abort a) = codes "abort " ++ name_text a
+step_text (Tell g a) = codes "tell " ++ decimal g ++ space ∷ name_text a
+step_text (Crash g) = codes "crash " ++ decimal g
+step_text (Recover g) = codes "recover " ++ decimal g
+
+-- its numbers, names, texts and operation are within the limits
+abbrev pub HasStepParts : Step → Type 0
+HasStepParts (Top g) = IsComponent g
+HasStepParts (NestedTop a) = IsName a
+HasStepParts (Call a g) = IsName a × IsComponent g
+HasStepParts (Arms a kinds) = IsName a
+HasStepParts (Op a x wanted) = IsName a × IsComponent x.guardian × IsComponent x.number × IsOp wanted
+HasStepParts (Commit a) = IsName a
+HasStepParts (Close t) = IsName t
+HasStepParts (Prepare g t) = IsComponent g × IsName t
+HasStepParts (Decide t) = IsName t
+HasStepParts (Abort a) = IsName a
+HasStepParts (Tell g a) = IsComponent g × IsName a
+HasStepParts (Crash g) = IsComponent g
+HasStepParts (Recover g) = IsComponent g
+
+-- how many bytes a line has at most, without its line feed
+abbrev pub max_line : ℕ
+max_line = 8192
+
+-- a step that a line can spell
+pub record IsStep (step : Step) : Type 0 where
+  pub parts : HasStepParts step
+  pub line : length (step_text step) ≤ max_line
+
+-- the line spells the step
+pub record Spells (line : List ℕ) (step : Step) : Type 0 where
+  pub fits : IsStep step
+  pub text : line ≡ step_text step
+
+-- names, a space before each
+abbrev pub names_text : List Name → List ℕ
+names_text [] = []
+names_text (a ∷ names) = space ∷ name_text a ++ names_text names
+
+abbrev pub signal_text : Signal → List ℕ
+signal_text Bounds = codes "bounds"
+signal_text signal.Limit = codes "limit"
+signal_text WrongTag = codes "wrong_tag"
+
+abbrev pub reply_text : Reply → List ℕ
+reply_text (Gives v) = value_text v
+reply_text (Truth true) = codes "true"
+reply_text (Truth false) = codes "false"
+reply_text reply.Done = codes "done"
+reply_text (Signals s) = codes "signals " ++ signal_text s
+
+-- the number of a refusal
+abbrev pub refusal_number : Refusal → ℕ
+refusal_number NoGuardian = 1
+refusal_number NoAction = 2
+refusal_number NoObject = 3
+refusal_number Ended = 4
+refusal_number Busy = 5
+refusal_number Gone = 6
+refusal_number Down = 7
+refusal_number Elsewhere = 8
+refusal_number Orphan = 9
+refusal_number NotSo = 10
+refusal_number TooDeep = 11
+refusal_number NotTop = 12
+refusal_number NotSub = 13
+refusal_number NotClosed = 14
+refusal_number Already = 15
+refusal_number Unready = 16
+refusal_number IsUp = 17
+refusal_number Limit = 18
+refusal_number BadOp = 19
+
+-- the line of an answer, without its line feed
+abbrev pub answer_text : Answer → List ℕ
+answer_text (Began names) = codes "began" ++ names_text names
+answer_text (Granted r) = codes "granted " ++ reply_text r
+answer_text (Waits names) = codes "waits" ++ names_text names
+answer_text VoteYes = codes "vote yes"
+answer_text VoteNo = codes "vote no"
+answer_text (Done count) = codes "done " ++ decimal count
+answer_text (Refused why) = codes "refused " ++ decimal (refusal_number why)
+
+abbrev pub max_guardians : ℕ
+max_guardians = 1024
+
+abbrev pub max_objects : ℕ
+max_objects = 1024
+
+-- the objects of one guardian: at most 1,024
+abbrev pub AreObjects : List Content → Type 0
+AreObjects contents = (length contents ≤ max_objects) × AllByRecursion IsContent contents
+
+-- 1 to 1,024 guardians
+pub record IsSetup (setup : Setup) : Type 0 where
+  pub not_empty : 1 ≤ length setup
+  pub within_limit : length setup ≤ max_guardians
+  pub each : AllByRecursion AreObjects setup
+
+abbrev pub contents_items : List Content → Items
+contents_items [] = no_items
+contents_items (c ∷ contents) = item (content_data c) (contents_items contents)
+
+abbrev pub guardians_items : Setup → Items
+guardians_items [] = no_items
+guardians_items (contents ∷ setup) = item (object (member (codes "objects") (array (contents_items contents)) no_members)) (guardians_items setup)
+
+-- the JSON document that a setup is
+abbrev pub setup_data : Setup → Data
+setup_data setup = object (member (codes "guardians") (array (guardians_items setup)) no_members)
+
+-- the bytes are a text of the setup's document: its white space and the order of its members are free, and of members of one name
+-- the last counts
+pub record IsSetupText (bytes : List ℕ) (setup : Setup) : Type 0 where
+  pub fits : IsSetup setup
+  pub utf8 : IsUtf8 bytes
+  pub document : read bytes ≡ Some (setup_data setup)
