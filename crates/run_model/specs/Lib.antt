@@ -21,3 +21,6 @@ pub mod Places
 pub mod Versions
 pub mod Texts
 pub mod Transcripts
+pub mod LocalHistories
+pub mod Gathering
+pub mod StableContent
