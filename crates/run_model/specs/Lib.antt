@@ -6,6 +6,7 @@ pub use Rattle.values.specs.Contents
 pub use Rattle.atomic_types.specs.Operations
 pub use Rattle.atomic_types.specs.Records
 pub use Rattle.atomic_types.specs.Objects
+pub use Rattle.atomic_types.specs.Laws
 pub mod Actions
 pub mod Visibility
 pub mod Telling
@@ -17,10 +18,10 @@ pub mod Votes
 pub mod Refusals
 pub mod Answers
 pub mod Runs
-pub mod Places
-pub mod Versions
 pub mod Texts
 pub mod Transcripts
+pub mod Places
+pub mod Versions
 pub mod LocalHistories
 pub mod Gathering
 pub mod StableContent
