@@ -7,6 +7,11 @@ use Rattle.run_model.specs.declared.history.Event.{Event}
 use Rattle.run_model.specs.Replay.{Setup}
 use Rattle.run_model.specs.Answers.{answer_of}
 
+-- a setup, and what has happened to it so far
+pub record World : Type 0 where
+  pub setup : Setup
+  pub past : List Event
+
 -- a step that is refused or waits changes nothing, and is not in the history
 abbrev pub is_accepted : Answer → Bool
 is_accepted (Waits names) = false
@@ -33,3 +38,7 @@ answers_from setup past (step ∷ steps) =
 abbrev pub history_from : Setup → List Event → List Step → List Event
 history_from setup past [] = past
 history_from setup past (step ∷ steps) = history_from setup (history_after step (answer_of setup step past) past) steps
+
+-- the world after a step with this answer
+abbrev pub world_after : World → Step → Answer → World
+world_after w step answer = record { setup = w.setup; past = history_after step answer w.past }
