@@ -4,3 +4,4 @@ pub mod Crashes
 pub mod Orphans
 pub mod Endings
 pub mod Refusals
+pub mod Histories

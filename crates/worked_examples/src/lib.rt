@@ -3,7 +3,14 @@
 //! Each function promises that the steps of one example are answered as the example says, and does nothing.
 #![tactic(auto, unfolding(run_model::specs::Answers::answer_of))]
 
-ghost use Rattle.worked_examples.specs.Example.{Answers, Explains, action_2};
+ghost use Rattle.std.specs.Prelude.{◌≡◌, [], ◌∷◌, ◌++◌, Some, None, true, codes};
+ghost use Rattle.atomic_types.specs.declared.op.Class.{Class};
+ghost use Rattle.run_model.specs.Texts.{step_text, answer_text};
+ghost use Rattle.run_model.specs.Versions.{locks_on, versions, base_of};
+ghost use Rattle.run_model.specs.Gathering.{least_failing};
+ghost use Rattle.run_model.specs.StableContent.{stable_count, stable_base, stable_prepared, is_stably_decided};
+ghost use Rattle.worked_examples.specs.Example.{Answers, Explains, opening_setup, history_of, record_of, action_1, action_1_1, action_2, balance, set_balance, gives};
+ghost use Rattle.worked_examples.specs.Histories as histories;
 ghost use Rattle.worked_examples.specs.Telling as telling;
 ghost use Rattle.worked_examples.specs.Crashes as crashes;
 ghost use Rattle.worked_examples.specs.Orphans as orphans;
@@ -94,4 +101,43 @@ pub fn refusal_numbers()
 /// A call that would begin an action of 33 levels is refused.
 pub fn depth_limit()
     ensures { Answers refusals.depth_limit }
+{}
+
+/// Histories that fit together fail nowhere.
+pub fn histories_gather()
+    ensures { least_failing histories.one_guardian (histories.histories_of histories.transfer) ≡ None }
+{}
+
+/// A reply that was invented fails at its stamp.
+pub fn invented_reply_fails()
+    ensures { least_failing histories.one_guardian histories.invented_reply ≡ Some 3 }
+{}
+
+/// An event that one of its histories lacks fails at its stamp.
+pub fn missing_event_fails()
+    ensures { least_failing histories.one_guardian histories.registry_with_a_gap ≡ Some 5 }
+{}
+
+/// A guardian that voted yes and was told the commit has installed what it prepared; its home has decided.
+pub fn stores_after_commit()
+    ensures count { stable_count 2 (history_of crashes.crash_after_yes_vote) ≡ 1 }
+    ensures base { stable_base opening_setup 2 1 (history_of crashes.crash_after_yes_vote) ≡ Some (record_of (codes "n") 4) }
+    ensures prepared { stable_prepared opening_setup 2 action_1 (history_of crashes.crash_after_yes_vote) ≡ None }
+    ensures decided { is_stably_decided 1 action_1 (history_of crashes.crash_after_yes_vote) ≡ true }
+    ensures untold { stable_prepared opening_setup 1 action_1 (history_of crashes.crash_after_yes_vote)
+        ≡ Some (record { home = 1; values = [] }) }
+{}
+
+/// A write that was not told to have committed stands above the base, under the lock of the action that made it.
+pub fn versions_before_telling()
+    ensures locks { locks_on balance (history_of telling.committed_not_told) ≡ (action_1_1, Class.Write) ∷ [] }
+    ensures base { base_of opening_setup balance (history_of telling.committed_not_told) ≡ record_of (codes "balance") 100 }
+    ensures versions { versions opening_setup balance (history_of telling.committed_not_told)
+        ≡ (action_1_1, record_of (codes "balance") 50) ∷ [] }
+{}
+
+/// A step and an answer as lines.
+pub fn texts()
+    ensures step { step_text (set_balance action_1_1 50) ≡ codes "op 1.1 1/1 set balance 50" }
+    ensures answer { answer_text (gives 100) ≡ codes "granted 100" }
 {}
