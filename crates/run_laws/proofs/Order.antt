@@ -1,0 +1,164 @@
+-- Conflicting operations stand by place as they stood by grant; so exchanges lead from the one order to the other.
+use Rattle.std.proofs.Common.{Bool, List, Option, [], ap, arith, cond, false, filter, inl, inr, refl, reverse, subst, sym, true, ℕ, ◌++◌, ◌<◌, ◌||◌, ◌∙◌, ◌∷◌, ◌≡◌}
+use Rattle.std.proofs.lemmas.Bool.{and_from, and_parts, true≢false}
+use Rattle.std.proofs.lemmas.List.{reverse-append}
+use Rattle.action_names.specs.Names.{Name, is_ancestor, top_of}
+use Rattle.atomic_types.specs.Operations.{conflicts}
+use Rattle.run_model.specs.declared.history.Event.{Event}
+use Rattle.run_model.specs.Actions.{closing_step, is_closed, step_closes}
+use Rattle.run_model.specs.Keeping.{Performed, is_kept, performed, same_object}
+use Rattle.run_model.specs.Places.{Exchanges, collide, exchange, following, in_order_of_place, insert_by_place, keeping, nothing, place_lt, place_of, visible_by_grant}
+use Rattle.run_model.specs.Replay.{Setup}
+use Rattle.run_model.specs.Runs.{IsRun}
+use Rattle.run_model.specs.Visibility.{is_orphan, is_visible}
+use Rattle.run_laws.specs.Laws.{ConflictsKeepOrder, GrantToPlace, Grants}
+use Rattle.run_laws.proofs.Begun.{nameless}
+use Rattle.run_laws.proofs.Closing.{After, Before, closing_after, closing_of, closing_stays}
+use Rattle.run_laws.proofs.Each.{Each, each_filter, each_reverse, each_snoc}
+use Rattle.run_laws.proofs.Ended.{committed_closed, not_closed}
+use Rattle.run_laws.proofs.Granted.{IsGranted, at_granted, each_performed, grant_cases, grant_parts, granting}
+use Rattle.run_laws.proofs.Growth.{Follows, earlier, follows_from, follows_length, run_before}
+use Rattle.run_laws.proofs.Kept.{kept_or_closed, open_above}
+use Rattle.run_laws.proofs.Names.{top_facts}
+use Rattle.run_laws.proofs.Places.{place_before, place_lt_once, place_tops}
+use Rattle.run_laws.proofs.Seen.{granted_sees}
+use Rattle.run_laws.proofs.Visible.{visible_use}
+
+-- o was granted before p, they conflict, and both are visible to an action that is no orphan: o's place is before p's
+in_order : (setup : Setup) (end : List Event) (a : Name) (o p : Performed) (e f : Event) (before between : List Event) → IsRun setup end → is_orphan a end ≡ false
+    → Follows (e ∷ before) between → Grants o e before → Follows (f ∷ between) end → Grants p f between
+    → is_visible o.action a end ≡ true → is_visible p.action a end ≡ true → collide o p ≡ true
+    → place_lt (place_of o end) (place_of p end) ≡ true
+in_order setup end a o p e f before between r n w1 g1 w2 g2 v1 v2 c = elim (kept_or_closed setup o e before a g1 w1 (earlier w2) r n v1) [
+  | inl k ↦ place_before closing o.number p.number o.action p.action number (behind k) open_still
+  | inr k ↦ other_tree k.1 (is_ancestor (top_of o.action) p.action) refl
+]
+  where
+    closing : Name → Option ℕ
+    closing d = closing_step d end
+
+    run : IsRun setup (f ∷ between)
+    run = run_before setup w2 r
+
+    given : IsGranted setup p.action p.object p.operation p.reply between
+    given = granting setup p f between run g2
+
+    number : o.number < p.number
+    number = let x = g1.0 in let y = g2.0 in let z = follows_length w1 in omega arith
+
+    -- what had closed before the second operation has its closing step below
+    closed_below : (d : Name) → is_closed d between ≡ true → Before (closing_step d end) p.number
+    closed_below d q =
+        let (k, s, l) = closing_of between d q in
+        let y = g2.0 in
+        (k, closing_stays setup d (earlier w2) r q ∙ s, omega arith)
+
+    -- where the first was kept, it was visible to the action of the second
+    behind : is_kept o between ≡ true → (d : Name) → is_ancestor d o.action ≡ true → is_ancestor d p.action ≡ false → Before (closing_step d end) p.number
+    behind k d l m =
+        let q = and_parts (same_object o.object p.object) (conflicts o.operation p.operation) c in
+        let seen = at_granted _ o e before g1 w1 (granted_sees p.action p.object p.operation between given.free)
+        (and_from (same_object o.object p.object) (is_kept o between) q.0 k) q.1 in
+        elim (visible_use o.action p.action d between seen l) [
+          | inl x ↦ absurd (true≢false (sym x ∙ m))
+          | inr x ↦ closed_below d (committed_closed setup between d run.2 x)
+        ]
+
+    -- the ancestors of the second operation's action were open
+    open_then : (d : Name) → is_ancestor d p.action ≡ true → is_closed d between ≡ false
+    open_then d l = not_closed d between (open_above setup p f between a g2 w2 r n v2 d l)
+
+    open_still : (d : Name) → is_ancestor d p.action ≡ true → After p.number (closing_step d end)
+    open_still d l =
+        let P : ℕ → Type 0 = λ m. After m (closing_step d end) in
+        let q : is_closed d (f ∷ between) ≡ false = ap (λ s. step_closes s d || is_closed d between) (grant_parts p f between g2).0 ∙ open_then d l in
+        subst P (sym g2.0) (closing_after d w2 q)
+
+    other_tree : is_closed (top_of o.action) between ≡ true → (t : Bool) → is_ancestor (top_of o.action) p.action ≡ t → place_lt (place_of o end) (place_of p end) ≡ true
+    other_tree q true k = absurd (true≢false (sym q ∙ open_then (top_of o.action) k))
+    other_tree q false k =
+        let run1 = run_before setup w1 run.2 in
+        let named1 = nameless setup before o.action run1.2 (granting setup o e before run1 g1).was_begun in
+        let named2 = nameless setup between p.action run.2 given.was_begun in
+        place_tops closing o.number p.number o.action p.action named1 named2 (closed_below (top_of o.action) q) (open_still (top_of p.action) (top_facts p.action named2).1)
+
+pub conflicts_keep_order : ConflictsKeepOrder
+conflicts_keep_order setup past a o p e f before between r n c g d h v w k =
+    in_order setup past a o p e f before between r n (follows_from c) g (follows_from d) h v w k
+
+-- the older of two visible operations that conflict has the earlier place
+abbrev pub InOrder : List Event → Performed → Performed → Type 0
+InOrder now o p = collide o p ≡ true → place_lt (place_of o now) (place_of p now) ≡ true
+
+-- of each two in a list, the oldest first
+abbrev pub EachPair : (Performed → Performed → Type 0) → List Performed → Type 0
+EachPair R [] = Unit {0}
+EachPair R (o ∷ os) = Each (λ p. R o p) os × EachPair R os
+
+pair_snoc : (R : Performed → Performed → Type 0) (os : List Performed) (o : Performed) → EachPair R os → Each (λ p. R p o) os → EachPair R (os ++ o ∷ [])
+pair_snoc R [] o h k = (tt, tt)
+pair_snoc R (x ∷ xs) o h k = (each_snoc (λ p. R x p) xs o h.0 k.0, pair_snoc R xs o h.1 k.1)
+
+-- each two that are visible
+visible_pairs : (setup : Setup) (past : List Event) (a : Name) {end : List Event} → Follows past end → IsRun setup end → is_orphan a end ≡ false
+    → EachPair (InOrder end) (reverse (filter (λ o. is_visible o.action a end) (performed past)))
+visible_pairs setup [] a w r n = tt
+visible_pairs setup (e ∷ past) a {end = end} w r n = elim (grant_cases e past) [
+  | inl h ↦ subst Q (sym h) (visible_pairs setup past a (earlier w) r n)
+  | inr h ↦ subst Q (sym h.1) (one h.0 h.2 (is_visible h.0.action a end) refl (visible_pairs setup past a (earlier w) r n))
+]
+  where
+    Q : List Performed → Type 0
+    Q os = EachPair (InOrder end) (reverse (filter (λ o. is_visible o.action a end) os))
+
+    seen : List Performed
+    seen = filter (λ o. is_visible o.action a end) (performed past)
+
+    one : (o : Performed) → Grants o e past → (t : Bool) → is_visible o.action a end ≡ t → EachPair (InOrder end) (reverse seen) → EachPair (InOrder end) (reverse (cond t (o ∷ seen) seen))
+    one o p false v rest = rest
+    one o p true v rest =
+        let R : List Performed → Type 0 = λ l. EachPair (InOrder end) l in
+        let older = each_filter (λ q. InOrder end q o) (λ q. is_visible q.action a end) (performed past)
+        (each_performed past _ (λ q e' p' h f u c. in_order setup end a q o e' e p' past r n f h w p u v c)) in
+        subst R (sym (reverse-append (o ∷ []) seen)) (pair_snoc (InOrder end) (reverse seen) o rest (each_reverse (λ q. InOrder end q o) seen older))
+
+same : (os : List Performed) → Exchanges os os
+same [] = nothing
+same (o ∷ os) = keeping o (same os)
+
+-- an older operation goes past those that have an earlier place, with which it does not conflict
+inserted : (now : List Event) (o : Performed) (ps : List Performed) → Each (λ p. InOrder now o p) ps → Exchanges (o ∷ ps) (insert_by_place now o ps)
+inserted now o [] h = keeping o nothing
+inserted now o (p ∷ ps) h = step (place_lt (place_of p now) (place_of o now)) refl (collide o p) refl (inserted now o ps h.1)
+  where
+    step : (t : Bool) → place_lt (place_of p now) (place_of o now) ≡ t → (u : Bool) → collide o p ≡ u → Exchanges (o ∷ ps) (insert_by_place now o ps)
+        → Exchanges (o ∷ p ∷ ps) (cond (place_lt (place_of p now) (place_of o now)) (p ∷ insert_by_place now o ps) (o ∷ p ∷ ps))
+    step t e true c k =
+        let no = place_lt_once (place_of o now) (place_of p now) (h.0 c) in
+        let Q : Bool → Type 0 = λ b. Exchanges (o ∷ p ∷ ps) (cond b (p ∷ insert_by_place now o ps) (o ∷ p ∷ ps)) in
+        subst Q (sym no) (same (o ∷ p ∷ ps))
+    step true e false c k =
+        let Q : Bool → Type 0 = λ b. Exchanges (o ∷ p ∷ ps) (cond b (p ∷ insert_by_place now o ps) (o ∷ p ∷ ps)) in
+        subst Q (sym e) (following (exchange o p ps c) (keeping p k))
+    step false e false c k =
+        let Q : Bool → Type 0 = λ b. Exchanges (o ∷ p ∷ ps) (cond b (p ∷ insert_by_place now o ps) (o ∷ p ∷ ps)) in
+        subst Q (sym e) (same (o ∷ p ∷ ps))
+
+each_inserted : (P : Performed → Type 0) (now : List Event) (o : Performed) (ps : List Performed) → P o → Each P ps → Each P (insert_by_place now o ps)
+each_inserted P now o [] h k = (h, tt)
+each_inserted P now o (p ∷ ps) h k = step (place_lt (place_of p now) (place_of o now)) (each_inserted P now o ps h k.1)
+  where
+    step : (t : Bool) → Each P (insert_by_place now o ps) → Each P (cond t (p ∷ insert_by_place now o ps) (o ∷ p ∷ ps))
+    step true m = (k.0, m)
+    step false m = (h, k)
+
+each_in_order : (P : Performed → Type 0) (now : List Event) (os : List Performed) → Each P os → Each P (in_order_of_place now os)
+each_in_order P now [] h = tt
+each_in_order P now (o ∷ os) h = each_inserted P now o (in_order_of_place now os) h.0 (each_in_order P now os h.1)
+
+sorted : (now : List Event) (os : List Performed) → EachPair (InOrder now) os → Exchanges os (in_order_of_place now os)
+sorted now [] h = nothing
+sorted now (o ∷ os) h = following (keeping o (sorted now os h.1)) (inserted now o (in_order_of_place now os) (each_in_order (λ p. InOrder now o p) now os h.0))
+
+pub grant_to_place : GrantToPlace
+grant_to_place setup past a r n = sorted past (visible_by_grant a past) (visible_pairs setup past a Follows.here r n)
