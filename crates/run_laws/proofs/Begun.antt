@@ -1,6 +1,6 @@
 -- What steps begin: new names, under the one who made the step. So no action is begun twice, and what is above was begun before.
-use Rattle.std.proofs.Common.{Bool, List, [], ap, arith, cond, false, filter, inl, inr, length, refl, subst, suc, sym, true, zero, ℕ, ◌++◌, ◌+◌, ◌<◌, ◌∙◌, ◌∷◌, ◌≡◌, ◌≤◌, ◌⊎◌}
-use Rattle.std.proofs.lemmas.Bool.{false≢true, or_cases, true≢false}
+use Rattle.std.proofs.Common.{Bool, List, [], ap, arith, cond, false, filter, inl, inr, length, refl, subst, suc, sym, true, ℕ, ◌++◌, ◌+◌, ◌<◌, ◌∙◌, ◌∷◌, ◌≡◌, ◌≤◌, ◌⊎◌}
+use Rattle.std.proofs.lemmas.Bool.{false≢true, or_cases}
 use Rattle.action_names.specs.Names.{Name, child_of, has_name, is_ancestor, is_top, last_of, parent_of, same_name}
 use Rattle.run_model.specs.declared.answer.Answer.{Answer}
 use Rattle.run_model.specs.declared.answer.Answer.TheVariants.{VoteNo, VoteYes}
@@ -16,9 +16,9 @@ use Rattle.run_model.specs.Refusals.{arm_names}
 use Rattle.run_model.specs.Replay.{Setup}
 use Rattle.run_model.specs.Runs.{IsRun}
 use Rattle.run_model.specs.Votes.{may_prepare}
-use Rattle.run_laws.proofs.Accepted.{answered, checked, makes_facts}
+use Rattle.run_laws.proofs.Accepted.{answered, makes_facts}
 use Rattle.run_laws.proofs.Growth.{begun_stays, here, later}
-use Rattle.run_laws.proofs.Names.{ancestor_up, has_name_append, last_child, nothing_above, parent_child, same_name_self, same_name_true, shorter, single_top}
+use Rattle.run_laws.proofs.Names.{clash, climb, has_name_append, last_child, parent_child, same_name_self, same_name_true}
 use Rattle.atomic_types.specs.declared.op.Op as op
 use Rattle.run_model.specs.declared.step.ArmKind.TheVariants as arm
 
@@ -53,7 +53,7 @@ pub data IsArm (a : Name) (child top : ℕ) (names : List Name) (c : Name) : Typ
 pub arms_are : (a : Name) (child top : ℕ) (kinds : List ArmKind) (c : Name) → has_name (arm_names a child top kinds) c ≡ true
     → IsArm a child top (arm_names a child top kinds) c
 arms_are a child top [] c h = absurd (false≢true h)
-arms_are a child top (arm.Sub ∷ kinds) c h = elim (or_cases (same_name (child_of a child) c) (has_name (arm_names a (suc child) top kinds) c) h) [
+arms_are a child top (arm.Sub ∷ kinds) c h = elim (or_cases _ _ h) [
   | inl k ↦ first (same_name_true (child_of a child) c k)
   | inr k ↦ rest (arms_are a (suc child) top kinds c k)
 ]
@@ -73,7 +73,7 @@ arms_are a child top (arm.Sub ∷ kinds) c h = elim (or_cases (same_name (child_
     rest : IsArm a (suc child) top names c → IsArm a child top (child_of a child ∷ names) c
     rest (sub_arm e low high) = sub_arm e (omega arith) (omega (arith, more))
     rest (top_arm t e low high) = top_arm t e low (omega (arith, children_grow [] (child_of a child) names))
-arms_are a child top (arm.Top ∷ kinds) c h = elim (or_cases (same_name (top ∷ []) c) (has_name (arm_names a child (suc top) kinds) c) h) [
+arms_are a child top (arm.Top ∷ kinds) c h = elim (or_cases _ _ h) [
   | inl k ↦ first (same_name_true (top ∷ []) c k)
   | inr k ↦ rest (arms_are a child (suc top) kinds c k)
 ]
@@ -104,7 +104,7 @@ vote_begins_nothing true c = refl
 vote_begins_nothing false c = refl
 
 only : (b c : Name) → has_name (b ∷ []) c ≡ true → b ≡ c
-only b c h = elim (or_cases (same_name b c) false h) [ inl k ↦ same_name_true b c k | inr k ↦ absurd (false≢true k) ]
+only b c h = elim (or_cases _ _ h) [ inl k ↦ same_name_true b c k | inr k ↦ absurd (false≢true k) ]
 
 new_with : (setup : Setup) (step : Step) (past : List Event) (names : List Name) (c p : Name) → parent_of c ≡ p
     → next_number p past ≤ last_of c → last_of c < next_number p past + children_in p names
@@ -146,8 +146,8 @@ begins_facts setup (Call a g) past c h = new_child setup a g past c (only (child
 begins_facts setup (Arms a kinds) past c h =
     new_arm setup a kinds past (arm_names a (next_number a past) (next_number [] past) kinds) c
     (arms_are a (next_number a past) (next_number [] past) kinds c h)
-begins_facts setup (Op a x wanted) past c h = absurd (true≢false (sym h ∙ op_begins_nothing setup x wanted past (blockers a x wanted past) c))
-begins_facts setup (Prepare g t) past c h = absurd (true≢false (sym h ∙ vote_begins_nothing (may_prepare g t past) c))
+begins_facts setup (Op a x wanted) past c h = absurd (clash h (op_begins_nothing setup x wanted past (blockers a x wanted past) c))
+begins_facts setup (Prepare g t) past c h = absurd (clash h (vote_begins_nothing (may_prepare g t past) c))
 begins_facts setup _ past c h = absurd (false≢true h)
 
 -- what a step of a run begins
@@ -176,7 +176,7 @@ children_append a (x ∷ xs) ys = step (same_name (parent_of x) a) (children_app
 pub number_used : (setup : Setup) (past : List Event) (c : Name) → IsRun setup past → is_begun c past ≡ true → last_of c < next_number (parent_of c) past
 number_used setup [] c r h = absurd (false≢true h)
 number_used setup (e ∷ past) c r h =
-    elim (or_cases (has_name (names_begun e.answer) c) (has_name (begun past) c) (sym (has_name_append (names_begun e.answer) (begun past) c) ∙ h)) [
+    elim (or_cases _ _ (sym (has_name_append (names_begun e.answer) (begun past) c) ∙ h)) [
       | inl k ↦ omega (arith, (new_in_run setup e past c r k).high, children_append (parent_of c) (names_begun e.answer) (begun past))
       | inr k ↦ omega (arith, number_used setup past c r.2 k, children_append (parent_of c) (names_begun e.answer) (begun past))
     ]
@@ -199,14 +199,14 @@ begins_no_crash setup e past c g r h = decide (step_crashes e.step g) refl
   where
     decide : (t : Bool) → step_crashes e.step g ≡ t → t ≡ false
     decide false q = refl
-    decide true q = absurd (true≢false (sym h ∙ ap (λ a. has_name (names_begun a) c) (answered setup e past r) ∙ crash_begins_nothing setup e.step past c g q))
+    decide true q = absurd (clash h (ap (λ a. has_name (names_begun a) c) (answered setup e past r) ∙ crash_begins_nothing setup e.step past c g q))
 
 -- one event more
 pub begun_more : (e : Event) (past : List Event) (c : Name) → is_begun c past ≡ true → is_begun c (e ∷ past) ≡ true
 begun_more e past c h = begun_stays c {past = past} (later e here) h
 
 pub begun_cases : (e : Event) (past : List Event) (c : Name) → is_begun c (e ∷ past) ≡ true → (begins e c ≡ true) ⊎ (is_begun c past ≡ true)
-begun_cases e past c h = or_cases (has_name (names_begun e.answer) c) (has_name (begun past) c) (sym (has_name_append (names_begun e.answer) (begun past) c) ∙ h)
+begun_cases e past c h = or_cases _ _ (sym (has_name_append (names_begun e.answer) (begun past) c) ∙ h)
 
 -- what was begun has a name
 pub nameless : (setup : Setup) (past : List Event) (c : Name) → IsRun setup past → is_begun c past ≡ true → c ≡ [] → ⊥
@@ -225,23 +225,11 @@ parent_begun setup [] c r h t = absurd (false≢true h)
 parent_begun setup (e ∷ past) c r h t = elim (begun_cases e past c h) [
   | inr k ↦ begun_more e past (parent_of c) (parent_begun setup past c r.2 k t)
   | inl k ↦ elim (new_in_run setup e past c r k).made [
-    | inl m ↦ absurd (true≢false (sym m ∙ t))
-    | inr m ↦ begun_more e past (parent_of c) (makes_facts setup e.step past (parent_of c) (checked setup e past r) m).0
+    | inl m ↦ absurd (clash m t)
+    | inr m ↦ begun_more e past (parent_of c) (makes_facts setup e past (parent_of c) r m).0
   ]
 ]
 
 -- every ancestor of what was begun was begun
-pub ancestor_begun : (setup : Setup) (past : List Event) (n : ℕ) (d c : Name) → IsRun setup past → length c ≤ n → is_begun c past ≡ true → is_ancestor d c ≡ true → is_begun d past ≡ true
-ancestor_begun setup past zero d c r m b k = absurd (nameless setup past c r b (empty c m))
-  where
-    empty : (c : Name) → length c ≤ 0 → c ≡ []
-    empty [] m = refl
-    empty (x ∷ c) m = absurd (omega arith)
-ancestor_begun setup past (suc n) d c r m b k = elim (ancestor_up d c k) [
-  | inl e ↦ ap (λ x. is_begun x past) e ∙ b
-  | inr l ↦ ancestor_begun setup past n d (parent_of c) r (shorter c n (nameless setup past c r b) m) (up l (is_top c) refl) l
-]
-  where
-    up : is_ancestor d (parent_of c) ≡ true → (t : Bool) → is_top c ≡ t → is_begun (parent_of c) past ≡ true
-    up l true t = absurd (nothing_above (parent_of c) d (single_top c t) l)
-    up l false t = parent_begun setup past c r b t
+pub ancestor_begun : (setup : Setup) (past : List Event) (d c : Name) → IsRun setup past → is_begun c past ≡ true → is_ancestor d c ≡ true → is_begun d past ≡ true
+ancestor_begun setup past d c r b k = climb (λ x. is_begun x past ≡ true) (λ x t h. parent_begun setup past x r h t) d c k b

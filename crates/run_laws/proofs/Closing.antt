@@ -3,10 +3,10 @@ use Rattle.std.proofs.Common.{Bool, List, None, Option, Some, [], ap, arith, con
 use Rattle.std.proofs.lemmas.Bool.{false≢true, or_parts, true≢false}
 use Rattle.action_names.specs.Names.{Name}
 use Rattle.run_model.specs.declared.history.Event.{Event}
-use Rattle.run_model.specs.Actions.{closing_step, is_closed, is_ended, step_closes}
+use Rattle.run_model.specs.Actions.{closing_step, is_closed, step_closes}
 use Rattle.run_model.specs.Replay.{Setup}
 use Rattle.run_model.specs.Runs.{IsRun}
-use Rattle.run_laws.proofs.Accepted.{checked, closes_facts}
+use Rattle.run_laws.proofs.Accepted.{closes_facts}
 use Rattle.run_laws.proofs.Growth.{Follows, any_stays, follows_length, here, later}
 
 -- a closing step that came before j, and one that has not come before it
@@ -34,7 +34,7 @@ closing_stays setup c (later {now = now} e w) r h = decide (step_closes e.step c
   where
     decide : (t : Bool) → step_closes e.step c ≡ t → closing_step c (e ∷ now) ≡ closing_step c now
     decide false q = ap (λ t. cond t (Some (suc (length now))) (closing_step c now)) q
-    decide true q = absurd (true≢false (sym (any_stays (λ x. step_closes x.step c) w h) ∙ (or_parts (is_ended c now) (is_closed c now) (closes_facts setup e.step now c (checked setup e now r) q).undone).1))
+    decide true q = absurd (true≢false (sym (any_stays (λ x. step_closes x.step c) w h) ∙ (or_parts _ _ (closes_facts setup e now c r q).undone).1))
 
 pub closing_after : (c : Name) {past now : List Event} → Follows past now → is_closed c past ≡ false → After (length past) (closing_step c now)
 closing_after c {past = past} here h = inl (none past h)
@@ -42,7 +42,7 @@ closing_after c {past = past} here h = inl (none past h)
     none : (xs : List Event) → is_closed c xs ≡ false → closing_step c xs ≡ None
     none [] h = refl
     none (e ∷ xs) h =
-        let p = or_parts (step_closes e.step c) (is_closed c xs) h in
+        let p = or_parts _ _ h in
         ap (λ t. cond t (Some (suc (length xs))) (closing_step c xs)) p.0 ∙ none xs p.1
 closing_after c {past = past} (later {now = now} e w) h = decide (step_closes e.step c) refl (closing_after c w h) (follows_length w)
   where

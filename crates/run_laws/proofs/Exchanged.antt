@@ -1,5 +1,5 @@
 -- Exchanges of operations that do not conflict leave each reply and the last contents.
-use Rattle.std.proofs.Common.{Bool, List, ap, ap₂, cond, eqb-true, false, refl, subst, sym, true, ℕ, ◌&&◌, ◌==◌, ◌∙◌, ◌≡◌}
+use Rattle.std.proofs.Common.{Bool, List, ap, ap₂, cond, eqb-true, false, refl, subst, sym, true, ℕ, ◌&&◌, ◌∙◌, ◌≡◌}
 use Rattle.std.proofs.lemmas.Bool.{and_from, and_parts, true≢false}
 use mathlib.Core.Path.{fun_ext}
 use Rattle.atomic_types.proofs.TypeLaws.{objects_order_is_free}
@@ -10,17 +10,17 @@ use Rattle.run_model.specs.Keeping.{Performed, same_object}
 use Rattle.run_model.specs.Places.{Exchanges, collide, exchange, following, keeping, nothing}
 use Rattle.run_model.specs.Replay.{Store, store_after, updated}
 use Rattle.run_laws.specs.Laws.{ExchangesLeaveContents, ExchangesLeaveReplies}
-use Rattle.run_laws.proofs.Names.{eqb_self}
+use Rattle.run_laws.proofs.Names.{clash, eqb_self}
 use Rattle.atomic_types.specs.declared.op.Op as op
 
 pub same_object_true : (x y : ObjectId) → same_object x y ≡ true → x ≡ y
 same_object_true x y h =
-    let p = and_parts (x.guardian == y.guardian) (x.number == y.number) h in
+    let p = and_parts _ _ h in
     let make : ℕ → ℕ → ObjectId = λ g n. record { guardian = g; number = n } in
     ap₂ make (eqb-true x.guardian y.guardian p.0) (eqb-true x.number y.number p.1)
 
 same_object_self : (x : ObjectId) → same_object x x ≡ true
-same_object_self x = and_from (x.guardian == x.guardian) (x.number == x.number) (eqb_self x.guardian) (eqb_self x.number)
+same_object_self x = and_from _ _ (eqb_self x.guardian) (eqb_self x.number)
 
 -- which object comes first in the test is no matter
 object_turned : (x y : ObjectId) → same_object x y ≡ false → same_object y x ≡ false
@@ -58,7 +58,7 @@ free_apart s x o y p e = record {
     step : (z : ObjectId) (t : Bool) → same_object x z ≡ t → (u : Bool) → same_object y z ≡ u
         → cond u (content_after (updated s x o y) p) (cond t (content_after (s x) o) (s z))
         ≡ cond t (content_after (updated s y p x) o) (cond u (content_after (s y) p) (s z))
-    step z true h true k = absurd (true≢false (sym h ∙ ap (λ w. same_object x w) (sym (same_object_true y z k)) ∙ e))
+    step z true h true k = absurd (clash h (ap (λ w. same_object x w) (sym (same_object_true y z k)) ∙ e))
     step z true h false k = ap (λ c. content_after c o) (sym (apart s y x p turned))
     step z false h true k = ap (λ c. content_after c p) (apart s x y o e)
     step z false h false k = refl

@@ -1,5 +1,5 @@
 -- Granted operations: what the grant says of the history before it, and facts of each operation of a history.
-use Rattle.std.proofs.Common.{List, [], ap, eqb-true, false, inl, inr, length, refl, subst, suc, sym, true, ℕ, ◌++◌, ◌==◌, ◌∙◌, ◌∷◌, ◌≡◌, ◌⊎◌}
+use Rattle.std.proofs.Common.{List, [], ap, eqb-true, false, inl, inr, length, refl, subst, suc, sym, true, ℕ, ◌++◌, ◌∙◌, ◌∷◌, ◌≡◌, ◌⊎◌}
 use Rattle.std.proofs.lemmas.Bool.{not-false}
 use Rattle.action_names.specs.Names.{Name}
 use Rattle.atomic_types.specs.Objects.{reply_of}
@@ -51,9 +51,9 @@ granted_facts : (setup : Setup) (c : Name) (x : ObjectId) (wanted : op.Op) (r : 
 granted_facts setup c x wanted r past f a =
     let p = granted_free setup x wanted past (blockers c x wanted past) r a in
     record {
-      was_begun = not-false (is_begun c past) f.1.0;
+      was_begun = not-false _ f.1.0;
       undone = f.1.1.1.0;
-      home = sym (eqb-true x.guardian (home_of c past) (not-false (x.guardian == home_of c past) f.1.1.1.1.1.1.0));
+      home = sym (eqb-true x.guardian (home_of c past) (not-false _ f.1.1.1.1.1.1.0));
       free = p.0;
       reply = p.1;
     }

@@ -1,13 +1,13 @@
 -- A history that goes on from an earlier one: what was so stays so.
-use Rattle.std.proofs.Common.{Bool, List, [], ap, arith, length, not, refl, subst, sym, true, ◌&&◌, ◌++◌, ◌∙◌, ◌∷◌, ◌≡◌, ◌≤◌}
+use Rattle.std.proofs.Common.{Bool, List, [], ap, arith, length, refl, subst, sym, true, ◌++◌, ◌∙◌, ◌∷◌, ◌≡◌, ◌≤◌}
 use Rattle.std.proofs.lemmas.Bool.{or_left, or_right}
 use Rattle.std.specs.List.{list_any}
-use Rattle.action_names.specs.Names.{Name, has_name, top_of}
+use Rattle.action_names.specs.Names.{Name}
 use Rattle.run_model.specs.declared.history.Event.{Event}
-use Rattle.run_model.specs.Actions.{begun, home_of, is_aborted, is_begun, is_closed, is_committed, names_begun, step_aborts, step_closes, step_commits, step_crashes}
+use Rattle.run_model.specs.Actions.{begun, is_aborted, is_begun, is_closed, is_committed, names_begun, step_aborts, step_closes, step_commits}
 use Rattle.run_model.specs.Replay.{Setup}
 use Rattle.run_model.specs.Runs.{IsRun}
-use Rattle.run_model.specs.Visibility.{has_prepared, is_lost}
+use Rattle.run_model.specs.Visibility.{is_lost}
 use Rattle.run_laws.specs.Laws.{Came}
 use Rattle.run_laws.proofs.Names.{has_name_append}
 
@@ -26,7 +26,7 @@ run_before setup (later e w) r = run_before setup w r.2
 
 pub any_stays : (p : Event → Bool) {past now : List Event} → Follows past now → list_any p past ≡ true → list_any p now ≡ true
 any_stays p here h = h
-any_stays p (later {now = now} e w) h = or_right (p e) (list_any p now) (any_stays p w h)
+any_stays p (later {now = now} e w) h = or_right _ _ (any_stays p w h)
 
 pub committed_stays : (a : Name) {past now : List Event} → Follows past now → is_committed a past ≡ true → is_committed a now ≡ true
 committed_stays a w h = any_stays (λ e. step_commits e.step a) w h
@@ -41,12 +41,12 @@ pub begun_stays : (a : Name) {past now : List Event} → Follows past now → is
 begun_stays a here h = h
 begun_stays a (later {now = now} e w) h =
     has_name_append (names_begun e.answer) (begun now) a
-    ∙ or_right (has_name (names_begun e.answer) a) (has_name (begun now) a) (begun_stays a w h)
+    ∙ or_right _ _ (begun_stays a w h)
 
 pub lost_stays : (b : Name) {past now : List Event} → Follows past now → is_lost b past ≡ true → is_lost b now ≡ true
 lost_stays b here h = h
 lost_stays b (later {now = now} e w) h =
-    or_left (is_lost b now) (is_begun b now && (step_crashes e.step (home_of b now) && not (has_prepared (home_of b now) (top_of b) now))) (lost_stays b w h)
+    or_left _ _ (lost_stays b w h)
 
 pub follows_length : {past now : List Event} → Follows past now → length past ≤ length now
 follows_length here = omega arith

@@ -1,11 +1,11 @@
 -- What is visible to an action that is no orphan is kept, but for reads that a crash dropped once their top action had closed.
-use Rattle.std.proofs.Common.{Bool, List, [], ap, arith, eq-eqb, false, inl, inr, length, nat_lt, not, refl, suc, sym, true, ℕ, ◌&&◌, ◌++◌, ◌<◌, ◌==◌, ◌||◌, ◌∙◌, ◌∷◌, ◌≡◌, ◌≤◌, ◌⊎◌}
+use Rattle.std.proofs.Common.{Bool, List, [], ap, arith, eq-eqb, false, inl, inr, length, not, refl, suc, sym, true, ℕ, ◌&&◌, ◌++◌, ◌<◌, ◌||◌, ◌∙◌, ◌∷◌, ◌≡◌, ◌≤◌, ◌⊎◌}
 use Rattle.std.proofs.lemmas.Bool.{and_from, and_left, and_parts, and_right, false≢true, lt-ltb, ne_eqb, not-true, or_cases, or_left, or_parts, or_right, true≢false}
 use Rattle.std.specs.List.{list_any}
 use Rattle.action_names.specs.Names.{Name, ancestors, is_ancestor, same_name, top_of}
 use Rattle.atomic_types.specs.Operations.{is_read}
 use Rattle.run_model.specs.declared.history.Event.{Event}
-use Rattle.run_model.specs.Actions.{begun, crashes, home_of, is_aborted, is_begun, is_closed, is_committed, is_done, step_closes, step_crashes}
+use Rattle.run_model.specs.Actions.{begun, crashes, home_of, is_aborted, is_begun, is_closed, is_committed, is_done, step_crashes}
 use Rattle.run_model.specs.Keeping.{Performed, is_kept, outlives_crash, prepared_after, undoes}
 use Rattle.run_model.specs.Refusals.{gone}
 use Rattle.run_model.specs.Replay.{Setup}
@@ -14,13 +14,12 @@ use Rattle.run_model.specs.Telling.{tells}
 use Rattle.run_model.specs.Visibility.{has_prepared, is_lost, is_orphan, is_visible, votes_yes}
 use Rattle.run_laws.specs.Laws.{Grants, KeptNeverAgain, VisibleIsKept}
 use Rattle.run_laws.proofs.Accepted.{answered, checked}
-use Rattle.run_laws.proofs.Active.{ancestors_open}
 use Rattle.run_laws.proofs.Begun.{nameless}
 use Rattle.run_laws.proofs.Ended.{not_both, not_closed}
 use Rattle.run_laws.proofs.Granted.{IsGranted, grant_parts, granting}
 use Rattle.run_laws.proofs.Growth.{Follows, aborted_stays, begun_stays, came_from, closed_stays, earlier, followed, follows_from, follows_length, follows_through, here, later, lost_stays, run_before}
 use Rattle.run_laws.proofs.Homes.{home_stays}
-use Rattle.run_laws.proofs.Names.{any_ancestor_use, any_name, no_ancestor_use, same_name_self, top_facts, top_of_ancestor}
+use Rattle.run_laws.proofs.Names.{any_ancestor_use, any_name, clash, no_ancestor_use, same_name_self, top_facts, top_of_ancestor}
 use Rattle.run_laws.proofs.NothingLost.{nothing_lost_under_committed, yes_facts}
 use Rattle.run_laws.proofs.Visible.{visible_from, visible_use}
 
@@ -28,8 +27,8 @@ use Rattle.run_laws.proofs.Visible.{visible_from, visible_use}
 pub never_aborted : (setup : Setup) (now : List Event) (a b f : Name) → IsRun setup now → is_orphan a now ≡ false → is_visible b a now ≡ true
     → is_ancestor f b ≡ true → is_aborted f now ≡ true → ⊥
 never_aborted setup now a b f r n v k h = elim (visible_use b a f now v k) [
-  | inl l ↦ true≢false (sym h ∙ no_ancestor_use (λ c. is_aborted c now) a f
-      (or_parts (list_any (λ c. is_aborted c now) (ancestors a)) (list_any (λ d. same_name (top_of d) (top_of a) && (is_lost d now && is_visible d a now)) (begun now)) n).0 l)
+  | inl l ↦ clash h (no_ancestor_use (λ c. is_aborted c now) a f
+      (or_parts _ _ n).0 l)
   | inr l ↦ not_both setup now f r l h
 ]
 
@@ -39,14 +38,14 @@ never_lost setup now a b r h n v l = decide (same_name (top_of b) (top_of a)) re
   where
     decide : (t : Bool) → same_name (top_of b) (top_of a) ≡ t → ⊥
     decide true e =
-        let none = (or_parts (list_any (λ c. is_aborted c now) (ancestors a)) (list_any (λ d. same_name (top_of d) (top_of a) && (is_lost d now && is_visible d a now)) (begun now)) n).1 in
+        let none = (or_parts _ _ n).1 in
         let some = any_name (λ d. same_name (top_of d) (top_of a) && (is_lost d now && is_visible d a now)) (begun now) b h
-        (and_from (same_name (top_of b) (top_of a)) (is_lost b now && is_visible b a now) e (and_from (is_lost b now) (is_visible b a now) l v)) in
-        true≢false (sym some ∙ none)
+        (and_from _ _ e (and_from _ _ l v)) in
+        clash some none
     decide false e =
         let top = top_facts b (nameless setup now b r h) in
         let seen = visible_from b (top_of b) now (λ f k. inr (committed f k)) in
-        true≢false (sym l ∙ nothing_lost_under_committed setup now (top_of b) b r top.0 (committed (top_of b) top.1) top.1 seen)
+        clash l (nothing_lost_under_committed setup now (top_of b) b r top.0 (committed (top_of b) top.1) top.1 seen)
       where
         apart : (f : Name) → is_ancestor f b ≡ true → is_ancestor f a ≡ true → ⊥
         apart f k m = true≢false (sym (ap (λ z. same_name z (top_of a)) (sym (top_of_ancestor f b k) ∙ top_of_ancestor f a m) ∙ same_name_self (top_of a)) ∙ e)
@@ -56,7 +55,7 @@ never_lost setup now a b r h n v l = decide (same_name (top_of b) (top_of a)) re
 
 pub prepared_closed : (setup : Setup) (past : List Event) (g : ℕ) (t : Name) → IsRun setup past → has_prepared g t past ≡ true → is_closed t past ≡ true
 prepared_closed setup [] g t r h = absurd (false≢true h)
-prepared_closed setup (e ∷ past) g t r h = or_right (step_closes e.step t) (is_closed t past) (elim (or_cases (votes_yes e.step e.answer g t) (has_prepared g t past) h) [
+prepared_closed setup (e ∷ past) g t r h = or_right _ _ (elim (or_cases _ _ h) [
   | inl k ↦ (yes_facts setup e.step e.answer past g t (checked setup e past r) (answered setup e past r) k).closed
   | inr k ↦ prepared_closed setup past g t r.2 k
 ])
@@ -64,16 +63,16 @@ prepared_closed setup (e ∷ past) g t r h = or_right (step_closes e.step t) (is
 -- g prepared t before an operation or after it
 prepared_when : (o : Performed) (e : Event) (past : List Event) (g : ℕ) (t : Name) {mid : List Event} → Grants o e past → Follows (e ∷ past) mid → has_prepared g t mid ≡ true
     → (has_prepared g t past ≡ true) ⊎ (prepared_after o.number g t mid ≡ true)
-prepared_when o e past g t p here h = elim (or_cases (votes_yes e.step e.answer g t) (has_prepared g t past) h) [
-  | inl k ↦ absurd (true≢false (sym k ∙ ap (λ s. votes_yes s e.answer g t) (grant_parts o e past p).0))
+prepared_when o e past g t p here h = elim (or_cases _ _ h) [
+  | inl k ↦ absurd (clash k (ap (λ s. votes_yes s e.answer g t) (grant_parts o e past p).0))
   | inr k ↦ inl k
 ]
-prepared_when o e past g t p (later {now = now} k w) h = elim (or_cases (votes_yes k.step k.answer g t) (has_prepared g t now) h) [
-  | inl v ↦ inr (or_right (prepared_after o.number g t now) (nat_lt o.number (suc (length now)) && votes_yes k.step k.answer g t)
-      (and_from (nat_lt o.number (suc (length now))) (votes_yes k.step k.answer g t) (lt-ltb o.number (suc (length now)) (older w)) v))
+prepared_when o e past g t p (later {now = now} k w) h = elim (or_cases _ _ h) [
+  | inl v ↦ inr (or_right _ _
+      (and_from _ _ (lt-ltb o.number (suc (length now)) (older w)) v))
   | inr v ↦ elim (prepared_when o e past g t p w v) [
     | inl x ↦ inl x
-    | inr x ↦ inr (or_left (prepared_after o.number g t now) (nat_lt o.number (suc (length now)) && votes_yes k.step k.answer g t) x)
+    | inr x ↦ inr (or_left _ _ x)
   ]
 ]
   where
@@ -98,11 +97,11 @@ undone_facts : (setup : Setup) (o : Performed) (e : Event) (past : List Event) (
     → is_orphan a end ≡ false → is_visible o.action a end ≡ true → undoes k mid o ≡ true
     → (is_read o.operation ≡ true) × (is_closed (top_of o.action) mid ≡ true) × (step_crashes k.step o.object.guardian ≡ true)
 undone_facts setup o e past a k {mid = mid} {end = end} p w v r n s u =
-    elim (or_cases (list_any (λ c. tells k mid o.object.guardian c && is_aborted c mid) (ancestors o.action)) (step_crashes k.step g && not (outlives_crash o mid)) u) [
+    elim (or_cases _ _ u) [
       | inl x ↦ absurd (told x)
       | inr x ↦
-          let y = and_parts (step_crashes k.step g) (not (outlives_crash o mid)) x in
-          crashed y.0 (not-true (outlives_crash o mid) y.1) (has_prepared g t mid) refl (is_read o.operation) refl
+          let y = and_parts _ _ x in
+          crashed y.0 (not-true _ y.1) (has_prepared g t mid) refl (is_read o.operation) refl
     ]
   where
     g : ℕ
@@ -132,26 +131,26 @@ undone_facts setup o e past a k {mid = mid} {end = end} p w v r n s u =
     told : list_any (λ c. tells k mid g c && is_aborted c mid) (ancestors b) ≡ true → ⊥
     told x =
         let (c, l, q) = any_ancestor_use (λ c. tells k mid g c && is_aborted c mid) b x in
-        never_aborted setup end a b c r n s l (aborted_stays c (earlier v) (and_parts (tells k mid g c) (is_aborted c mid) q).1)
+        never_aborted setup end a b c r n s l (aborted_stays c (earlier v) (and_parts _ _ q).1)
 
     -- a tree that has closed grants no more
     closed_before : is_closed t past ≡ true → ⊥
     closed_before c =
         let top = top_facts b (nameless setup past b run_op.2 given.was_begun) in
-        true≢false (sym c ∙ not_closed t past (open_above setup o e past a p (follows_through w (earlier v)) r n s t top.1))
+        clash c (not_closed t past (open_above setup o e past a p (follows_through w (earlier v)) r n s t top.1))
 
     crashed : step_crashes k.step g ≡ true → outlives_crash o mid ≡ false → (x : Bool) → has_prepared g t mid ≡ x → (y : Bool) → is_read o.operation ≡ y
         → (is_read o.operation ≡ true) × (is_closed t mid ≡ true) × (step_crashes k.step g ≡ true)
     crashed c q false ex y ey = absurd (never_lost setup end a b r (begun_stays b (earlier v) begun_mid) n s (lost_stays b v
-        (or_right (is_lost b mid) (is_begun b mid && (step_crashes k.step (home_of b mid) && not (has_prepared (home_of b mid) t mid)))
-        (and_from (is_begun b mid) (step_crashes k.step (home_of b mid) && not (has_prepared (home_of b mid) t mid)) begun_mid
-        (and_from (step_crashes k.step (home_of b mid)) (not (has_prepared (home_of b mid) t mid))
+        (or_right _ _
+        (and_from _ _ begun_mid
+        (and_from _ _
         (ap (λ h. step_crashes k.step h) home ∙ c)
         (ap (λ h. not (has_prepared h t mid)) home ∙ ap not ex))))))
     crashed c q true ex true ey = (ey, prepared_closed setup mid g t run ex, c)
     crashed c q true ex false ey = absurd (elim (prepared_when o e past g t p w ex) [
       | inl z ↦ closed_before (prepared_closed setup past g t run_op.2 z)
-      | inr z ↦ true≢false (sym (and_from (not (is_read o.operation)) (prepared_after o.number g t mid) (ap not ey) z) ∙ q)
+      | inr z ↦ true≢false (sym (and_from _ _ (ap not ey) z) ∙ q)
     ])
 
 -- after its own event an operation is kept as long as nothing undoes it
@@ -176,7 +175,7 @@ kept_or_dropped : (setup : Setup) (o : Performed) (e : Event) (past : List Event
     → Follows (e ∷ past) mid → Follows mid end → IsRun setup end → is_orphan a end ≡ false → is_visible o.action a end ≡ true
     → (is_kept o mid ≡ true) ⊎ ((is_read o.operation ≡ true) × IsDropped o mid)
 kept_or_dropped setup o e past a p here v r n s =
-    inl (or_left (o.number == suc (length past)) (is_kept o past && not (undoes e past o)) (eq-eqb o.number (suc (length past)) p.0))
+    inl (or_left _ _ (eq-eqb o.number (suc (length past)) p.0))
 kept_or_dropped setup o e past a p (later {now = now} k w) v r n s = elim (kept_or_dropped setup o e past a p w (earlier v) r n s) [
   | inr x ↦ inr (x.0, still x.1)
   | inl x ↦ decide x (undoes k now o) refl
@@ -189,10 +188,10 @@ kept_or_dropped setup o e past a p (later {now = now} k w) v r n s = elim (kept_
     next = kept_next o k now (granted_before o e past p w)
 
     decide : is_kept o now ≡ true → (t : Bool) → undoes k now o ≡ t → (is_kept o (k ∷ now) ≡ true) ⊎ ((is_read o.operation ≡ true) × IsDropped o (k ∷ now))
-    decide x false u = inl (next ∙ and_from (is_kept o now) (not (undoes k now o)) x (ap not u))
+    decide x false u = inl (next ∙ and_from _ _ x (ap not u))
     decide x true u =
         let f = undone_facts setup o e past a k p w v r n s u in
-        let gone = next ∙ and_right (is_kept o now) (not (undoes k now o)) (ap not u) in
+        let gone = next ∙ and_right _ _ (ap not u) in
         inr (f.0, record { crash = k; before = now; came = here; crashes = f.2; kept = x; dropped = gone; closed = f.1 })
 
 -- so it is kept, or it is a read whose top action has closed
@@ -217,4 +216,4 @@ kept_never_again o e before earlier more c g n = go more
     go [] = n
     go (k ∷ more) =
         let l = granted_before o e before g (follows_through (follows_from c) (followed more earlier)) in
-        kept_next o k (more ++ earlier) l ∙ and_left (is_kept o (more ++ earlier)) (not (undoes k (more ++ earlier) o)) (go more)
+        kept_next o k (more ++ earlier) l ∙ and_left _ _ (go more)

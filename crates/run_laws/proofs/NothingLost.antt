@@ -1,10 +1,10 @@
 -- A yes vote finds the dependency at the present incarnation, so nothing lost is visible under a committed top action.
-use Rattle.std.proofs.Common.{Bool, List, Option, Some, [], ap, arith, cond, eqb-true, false, inl, inr, is_none, length, not, refl, reverse, subst, suc, sym, true, zero, ℕ, ◌&&◌, ◌<◌, ◌==◌, ◌||◌, ◌∙◌, ◌∷◌, ◌≡◌, ◌≤◌, ◌⊎◌}
-use Rattle.std.proofs.lemmas.Bool.{and_from, and_parts, cases_eq, false≢true, not-false, not-true, or_cases, true≢false}
+use Rattle.std.proofs.Common.{Bool, List, Option, Some, [], ap, arith, cond, eqb-true, false, inl, inr, is_none, length, refl, reverse, subst, suc, sym, true, zero, ℕ, ◌<◌, ◌||◌, ◌∙◌, ◌∷◌, ◌≡◌, ◌≤◌, ◌⊎◌}
+use Rattle.std.proofs.lemmas.Bool.{and_from, and_parts, cases_eq, false≢true, not-false, not-true, or_cases}
 use Rattle.std.proofs.lemmas.List.{reverse-append}
 use Rattle.std.proofs.lemmas.List.Folds.{list_all-append}
 use Rattle.std.specs.List.{list_all}
-use Rattle.action_names.specs.Names.{Name, is_ancestor, is_top, same_name, top_of}
+use Rattle.action_names.specs.Names.{Name, is_ancestor, is_top, top_of}
 use Rattle.run_model.specs.declared.answer.Answer.{Answer}
 use Rattle.run_model.specs.declared.answer.Answer.TheVariants.{VoteNo, VoteYes}
 use Rattle.run_model.specs.declared.history.Event.{Event}
@@ -25,7 +25,7 @@ use Rattle.run_laws.proofs.Depends.{depends_on_visible}
 use Rattle.run_laws.proofs.Ended.{decided_at}
 use Rattle.run_laws.proofs.Growth.{Follows, any_stays, earlier, here, run_before}
 use Rattle.run_laws.proofs.Homes.{home_more, home_stays, lost_facts}
-use Rattle.run_laws.proofs.Names.{ancestor_both, same_name_true, top_above, top_is_own, top_of_ancestor}
+use Rattle.run_laws.proofs.Names.{ancestor_both, clash, same_name_true, top_above, top_is_own, top_of_ancestor}
 use Rattle.run_laws.proofs.Settled.{settled_begun, settled_visible}
 use Rattle.run_laws.proofs.Visible.{visible_use}
 
@@ -43,13 +43,13 @@ cond_yes false h = cc
 pub yes_facts : (setup : Setup) (step : Step) (answer : Answer) (past : List Event) (g : ℕ) (t : Name)
     → AllFalse (checks setup step past) → answer ≡ outcome setup step past → votes_yes step answer g t ≡ true → IsYes setup g t past
 yes_facts setup (Prepare h b) VoteYes past g t f a v =
-    let p = and_parts (h == g) (same_name b t) v in
+    let p = and_parts _ _ v in
     let P : ℕ → Type 0 = λ x. IsYes setup x t past in
     let Q : Name → Type 0 = λ x. IsYes setup h x past in
     subst P (eqb-true h g p.0) (subst Q (same_name_true b t p.1) (record {
-      was_begun = not-false (is_begun b past) f.1.0;
-      top = not-false (is_top b) f.1.1.1.1.1.1.0;
-      closed = not-false (is_closed b past) f.1.1.1.1.1.1.1.0;
+      was_begun = not-false _ f.1.0;
+      top = not-false _ f.1.1.1.1.1.1.0;
+      closed = not-false _ f.1.1.1.1.1.1.1.0;
       present = cond_yes (is_number (dependency b h past) (crashes h past)) a;
     }))
 yes_facts setup _ _ past g t f a v = absurd (false≢true v)
@@ -68,17 +68,17 @@ lost_unprepared : (setup : Setup) (b t : Name) (now : List Event) {end : List Ev
     → top_of b ≡ t → is_ancestor t b ≡ true → is_lost b now ≡ true → has_prepared (home_of b now) t now ≡ true → ⊥
 lost_unprepared setup b t [] w r all q k l p = false≢true l
 lost_unprepared setup b t (e ∷ past) w r all q k l p =
-    elim (or_cases (is_lost b past) (is_begun b past && (step_crashes e.step (home_of b past) && not (has_prepared (home_of b past) (top_of b) past))) l) [
+    elim (or_cases _ _ l) [
       | inl before ↦ elim (prepared_cases (lost_facts setup past b run.2 before).was_begun) [
         | inl y ↦ voted before y
         | inr y ↦ lost_unprepared setup b t past (earlier w) r all q k before y
       ]
       | inr now ↦
-          let x = and_parts (is_begun b past) (step_crashes e.step (home_of b past) && not (has_prepared (home_of b past) (top_of b) past)) now in
-          let y = and_parts (step_crashes e.step (home_of b past)) (not (has_prepared (home_of b past) (top_of b) past)) x.1 in
+          let x = and_parts _ _ now in
+          let y = and_parts _ _ x.1 in
           elim (prepared_cases x.0) [
-            | inl z ↦ true≢false (sym z ∙ crash_no_vote e.step e.answer (home_of b past) (home_of b past) t y.0)
-            | inr z ↦ true≢false (sym z ∙ ap (λ u. has_prepared (home_of b past) u past) (sym q) ∙ not-true (has_prepared (home_of b past) (top_of b) past) y.1)
+            | inl z ↦ clash z (crash_no_vote e.step e.answer (home_of b past) (home_of b past) t y.0)
+            | inr z ↦ clash z (ap (λ u. has_prepared (home_of b past) u past) (sym q) ∙ not-true _ y.1)
           ]
     ]
   where
@@ -86,7 +86,7 @@ lost_unprepared setup b t (e ∷ past) w r all q k l p =
     run = run_before setup w r
 
     prepared_cases : is_begun b past ≡ true → (votes_yes e.step e.answer (home_of b past) t ≡ true) ⊎ (has_prepared (home_of b past) t past ≡ true)
-    prepared_cases h = or_cases (votes_yes e.step e.answer (home_of b past) t) (has_prepared (home_of b past) t past)
+    prepared_cases h = or_cases _ _
         (ap (λ g. has_prepared g t (e ∷ past)) (sym (home_more setup e past b run h)) ∙ p)
 
     voted : is_lost b past ≡ true → votes_yes e.step e.answer (home_of b past) t ≡ true → ⊥
@@ -110,13 +110,13 @@ each_guardian p n g h a b = fall n (all_reversed (down_from n) h) a b
     all_reversed : (ns : List ℕ) → list_all p (reverse ns) ≡ true → list_all p ns ≡ true
     all_reversed [] h = h
     all_reversed (m ∷ ns) h =
-        let q = and_parts (list_all p (reverse ns)) (p m && true) (sym (ap (list_all p) (reverse-append (m ∷ []) ns) ∙ list_all-append p (reverse ns) (m ∷ [])) ∙ h) in
-        and_from (p m) (list_all p ns) (and_parts (p m) true q.1).0 (all_reversed ns q.0)
+        let q = and_parts _ _ (sym (ap (list_all p) (reverse-append (m ∷ []) ns) ∙ list_all-append p (reverse ns) (m ∷ [])) ∙ h) in
+        and_from _ _ (and_parts _ _ q.1).0 (all_reversed ns q.0)
 
     fall : (n : ℕ) → list_all p (down_from n) ≡ true → 0 < g → g ≤ n → p g ≡ true
     fall zero h a b = absurd (omega arith)
     fall (suc n) h a b =
-        let q = and_parts (p (suc n)) (list_all p (down_from n)) h in
+        let q = and_parts _ _ h in
         elim (cases_eq g (suc n)) [
           | inl e ↦ ap p e ∙ q.0
           | inr e ↦ fall n q.1 a (omega arith)

@@ -1,12 +1,11 @@
 -- Conflicting operations stand by place as they stood by grant; so exchanges lead from the one order to the other.
 use Rattle.std.proofs.Common.{Bool, List, Option, [], ap, arith, cond, false, filter, inl, inr, refl, reverse, subst, sym, true, ℕ, ◌++◌, ◌<◌, ◌||◌, ◌∙◌, ◌∷◌, ◌≡◌}
-use Rattle.std.proofs.lemmas.Bool.{and_from, and_parts, true≢false}
+use Rattle.std.proofs.lemmas.Bool.{and_from, and_parts}
 use Rattle.std.proofs.lemmas.List.{reverse-append}
 use Rattle.action_names.specs.Names.{Name, is_ancestor, top_of}
-use Rattle.atomic_types.specs.Operations.{conflicts}
 use Rattle.run_model.specs.declared.history.Event.{Event}
 use Rattle.run_model.specs.Actions.{closing_step, is_closed, step_closes}
-use Rattle.run_model.specs.Keeping.{Performed, is_kept, performed, same_object}
+use Rattle.run_model.specs.Keeping.{Performed, is_kept, performed}
 use Rattle.run_model.specs.Places.{Exchanges, collide, exchange, following, in_order_of_place, insert_by_place, keeping, nothing, place_lt, place_of, visible_by_grant}
 use Rattle.run_model.specs.Replay.{Setup}
 use Rattle.run_model.specs.Runs.{IsRun}
@@ -19,7 +18,7 @@ use Rattle.run_laws.proofs.Ended.{committed_closed, not_closed}
 use Rattle.run_laws.proofs.Granted.{IsGranted, at_granted, each_performed, grant_cases, grant_parts, granting}
 use Rattle.run_laws.proofs.Growth.{Follows, earlier, follows_from, follows_length, run_before}
 use Rattle.run_laws.proofs.Kept.{kept_or_closed, open_above}
-use Rattle.run_laws.proofs.Names.{top_facts}
+use Rattle.run_laws.proofs.Names.{clash, top_facts}
 use Rattle.run_laws.proofs.Places.{place_before, place_lt_once, place_tops}
 use Rattle.run_laws.proofs.Seen.{granted_sees}
 use Rattle.run_laws.proofs.Visible.{visible_use}
@@ -56,11 +55,11 @@ in_order setup end a o p e f before between r n w1 g1 w2 g2 v1 v2 c = elim (kept
     -- where the first was kept, it was visible to the action of the second
     behind : is_kept o between ≡ true → (d : Name) → is_ancestor d o.action ≡ true → is_ancestor d p.action ≡ false → Before (closing_step d end) p.number
     behind k d l m =
-        let q = and_parts (same_object o.object p.object) (conflicts o.operation p.operation) c in
+        let q = and_parts _ _ c in
         let seen = at_granted _ o e before g1 w1 (granted_sees p.action p.object p.operation between given.free)
-        (and_from (same_object o.object p.object) (is_kept o between) q.0 k) q.1 in
+        (and_from _ _ q.0 k) q.1 in
         elim (visible_use o.action p.action d between seen l) [
-          | inl x ↦ absurd (true≢false (sym x ∙ m))
+          | inl x ↦ absurd (clash x m)
           | inr x ↦ closed_below d (committed_closed setup between d run.2 x)
         ]
 
@@ -75,7 +74,7 @@ in_order setup end a o p e f before between r n w1 g1 w2 g2 v1 v2 c = elim (kept
         subst P (sym g2.0) (closing_after d w2 q)
 
     other_tree : is_closed (top_of o.action) between ≡ true → (t : Bool) → is_ancestor (top_of o.action) p.action ≡ t → place_lt (place_of o end) (place_of p end) ≡ true
-    other_tree q true k = absurd (true≢false (sym q ∙ open_then (top_of o.action) k))
+    other_tree q true k = absurd (clash q (open_then (top_of o.action) k))
     other_tree q false k =
         let run1 = run_before setup w1 run.2 in
         let named1 = nameless setup before o.action run1.2 (granting setup o e before run1 g1).was_begun in

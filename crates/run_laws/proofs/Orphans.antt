@@ -1,37 +1,35 @@
 -- Who is known as an orphan is one, so who is refused as an orphan is one.
-use Rattle.std.proofs.Common.{Bool, List, None, Option, Some, [], ap, arith, cond, eqb-true, false, filter, inl, inr, length, max, min, nat_lt, not, refl, subst, sym, true, ℕ, ◌&&◌, ◌<◌, ◌==◌, ◌||◌, ◌∙◌, ◌∷◌, ◌≡◌, ◌≤◌, ◌⊎◌}
-use Rattle.std.proofs.lemmas.Bool.{and_from, and_parts, false≢true, ltb-false, ltb-true, or_cases, or_left, or_parts, or_right, true≢false}
+use Rattle.std.proofs.Common.{Bool, List, None, Option, Some, [], ap, arith, cond, eqb-true, false, filter, inl, inr, length, max, min, nat_lt, not, refl, subst, sym, true, ℕ, ◌&&◌, ◌<◌, ◌==◌, ◌∙◌, ◌∷◌, ◌≡◌, ◌≤◌, ◌⊎◌}
+use Rattle.std.proofs.lemmas.Bool.{and_from, and_parts, false≢true, ltb-false, ltb-true, or_cases, or_left, or_parts, or_right}
 use Rattle.std.specs.List.{list_any}
 use Rattle.action_names.specs.Deps.{lesser}
-use Rattle.action_names.specs.Names.{Name, ancestors, is_ancestor, is_top, parent_of, same_name, top_of}
+use Rattle.action_names.specs.Names.{Name, is_ancestor, is_top, parent_of, same_name, top_of}
 use Rattle.run_model.specs.declared.history.Event.{Event}
 use Rattle.run_model.specs.declared.step.Step.{Step}
 use Rattle.run_model.specs.declared.step.Step.TheVariants.{Commit}
-use Rattle.run_model.specs.Actions.{begins, begun, crashes, home_of, incarnation_of, is_aborted, is_begun, is_closed, is_committed, is_done, is_ended, step_aborts, step_closes, step_commits, step_crashes}
+use Rattle.run_model.specs.Actions.{begins, begun, crashes, home_of, incarnation_of, is_aborted, is_begun, is_closed, is_committed, is_done, step_closes, step_commits, step_crashes}
 use Rattle.run_model.specs.Dependencies.{dependency, dependency_after, inherited, merged, own_entry}
 use Rattle.run_model.specs.Lists.{carried_from, from_sender, greater_of_sender, is_below, is_known_orphan, known_crashes, knows_abort}
 use Rattle.run_model.specs.Replay.{Setup}
 use Rattle.run_model.specs.Runs.{IsRun}
-use Rattle.run_model.specs.Telling.{tells}
-use Rattle.run_model.specs.Visibility.{has_prepared, is_lost, is_orphan, is_visible, votes_yes}
-use Rattle.run_laws.proofs.Accepted.{checked, closes_facts, makes_facts}
-use Rattle.run_laws.proofs.Active.{ancestors_open, is_doomed}
+use Rattle.run_model.specs.Visibility.{has_prepared, is_lost, is_orphan, is_visible}
+use Rattle.run_laws.proofs.Accepted.{closes_facts, makes_facts}
 use Rattle.run_laws.proofs.Begun.{begins_no_crash, begun_cases, begun_more, nameless, new_in_run}
 use Rattle.run_laws.proofs.Homes.{crashes_more, home_more, incarnation_more}
 use Rattle.run_laws.proofs.Kept.{prepared_closed}
-use Rattle.run_laws.proofs.Names.{ancestor_trans, ancestor_up, any_ancestor_from, any_ancestor_use, any_name, parent_ancestor, same_name_self, same_name_true, single_top, top_facts, top_of_ancestor}
+use Rattle.run_laws.proofs.Names.{ancestor_trans, ancestor_up, any_ancestor_from, any_ancestor_use, any_name, clash, parent_ancestor, same_name_self, same_name_true, single_top, top_facts, top_of_ancestor}
 use Rattle.run_laws.proofs.Visible.{visible_from, visible_self, visible_use}
 
 -- what is known is so
 pub known_abort : (g : ℕ) (b : Name) (past : List Event) → knows_abort g b past ≡ true → is_aborted b past ≡ true
 known_abort g b [] h = absurd (false≢true h)
 known_abort g b (e ∷ past) h =
-    let p = and_parts (not (step_crashes e.step g)) (knows_abort g b past || ((tells e past g b && is_aborted b past) || from_sender (carried_from e.step g past) (λ k. knows_abort k b past))) h in
-    or_right (step_aborts e.step b) (is_aborted b past)
-    (elim (or_cases (knows_abort g b past) ((tells e past g b && is_aborted b past) || from_sender (carried_from e.step g past) (λ k. knows_abort k b past)) p.1) [
+    let p = and_parts _ _ h in
+    or_right _ _
+    (elim (or_cases _ _ p.1) [
       | inl x ↦ known_abort g b past x
-      | inr x ↦ elim (or_cases (tells e past g b && is_aborted b past) (from_sender (carried_from e.step g past) (λ k. knows_abort k b past)) x) [
-        | inl y ↦ (and_parts (tells e past g b) (is_aborted b past) y).1
+      | inr x ↦ elim (or_cases _ _ x) [
+        | inl y ↦ (and_parts _ _ y).1
         | inr y ↦ sender (λ k. known_abort k b past) (carried_from e.step g past) y
       ]
     ])
@@ -103,7 +101,7 @@ source_more setup e past a b c h n r s t up =
   where
     see : (f : Name) → (is_ancestor f c ≡ true) ⊎ (is_committed f past ≡ true) → (is_ancestor f a ≡ true) ⊎ (is_committed f (e ∷ past) ≡ true)
     see f (inl x) = up f x
-    see f (inr x) = inr (or_right (step_commits e.step f) (is_committed f past) x)
+    see f (inr x) = inr (or_right _ _ x)
 
 -- what a step other than the beginning makes of a dependency
 after_cases : (step : Step) (a : Name) (before : Name → Option ℕ) (own : Option ℕ) (n : ℕ) → dependency_after false step a before own ≡ Some n
@@ -153,8 +151,8 @@ dependency_source setup (e ∷ past) a h n r k d = elim (split (begins e a) refl
             let above = parent_ancestor a t (nameless setup (e ∷ past) a r k) in (
               parent_of a,
               elim (new_in_run setup e past a r q).made [
-                | inl m ↦ absurd (true≢false (sym m ∙ t))
-                | inr m ↦ (makes_facts setup e.step past (parent_of a) (checked setup e past r) m).0
+                | inl m ↦ absurd (clash m t)
+                | inr m ↦ (makes_facts setup e past (parent_of a) r m).0
               ],
               y,
               top_of_ancestor (parent_of a) a above,
@@ -162,16 +160,16 @@ dependency_source setup (e ∷ past) a h n r k d = elim (split (begins e a) refl
             )
     split false q x = elim (after_cases e.step a (λ b. dependency b h past) own n (sym (ap (λ t. dependency_after t e.step a (λ b. dependency b h past) own) q) ∙ x)) [
       | inl y ↦ inr (a, old (begun_cases e past a k), y, refl, λ f l. inl l)
-      | inr y ↦ let (c, cl, co, p, dc) = y in inr (c, (closes_facts setup e.step past c (checked setup e past r) cl).was_begun, dc, tree c cl p, λ f l. up c co p f (ancestor_up f c l))
+      | inr y ↦ let (c, cl, co, p, dc) = y in inr (c, (closes_facts setup e past c r cl).was_begun, dc, tree c cl p, λ f l. up c co p f (ancestor_up f c l))
     ]
       where
         old : (begins e a ≡ true) ⊎ (is_begun a past ≡ true) → is_begun a past ≡ true
-        old (inl z) = absurd (true≢false (sym z ∙ q))
+        old (inl z) = absurd (clash z q)
         old (inr z) = z
 
         tree : (c : Name) → step_closes e.step c ≡ true → parent_of c ≡ a → top_of c ≡ top_of a
         tree c cl p =
-            let bc = (closes_facts setup e.step past c (checked setup e past r) cl).was_begun in
+            let bc = (closes_facts setup e past c r cl).was_begun in
             sub (is_top c) refl (nameless setup past c r.2 bc)
           where
             sub : (t : Bool) → is_top c ≡ t → (c ≡ [] → ⊥) → top_of c ≡ top_of a
@@ -179,7 +177,7 @@ dependency_source setup (e ∷ past) a h n r k d = elim (split (begins e a) refl
             sub true t nn = absurd (nameless setup (e ∷ past) a r k (sym p ∙ single_top c t))
 
         up : (c : Name) → step_commits e.step c ≡ true → parent_of c ≡ a → (f : Name) → (f ≡ c) ⊎ (is_ancestor f (parent_of c) ≡ true) → (is_ancestor f a ≡ true) ⊎ (is_committed f (e ∷ past) ≡ true)
-        up c co p f (inl z) = inr (or_left (step_commits e.step f) (is_committed f past) (ap (λ x. step_commits e.step x) z ∙ co))
+        up c co p f (inl z) = inr (or_left _ _ (ap (λ x. step_commits e.step x) z ∙ co))
         up c co p f (inr z) = inl (sym (ap (λ x. is_ancestor f x) p) ∙ z)
 
 -- an action whose home crashed since it began is lost, where that home has not prepared its tree
@@ -206,14 +204,14 @@ crashed_lost setup (e ∷ past) b r k l p = elim (begun_cases e past b k) [
         → (t : Bool) → step_crashes e.step (home_of b past) ≡ t → is_lost b (e ∷ past) ≡ true
     old x ih t c =
         let g = home_of b past in
-        let unprepared = (or_parts (votes_yes e.step e.answer g (top_of b)) (has_prepared g (top_of b) past) (sym (ap (λ h. has_prepared h (top_of b) (e ∷ past)) (home_more setup e past b r x)) ∙ p)).1 in
+        let unprepared = (or_parts _ _ (sym (ap (λ h. has_prepared h (top_of b) (e ∷ past)) (home_more setup e past b r x)) ∙ p)).1 in
         finish t c unprepared
       where
         finish : (t : Bool) → step_crashes e.step (home_of b past) ≡ t → has_prepared (home_of b past) (top_of b) past ≡ false → is_lost b (e ∷ past) ≡ true
-        finish true c u = or_right (is_lost b past) (is_begun b past && (step_crashes e.step (home_of b past) && not (has_prepared (home_of b past) (top_of b) past)))
-            (and_from (is_begun b past) (step_crashes e.step (home_of b past) && not (has_prepared (home_of b past) (top_of b) past)) x
-            (and_from (step_crashes e.step (home_of b past)) (not (has_prepared (home_of b past) (top_of b) past)) c (ap not u)))
-        finish false c u = or_left (is_lost b past) (is_begun b past && (step_crashes e.step (home_of b past) && not (has_prepared (home_of b past) (top_of b) past)))
+        finish true c u = or_right _ _
+            (and_from _ _ x
+            (and_from _ _ c (ap not u)))
+        finish false c u = or_left _ _
             (ih (still (incarnation_more setup e past b r x) (home_more setup e past b r x)) u)
           where
             still : incarnation_of b (e ∷ past) ≡ incarnation_of b past → home_of b (e ∷ past) ≡ home_of b past → incarnation_of b past < crashes (home_of b past) past
@@ -231,13 +229,13 @@ below_cases (Some n) m h = (n, refl, ltb-true n m h)
 
 any_number : (p : ℕ → Bool) (ns : List ℕ) → list_any p ns ≡ true → (n : ℕ) × (p n ≡ true)
 any_number p [] h = absurd (false≢true h)
-any_number p (n ∷ ns) h = elim (or_cases (p n) (list_any p ns) h) [ inl x ↦ (n, x) | inr x ↦ any_number p ns x ]
+any_number p (n ∷ ns) h = elim (or_cases _ _ h) [ inl x ↦ (n, x) | inr x ↦ any_number p ns x ]
 
 -- a known orphan that is open is one
 pub known_orphan_is : (setup : Setup) (past : List Event) (guardians : List ℕ) (g : ℕ) (a : Name) → IsRun setup past → is_begun a past ≡ true → is_done a past ≡ false
     → is_known_orphan guardians a g past ≡ true → is_orphan a past ≡ true
 known_orphan_is setup past guardians g a r k u h =
-    elim (or_cases (list_any (λ c. knows_abort g c past) (ancestors a)) (list_any (λ x. is_below (dependency a x past) (known_crashes g x past)) guardians) h) [
+    elim (or_cases _ _ h) [
       | inl x ↦ let (c, l, y) = any_ancestor_use (λ c. knows_abort g c past) a x in
           doomed (any_ancestor_from (λ d. is_aborted d past) a c l (known_abort g c past y))
       | inr x ↦
@@ -248,23 +246,23 @@ known_orphan_is setup past guardians g a r k u h =
     ]
   where
     doomed : is_doomed a past ≡ true → is_orphan a past ≡ true
-    doomed x = or_left (is_doomed a past) (list_any (λ b. same_name (top_of b) (top_of a) && (is_lost b past && is_visible b a past)) (begun past)) x
+    doomed x = or_left _ _ x
 
     lost : (y n : ℕ) (b : Name) → IsSource a b y n past → n < known_crashes g y past → (t : Bool) → has_prepared (home_of b past) (top_of b) past ≡ t → is_orphan a past ≡ true
     lost y n b s lt true p =
         let top = top_facts a (nameless setup past a r k) in
         let closed : is_closed (top_of a) past ≡ true = sym (ap (λ t. is_closed t past) s.tree) ∙ prepared_closed setup past (home_of b past) (top_of b) r p in
         elim (ancestors_open setup past (length a) (top_of a) a r (omega arith) k u top.1) [
-          | inl x ↦ absurd (true≢false (sym closed ∙ (or_parts (is_ended (top_of a) past) (is_closed (top_of a) past) x).1))
+          | inl x ↦ absurd (clash closed (or_parts _ _ x).1)
           | inr x ↦ doomed x
         ]
     lost y n b s lt false p =
         let bound = known_count g y past in
         let older : incarnation_of b past < crashes (home_of b past) past = less (incarnation_of b past) n (known_crashes g y past) (crashes y past) (crashes (home_of b past) past) s.incarnation lt bound (ap (λ g. crashes g past) s.home) in
         let l = crashed_lost setup past b r s.was_begun older p in
-        or_right (is_doomed a past) (list_any (λ b. same_name (top_of b) (top_of a) && (is_lost b past && is_visible b a past)) (begun past))
+        or_right _ _
         (any_name (λ b. same_name (top_of b) (top_of a) && (is_lost b past && is_visible b a past)) (begun past) b s.was_begun
-        (and_from (same_name (top_of b) (top_of a)) (is_lost b past && is_visible b a past) (ap (λ t. same_name t (top_of a)) s.tree ∙ same_name_self (top_of a)) (and_from (is_lost b past) (is_visible b a past) l s.visible)))
+        (and_from _ _ (ap (λ t. same_name t (top_of a)) s.tree ∙ same_name_self (top_of a)) (and_from _ _ l s.visible)))
       where
         less : (i n k c d : ℕ) → i ≡ n → n < k → k ≤ c → d ≡ c → i < d
         less i n k c d x y z w = omega arith

@@ -1,14 +1,14 @@
 -- Places as lists of numbers: when one is before another, and that the list by place stands in its order.
-use Rattle.std.proofs.Common.{Bool, List, None, Option, Some, [], ap, ap₂, arith, cond, eqb-true, false, inl, inr, map, nat_lt, refl, subst, sym, true, ℕ, ◌&&◌, ◌++◌, ◌<◌, ◌==◌, ◌||◌, ◌∙◌, ◌∷◌, ◌≡◌}
+use Rattle.std.proofs.Common.{Bool, List, None, Option, Some, [], ap, ap₂, arith, cond, eqb-true, false, inl, inr, map, refl, subst, sym, true, ℕ, ◌&&◌, ◌++◌, ◌<◌, ◌==◌, ◌||◌, ◌∙◌, ◌∷◌, ◌≡◌}
 use Rattle.std.proofs.lemmas.Bool.{and_from, and_left, and_parts, and_right, false≢true, le-ltb, lt-ltb, ltb-true, ne_eqb, or_cases, or_left, or_right, true≢false}
-use Rattle.action_names.specs.Names.{Name, ancestors, is_ancestor, is_prefix, top_of}
+use Rattle.action_names.specs.Names.{Name, ancestors, is_ancestor, top_of}
 use Rattle.run_model.specs.declared.history.Event.{Event}
 use Rattle.run_model.specs.Actions.{closing_step}
 use Rattle.run_model.specs.Keeping.{Performed}
 use Rattle.run_model.specs.Places.{in_order_of_place, insert_by_place, place_lt, place_of, step_eq, step_lt}
 use Rattle.run_laws.specs.Laws.{StandsInOrder}
 use Rattle.run_laws.proofs.Closing.{After, Before}
-use Rattle.run_laws.proofs.Names.{eqb_self}
+use Rattle.run_laws.proofs.Names.{eqb_self, front}
 
 before_after : (x y : Option ℕ) (j : ℕ) → Before x j → After j y → step_lt x y ≡ true
 before_after x y j b (inl e) = ap₂ step_lt b.1 e
@@ -41,23 +41,23 @@ pub place_before : (f : Name → Option ℕ) (i j : ℕ) (b c : Name) → i < j
     → ((e : Name) → is_ancestor e b ≡ true → is_ancestor e c ≡ false → Before (f e) j)
     → ((e : Name) → is_ancestor e c ≡ true → After j (f e))
     → place_lt (place f b i) (place f c j) ≡ true
-place_before f i j [] [] l hb hc = or_left (nat_lt i j) ((i == j) && false) (lt-ltb i j l)
+place_before f i j [] [] l hb hc = or_left _ _ (lt-ltb i j l)
 place_before f i j [] (y ∷ c) l hb hc =
-    or_left (step_lt (Some i) (f (y ∷ []))) (step_eq (Some i) (f (y ∷ [])) && place_lt [] (map f (map (λ a. y ∷ a) (ancestors c)) ++ Some j ∷ []))
-    (after_some i j (f (y ∷ [])) l (hc (y ∷ []) (and_from (y == y) true (eqb_self y) refl)))
+    or_left _ _
+    (after_some i j (f (y ∷ [])) l (hc (y ∷ []) (and_from _ _ (eqb_self y) refl)))
 place_before f i j (x ∷ b) [] l hb hc =
-    or_left (step_lt (f (x ∷ [])) (Some j)) (step_eq (f (x ∷ [])) (Some j) && place_lt (map f (map (λ a. x ∷ a) (ancestors b)) ++ Some i ∷ []) [])
-    (before_some (f (x ∷ [])) j (hb (x ∷ []) (and_from (x == x) true (eqb_self x) refl) refl))
+    or_left _ _
+    (before_some (f (x ∷ [])) j (hb (x ∷ []) (and_from _ _ (eqb_self x) refl) refl))
 place_before f i j (x ∷ b) (y ∷ c) l hb hc =
     ap₂ place_lt (place_cons f x b i) (place_cons f y c j) ∙ decide (x == y) refl (λ e. place_before (λ a. f (x ∷ a)) i j b c l (hb' e) (hc' e))
   where
     front : (x : ℕ) (e b : Name) → is_ancestor e b ≡ true → is_ancestor (x ∷ e) (x ∷ b) ≡ true
     front x [] b k = absurd (false≢true k)
-    front x (z ∷ e) b k = and_from (x == x) (is_prefix (z ∷ e) b) (eqb_self x) k
+    front x (z ∷ e) b k = and_from _ _ (eqb_self x) k
 
     front_not : (x : ℕ) (e b c : Name) → is_ancestor e b ≡ true → is_ancestor e c ≡ false → is_ancestor (x ∷ e) (x ∷ c) ≡ false
     front_not x [] b c k n = absurd (false≢true k)
-    front_not x (z ∷ e) b c k n = and_right (x == x) (is_prefix (z ∷ e) c) n
+    front_not x (z ∷ e) b c k n = and_right _ _ n
 
     hb' : (x == y) ≡ true → (e : Name) → is_ancestor e b ≡ true → is_ancestor e c ≡ false → Before (f (x ∷ e)) j
     hb' q e k n = hb (x ∷ e) (front x e b k) (ap (λ z. is_ancestor (x ∷ e) (z ∷ c)) (sym (eqb-true x y q)) ∙ front_not x e b c k n)
@@ -69,22 +69,22 @@ place_before f i j (x ∷ b) (y ∷ c) l hb hc =
         → (step_lt (f (x ∷ [])) (f (y ∷ [])) || (step_eq (f (x ∷ [])) (f (y ∷ [])) && place_lt (place (λ a. f (x ∷ a)) b i) (place (λ a. f (y ∷ a)) c j))) ≡ true
     decide true q ih =
         let e = eqb-true x y q in
-        or_right (step_lt (f (x ∷ [])) (f (y ∷ []))) (step_eq (f (x ∷ [])) (f (y ∷ [])) && place_lt (place (λ a. f (x ∷ a)) b i) (place (λ a. f (y ∷ a)) c j))
-        (and_from (step_eq (f (x ∷ [])) (f (y ∷ []))) (place_lt (place (λ a. f (x ∷ a)) b i) (place (λ a. f (y ∷ a)) c j))
+        or_right _ _
+        (and_from _ _
         (ap (λ z. step_eq (f (x ∷ [])) (f (z ∷ []))) (sym e) ∙ step_eq_self (f (x ∷ [])))
         (ap (λ z. place_lt (place (λ a. f (x ∷ a)) b i) (place (λ a. f (z ∷ a)) c j)) (sym e) ∙ ih q))
     decide false q ih =
-        or_left (step_lt (f (x ∷ [])) (f (y ∷ []))) (step_eq (f (x ∷ [])) (f (y ∷ [])) && place_lt (place (λ a. f (x ∷ a)) b i) (place (λ a. f (y ∷ a)) c j))
+        or_left _ _
         (before_after (f (x ∷ [])) (f (y ∷ [])) j
-        (hb (x ∷ []) (and_from (x == x) true (eqb_self x) refl) (and_left (x == y) true q))
-        (hc (y ∷ []) (and_from (y == y) true (eqb_self y) refl)))
+        (hb (x ∷ []) (and_from _ _ (eqb_self x) refl) (and_left _ _ q))
+        (hc (y ∷ []) (and_from _ _ (eqb_self y) refl)))
 
 pub place_tops : (f : Name → Option ℕ) (i j : ℕ) (b c : Name) → (b ≡ [] → ⊥) → (c ≡ [] → ⊥) → Before (f (top_of b)) j → After j (f (top_of c))
     → place_lt (place f b i) (place f c j) ≡ true
 place_tops f i j [] c nb nc hb hc = absurd (nb refl)
 place_tops f i j (x ∷ b) [] nb nc hb hc = absurd (nc refl)
 place_tops f i j (x ∷ b) (y ∷ c) nb nc hb hc =
-    or_left (step_lt (f (x ∷ [])) (f (y ∷ []))) (step_eq (f (x ∷ [])) (f (y ∷ [])) && place_lt (map f (map (λ a. x ∷ a) (ancestors b)) ++ Some i ∷ []) (map f (map (λ a. y ∷ a) (ancestors c)) ++ Some j ∷ []))
+    or_left _ _
     (before_after (f (x ∷ [])) (f (y ∷ [])) j hb hc)
 
 -- places compare one way
@@ -103,9 +103,9 @@ pub place_lt_once : (p q : List (Option ℕ)) → place_lt p q ≡ true → plac
 place_lt_once [] [] h = absurd (false≢true h)
 place_lt_once [] (y ∷ q) h = refl
 place_lt_once (x ∷ p) [] h = absurd (false≢true h)
-place_lt_once (x ∷ p) (y ∷ q) h = elim (or_cases (step_lt x y) (step_eq x y && place_lt p q) h) [
+place_lt_once (x ∷ p) (y ∷ q) h = elim (or_cases _ _ h) [
   | inl k ↦ let s = step_lt_once x y k in none (step_lt y x) (step_eq y x) (place_lt q p) s.0 s.1
-  | inr k ↦ let s = and_parts (step_eq x y) (place_lt p q) k in
+  | inr k ↦ let s = and_parts _ _ k in
       none_behind (step_lt y x) (step_eq y x) (place_lt q p) (step_eq_once x y s.0) (place_lt_once p q s.1)
 ]
   where

@@ -21,6 +21,7 @@ use Rattle.run_laws.proofs.Exchanged.{same_object_true}
 use Rattle.run_laws.proofs.Granted.{IsGranted, each_performed, granting}
 use Rattle.run_laws.proofs.Growth.{Follows, follows_from, here, run_before}
 use Rattle.run_laws.proofs.Kept.{kept_or_closed}
+use Rattle.run_laws.proofs.Names.{clash}
 use Rattle.run_laws.proofs.Seen.{granted_sees}
 use Rattle.run_laws.proofs.Visible.{visibility_carries_over, visible_self, visible_stays}
 
@@ -100,17 +101,17 @@ reply_by_grant setup o e past a {end = end} p run w r n v =
       where
         seen : is_read q.operation ≡ false → same_object q.object x ≡ true → is_kept q past ≡ true → is_visible q.action a end ≡ true
         seen nr so k =
-            let s = sees (and_from (same_object q.object x) (is_kept q past) so k) (write_conflicts (class_of q.operation) (class_of o.operation) nr) in
+            let s = sees (and_from _ _ so k) (write_conflicts (class_of q.operation) (class_of o.operation) nr) in
             visibility_carries_over a q.action o.action end v (visible_stays q.action o.action w s)
 
         step : (rd : Bool) → is_read q.operation ≡ rd → (so : Bool) → same_object q.object x ≡ so → (k : Bool) → is_kept q past ≡ k → (u : Bool) → is_visible q.action a end ≡ u
             → ((same_object q.object x && is_kept q past) ≡ (is_visible q.action a end && same_object q.object x)) ⊎ (is_read q.operation ≡ true)
         step true er so es k ek u eu = inr er
-        step false er false es k ek u eu = inl (and_left (same_object q.object x) (is_kept q past) es ∙ sym (and_right (is_visible q.action a end) (same_object q.object x) es))
+        step false er false es k ek u eu = inl (and_left _ _ es ∙ sym (and_right _ _ es))
         step false er true es true ek true eu = inl (ap₂ ◌&&◌ es ek ∙ sym (ap₂ ◌&&◌ eu es))
         step false er true es false ek false eu = inl (ap₂ ◌&&◌ es ek ∙ sym (ap₂ ◌&&◌ eu es))
         step false er true es true ek false eu = absurd (true≢false (sym (seen er es ek) ∙ eu))
-        step false er true es false ek true eu = elim (kept eu) [ inl y ↦ absurd (true≢false (sym y ∙ ek)) | inr y ↦ inr y ]
+        step false er true es false ek true eu = elim (kept eu) [ inl y ↦ absurd (clash y ek) | inr y ↦ inr y ]
 
     kept_visible : Each (λ q. (is_visible q.action a end ≡ true) → (is_kept q past ≡ true) ⊎ (is_read q.operation ≡ true)) (performed past)
     kept_visible = each_performed past _ (λ q e' p' h f u. plain q (kept_or_closed setup q e' p' a h f w r n u))

@@ -1,13 +1,12 @@
 -- Who holds an operation; what is granted sees the kept operations that conflict with it.
-use Rattle.std.proofs.Common.{Bool, List, None, Option, Some, [], ap, cond, eqb-true, false, filter, inl, inr, map, not, option_map, refl, true, ℕ, ◌&&◌, ◌==◌, ◌∙◌, ◌∷◌, ◌≡◌, ◌⊎◌}
+use Rattle.std.proofs.Common.{Bool, List, None, Option, Some, [], ap, cond, eqb-true, false, filter, inl, inr, map, not, option_map, refl, true, ℕ, ◌&&◌, ◌∙◌, ◌∷◌, ◌≡◌, ◌⊎◌}
 use Rattle.std.proofs.lemmas.Bool.{and_from, and_parts, false≢true, not-false}
-use Rattle.action_names.specs.Names.{Name, ancestors, insert_name, is_ancestor, is_prefix, name_lt, rising_names, same_name}
+use Rattle.action_names.specs.Names.{Name, ancestors, insert_name, is_ancestor, name_lt, rising_names, same_name}
 use Rattle.atomic_types.specs.Operations.{conflicts}
 use Rattle.run_model.specs.declared.history.Event.{Event}
 use Rattle.run_model.specs.declared.step.ObjectId.{ObjectId}
-use Rattle.run_model.specs.Actions.{is_committed}
 use Rattle.run_model.specs.Keeping.{Performed, blockers, is_kept, kept_on, performed, same_object}
-use Rattle.run_model.specs.Telling.{holder_of, last_passing, or_else, told_committed, was_told}
+use Rattle.run_model.specs.Telling.{holder_of, last_passing, or_else, told_committed}
 use Rattle.run_model.specs.Visibility.{is_visible}
 use Rattle.run_laws.proofs.Each.{Each, each_fails, each_filtered, each_map, each_mapped}
 use Rattle.run_laws.proofs.Names.{ancestor_trans}
@@ -39,15 +38,15 @@ last_facts p (x ∷ b) (y ∷ []) h = first (last_passing (λ a. p (x ∷ a)) (a
         → (p (y ∷ []) ≡ false) ⊎ ((d : Name) × (last_passing p (ancestors (x ∷ b)) ≡ Some d) × (is_ancestor (y ∷ []) d ≡ true))
     first (Some d) k t q = inr (x ∷ d, k, h)
     first None k true q = inr (x ∷ [], k ∙ ap (λ t. cond t (Some (x ∷ [])) None) q, h)
-    first None k false q = inl (ap (λ z. p (z ∷ [])) (eqb-true y x (and_parts (y == x) true h).0) ∙ q)
+    first None k false q = inl (ap (λ z. p (z ∷ [])) (eqb-true y x (and_parts _ _ h).0) ∙ q)
 last_facts p (x ∷ b) (y ∷ z ∷ f) h =
-    let q = and_parts (y == x) (is_prefix (z ∷ f) b) h in
+    let q = and_parts _ _ h in
     elim (last_facts (λ a. p (x ∷ a)) b (z ∷ f) q.1) [
       | inl k ↦ inl (ap (λ w. p (w ∷ z ∷ f)) (eqb-true y x q.0) ∙ k)
       | inr k ↦ inr (
         x ∷ k.0,
         last_cons p x b ∙ ap (λ o. or_else (option_map (λ a. x ∷ a) o) (cond (p (x ∷ [])) (Some (x ∷ [])) None)) k.1,
-        and_from (y == x) (is_prefix (z ∷ f) k.0) q.0 k.2,
+        and_from _ _ q.0 k.2,
       )
     ]
 
@@ -85,6 +84,6 @@ granted_sees c x wanted past e = each_map _ _ (performed past) sees free
         → (d : Name) → holder_of g o.action past ≡ Some d → not (is_ancestor d c) ≡ false)
         → (same_object o.object x && is_kept o past) ≡ true → conflicts o.operation wanted ≡ true → is_visible o.action c past ≡ true
     sees o h k q = visible_from o.action c past (λ f l. elim (last_facts (λ d. not (told_committed g d past)) o.action f l) [
-      | inl m ↦ inr (and_parts (was_told g f past) (is_committed f past) (not-false (told_committed g f past) m)).1
-      | inr m ↦ inl (ancestor_trans f m.0 c m.2 (not-false (is_ancestor m.0 c) (h k q m.0 m.1)))
+      | inl m ↦ inr (and_parts _ _ (not-false _ m)).1
+      | inr m ↦ inl (ancestor_trans f m.0 c m.2 (not-false _ (h k q m.0 m.1)))
     ])

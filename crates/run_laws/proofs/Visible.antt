@@ -12,14 +12,14 @@ use Rattle.run_laws.proofs.Names.{all_ancestors_from, all_ancestors_use}
 -- visibility as a statement on each ancestor
 pub visible_use : (b a c : Name) (past : List Event) → is_visible b a past ≡ true → is_ancestor c b ≡ true → (is_ancestor c a ≡ true) ⊎ (is_committed c past ≡ true)
 visible_use b a c past h k =
-    or_cases (is_ancestor c a) (is_committed c past) (all_ancestors_use (λ d. is_ancestor d a || is_committed d past) b c h k)
+    or_cases _ _ (all_ancestors_use (λ d. is_ancestor d a || is_committed d past) b c h k)
 
 pub visible_from : (b a : Name) (past : List Event) → ((c : Name) → is_ancestor c b ≡ true → (is_ancestor c a ≡ true) ⊎ (is_committed c past ≡ true)) → is_visible b a past ≡ true
 visible_from b a past h = all_ancestors_from (λ d. is_ancestor d a || is_committed d past) b (λ c k. join c (h c k))
   where
     join : (c : Name) → (is_ancestor c a ≡ true) ⊎ (is_committed c past ≡ true) → (is_ancestor c a || is_committed c past) ≡ true
-    join c (inl e) = or_left (is_ancestor c a) (is_committed c past) e
-    join c (inr e) = or_right (is_ancestor c a) (is_committed c past) e
+    join c (inl e) = or_left _ _ e
+    join c (inr e) = or_right _ _ e
 
 pub visible_self : (a : Name) (past : List Event) → is_visible a a past ≡ true
 visible_self a past = visible_from a a past (λ f k. inl k)
