@@ -1,5 +1,6 @@
 -- A fact of each element of a list, by recursion.
 use Rattle.std.proofs.Common.{Bool, List, None, Option, Some, [], cond, false, filter, filter_map, refl, reverse, subst, sym, true, ◌++◌, ◌∙◌, ◌∷◌, ◌≡◌}
+use Rattle.std.proofs.lemmas.Bool.{true≢false}
 use Rattle.std.proofs.lemmas.List.{reverse-append}
 use Rattle.std.specs.List.{cons_option}
 
@@ -41,7 +42,7 @@ each_filtered P p (x ∷ xs) h = step (p x) refl (each_filtered P p xs) h
     step : (t : Bool) → p x ≡ t → (Each P (filter p xs) → Each (λ y. p y ≡ true → P y) xs) → Each P (cond t (x ∷ filter p xs) (filter p xs))
         → Each (λ y. p y ≡ true → P y) (x ∷ xs)
     step true e ih k = (λ q. k.0, ih k.1)
-    step false e ih k = (λ q. absurd (clash q e), ih k)
+    step false e ih k = (λ q. absurd (true≢false (sym q ∙ e)), ih k)
 
 -- each that has an image
 pub each_mapped : {X Y : Type 0} (P : Y → Type 0) (h : X → Option Y) (xs : List X) → Each P (filter_map h xs) → Each (λ x. (y : Y) → h x ≡ Some y → P y) xs

@@ -1,5 +1,5 @@
 -- Granted operations: what the grant says of the history before it, and facts of each operation of a history.
-use Rattle.std.proofs.Common.{List, [], ap, eqb-true, false, inl, inr, length, refl, subst, suc, sym, true, ℕ, ◌++◌, ◌∙◌, ◌∷◌, ◌≡◌, ◌⊎◌}
+use Rattle.std.proofs.Common.{List, [], ap, arith, eqb-true, false, inl, inr, length, refl, subst, suc, sym, true, ℕ, ◌++◌, ◌∙◌, ◌∷◌, ◌≡◌, ◌≤◌, ◌⊎◌}
 use Rattle.std.proofs.lemmas.Bool.{not-false}
 use Rattle.action_names.specs.Names.{Name}
 use Rattle.atomic_types.specs.Objects.{reply_of}
@@ -19,7 +19,7 @@ use Rattle.run_model.specs.Runs.{IsRun}
 use Rattle.run_laws.specs.Laws.{Grants}
 use Rattle.run_laws.proofs.Accepted.{AllFalse, answered, checked}
 use Rattle.run_laws.proofs.Each.{Each}
-use Rattle.run_laws.proofs.Growth.{Follows, here, later}
+use Rattle.run_laws.proofs.Growth.{Follows, follows_length, here, later}
 use Rattle.atomic_types.specs.declared.op.Op as op
 
 -- the step and the answer that grant an operation
@@ -31,6 +31,9 @@ grant_parts o e past p = parts o.number e.step e.answer p.1
         let made : record { number = n; action = a; object = x; operation = wanted; reply = r } ≡ o = cc in
         (ap (λ (q : Performed). Op q.action q.object q.operation) made, ap (λ (q : Performed). Granted q.reply) made)
     parts n _ _ h = cc
+
+pub granted_before : (o : Performed) (e : Event) (past : List Event) {now : List Event} → Grants o e past → Follows (e ∷ past) now → o.number ≤ length now
+granted_before o e past p w = let l = follows_length w in let n = p.0 in omega arith
 
 -- what the granting of an operation says of the history before it
 pub record IsGranted (setup : Setup) (c : Name) (x : ObjectId) (wanted : op.Op) (r : Reply) (past : List Event) : Type 0 where

@@ -1,11 +1,10 @@
 -- What is visible to an action that is no orphan is kept, but for reads that a crash dropped once their top action had closed.
 use Rattle.std.proofs.Common.{Bool, List, [], ap, arith, eq-eqb, false, inl, inr, length, not, refl, suc, sym, true, ℕ, ◌&&◌, ◌++◌, ◌<◌, ◌||◌, ◌∙◌, ◌∷◌, ◌≡◌, ◌≤◌, ◌⊎◌}
-use Rattle.std.proofs.lemmas.Bool.{and_from, and_left, and_parts, and_right, false≢true, lt-ltb, ne_eqb, not-true, or_cases, or_left, or_parts, or_right, true≢false}
-use Rattle.std.specs.List.{list_any}
-use Rattle.action_names.specs.Names.{Name, ancestors, is_ancestor, same_name, top_of}
+use Rattle.std.proofs.lemmas.Bool.{and_from, and_left, and_parts, and_right, false_from_ne_true, false≢true, lt-ltb, ne_eqb, not-true, or_cases, or_left, or_parts, or_right}
+use Rattle.action_names.specs.Names.{Name, is_ancestor, same_name, top_of}
 use Rattle.atomic_types.specs.Operations.{is_read}
 use Rattle.run_model.specs.declared.history.Event.{Event}
-use Rattle.run_model.specs.Actions.{begun, crashes, home_of, is_aborted, is_begun, is_closed, is_committed, is_done, step_crashes}
+use Rattle.run_model.specs.Actions.{begun, crashes, home_of, is_aborted, is_begun, is_closed, is_committed, step_crashes}
 use Rattle.run_model.specs.Keeping.{Performed, is_kept, outlives_crash, prepared_after, undoes}
 use Rattle.run_model.specs.Refusals.{gone}
 use Rattle.run_model.specs.Replay.{Setup}
@@ -13,11 +12,11 @@ use Rattle.run_model.specs.Runs.{IsRun}
 use Rattle.run_model.specs.Telling.{tells}
 use Rattle.run_model.specs.Visibility.{has_prepared, is_lost, is_orphan, is_visible, votes_yes}
 use Rattle.run_laws.specs.Laws.{Grants, KeptNeverAgain, VisibleIsKept}
-use Rattle.run_laws.proofs.Accepted.{answered, checked}
+use Rattle.run_laws.proofs.Active.{nothing_active_below_done}
 use Rattle.run_laws.proofs.Begun.{nameless}
-use Rattle.run_laws.proofs.Ended.{not_both, not_closed}
-use Rattle.run_laws.proofs.Granted.{IsGranted, grant_parts, granting}
-use Rattle.run_laws.proofs.Growth.{Follows, aborted_stays, begun_stays, came_from, closed_stays, earlier, followed, follows_from, follows_length, follows_through, here, later, lost_stays, run_before}
+use Rattle.run_laws.proofs.Ended.{not_both}
+use Rattle.run_laws.proofs.Granted.{IsGranted, grant_parts, granted_before, granting}
+use Rattle.run_laws.proofs.Growth.{Follows, aborted_stays, begun_stays, came_from, closed_stays, earlier, followed, follows_from, follows_through, here, later, lost_stays, run_before}
 use Rattle.run_laws.proofs.Homes.{home_stays}
 use Rattle.run_laws.proofs.Names.{any_ancestor_use, any_name, clash, no_ancestor_use, same_name_self, top_facts, top_of_ancestor}
 use Rattle.run_laws.proofs.NothingLost.{nothing_lost_under_committed, yes_facts}
@@ -27,36 +26,35 @@ use Rattle.run_laws.proofs.Visible.{visible_from, visible_use}
 pub never_aborted : (setup : Setup) (now : List Event) (a b f : Name) → IsRun setup now → is_orphan a now ≡ false → is_visible b a now ≡ true
     → is_ancestor f b ≡ true → is_aborted f now ≡ true → ⊥
 never_aborted setup now a b f r n v k h = elim (visible_use b a f now v k) [
-  | inl l ↦ clash h (no_ancestor_use (λ c. is_aborted c now) a f
-      (or_parts _ _ n).0 l)
+  | inl l ↦ clash h (no_ancestor_use (λ c. is_aborted c now) a f (or_parts _ _ n).0 l)
   | inr l ↦ not_both setup now f r l h
 ]
 
 -- and nothing that is visible to it is lost
-pub never_lost : (setup : Setup) (now : List Event) (a b : Name) → IsRun setup now → is_begun b now ≡ true → is_orphan a now ≡ false → is_visible b a now ≡ true → is_lost b now ≡ true → ⊥
+never_lost : (setup : Setup) (now : List Event) (a b : Name) → IsRun setup now → is_begun b now ≡ true → is_orphan a now ≡ false → is_visible b a now ≡ true → is_lost b now ≡ true → ⊥
 never_lost setup now a b r h n v l = decide (same_name (top_of b) (top_of a)) refl
   where
     decide : (t : Bool) → same_name (top_of b) (top_of a) ≡ t → ⊥
     decide true e =
-        let none = (or_parts _ _ n).1 in
-        let some = any_name (λ d. same_name (top_of d) (top_of a) && (is_lost d now && is_visible d a now)) (begun now) b h
-        (and_from _ _ e (and_from _ _ l v)) in
-        clash some none
+        let lost = λ (d : Name). same_name (top_of d) (top_of a) && (is_lost d now && is_visible d a now) in
+        clash (any_name lost (begun now) b h (and_from _ _ e (and_from _ _ l v))) (or_parts _ _ n).1
     decide false e =
         let top = top_facts b (nameless setup now b r h) in
         let seen = visible_from b (top_of b) now (λ f k. inr (committed f k)) in
         clash l (nothing_lost_under_committed setup now (top_of b) b r top.0 (committed (top_of b) top.1) top.1 seen)
       where
-        apart : (f : Name) → is_ancestor f b ≡ true → is_ancestor f a ≡ true → ⊥
-        apart f k m = true≢false (sym (ap (λ z. same_name z (top_of a)) (sym (top_of_ancestor f b k) ∙ top_of_ancestor f a m) ∙ same_name_self (top_of a)) ∙ e)
-
+        -- b is of another tree, of which nothing is above a
         committed : (f : Name) → is_ancestor f b ≡ true → is_committed f now ≡ true
-        committed f k = elim (visible_use b a f now v k) [ inl m ↦ absurd (apart f k m) | inr m ↦ m ]
+        committed f k = elim (visible_use b a f now v k) [
+          | inl m ↦ absurd (clash (ap (λ z. same_name z (top_of a)) (sym (top_of_ancestor f b k) ∙ top_of_ancestor f a m) ∙ same_name_self (top_of a)) e)
+          | inr m ↦ m
+        ]
 
+-- what was prepared had closed
 pub prepared_closed : (setup : Setup) (past : List Event) (g : ℕ) (t : Name) → IsRun setup past → has_prepared g t past ≡ true → is_closed t past ≡ true
 prepared_closed setup [] g t r h = absurd (false≢true h)
 prepared_closed setup (e ∷ past) g t r h = or_right _ _ (elim (or_cases _ _ h) [
-  | inl k ↦ (yes_facts setup e.step e.answer past g t (checked setup e past r) (answered setup e past r) k).closed
+  | inl k ↦ (yes_facts setup e past g t r k).closed
   | inr k ↦ prepared_closed setup past g t r.2 k
 ])
 
@@ -68,41 +66,32 @@ prepared_when o e past g t p here h = elim (or_cases _ _ h) [
   | inr k ↦ inl k
 ]
 prepared_when o e past g t p (later {now = now} k w) h = elim (or_cases _ _ h) [
-  | inl v ↦ inr (or_right _ _
-      (and_from _ _ (lt-ltb o.number (suc (length now)) (older w)) v))
-  | inr v ↦ elim (prepared_when o e past g t p w v) [
-    | inl x ↦ inl x
-    | inr x ↦ inr (or_left _ _ x)
-  ]
+  | inl v ↦ inr (or_right _ _ (and_from _ _ (lt-ltb o.number (suc (length now)) (le_suc o.number (length now) (granted_before o e past p w))) v))
+  | inr v ↦ elim (prepared_when o e past g t p w v) [ inl x ↦ inl x | inr x ↦ inr (or_left _ _ x) ]
 ]
   where
-    older : Follows (e ∷ past) now → o.number < suc (length now)
-    older w = let l = follows_length w in let n = p.0 in omega arith
+    le_suc : (m n : ℕ) → m ≤ n → m < suc n
+    le_suc m n h = omega arith
 
 -- all above an operation that stays visible to an action that is no orphan was open when it was granted
 pub open_above : (setup : Setup) (o : Performed) (e : Event) (past : List Event) (a : Name) {end : List Event} → Grants o e past → Follows (e ∷ past) end → IsRun setup end
-    → is_orphan a end ≡ false → is_visible o.action a end ≡ true → (d : Name) → is_ancestor d o.action ≡ true → is_done d past ≡ false
-open_above setup o e past a {end = end} p w r n s d k =
+    → is_orphan a end ≡ false → is_visible o.action a end ≡ true → (d : Name) → is_ancestor d o.action ≡ true → is_closed d past ≡ false
+open_above setup o e past a {end = end} p w r n s d k = false_from_ne_true _ (λ h.
     let run = run_before setup w r in
     let given = granting setup o e past run p in
-    elim (ancestors_open setup past (length o.action) d o.action run.2 (omega arith) given.was_begun given.undone k) [
-      | inl q ↦ q
-      | inr q ↦
-          let (f, l, x) = any_ancestor_use (λ c. is_aborted c past) o.action q in
-          absurd (never_aborted setup end a o.action f r n s l (aborted_stays f (earlier w) x))
-    ]
+    let (f, l, x) = nothing_active_below_done setup past d o.action run.2 given.was_begun given.undone k (or_right _ _ h) in
+    never_aborted setup end a o.action f r n s l (aborted_stays f (earlier w) x))
 
 -- what undoes an operation that stays visible to an action that is no orphan is a crash, and the operation a read whose top action had closed
-undone_facts : (setup : Setup) (o : Performed) (e : Event) (past : List Event) (a : Name) (k : Event) {mid end : List Event} → Grants o e past → Follows (e ∷ past) mid → Follows (k ∷ mid) end → IsRun setup end
-    → is_orphan a end ≡ false → is_visible o.action a end ≡ true → undoes k mid o ≡ true
+undone_facts : (setup : Setup) (o : Performed) (e : Event) (past : List Event) (a : Name) (k : Event) {mid end : List Event} → Grants o e past → Follows (e ∷ past) mid
+    → Follows (k ∷ mid) end → IsRun setup end → is_orphan a end ≡ false → is_visible o.action a end ≡ true → undoes k mid o ≡ true
     → (is_read o.operation ≡ true) × (is_closed (top_of o.action) mid ≡ true) × (step_crashes k.step o.object.guardian ≡ true)
-undone_facts setup o e past a k {mid = mid} {end = end} p w v r n s u =
-    elim (or_cases _ _ u) [
-      | inl x ↦ absurd (told x)
-      | inr x ↦
-          let y = and_parts _ _ x in
-          crashed y.0 (not-true _ y.1) (has_prepared g t mid) refl (is_read o.operation) refl
-    ]
+undone_facts setup o e past a k {mid = mid} {end = end} p w v r n s u = elim (or_cases _ _ u) [
+  | inl x ↦
+      let (c, l, q) = any_ancestor_use (λ c. tells k mid g c && is_aborted c mid) b x in
+      absurd (never_aborted setup end a b c r n s l (aborted_stays c (earlier v) (and_parts _ _ q).1))
+  | inr x ↦ let y = and_parts _ _ x in crashed y.0 (not-true _ y.1) (has_prepared g t mid) refl (is_read o.operation) refl
+]
   where
     g : ℕ
     g = o.object.guardian
@@ -116,49 +105,35 @@ undone_facts setup o e past a k {mid = mid} {end = end} p w v r n s u =
     run : IsRun setup mid
     run = run_before setup (earlier v) r
 
-    run_op : IsRun setup (e ∷ past)
-    run_op = run_before setup w run
+    run_then : IsRun setup (e ∷ past)
+    run_then = run_before setup w run
 
     given : IsGranted setup o.action o.object o.operation o.reply past
-    given = granting setup o e past run_op p
+    given = granting setup o e past run_then p
 
-    begun_mid : is_begun b mid ≡ true
-    begun_mid = begun_stays b (earlier w) given.was_begun
-
-    home : home_of b mid ≡ g
-    home = home_stays setup b (earlier w) run given.was_begun ∙ given.home
-
-    told : list_any (λ c. tells k mid g c && is_aborted c mid) (ancestors b) ≡ true → ⊥
-    told x =
-        let (c, l, q) = any_ancestor_use (λ c. tells k mid g c && is_aborted c mid) b x in
-        never_aborted setup end a b c r n s l (aborted_stays c (earlier v) (and_parts _ _ q).1)
-
-    -- a tree that has closed grants no more
-    closed_before : is_closed t past ≡ true → ⊥
-    closed_before c =
-        let top = top_facts b (nameless setup past b run_op.2 given.was_begun) in
-        clash c (not_closed t past (open_above setup o e past a p (follows_through w (earlier v)) r n s t top.1))
+    -- where the crash came before g prepared, b is lost
+    lost : step_crashes k.step g ≡ true → has_prepared g t mid ≡ false → ⊥
+    lost c x =
+        let known = begun_stays b (earlier w) given.was_begun in
+        let home = home_stays setup b (earlier w) run given.was_begun ∙ given.home in
+        let crash : step_crashes k.step (home_of b mid) ≡ true = ap (λ h. step_crashes k.step h) home ∙ c in
+        let unprepared : not (has_prepared (home_of b mid) t mid) ≡ true = ap (λ h. not (has_prepared h t mid)) home ∙ ap not x in
+        never_lost setup end a b r (begun_stays b (earlier v) known) n s (lost_stays b v (or_right _ _ (and_from _ _ known (and_from _ _ crash unprepared))))
 
     crashed : step_crashes k.step g ≡ true → outlives_crash o mid ≡ false → (x : Bool) → has_prepared g t mid ≡ x → (y : Bool) → is_read o.operation ≡ y
         → (is_read o.operation ≡ true) × (is_closed t mid ≡ true) × (step_crashes k.step g ≡ true)
-    crashed c q false ex y ey = absurd (never_lost setup end a b r (begun_stays b (earlier v) begun_mid) n s (lost_stays b v
-        (or_right _ _
-        (and_from _ _ begun_mid
-        (and_from _ _
-        (ap (λ h. step_crashes k.step h) home ∙ c)
-        (ap (λ h. not (has_prepared h t mid)) home ∙ ap not ex))))))
+    crashed c q false ex y ey = absurd (lost c ex)
     crashed c q true ex true ey = (ey, prepared_closed setup mid g t run ex, c)
     crashed c q true ex false ey = absurd (elim (prepared_when o e past g t p w ex) [
-      | inl z ↦ closed_before (prepared_closed setup past g t run_op.2 z)
-      | inr z ↦ true≢false (sym (and_from _ _ (ap not ey) z) ∙ q)
+      | inl z ↦
+          let top = top_facts b (nameless setup past b run_then.2 given.was_begun) in
+          clash (prepared_closed setup past g t run_then.2 z) (open_above setup o e past a p (follows_through w (earlier v)) r n s t top.1)
+      | inr z ↦ clash (and_from _ _ (ap not ey) z) q
     ])
 
 -- after its own event an operation is kept as long as nothing undoes it
 kept_next : (o : Performed) (e : Event) (past : List Event) → o.number ≤ length past → is_kept o (e ∷ past) ≡ (is_kept o past && not (undoes e past o))
 kept_next o e past l = ap (λ t. t || (is_kept o past && not (undoes e past o))) (ne_eqb o.number (suc (length past)) (λ q. omega arith))
-
-granted_before : (o : Performed) (e : Event) (past : List Event) {now : List Event} → Grants o e past → Follows (e ∷ past) now → o.number ≤ length now
-granted_before o e past p w = let l = follows_length w in let n = p.0 in omega arith
 
 -- a crash dropped the operation, whose top action had closed
 pub record IsDropped (o : Performed) (now : List Event) : Type 0 where

@@ -1,5 +1,5 @@
 -- Names as paths: equality, ancestors, parents and top actions; tests of all ancestors and of some.
-use Rattle.std.proofs.Common.{Bool, List, [], ap, arith, eq-eqb, eqb-true, false, inl, inr, length, map, not, refl, subst, suc, sym, true, zero, ℕ, ◌&&◌, ◌++◌, ◌==◌, ◌||◌, ◌∙◌, ◌∷◌, ◌≡◌, ◌≤◌, ◌⊎◌}
+use Rattle.std.proofs.Common.{Bool, List, [], ap, ap₂, arith, eq-eqb, eqb-true, false, inl, inr, length, map, not, refl, subst, suc, sym, true, zero, ℕ, ◌&&◌, ◌++◌, ◌==◌, ◌||◌, ◌∙◌, ◌∷◌, ◌≡◌, ◌≤◌, ◌⊎◌}
 use Rattle.std.proofs.lemmas.Bool.{and_from, and_parts, false_from_ne_true, false≢true, not-true, or_cases, or_left, or_right, true≢false}
 use Rattle.std.proofs.lemmas.List.Folds.{list_all-map}
 use Rattle.std.specs.List.{list_all, list_any}
@@ -17,10 +17,7 @@ same_name_true [] [] h = refl
 same_name_true [] (y ∷ b) h = absurd (false≢true h)
 same_name_true (x ∷ a) [] h = absurd (false≢true h)
 same_name_true (x ∷ a) (y ∷ b) h =
-    let p = and_parts _ _ h in
-    let e = eqb-true x y p.0 in
-    let f = same_name_true a b p.1 in
-    cc
+    ap₂ (λ n c. n ∷ c) (eqb-true x y (and_parts _ _ h).0) (same_name_true a b (and_parts _ _ h).1)
 
 pub same_name_self : (a : Name) → same_name a a ≡ true
 same_name_self [] = refl
@@ -179,9 +176,7 @@ prefix_both [] [] h k = refl
 prefix_both [] (y ∷ b) h k = absurd (false≢true k)
 prefix_both (x ∷ a) [] h k = absurd (false≢true h)
 prefix_both (x ∷ a) (y ∷ b) h k =
-    let e = eqb-true x y (and_parts _ _ h).0 in
-    let f = prefix_both a b (and_parts _ _ h).1 (and_parts _ _ k).1 in
-    cc
+    ap₂ (λ n c. n ∷ c) (eqb-true x y (and_parts _ _ h).0) (prefix_both a b (and_parts _ _ h).1 (and_parts _ _ k).1)
 
 pub ancestor_both : (a b : Name) → is_ancestor a b ≡ true → is_ancestor b a ≡ true → a ≡ b
 ancestor_both [] b h k = absurd (false≢true h)

@@ -1,6 +1,6 @@
 -- A yes vote finds the dependency at the present incarnation, so nothing lost is visible under a committed top action.
 use Rattle.std.proofs.Common.{Bool, List, Option, Some, [], ap, arith, cond, eqb-true, false, inl, inr, is_none, length, refl, reverse, subst, suc, sym, true, zero, ℕ, ◌<◌, ◌||◌, ◌∙◌, ◌∷◌, ◌≡◌, ◌≤◌, ◌⊎◌}
-use Rattle.std.proofs.lemmas.Bool.{and_from, and_parts, cases_eq, false≢true, not-false, not-true, or_cases}
+use Rattle.std.proofs.lemmas.Bool.{and_from, and_parts, cases_eq, false_from_ne_true, false≢true, not-false, not-true, or_cases}
 use Rattle.std.proofs.lemmas.List.{reverse-append}
 use Rattle.std.proofs.lemmas.List.Folds.{list_all-append}
 use Rattle.std.specs.List.{list_all}
@@ -17,14 +17,14 @@ use Rattle.run_model.specs.Lists.{down_from, up_to}
 use Rattle.run_model.specs.Refusals.{checks}
 use Rattle.run_model.specs.Replay.{Setup}
 use Rattle.run_model.specs.Runs.{IsRun}
-use Rattle.run_model.specs.Visibility.{has_prepared, is_lost, is_visible, votes_yes}
-use Rattle.run_model.specs.Votes.{is_number}
+use Rattle.run_model.specs.Visibility.{has_prepared, is_lost, votes_yes}
+use Rattle.run_model.specs.Votes.{is_number, may_prepare}
 use Rattle.run_laws.specs.Laws.{NothingLostUnderCommitted}
 use Rattle.run_laws.proofs.Accepted.{AllFalse, answered, checked}
 use Rattle.run_laws.proofs.Depends.{depends_on_visible}
 use Rattle.run_laws.proofs.Ended.{decided_at}
 use Rattle.run_laws.proofs.Growth.{Follows, any_stays, earlier, here, run_before}
-use Rattle.run_laws.proofs.Homes.{home_more, home_stays, lost_facts}
+use Rattle.run_laws.proofs.Homes.{IsLostAt, home_more, home_stays, lost_facts}
 use Rattle.run_laws.proofs.Names.{ancestor_both, clash, same_name_true, top_above, top_is_own, top_of_ancestor}
 use Rattle.run_laws.proofs.Settled.{settled_begun, settled_visible}
 use Rattle.run_laws.proofs.Visible.{visible_use}
@@ -36,23 +36,23 @@ pub record IsYes (setup : Setup) (g : ℕ) (t : Name) (past : List Event) : Type
   pub closed : is_closed t past ≡ true
   pub present : is_number (dependency t g past) (crashes g past) ≡ true
 
-cond_yes : (x : Bool) → VoteYes ≡ cond x VoteYes VoteNo → x ≡ true
-cond_yes true h = refl
-cond_yes false h = cc
+pub yes_facts : (setup : Setup) (e : Event) (past : List Event) (g : ℕ) (t : Name) → IsRun setup (e ∷ past) → votes_yes e.step e.answer g t ≡ true → IsYes setup g t past
+yes_facts setup e past g t r v = of e.step e.answer (checked setup e past r) (answered setup e past r) v
+  where
+    given : (x : Bool) → VoteYes ≡ cond x VoteYes VoteNo → x ≡ true
+    given true h = refl
+    given false h = cc
 
-pub yes_facts : (setup : Setup) (step : Step) (answer : Answer) (past : List Event) (g : ℕ) (t : Name)
-    → AllFalse (checks setup step past) → answer ≡ outcome setup step past → votes_yes step answer g t ≡ true → IsYes setup g t past
-yes_facts setup (Prepare h b) VoteYes past g t f a v =
-    let p = and_parts _ _ v in
-    let P : ℕ → Type 0 = λ x. IsYes setup x t past in
-    let Q : Name → Type 0 = λ x. IsYes setup h x past in
-    subst P (eqb-true h g p.0) (subst Q (same_name_true b t p.1) (record {
-      was_begun = not-false _ f.1.0;
-      top = not-false _ f.1.1.1.1.1.1.0;
-      closed = not-false _ f.1.1.1.1.1.1.1.0;
-      present = cond_yes (is_number (dependency b h past) (crashes h past)) a;
-    }))
-yes_facts setup _ _ past g t f a v = absurd (false≢true v)
+    of : (step : Step) (answer : Answer) → AllFalse (checks setup step past) → answer ≡ outcome setup step past → votes_yes step answer g t ≡ true → IsYes setup g t past
+    of (Prepare h b) VoteYes f a v =
+        let p = and_parts _ _ v in
+        subst (λ x. IsYes setup x t past) (eqb-true h g p.0) (subst (λ x. IsYes setup h x past) (same_name_true b t p.1) (record {
+          was_begun = not-false _ f.1.0;
+          top = not-false _ f.1.1.1.1.1.1.0;
+          closed = not-false _ f.1.1.1.1.1.1.1.0;
+          present = given (may_prepare h b past) a;
+        }))
+    of _ _ f a v = absurd (false≢true v)
 
 -- a vote is no crash
 crash_no_vote : (step : Step) (answer : Answer) (g h : ℕ) (t : Name) → step_crashes step g ≡ true → votes_yes step answer h t ≡ false
@@ -67,41 +67,36 @@ lost_unprepared : (setup : Setup) (b t : Name) (now : List Event) {end : List Ev
     → ((f : Name) → is_ancestor f b ≡ true → is_committed f end ≡ true)
     → top_of b ≡ t → is_ancestor t b ≡ true → is_lost b now ≡ true → has_prepared (home_of b now) t now ≡ true → ⊥
 lost_unprepared setup b t [] w r all q k l p = false≢true l
-lost_unprepared setup b t (e ∷ past) w r all q k l p =
-    elim (or_cases _ _ l) [
-      | inl before ↦ elim (prepared_cases (lost_facts setup past b run.2 before).was_begun) [
-        | inl y ↦ voted before y
-        | inr y ↦ lost_unprepared setup b t past (earlier w) r all q k before y
+lost_unprepared setup b t (e ∷ past) w r all q k l p = elim (or_cases _ _ l) [
+  | inl before ↦ elim (prepared_cases (lost_facts setup past b run.2 before).was_begun) [
+    | inl y ↦ voted (lost_facts setup past b run.2 before) (yes_facts setup e past (home_of b past) t run y)
+    | inr y ↦ lost_unprepared setup b t past (earlier w) r all q k before y
+  ]
+  | inr now ↦
+      let x = and_parts _ _ now in
+      let y = and_parts _ _ x.1 in
+      elim (prepared_cases x.0) [
+        | inl z ↦ clash z (crash_no_vote e.step e.answer (home_of b past) (home_of b past) t y.0)
+        | inr z ↦ clash z (ap (λ u. has_prepared (home_of b past) u past) (sym q) ∙ not-true _ y.1)
       ]
-      | inr now ↦
-          let x = and_parts _ _ now in
-          let y = and_parts _ _ x.1 in
-          elim (prepared_cases x.0) [
-            | inl z ↦ clash z (crash_no_vote e.step e.answer (home_of b past) (home_of b past) t y.0)
-            | inr z ↦ clash z (ap (λ u. has_prepared (home_of b past) u past) (sym q) ∙ not-true _ y.1)
-          ]
-    ]
+]
   where
     run : IsRun setup (e ∷ past)
     run = run_before setup w r
 
     prepared_cases : is_begun b past ≡ true → (votes_yes e.step e.answer (home_of b past) t ≡ true) ⊎ (has_prepared (home_of b past) t past ≡ true)
-    prepared_cases h = or_cases _ _
-        (ap (λ g. has_prepared g t (e ∷ past)) (sym (home_more setup e past b run h)) ∙ p)
+    prepared_cases h = or_cases _ _ (ap (λ g. has_prepared g t (e ∷ past)) (sym (home_more setup e past b run h)) ∙ p)
 
-    voted : is_lost b past ≡ true → votes_yes e.step e.answer (home_of b past) t ≡ true → ⊥
-    voted before y =
-        let lost = lost_facts setup past b run.2 before in
-        let yes = yes_facts setup e.step e.answer past (home_of b past) t (checked setup e past run) (answered setup e past run) y in
-        let visible = settled_visible setup t b (earlier w) r all yes.top yes.closed k lost.was_begun in
+    -- the vote found the dependency at the present incarnation, which is later than that of what was lost
+    voted : IsLostAt setup b past → IsYes setup (home_of b past) t past → ⊥
+    voted lost vote =
+        let visible = settled_visible setup t b (earlier w) r all vote.top vote.closed k lost.was_begun in
         let d = depends_on_visible setup past t b run.2 lost.was_begun k visible in
-        let same = number_is (dependency t (home_of b past) past) d.least (crashes (home_of b past) past) d.is_least yes.present in
-        let older = lost.older in
-        let bound = d.bound in
-        no (d.least) (incarnation_of b past) (crashes (home_of b past) past) same older bound
+        let same = eqb-true d.least (crashes (home_of b past) past) (ap (λ x. is_number x (crashes (home_of b past) past)) (sym d.is_least) ∙ vote.present) in
+        late d.least (incarnation_of b past) (crashes (home_of b past) past) same lost.older d.bound
       where
-        no : (m i c : ℕ) → m ≡ c → i < c → m ≤ i → ⊥
-        no m i c x y z = omega arith
+        late : (m i c : ℕ) → m ≡ c → i < c → m ≤ i → ⊥
+        late m i c x y z = omega arith
 
 -- what holds of all guardians holds of each
 each_guardian : (p : ℕ → Bool) (n g : ℕ) → list_all p (up_to n) ≡ true → 0 < g → g ≤ n → p g ≡ true
@@ -122,35 +117,25 @@ each_guardian p n g h a b = fall n (all_reversed (down_from n) h) a b
           | inr e ↦ fall n q.1 a (omega arith)
         ]
 
--- all ancestors of what is visible under a committed top action have committed
-all_under : (t b : Name) (now : List Event) → is_top t ≡ true → is_committed t now ≡ true → is_ancestor t b ≡ true → is_visible b t now ≡ true
-    → (f : Name) → is_ancestor f b ≡ true → is_committed f now ≡ true
-all_under t b now p c k v f l = elim (visible_use b t f now v l) [
-  | inr x ↦ x
-  | inl x ↦ ap (λ y. is_committed y now) (ancestor_both f t x (top_above t f b p k l)) ∙ c
-]
-
 pub nothing_lost_under_committed : NothingLostUnderCommitted
-nothing_lost_under_committed setup now t b r p c k v = decide (is_lost b now) refl
+nothing_lost_under_committed setup now t b r p c k v = false_from_ne_true _ never
   where
     all : (f : Name) → is_ancestor f b ≡ true → is_committed f now ≡ true
-    all = all_under t b now p c k v
+    all f l = elim (visible_use b t f now v l) [
+      | inl x ↦ ap (λ y. is_committed y now) (ancestor_both f t x (top_above t f b p k l)) ∙ c
+      | inr x ↦ x
+    ]
 
     never : is_lost b now ≡ true → ⊥
     never l =
         let lost = lost_facts setup now b r l in
         let (past, w, d) = decided_at setup t now r p c in
-        let run = run_before setup w r in
         let begun_then = settled_begun setup t b w here r all d.closed k lost.was_begun in
         let visible_then = settled_visible setup t b w r all p d.closed k begun_then in
-        let dep = depends_on_visible setup past t b run begun_then k visible_then in
+        let depends = depends_on_visible setup past t b (run_before setup w r) begun_then k visible_then in
         let home : home_of b now ≡ home_of b past = home_stays setup b w r begun_then in
-        let there = let R : ℕ → Type 0 = λ g. (0 < g) × (g ≤ length setup) in subst R home lost.there in
-        let test = each_guardian (λ g. is_none (dependency t g past) || has_prepared g t past) (length setup) (home_of b past) d.ready there.0 there.1 in
-        let prepared : has_prepared (home_of b past) t past ≡ true = ap (λ o. is_none o || has_prepared (home_of b past) t past) (sym dep.is_least) ∙ test in
+        let there = subst (λ g. (0 < g) × (g ≤ length setup)) home lost.there in
+        let ready = each_guardian (λ g. is_none (dependency t g past) || has_prepared g t past) (length setup) (home_of b past) d.ready there.0 there.1 in
+        let prepared : has_prepared (home_of b past) t past ≡ true = ap (λ o. is_none o || has_prepared (home_of b past) t past) (sym depends.is_least) ∙ ready in
         let stays : has_prepared (home_of b past) t now ≡ true = any_stays (λ e. votes_yes e.step e.answer (home_of b past) t) w prepared in
         lost_unprepared setup b t now here r all (sym (top_of_ancestor t b k) ∙ top_is_own t p) k l (ap (λ g. has_prepared g t now) home ∙ stays)
-
-    decide : (x : Bool) → is_lost b now ≡ x → x ≡ false
-    decide false e = refl
-    decide true e = absurd (never e)

@@ -14,7 +14,7 @@ use Rattle.run_laws.specs.Laws.{ConflictsKeepOrder, GrantToPlace, Grants}
 use Rattle.run_laws.proofs.Begun.{nameless}
 use Rattle.run_laws.proofs.Closing.{After, Before, closing_after, closing_of, closing_stays}
 use Rattle.run_laws.proofs.Each.{Each, each_filter, each_reverse, each_snoc}
-use Rattle.run_laws.proofs.Ended.{committed_closed, not_closed}
+use Rattle.run_laws.proofs.Ended.{committed_closed}
 use Rattle.run_laws.proofs.Granted.{IsGranted, at_granted, each_performed, grant_cases, grant_parts, granting}
 use Rattle.run_laws.proofs.Growth.{Follows, earlier, follows_from, follows_length, run_before}
 use Rattle.run_laws.proofs.Kept.{kept_or_closed, open_above}
@@ -65,7 +65,7 @@ in_order setup end a o p e f before between r n w1 g1 w2 g2 v1 v2 c = elim (kept
 
     -- the ancestors of the second operation's action were open
     open_then : (d : Name) → is_ancestor d p.action ≡ true → is_closed d between ≡ false
-    open_then d l = not_closed d between (open_above setup p f between a g2 w2 r n v2 d l)
+    open_then d l = open_above setup p f between a g2 w2 r n v2 d l
 
     open_still : (d : Name) → is_ancestor d p.action ≡ true → After p.number (closing_step d end)
     open_still d l =
