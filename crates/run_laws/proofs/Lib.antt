@@ -17,6 +17,7 @@ pub mod Exchanged
 pub mod Replies
 pub mod Closing
 pub mod Places
+pub mod Sorted
 pub mod Order
 pub mod Serial
 pub mod Orphans

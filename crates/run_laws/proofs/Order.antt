@@ -1,26 +1,27 @@
 -- Conflicting operations stand by place as they stood by grant; so exchanges lead from the one order to the other.
-use Rattle.std.proofs.Common.{Bool, List, Option, [], ap, arith, cond, false, filter, inl, inr, refl, reverse, subst, sym, true, ℕ, ◌++◌, ◌<◌, ◌||◌, ◌∙◌, ◌∷◌, ◌≡◌}
+use Rattle.std.proofs.Common.{Bool, List, Option, [], ap, arith, cond, false, filter, inl, inr, refl, reverse, subst, sym, true, ℕ, ◌<◌, ◌||◌, ◌∙◌, ◌∷◌, ◌≡◌}
 use Rattle.std.proofs.lemmas.Bool.{and_from, and_parts}
 use Rattle.std.proofs.lemmas.List.{reverse-append}
 use Rattle.action_names.specs.Names.{Name, is_ancestor, top_of}
 use Rattle.run_model.specs.declared.history.Event.{Event}
 use Rattle.run_model.specs.Actions.{closing_step, is_closed, step_closes}
 use Rattle.run_model.specs.Keeping.{Performed, is_kept, performed}
-use Rattle.run_model.specs.Places.{Exchanges, collide, exchange, following, in_order_of_place, insert_by_place, keeping, nothing, place_lt, place_of, visible_by_grant}
+use Rattle.run_model.specs.Places.{collide, place_lt, place_of, visible_by_grant}
 use Rattle.run_model.specs.Replay.{Setup}
 use Rattle.run_model.specs.Runs.{IsRun}
 use Rattle.run_model.specs.Visibility.{is_orphan, is_visible}
 use Rattle.run_laws.specs.Laws.{ConflictsKeepOrder, GrantToPlace, Grants}
 use Rattle.run_laws.proofs.Begun.{nameless}
 use Rattle.run_laws.proofs.Closing.{After, Before, closing_after, closing_of, closing_stays}
-use Rattle.run_laws.proofs.Each.{Each, each_filter, each_reverse, each_snoc}
+use Rattle.run_laws.proofs.Each.{each_filter, each_reverse}
 use Rattle.run_laws.proofs.Ended.{committed_closed}
 use Rattle.run_laws.proofs.Granted.{IsGranted, at_granted, each_performed, grant_cases, grant_parts, granting}
-use Rattle.run_laws.proofs.Growth.{Follows, earlier, follows_from, follows_length, run_before}
+use Rattle.run_laws.proofs.Growth.{Follows, earlier, follows_from, follows_length, here, run_before}
 use Rattle.run_laws.proofs.Kept.{kept_or_closed, open_above}
 use Rattle.run_laws.proofs.Names.{clash, top_facts}
-use Rattle.run_laws.proofs.Places.{place_before, place_lt_once, place_tops}
+use Rattle.run_laws.proofs.Places.{place_before, place_tops}
 use Rattle.run_laws.proofs.Seen.{granted_sees}
+use Rattle.run_laws.proofs.Sorted.{EachPair, InOrder, exchanged, pair_snoc}
 use Rattle.run_laws.proofs.Visible.{visible_use}
 
 -- o was granted before p, they conflict, and both are visible to an action that is no orphan: o's place is before p's
@@ -85,19 +86,6 @@ pub conflicts_keep_order : ConflictsKeepOrder
 conflicts_keep_order setup past a o p e f before between r n c g d h v w k =
     in_order setup past a o p e f before between r n (follows_from c) g (follows_from d) h v w k
 
--- the older of two visible operations that conflict has the earlier place
-abbrev pub InOrder : List Event → Performed → Performed → Type 0
-InOrder now o p = collide o p ≡ true → place_lt (place_of o now) (place_of p now) ≡ true
-
--- of each two in a list, the oldest first
-abbrev pub EachPair : (Performed → Performed → Type 0) → List Performed → Type 0
-EachPair R [] = Unit {0}
-EachPair R (o ∷ os) = Each (λ p. R o p) os × EachPair R os
-
-pair_snoc : (R : Performed → Performed → Type 0) (os : List Performed) (o : Performed) → EachPair R os → Each (λ p. R p o) os → EachPair R (os ++ o ∷ [])
-pair_snoc R [] o h k = (tt, tt)
-pair_snoc R (x ∷ xs) o h k = (each_snoc (λ p. R x p) xs o h.0 k.0, pair_snoc R xs o h.1 k.1)
-
 -- each two that are visible
 visible_pairs : (setup : Setup) (past : List Event) (a : Name) {end : List Event} → Follows past end → IsRun setup end → is_orphan a end ≡ false
     → EachPair (InOrder end) (reverse (filter (λ o. is_visible o.action a end) (performed past)))
@@ -121,43 +109,6 @@ visible_pairs setup (e ∷ past) a {end = end} w r n = elim (grant_cases e past)
         (each_performed past _ (λ q e' p' h f u c. in_order setup end a q o e' e p' past r n f h w p u v c)) in
         subst R (sym (reverse-append (o ∷ []) seen)) (pair_snoc (InOrder end) (reverse seen) o rest (each_reverse (λ q. InOrder end q o) seen older))
 
-same : (os : List Performed) → Exchanges os os
-same [] = nothing
-same (o ∷ os) = keeping o (same os)
-
--- an older operation goes past those that have an earlier place, with which it does not conflict
-inserted : (now : List Event) (o : Performed) (ps : List Performed) → Each (λ p. InOrder now o p) ps → Exchanges (o ∷ ps) (insert_by_place now o ps)
-inserted now o [] h = keeping o nothing
-inserted now o (p ∷ ps) h = step (place_lt (place_of p now) (place_of o now)) refl (collide o p) refl (inserted now o ps h.1)
-  where
-    step : (t : Bool) → place_lt (place_of p now) (place_of o now) ≡ t → (u : Bool) → collide o p ≡ u → Exchanges (o ∷ ps) (insert_by_place now o ps)
-        → Exchanges (o ∷ p ∷ ps) (cond (place_lt (place_of p now) (place_of o now)) (p ∷ insert_by_place now o ps) (o ∷ p ∷ ps))
-    step t e true c k =
-        let no = place_lt_once (place_of o now) (place_of p now) (h.0 c) in
-        let Q : Bool → Type 0 = λ b. Exchanges (o ∷ p ∷ ps) (cond b (p ∷ insert_by_place now o ps) (o ∷ p ∷ ps)) in
-        subst Q (sym no) (same (o ∷ p ∷ ps))
-    step true e false c k =
-        let Q : Bool → Type 0 = λ b. Exchanges (o ∷ p ∷ ps) (cond b (p ∷ insert_by_place now o ps) (o ∷ p ∷ ps)) in
-        subst Q (sym e) (following (exchange o p ps c) (keeping p k))
-    step false e false c k =
-        let Q : Bool → Type 0 = λ b. Exchanges (o ∷ p ∷ ps) (cond b (p ∷ insert_by_place now o ps) (o ∷ p ∷ ps)) in
-        subst Q (sym e) (same (o ∷ p ∷ ps))
-
-each_inserted : (P : Performed → Type 0) (now : List Event) (o : Performed) (ps : List Performed) → P o → Each P ps → Each P (insert_by_place now o ps)
-each_inserted P now o [] h k = (h, tt)
-each_inserted P now o (p ∷ ps) h k = step (place_lt (place_of p now) (place_of o now)) (each_inserted P now o ps h k.1)
-  where
-    step : (t : Bool) → Each P (insert_by_place now o ps) → Each P (cond t (p ∷ insert_by_place now o ps) (o ∷ p ∷ ps))
-    step true m = (k.0, m)
-    step false m = (h, k)
-
-each_in_order : (P : Performed → Type 0) (now : List Event) (os : List Performed) → Each P os → Each P (in_order_of_place now os)
-each_in_order P now [] h = tt
-each_in_order P now (o ∷ os) h = each_inserted P now o (in_order_of_place now os) h.0 (each_in_order P now os h.1)
-
-sorted : (now : List Event) (os : List Performed) → EachPair (InOrder now) os → Exchanges os (in_order_of_place now os)
-sorted now [] h = nothing
-sorted now (o ∷ os) h = following (keeping o (sorted now os h.1)) (inserted now o (in_order_of_place now os) (each_in_order (λ p. InOrder now o p) now os h.0))
 
 pub grant_to_place : GrantToPlace
-grant_to_place setup past a r n = sorted past (visible_by_grant a past) (visible_pairs setup past a Follows.here r n)
+grant_to_place setup past a r n = exchanged past (visible_by_grant a past) (visible_pairs setup past a here r n)

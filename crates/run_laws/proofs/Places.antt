@@ -1,14 +1,12 @@
--- Places as lists of numbers: when one is before another, and that the list by place stands in its order.
-use Rattle.std.proofs.Common.{Bool, List, None, Option, Some, [], ap, ap₂, arith, cond, eqb-true, false, inl, inr, map, refl, subst, sym, true, ℕ, ◌&&◌, ◌++◌, ◌<◌, ◌==◌, ◌||◌, ◌∙◌, ◌∷◌, ◌≡◌}
-use Rattle.std.proofs.lemmas.Bool.{and_from, and_left, and_parts, and_right, false≢true, le-ltb, lt-ltb, ltb-true, ne_eqb, or_cases, or_left, or_right, true≢false}
+-- Places: which of two is the earlier one, and that two operations never have one place.
+use Rattle.std.proofs.Common.{Bool, List, None, Option, Some, [], ap, ap₂, arith, eqb-true, false, inl, inr, map, refl, subst, true, ℕ, ◌++◌, ◌<◌, ◌==◌, ◌∙◌, ◌∷◌, ◌≡◌}
+use Rattle.std.proofs.lemmas.Bool.{and_from, and_left, and_parts, and_right, false≢true, le-ltb, lt-ltb, ltb-true, ne_eqb, or_cases, or_from, or_left, or_right}
 use Rattle.action_names.specs.Names.{Name, ancestors, is_ancestor, top_of}
-use Rattle.run_model.specs.declared.history.Event.{Event}
 use Rattle.run_model.specs.Actions.{closing_step}
-use Rattle.run_model.specs.Keeping.{Performed}
-use Rattle.run_model.specs.Places.{in_order_of_place, insert_by_place, place_lt, place_of, step_eq, step_lt}
-use Rattle.run_laws.specs.Laws.{StandsInOrder}
+use Rattle.run_model.specs.Places.{place_lt, step_eq, step_lt}
+use Rattle.run_laws.specs.Laws.{PlacesDiffer}
 use Rattle.run_laws.proofs.Closing.{After, Before}
-use Rattle.run_laws.proofs.Names.{eqb_self, front}
+use Rattle.run_laws.proofs.Names.{eqb_self, front, front_alone}
 
 before_after : (x y : Option ℕ) (j : ℕ) → Before x j → After j y → step_lt x y ≡ true
 before_after x y j b (inl e) = ap₂ step_lt b.1 e
@@ -37,55 +35,49 @@ map_map f h (x ∷ xs) = ap (λ l. f (h x) ∷ l) (map_map f h xs)
 place_cons : (f : Name → Option ℕ) (x : ℕ) (b : Name) (i : ℕ) → place f (x ∷ b) i ≡ f (x ∷ []) ∷ place (λ a. f (x ∷ a)) b i
 place_cons f x b i = ap (λ l. f (x ∷ []) ∷ (l ++ Some i ∷ [])) (map_map f (λ a. x ∷ a) (ancestors b))
 
+-- Where all above b and not above c closed before j, and nothing above c did, b's place is before c's.
 pub place_before : (f : Name → Option ℕ) (i j : ℕ) (b c : Name) → i < j
     → ((e : Name) → is_ancestor e b ≡ true → is_ancestor e c ≡ false → Before (f e) j)
     → ((e : Name) → is_ancestor e c ≡ true → After j (f e))
     → place_lt (place f b i) (place f c j) ≡ true
 place_before f i j [] [] l hb hc = or_left _ _ (lt-ltb i j l)
-place_before f i j [] (y ∷ c) l hb hc =
-    or_left _ _
-    (after_some i j (f (y ∷ [])) l (hc (y ∷ []) (and_from _ _ (eqb_self y) refl)))
-place_before f i j (x ∷ b) [] l hb hc =
-    or_left _ _
-    (before_some (f (x ∷ [])) j (hb (x ∷ []) (and_from _ _ (eqb_self x) refl) refl))
-place_before f i j (x ∷ b) (y ∷ c) l hb hc =
-    ap₂ place_lt (place_cons f x b i) (place_cons f y c j) ∙ decide (x == y) refl (λ e. place_before (λ a. f (x ∷ a)) i j b c l (hb' e) (hc' e))
+place_before f i j [] (y ∷ c) l hb hc = or_left _ _ (after_some i j (f (y ∷ [])) l (hc (y ∷ []) (front_alone y c)))
+place_before f i j (x ∷ b) [] l hb hc = or_left _ _ (before_some (f (x ∷ [])) j (hb (x ∷ []) (front_alone x b) refl))
+place_before f i j (x ∷ b) (y ∷ c) l hb hc = decide (x == y) refl (λ hb' hc'. place_before (λ a. f (x ∷ a)) i j b c l hb' hc')
   where
-    front : (x : ℕ) (e b : Name) → is_ancestor e b ≡ true → is_ancestor (x ∷ e) (x ∷ b) ≡ true
-    front x [] b k = absurd (false≢true k)
-    front x (z ∷ e) b k = and_from _ _ (eqb_self x) k
+    Behind : (Name → Option ℕ) → Name → Name → Type 0
+    Behind g b c = (e : Name) → is_ancestor e b ≡ true → is_ancestor e c ≡ false → Before (g e) j
 
-    front_not : (x : ℕ) (e b c : Name) → is_ancestor e b ≡ true → is_ancestor e c ≡ false → is_ancestor (x ∷ e) (x ∷ c) ≡ false
-    front_not x [] b c k n = absurd (false≢true k)
-    front_not x (z ∷ e) b c k n = and_right _ _ n
+    Open : (Name → Option ℕ) → Name → Type 0
+    Open g c = (e : Name) → is_ancestor e c ≡ true → After j (g e)
 
-    hb' : (x == y) ≡ true → (e : Name) → is_ancestor e b ≡ true → is_ancestor e c ≡ false → Before (f (x ∷ e)) j
-    hb' q e k n = hb (x ∷ e) (front x e b k) (ap (λ z. is_ancestor (x ∷ e) (z ∷ c)) (sym (eqb-true x y q)) ∙ front_not x e b c k n)
+    inner : Name → Option ℕ
+    inner a = f (x ∷ a)
 
-    hc' : (x == y) ≡ true → (e : Name) → is_ancestor e c ≡ true → After j (f (x ∷ e))
-    hc' q e k = hc (x ∷ e) (ap (λ z. is_ancestor (x ∷ e) (z ∷ c)) (sym (eqb-true x y q)) ∙ front x e c k)
+    front_not : (e : Name) → is_ancestor e b ≡ true → is_ancestor e c ≡ false → is_ancestor (x ∷ e) (x ∷ c) ≡ false
+    front_not [] k n = absurd (false≢true k)
+    front_not (z ∷ e) k n = and_right _ _ n
 
-    decide : (t : Bool) → (x == y) ≡ t → ((x == y) ≡ true → place_lt (place (λ a. f (x ∷ a)) b i) (place (λ a. f (x ∷ a)) c j) ≡ true)
-        → (step_lt (f (x ∷ [])) (f (y ∷ [])) || (step_eq (f (x ∷ [])) (f (y ∷ [])) && place_lt (place (λ a. f (x ∷ a)) b i) (place (λ a. f (y ∷ a)) c j))) ≡ true
+    same_top : (Behind inner b c → Open inner c → place_lt (place inner b i) (place inner c j) ≡ true)
+        → Behind f (x ∷ b) (x ∷ c) → Open f (x ∷ c) → place_lt (place f (x ∷ b) i) (place f (x ∷ c) j) ≡ true
+    same_top ih hb hc =
+        ap₂ place_lt (place_cons f x b i) (place_cons f x c j)
+        ∙ or_right _ _ (and_from _ _ (step_eq_self (f (x ∷ [])))
+        (ih (λ e k n. hb (x ∷ e) (front x e b k) (front_not e k n)) (λ e k. hc (x ∷ e) (front x e c k))))
+
+    decide : (t : Bool) → (x == y) ≡ t → (Behind inner b c → Open inner c → place_lt (place inner b i) (place inner c j) ≡ true)
+        → place_lt (place f (x ∷ b) i) (place f (y ∷ c) j) ≡ true
     decide true q ih =
-        let e = eqb-true x y q in
-        or_right _ _
-        (and_from _ _
-        (ap (λ z. step_eq (f (x ∷ [])) (f (z ∷ []))) (sym e) ∙ step_eq_self (f (x ∷ [])))
-        (ap (λ z. place_lt (place (λ a. f (x ∷ a)) b i) (place (λ a. f (z ∷ a)) c j)) (sym e) ∙ ih q))
+        subst (λ z. Behind f (x ∷ b) (z ∷ c) → Open f (z ∷ c) → place_lt (place f (x ∷ b) i) (place f (z ∷ c) j) ≡ true) (eqb-true x y q) (same_top ih) hb hc
     decide false q ih =
-        or_left _ _
-        (before_after (f (x ∷ [])) (f (y ∷ [])) j
-        (hb (x ∷ []) (and_from _ _ (eqb_self x) refl) (and_left _ _ q))
-        (hc (y ∷ []) (and_from _ _ (eqb_self y) refl)))
+        or_left _ _ (before_after (f (x ∷ [])) (f (y ∷ [])) j (hb (x ∷ []) (front_alone x b) (and_left _ _ q)) (hc (y ∷ []) (front_alone y c)))
 
+-- so too where the whole tree of b closed before j, and that of c did not
 pub place_tops : (f : Name → Option ℕ) (i j : ℕ) (b c : Name) → (b ≡ [] → ⊥) → (c ≡ [] → ⊥) → Before (f (top_of b)) j → After j (f (top_of c))
     → place_lt (place f b i) (place f c j) ≡ true
 place_tops f i j [] c nb nc hb hc = absurd (nb refl)
 place_tops f i j (x ∷ b) [] nb nc hb hc = absurd (nc refl)
-place_tops f i j (x ∷ b) (y ∷ c) nb nc hb hc =
-    or_left _ _
-    (before_after (f (x ∷ [])) (f (y ∷ [])) j hb hc)
+place_tops f i j (x ∷ b) (y ∷ c) nb nc hb hc = or_left _ _ (before_after (f (x ∷ [])) (f (y ∷ [])) j hb hc)
 
 -- places compare one way
 step_lt_once : (x y : Option ℕ) → step_lt x y ≡ true → (step_lt y x ≡ false) × (step_eq y x ≡ false)
@@ -104,45 +96,9 @@ place_lt_once [] [] h = absurd (false≢true h)
 place_lt_once [] (y ∷ q) h = refl
 place_lt_once (x ∷ p) [] h = absurd (false≢true h)
 place_lt_once (x ∷ p) (y ∷ q) h = elim (or_cases _ _ h) [
-  | inl k ↦ let s = step_lt_once x y k in none (step_lt y x) (step_eq y x) (place_lt q p) s.0 s.1
-  | inr k ↦ let s = and_parts _ _ k in
-      none_behind (step_lt y x) (step_eq y x) (place_lt q p) (step_eq_once x y s.0) (place_lt_once p q s.1)
+  | inl k ↦ let s = step_lt_once x y k in or_from _ _ s.0 (and_left _ _ s.1)
+  | inr k ↦ let s = and_parts _ _ k in or_from _ _ (step_eq_once x y s.0) (and_right _ _ (place_lt_once p q s.1))
 ]
-  where
-    none : (a b c : Bool) → a ≡ false → b ≡ false → (a || (b && c)) ≡ false
-    none false false c x y = refl
-    none true b c x y = absurd (true≢false x)
-    none false true c x y = absurd (true≢false y)
-
-    none_behind : (a b c : Bool) → a ≡ false → c ≡ false → (a || (b && c)) ≡ false
-    none_behind false true c x y = y
-    none_behind false false c x y = refl
-    none_behind true b c x y = absurd (true≢false x)
-
-behind : (now : List Event) (q o : Performed) (ps : List Performed) → place_lt (place_of o now) (place_of q now) ≡ false → StandsInOrder now (q ∷ ps) → StandsInOrder now (q ∷ insert_by_place now o ps)
-behind now q o [] n h = (n, tt)
-behind now q o (p ∷ ps) n h = step (place_lt (place_of p now) (place_of o now)) refl (λ m. behind now p o ps m h.1)
-  where
-    step : (t : Bool) → place_lt (place_of p now) (place_of o now) ≡ t → (place_lt (place_of o now) (place_of p now) ≡ false → StandsInOrder now (p ∷ insert_by_place now o ps))
-        → StandsInOrder now (q ∷ cond (place_lt (place_of p now) (place_of o now)) (p ∷ insert_by_place now o ps) (o ∷ p ∷ ps))
-    step true e ih = let P : Bool → Type 0 = λ t. StandsInOrder now (q ∷ cond t (p ∷ insert_by_place now o ps) (o ∷ p ∷ ps)) in
-        subst P (sym e) (h.0, ih (place_lt_once (place_of p now) (place_of o now) e))
-    step false e ih = let P : Bool → Type 0 = λ t. StandsInOrder now (q ∷ cond t (p ∷ insert_by_place now o ps) (o ∷ p ∷ ps)) in
-        subst P (sym e) (n, (e, h.1))
-
-insert_stands : (now : List Event) (o : Performed) (ps : List Performed) → StandsInOrder now ps → StandsInOrder now (insert_by_place now o ps)
-insert_stands now o [] h = tt
-insert_stands now o (p ∷ ps) h = step (place_lt (place_of p now) (place_of o now)) refl
-  where
-    step : (t : Bool) → place_lt (place_of p now) (place_of o now) ≡ t → StandsInOrder now (cond (place_lt (place_of p now) (place_of o now)) (p ∷ insert_by_place now o ps) (o ∷ p ∷ ps))
-    step true e = let P : Bool → Type 0 = λ t. StandsInOrder now (cond t (p ∷ insert_by_place now o ps) (o ∷ p ∷ ps)) in
-        subst P (sym e) (behind now p o ps (place_lt_once (place_of p now) (place_of o now) e) h)
-    step false e = let P : Bool → Type 0 = λ t. StandsInOrder now (cond t (p ∷ insert_by_place now o ps) (o ∷ p ∷ ps)) in
-        subst P (sym e) (e, h)
-
-pub stands : (now : List Event) (os : List Performed) → StandsInOrder now (in_order_of_place now os)
-stands now [] = tt
-stands now (o ∷ os) = insert_stands now o (in_order_of_place now os) (stands now os)
 
 last_same : (xs ys : List (Option ℕ)) (a b : Option ℕ) → xs ++ a ∷ [] ≡ ys ++ b ∷ [] → a ≡ b
 last_same [] [] a b h = cc
@@ -152,7 +108,7 @@ last_same (x ∷ []) [] a b h = cc
 last_same (x ∷ z ∷ xs) [] a b h = cc
 last_same (x ∷ xs) (y ∷ ys) a b h = last_same xs ys a b cc
 
-pub place_tells : (now : List Event) (o p : Performed) → place_of o now ≡ place_of p now → o.number ≡ p.number
-place_tells now o p h =
-    let e : Some o.number ≡ Some p.number = last_same (map (λ c. closing_step c now) (ancestors o.action)) (map (λ c. closing_step c now) (ancestors p.action)) (Some o.number) (Some p.number) h in
+pub places_differ : PlacesDiffer
+places_differ past o p h =
+    let e = last_same (map (λ c. closing_step c past) (ancestors o.action)) (map (λ c. closing_step c past) (ancestors p.action)) (Some o.number) (Some p.number) h in
     cc
