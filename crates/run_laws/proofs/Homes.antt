@@ -1,5 +1,5 @@
 -- Homes and incarnations stay as they were when an action began; a lost action is older than the last crash of its home.
-use Rattle.std.proofs.Common.{Bool, List, [], ap, arith, cond, eqb-true, false, filter, inl, inr, le_trans, length, refl, subst, suc, sym, true, ℕ, ◌<◌, ◌∙◌, ◌∷◌, ◌≡◌, ◌≤◌}
+use Rattle.std.proofs.Common.{Bool, List, [], ap, arith, cond, eqb-true, false, filter, inl, inr, le_trans, length, lt_of_lt_of_le, refl, subst, suc, sym, true, ℕ, ◌<◌, ◌∙◌, ◌∷◌, ◌≡◌, ◌≤◌}
 use Rattle.std.proofs.lemmas.Bool.{and_parts, eqb-false, false≢true, ltb-false, or_cases, or_parts}
 use Rattle.action_names.specs.Names.{Name}
 use Rattle.run_model.specs.declared.history.Event.{Event}
@@ -79,19 +79,17 @@ lost_facts setup [] b r h = absurd (false≢true h)
 lost_facts setup (e ∷ past) b r h = elim (or_cases _ _ h) [
   | inl k ↦
       let l = lost_facts setup past b r.2 k in
-      build l.was_begun (lt_le (incarnation_of b past) (crashes (home_of b past) past) (crashes (home_of b past) (e ∷ past)) l.older (crashes_more e past (home_of b past))) l.there
+      build l.was_begun (lt_of_lt_of_le l.older (crashes_more e past (home_of b past))) l.there
   | inr k ↦
       let p = and_parts _ _ k in
       let c = (and_parts _ _ p.1).0 in
       let bound = incarnation_bound setup past b r.2 p.0 in
-      build p.0 (le_suc (incarnation_of b past) (crashes (home_of b past) past) (crashes (home_of b past) (e ∷ past)) bound (crashes_next e past (home_of b past) true c)) (crash_facts setup e past (home_of b past) r c)
+      let older = subst (λ n. incarnation_of b past < n) (sym (crashes_next e past (home_of b past) true c)) (more (incarnation_of b past) (crashes (home_of b past) past) bound) in
+      build p.0 older (crash_facts setup e past (home_of b past) r c)
 ]
   where
-    lt_le : (a b c : ℕ) → a < b → b ≤ c → a < c
-    lt_le a b c x y = omega arith
-
-    le_suc : (a b c : ℕ) → a ≤ b → c ≡ suc b → a < c
-    le_suc a b c x y = omega arith
+    more : (a b : ℕ) → a ≤ b → a < suc b
+    more a b x = omega arith
 
     build : is_begun b past ≡ true → incarnation_of b past < crashes (home_of b past) (e ∷ past) → (0 < home_of b past) × (home_of b past ≤ length setup) → IsLostAt setup b (e ∷ past)
     build k lt th = record {
