@@ -15,6 +15,7 @@ use Rattle.run_model.specs.Refusals.{arm_names}
 use Rattle.run_model.specs.Replay.{Setup}
 use Rattle.run_model.specs.Runs.{IsRun}
 use Rattle.run_model.specs.Votes.{may_prepare}
+use Rattle.run_laws.specs.NoRuns.{first}
 use Rattle.run_laws.proofs.Accepted.{answered, makes_facts}
 use Rattle.run_laws.proofs.Growth.{begun_stays, here, later}
 use Rattle.run_laws.proofs.Names.{clash, climb, has_name_append, last_child, parent_child, same_name_self, same_name_true}

@@ -24,3 +24,4 @@ pub mod Known
 pub mod Sources
 pub mod Orphans
 pub mod Runs
+pub mod NoRuns

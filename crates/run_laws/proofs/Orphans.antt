@@ -22,6 +22,7 @@ use Rattle.run_model.specs.Runs.{IsRun}
 use Rattle.run_model.specs.Visibility.{has_prepared, is_lost, is_orphan, is_visible, votes_yes}
 use Rattle.run_model.specs.Votes.{may_prepare}
 use Rattle.run_laws.specs.Laws.{RefusedOrphansAreOrphans, actor_of}
+use Rattle.run_laws.specs.NoRuns.{first}
 use Rattle.run_laws.proofs.Active.{nothing_active_below_done}
 use Rattle.run_laws.proofs.Begun.{begins_no_crash, begun_cases, nameless}
 use Rattle.run_laws.proofs.Homes.{as_before, crashes_next, home_more, incarnation_new}

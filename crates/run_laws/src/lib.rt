@@ -4,6 +4,8 @@
 #![tactic(auto)]
 
 ghost use Rattle.run_laws.specs.Laws.{VisibilityCarriesOver, NothingActiveBelowDone, NothingLostUnderCommitted, VisibleIsKept, KeptNeverAgain, ConflictsKeepOrder, GrantToPlace, ExchangesLeaveReplies, ExchangesLeaveContents, ListIsByPlace, PlacesDiffer, RepliesByGrant, SerialView, EqualListsEqualReplies, RefusedOrphansAreOrphans};
+ghost use Rattle.run_laws.specs.NoRuns.{WriteBesideRead, WriteDropped, VoteAfterCrash};
+ghost use Rattle.run_laws.specs.Stepping.{RunMore, HistoriesAreRuns};
 
 /// Where C is visible to A and B to C, B is visible to A.
 pub fn visibility_carries_over()
@@ -78,4 +80,29 @@ pub fn equal_lists_equal_replies()
 /// Who is refused as an orphan is one.
 pub fn refused_orphans_are_orphans()
     ensures { RefusedOrphansAreOrphans }
+{}
+
+/// One step more, answered as it should be, leaves a run.
+pub fn run_more()
+    ensures { RunMore }
+{}
+
+/// Whatever steps are asked from the start, what comes of them is a run.
+pub fn histories_are_runs()
+    ensures { HistoriesAreRuns }
+{}
+
+/// Were a write granted beside the read lock of a sibling, the serial view would fail.
+pub fn write_beside_read_fails()
+    ensures { WriteBesideRead }
+{}
+
+/// Were a write dropped when another action aborts, the serial view would fail.
+pub fn write_dropped_fails()
+    ensures { WriteDropped }
+{}
+
+/// Were the vote yes of a guardian that crashed since a subaction began there, the serial view would fail.
+pub fn vote_after_crash_fails()
+    ensures { VoteAfterCrash }
 {}
