@@ -48,14 +48,14 @@ pub answered : (setup : Setup) (e : Event) (past : List Event) → IsRun setup (
 unfolding answer_of
 answered setup e past r = r.0 ∙ ap (λ o. refused_or o (outcome setup e.step past)) (refusal_of setup e past r)
 
-
 -- an action that may close
 pub record IsClosable (a : Name) (past : List Event) : Type 0 where
   pub was_begun : is_begun a past ≡ true
   pub undone : is_done a past ≡ false
   pub idle : is_busy a past ≡ false
 
-pub closes_facts : (setup : Setup) (e : Event) (past : List Event) (a : Name) → IsRun setup (e ∷ past) → step_closes e.step a ≡ true → IsClosable a past
+pub closes_facts : (setup : Setup) (e : Event) (past : List Event) (a : Name) → IsRun setup (e ∷ past) → step_closes e.step a ≡ true
+    → IsClosable a past
 closes_facts setup e past a r h = of e.step (checked setup e past r) h
   where
     of : (step : Step) → AllFalse (checks setup step past) → step_closes step a ≡ true → IsClosable a past
@@ -86,7 +86,8 @@ pub commits_facts : (setup : Setup) (e : Event) (past : List Event) (a : Name) �
     → ((step_closes e.step a ≡ true) × (is_top a ≡ false)) ⊎ IsDecidable setup a past
 commits_facts setup e past a r h = of e.step (checked setup e past r) h
   where
-    of : (step : Step) → AllFalse (checks setup step past) → step_commits step a ≡ true → ((step_closes step a ≡ true) × (is_top a ≡ false)) ⊎ IsDecidable setup a past
+    of : (step : Step) → AllFalse (checks setup step past) → step_commits step a ≡ true
+        → ((step_closes step a ≡ true) × (is_top a ≡ false)) ⊎ IsDecidable setup a past
     of (Commit b) f h = inl (h, ap is_top (sym (same_name_true b a h)) ∙ f.1.1.1.1.1.0)
     of (Decide b) f h = inr (subst (λ c. IsDecidable setup c past) (same_name_true b a h) (record {
       was_begun = not-false _ f.0;
@@ -98,7 +99,8 @@ commits_facts setup e past a r h = of e.step (checked setup e past r) h
     of _ f h = absurd (false≢true h)
 
 -- what aborts had not ended
-pub aborts_unended : (setup : Setup) (e : Event) (past : List Event) (a : Name) → IsRun setup (e ∷ past) → step_aborts e.step a ≡ true → is_ended a past ≡ false
+pub aborts_unended : (setup : Setup) (e : Event) (past : List Event) (a : Name) → IsRun setup (e ∷ past) → step_aborts e.step a ≡ true
+    → is_ended a past ≡ false
 aborts_unended setup e past a r h = of e.step (checked setup e past r) h
   where
     of : (step : Step) → AllFalse (checks setup step past) → step_aborts step a ≡ true → is_ended a past ≡ false

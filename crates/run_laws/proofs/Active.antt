@@ -5,7 +5,6 @@ use Rattle.std.specs.List.{list_any}
 use Rattle.action_names.specs.Names.{Name, has_name, is_ancestor, is_top, parent_of}
 use Rattle.run_model.specs.declared.history.Event.{Event}
 use Rattle.run_model.specs.Actions.{is_aborted, is_begun, is_done, is_ended, made_by, names_begun, step_aborts, step_closes, step_commits, step_makes}
-use Rattle.run_model.specs.Refusals.{ended}
 use Rattle.run_model.specs.Replay.{Setup}
 use Rattle.run_model.specs.Runs.{IsRun}
 use Rattle.run_laws.specs.Laws.{NothingActiveBelowDone}
@@ -15,7 +14,8 @@ use Rattle.run_laws.proofs.Ended.{not_closed, not_ended, undone_before, undone_m
 use Rattle.run_laws.proofs.Names.{ancestor_named, ancestor_trans, clash, climb, descendant_is_own, has_name_append, parent_ancestor, same_name_true}
 
 -- what was begun was made by its parent
-made_by_parent : (setup : Setup) (past : List Event) (c : Name) → IsRun setup past → is_begun c past ≡ true → is_top c ≡ false → has_name (made_by (parent_of c) past) c ≡ true
+made_by_parent : (setup : Setup) (past : List Event) (c : Name) → IsRun setup past → is_begun c past ≡ true → is_top c ≡ false
+    → has_name (made_by (parent_of c) past) c ≡ true
 made_by_parent setup [] c r h t = absurd (false≢true h)
 made_by_parent setup (e ∷ past) c r h t = has_name_append (now (step_makes e.step (parent_of c))) (made_by (parent_of c) past) c ∙ elim (begun_cases e past c h) [
   | inr k ↦ or_right _ _ (made_by_parent setup past c r.2 k t)
@@ -29,7 +29,8 @@ made_by_parent setup (e ∷ past) c r h t = has_name_append (now (step_makes e.s
     now makes = cond makes (names_begun e.answer) []
 
 -- what is not busy has made nothing that has not ended
-made_ended : (p : Name → Bool) (names : List Name) (c : Name) → list_any (λ b. not (p b)) names ≡ false → has_name names c ≡ true → p c ≡ true
+made_ended : (p : Name → Bool) (names : List Name) (c : Name) → list_any (λ b. not (p b)) names ≡ false → has_name names c ≡ true
+    → p c ≡ true
 made_ended p [] c h k = absurd (false≢true k)
 made_ended p (b ∷ bs) c h k =
     let q = or_parts _ _ h in
@@ -39,7 +40,8 @@ made_ended p (b ∷ bs) c h k =
     ]
 
 -- the parent of an open child is open, unless it has aborted
-pub parent_open : (setup : Setup) (past : List Event) (c : Name) → IsRun setup past → is_begun c past ≡ true → is_done c past ≡ false → is_top c ≡ false
+pub parent_open : (setup : Setup) (past : List Event) (c : Name) → IsRun setup past → is_begun c past ≡ true → is_done c past ≡ false
+    → is_top c ≡ false
     → (is_done (parent_of c) past ≡ false) ⊎ (is_aborted (parent_of c) past ≡ true)
 parent_open setup [] c r b d t = absurd (false≢true b)
 parent_open setup (e ∷ past) c r b d t = elim (begun_cases e past c b) [
@@ -63,7 +65,8 @@ parent_open setup (e ∷ past) c r b d t = elim (begun_cases e past c b) [
         let ended = made_ended (λ x. is_ended x past) (made_by p past) c (closes_facts setup e past p r l).idle (made_by_parent setup past c r.2 k t) in
         clash ended (not_ended c past (undone_before e past c d))
 
-    stays : is_begun c past ≡ true → is_done p past ≡ false → (x y : Bool) → step_commits e.step p ≡ x → step_aborts e.step p ≡ y → step_closes e.step p ≡ false
+    stays : is_begun c past ≡ true → is_done p past ≡ false → (x y : Bool) → step_commits e.step p ≡ x → step_aborts e.step p ≡ y
+        → step_closes e.step p ≡ false
         → (is_done p (e ∷ past) ≡ false) ⊎ (is_aborted p (e ∷ past) ≡ true)
     stays k u false false ex ey ez = inl (undone_more e past p u ex ey ez)
     stays k u x true ex ey ez = inr (or_left _ _ ey)
@@ -85,8 +88,10 @@ nothing_active_below_done setup past d c r b u k h = elim (climb IsOpen up d c k
 
     up : (x : Name) → is_top x ≡ false → IsOpen x → IsOpen (parent_of x)
     up x t o =
-        let above = ancestor_trans (parent_of x) x c (parent_ancestor x t (ancestor_named x c o.0)) o.0 in
-        (above, elim o.1 [
-          | inl y ↦ elim (parent_open setup past x r y.0 y.1 t) [ inl z ↦ inl (parent_begun setup past x r y.0 t, z) | inr z ↦ inr (parent_of x, above, z) ]
-          | inr y ↦ inr y
-        ])
+        let above = ancestor_trans (parent_of x) x c (parent_ancestor x t (ancestor_named x c o.0)) o.0 in (
+          above,
+          elim o.1 [
+            | inl y ↦ elim (parent_open setup past x r y.0 y.1 t) [ inl z ↦ inl (parent_begun setup past x r y.0 t, z) | inr z ↦ inr (parent_of x, above, z) ]
+            | inr y ↦ inr y
+          ],
+        )

@@ -10,12 +10,10 @@ use Rattle.run_model.specs.declared.step.Step.TheVariants.{Arms, Call, Crash, Ne
 use Rattle.run_model.specs.Actions.{begins, begun, is_begun, names_begun, next_number, step_crashes, step_makes}
 use Rattle.run_model.specs.Answers.{granted_or_waits, outcome}
 use Rattle.run_model.specs.Keeping.{blockers}
-use Rattle.run_model.specs.Places.{nothing}
 use Rattle.run_model.specs.Refusals.{arm_names}
 use Rattle.run_model.specs.Replay.{Setup}
 use Rattle.run_model.specs.Runs.{IsRun}
 use Rattle.run_model.specs.Votes.{may_prepare}
-use Rattle.run_laws.specs.NoRuns.{first}
 use Rattle.run_laws.proofs.Accepted.{answered, makes_facts}
 use Rattle.run_laws.proofs.Growth.{begun_stays, here, later}
 use Rattle.run_laws.proofs.Names.{clash, climb, has_name_append, last_child, parent_child, same_name_self, same_name_true}
@@ -48,7 +46,8 @@ children_append : (a : Name) (xs ys : List Name) → children_in a (xs ++ ys) �
 children_append a [] ys = omega arith
 children_append a (x ∷ xs) ys = step (same_name (parent_of x) a) _ _ _ (children_append a xs ys)
   where
-    step : (t : Bool) (us vs ws : List Name) → length us ≡ length vs + length ws → length (cond t (x ∷ us) us) ≡ length (cond t (x ∷ vs) vs) + length ws
+    step : (t : Bool) (us vs ws : List Name) → length us ≡ length vs + length ws
+        → length (cond t (x ∷ us) us) ≡ length (cond t (x ∷ vs) vs) + length ws
     step true us vs ws h = omega arith
     step false us vs ws h = h
 
@@ -166,7 +165,8 @@ pub begun_cases : (e : Event) (past : List Event) (c : Name) → is_begun c (e �
 begun_cases e past c h = or_cases _ _ (sym (has_name_append (names_begun e.answer) (begun past) c) ∙ h)
 
 -- numbers in use are below the next
-number_used : (setup : Setup) (past : List Event) (c : Name) → IsRun setup past → is_begun c past ≡ true → last_of c < next_number (parent_of c) past
+number_used : (setup : Setup) (past : List Event) (c : Name) → IsRun setup past → is_begun c past ≡ true
+    → last_of c < next_number (parent_of c) past
 number_used setup [] c r h = absurd (false≢true h)
 number_used setup (e ∷ past) c r h = elim (begun_cases e past c h) [
   | inl k ↦ omega (arith, (new_in_run setup e past c r k).high, children_append (parent_of c) (names_begun e.answer) (begun past))
@@ -174,11 +174,13 @@ number_used setup (e ∷ past) c r h = elim (begun_cases e past c h) [
 ]
 
 -- no action is begun twice
-pub begun_once : (setup : Setup) (e : Event) (past : List Event) (c : Name) → IsRun setup (e ∷ past) → is_begun c past ≡ true → begins e c ≡ false
+pub begun_once : (setup : Setup) (e : Event) (past : List Event) (c : Name) → IsRun setup (e ∷ past) → is_begun c past ≡ true
+    → begins e c ≡ false
 begun_once setup e past c r h = false_from_ne_true _ (λ k. omega (arith, (new_in_run setup e past c r k).low, number_used setup past c r.2 h))
 
 -- a crash begins nothing
-pub begins_no_crash : (setup : Setup) (e : Event) (past : List Event) (c : Name) (g : ℕ) → IsRun setup (e ∷ past) → begins e c ≡ true → step_crashes e.step g ≡ false
+pub begins_no_crash : (setup : Setup) (e : Event) (past : List Event) (c : Name) (g : ℕ) → IsRun setup (e ∷ past) → begins e c ≡ true
+    → step_crashes e.step g ≡ false
 begins_no_crash setup e past c g r h =
     false_from_ne_true _ (λ q. clash h (ap (λ a. has_name (names_begun a) c) (answered setup e past r) ∙ nothing e.step q))
   where
@@ -198,7 +200,8 @@ nameless setup (e ∷ past) c r h k = elim (begun_cases e past c h) [
 ]
 
 -- the parent of a child that was begun
-pub parent_begun : (setup : Setup) (past : List Event) (c : Name) → IsRun setup past → is_begun c past ≡ true → is_top c ≡ false → is_begun (parent_of c) past ≡ true
+pub parent_begun : (setup : Setup) (past : List Event) (c : Name) → IsRun setup past → is_begun c past ≡ true → is_top c ≡ false
+    → is_begun (parent_of c) past ≡ true
 parent_begun setup [] c r h t = absurd (false≢true h)
 parent_begun setup (e ∷ past) c r h t = elim (begun_cases e past c h) [
   | inr k ↦ begun_more e past (parent_of c) (parent_begun setup past c r.2 k t)
@@ -209,5 +212,6 @@ parent_begun setup (e ∷ past) c r h t = elim (begun_cases e past c h) [
 ]
 
 -- every ancestor of what was begun was begun
-pub ancestor_begun : (setup : Setup) (past : List Event) (d c : Name) → IsRun setup past → is_begun c past ≡ true → is_ancestor d c ≡ true → is_begun d past ≡ true
+pub ancestor_begun : (setup : Setup) (past : List Event) (d c : Name) → IsRun setup past → is_begun c past ≡ true → is_ancestor d c ≡ true
+    → is_begun d past ≡ true
 ancestor_begun setup past d c r b k = climb (λ x. is_begun x past ≡ true) (λ x t h. parent_begun setup past x r h t) d c k b

@@ -34,7 +34,8 @@ closing_of (e ∷ past) c h = decide (step_closes e.step c) refl (λ k. closing_
     decide false q ih = let (k, s, l) = ih (sym (ap (λ t. t || is_closed c past) q) ∙ h) in (k, closing_next c e past false q ∙ s, omega arith)
 
 -- an action closes once
-pub closing_stays : (setup : Setup) (c : Name) {past now : List Event} → Follows past now → IsRun setup now → is_closed c past ≡ true → closing_step c now ≡ closing_step c past
+pub closing_stays : (setup : Setup) (c : Name) {past now : List Event} → Follows past now → IsRun setup now → is_closed c past ≡ true
+    → closing_step c now ≡ closing_step c past
 closing_stays setup c here r h = refl
 closing_stays setup c (later {now = now} e w) r h = closing_next c e now false (false_from_ne_true _ again) ∙ closing_stays setup c w r.2 h
   where
@@ -42,7 +43,8 @@ closing_stays setup c (later {now = now} e w) r h = closing_next c e now false (
     again q = clash (closed_stays c w h) (not_closed c now (closes_facts setup e now c r q).undone)
 
 -- what has not closed does so later, if ever
-pub closing_after : (c : Name) {past now : List Event} → Follows past now → is_closed c past ≡ false → After (length past) (closing_step c now)
+pub closing_after : (c : Name) {past now : List Event} → Follows past now → is_closed c past ≡ false
+    → After (length past) (closing_step c now)
 closing_after c {past = past} here h = inl (none past h)
   where
     none : (xs : List Event) → is_closed c xs ≡ false → closing_step c xs ≡ None
@@ -50,7 +52,8 @@ closing_after c {past = past} here h = inl (none past h)
     none (e ∷ xs) h = let p = or_parts _ _ h in closing_next c e xs false p.0 ∙ none xs p.1
 closing_after c {past = past} (later {now = now} e w) h = decide (step_closes e.step c) refl (closing_after c w h) (follows_length w)
   where
-    decide : (t : Bool) → step_closes e.step c ≡ t → After (length past) (closing_step c now) → length past ≤ length now → After (length past) (closing_step c (e ∷ now))
+    decide : (t : Bool) → step_closes e.step c ≡ t → After (length past) (closing_step c now) → length past ≤ length now
+        → After (length past) (closing_step c (e ∷ now))
     decide true q a l = inr (suc (length now), closing_next c e now true q, omega arith)
     decide false q (inl n) l = inl (closing_next c e now false q ∙ n)
     decide false q (inr n) l = inr (n.0, closing_next c e now false q ∙ n.1, n.2)

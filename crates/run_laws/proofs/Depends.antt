@@ -35,18 +35,21 @@ lesser_left None n = (n, refl, omega arith)
 lesser_left (Some k) n = (min n k, refl, omega arith)
 
 -- a dependency only falls
-merged_keeps : (t : Bool) (d a : Name) (before : Name → Option ℕ) (n : ℕ) → before a ≡ Some n → (m : ℕ) × (merged t d a before ≡ Some m) × (m ≤ n)
+merged_keeps : (t : Bool) (d a : Name) (before : Name → Option ℕ) (n : ℕ) → before a ≡ Some n
+    → (m : ℕ) × (merged t d a before ≡ Some m) × (m ≤ n)
 merged_keeps true d a before n h =
     let (m, e, l) = lesser_left (before d) n in
     (m, ap (λ x. lesser x (before d)) h ∙ e, l)
 merged_keeps false d a before n h = (n, h, omega arith)
 
-keeps : (step : Step) (a : Name) (before : Name → Option ℕ) (own : Option ℕ) (n : ℕ) → before a ≡ Some n → (m : ℕ) × (dependency_after false step a before own ≡ Some m) × (m ≤ n)
+keeps : (step : Step) (a : Name) (before : Name → Option ℕ) (own : Option ℕ) (n : ℕ) → before a ≡ Some n
+    → (m : ℕ) × (dependency_after false step a before own ≡ Some m) × (m ≤ n)
 keeps (Commit d) a before own n h = merged_keeps (same_name (parent_of d) a) d a before n h
 keeps _ a before own n h = (n, h, omega arith)
 
 -- the commit of a child merges
-merges : (step : Step) (f a : Name) (before : Name → Option ℕ) (own : Option ℕ) → step_commits step f ≡ true → step_closes step f ≡ true → parent_of f ≡ a
+merges : (step : Step) (f a : Name) (before : Name → Option ℕ) (own : Option ℕ) → step_commits step f ≡ true → step_closes step f ≡ true
+    → parent_of f ≡ a
     → dependency_after false step a before own ≡ lesser (before a) (before f)
 merges (Commit d) f a before own h k e =
     let q = same_name_true d f h in
@@ -64,13 +67,13 @@ commits_one _ a b h k = absurd (false≢true h)
 own_here : (g n : ℕ) → own_entry g g n ≡ Some n
 own_here g n = ap (λ t. cond t (Some n) None) (eqb_self g)
 
-
 pub dependency_next : (e : Event) (past : List Event) (a : Name) (g : ℕ) (t : Bool) → begins e a ≡ t
     → dependency a g (e ∷ past) ≡ dependency_after t e.step a (λ b. dependency b g past) (own_entry (home_of a (e ∷ past)) g (crashes g past))
 dependency_next e past a g t h = ap (λ u. dependency_after u e.step a (λ b. dependency b g past) (own_entry (home_of a (e ∷ past)) g (crashes g past))) h
 
 -- the step that begins b gives it its own home
-own_depends : (e : Event) (past : List Event) (b : Name) → begins e b ≡ true → Depends b (home_of b (e ∷ past)) (incarnation_of b (e ∷ past)) (e ∷ past)
+own_depends : (e : Event) (past : List Event) (b : Name) → begins e b ≡ true
+    → Depends b (home_of b (e ∷ past)) (incarnation_of b (e ∷ past)) (e ∷ past)
 own_depends e past b k =
     let g = home_of b (e ∷ past) in
     let given = inherited (is_top b) b (λ d. dependency d g past) in
@@ -88,7 +91,8 @@ kept_dependency e past a g n k d =
     record { least = m; is_least = dependency_next e past a g false k ∙ q; bound = le_trans l d.bound }
 
 -- and takes over those of a child that commits
-merged_dependency : (e : Event) (past : List Event) (a f : Name) (g n : ℕ) → begins e a ≡ false → step_commits e.step f ≡ true → step_closes e.step f ≡ true → parent_of f ≡ a
+merged_dependency : (e : Event) (past : List Event) (a f : Name) (g n : ℕ) → begins e a ≡ false → step_commits e.step f ≡ true
+    → step_closes e.step f ≡ true → parent_of f ≡ a
     → Depends f g n past → Depends a g n (e ∷ past)
 merged_dependency e past a f g n k c cl p d =
     let (m, q, l) = lesser_right (dependency a g past) d.least in
@@ -109,7 +113,8 @@ record CommitsChild (e : Event) (past : List Event) (c b : Name) : Type 0 where
 
 -- What a step makes visible under c, it does by the commit of a child of c: its commit is that of an f between c and b, and what
 -- is between c and f has committed, so nothing is, for f was open.
-child_commits : (setup : Setup) (e : Event) (past : List Event) (c b f : Name) → IsRun setup (e ∷ past) → is_ancestor c b ≡ true → is_visible b c (e ∷ past) ≡ true
+child_commits : (setup : Setup) (e : Event) (past : List Event) (c b f : Name) → IsRun setup (e ∷ past) → is_ancestor c b ≡ true
+    → is_visible b c (e ∷ past) ≡ true
     → is_ancestor f b ≡ true → step_commits e.step f ≡ true → is_ancestor f c ≡ false → CommitsChild e past c b
 child_commits setup e past c b f r k v fb commits apart = record {
   child = f;
@@ -151,7 +156,8 @@ child_commits setup e past c b f r k v fb commits apart = record {
       ]
     ]
 
-    sees : (g : Name) → (is_ancestor g c ≡ true) ⊎ (is_committed g (e ∷ past) ≡ true) → (is_ancestor g f ≡ true) ⊎ (is_committed g past ≡ true)
+    sees : (g : Name) → (is_ancestor g c ≡ true) ⊎ (is_committed g (e ∷ past) ≡ true)
+        → (is_ancestor g f ≡ true) ⊎ (is_committed g past ≡ true)
     sees g (inl y) = inl (ancestor_trans g c f y c_above)
     sees g (inr y) = elim (or_cases _ _ y) [
       | inl z ↦ inl (ap (λ x. is_ancestor x f) (commits_one e.step g f z commits) ∙ ancestor_is_own f b fb)
@@ -159,11 +165,13 @@ child_commits setup e past c b f r k v fb commits apart = record {
     ]
 
 -- either b was visible before, or the step commits a child of c
-visible_cases : (setup : Setup) (e : Event) (past : List Event) (c b : Name) → IsRun setup (e ∷ past) → is_ancestor c b ≡ true → is_visible b c (e ∷ past) ≡ true
+visible_cases : (setup : Setup) (e : Event) (past : List Event) (c b : Name) → IsRun setup (e ∷ past) → is_ancestor c b ≡ true
+    → is_visible b c (e ∷ past) ≡ true
     → (is_visible b c past ≡ true) ⊎ CommitsChild e past c b
 visible_cases setup e past c b r k v = decide (list_any (λ f. step_commits e.step f && not (is_ancestor f c)) (ancestors b)) refl
   where
-    same : (f : Name) → (step_commits e.step f && not (is_ancestor f c)) ≡ false → (is_ancestor f c ≡ true) ⊎ (is_committed f (e ∷ past) ≡ true)
+    same : (f : Name) → (step_commits e.step f && not (is_ancestor f c)) ≡ false
+        → (is_ancestor f c ≡ true) ⊎ (is_committed f (e ∷ past) ≡ true)
         → (is_ancestor f c ≡ true) ⊎ (is_committed f past ≡ true)
     same f n (inl y) = inl y
     same f n (inr y) = elim (or_cases _ _ y) [
@@ -171,7 +179,8 @@ visible_cases setup e past c b r k v = decide (list_any (λ f. step_commits e.st
       | inl z ↦ inl (not-false _ (ap (λ t. t && not (is_ancestor f c)) (sym z) ∙ n))
     ]
 
-    decide : (t : Bool) → list_any (λ f. step_commits e.step f && not (is_ancestor f c)) (ancestors b) ≡ t → (is_visible b c past ≡ true) ⊎ CommitsChild e past c b
+    decide : (t : Bool) → list_any (λ f. step_commits e.step f && not (is_ancestor f c)) (ancestors b) ≡ t
+        → (is_visible b c past ≡ true) ⊎ CommitsChild e past c b
     decide false h =
         inl (visible_from b c past (λ f l. same f (no_ancestor_use (λ g. step_commits e.step g && not (is_ancestor g c)) b f h l) (visible_use b c f (e ∷ past) v l)))
     decide true h =
@@ -179,7 +188,8 @@ visible_cases setup e past c b r k v = decide (list_any (λ f. step_commits e.st
         inr (child_commits setup e past c b f r k v l (and_parts _ _ q).0 (not-true _ (and_parts _ _ q).1))
 
 -- c depends on the home of what is visible under it, from an incarnation that is no later
-pub depends_on_visible : (setup : Setup) (past : List Event) (c b : Name) → IsRun setup past → is_begun b past ≡ true → is_ancestor c b ≡ true → is_visible b c past ≡ true
+pub depends_on_visible : (setup : Setup) (past : List Event) (c b : Name) → IsRun setup past → is_begun b past ≡ true
+    → is_ancestor c b ≡ true → is_visible b c past ≡ true
     → Depends c (home_of b past) (incarnation_of b past) past
 depends_on_visible setup [] c b r h k v = absurd (false≢true h)
 depends_on_visible setup (e ∷ past) c b r h k v = elim (begun_cases e past b h) [

@@ -45,11 +45,13 @@ each_filtered P p (x ∷ xs) h = step (p x) refl (each_filtered P p xs) h
     step false e ih k = (λ q. absurd (true≢false (sym q ∙ e)), ih k)
 
 -- each that has an image
-pub each_mapped : {X Y : Type 0} (P : Y → Type 0) (h : X → Option Y) (xs : List X) → Each P (filter_map h xs) → Each (λ x. (y : Y) → h x ≡ Some y → P y) xs
+pub each_mapped : {X Y : Type 0} (P : Y → Type 0) (h : X → Option Y) (xs : List X) → Each P (filter_map h xs)
+    → Each (λ x. (y : Y) → h x ≡ Some y → P y) xs
 each_mapped P h [] k = tt
 each_mapped {Y = Y} P h (x ∷ xs) k = step (h x) refl (each_mapped P h xs) k
   where
-    step : (o : Option Y) → h x ≡ o → (Each P (filter_map h xs) → Each (λ z. (y : Y) → h z ≡ Some y → P y) xs) → Each P (cons_option o (filter_map h xs))
+    step : (o : Option Y) → h x ≡ o → (Each P (filter_map h xs) → Each (λ z. (y : Y) → h z ≡ Some y → P y) xs)
+        → Each P (cons_option o (filter_map h xs))
         → Each (λ z. (y : Y) → h z ≡ Some y → P y) (x ∷ xs)
     step None e ih k = (λ y q. let f : None ≡ Some y = sym e ∙ q in cc, ih k)
     step (Some z) e ih k = (λ y q. let f : Some z ≡ Some y = sym e ∙ q in let g : z ≡ y = cc in subst P g k.0, ih k.1)
@@ -59,6 +61,7 @@ pub each_fails : {X : Type 0} (p : X → Bool) (xs : List X) → filter p xs ≡
 each_fails p [] e = tt
 each_fails p (x ∷ xs) e = step (p x) refl (each_fails p xs) e
   where
-    step : (t : Bool) → p x ≡ t → (filter p xs ≡ [] → Each (λ y. p y ≡ false) xs) → cond t (x ∷ filter p xs) (filter p xs) ≡ [] → Each (λ y. p y ≡ false) (x ∷ xs)
+    step : (t : Bool) → p x ≡ t → (filter p xs ≡ [] → Each (λ y. p y ≡ false) xs) → cond t (x ∷ filter p xs) (filter p xs) ≡ []
+        → Each (λ y. p y ≡ false) (x ∷ xs)
     step true q ih k = let m : (x ∷ filter p xs) ≡ [] = k in cc
     step false q ih k = (q, ih k)

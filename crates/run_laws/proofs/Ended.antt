@@ -17,11 +17,13 @@ not_ended c past h = (or_parts _ _ h).0
 pub not_closed : (c : Name) (past : List Event) → is_done c past ≡ false → is_closed c past ≡ false
 not_closed c past h = (or_parts _ _ h).1
 
-pub undone_from : (c : Name) (past : List Event) → is_committed c past ≡ false → is_aborted c past ≡ false → is_closed c past ≡ false → is_done c past ≡ false
+pub undone_from : (c : Name) (past : List Event) → is_committed c past ≡ false → is_aborted c past ≡ false → is_closed c past ≡ false
+    → is_done c past ≡ false
 undone_from c past x y z = or_from (is_ended c past) (is_closed c past) (or_from (is_committed c past) (is_aborted c past) x y) z
 
 -- what a step leaves undone
-pub undone_more : (e : Event) (past : List Event) (c : Name) → is_done c past ≡ false → step_commits e.step c ≡ false → step_aborts e.step c ≡ false
+pub undone_more : (e : Event) (past : List Event) (c : Name) → is_done c past ≡ false → step_commits e.step c ≡ false
+    → step_aborts e.step c ≡ false
     → step_closes e.step c ≡ false → is_done c (e ∷ past) ≡ false
 undone_more e past c h x y z =
     let p = or_parts _ _ (not_ended c past h) in
@@ -34,13 +36,15 @@ undone_before e past c h =
     undone_from c past (or_parts _ _ p.0).1 (or_parts _ _ p.1).1 (or_parts _ _ (not_closed c (e ∷ past) h)).1
 
 -- what commits or closes was begun
-pub commits_begun : (setup : Setup) (e : Event) (past : List Event) (c : Name) → IsRun setup (e ∷ past) → step_commits e.step c ≡ true → is_begun c past ≡ true
+pub commits_begun : (setup : Setup) (e : Event) (past : List Event) (c : Name) → IsRun setup (e ∷ past) → step_commits e.step c ≡ true
+    → is_begun c past ≡ true
 commits_begun setup e past c r h = elim (commits_facts setup e past c r h) [
   | inl l ↦ (closes_facts setup e past c r l.0).was_begun
   | inr d ↦ d.was_begun
 ]
 
-pub committed_begun : (setup : Setup) (past : List Event) (c : Name) → IsRun setup past → is_committed c past ≡ true → is_begun c past ≡ true
+pub committed_begun : (setup : Setup) (past : List Event) (c : Name) → IsRun setup past → is_committed c past ≡ true
+    → is_begun c past ≡ true
 committed_begun setup [] c r h = absurd (false≢true h)
 committed_begun setup (e ∷ past) c r h = begun_more e past c (elim (or_cases _ _ h) [ inl k ↦ commits_begun setup e past c r k | inr k ↦ committed_begun setup past c r.2 k ])
 
@@ -49,7 +53,8 @@ closed_begun setup [] c r h = absurd (false≢true h)
 closed_begun setup (e ∷ past) c r h = begun_more e past c (elim (or_cases _ _ h) [ inl k ↦ (closes_facts setup e past c r k).was_begun | inr k ↦ closed_begun setup past c r.2 k ])
 
 -- a step that commits c meets it unended
-commits_unended : (setup : Setup) (e : Event) (past : List Event) (c : Name) → IsRun setup (e ∷ past) → step_commits e.step c ≡ true → is_ended c past ≡ false
+commits_unended : (setup : Setup) (e : Event) (past : List Event) (c : Name) → IsRun setup (e ∷ past) → step_commits e.step c ≡ true
+    → is_ended c past ≡ false
 commits_unended setup e past c r h = elim (commits_facts setup e past c r h) [
   | inl l ↦ not_ended c past (closes_facts setup e past c r l.0).undone
   | inr d ↦ d.unended
@@ -70,7 +75,8 @@ not_both setup (e ∷ past) c r h k = elim (or_cases _ _ h) [
 ]
 
 -- a subaction that has closed has committed
-pub closed_committed : (setup : Setup) (past : List Event) (c : Name) → IsRun setup past → is_top c ≡ false → is_closed c past ≡ true → is_committed c past ≡ true
+pub closed_committed : (setup : Setup) (past : List Event) (c : Name) → IsRun setup past → is_top c ≡ false → is_closed c past ≡ true
+    → is_committed c past ≡ true
 closed_committed setup [] c r t h = absurd (false≢true h)
 closed_committed setup (e ∷ past) c r t h = elim (or_cases _ _ h) [
   | inl k ↦ or_left _ _ (elim (closes_commits setup e past c r k) [ inl l ↦ l | inr l ↦ absurd (clash l t) ])
@@ -78,7 +84,8 @@ closed_committed setup (e ∷ past) c r t h = elim (or_cases _ _ h) [
 ]
 
 -- what has committed has closed
-pub committed_closed : (setup : Setup) (past : List Event) (c : Name) → IsRun setup past → is_committed c past ≡ true → is_closed c past ≡ true
+pub committed_closed : (setup : Setup) (past : List Event) (c : Name) → IsRun setup past → is_committed c past ≡ true
+    → is_closed c past ≡ true
 committed_closed setup [] c r h = absurd (false≢true h)
 committed_closed setup (e ∷ past) c r h = elim (or_cases _ _ h) [
   | inl k ↦ elim (commits_facts setup e past c r k) [ inl l ↦ or_left _ _ l.0 | inr d ↦ or_right _ _ d.closed ]

@@ -10,7 +10,6 @@ use Rattle.run_model.specs.Keeping.{Performed, same_object}
 use Rattle.run_model.specs.Places.{Exchanges, collide, exchange, following, keeping, nothing}
 use Rattle.run_model.specs.Replay.{Store, store_after, updated}
 use Rattle.run_laws.specs.Laws.{ExchangesLeaveContents, ExchangesLeaveReplies}
-use Rattle.run_laws.specs.NoRuns.{first, second}
 use Rattle.run_laws.proofs.Names.{clash, eqb_self}
 use Rattle.atomic_types.specs.declared.op.Op as op
 

@@ -23,16 +23,19 @@ use Rattle.run_laws.proofs.Growth.{Follows, follows_length, here, later}
 use Rattle.atomic_types.specs.declared.op.Op as op
 
 -- the step and the answer that grant an operation
-pub grant_parts : (o : Performed) (e : Event) (past : List Event) → Grants o e past → (e.step ≡ Op o.action o.object o.operation) × (e.answer ≡ Granted o.reply)
+pub grant_parts : (o : Performed) (e : Event) (past : List Event) → Grants o e past
+    → (e.step ≡ Op o.action o.object o.operation) × (e.answer ≡ Granted o.reply)
 grant_parts o e past p = parts o.number e.step e.answer p.1
   where
-    parts : (n : ℕ) (step : Step) (answer : Answer) → performed_by n step answer ≡ o ∷ [] → (step ≡ Op o.action o.object o.operation) × (answer ≡ Granted o.reply)
+    parts : (n : ℕ) (step : Step) (answer : Answer) → performed_by n step answer ≡ o ∷ []
+        → (step ≡ Op o.action o.object o.operation) × (answer ≡ Granted o.reply)
     parts n (Op a x wanted) (Granted r) h =
         let made : record { number = n; action = a; object = x; operation = wanted; reply = r } ≡ o = cc in
         (ap (λ (q : Performed). Op q.action q.object q.operation) made, ap (λ (q : Performed). Granted q.reply) made)
     parts n _ _ h = cc
 
-pub granted_before : (o : Performed) (e : Event) (past : List Event) {now : List Event} → Grants o e past → Follows (e ∷ past) now → o.number ≤ length now
+pub granted_before : (o : Performed) (e : Event) (past : List Event) {now : List Event} → Grants o e past → Follows (e ∷ past) now
+    → o.number ≤ length now
 granted_before o e past p w = let l = follows_length w in let n = p.0 in omega arith
 
 -- what the granting of an operation says of the history before it
@@ -44,12 +47,14 @@ pub record IsGranted (setup : Setup) (c : Name) (x : ObjectId) (wanted : op.Op) 
   pub reply : r ≡ reply_of (left_of (opening setup x) (kept_on x past)) wanted
 
 -- what is granted had nobody in its way
-granted_free : (setup : Setup) (x : ObjectId) (wanted : op.Op) (past : List Event) (bs : List Name) (r : Reply) → granted_or_waits setup x wanted past bs ≡ Granted r
+granted_free : (setup : Setup) (x : ObjectId) (wanted : op.Op) (past : List Event) (bs : List Name) (r : Reply)
+    → granted_or_waits setup x wanted past bs ≡ Granted r
     → (bs ≡ []) × (r ≡ reply_of (left_of (opening setup x) (kept_on x past)) wanted)
 granted_free setup x wanted past [] r h = let e : Granted (reply_of (left_of (opening setup x) (kept_on x past)) wanted) ≡ Granted r = h in (refl, cc)
 granted_free setup x wanted past (b ∷ bs) r h = absurd (let e : Waits (b ∷ bs) ≡ Granted r = h in cc)
 
-granted_facts : (setup : Setup) (c : Name) (x : ObjectId) (wanted : op.Op) (r : Reply) (past : List Event) → AllFalse (checks setup (Op c x wanted) past)
+granted_facts : (setup : Setup) (c : Name) (x : ObjectId) (wanted : op.Op) (r : Reply) (past : List Event)
+    → AllFalse (checks setup (Op c x wanted) past)
     → outcome setup (Op c x wanted) past ≡ Granted r → IsGranted setup c x wanted r past
 granted_facts setup c x wanted r past f a =
     let p = granted_free setup x wanted past (blockers c x wanted past) r a in
@@ -70,7 +75,8 @@ granting setup o e past r p =
     (ap (λ s. outcome setup s past) (sym q.0) ∙ sym (answered setup e past r) ∙ q.1)
 
 -- an event grants one operation or none
-pub grant_cases : (e : Event) (past : List Event) → (performed (e ∷ past) ≡ performed past) ⊎ ((o : Performed) × (performed (e ∷ past) ≡ o ∷ performed past) × Grants o e past)
+pub grant_cases : (e : Event) (past : List Event)
+    → (performed (e ∷ past) ≡ performed past) ⊎ ((o : Performed) × (performed (e ∷ past) ≡ o ∷ performed past) × Grants o e past)
 grant_cases e past = cases (suc (length past)) e.step e.answer
   where
     cases : (n : ℕ) (step : Step) (answer : Answer) → (performed_by n step answer ++ performed past ≡ performed past)
@@ -79,7 +85,8 @@ grant_cases e past = cases (suc (length past)) e.step e.answer
     cases n _ _ = inl refl
 
 -- what holds of each operation at its grant holds of all
-pub each_performed : (now : List Event) (P : Performed → Type 0) → ((o : Performed) (e : Event) (past : List Event) → Grants o e past → Follows (e ∷ past) now → P o) → Each P (performed now)
+pub each_performed : (now : List Event) (P : Performed → Type 0)
+    → ((o : Performed) (e : Event) (past : List Event) → Grants o e past → Follows (e ∷ past) now → P o) → Each P (performed now)
 each_performed [] P f = tt
 each_performed (e ∷ past) P f =
     let rest : Each P (performed past) = each_performed past P (λ o e' p' h w. f o e' p' h (later e w)) in
@@ -90,7 +97,8 @@ each_performed (e ∷ past) P f =
     ]
 
 -- what holds of all holds of one that was granted
-pub at_granted : (P : Performed → Type 0) (o : Performed) (e : Event) (past : List Event) {now : List Event} → Grants o e past → Follows (e ∷ past) now → Each P (performed now) → P o
+pub at_granted : (P : Performed → Type 0) (o : Performed) (e : Event) (past : List Event) {now : List Event} → Grants o e past
+    → Follows (e ∷ past) now → Each P (performed now) → P o
 at_granted P o e past p here h =
     let Q : List Performed → Type 0 = λ os. Each P (os ++ performed past) in
     (subst Q (ap (λ n. performed_by n e.step e.answer) (sym p.0) ∙ p.1) h).0

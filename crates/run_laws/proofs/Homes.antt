@@ -14,7 +14,8 @@ use Rattle.run_laws.proofs.Accepted.{AllFalse, checked}
 use Rattle.run_laws.proofs.Begun.{begun_cases, begun_more, begun_once}
 use Rattle.run_laws.proofs.Growth.{Follows, begun_stays, here, later}
 
-pub home_more : (setup : Setup) (e : Event) (past : List Event) (a : Name) → IsRun setup (e ∷ past) → is_begun a past ≡ true → home_of a (e ∷ past) ≡ home_of a past
+pub home_more : (setup : Setup) (e : Event) (past : List Event) (a : Name) → IsRun setup (e ∷ past) → is_begun a past ≡ true
+    → home_of a (e ∷ past) ≡ home_of a past
 home_more setup e past a r h = ap (λ t. cond t (home_in e.step (λ b. home_of b past)) (home_of a past)) (begun_once setup e past a r h)
 
 pub incarnation_more : (setup : Setup) (e : Event) (past : List Event) (a : Name) → IsRun setup (e ∷ past) → is_begun a past ≡ true
@@ -28,15 +29,18 @@ as_before setup e past a r h P p =
     subst (λ n. P (home_of a (e ∷ past)) n) (sym (incarnation_more setup e past a r h)) (subst (λ g. P g (incarnation_of a past)) (sym (home_more setup e past a r h)) p)
 
 -- it begins at its home's present incarnation
-pub incarnation_new : (e : Event) (past : List Event) (a : Name) → begins e a ≡ true → incarnation_of a (e ∷ past) ≡ crashes (home_of a (e ∷ past)) past
+pub incarnation_new : (e : Event) (past : List Event) (a : Name) → begins e a ≡ true
+    → incarnation_of a (e ∷ past) ≡ crashes (home_of a (e ∷ past)) past
 incarnation_new e past a h = ap (λ t. cond t (crashes (home_of a (e ∷ past)) past) (incarnation_of a past)) h
 
-pub home_stays : (setup : Setup) (a : Name) {past now : List Event} → Follows past now → IsRun setup now → is_begun a past ≡ true → home_of a now ≡ home_of a past
+pub home_stays : (setup : Setup) (a : Name) {past now : List Event} → Follows past now → IsRun setup now → is_begun a past ≡ true
+    → home_of a now ≡ home_of a past
 home_stays setup a here r h = refl
 home_stays setup a (later {now = now} e w) r h = home_more setup e now a r (begun_stays a w h) ∙ home_stays setup a w r.2 h
 
 -- an event adds one crash or none
-pub crashes_next : (e : Event) (past : List Event) (g : ℕ) (t : Bool) → step_crashes e.step g ≡ t → crashes g (e ∷ past) ≡ cond t (suc (crashes g past)) (crashes g past)
+pub crashes_next : (e : Event) (past : List Event) (g : ℕ) (t : Bool) → step_crashes e.step g ≡ t
+    → crashes g (e ∷ past) ≡ cond t (suc (crashes g past)) (crashes g past)
 crashes_next e past g true h = ap (λ t. length (cond t (e ∷ filter (λ x. step_crashes x.step g) past) (filter (λ x. step_crashes x.step g) past))) h
 crashes_next e past g false h = ap (λ t. length (cond t (e ∷ filter (λ x. step_crashes x.step g) past) (filter (λ x. step_crashes x.step g) past))) h
 
@@ -48,7 +52,8 @@ crashes_more e past g = step (step_crashes e.step g) (crashes g (e ∷ past)) (c
     step false n h = omega arith
 
 -- no incarnation is later than the present one
-incarnation_bound : (setup : Setup) (past : List Event) (b : Name) → IsRun setup past → is_begun b past ≡ true → incarnation_of b past ≤ crashes (home_of b past) past
+incarnation_bound : (setup : Setup) (past : List Event) (b : Name) → IsRun setup past → is_begun b past ≡ true
+    → incarnation_of b past ≤ crashes (home_of b past) past
 incarnation_bound setup [] b r h = absurd (false≢true h)
 incarnation_bound setup (e ∷ past) b r h = elim (begun_cases e past b h) [
   | inl k ↦ subst (λ n. n ≤ crashes (home_of b (e ∷ past)) (e ∷ past)) (sym (incarnation_new e past b k)) (crashes_more e past (home_of b (e ∷ past)))
@@ -62,7 +67,8 @@ pub record IsLostAt (setup : Setup) (b : Name) (past : List Event) : Type 0 wher
   pub there : (0 < home_of b past) × (home_of b past ≤ length setup)
 
 -- who crashes is in the setup
-crash_facts : (setup : Setup) (e : Event) (past : List Event) (g : ℕ) → IsRun setup (e ∷ past) → step_crashes e.step g ≡ true → (0 < g) × (g ≤ length setup)
+crash_facts : (setup : Setup) (e : Event) (past : List Event) (g : ℕ) → IsRun setup (e ∷ past) → step_crashes e.step g ≡ true
+    → (0 < g) × (g ≤ length setup)
 crash_facts setup e past g r k = of e.step (checked setup e past r) k
   where
     of : (step : Step) → AllFalse (checks setup step past) → step_crashes step g ≡ true → (0 < g) × (g ≤ length setup)
@@ -91,7 +97,8 @@ lost_facts setup (e ∷ past) b r h = elim (or_cases _ _ h) [
     more : (a b : ℕ) → a ≤ b → a < suc b
     more a b x = omega arith
 
-    build : is_begun b past ≡ true → incarnation_of b past < crashes (home_of b past) (e ∷ past) → (0 < home_of b past) × (home_of b past ≤ length setup) → IsLostAt setup b (e ∷ past)
+    build : is_begun b past ≡ true → incarnation_of b past < crashes (home_of b past) (e ∷ past)
+        → (0 < home_of b past) × (home_of b past ≤ length setup) → IsLostAt setup b (e ∷ past)
     build k lt th = record {
       was_begun = begun_more e past b k;
       older = as_before setup e past b r k (λ g n. n < crashes g (e ∷ past)) lt;

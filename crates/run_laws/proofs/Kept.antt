@@ -4,9 +4,8 @@ use Rattle.std.proofs.lemmas.Bool.{and_from, and_left, and_parts, and_right, fal
 use Rattle.action_names.specs.Names.{Name, is_ancestor, same_name, top_of}
 use Rattle.atomic_types.specs.Operations.{is_read}
 use Rattle.run_model.specs.declared.history.Event.{Event}
-use Rattle.run_model.specs.Actions.{begun, crashes, home_of, is_aborted, is_begun, is_closed, is_committed, step_crashes}
+use Rattle.run_model.specs.Actions.{begun, home_of, is_aborted, is_begun, is_closed, is_committed, step_crashes}
 use Rattle.run_model.specs.Keeping.{Performed, is_kept, outlives_crash, prepared_after, undoes}
-use Rattle.run_model.specs.Refusals.{gone}
 use Rattle.run_model.specs.Replay.{Setup}
 use Rattle.run_model.specs.Runs.{IsRun}
 use Rattle.run_model.specs.Telling.{tells}
@@ -23,7 +22,8 @@ use Rattle.run_laws.proofs.NothingLost.{nothing_lost_under_committed, yes_facts}
 use Rattle.run_laws.proofs.Visible.{visible_from, visible_use}
 
 -- nothing visible to an action that is no orphan has an aborted ancestor
-pub never_aborted : (setup : Setup) (now : List Event) (a b f : Name) → IsRun setup now → is_orphan a now ≡ false → is_visible b a now ≡ true
+pub never_aborted : (setup : Setup) (now : List Event) (a b f : Name) → IsRun setup now → is_orphan a now ≡ false
+    → is_visible b a now ≡ true
     → is_ancestor f b ≡ true → is_aborted f now ≡ true → ⊥
 never_aborted setup now a b f r n v k h = elim (visible_use b a f now v k) [
   | inl l ↦ clash h (no_ancestor_use (λ c. is_aborted c now) a f (or_parts _ _ n).0 l)
@@ -31,7 +31,8 @@ never_aborted setup now a b f r n v k h = elim (visible_use b a f now v k) [
 ]
 
 -- and nothing that is visible to it is lost
-never_lost : (setup : Setup) (now : List Event) (a b : Name) → IsRun setup now → is_begun b now ≡ true → is_orphan a now ≡ false → is_visible b a now ≡ true → is_lost b now ≡ true → ⊥
+never_lost : (setup : Setup) (now : List Event) (a b : Name) → IsRun setup now → is_begun b now ≡ true → is_orphan a now ≡ false
+    → is_visible b a now ≡ true → is_lost b now ≡ true → ⊥
 never_lost setup now a b r h n v l = decide (same_name (top_of b) (top_of a)) refl
   where
     decide : (t : Bool) → same_name (top_of b) (top_of a) ≡ t → ⊥
@@ -51,7 +52,8 @@ never_lost setup now a b r h n v l = decide (same_name (top_of b) (top_of a)) re
         ]
 
 -- what was prepared had closed
-pub prepared_closed : (setup : Setup) (past : List Event) (g : ℕ) (t : Name) → IsRun setup past → has_prepared g t past ≡ true → is_closed t past ≡ true
+pub prepared_closed : (setup : Setup) (past : List Event) (g : ℕ) (t : Name) → IsRun setup past → has_prepared g t past ≡ true
+    → is_closed t past ≡ true
 prepared_closed setup [] g t r h = absurd (false≢true h)
 prepared_closed setup (e ∷ past) g t r h = or_right _ _ (elim (or_cases _ _ h) [
   | inl k ↦ (yes_facts setup e past g t r k).closed
@@ -59,7 +61,8 @@ prepared_closed setup (e ∷ past) g t r h = or_right _ _ (elim (or_cases _ _ h)
 ])
 
 -- g prepared t before an operation or after it
-prepared_when : (o : Performed) (e : Event) (past : List Event) (g : ℕ) (t : Name) {mid : List Event} → Grants o e past → Follows (e ∷ past) mid → has_prepared g t mid ≡ true
+prepared_when : (o : Performed) (e : Event) (past : List Event) (g : ℕ) (t : Name) {mid : List Event} → Grants o e past
+    → Follows (e ∷ past) mid → has_prepared g t mid ≡ true
     → (has_prepared g t past ≡ true) ⊎ (prepared_after o.number g t mid ≡ true)
 prepared_when o e past g t p here h = elim (or_cases _ _ h) [
   | inl k ↦ absurd (clash k (ap (λ s. votes_yes s e.answer g t) (grant_parts o e past p).0))
@@ -74,7 +77,8 @@ prepared_when o e past g t p (later {now = now} k w) h = elim (or_cases _ _ h) [
     le_suc m n h = omega arith
 
 -- all above an operation that stays visible to an action that is no orphan was open when it was granted
-pub open_above : (setup : Setup) (o : Performed) (e : Event) (past : List Event) (a : Name) {end : List Event} → Grants o e past → Follows (e ∷ past) end → IsRun setup end
+pub open_above : (setup : Setup) (o : Performed) (e : Event) (past : List Event) (a : Name) {end : List Event} → Grants o e past
+    → Follows (e ∷ past) end → IsRun setup end
     → is_orphan a end ≡ false → is_visible o.action a end ≡ true → (d : Name) → is_ancestor d o.action ≡ true → is_closed d past ≡ false
 open_above setup o e past a {end = end} p w r n s d k = false_from_ne_true _ (λ h.
     let run = run_before setup w r in
@@ -83,7 +87,8 @@ open_above setup o e past a {end = end} p w r n s d k = false_from_ne_true _ (λ
     never_aborted setup end a o.action f r n s l (aborted_stays f (earlier w) x))
 
 -- what undoes an operation that stays visible to an action that is no orphan is a crash, and the operation a read whose top action had closed
-undone_facts : (setup : Setup) (o : Performed) (e : Event) (past : List Event) (a : Name) (k : Event) {mid end : List Event} → Grants o e past → Follows (e ∷ past) mid
+undone_facts : (setup : Setup) (o : Performed) (e : Event) (past : List Event) (a : Name) (k : Event) {mid end : List Event}
+    → Grants o e past → Follows (e ∷ past) mid
     → Follows (k ∷ mid) end → IsRun setup end → is_orphan a end ≡ false → is_visible o.action a end ≡ true → undoes k mid o ≡ true
     → (is_read o.operation ≡ true) × (is_closed (top_of o.action) mid ≡ true) × (step_crashes k.step o.object.guardian ≡ true)
 undone_facts setup o e past a k {mid = mid} {end = end} p w v r n s u = elim (or_cases _ _ u) [
@@ -120,7 +125,8 @@ undone_facts setup o e past a k {mid = mid} {end = end} p w v r n s u = elim (or
         let unprepared : not (has_prepared (home_of b mid) t mid) ≡ true = ap (λ h. not (has_prepared h t mid)) home ∙ ap not x in
         never_lost setup end a b r (begun_stays b (earlier v) known) n s (lost_stays b v (or_right _ _ (and_from _ _ known (and_from _ _ crash unprepared))))
 
-    crashed : step_crashes k.step g ≡ true → outlives_crash o mid ≡ false → (x : Bool) → has_prepared g t mid ≡ x → (y : Bool) → is_read o.operation ≡ y
+    crashed : step_crashes k.step g ≡ true → outlives_crash o mid ≡ false → (x : Bool) → has_prepared g t mid ≡ x → (y : Bool)
+        → is_read o.operation ≡ y
         → (is_read o.operation ≡ true) × (is_closed t mid ≡ true) × (step_crashes k.step g ≡ true)
     crashed c q false ex y ey = absurd (lost c ex)
     crashed c q true ex true ey = (ey, prepared_closed setup mid g t run ex, c)
@@ -132,7 +138,8 @@ undone_facts setup o e past a k {mid = mid} {end = end} p w v r n s u = elim (or
     ])
 
 -- after its own event an operation is kept as long as nothing undoes it
-kept_next : (o : Performed) (e : Event) (past : List Event) → o.number ≤ length past → is_kept o (e ∷ past) ≡ (is_kept o past && not (undoes e past o))
+kept_next : (o : Performed) (e : Event) (past : List Event) → o.number ≤ length past
+    → is_kept o (e ∷ past) ≡ (is_kept o past && not (undoes e past o))
 kept_next o e past l = ap (λ t. t || (is_kept o past && not (undoes e past o))) (ne_eqb o.number (suc (length past)) (λ q. omega arith))
 
 -- a crash dropped the operation, whose top action had closed
@@ -162,7 +169,8 @@ kept_or_dropped setup o e past a p (later {now = now} k w) v r n s = elim (kept_
     next : is_kept o (k ∷ now) ≡ (is_kept o now && not (undoes k now o))
     next = kept_next o k now (granted_before o e past p w)
 
-    decide : is_kept o now ≡ true → (t : Bool) → undoes k now o ≡ t → (is_kept o (k ∷ now) ≡ true) ⊎ ((is_read o.operation ≡ true) × IsDropped o (k ∷ now))
+    decide : is_kept o now ≡ true → (t : Bool) → undoes k now o ≡ t
+        → (is_kept o (k ∷ now) ≡ true) ⊎ ((is_read o.operation ≡ true) × IsDropped o (k ∷ now))
     decide x false u = inl (next ∙ and_from _ _ x (ap not u))
     decide x true u =
         let f = undone_facts setup o e past a k p w v r n s u in

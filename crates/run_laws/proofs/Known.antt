@@ -14,12 +14,14 @@ pub known_abort : (g : ℕ) (b : Name) (past : List Event) → knows_abort g b p
 known_abort g b [] h = absurd (false≢true h)
 known_abort g b (e ∷ past) h = aborted_stays b {past = past} (later e here) (known (λ k. known_abort k b past) (and_parts _ _ h).1)
   where
-    sender : ((k : ℕ) → knows_abort k b past ≡ true → is_aborted b past ≡ true) → (s : Option ℕ) → from_sender s (λ k. knows_abort k b past) ≡ true → is_aborted b past ≡ true
+    sender : ((k : ℕ) → knows_abort k b past ≡ true → is_aborted b past ≡ true) → (s : Option ℕ)
+        → from_sender s (λ k. knows_abort k b past) ≡ true → is_aborted b past ≡ true
     sender ih None y = absurd (false≢true y)
     sender ih (Some k) y = ih k y
 
     known : ((k : ℕ) → knows_abort k b past ≡ true → is_aborted b past ≡ true)
-        → (knows_abort g b past || ((tells e past g b && is_aborted b past) || from_sender (carried_from e.step g past) (λ h. knows_abort h b past))) ≡ true → is_aborted b past ≡ true
+        → (knows_abort g b past || ((tells e past g b && is_aborted b past) || from_sender (carried_from e.step g past) (λ h. knows_abort h b past))) ≡ true
+        → is_aborted b past ≡ true
     known ih k = elim (or_cases _ _ k) [
       | inl x ↦ ih g x
       | inr x ↦ elim (or_cases _ _ x) [ inl y ↦ (and_parts (tells e past g b) _ y).1 | inr y ↦ sender ih (carried_from e.step g past) y ]

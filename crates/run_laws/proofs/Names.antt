@@ -227,7 +227,8 @@ no_top (y ∷ d) (x ∷ []) h = absurd (false≢true h)
 no_top d (x ∷ y ∷ c) h = refl
 
 -- what goes from each action to its parent goes to each ancestor
-pub climb : (P : Name → Type 0) → ((c : Name) → is_top c ≡ false → P c → P (parent_of c)) → (d c : Name) → is_ancestor d c ≡ true → P c → P d
+pub climb : (P : Name → Type 0) → ((c : Name) → is_top c ≡ false → P c → P (parent_of c)) → (d c : Name) → is_ancestor d c ≡ true → P c
+    → P d
 climb P up d c h p = go (length c) d c (omega arith) h p
   where
     go : (n : ℕ) (d c : Name) → length c ≤ n → is_ancestor d c ≡ true → P c → P d

@@ -36,14 +36,16 @@ pub record IsYes (setup : Setup) (g : ℕ) (t : Name) (past : List Event) : Type
   pub closed : is_closed t past ≡ true
   pub present : is_number (dependency t g past) (crashes g past) ≡ true
 
-pub yes_facts : (setup : Setup) (e : Event) (past : List Event) (g : ℕ) (t : Name) → IsRun setup (e ∷ past) → votes_yes e.step e.answer g t ≡ true → IsYes setup g t past
+pub yes_facts : (setup : Setup) (e : Event) (past : List Event) (g : ℕ) (t : Name) → IsRun setup (e ∷ past)
+    → votes_yes e.step e.answer g t ≡ true → IsYes setup g t past
 yes_facts setup e past g t r v = of e.step e.answer (checked setup e past r) (answered setup e past r) v
   where
     given : (x : Bool) → VoteYes ≡ cond x VoteYes VoteNo → x ≡ true
     given true h = refl
     given false h = cc
 
-    of : (step : Step) (answer : Answer) → AllFalse (checks setup step past) → answer ≡ outcome setup step past → votes_yes step answer g t ≡ true → IsYes setup g t past
+    of : (step : Step) (answer : Answer) → AllFalse (checks setup step past) → answer ≡ outcome setup step past
+        → votes_yes step answer g t ≡ true → IsYes setup g t past
     of (Prepare h b) VoteYes f a v =
         let p = and_parts _ _ v in
         subst (λ x. IsYes setup x t past) (eqb-true h g p.0) (subst (λ x. IsYes setup h x past) (same_name_true b t p.1) (record {
@@ -84,7 +86,8 @@ lost_unprepared setup b t (e ∷ past) w r all q k l p = elim (or_cases _ _ l) [
     run : IsRun setup (e ∷ past)
     run = run_before setup w r
 
-    prepared_cases : is_begun b past ≡ true → (votes_yes e.step e.answer (home_of b past) t ≡ true) ⊎ (has_prepared (home_of b past) t past ≡ true)
+    prepared_cases : is_begun b past ≡ true
+        → (votes_yes e.step e.answer (home_of b past) t ≡ true) ⊎ (has_prepared (home_of b past) t past ≡ true)
     prepared_cases h = or_cases _ _ (ap (λ g. has_prepared g t (e ∷ past)) (sym (home_more setup e past b run h)) ∙ p)
 
     -- the vote found the dependency at the present incarnation, which is later than that of what was lost

@@ -25,7 +25,8 @@ use Rattle.run_laws.proofs.Sorted.{EachPair, InOrder, exchanged, pair_snoc}
 use Rattle.run_laws.proofs.Visible.{visible_use}
 
 -- o was granted before p, they conflict, and both are visible to an action that is no orphan: o's place is before p's
-in_order : (setup : Setup) (end : List Event) (a : Name) (o p : Performed) (e f : Event) (before between : List Event) → IsRun setup end → is_orphan a end ≡ false
+in_order : (setup : Setup) (end : List Event) (a : Name) (o p : Performed) (e f : Event) (before between : List Event) → IsRun setup end
+    → is_orphan a end ≡ false
     → Follows (e ∷ before) between → Grants o e before → Follows (f ∷ between) end → Grants p f between
     → is_visible o.action a end ≡ true → is_visible p.action a end ≡ true → collide o p ≡ true
     → place_lt (place_of o end) (place_of p end) ≡ true
@@ -54,7 +55,8 @@ in_order setup end a o p e f before between r n w1 g1 w2 g2 v1 v2 c = elim (kept
         (k, closing_stays setup d (earlier w2) r q ∙ s, omega arith)
 
     -- where the first was kept, it was visible to the action of the second
-    behind : is_kept o between ≡ true → (d : Name) → is_ancestor d o.action ≡ true → is_ancestor d p.action ≡ false → Before (closing_step d end) p.number
+    behind : is_kept o between ≡ true → (d : Name) → is_ancestor d o.action ≡ true → is_ancestor d p.action ≡ false
+        → Before (closing_step d end) p.number
     behind k d l m =
         let q = and_parts _ _ c in
         let seen = at_granted _ o e before g1 w1 (granted_sees p.action p.object p.operation between given.free)
@@ -74,7 +76,8 @@ in_order setup end a o p e f before between r n w1 g1 w2 g2 v1 v2 c = elim (kept
         let q : is_closed d (f ∷ between) ≡ false = ap (λ s. step_closes s d || is_closed d between) (grant_parts p f between g2).0 ∙ open_then d l in
         subst P (sym g2.0) (closing_after d w2 q)
 
-    other_tree : is_closed (top_of o.action) between ≡ true → (t : Bool) → is_ancestor (top_of o.action) p.action ≡ t → place_lt (place_of o end) (place_of p end) ≡ true
+    other_tree : is_closed (top_of o.action) between ≡ true → (t : Bool) → is_ancestor (top_of o.action) p.action ≡ t
+        → place_lt (place_of o end) (place_of p end) ≡ true
     other_tree q true k = absurd (clash q (open_then (top_of o.action) k))
     other_tree q false k =
         let run1 = run_before setup w1 run.2 in
@@ -87,7 +90,8 @@ conflicts_keep_order setup past a o p e f before between r n c g d h v w k =
     in_order setup past a o p e f before between r n (follows_from c) g (follows_from d) h v w k
 
 -- each two that are visible
-visible_pairs : (setup : Setup) (past : List Event) (a : Name) {end : List Event} → Follows past end → IsRun setup end → is_orphan a end ≡ false
+visible_pairs : (setup : Setup) (past : List Event) (a : Name) {end : List Event} → Follows past end → IsRun setup end
+    → is_orphan a end ≡ false
     → EachPair (InOrder end) (reverse (filter (λ o. is_visible o.action a end) (performed past)))
 visible_pairs setup [] a w r n = tt
 visible_pairs setup (e ∷ past) a {end = end} w r n = elim (grant_cases e past) [
@@ -101,14 +105,14 @@ visible_pairs setup (e ∷ past) a {end = end} w r n = elim (grant_cases e past)
     seen : List Performed
     seen = filter (λ o. is_visible o.action a end) (performed past)
 
-    one : (o : Performed) → Grants o e past → (t : Bool) → is_visible o.action a end ≡ t → EachPair (InOrder end) (reverse seen) → EachPair (InOrder end) (reverse (cond t (o ∷ seen) seen))
+    one : (o : Performed) → Grants o e past → (t : Bool) → is_visible o.action a end ≡ t → EachPair (InOrder end) (reverse seen)
+        → EachPair (InOrder end) (reverse (cond t (o ∷ seen) seen))
     one o p false v rest = rest
     one o p true v rest =
         let R : List Performed → Type 0 = λ l. EachPair (InOrder end) l in
         let older = each_filter (λ q. InOrder end q o) (λ q. is_visible q.action a end) (performed past)
         (each_performed past _ (λ q e' p' h f u c. in_order setup end a q o e' e p' past r n f h w p u v c)) in
         subst R (sym (reverse-append (o ∷ []) seen)) (pair_snoc (InOrder end) (reverse seen) o rest (each_reverse (λ q. InOrder end q o) seen older))
-
 
 pub grant_to_place : GrantToPlace
 grant_to_place setup past a r n = exchanged past (visible_by_grant a past) (visible_pairs setup past a here r n)

@@ -22,7 +22,6 @@ use Rattle.run_model.specs.Runs.{IsRun}
 use Rattle.run_model.specs.Visibility.{has_prepared, is_lost, is_orphan, is_visible, votes_yes}
 use Rattle.run_model.specs.Votes.{may_prepare}
 use Rattle.run_laws.specs.Laws.{RefusedOrphansAreOrphans, actor_of}
-use Rattle.run_laws.specs.NoRuns.{first}
 use Rattle.run_laws.proofs.Active.{nothing_active_below_done}
 use Rattle.run_laws.proofs.Begun.{begins_no_crash, begun_cases, nameless}
 use Rattle.run_laws.proofs.Homes.{as_before, crashes_next, home_more, incarnation_new}
@@ -33,7 +32,8 @@ use Rattle.run_laws.proofs.Sources.{IsSource, dependency_source}
 use Rattle.atomic_types.specs.declared.op.Op as op
 
 -- an action whose home crashed since it began is lost, where that home has not prepared its tree
-crashed_lost : (setup : Setup) (past : List Event) (b : Name) → IsRun setup past → is_begun b past ≡ true → incarnation_of b past < crashes (home_of b past) past
+crashed_lost : (setup : Setup) (past : List Event) (b : Name) → IsRun setup past → is_begun b past ≡ true
+    → incarnation_of b past < crashes (home_of b past) past
     → has_prepared (home_of b past) (top_of b) past ≡ false → is_lost b past ≡ true
 crashed_lost setup [] b r k l p = absurd (false≢true k)
 crashed_lost setup (e ∷ past) b r k l p = elim (begun_cases e past b k) [
@@ -47,7 +47,8 @@ crashed_lost setup (e ∷ past) b r k l p = elim (begun_cases e past b k) [
         lt_irrefl (crashes g past) (subst (λ m. crashes g past < m) (crashes_next e past g false (begins_no_crash setup e past b g r x))
         (subst (λ m. m < crashes g (e ∷ past)) (incarnation_new e past b x) l))
 
-    old : is_begun b past ≡ true → (incarnation_of b past < crashes (home_of b past) past → has_prepared (home_of b past) (top_of b) past ≡ false → is_lost b past ≡ true)
+    old : is_begun b past ≡ true
+        → (incarnation_of b past < crashes (home_of b past) past → has_prepared (home_of b past) (top_of b) past ≡ false → is_lost b past ≡ true)
         → (t : Bool) → step_crashes e.step (home_of b past) ≡ t → is_lost b (e ∷ past) ≡ true
     old x ih t c = finish t c
       where
@@ -72,7 +73,8 @@ any_number p [] h = absurd (false≢true h)
 any_number p (n ∷ ns) h = elim (or_cases _ _ h) [ inl x ↦ (n, x) | inr x ↦ any_number p ns x ]
 
 -- A known orphan that is not done is one: a known abort came, and the source of a dependency below a known count is lost.
-known_is_orphan : (setup : Setup) (past : List Event) (g : ℕ) (a : Name) → IsRun setup past → is_begun a past ≡ true → is_done a past ≡ false
+known_is_orphan : (setup : Setup) (past : List Event) (g : ℕ) (a : Name) → IsRun setup past → is_begun a past ≡ true
+    → is_done a past ≡ false
     → is_known_orphan setup a g past ≡ true → is_orphan a past ≡ true
 known_is_orphan setup past g a r k u h = elim (or_cases _ _ h) [
   | inl x ↦ let (c, l, y) = any_ancestor_use (λ c. knows_abort g c past) a x in doomed c l (known_abort g c past y)
@@ -86,7 +88,8 @@ known_is_orphan setup past g a r k u h = elim (or_cases _ _ h) [
     doomed : (c : Name) → is_ancestor c a ≡ true → is_aborted c past ≡ true → is_orphan a past ≡ true
     doomed c l x = or_left _ _ (any_ancestor_from (λ d. is_aborted d past) a c l x)
 
-    lost : (y n : ℕ) (b : Name) → IsSource a b y n past → n < crashes y past → (t : Bool) → has_prepared (home_of b past) (top_of b) past ≡ t → is_orphan a past ≡ true
+    lost : (y n : ℕ) (b : Name) → IsSource a b y n past → n < crashes y past → (t : Bool)
+        → has_prepared (home_of b past) (top_of b) past ≡ t → is_orphan a past ≡ true
     lost y n b s l true p =
         let top = top_facts a (nameless setup past a r k) in
         let closed = prepared_closed setup past (home_of b past) (top_of b) r p in
@@ -116,14 +119,16 @@ orphan_is_first (c ∷ cs) h = first c.0 c.1 h (orphan_is_first cs)
     says_orphan (Some Orphan) = true
     says_orphan _ = false
 
-    first : (why : Refusal) (t : Bool) → cond t (Some why) (first_refusal cs) ≡ Some Orphan → (first_refusal cs ≡ Some Orphan → OrphanIsFirst cs) → Applies why t (OrphanIsFirst cs)
+    first : (why : Refusal) (t : Bool) → cond t (Some why) (first_refusal cs) ≡ Some Orphan
+        → (first_refusal cs ≡ Some Orphan → OrphanIsFirst cs) → Applies why t (OrphanIsFirst cs)
     first Orphan true h ih = inl refl
     first Orphan false h ih = inr (ih h)
     first _ true h ih = absurd (false≢true (ap says_orphan h))
     first _ false h ih = (refl, ih h)
 
 -- no outcome is a refusal
-refused_first : (setup : Setup) (step : Step) (past : List Event) → refused_or (first_refusal (checks setup step past)) (outcome setup step past) ≡ Refused Orphan
+refused_first : (setup : Setup) (step : Step) (past : List Event)
+    → refused_or (first_refusal (checks setup step past)) (outcome setup step past) ≡ Refused Orphan
     → first_refusal (checks setup step past) ≡ Some Orphan
 refused_first setup step past h = of (first_refusal (checks setup step past)) (outcome setup step past) h (none step)
   where
@@ -155,7 +160,8 @@ refused_orphans_are_orphans setup past step r h = of step (orphan_is_first (chec
     IsActor : Step → Type 0
     IsActor step = (a : Name) × (actor_of step ≡ Some a) × (is_orphan a past ≡ true)
 
-    known : (a : Name) → is_begun a past ≡ true → is_done a past ≡ false → is_known_orphan setup a (home_of a past) past ≡ true → is_orphan a past ≡ true
+    known : (a : Name) → is_begun a past ≡ true → is_done a past ≡ false → is_known_orphan setup a (home_of a past) past ≡ true
+        → is_orphan a past ≡ true
     known a b u k = known_is_orphan setup past (home_of a past) a r b u k
 
     of : (step : Step) → OrphanIsFirst (checks setup step past) → IsActor step

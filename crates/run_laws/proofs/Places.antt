@@ -73,7 +73,8 @@ place_before f i j (x ∷ b) (y ∷ c) l hb hc = decide (x == y) refl (λ hb' hc
         or_left _ _ (before_after (f (x ∷ [])) (f (y ∷ [])) j (hb (x ∷ []) (front_alone x b) (and_left _ _ q)) (hc (y ∷ []) (front_alone y c)))
 
 -- so too where the whole tree of b closed before j, and that of c did not
-pub place_tops : (f : Name → Option ℕ) (i j : ℕ) (b c : Name) → (b ≡ [] → ⊥) → (c ≡ [] → ⊥) → Before (f (top_of b)) j → After j (f (top_of c))
+pub place_tops : (f : Name → Option ℕ) (i j : ℕ) (b c : Name) → (b ≡ [] → ⊥) → (c ≡ [] → ⊥) → Before (f (top_of b)) j
+    → After j (f (top_of c))
     → place_lt (place f b i) (place f c j) ≡ true
 place_tops f i j [] c nb nc hb hc = absurd (nb refl)
 place_tops f i j (x ∷ b) [] nb nc hb hc = absurd (nc refl)

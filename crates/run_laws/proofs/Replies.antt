@@ -26,7 +26,8 @@ use Rattle.run_laws.proofs.Seen.{granted_sees}
 use Rattle.run_laws.proofs.Visible.{visibility_carries_over, visible_self, visible_stays}
 
 -- replay of one operation more
-after_snoc : (s : Store) (os : List Performed) (o : Performed) → store_after s (os ++ o ∷ []) ≡ updated (store_after s os) o.object o.operation
+after_snoc : (s : Store) (os : List Performed) (o : Performed)
+    → store_after s (os ++ o ∷ []) ≡ updated (store_after s os) o.object o.operation
 after_snoc s [] o = refl
 after_snoc s (p ∷ ps) o = after_snoc (updated s p.object p.operation) ps o
 
@@ -78,7 +79,8 @@ write_conflicts Read d h = absurd (true≢false h)
 write_conflicts Write d h = refl
 
 -- A reply is that of the operations so far that are visible to an action that is no orphan, and to which the asking action is visible.
-pub reply_by_grant : (setup : Setup) (o : Performed) (e : Event) (past : List Event) (a : Name) {end : List Event} → Grants o e past → IsRun setup (e ∷ past)
+pub reply_by_grant : (setup : Setup) (o : Performed) (e : Event) (past : List Event) (a : Name) {end : List Event} → Grants o e past
+    → IsRun setup (e ∷ past)
     → Follows past end → IsRun setup end → is_orphan a end ≡ false → is_visible o.action a end ≡ true
     → o.reply ≡ reply_of (store_after (opening setup) (reverse (filter (λ q. is_visible q.action a end) (performed past))) o.object) o.operation
 reply_by_grant setup o e past a {end = end} p run w r n v =
@@ -94,9 +96,11 @@ reply_by_grant setup o e past a {end = end} p run w r n v =
     given = granting setup o e past run p
 
     -- a write on the object is kept just where it is visible
-    agree : (q : Performed) → ((same_object q.object x && is_kept q past) ≡ true → conflicts q.operation o.operation ≡ true → is_visible q.action o.action past ≡ true)
+    agree : (q : Performed)
+        → ((same_object q.object x && is_kept q past) ≡ true → conflicts q.operation o.operation ≡ true → is_visible q.action o.action past ≡ true)
         → ((is_visible q.action a end ≡ true) → (is_kept q past ≡ true) ⊎ (is_read q.operation ≡ true))
-        → ((same_object q.object x && is_kept q past) ≡ (is_visible q.action a end && same_object q.object x)) ⊎ (is_read q.operation ≡ true)
+        → ((same_object q.object x && is_kept q past) ≡ (is_visible q.action a end && same_object q.object x))
+        ⊎ (is_read q.operation ≡ true)
     agree q sees kept = step (is_read q.operation) refl (same_object q.object x) refl (is_kept q past) refl (is_visible q.action a end) refl
       where
         seen : is_read q.operation ≡ false → same_object q.object x ≡ true → is_kept q past ≡ true → is_visible q.action a end ≡ true
@@ -104,8 +108,10 @@ reply_by_grant setup o e past a {end = end} p run w r n v =
             let s = sees (and_from _ _ so k) (write_conflicts (class_of q.operation) (class_of o.operation) nr) in
             visibility_carries_over a q.action o.action end v (visible_stays q.action o.action w s)
 
-        step : (rd : Bool) → is_read q.operation ≡ rd → (so : Bool) → same_object q.object x ≡ so → (k : Bool) → is_kept q past ≡ k → (u : Bool) → is_visible q.action a end ≡ u
-            → ((same_object q.object x && is_kept q past) ≡ (is_visible q.action a end && same_object q.object x)) ⊎ (is_read q.operation ≡ true)
+        step : (rd : Bool) → is_read q.operation ≡ rd → (so : Bool) → same_object q.object x ≡ so → (k : Bool) → is_kept q past ≡ k
+            → (u : Bool) → is_visible q.action a end ≡ u
+            → ((same_object q.object x && is_kept q past) ≡ (is_visible q.action a end && same_object q.object x))
+            ⊎ (is_read q.operation ≡ true)
         step true er so es k ek u eu = inr er
         step false er false es k ek u eu = inl (and_left _ _ es ∙ sym (and_right _ _ es))
         step false er true es true ek true eu = inl (ap₂ ◌&&◌ es ek ∙ sym (ap₂ ◌&&◌ eu es))
@@ -116,7 +122,8 @@ reply_by_grant setup o e past a {end = end} p run w r n v =
     kept_visible : Each (λ q. (is_visible q.action a end ≡ true) → (is_kept q past ≡ true) ⊎ (is_read q.operation ≡ true)) (performed past)
     kept_visible = each_performed past _ (λ q e' p' h f u. plain q (kept_or_closed setup q e' p' a h f w r n u))
       where
-        plain : (q : Performed) {T : Type 0} → (is_kept q past ≡ true) ⊎ ((is_read q.operation ≡ true) × T) → (is_kept q past ≡ true) ⊎ (is_read q.operation ≡ true)
+        plain : (q : Performed) {T : Type 0} → (is_kept q past ≡ true) ⊎ ((is_read q.operation ≡ true) × T)
+            → (is_kept q past ≡ true) ⊎ (is_read q.operation ≡ true)
         plain q (inl y) = inl y
         plain q (inr y) = inr y.0
 

@@ -10,7 +10,8 @@ use Rattle.run_laws.specs.Stepping.{HistoriesAreRuns, RunMore}
 pub run_more : RunMore
 run_more setup step past r = go (is_accepted (answer_of setup step past)) refl
   where
-    go : (t : Bool) → is_accepted (answer_of setup step past) ≡ t → IsRun setup (cond t (record { step = step; answer = answer_of setup step past } ∷ past) past)
+    go : (t : Bool) → is_accepted (answer_of setup step past) ≡ t
+        → IsRun setup (cond t (record { step = step; answer = answer_of setup step past } ∷ past) past)
     go true e = (refl, e, r)
     go false e = r
 

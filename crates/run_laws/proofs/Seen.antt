@@ -8,7 +8,6 @@ use Rattle.run_model.specs.declared.step.ObjectId.{ObjectId}
 use Rattle.run_model.specs.Keeping.{Performed, blockers, is_kept, kept_on, performed, same_object}
 use Rattle.run_model.specs.Telling.{holder_of, last_passing, or_else, told_committed}
 use Rattle.run_model.specs.Visibility.{is_visible}
-use Rattle.run_laws.specs.NoRuns.{first}
 use Rattle.run_laws.proofs.Each.{Each, each_fails, each_filtered, each_map, each_mapped}
 use Rattle.run_laws.proofs.Names.{ancestor_trans}
 use Rattle.run_laws.proofs.Visible.{visible_from}
@@ -30,12 +29,15 @@ last_cons p x b = ap (λ o. or_else o (cond (p (x ∷ [])) (Some (x ∷ [])) Non
     mapped (a ∷ as') = ap (λ o. or_else o (cond (p (x ∷ a)) (Some (x ∷ a)) None)) (mapped as') ∙ step a (last_passing (λ b. p (x ∷ b)) as') (p (x ∷ a))
 
 -- an ancestor fails the test, or is an ancestor of the last that passes
-last_facts : (p : Name → Bool) (b f : Name) → is_ancestor f b ≡ true → (p f ≡ false) ⊎ ((d : Name) × (last_passing p (ancestors b) ≡ Some d) × (is_ancestor f d ≡ true))
+last_facts : (p : Name → Bool) (b f : Name) → is_ancestor f b ≡ true
+    → (p f ≡ false) ⊎ ((d : Name) × (last_passing p (ancestors b) ≡ Some d) × (is_ancestor f d ≡ true))
 last_facts p b [] h = absurd (false≢true h)
 last_facts p [] (y ∷ f) h = absurd (false≢true h)
 last_facts p (x ∷ b) (y ∷ []) h = first (last_passing (λ a. p (x ∷ a)) (ancestors b)) (last_cons p x b) (p (x ∷ [])) refl
   where
-    first : (o : Option Name) → last_passing p (ancestors (x ∷ b)) ≡ or_else (option_map (λ a. x ∷ a) o) (cond (p (x ∷ [])) (Some (x ∷ [])) None) → (t : Bool) → p (x ∷ []) ≡ t
+    first : (o : Option Name)
+        → last_passing p (ancestors (x ∷ b)) ≡ or_else (option_map (λ a. x ∷ a) o) (cond (p (x ∷ [])) (Some (x ∷ [])) None) → (t : Bool)
+        → p (x ∷ []) ≡ t
         → (p (y ∷ []) ≡ false) ⊎ ((d : Name) × (last_passing p (ancestors (x ∷ b)) ≡ Some d) × (is_ancestor (y ∷ []) d ≡ true))
     first (Some d) k t q = inr (x ∷ d, k, h)
     first None k true q = inr (x ∷ [], k ∙ ap (λ t. cond t (Some (x ∷ [])) None) q, h)

@@ -18,7 +18,8 @@ use Rattle.run_laws.proofs.Order.{grant_to_place}
 use Rattle.run_laws.proofs.Replies.{reply_by_grant}
 use Rattle.atomic_types.specs.declared.op.Op as op
 
-replayed_snoc : (s : Store) (os : List Performed) (o : Performed) → replayed s (os ++ o ∷ []) ≡ replayed s os ++ reply_of (store_after s os o.object) o.operation ∷ []
+replayed_snoc : (s : Store) (os : List Performed) (o : Performed)
+    → replayed s (os ++ o ∷ []) ≡ replayed s os ++ reply_of (store_after s os o.object) o.operation ∷ []
 replayed_snoc s [] o = refl
 replayed_snoc s (p ∷ ps) o = ap (λ rs. reply_of (s p.object) p.operation ∷ rs) (replayed_snoc (updated s p.object p.operation) ps o)
 
@@ -27,7 +28,8 @@ given_snoc [] o = refl
 given_snoc (p ∷ ps) o = ap (λ rs. p.reply ∷ rs) (given_snoc ps o)
 
 -- the replies in order of grant
-serial_by_grant : (setup : Setup) (past : List Event) (a : Name) {end : List Event} → Follows past end → IsRun setup end → is_orphan a end ≡ false
+serial_by_grant : (setup : Setup) (past : List Event) (a : Name) {end : List Event} → Follows past end → IsRun setup end
+    → is_orphan a end ≡ false
     → replayed (opening setup) (reverse (filter (λ o. is_visible o.action a end) (performed past))) ≡ replies_given (reverse (filter (λ o. is_visible o.action a end) (performed past)))
 serial_by_grant setup [] a w r n = refl
 serial_by_grant setup (e ∷ past) a {end = end} w r n = elim (grant_cases e past) [
@@ -41,7 +43,8 @@ serial_by_grant setup (e ∷ past) a {end = end} w r n = elim (grant_cases e pas
     seen : List Performed
     seen = filter (λ o. is_visible o.action a end) (performed past)
 
-    one : (o : Performed) → Grants o e past → (t : Bool) → is_visible o.action a end ≡ t → replayed (opening setup) (reverse seen) ≡ replies_given (reverse seen)
+    one : (o : Performed) → Grants o e past → (t : Bool) → is_visible o.action a end ≡ t
+        → replayed (opening setup) (reverse seen) ≡ replies_given (reverse seen)
         → replayed (opening setup) (reverse (cond t (o ∷ seen) seen)) ≡ replies_given (reverse (cond t (o ∷ seen) seen))
     one o p false v rest = rest
     one o p true v rest =
@@ -53,7 +56,8 @@ pub serial_view : SerialView
 serial_view setup past a r b n =
     exchanges_leave_replies (opening setup) (visible_by_grant a past) (visible_by_place a past) (grant_to_place setup past a r n) (serial_by_grant setup past a here r n)
 
-asked_parts : (o p : Performed) (os ps : List Performed) → asked (o ∷ os) ≡ asked (p ∷ ps) → (o.object ≡ p.object) × (o.operation ≡ p.operation) × (asked os ≡ asked ps)
+asked_parts : (o p : Performed) (os ps : List Performed) → asked (o ∷ os) ≡ asked (p ∷ ps)
+    → (o.object ≡ p.object) × (o.operation ≡ p.operation) × (asked os ≡ asked ps)
 asked_parts o p os ps h =
     let Asked : Type 0 = Name × ObjectId × op.Op in
     let x : Asked = (o.action, o.object, o.operation) in

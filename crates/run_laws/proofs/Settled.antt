@@ -16,7 +16,8 @@ use Rattle.run_laws.proofs.Names.{ancestor_trans, ancestor_up, clash, no_top, pa
 use Rattle.run_laws.proofs.Visible.{visible_from}
 
 -- Where all ancestors of b commit in the end, nothing between b and what has closed is open.
-never_open : (setup : Setup) (t b c : Name) {mid end : List Event} → Follows mid end → IsRun setup end → ((f : Name) → is_ancestor f b ≡ true → is_committed f end ≡ true)
+never_open : (setup : Setup) (t b c : Name) {mid end : List Event} → Follows mid end → IsRun setup end
+    → ((f : Name) → is_ancestor f b ≡ true → is_committed f end ≡ true)
     → is_closed t mid ≡ true → is_ancestor t c ≡ true → is_ancestor c b ≡ true → is_begun c mid ≡ true → is_done c mid ≡ false → ⊥
 never_open setup t b c {mid = mid} {end = end} w r all q k l h u =
     let (f, m, a) = nothing_active_below_done setup mid t c (run_before setup w r) h u k (or_right _ _ q) in
@@ -64,7 +65,8 @@ settled_visible setup t b {mid = mid} {end = end} w r all p c k h = visible_from
         (false_from_ne_true _ (λ y. not_both setup end f r (all f l) (aborted_stays f w y)))
         (false_from_ne_true _ (λ y. clash (closed_committed setup mid f run x y) n))
 
-    decide : (f : Name) → is_ancestor f b ≡ true → (x : Bool) → is_committed f mid ≡ x → (y : Bool) → is_top f ≡ y → (is_ancestor f t ≡ true) ⊎ (is_committed f mid ≡ true)
+    decide : (f : Name) → is_ancestor f b ≡ true → (x : Bool) → is_committed f mid ≡ x → (y : Bool) → is_top f ≡ y
+        → (is_ancestor f t ≡ true) ⊎ (is_committed f mid ≡ true)
     decide f l true e y q = inr e
     decide f l false e true q = inl (top_above f t b q l k)
     decide f l false e false q = absurd (never_open setup t b f w r all c (top_above t f b p k l) l (ancestor_begun setup mid f b run h l) (undone f l e q))

@@ -9,7 +9,8 @@ use Rattle.run_laws.proofs.Names.{clash}
 use Rattle.run_laws.proofs.Places.{place_lt_once}
 
 -- an operation put into its place behind one that it is not before
-stands_behind : (now : List Event) (q o : Performed) (ps : List Performed) → place_lt (place_of o now) (place_of q now) ≡ false → StandsInOrder now (q ∷ ps)
+stands_behind : (now : List Event) (q o : Performed) (ps : List Performed) → place_lt (place_of o now) (place_of q now) ≡ false
+    → StandsInOrder now (q ∷ ps)
     → StandsInOrder now (q ∷ insert_by_place now o ps)
 stands_behind now q o [] n h = (n, tt)
 stands_behind now q o (p ∷ ps) n h = step (place_lt (place_of p now) (place_of o now)) refl (λ m. stands_behind now p o ps m h.1)
@@ -20,11 +21,13 @@ stands_behind now q o (p ∷ ps) n h = step (place_lt (place_of p now) (place_of
     step true e ih = (h.0, ih (place_lt_once (place_of p now) (place_of o now) e))
     step false e ih = (n, (e, h.1))
 
-insert_stands : (now : List Event) (o : Performed) (ps : List Performed) → StandsInOrder now ps → StandsInOrder now (insert_by_place now o ps)
+insert_stands : (now : List Event) (o : Performed) (ps : List Performed) → StandsInOrder now ps
+    → StandsInOrder now (insert_by_place now o ps)
 insert_stands now o [] h = tt
 insert_stands now o (p ∷ ps) h = step (place_lt (place_of p now) (place_of o now)) refl
   where
-    step : (t : Bool) → place_lt (place_of p now) (place_of o now) ≡ t → StandsInOrder now (cond t (p ∷ insert_by_place now o ps) (o ∷ p ∷ ps))
+    step : (t : Bool) → place_lt (place_of p now) (place_of o now) ≡ t
+        → StandsInOrder now (cond t (p ∷ insert_by_place now o ps) (o ∷ p ∷ ps))
     step true e = stands_behind now p o ps (place_lt_once (place_of p now) (place_of o now) e) h
     step false e = (e, h)
 
@@ -44,7 +47,8 @@ abbrev pub EachPair : (Performed → Performed → Type 0) → List Performed �
 EachPair R [] = Unit {0}
 EachPair R (o ∷ os) = Each (λ p. R o p) os × EachPair R os
 
-pub pair_snoc : (R : Performed → Performed → Type 0) (os : List Performed) (o : Performed) → EachPair R os → Each (λ p. R p o) os → EachPair R (os ++ o ∷ [])
+pub pair_snoc : (R : Performed → Performed → Type 0) (os : List Performed) (o : Performed) → EachPair R os → Each (λ p. R p o) os
+    → EachPair R (os ++ o ∷ [])
 pair_snoc R [] o h k = (tt, tt)
 pair_snoc R (x ∷ xs) o h k = (each_snoc (λ p. R x p) xs o h.0 k.0, pair_snoc R xs o h.1 k.1)
 
@@ -53,17 +57,20 @@ same_list [] = nothing
 same_list (o ∷ os) = keeping o (same_list os)
 
 -- an operation goes past those that have an earlier place, since it conflicts with none of them
-inserted : (now : List Event) (o : Performed) (ps : List Performed) → Each (λ p. InOrder now o p) ps → Exchanges (o ∷ ps) (insert_by_place now o ps)
+inserted : (now : List Event) (o : Performed) (ps : List Performed) → Each (λ p. InOrder now o p) ps
+    → Exchanges (o ∷ ps) (insert_by_place now o ps)
 inserted now o [] h = keeping o nothing
 inserted now o (p ∷ ps) h = step (place_lt (place_of p now) (place_of o now)) refl (collide o p) refl (inserted now o ps h.1)
   where
-    step : (t : Bool) → place_lt (place_of p now) (place_of o now) ≡ t → (u : Bool) → collide o p ≡ u → Exchanges (o ∷ ps) (insert_by_place now o ps)
+    step : (t : Bool) → place_lt (place_of p now) (place_of o now) ≡ t → (u : Bool) → collide o p ≡ u
+        → Exchanges (o ∷ ps) (insert_by_place now o ps)
         → Exchanges (o ∷ p ∷ ps) (cond t (p ∷ insert_by_place now o ps) (o ∷ p ∷ ps))
     step false e u c k = same_list (o ∷ p ∷ ps)
     step true e true c k = absurd (clash e (place_lt_once (place_of o now) (place_of p now) (h.0 c)))
     step true e false c k = following (exchange o p ps c) (keeping p k)
 
-each_inserted : (P : Performed → Type 0) (now : List Event) (o : Performed) (ps : List Performed) → P o → Each P ps → Each P (insert_by_place now o ps)
+each_inserted : (P : Performed → Type 0) (now : List Event) (o : Performed) (ps : List Performed) → P o → Each P ps
+    → Each P (insert_by_place now o ps)
 each_inserted P now o [] h k = (h, tt)
 each_inserted P now o (p ∷ ps) h k = step (place_lt (place_of p now) (place_of o now)) (each_inserted P now o ps h k.1)
   where

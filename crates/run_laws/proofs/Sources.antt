@@ -54,12 +54,15 @@ own_cases home h c n e = step (home == h) refl e
     step false q x = let f : None ≡ Some n = x in cc
 
 -- what was begun has a dependency from before, or from a child that commits
-after_cases : (step : Step) (a : Name) (before : Name → Option ℕ) (own : Option ℕ) (n : ℕ) → dependency_after false step a before own ≡ Some n
-    → (before a ≡ Some n) ⊎ ((c : Name) × (step_closes step c ≡ true) × (step_commits step c ≡ true) × (parent_of c ≡ a) × (before c ≡ Some n))
+after_cases : (step : Step) (a : Name) (before : Name → Option ℕ) (own : Option ℕ) (n : ℕ)
+    → dependency_after false step a before own ≡ Some n
+    → (before a ≡ Some n)
+    ⊎ ((c : Name) × (step_closes step c ≡ true) × (step_commits step c ≡ true) × (parent_of c ≡ a) × (before c ≡ Some n))
 after_cases (Commit d) a before own n e = pick (same_name (parent_of d) a) refl e
   where
     pick : (t : Bool) → same_name (parent_of d) a ≡ t → merged t d a before ≡ Some n
-        → (before a ≡ Some n) ⊎ ((c : Name) × (step_closes (Commit d) c ≡ true) × (step_commits (Commit d) c ≡ true) × (parent_of c ≡ a) × (before c ≡ Some n))
+        → (before a ≡ Some n)
+        ⊎ ((c : Name) × (step_closes (Commit d) c ≡ true) × (step_commits (Commit d) c ≡ true) × (parent_of c ≡ a) × (before c ≡ Some n))
     pick false q x = inl x
     pick true q x = elim (lesser_cases (before a) (before d) n x) [
       | inl y ↦ inl y
@@ -68,7 +71,8 @@ after_cases (Commit d) a before own n e = pick (same_name (parent_of d) a) refl 
 after_cases _ a before own n e = inl e
 
 -- where a's dependency comes from, if a begins
-source_new : (setup : Setup) (e : Event) (past : List Event) (a : Name) (h n : ℕ) → IsRun setup (e ∷ past) → begins e a ≡ true → is_begun a (e ∷ past) ≡ true
+source_new : (setup : Setup) (e : Event) (past : List Event) (a : Name) (h n : ℕ) → IsRun setup (e ∷ past) → begins e a ≡ true
+    → is_begun a (e ∷ past) ≡ true
     → dependency a h (e ∷ past) ≡ Some n → IsSource a a h n (e ∷ past) ⊎ IsHeir e past a h n
 source_new setup e past a h n r q k d = elim (lesser_cases (inherited (is_top a) a (λ b. dependency b h past)) _ n (sym (dependency_next e past a h true q) ∙ d)) [
   | inl y ↦ inr (parent (is_top a) refl y)
@@ -90,14 +94,16 @@ source_new setup e past a h n r q k d = elim (lesser_cases (inherited (is_top a)
         }
 
 -- and if it was begun
-source_old : (setup : Setup) (e : Event) (past : List Event) (a : Name) (h n : ℕ) → IsRun setup (e ∷ past) → begins e a ≡ false → is_begun a past ≡ true
+source_old : (setup : Setup) (e : Event) (past : List Event) (a : Name) (h n : ℕ) → IsRun setup (e ∷ past) → begins e a ≡ false
+    → is_begun a past ≡ true
     → dependency a h (e ∷ past) ≡ Some n → IsHeir e past a h n
 source_old setup e past a h n r q k d = elim (after_cases e.step a (λ b. dependency b h past) _ n (sym (dependency_next e past a h false q) ∙ d)) [
   | inl y ↦ record { from = a; was_begun = k; had = y; tree = refl; visible = visible_self a (e ∷ past) }
   | inr y ↦ let (c, closes, commits, p, had) = y in child c (closes_facts setup e past c r closes).was_begun commits p had
 ]
   where
-    child : (c : Name) → is_begun c past ≡ true → step_commits e.step c ≡ true → parent_of c ≡ a → dependency c h past ≡ Some n → IsHeir e past a h n
+    child : (c : Name) → is_begun c past ≡ true → step_commits e.step c ≡ true → parent_of c ≡ a → dependency c h past ≡ Some n
+        → IsHeir e past a h n
     child c b commits p had = record {
       from = c;
       was_begun = b;
@@ -114,7 +120,8 @@ source_old setup e past a h n r q k d = elim (after_cases e.step a (λ b. depend
         up f (inl z) = inr (or_left _ _ (ap (λ x. step_commits e.step x) z ∙ commits))
         up f (inr z) = inl (sym (ap (λ x. is_ancestor f x) p) ∙ z)
 
-pub dependency_source : (setup : Setup) (past : List Event) (a : Name) (h n : ℕ) → IsRun setup past → is_begun a past ≡ true → dependency a h past ≡ Some n
+pub dependency_source : (setup : Setup) (past : List Event) (a : Name) (h n : ℕ) → IsRun setup past → is_begun a past ≡ true
+    → dependency a h past ≡ Some n
     → (b : Name) × IsSource a b h n past
 dependency_source setup [] a h n r k d = absurd (false≢true k)
 dependency_source setup (e ∷ past) a h n r k d = elim (cases (begins e a) refl) [

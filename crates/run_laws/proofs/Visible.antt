@@ -10,11 +10,13 @@ use Rattle.run_laws.proofs.Growth.{Follows, committed_stays}
 use Rattle.run_laws.proofs.Names.{all_ancestors_from, all_ancestors_use}
 
 -- visibility as a statement on each ancestor
-pub visible_use : (b a c : Name) (past : List Event) → is_visible b a past ≡ true → is_ancestor c b ≡ true → (is_ancestor c a ≡ true) ⊎ (is_committed c past ≡ true)
+pub visible_use : (b a c : Name) (past : List Event) → is_visible b a past ≡ true → is_ancestor c b ≡ true
+    → (is_ancestor c a ≡ true) ⊎ (is_committed c past ≡ true)
 visible_use b a c past h k =
     or_cases _ _ (all_ancestors_use (λ d. is_ancestor d a || is_committed d past) b c h k)
 
-pub visible_from : (b a : Name) (past : List Event) → ((c : Name) → is_ancestor c b ≡ true → (is_ancestor c a ≡ true) ⊎ (is_committed c past ≡ true)) → is_visible b a past ≡ true
+pub visible_from : (b a : Name) (past : List Event)
+    → ((c : Name) → is_ancestor c b ≡ true → (is_ancestor c a ≡ true) ⊎ (is_committed c past ≡ true)) → is_visible b a past ≡ true
 visible_from b a past h = all_ancestors_from (λ d. is_ancestor d a || is_committed d past) b (λ c k. join c (h c k))
   where
     join : (c : Name) → (is_ancestor c a ≡ true) ⊎ (is_committed c past ≡ true) → (is_ancestor c a || is_committed c past) ≡ true
@@ -36,6 +38,7 @@ visible_stays b a {past = past} {now = now} w h = visible_from b a now (λ f k. 
 pub visibility_carries_over : VisibilityCarriesOver
 visibility_carries_over a b c past h k = visible_from b a past (λ d l. step d l (visible_use b c d past k l))
   where
-    step : (d : Name) → is_ancestor d b ≡ true → (is_ancestor d c ≡ true) ⊎ (is_committed d past ≡ true) → (is_ancestor d a ≡ true) ⊎ (is_committed d past ≡ true)
+    step : (d : Name) → is_ancestor d b ≡ true → (is_ancestor d c ≡ true) ⊎ (is_committed d past ≡ true)
+        → (is_ancestor d a ≡ true) ⊎ (is_committed d past ≡ true)
     step d l (inr e) = inr e
     step d l (inl e) = visible_use c a d past h e
