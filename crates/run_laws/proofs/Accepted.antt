@@ -37,7 +37,8 @@ none_if_accepted (Some n) x h = absurd (false≢true h)
 
 refusal_of : (setup : Setup) (e : Event) (past : List Event) → IsRun setup (e ∷ past) → first_refusal (checks setup e.step past) ≡ None
 unfolding answer_of
-refusal_of setup e past r = none_if_accepted (first_refusal (checks setup e.step past)) (outcome setup e.step past) (sym (ap is_accepted r.0) ∙ r.1)
+refusal_of setup e past r =
+    none_if_accepted (first_refusal (checks setup e.step past)) (outcome setup e.step past) (sym (ap is_accepted r.0) ∙ r.1)
 
 -- no check applied
 pub checked : (setup : Setup) (e : Event) (past : List Event) → IsRun setup (e ∷ past) → AllFalse (checks setup e.step past)
@@ -59,8 +60,10 @@ pub closes_facts : (setup : Setup) (e : Event) (past : List Event) (a : Name) �
 closes_facts setup e past a r h = of e.step (checked setup e past r) h
   where
     of : (step : Step) → AllFalse (checks setup step past) → step_closes step a ≡ true → IsClosable a past
-    of (Commit b) f h = subst (λ c. IsClosable c past) (same_name_true b a h) (record { was_begun = not-false _ f.0; undone = f.1.0; idle = f.1.1.0 })
-    of (Close b) f h = subst (λ c. IsClosable c past) (same_name_true b a h) (record { was_begun = not-false _ f.0; undone = f.1.0; idle = f.1.1.0 })
+    of (Commit b) f h =
+        subst (λ c. IsClosable c past) (same_name_true b a h) (record { was_begun = not-false _ f.0; undone = f.1.0; idle = f.1.1.0 })
+    of (Close b) f h =
+        subst (λ c. IsClosable c past) (same_name_true b a h) (record { was_begun = not-false _ f.0; undone = f.1.0; idle = f.1.1.0 })
     of _ f h = absurd (false≢true h)
 
 -- what closes is a commit, or the close of a top action

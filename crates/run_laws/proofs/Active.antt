@@ -1,10 +1,11 @@
 -- Nothing is active below what has closed or ended, unless an ancestor aborted.
-use Rattle.std.proofs.Common.{Bool, List, [], ap, cond, false, inl, inr, not, refl, sym, true, ◌∙◌, ◌∷◌, ◌≡◌, ◌⊎◌}
+use Rattle.std.proofs.Common.{Bool, List, [], ap, cond, false, inl, inr, not, refl, sym, true, ◌||◌, ◌∙◌, ◌∷◌, ◌≡◌, ◌⊎◌}
 use Rattle.std.proofs.lemmas.Bool.{false_from_ne_true, false≢true, not-false, or_cases, or_left, or_parts, or_right}
 use Rattle.std.specs.List.{list_any}
 use Rattle.action_names.specs.Names.{Name, has_name, is_ancestor, is_top, parent_of}
 use Rattle.run_model.specs.declared.history.Event.{Event}
-use Rattle.run_model.specs.Actions.{is_aborted, is_begun, is_done, is_ended, made_by, names_begun, step_aborts, step_closes, step_commits, step_makes}
+use Rattle.run_model.specs.Actions.{begins, is_aborted, is_begun, is_done, is_ended, made_by, names_begun, step_aborts, step_closes, step_commits, step_makes}
+use Rattle.run_model.specs.Refusals.{ended}
 use Rattle.run_model.specs.Replay.{Setup}
 use Rattle.run_model.specs.Runs.{IsRun}
 use Rattle.run_laws.specs.Laws.{NothingActiveBelowDone}
@@ -17,16 +18,20 @@ use Rattle.run_laws.proofs.Names.{ancestor_named, ancestor_trans, clash, climb, 
 made_by_parent : (setup : Setup) (past : List Event) (c : Name) → IsRun setup past → is_begun c past ≡ true → is_top c ≡ false
     → has_name (made_by (parent_of c) past) c ≡ true
 made_by_parent setup [] c r h t = absurd (false≢true h)
-made_by_parent setup (e ∷ past) c r h t = has_name_append (now (step_makes e.step (parent_of c))) (made_by (parent_of c) past) c ∙ elim (begun_cases e past c h) [
-  | inr k ↦ or_right _ _ (made_by_parent setup past c r.2 k t)
-  | inl k ↦ elim (new_in_run setup e past c r k).made [
-    | inl m ↦ absurd (clash m t)
-    | inr m ↦ or_left _ _ (ap (λ s. has_name (now s) c) m ∙ k)
-  ]
-]
+made_by_parent setup (e ∷ past) c r h t =
+    has_name_append (now (step_makes e.step (parent_of c))) (made_by (parent_of c) past) c
+    ∙ cases (λ k. made_by_parent setup past c r.2 k t) (begun_cases e past c h)
   where
     now : Bool → List Name
     now makes = cond makes (names_begun e.answer) []
+
+    cases : (is_begun c past ≡ true → has_name (made_by (parent_of c) past) c ≡ true) → (begins e c ≡ true) ⊎ (is_begun c past ≡ true)
+        → (has_name (now (step_makes e.step (parent_of c))) c || has_name (made_by (parent_of c) past) c) ≡ true
+    cases ih (inr k) = or_right _ _ (ih k)
+    cases ih (inl k) = elim (new_in_run setup e past c r k).made [
+      | inl m ↦ absurd (clash m t)
+      | inr m ↦ or_left _ _ (ap (λ s. has_name (now s) c) m ∙ k)
+    ]
 
 -- what is not busy has made nothing that has not ended
 made_ended : (p : Name → Bool) (names : List Name) (c : Name) → list_any (λ b. not (p b)) names ≡ false → has_name names c ≡ true
@@ -62,7 +67,9 @@ parent_open setup (e ∷ past) c r b d t = elim (begun_cases e past c b) [
     -- the step closes no parent of an open child
     not_closing : is_begun c past ≡ true → step_closes e.step p ≡ true → ⊥
     not_closing k l =
-        let ended = made_ended (λ x. is_ended x past) (made_by p past) c (closes_facts setup e past p r l).idle (made_by_parent setup past c r.2 k t) in
+        let ended =
+        made_ended (λ x. is_ended x past) (made_by p past) c (closes_facts setup e past p r l).idle
+        (made_by_parent setup past c r.2 k t) in
         clash ended (not_ended c past (undone_before e past c d))
 
     stays : is_begun c past ≡ true → is_done p past ≡ false → (x y : Bool) → step_commits e.step p ≡ x → step_aborts e.step p ≡ y
@@ -91,7 +98,10 @@ nothing_active_below_done setup past d c r b u k h = elim (climb IsOpen up d c k
         let above = ancestor_trans (parent_of x) x c (parent_ancestor x t (ancestor_named x c o.0)) o.0 in (
           above,
           elim o.1 [
-            | inl y ↦ elim (parent_open setup past x r y.0 y.1 t) [ inl z ↦ inl (parent_begun setup past x r y.0 t, z) | inr z ↦ inr (parent_of x, above, z) ]
+            | inl y ↦ elim (parent_open setup past x r y.0 y.1 t) [
+              | inl z ↦ inl (parent_begun setup past x r y.0 t, z)
+              | inr z ↦ inr (parent_of x, above, z)
+            ]
             | inr y ↦ inr y
           ],
         )

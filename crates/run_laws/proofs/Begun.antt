@@ -10,10 +10,12 @@ use Rattle.run_model.specs.declared.step.Step.TheVariants.{Arms, Call, Crash, Ne
 use Rattle.run_model.specs.Actions.{begins, begun, is_begun, names_begun, next_number, step_crashes, step_makes}
 use Rattle.run_model.specs.Answers.{granted_or_waits, outcome}
 use Rattle.run_model.specs.Keeping.{blockers}
+use Rattle.run_model.specs.Places.{nothing}
 use Rattle.run_model.specs.Refusals.{arm_names}
 use Rattle.run_model.specs.Replay.{Setup}
 use Rattle.run_model.specs.Runs.{IsRun}
 use Rattle.run_model.specs.Votes.{may_prepare}
+use Rattle.run_laws.specs.NoRuns.{first}
 use Rattle.run_laws.proofs.Accepted.{answered, makes_facts}
 use Rattle.run_laws.proofs.Growth.{begun_stays, here, later}
 use Rattle.run_laws.proofs.Names.{clash, climb, has_name_append, last_child, parent_child, same_name_self, same_name_true}
@@ -114,7 +116,8 @@ new_top : (setup : Setup) (step : Step) (past : List Event) (c : Name) → (next
 new_top setup step past c e =
     let n = next_number [] past in
     let more = children_more [] (n ∷ []) [] refl in
-    subst (λ b. IsNew setup step past ((n ∷ []) ∷ []) b) e (new_under setup step past ((n ∷ []) ∷ []) (n ∷ []) [] refl (omega arith) (omega (arith, more)) (inl refl))
+    subst (λ b. IsNew setup step past ((n ∷ []) ∷ []) b) e
+    (new_under setup step past ((n ∷ []) ∷ []) (n ∷ []) [] refl (omega arith) (omega (arith, more)) (inl refl))
 
 new_child : (setup : Setup) (a : Name) (g : ℕ) (past : List Event) (c : Name) → child_of a (next_number a past) ≡ c
     → IsNew setup (Call a g) past (child_of a (next_number a past) ∷ []) c
@@ -122,8 +125,9 @@ new_child setup a g past c e =
     let b = child_of a (next_number a past) in
     let more = children_more a b [] (parent_child a (next_number a past)) in
     let l = last_child a (next_number a past) in
+    let under = parent_child a (next_number a past) in
     subst (λ d. IsNew setup (Call a g) past (b ∷ []) d) e
-    (new_under setup (Call a g) past (b ∷ []) b a (parent_child a (next_number a past)) (omega arith) (omega (arith, more)) (inr (same_name_self a)))
+    (new_under setup (Call a g) past (b ∷ []) b a under (omega arith) (omega (arith, more)) (inr (same_name_self a)))
 
 new_arm : (setup : Setup) (a : Name) (kinds : List ArmKind) (past : List Event) (names : List Name) (c : Name)
     → IsArm a (next_number a past) (next_number [] past) names c → IsNew setup (Arms a kinds) past names c
@@ -136,7 +140,8 @@ begins_new setup (Top g) past c h = new_top setup (Top g) past c (only (next_num
 begins_new setup (NestedTop a) past c h = new_top setup (NestedTop a) past c (only (next_number [] past ∷ []) c h)
 begins_new setup (Call a g) past c h = new_child setup a g past c (only (child_of a (next_number a past)) c h)
 begins_new setup (Arms a kinds) past c h =
-    new_arm setup a kinds past (arm_names a (next_number a past) (next_number [] past) kinds) c (arms_are a (next_number a past) (next_number [] past) kinds c h)
+    new_arm setup a kinds past (arm_names a (next_number a past) (next_number [] past) kinds) c
+    (arms_are a (next_number a past) (next_number [] past) kinds c h)
 begins_new setup (Op a x wanted) past c h = absurd (clash h (none (blockers a x wanted past)))
   where
     none : (bs : List Name) → has_name (names_begun (granted_or_waits setup x wanted past bs)) c ≡ false
@@ -176,7 +181,8 @@ number_used setup (e ∷ past) c r h = elim (begun_cases e past c h) [
 -- no action is begun twice
 pub begun_once : (setup : Setup) (e : Event) (past : List Event) (c : Name) → IsRun setup (e ∷ past) → is_begun c past ≡ true
     → begins e c ≡ false
-begun_once setup e past c r h = false_from_ne_true _ (λ k. omega (arith, (new_in_run setup e past c r k).low, number_used setup past c r.2 h))
+begun_once setup e past c r h =
+    false_from_ne_true _ (λ k. omega (arith, (new_in_run setup e past c r k).low, number_used setup past c r.2 h))
 
 -- a crash begins nothing
 pub begins_no_crash : (setup : Setup) (e : Event) (past : List Event) (c : Name) (g : ℕ) → IsRun setup (e ∷ past) → begins e c ≡ true

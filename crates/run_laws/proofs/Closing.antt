@@ -31,7 +31,8 @@ closing_of (e ∷ past) c h = decide (step_closes e.step c) refl (λ k. closing_
     decide : (t : Bool) → step_closes e.step c ≡ t → (is_closed c past ≡ true → Before (closing_step c past) (suc (length past)))
         → Before (closing_step c (e ∷ past)) (suc (suc (length past)))
     decide true q ih = (suc (length past), closing_next c e past true q, omega arith)
-    decide false q ih = let (k, s, l) = ih (sym (ap (λ t. t || is_closed c past) q) ∙ h) in (k, closing_next c e past false q ∙ s, omega arith)
+    decide false q ih =
+        let (k, s, l) = ih (sym (ap (λ t. t || is_closed c past) q) ∙ h) in (k, closing_next c e past false q ∙ s, omega arith)
 
 -- an action closes once
 pub closing_stays : (setup : Setup) (c : Name) {past now : List Event} → Follows past now → IsRun setup now → is_closed c past ≡ true

@@ -68,8 +68,10 @@ own_here : (g n : ℕ) → own_entry g g n ≡ Some n
 own_here g n = ap (λ t. cond t (Some n) None) (eqb_self g)
 
 pub dependency_next : (e : Event) (past : List Event) (a : Name) (g : ℕ) (t : Bool) → begins e a ≡ t
-    → dependency a g (e ∷ past) ≡ dependency_after t e.step a (λ b. dependency b g past) (own_entry (home_of a (e ∷ past)) g (crashes g past))
-dependency_next e past a g t h = ap (λ u. dependency_after u e.step a (λ b. dependency b g past) (own_entry (home_of a (e ∷ past)) g (crashes g past))) h
+    → dependency a g (e ∷ past)
+    ≡ dependency_after t e.step a (λ b. dependency b g past) (own_entry (home_of a (e ∷ past)) g (crashes g past))
+dependency_next e past a g t h =
+    ap (λ u. dependency_after u e.step a (λ b. dependency b g past) (own_entry (home_of a (e ∷ past)) g (crashes g past))) h
 
 -- the step that begins b gives it its own home
 own_depends : (e : Event) (past : List Event) (b : Name) → begins e b ≡ true
@@ -98,7 +100,9 @@ merged_dependency e past a f g n k c cl p d =
     let (m, q, l) = lesser_right (dependency a g past) d.least in
     record {
       least = m;
-      is_least = dependency_next e past a g false k ∙ merges e.step f a (λ b. dependency b g past) _ c cl p ∙ ap (λ x. lesser (dependency a g past) x) d.is_least ∙ q;
+      is_least =
+          dependency_next e past a g false k ∙ merges e.step f a (λ b. dependency b g past) _ c cl p
+          ∙ ap (λ x. lesser (dependency a g past) x) d.is_least ∙ q;
       bound = le_trans l d.bound;
     }
 
@@ -145,16 +149,18 @@ child_commits setup e past c b f r k v fb commits apart = record {
 
     -- the parent of f, below c, would have committed before f
     between : is_ancestor (parent_of f) c ≡ false → ⊥
-    between y = elim (visible_use b c (parent_of f) (e ∷ past) v (ancestor_trans (parent_of f) f b (parent_ancestor f closing.1 named) fb)) [
-      | inl z ↦ clash z y
-      | inr z ↦ elim (or_cases _ _ z) [
-        | inl u ↦ parent_differs f named (commits_one e.step f (parent_of f) commits u)
-        | inr u ↦ elim (parent_open setup past f r.2 open_f.was_begun open_f.undone closing.1) [
-          | inl w ↦ clash u (or_parts _ _ (not_ended (parent_of f) past w)).0
-          | inr w ↦ not_both setup past (parent_of f) r.2 u w
+    between y =
+        let below = ancestor_trans (parent_of f) f b (parent_ancestor f closing.1 named) fb in
+        elim (visible_use b c (parent_of f) (e ∷ past) v below) [
+          | inl z ↦ clash z y
+          | inr z ↦ elim (or_cases _ _ z) [
+            | inl u ↦ parent_differs f named (commits_one e.step f (parent_of f) commits u)
+            | inr u ↦ elim (parent_open setup past f r.2 open_f.was_begun open_f.undone closing.1) [
+              | inl w ↦ clash u (or_parts _ _ (not_ended (parent_of f) past w)).0
+              | inr w ↦ not_both setup past (parent_of f) r.2 u w
+            ]
+          ]
         ]
-      ]
-    ]
 
     sees : (g : Name) → (is_ancestor g c ≡ true) ⊎ (is_committed g (e ∷ past) ≡ true)
         → (is_ancestor g f ≡ true) ⊎ (is_committed g past ≡ true)
@@ -168,10 +174,12 @@ child_commits setup e past c b f r k v fb commits apart = record {
 visible_cases : (setup : Setup) (e : Event) (past : List Event) (c b : Name) → IsRun setup (e ∷ past) → is_ancestor c b ≡ true
     → is_visible b c (e ∷ past) ≡ true
     → (is_visible b c past ≡ true) ⊎ CommitsChild e past c b
-visible_cases setup e past c b r k v = decide (list_any (λ f. step_commits e.step f && not (is_ancestor f c)) (ancestors b)) refl
+visible_cases setup e past c b r k v = decide (list_any p (ancestors b)) refl
   where
-    same : (f : Name) → (step_commits e.step f && not (is_ancestor f c)) ≡ false
-        → (is_ancestor f c ≡ true) ⊎ (is_committed f (e ∷ past) ≡ true)
+    p : Name → Bool
+    p f = step_commits e.step f && not (is_ancestor f c)
+
+    same : (f : Name) → p f ≡ false → (is_ancestor f c ≡ true) ⊎ (is_committed f (e ∷ past) ≡ true)
         → (is_ancestor f c ≡ true) ⊎ (is_committed f past ≡ true)
     same f n (inl y) = inl y
     same f n (inr y) = elim (or_cases _ _ y) [
@@ -179,13 +187,12 @@ visible_cases setup e past c b r k v = decide (list_any (λ f. step_commits e.st
       | inl z ↦ inl (not-false _ (ap (λ t. t && not (is_ancestor f c)) (sym z) ∙ n))
     ]
 
-    decide : (t : Bool) → list_any (λ f. step_commits e.step f && not (is_ancestor f c)) (ancestors b) ≡ t
-        → (is_visible b c past ≡ true) ⊎ CommitsChild e past c b
-    decide false h =
-        inl (visible_from b c past (λ f l. same f (no_ancestor_use (λ g. step_commits e.step g && not (is_ancestor g c)) b f h l) (visible_use b c f (e ∷ past) v l)))
+    decide : (t : Bool) → list_any p (ancestors b) ≡ t → (is_visible b c past ≡ true) ⊎ CommitsChild e past c b
+    decide false h = inl (visible_from b c past (λ f l. same f (no_ancestor_use p b f h l) (visible_use b c f (e ∷ past) v l)))
     decide true h =
-        let (f, l, q) = any_ancestor_use (λ g. step_commits e.step g && not (is_ancestor g c)) b h in
-        inr (child_commits setup e past c b f r k v l (and_parts _ _ q).0 (not-true _ (and_parts _ _ q).1))
+        let (f, l, q) = any_ancestor_use p b h in
+        let m = and_parts (step_commits e.step f) _ q in
+        inr (child_commits setup e past c b f r k v l m.0 (not-true _ m.1))
 
 -- c depends on the home of what is visible under it, from an incarnation that is no later
 pub depends_on_visible : (setup : Setup) (past : List Event) (c b : Name) → IsRun setup past → is_begun b past ≡ true
@@ -210,4 +217,8 @@ depends_on_visible setup (e ∷ past) c b r h k v = elim (begun_cases e past b h
     -- what begins now is not visible to an action above it
     fresh : begins e b ≡ true → is_ancestor c (parent_of b) ≡ true → (is_ancestor b c ≡ true) ⊎ (is_committed b (e ∷ past) ≡ true) → ⊥
     fresh new q (inl l) = not_above_parent b (ancestor_trans b c (parent_of b) l q)
-    fresh new q (inr l) = clash new (begun_once setup e past b r (elim (or_cases _ _ l) [ inl m ↦ commits_begun setup e past b r m | inr m ↦ committed_begun setup past b r.2 m ]))
+    fresh new q (inr l) = clash new (begun_once setup e past b r (known (or_cases _ _ l)))
+      where
+        known : (step_commits e.step b ≡ true) ⊎ (is_committed b past ≡ true) → is_begun b past ≡ true
+        known (inl m) = commits_begun setup e past b r m
+        known (inr m) = committed_begun setup past b r.2 m

@@ -46,11 +46,14 @@ commits_begun setup e past c r h = elim (commits_facts setup e past c r h) [
 pub committed_begun : (setup : Setup) (past : List Event) (c : Name) → IsRun setup past → is_committed c past ≡ true
     → is_begun c past ≡ true
 committed_begun setup [] c r h = absurd (false≢true h)
-committed_begun setup (e ∷ past) c r h = begun_more e past c (elim (or_cases _ _ h) [ inl k ↦ commits_begun setup e past c r k | inr k ↦ committed_begun setup past c r.2 k ])
+committed_begun setup (e ∷ past) c r h =
+    begun_more e past c (elim (or_cases _ _ h) [ inl k ↦ commits_begun setup e past c r k | inr k ↦ committed_begun setup past c r.2 k ])
 
 pub closed_begun : (setup : Setup) (past : List Event) (c : Name) → IsRun setup past → is_closed c past ≡ true → is_begun c past ≡ true
 closed_begun setup [] c r h = absurd (false≢true h)
-closed_begun setup (e ∷ past) c r h = begun_more e past c (elim (or_cases _ _ h) [ inl k ↦ (closes_facts setup e past c r k).was_begun | inr k ↦ closed_begun setup past c r.2 k ])
+closed_begun setup (e ∷ past) c r h =
+    begun_more e past c
+    (elim (or_cases _ _ h) [ inl k ↦ (closes_facts setup e past c r k).was_begun | inr k ↦ closed_begun setup past c r.2 k ])
 
 -- a step that commits c meets it unended
 commits_unended : (setup : Setup) (e : Event) (past : List Event) (c : Name) → IsRun setup (e ∷ past) → step_commits e.step c ≡ true

@@ -10,6 +10,7 @@ use Rattle.run_model.specs.Keeping.{Performed, same_object}
 use Rattle.run_model.specs.Places.{Exchanges, collide, exchange, following, keeping, nothing}
 use Rattle.run_model.specs.Replay.{Store, store_after, updated}
 use Rattle.run_laws.specs.Laws.{ExchangesLeaveContents, ExchangesLeaveReplies}
+use Rattle.run_laws.specs.NoRuns.{first, second}
 use Rattle.run_laws.proofs.Names.{clash, eqb_self}
 use Rattle.atomic_types.specs.declared.op.Op as op
 
@@ -100,7 +101,8 @@ exchanges_leave_replies s _ _ (exchange o p os n) h =
     let second = f.second in
     let left = f.left in
     cc
-exchanges_leave_replies s _ _ (following {os = os} {ps = ps} {qs = qs} e f) h = exchanges_leave_replies s ps qs f (exchanges_leave_replies s os ps e h)
+exchanges_leave_replies s _ _ (following {os = os} {ps = ps} {qs = qs} e f) h =
+    exchanges_leave_replies s ps qs f (exchanges_leave_replies s os ps e h)
 
 -- the store that is left, as a whole
 same_store : {os ps : List Performed} → Exchanges os ps → (s : Store) → store_after s os ≡ store_after s ps

@@ -1,5 +1,5 @@
 -- Granted operations: what the grant says of the history before it, and facts of each operation of a history.
-use Rattle.std.proofs.Common.{List, [], ap, arith, eqb-true, false, inl, inr, length, refl, subst, suc, sym, true, ℕ, ◌++◌, ◌∙◌, ◌∷◌, ◌≡◌, ◌≤◌, ◌⊎◌}
+use Rattle.std.proofs.Common.{List, [], ap, arith, eqb-true, false, filter, inl, inr, length, refl, subst, suc, sym, true, ℕ, ◌++◌, ◌∙◌, ◌∷◌, ◌≡◌, ◌≤◌, ◌⊎◌}
 use Rattle.std.proofs.lemmas.Bool.{not-false}
 use Rattle.action_names.specs.Names.{Name}
 use Rattle.atomic_types.specs.Objects.{reply_of}
@@ -16,6 +16,7 @@ use Rattle.run_model.specs.Keeping.{Performed, blockers, kept_on, performed, per
 use Rattle.run_model.specs.Refusals.{checks}
 use Rattle.run_model.specs.Replay.{Setup, left_of, opening}
 use Rattle.run_model.specs.Runs.{IsRun}
+use Rattle.run_model.specs.Visibility.{is_visible}
 use Rattle.run_laws.specs.Laws.{Grants}
 use Rattle.run_laws.proofs.Accepted.{AllFalse, answered, checked}
 use Rattle.run_laws.proofs.Each.{Each}
@@ -50,7 +51,8 @@ pub record IsGranted (setup : Setup) (c : Name) (x : ObjectId) (wanted : op.Op) 
 granted_free : (setup : Setup) (x : ObjectId) (wanted : op.Op) (past : List Event) (bs : List Name) (r : Reply)
     → granted_or_waits setup x wanted past bs ≡ Granted r
     → (bs ≡ []) × (r ≡ reply_of (left_of (opening setup x) (kept_on x past)) wanted)
-granted_free setup x wanted past [] r h = let e : Granted (reply_of (left_of (opening setup x) (kept_on x past)) wanted) ≡ Granted r = h in (refl, cc)
+granted_free setup x wanted past [] r h =
+    let e : Granted (reply_of (left_of (opening setup x) (kept_on x past)) wanted) ≡ Granted r = h in (refl, cc)
 granted_free setup x wanted past (b ∷ bs) r h = absurd (let e : Waits (b ∷ bs) ≡ Granted r = h in cc)
 
 granted_facts : (setup : Setup) (c : Name) (x : ObjectId) (wanted : op.Op) (r : Reply) (past : List Event)
@@ -80,9 +82,14 @@ pub grant_cases : (e : Event) (past : List Event)
 grant_cases e past = cases (suc (length past)) e.step e.answer
   where
     cases : (n : ℕ) (step : Step) (answer : Answer) → (performed_by n step answer ++ performed past ≡ performed past)
-        ⊎ ((o : Performed) × (performed_by n step answer ++ performed past ≡ o ∷ performed past) × ((o.number ≡ n) × (performed_by o.number step answer ≡ o ∷ [])))
+        ⊎ ((o : Performed) × (performed_by n step answer ++ performed past ≡ o ∷ performed past)
+        × ((o.number ≡ n) × (performed_by o.number step answer ≡ o ∷ [])))
     cases n (Op a x o) (Granted r) = inr (record { number = n; action = a; object = x; operation = o; reply = r }, refl, (refl, refl))
     cases n _ _ = inl refl
+
+-- of these operations those that are visible to a at the end
+abbrev pub seen_by : Name → List Event → List Performed → List Performed
+seen_by a end os = filter (λ o. is_visible o.action a end) os
 
 -- what holds of each operation at its grant holds of all
 pub each_performed : (now : List Event) (P : Performed → Type 0)

@@ -61,7 +61,8 @@ followed [] before = here
 followed (e ∷ later') before = later e (followed later' before)
 
 pub follows_from : {e : Event} {before past : List Event} → Came e before past → Follows (e ∷ before) past
-follows_from {e = e} {before = before} c = let P : List Event → Type 0 = λ h. Follows (e ∷ before) h in subst P (sym c.1) (followed c.0 (e ∷ before))
+follows_from {e = e} {before = before} c =
+    let P : List Event → Type 0 = λ h. Follows (e ∷ before) h in subst P (sym c.1) (followed c.0 (e ∷ before))
 
 pub came_from : {e : Event} {before past : List Event} → Follows (e ∷ before) past → Came e before past
 came_from here = ([], refl)

@@ -20,13 +20,15 @@ home_more setup e past a r h = ap (λ t. cond t (home_in e.step (λ b. home_of b
 
 pub incarnation_more : (setup : Setup) (e : Event) (past : List Event) (a : Name) → IsRun setup (e ∷ past) → is_begun a past ≡ true
     → incarnation_of a (e ∷ past) ≡ incarnation_of a past
-incarnation_more setup e past a r h = ap (λ t. cond t (crashes (home_of a (e ∷ past)) past) (incarnation_of a past)) (begun_once setup e past a r h)
+incarnation_more setup e past a r h =
+    ap (λ t. cond t (crashes (home_of a (e ∷ past)) past) (incarnation_of a past)) (begun_once setup e past a r h)
 
 -- so what holds of both holds after a step
 pub as_before : (setup : Setup) (e : Event) (past : List Event) (a : Name) → IsRun setup (e ∷ past) → is_begun a past ≡ true
     → (P : ℕ → ℕ → Type 0) → P (home_of a past) (incarnation_of a past) → P (home_of a (e ∷ past)) (incarnation_of a (e ∷ past))
 as_before setup e past a r h P p =
-    subst (λ n. P (home_of a (e ∷ past)) n) (sym (incarnation_more setup e past a r h)) (subst (λ g. P g (incarnation_of a past)) (sym (home_more setup e past a r h)) p)
+    subst (λ n. P (home_of a (e ∷ past)) n) (sym (incarnation_more setup e past a r h))
+    (subst (λ g. P g (incarnation_of a past)) (sym (home_more setup e past a r h)) p)
 
 -- it begins at its home's present incarnation
 pub incarnation_new : (e : Event) (past : List Event) (a : Name) → begins e a ≡ true
@@ -41,8 +43,10 @@ home_stays setup a (later {now = now} e w) r h = home_more setup e now a r (begu
 -- an event adds one crash or none
 pub crashes_next : (e : Event) (past : List Event) (g : ℕ) (t : Bool) → step_crashes e.step g ≡ t
     → crashes g (e ∷ past) ≡ cond t (suc (crashes g past)) (crashes g past)
-crashes_next e past g true h = ap (λ t. length (cond t (e ∷ filter (λ x. step_crashes x.step g) past) (filter (λ x. step_crashes x.step g) past))) h
-crashes_next e past g false h = ap (λ t. length (cond t (e ∷ filter (λ x. step_crashes x.step g) past) (filter (λ x. step_crashes x.step g) past))) h
+crashes_next e past g true h =
+    ap (λ t. length (cond t (e ∷ filter (λ x. step_crashes x.step g) past) (filter (λ x. step_crashes x.step g) past))) h
+crashes_next e past g false h =
+    ap (λ t. length (cond t (e ∷ filter (λ x. step_crashes x.step g) past) (filter (λ x. step_crashes x.step g) past))) h
 
 pub crashes_more : (e : Event) (past : List Event) (g : ℕ) → crashes g past ≤ crashes g (e ∷ past)
 crashes_more e past g = step (step_crashes e.step g) (crashes g (e ∷ past)) (crashes_next e past g (step_crashes e.step g) refl)
@@ -56,8 +60,12 @@ incarnation_bound : (setup : Setup) (past : List Event) (b : Name) → IsRun set
     → incarnation_of b past ≤ crashes (home_of b past) past
 incarnation_bound setup [] b r h = absurd (false≢true h)
 incarnation_bound setup (e ∷ past) b r h = elim (begun_cases e past b h) [
-  | inl k ↦ subst (λ n. n ≤ crashes (home_of b (e ∷ past)) (e ∷ past)) (sym (incarnation_new e past b k)) (crashes_more e past (home_of b (e ∷ past)))
-  | inr k ↦ as_before setup e past b r k (λ g n. n ≤ crashes g (e ∷ past)) (le_trans (incarnation_bound setup past b r.2 k) (crashes_more e past (home_of b past)))
+  | inl k ↦
+      subst (λ n. n ≤ crashes (home_of b (e ∷ past)) (e ∷ past)) (sym (incarnation_new e past b k))
+      (crashes_more e past (home_of b (e ∷ past)))
+  | inr k ↦
+      as_before setup e past b r k (λ g n. n ≤ crashes g (e ∷ past))
+      (le_trans (incarnation_bound setup past b r.2 k) (crashes_more e past (home_of b past)))
 ]
 
 -- a lost action began before its home last crashed
@@ -90,7 +98,9 @@ lost_facts setup (e ∷ past) b r h = elim (or_cases _ _ h) [
       let p = and_parts _ _ k in
       let c = (and_parts _ _ p.1).0 in
       let bound = incarnation_bound setup past b r.2 p.0 in
-      let older = subst (λ n. incarnation_of b past < n) (sym (crashes_next e past (home_of b past) true c)) (more (incarnation_of b past) (crashes (home_of b past) past) bound) in
+      let older =
+      subst (λ n. incarnation_of b past < n) (sym (crashes_next e past (home_of b past) true c))
+      (more (incarnation_of b past) (crashes (home_of b past) past) bound) in
       build p.0 older (crash_facts setup e past (home_of b past) r c)
 ]
   where

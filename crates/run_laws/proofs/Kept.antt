@@ -4,8 +4,9 @@ use Rattle.std.proofs.lemmas.Bool.{and_from, and_left, and_parts, and_right, fal
 use Rattle.action_names.specs.Names.{Name, is_ancestor, same_name, top_of}
 use Rattle.atomic_types.specs.Operations.{is_read}
 use Rattle.run_model.specs.declared.history.Event.{Event}
-use Rattle.run_model.specs.Actions.{begun, home_of, is_aborted, is_begun, is_closed, is_committed, step_crashes}
+use Rattle.run_model.specs.Actions.{begun, crashes, home_of, is_aborted, is_begun, is_closed, is_committed, step_crashes}
 use Rattle.run_model.specs.Keeping.{Performed, is_kept, outlives_crash, prepared_after, undoes}
+use Rattle.run_model.specs.Refusals.{gone}
 use Rattle.run_model.specs.Replay.{Setup}
 use Rattle.run_model.specs.Runs.{IsRun}
 use Rattle.run_model.specs.Telling.{tells}
@@ -47,7 +48,9 @@ never_lost setup now a b r h n v l = decide (same_name (top_of b) (top_of a)) re
         -- b is of another tree, of which nothing is above a
         committed : (f : Name) → is_ancestor f b ≡ true → is_committed f now ≡ true
         committed f k = elim (visible_use b a f now v k) [
-          | inl m ↦ absurd (clash (ap (λ z. same_name z (top_of a)) (sym (top_of_ancestor f b k) ∙ top_of_ancestor f a m) ∙ same_name_self (top_of a)) e)
+          | inl m ↦
+              let one_tree = sym (top_of_ancestor f b k) ∙ top_of_ancestor f a m in
+              absurd (clash (ap (λ z. same_name z (top_of a)) one_tree ∙ same_name_self (top_of a)) e)
           | inr m ↦ m
         ]
 
@@ -69,7 +72,8 @@ prepared_when o e past g t p here h = elim (or_cases _ _ h) [
   | inr k ↦ inl k
 ]
 prepared_when o e past g t p (later {now = now} k w) h = elim (or_cases _ _ h) [
-  | inl v ↦ inr (or_right _ _ (and_from _ _ (lt-ltb o.number (suc (length now)) (le_suc o.number (length now) (granted_before o e past p w))) v))
+  | inl v ↦
+      inr (or_right _ _ (and_from _ _ (lt-ltb o.number (suc (length now)) (le_suc o.number (length now) (granted_before o e past p w))) v))
   | inr v ↦ elim (prepared_when o e past g t p w v) [ inl x ↦ inl x | inr x ↦ inr (or_left _ _ x) ]
 ]
   where
@@ -86,7 +90,8 @@ open_above setup o e past a {end = end} p w r n s d k = false_from_ne_true _ (λ
     let (f, l, x) = nothing_active_below_done setup past d o.action run.2 given.was_begun given.undone k (or_right _ _ h) in
     never_aborted setup end a o.action f r n s l (aborted_stays f (earlier w) x))
 
--- what undoes an operation that stays visible to an action that is no orphan is a crash, and the operation a read whose top action had closed
+-- What undoes an operation that stays visible to an action that is no orphan is a crash, and the operation is a read whose top
+-- action had closed.
 undone_facts : (setup : Setup) (o : Performed) (e : Event) (past : List Event) (a : Name) (k : Event) {mid end : List Event}
     → Grants o e past → Follows (e ∷ past) mid
     → Follows (k ∷ mid) end → IsRun setup end → is_orphan a end ≡ false → is_visible o.action a end ≡ true → undoes k mid o ≡ true
@@ -123,7 +128,8 @@ undone_facts setup o e past a k {mid = mid} {end = end} p w v r n s u = elim (or
         let home = home_stays setup b (earlier w) run given.was_begun ∙ given.home in
         let crash : step_crashes k.step (home_of b mid) ≡ true = ap (λ h. step_crashes k.step h) home ∙ c in
         let unprepared : not (has_prepared (home_of b mid) t mid) ≡ true = ap (λ h. not (has_prepared h t mid)) home ∙ ap not x in
-        never_lost setup end a b r (begun_stays b (earlier v) known) n s (lost_stays b v (or_right _ _ (and_from _ _ known (and_from _ _ crash unprepared))))
+        never_lost setup end a b r (begun_stays b (earlier v) known) n s
+        (lost_stays b v (or_right _ _ (and_from _ _ known (and_from _ _ crash unprepared))))
 
     crashed : step_crashes k.step g ≡ true → outlives_crash o mid ≡ false → (x : Bool) → has_prepared g t mid ≡ x → (y : Bool)
         → is_read o.operation ≡ y
@@ -164,7 +170,15 @@ kept_or_dropped setup o e past a p (later {now = now} k w) v r n s = elim (kept_
 ]
   where
     still : IsDropped o now → IsDropped o (k ∷ now)
-    still d = record { crash = d.crash; before = d.before; came = later k d.came; crashes = d.crashes; kept = d.kept; dropped = d.dropped; closed = d.closed }
+    still d = record {
+      crash = d.crash;
+      before = d.before;
+      came = later k d.came;
+      crashes = d.crashes;
+      kept = d.kept;
+      dropped = d.dropped;
+      closed = d.closed;
+    }
 
     next : is_kept o (k ∷ now) ≡ (is_kept o now && not (undoes k now o))
     next = kept_next o k now (granted_before o e past p w)

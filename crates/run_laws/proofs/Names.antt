@@ -198,7 +198,8 @@ pub top_above : (f c b : Name) → is_top f ≡ true → is_ancestor f b ≡ tru
 top_above [] c b t h k = absurd (false≢true h)
 top_above (x ∷ []) [] b t h k = absurd (false≢true k)
 top_above (x ∷ []) (y ∷ c) [] t h k = absurd (false≢true k)
-top_above (x ∷ []) (y ∷ c) (z ∷ b) t h k = and_from _ _ (eq-eqb x y (eqb-true x z (and_parts _ _ h).0 ∙ sym (eqb-true y z (and_parts _ _ k).0))) refl
+top_above (x ∷ []) (y ∷ c) (z ∷ b) t h k =
+    and_from _ _ (eq-eqb x y (eqb-true x z (and_parts _ _ h).0 ∙ sym (eqb-true y z (and_parts _ _ k).0))) refl
 top_above (x ∷ y ∷ f) c b t h k = absurd (false≢true t)
 
 pub top_facts : (b : Name) → (b ≡ [] → ⊥) → (is_top (top_of b) ≡ true) × (is_ancestor (top_of b) b ≡ true)

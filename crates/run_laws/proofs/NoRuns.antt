@@ -34,7 +34,25 @@ write_dropped_fails = (
 pub vote_after_crash_fails : VoteAfterCrash
 unfolding answer_of
 vote_after_crash_fails = (
-  (λ w. refl, (λ w. refl, (λ w. refl, (λ w. absurd (true≢false w), (λ w. refl, (λ w. refl, (λ w. refl, (λ w. refl, (λ w. refl, (λ w. refl, (λ w. refl, (λ w. refl, tt)))))))))))),
+  (
+    λ w. refl,
+    (
+      λ w. refl,
+      (
+        λ w. refl,
+        (
+          λ w. absurd (true≢false w),
+          (
+            λ w. refl,
+            (
+              λ w. refl,
+              (λ w. refl, (λ w. refl, (λ w. refl, (λ w. refl, (λ w. refl, (λ w. refl, tt)))))),
+            ),
+          ),
+        ),
+      ),
+    ),
+  ),
   λ r. let e : VoteYes ≡ VoteNo = r.2.2.2.0 in cc,
   refl,
   refl,

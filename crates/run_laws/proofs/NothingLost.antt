@@ -95,7 +95,9 @@ lost_unprepared setup b t (e ∷ past) w r all q k l p = elim (or_cases _ _ l) [
     voted lost vote =
         let visible = settled_visible setup t b (earlier w) r all vote.top vote.closed k lost.was_begun in
         let d = depends_on_visible setup past t b run.2 lost.was_begun k visible in
-        let same = eqb-true d.least (crashes (home_of b past) past) (ap (λ x. is_number x (crashes (home_of b past) past)) (sym d.is_least) ∙ vote.present) in
+        let same =
+        eqb-true d.least (crashes (home_of b past) past)
+        (ap (λ x. is_number x (crashes (home_of b past) past)) (sym d.is_least) ∙ vote.present) in
         late d.least (incarnation_of b past) (crashes (home_of b past) past) same lost.older d.bound
       where
         late : (m i c : ℕ) → m ≡ c → i < c → m ≤ i → ⊥
@@ -138,7 +140,11 @@ nothing_lost_under_committed setup now t b r p c k v = false_from_ne_true _ neve
         let depends = depends_on_visible setup past t b (run_before setup w r) begun_then k visible_then in
         let home : home_of b now ≡ home_of b past = home_stays setup b w r begun_then in
         let there = subst (λ g. (0 < g) × (g ≤ length setup)) home lost.there in
-        let ready = each_guardian (λ g. is_none (dependency t g past) || has_prepared g t past) (length setup) (home_of b past) d.ready there.0 there.1 in
-        let prepared : has_prepared (home_of b past) t past ≡ true = ap (λ o. is_none o || has_prepared (home_of b past) t past) (sym depends.is_least) ∙ ready in
+        let ready =
+        each_guardian (λ g. is_none (dependency t g past) || has_prepared g t past) (length setup)
+        (home_of b past) d.ready there.0 there.1 in
+        let prepared : has_prepared (home_of b past) t past ≡ true =
+        ap (λ o. is_none o || has_prepared (home_of b past) t past) (sym depends.is_least) ∙ ready in
         let stays : has_prepared (home_of b past) t now ≡ true = any_stays (λ e. votes_yes e.step e.answer (home_of b past) t) w prepared in
-        lost_unprepared setup b t now here r all (sym (top_of_ancestor t b k) ∙ top_is_own t p) k l (ap (λ g. has_prepared g t now) home ∙ stays)
+        lost_unprepared setup b t now here r all (sym (top_of_ancestor t b k) ∙ top_is_own t p) k l
+        (ap (λ g. has_prepared g t now) home ∙ stays)

@@ -1,5 +1,5 @@
 -- Conflicting operations stand by place as they stood by grant; so exchanges lead from the one order to the other.
-use Rattle.std.proofs.Common.{Bool, List, Option, [], ap, arith, cond, false, filter, inl, inr, refl, reverse, subst, sym, true, ℕ, ◌<◌, ◌||◌, ◌∙◌, ◌∷◌, ◌≡◌}
+use Rattle.std.proofs.Common.{Bool, List, Option, [], ap, arith, cond, false, inl, inr, refl, reverse, subst, sym, true, ℕ, ◌<◌, ◌||◌, ◌∙◌, ◌∷◌, ◌≡◌}
 use Rattle.std.proofs.lemmas.Bool.{and_from, and_parts}
 use Rattle.std.proofs.lemmas.List.{reverse-append}
 use Rattle.action_names.specs.Names.{Name, is_ancestor, top_of}
@@ -15,7 +15,7 @@ use Rattle.run_laws.proofs.Begun.{nameless}
 use Rattle.run_laws.proofs.Closing.{After, Before, closing_after, closing_of, closing_stays}
 use Rattle.run_laws.proofs.Each.{each_filter, each_reverse}
 use Rattle.run_laws.proofs.Ended.{committed_closed}
-use Rattle.run_laws.proofs.Granted.{IsGranted, at_granted, each_performed, grant_cases, grant_parts, granting}
+use Rattle.run_laws.proofs.Granted.{IsGranted, at_granted, each_performed, grant_cases, grant_parts, granting, seen_by}
 use Rattle.run_laws.proofs.Growth.{Follows, earlier, follows_from, follows_length, here, run_before}
 use Rattle.run_laws.proofs.Kept.{kept_or_closed, open_above}
 use Rattle.run_laws.proofs.Names.{clash, top_facts}
@@ -73,7 +73,8 @@ in_order setup end a o p e f before between r n w1 g1 w2 g2 v1 v2 c = elim (kept
     open_still : (d : Name) → is_ancestor d p.action ≡ true → After p.number (closing_step d end)
     open_still d l =
         let P : ℕ → Type 0 = λ m. After m (closing_step d end) in
-        let q : is_closed d (f ∷ between) ≡ false = ap (λ s. step_closes s d || is_closed d between) (grant_parts p f between g2).0 ∙ open_then d l in
+        let q : is_closed d (f ∷ between) ≡ false =
+        ap (λ s. step_closes s d || is_closed d between) (grant_parts p f between g2).0 ∙ open_then d l in
         subst P (sym g2.0) (closing_after d w2 q)
 
     other_tree : is_closed (top_of o.action) between ≡ true → (t : Bool) → is_ancestor (top_of o.action) p.action ≡ t
@@ -83,7 +84,8 @@ in_order setup end a o p e f before between r n w1 g1 w2 g2 v1 v2 c = elim (kept
         let run1 = run_before setup w1 run.2 in
         let named1 = nameless setup before o.action run1.2 (granting setup o e before run1 g1).was_begun in
         let named2 = nameless setup between p.action run.2 given.was_begun in
-        place_tops closing o.number p.number o.action p.action named1 named2 (closed_below (top_of o.action) q) (open_still (top_of p.action) (top_facts p.action named2).1)
+        place_tops closing o.number p.number o.action p.action named1 named2 (closed_below (top_of o.action) q)
+        (open_still (top_of p.action) (top_facts p.action named2).1)
 
 pub conflicts_keep_order : ConflictsKeepOrder
 conflicts_keep_order setup past a o p e f before between r n c g d h v w k =
@@ -92,27 +94,27 @@ conflicts_keep_order setup past a o p e f before between r n c g d h v w k =
 -- each two that are visible
 visible_pairs : (setup : Setup) (past : List Event) (a : Name) {end : List Event} → Follows past end → IsRun setup end
     → is_orphan a end ≡ false
-    → EachPair (InOrder end) (reverse (filter (λ o. is_visible o.action a end) (performed past)))
+    → EachPair (InOrder end) (reverse (seen_by a end (performed past)))
 visible_pairs setup [] a w r n = tt
 visible_pairs setup (e ∷ past) a {end = end} w r n = elim (grant_cases e past) [
-  | inl h ↦ subst Q (sym h) (visible_pairs setup past a (earlier w) r n)
-  | inr h ↦ subst Q (sym h.1) (one h.0 h.2 (is_visible h.0.action a end) refl (visible_pairs setup past a (earlier w) r n))
+  | inl h ↦ subst Pairs (sym h) (visible_pairs setup past a (earlier w) r n)
+  | inr h ↦ subst Pairs (sym h.1) (one h.0 h.2 (is_visible h.0.action a end) refl (visible_pairs setup past a (earlier w) r n))
 ]
   where
-    Q : List Performed → Type 0
-    Q os = EachPair (InOrder end) (reverse (filter (λ o. is_visible o.action a end) os))
+    Pairs : List Performed → Type 0
+    Pairs os = EachPair (InOrder end) (reverse (seen_by a end os))
 
-    seen : List Performed
-    seen = filter (λ o. is_visible o.action a end) (performed past)
+    older : List Performed
+    older = seen_by a end (performed past)
 
-    one : (o : Performed) → Grants o e past → (t : Bool) → is_visible o.action a end ≡ t → EachPair (InOrder end) (reverse seen)
-        → EachPair (InOrder end) (reverse (cond t (o ∷ seen) seen))
+    one : (o : Performed) → Grants o e past → (t : Bool) → is_visible o.action a end ≡ t → EachPair (InOrder end) (reverse older)
+        → EachPair (InOrder end) (reverse (cond t (o ∷ older) older))
     one o p false v rest = rest
     one o p true v rest =
-        let R : List Performed → Type 0 = λ l. EachPair (InOrder end) l in
-        let older = each_filter (λ q. InOrder end q o) (λ q. is_visible q.action a end) (performed past)
+        let before = each_filter (λ q. InOrder end q o) (λ q. is_visible q.action a end) (performed past)
         (each_performed past _ (λ q e' p' h f u c. in_order setup end a q o e' e p' past r n f h w p u v c)) in
-        subst R (sym (reverse-append (o ∷ []) seen)) (pair_snoc (InOrder end) (reverse seen) o rest (each_reverse (λ q. InOrder end q o) seen older))
+        subst (EachPair (InOrder end)) (sym (reverse-append (o ∷ []) older))
+        (pair_snoc (InOrder end) (reverse older) o rest (each_reverse (λ q. InOrder end q o) older before))
 
 pub grant_to_place : GrantToPlace
 grant_to_place setup past a r n = exchanged past (visible_by_grant a past) (visible_pairs setup past a here r n)

@@ -22,6 +22,7 @@ use Rattle.run_model.specs.Runs.{IsRun}
 use Rattle.run_model.specs.Visibility.{has_prepared, is_lost, is_orphan, is_visible, votes_yes}
 use Rattle.run_model.specs.Votes.{may_prepare}
 use Rattle.run_laws.specs.Laws.{RefusedOrphansAreOrphans, actor_of}
+use Rattle.run_laws.specs.NoRuns.{first}
 use Rattle.run_laws.proofs.Active.{nothing_active_below_done}
 use Rattle.run_laws.proofs.Begun.{begins_no_crash, begun_cases, nameless}
 use Rattle.run_laws.proofs.Homes.{as_before, crashes_next, home_more, incarnation_new}
@@ -48,21 +49,26 @@ crashed_lost setup (e ∷ past) b r k l p = elim (begun_cases e past b k) [
         (subst (λ m. m < crashes g (e ∷ past)) (incarnation_new e past b x) l))
 
     old : is_begun b past ≡ true
-        → (incarnation_of b past < crashes (home_of b past) past → has_prepared (home_of b past) (top_of b) past ≡ false → is_lost b past ≡ true)
+        → (incarnation_of b past < crashes (home_of b past) past → has_prepared (home_of b past) (top_of b) past ≡ false
+        → is_lost b past ≡ true)
         → (t : Bool) → step_crashes e.step (home_of b past) ≡ t → is_lost b (e ∷ past) ≡ true
     old x ih t c = finish t c
       where
         unprepared : has_prepared (home_of b past) (top_of b) past ≡ false
         unprepared =
-            let q : has_prepared (home_of b past) (top_of b) (e ∷ past) ≡ false = sym (ap (λ h. has_prepared h (top_of b) (e ∷ past)) (home_more setup e past b r x)) ∙ p in
+            let q : has_prepared (home_of b past) (top_of b) (e ∷ past) ≡ false =
+            sym (ap (λ h. has_prepared h (top_of b) (e ∷ past)) (home_more setup e past b r x)) ∙ p in
             (or_parts (votes_yes e.step e.answer (home_of b past) (top_of b)) _ q).1
 
         older : incarnation_of b past < crashes (home_of b past) (e ∷ past)
-        older = as_before setup e past b r x (λ g i. i < crashes g (e ∷ past) → incarnation_of b past < crashes (home_of b past) (e ∷ past)) (λ m. m) l
+        older =
+            as_before setup e past b r x (λ g i. i < crashes g (e ∷ past) → incarnation_of b past < crashes (home_of b past) (e ∷ past))
+            (λ m. m) l
 
         finish : (t : Bool) → step_crashes e.step (home_of b past) ≡ t → is_lost b (e ∷ past) ≡ true
         finish true c = or_right _ _ (and_from _ _ x (and_from _ _ c (ap not unprepared)))
-        finish false c = or_left _ _ (ih (subst (λ m. incarnation_of b past < m) (crashes_next e past (home_of b past) false c) older) unprepared)
+        finish false c =
+            or_left _ _ (ih (subst (λ m. incarnation_of b past < m) (crashes_next e past (home_of b past) false c) older) unprepared)
 
 below_cases : (o : Option ℕ) (m : ℕ) → is_below o m ≡ true → (n : ℕ) × (o ≡ Some n) × (n < m)
 below_cases None m h = absurd (false≢true h)
@@ -93,7 +99,9 @@ known_is_orphan setup past g a r k u h = elim (or_cases _ _ h) [
     lost y n b s l true p =
         let top = top_facts a (nameless setup past a r k) in
         let closed = prepared_closed setup past (home_of b past) (top_of b) r p in
-        let (f, m, x) = nothing_active_below_done setup past (top_of a) a r k u top.1 (or_right _ _ (sym (ap (λ t. is_closed t past) s.tree) ∙ closed)) in
+        let (f, m, x) =
+        nothing_active_below_done setup past (top_of a) a r k u top.1
+        (or_right _ _ (sym (ap (λ t. is_closed t past) s.tree) ∙ closed)) in
         doomed f m x
     lost y n b s l false p =
         let older = subst (λ m. m < crashes (home_of b past) past) (sym s.place.1) (subst (λ g. n < crashes g past) (sym s.place.0) l) in

@@ -68,9 +68,11 @@ place_before f i j (x ∷ b) (y ∷ c) l hb hc = decide (x == y) refl (λ hb' hc
     decide : (t : Bool) → (x == y) ≡ t → (Behind inner b c → Open inner c → place_lt (place inner b i) (place inner c j) ≡ true)
         → place_lt (place f (x ∷ b) i) (place f (y ∷ c) j) ≡ true
     decide true q ih =
-        subst (λ z. Behind f (x ∷ b) (z ∷ c) → Open f (z ∷ c) → place_lt (place f (x ∷ b) i) (place f (z ∷ c) j) ≡ true) (eqb-true x y q) (same_top ih) hb hc
+        subst (λ z. Behind f (x ∷ b) (z ∷ c) → Open f (z ∷ c) → place_lt (place f (x ∷ b) i) (place f (z ∷ c) j) ≡ true) (eqb-true x y q)
+        (same_top ih) hb hc
     decide false q ih =
-        or_left _ _ (before_after (f (x ∷ [])) (f (y ∷ [])) j (hb (x ∷ []) (front_alone x b) (and_left _ _ q)) (hc (y ∷ []) (front_alone y c)))
+        or_left _ _
+        (before_after (f (x ∷ [])) (f (y ∷ [])) j (hb (x ∷ []) (front_alone x b) (and_left _ _ q)) (hc (y ∷ []) (front_alone y c)))
 
 -- so too where the whole tree of b closed before j, and that of c did not
 pub place_tops : (f : Name → Option ℕ) (i j : ℕ) (b c : Name) → (b ≡ [] → ⊥) → (c ≡ [] → ⊥) → Before (f (top_of b)) j
@@ -111,5 +113,7 @@ last_same (x ∷ xs) (y ∷ ys) a b h = last_same xs ys a b cc
 
 pub places_differ : PlacesDiffer
 places_differ past o p h =
-    let e = last_same (map (λ c. closing_step c past) (ancestors o.action)) (map (λ c. closing_step c past) (ancestors p.action)) (Some o.number) (Some p.number) h in
+    let e =
+    last_same (map (λ c. closing_step c past) (ancestors o.action)) (map (λ c. closing_step c past) (ancestors p.action))
+    (Some o.number) (Some p.number) h in
     cc

@@ -6,7 +6,7 @@ use Rattle.action_names.specs.Names.{Name}
 use Rattle.values.specs.declared.content.Content.{Content}
 use Rattle.atomic_types.proofs.TypeLaws.{reads_leave}
 use Rattle.atomic_types.specs.Objects.{content_after, reply_of}
-use Rattle.atomic_types.specs.Operations.{class_of, classes_conflict, conflicts, is_read, is_read_class}
+use Rattle.atomic_types.specs.Operations.{class_of, classes_conflict, is_read, is_read_class}
 use Rattle.atomic_types.specs.declared.op.Class.{Class}
 use Rattle.atomic_types.specs.declared.op.Class.TheVariants.{Read, Write}
 use Rattle.run_model.specs.declared.history.Event.{Event}
@@ -18,11 +18,11 @@ use Rattle.run_model.specs.Visibility.{is_orphan, is_visible}
 use Rattle.run_laws.specs.Laws.{Grants, RepliesByGrant}
 use Rattle.run_laws.proofs.Each.{Each, each_both}
 use Rattle.run_laws.proofs.Exchanged.{same_object_true}
-use Rattle.run_laws.proofs.Granted.{IsGranted, each_performed, granting}
+use Rattle.run_laws.proofs.Granted.{IsGranted, each_performed, granting, seen_by}
 use Rattle.run_laws.proofs.Growth.{Follows, follows_from, here, run_before}
 use Rattle.run_laws.proofs.Kept.{kept_or_closed}
 use Rattle.run_laws.proofs.Names.{clash}
-use Rattle.run_laws.proofs.Seen.{granted_sees}
+use Rattle.run_laws.proofs.Seen.{SeenIfInTheWay, granted_sees}
 use Rattle.run_laws.proofs.Visible.{visibility_carries_over, visible_self, visible_stays}
 
 -- replay of one operation more
@@ -45,8 +45,11 @@ after_reverse s (o ∷ os) x =
     then = store_after s (reverse os)
 
     step : (t : Bool) → same_object o.object x ≡ t → store_after s (reverse os) x ≡ left_of (s x) (on x os)
-        → cond t (content_after (store_after s (reverse os) o.object) o.operation) (store_after s (reverse os) x) ≡ left_of (s x) (cond t (o ∷ on x os) (on x os))
-    step true e h = ap (λ y. content_after (store_after s (reverse os) y) o.operation) (same_object_true o.object x e) ∙ ap (λ c. content_after c o.operation) h
+        → cond t (content_after (store_after s (reverse os) o.object) o.operation) (store_after s (reverse os) x)
+        ≡ left_of (s x) (cond t (o ∷ on x os) (on x os))
+    step true e h =
+        ap (λ y. content_after (store_after s (reverse os) y) o.operation) (same_object_true o.object x e)
+        ∙ ap (λ c. content_after c o.operation) h
     step false e h = h
 
 -- lists with the same writes leave the same
@@ -69,7 +72,8 @@ filter_twice p q [] = refl
 filter_twice p q (o ∷ os) = step (q o) (filter_twice p q os)
   where
     step : (t : Bool) → filter p (filter q os) ≡ filter (λ x. q x && p x) os
-        → filter p (cond t (o ∷ filter q os) (filter q os)) ≡ cond (t && p o) (o ∷ filter (λ x. q x && p x) os) (filter (λ x. q x && p x) os)
+        → filter p (cond t (o ∷ filter q os) (filter q os))
+        ≡ cond (t && p o) (o ∷ filter (λ x. q x && p x) os) (filter (λ x. q x && p x) os)
     step true e = ap (λ xs. cond (p o) (o ∷ xs) xs) e
     step false e = e
 
@@ -80,55 +84,57 @@ write_conflicts Write d h = refl
 
 -- A reply is that of the operations so far that are visible to an action that is no orphan, and to which the asking action is visible.
 pub reply_by_grant : (setup : Setup) (o : Performed) (e : Event) (past : List Event) (a : Name) {end : List Event} → Grants o e past
-    → IsRun setup (e ∷ past)
-    → Follows past end → IsRun setup end → is_orphan a end ≡ false → is_visible o.action a end ≡ true
-    → o.reply ≡ reply_of (store_after (opening setup) (reverse (filter (λ q. is_visible q.action a end) (performed past))) o.object) o.operation
+    → IsRun setup (e ∷ past) → Follows past end → IsRun setup end → is_orphan a end ≡ false → is_visible o.action a end ≡ true
+    → o.reply ≡ reply_of (store_after (opening setup) (reverse (seen_by a end (performed past))) o.object) o.operation
 reply_by_grant setup o e past a {end = end} p run w r n v =
     given.reply ∙ ap (λ c. reply_of c o.operation)
-    (same_writes (opening setup x) (λ q. same_object q.object x && is_kept q past) (λ q. is_visible q.action a end && same_object q.object x) (performed past) each
-    ∙ ap (left_of (opening setup x)) (sym (filter_twice (λ q. same_object q.object x) (λ q. is_visible q.action a end) (performed past)))
-    ∙ sym (after_reverse (opening setup) (filter (λ q. is_visible q.action a end) (performed past)) x))
+    (same_writes (opening setup x) (λ q. here q && is_kept q past) (λ q. is_visible q.action a end && here q) (performed past) each
+    ∙ ap (left_of (opening setup x)) (sym (filter_twice (λ q. here q) (λ q. is_visible q.action a end) (performed past)))
+    ∙ sym (after_reverse (opening setup) (seen_by a end (performed past)) x))
   where
     x : ObjectId
     x = o.object
 
+    here : Performed → Bool
+    here q = same_object q.object x
+
     given : IsGranted setup o.action o.object o.operation o.reply past
     given = granting setup o e past run p
 
-    -- a write on the object is kept just where it is visible
-    agree : (q : Performed)
-        → ((same_object q.object x && is_kept q past) ≡ true → conflicts q.operation o.operation ≡ true → is_visible q.action o.action past ≡ true)
-        → ((is_visible q.action a end ≡ true) → (is_kept q past ≡ true) ⊎ (is_read q.operation ≡ true))
-        → ((same_object q.object x && is_kept q past) ≡ (is_visible q.action a end && same_object q.object x))
-        ⊎ (is_read q.operation ≡ true)
-    agree q sees kept = step (is_read q.operation) refl (same_object q.object x) refl (is_kept q past) refl (is_visible q.action a end) refl
-      where
-        seen : is_read q.operation ≡ false → same_object q.object x ≡ true → is_kept q past ≡ true → is_visible q.action a end ≡ true
-        seen nr so k =
-            let s = sees (and_from _ _ so k) (write_conflicts (class_of q.operation) (class_of o.operation) nr) in
-            visibility_carries_over a q.action o.action end v (visible_stays q.action o.action w s)
+    KeptIfSeen : Performed → Type 0
+    KeptIfSeen q = is_visible q.action a end ≡ true → (is_kept q past ≡ true) ⊎ (is_read q.operation ≡ true)
 
-        step : (rd : Bool) → is_read q.operation ≡ rd → (so : Bool) → same_object q.object x ≡ so → (k : Bool) → is_kept q past ≡ k
-            → (u : Bool) → is_visible q.action a end ≡ u
-            → ((same_object q.object x && is_kept q past) ≡ (is_visible q.action a end && same_object q.object x))
-            ⊎ (is_read q.operation ≡ true)
-        step true er so es k ek u eu = inr er
-        step false er false es k ek u eu = inl (and_left _ _ es ∙ sym (and_right _ _ es))
-        step false er true es true ek true eu = inl (ap₂ ◌&&◌ es ek ∙ sym (ap₂ ◌&&◌ eu es))
-        step false er true es false ek false eu = inl (ap₂ ◌&&◌ es ek ∙ sym (ap₂ ◌&&◌ eu es))
-        step false er true es true ek false eu = absurd (true≢false (sym (seen er es ek) ∙ eu))
-        step false er true es false ek true eu = elim (kept eu) [ inl y ↦ absurd (clash y ek) | inr y ↦ inr y ]
-
-    kept_visible : Each (λ q. (is_visible q.action a end ≡ true) → (is_kept q past ≡ true) ⊎ (is_read q.operation ≡ true)) (performed past)
-    kept_visible = each_performed past _ (λ q e' p' h f u. plain q (kept_or_closed setup q e' p' a h f w r n u))
+    kept_if_seen : Each (λ q. KeptIfSeen q) (performed past)
+    kept_if_seen = each_performed past _ (λ q e' p' h f u. plain q (kept_or_closed setup q e' p' a h f w r n u))
       where
         plain : (q : Performed) {T : Type 0} → (is_kept q past ≡ true) ⊎ ((is_read q.operation ≡ true) × T)
             → (is_kept q past ≡ true) ⊎ (is_read q.operation ≡ true)
         plain q (inl y) = inl y
         plain q (inr y) = inr y.0
 
-    each : Each (λ q. ((same_object q.object x && is_kept q past) ≡ (is_visible q.action a end && same_object q.object x)) ⊎ (is_read q.operation ≡ true)) (performed past)
-    each = each_both _ _ _ (performed past) agree (granted_sees o.action x o.operation past given.free) kept_visible
+    -- a write on the object is kept just where it is visible
+    Agrees : Performed → Type 0
+    Agrees q = ((here q && is_kept q past) ≡ (is_visible q.action a end && here q)) ⊎ (is_read q.operation ≡ true)
+
+    agree : (q : Performed) → SeenIfInTheWay o.action x o.operation past q → KeptIfSeen q → Agrees q
+    agree q sees kept = step (is_read q.operation) refl (here q) refl (is_kept q past) refl (is_visible q.action a end) refl
+      where
+        seen : is_read q.operation ≡ false → here q ≡ true → is_kept q past ≡ true → is_visible q.action a end ≡ true
+        seen nr so k =
+            let s = sees (and_from _ _ so k) (write_conflicts (class_of q.operation) (class_of o.operation) nr) in
+            visibility_carries_over a q.action o.action end v (visible_stays q.action o.action w s)
+
+        step : (rd : Bool) → is_read q.operation ≡ rd → (so : Bool) → here q ≡ so → (k : Bool) → is_kept q past ≡ k
+            → (u : Bool) → is_visible q.action a end ≡ u → Agrees q
+        step true er so es k ek u eu = inr er
+        step false er false es k ek u eu = inl (and_left _ _ es ∙ sym (and_right _ _ es))
+        step false er true es true ek true eu = inl (ap₂ ◌&&◌ es ek ∙ sym (ap₂ ◌&&◌ eu es))
+        step false er true es false ek false eu = inl (ap₂ ◌&&◌ es ek ∙ sym (ap₂ ◌&&◌ eu es))
+        step false er true es true ek false eu = absurd (clash (seen er es ek) eu)
+        step false er true es false ek true eu = elim (kept eu) [ inl y ↦ absurd (clash y ek) | inr y ↦ inr y ]
+
+    each : Each (λ q. Agrees q) (performed past)
+    each = each_both _ _ _ (performed past) agree (granted_sees o.action x o.operation past given.free) kept_if_seen
 
 pub replies_by_grant : RepliesByGrant
 replies_by_grant setup past o e before r c g n =

@@ -18,7 +18,8 @@ run_more setup step past r = go (is_accepted (answer_of setup step past)) refl
 -- steps go on from a run to a run
 pub run_from : (setup : Setup) (past : List Event) (steps : List Step) → IsRun setup past → IsRun setup (history_from setup past steps)
 run_from setup past [] r = r
-run_from setup past (step ∷ steps) r = run_from setup (history_after step (answer_of setup step past) past) steps (run_more setup step past r)
+run_from setup past (step ∷ steps) r =
+    run_from setup (history_after step (answer_of setup step past) past) steps (run_more setup step past r)
 
 pub histories_are_runs : HistoriesAreRuns
 histories_are_runs setup steps = run_from setup [] steps tt

@@ -5,9 +5,11 @@ use Rattle.action_names.specs.Names.{Name, ancestors, insert_name, is_ancestor, 
 use Rattle.atomic_types.specs.Operations.{conflicts}
 use Rattle.run_model.specs.declared.history.Event.{Event}
 use Rattle.run_model.specs.declared.step.ObjectId.{ObjectId}
+use Rattle.run_model.specs.Actions.{is_committed}
 use Rattle.run_model.specs.Keeping.{Performed, blockers, is_kept, kept_on, performed, same_object}
-use Rattle.run_model.specs.Telling.{holder_of, last_passing, or_else, told_committed}
+use Rattle.run_model.specs.Telling.{holder_of, last_passing, or_else, told_committed, was_told}
 use Rattle.run_model.specs.Visibility.{is_visible}
+use Rattle.run_laws.specs.NoRuns.{first}
 use Rattle.run_laws.proofs.Each.{Each, each_fails, each_filtered, each_map, each_mapped}
 use Rattle.run_laws.proofs.Names.{ancestor_trans}
 use Rattle.run_laws.proofs.Visible.{visible_from}
@@ -15,7 +17,8 @@ use Rattle.atomic_types.specs.declared.op.Op as op
 
 -- the last that passes, by the first number of the names
 last_cons : (p : Name → Bool) (x : ℕ) (b : Name)
-    → last_passing p (ancestors (x ∷ b)) ≡ or_else (option_map (λ a. x ∷ a) (last_passing (λ a. p (x ∷ a)) (ancestors b))) (cond (p (x ∷ [])) (Some (x ∷ [])) None)
+    → last_passing p (ancestors (x ∷ b))
+    ≡ or_else (option_map (λ a. x ∷ a) (last_passing (λ a. p (x ∷ a)) (ancestors b))) (cond (p (x ∷ [])) (Some (x ∷ [])) None)
 last_cons p x b = ap (λ o. or_else o (cond (p (x ∷ [])) (Some (x ∷ [])) None)) (mapped (ancestors b))
   where
     step : (a : Name) (o : Option Name) (t : Bool)
@@ -26,7 +29,8 @@ last_cons p x b = ap (λ o. or_else o (cond (p (x ∷ [])) (Some (x ∷ [])) Non
 
     mapped : (as' : List Name) → last_passing p (map (λ a. x ∷ a) as') ≡ option_map (λ a. x ∷ a) (last_passing (λ a. p (x ∷ a)) as')
     mapped [] = refl
-    mapped (a ∷ as') = ap (λ o. or_else o (cond (p (x ∷ a)) (Some (x ∷ a)) None)) (mapped as') ∙ step a (last_passing (λ b. p (x ∷ b)) as') (p (x ∷ a))
+    mapped (a ∷ as') =
+        ap (λ o. or_else o (cond (p (x ∷ a)) (Some (x ∷ a)) None)) (mapped as') ∙ step a (last_passing (λ b. p (x ∷ b)) as') (p (x ∷ a))
 
 -- an ancestor fails the test, or is an ancestor of the last that passes
 last_facts : (p : Name → Bool) (b f : Name) → is_ancestor f b ≡ true
@@ -67,26 +71,32 @@ rising_none (a ∷ names) h = absurd (some (rising_names names) h)
         step false true k = let e : (a ∷ b ∷ bs) ≡ [] = k in cc
         step false false k = let e : (b ∷ insert_name a bs) ≡ [] = k in cc
 
--- the kept operations that conflict with one for which nobody is in the way are visible to its action
+-- a kept operation on x that conflicts is visible to c
+abbrev pub SeenIfInTheWay : Name → ObjectId → op.Op → List Event → Performed → Type 0
+SeenIfInTheWay c x wanted past o =
+    (same_object o.object x && is_kept o past) ≡ true → conflicts o.operation wanted ≡ true → is_visible o.action c past ≡ true
+
+-- and so are all where nobody is in the way: their holders are ancestors of c
 pub granted_sees : (c : Name) (x : ObjectId) (wanted : op.Op) (past : List Event) → blockers c x wanted past ≡ []
-    → Each (λ o. (same_object o.object x && is_kept o past) ≡ true → conflicts o.operation wanted ≡ true → is_visible o.action c past ≡ true) (performed past)
+    → Each (λ o. SeenIfInTheWay c x wanted past o) (performed past)
 granted_sees c x wanted past e = each_map _ _ (performed past) sees free
   where
     g : ℕ
     g = x.guardian
 
-    free : Each (λ o. (same_object o.object x && is_kept o past) ≡ true → conflicts o.operation wanted ≡ true
-        → (d : Name) → holder_of g o.action past ≡ Some d → not (is_ancestor d c) ≡ false) (performed past)
+    HeldAbove : Performed → Type 0
+    HeldAbove o = (same_object o.object x && is_kept o past) ≡ true → conflicts o.operation wanted ≡ true
+        → (d : Name) → holder_of g o.action past ≡ Some d → not (is_ancestor d c) ≡ false
+
+    free : Each (λ o. HeldAbove o) (performed past)
     free =
         each_filtered _ (λ o. same_object o.object x && is_kept o past) (performed past)
         (each_filtered _ (λ o. conflicts o.operation wanted) (kept_on x past)
         (each_mapped _ (λ o. holder_of g o.action past) (filter (λ o. conflicts o.operation wanted) (kept_on x past))
         (each_fails (λ d. not (is_ancestor d c)) _ (rising_none _ e))))
 
-    sees : (o : Performed) → ((same_object o.object x && is_kept o past) ≡ true → conflicts o.operation wanted ≡ true
-        → (d : Name) → holder_of g o.action past ≡ Some d → not (is_ancestor d c) ≡ false)
-        → (same_object o.object x && is_kept o past) ≡ true → conflicts o.operation wanted ≡ true → is_visible o.action c past ≡ true
+    sees : (o : Performed) → HeldAbove o → SeenIfInTheWay c x wanted past o
     sees o h k q = visible_from o.action c past (λ f l. elim (last_facts (λ d. not (told_committed g d past)) o.action f l) [
-      | inl m ↦ inr (and_parts _ _ (not-false _ m)).1
+      | inl m ↦ inr (and_parts (was_told g f past) (is_committed f past) (not-false (told_committed g f past) m)).1
       | inr m ↦ inl (ancestor_trans f m.0 c m.2 (not-false _ (h k q m.0 m.1)))
     ])

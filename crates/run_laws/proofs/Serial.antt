@@ -1,5 +1,5 @@
 -- The serial view, and that equal lists have equal replies.
-use Rattle.std.proofs.Common.{Bool, List, [], ap, ap₂, cond, false, filter, inl, inr, refl, reverse, subst, sym, true, ◌++◌, ◌∙◌, ◌∷◌, ◌≡◌}
+use Rattle.std.proofs.Common.{Bool, List, [], ap, ap₂, cond, false, inl, inr, refl, reverse, subst, sym, true, ◌++◌, ◌∙◌, ◌∷◌, ◌≡◌}
 use Rattle.std.proofs.lemmas.List.{reverse-append}
 use Rattle.action_names.specs.Names.{Name}
 use Rattle.atomic_types.specs.Objects.{reply_of}
@@ -12,7 +12,7 @@ use Rattle.run_model.specs.Runs.{IsRun}
 use Rattle.run_model.specs.Visibility.{is_orphan, is_visible}
 use Rattle.run_laws.specs.Laws.{EqualListsEqualReplies, Grants, SerialView}
 use Rattle.run_laws.proofs.Exchanged.{exchanges_leave_replies}
-use Rattle.run_laws.proofs.Granted.{grant_cases}
+use Rattle.run_laws.proofs.Granted.{grant_cases, seen_by}
 use Rattle.run_laws.proofs.Growth.{Follows, earlier, here, run_before}
 use Rattle.run_laws.proofs.Order.{grant_to_place}
 use Rattle.run_laws.proofs.Replies.{reply_by_grant}
@@ -30,7 +30,7 @@ given_snoc (p ∷ ps) o = ap (λ rs. p.reply ∷ rs) (given_snoc ps o)
 -- the replies in order of grant
 serial_by_grant : (setup : Setup) (past : List Event) (a : Name) {end : List Event} → Follows past end → IsRun setup end
     → is_orphan a end ≡ false
-    → replayed (opening setup) (reverse (filter (λ o. is_visible o.action a end) (performed past))) ≡ replies_given (reverse (filter (λ o. is_visible o.action a end) (performed past)))
+    → replayed (opening setup) (reverse (seen_by a end (performed past))) ≡ replies_given (reverse (seen_by a end (performed past)))
 serial_by_grant setup [] a w r n = refl
 serial_by_grant setup (e ∷ past) a {end = end} w r n = elim (grant_cases e past) [
   | inl h ↦ subst Holds (sym h) (serial_by_grant setup past a (earlier w) r n)
@@ -38,23 +38,24 @@ serial_by_grant setup (e ∷ past) a {end = end} w r n = elim (grant_cases e pas
 ]
   where
     Holds : List Performed → Type 0
-    Holds os = replayed (opening setup) (reverse (filter (λ o. is_visible o.action a end) os)) ≡ replies_given (reverse (filter (λ o. is_visible o.action a end) os))
+    Holds os = replayed (opening setup) (reverse (seen_by a end os)) ≡ replies_given (reverse (seen_by a end os))
 
-    seen : List Performed
-    seen = filter (λ o. is_visible o.action a end) (performed past)
+    older : List Performed
+    older = seen_by a end (performed past)
 
     one : (o : Performed) → Grants o e past → (t : Bool) → is_visible o.action a end ≡ t
-        → replayed (opening setup) (reverse seen) ≡ replies_given (reverse seen)
-        → replayed (opening setup) (reverse (cond t (o ∷ seen) seen)) ≡ replies_given (reverse (cond t (o ∷ seen) seen))
+        → replayed (opening setup) (reverse older) ≡ replies_given (reverse older)
+        → replayed (opening setup) (reverse (cond t (o ∷ older) older)) ≡ replies_given (reverse (cond t (o ∷ older) older))
     one o p false v rest = rest
     one o p true v rest =
-        ap (replayed (opening setup)) (reverse-append (o ∷ []) seen) ∙ replayed_snoc (opening setup) (reverse seen) o
+        ap (replayed (opening setup)) (reverse-append (o ∷ []) older) ∙ replayed_snoc (opening setup) (reverse older) o
         ∙ ap₂ (λ rs r. rs ++ r ∷ []) rest (sym (reply_by_grant setup o e past a p (run_before setup w r) (earlier w) r n v))
-        ∙ sym (ap replies_given (reverse-append (o ∷ []) seen) ∙ given_snoc (reverse seen) o)
+        ∙ sym (ap replies_given (reverse-append (o ∷ []) older) ∙ given_snoc (reverse older) o)
 
 pub serial_view : SerialView
 serial_view setup past a r b n =
-    exchanges_leave_replies (opening setup) (visible_by_grant a past) (visible_by_place a past) (grant_to_place setup past a r n) (serial_by_grant setup past a here r n)
+    exchanges_leave_replies (opening setup) (visible_by_grant a past) (visible_by_place a past) (grant_to_place setup past a r n)
+    (serial_by_grant setup past a here r n)
 
 asked_parts : (o p : Performed) (os ps : List Performed) → asked (o ∷ os) ≡ asked (p ∷ ps)
     → (o.object ≡ p.object) × (o.operation ≡ p.operation) × (asked os ≡ asked ps)
@@ -78,4 +79,5 @@ same_asked s (o ∷ os) (p ∷ ps) h =
 
 pub equal_lists_equal_replies : EqualListsEqualReplies
 equal_lists_equal_replies setup past other a b r q ba bb na nb e =
-    sym (serial_view setup past a r ba na) ∙ same_asked (opening setup) (visible_by_place a past) (visible_by_place b other) e ∙ serial_view setup other b q bb nb
+    sym (serial_view setup past a r ba na) ∙ same_asked (opening setup) (visible_by_place a past) (visible_by_place b other) e
+    ∙ serial_view setup other b q bb nb

@@ -54,7 +54,8 @@ settled_begun setup t b (later {now = now} e w) v r all c k h = elim (begun_case
 pub settled_visible : (setup : Setup) (t b : Name) {mid end : List Event} → Follows mid end → IsRun setup end
     → ((f : Name) → is_ancestor f b ≡ true → is_committed f end ≡ true)
     → is_top t ≡ true → is_closed t mid ≡ true → is_ancestor t b ≡ true → is_begun b mid ≡ true → is_visible b t mid ≡ true
-settled_visible setup t b {mid = mid} {end = end} w r all p c k h = visible_from b t mid (λ f l. decide f l (is_committed f mid) refl (is_top f) refl)
+settled_visible setup t b {mid = mid} {end = end} w r all p c k h =
+    visible_from b t mid (λ f l. decide f l (is_committed f mid) refl (is_top f) refl)
   where
     run : IsRun setup mid
     run = run_before setup w r
@@ -69,4 +70,5 @@ settled_visible setup t b {mid = mid} {end = end} w r all p c k h = visible_from
         → (is_ancestor f t ≡ true) ⊎ (is_committed f mid ≡ true)
     decide f l true e y q = inr e
     decide f l false e true q = inl (top_above f t b q l k)
-    decide f l false e false q = absurd (never_open setup t b f w r all c (top_above t f b p k l) l (ancestor_begun setup mid f b run h l) (undone f l e q))
+    decide f l false e false q =
+        absurd (never_open setup t b f w r all c (top_above t f b p k l) l (ancestor_begun setup mid f b run h l) (undone f l e q))

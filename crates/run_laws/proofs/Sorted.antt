@@ -84,4 +84,6 @@ each_in_order P now (o ∷ os) h = each_inserted P now o (in_order_of_place now 
 
 pub exchanged : (now : List Event) (os : List Performed) → EachPair (InOrder now) os → Exchanges os (in_order_of_place now os)
 exchanged now [] h = nothing
-exchanged now (o ∷ os) h = following (keeping o (exchanged now os h.1)) (inserted now o (in_order_of_place now os) (each_in_order (λ p. InOrder now o p) now os h.0))
+exchanged now (o ∷ os) h =
+    following (keeping o (exchanged now os h.1))
+    (inserted now o (in_order_of_place now os) (each_in_order (λ p. InOrder now o p) now os h.0))

@@ -74,12 +74,14 @@ after_cases _ a before own n e = inl e
 source_new : (setup : Setup) (e : Event) (past : List Event) (a : Name) (h n : ℕ) → IsRun setup (e ∷ past) → begins e a ≡ true
     → is_begun a (e ∷ past) ≡ true
     → dependency a h (e ∷ past) ≡ Some n → IsSource a a h n (e ∷ past) ⊎ IsHeir e past a h n
-source_new setup e past a h n r q k d = elim (lesser_cases (inherited (is_top a) a (λ b. dependency b h past)) _ n (sym (dependency_next e past a h true q) ∙ d)) [
-  | inl y ↦ inr (parent (is_top a) refl y)
-  | inr y ↦
-      let o = own_cases (home_of a (e ∷ past)) h (crashes h past) n y in
-      inl (record { was_begun = k; tree = refl; visible = visible_self a (e ∷ past); place = (o.0, incarnation_new e past a q ∙ ap (λ g. crashes g past) o.0 ∙ o.1) })
-]
+source_new setup e past a h n r q k d =
+    elim (lesser_cases (inherited (is_top a) a (λ b. dependency b h past)) _ n (sym (dependency_next e past a h true q) ∙ d)) [
+      | inl y ↦ inr (parent (is_top a) refl y)
+      | inr y ↦
+          let o = own_cases (home_of a (e ∷ past)) h (crashes h past) n y in
+          let incarnation = incarnation_new e past a q ∙ ap (λ g. crashes g past) o.0 ∙ o.1 in
+          inl (record { was_begun = k; tree = refl; visible = visible_self a (e ∷ past); place = (o.0, incarnation) })
+    ]
   where
     parent : (t : Bool) → is_top a ≡ t → inherited t a (λ b. dependency b h past) ≡ Some n → IsHeir e past a h n
     parent true t y = let z : None ≡ Some n = y in cc
@@ -87,7 +89,10 @@ source_new setup e past a h n r q k d = elim (lesser_cases (inherited (is_top a)
         let above = parent_ancestor a t (nameless setup (e ∷ past) a r k) in
         record {
           from = parent_of a;
-          was_begun = elim (new_in_run setup e past a r q).made [ inl m ↦ absurd (clash m t) | inr m ↦ (makes_facts setup e past (parent_of a) r m).0 ];
+          was_begun = elim (new_in_run setup e past a r q).made [
+            | inl m ↦ absurd (clash m t)
+            | inr m ↦ (makes_facts setup e past (parent_of a) r m).0
+          ];
           had = y;
           tree = top_of_ancestor (parent_of a) a above;
           visible = visible_from (parent_of a) a (e ∷ past) (λ f l. inl (ancestor_trans f (parent_of a) a l above));
@@ -97,10 +102,11 @@ source_new setup e past a h n r q k d = elim (lesser_cases (inherited (is_top a)
 source_old : (setup : Setup) (e : Event) (past : List Event) (a : Name) (h n : ℕ) → IsRun setup (e ∷ past) → begins e a ≡ false
     → is_begun a past ≡ true
     → dependency a h (e ∷ past) ≡ Some n → IsHeir e past a h n
-source_old setup e past a h n r q k d = elim (after_cases e.step a (λ b. dependency b h past) _ n (sym (dependency_next e past a h false q) ∙ d)) [
-  | inl y ↦ record { from = a; was_begun = k; had = y; tree = refl; visible = visible_self a (e ∷ past) }
-  | inr y ↦ let (c, closes, commits, p, had) = y in child c (closes_facts setup e past c r closes).was_begun commits p had
-]
+source_old setup e past a h n r q k d =
+    elim (after_cases e.step a (λ b. dependency b h past) _ n (sym (dependency_next e past a h false q) ∙ d)) [
+      | inl y ↦ record { from = a; was_begun = k; had = y; tree = refl; visible = visible_self a (e ∷ past) }
+      | inr y ↦ let (c, closes, commits, p, had) = y in child c (closes_facts setup e past c r closes).was_begun commits p had
+    ]
   where
     child : (c : Name) → is_begun c past ≡ true → step_commits e.step c ≡ true → parent_of c ≡ a → dependency c h past ≡ Some n
         → IsHeir e past a h n

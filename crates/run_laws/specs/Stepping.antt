@@ -8,7 +8,8 @@ use Rattle.run_model.specs.Runs.{IsRun, history_after, history_from}
 
 -- one step more leaves a run
 abbrev pub RunMore : Type 0
-RunMore = (setup : Setup) (step : Step) (past : List Event) → IsRun setup past → IsRun setup (history_after step (answer_of setup step past) past)
+RunMore =
+    (setup : Setup) (step : Step) (past : List Event) → IsRun setup past → IsRun setup (history_after step (answer_of setup step past) past)
 
 -- whatever steps are asked from the start, what comes of them is a run
 abbrev pub HistoriesAreRuns : Type 0
