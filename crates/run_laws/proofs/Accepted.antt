@@ -25,16 +25,19 @@ chosen_none : (t : Bool) (n : Refusal) (o : Option Refusal) → cond t (Some n) 
 chosen_none true n o h = cc
 chosen_none false n o h = (refl, h)
 
+-- for the whole list
 no_refusal : (cs : List Check) → first_refusal cs ≡ None → AllFalse cs
 no_refusal [] h = tt
 no_refusal (c ∷ cs) h =
     let p = chosen_none c.1 c.0 (first_refusal cs) h in
     (p.0, no_refusal cs p.1)
 
+-- an answer that is accepted is no refusal
 none_if_accepted : (o : Option Refusal) (x : Answer) → is_accepted (refused_or o x) ≡ true → o ≡ None
 none_if_accepted None x h = refl
 none_if_accepted (Some n) x h = absurd (false≢true h)
 
+-- so no refusal applied to an event of a run
 refusal_of : (setup : Setup) (e : Event) (past : List Event) → IsRun setup (e ∷ past) → first_refusal (checks setup e.step past) ≡ None
 unfolding answer_of
 refusal_of setup e past r =
@@ -55,6 +58,7 @@ pub record IsClosable (a : Name) (past : List Event) : Type 0 where
   pub undone : is_done a past ≡ false
   pub idle : is_busy a past ≡ false
 
+-- what closes was begun, undone and idle
 pub closes_facts : (setup : Setup) (e : Event) (past : List Event) (a : Name) → IsRun setup (e ∷ past) → step_closes e.step a ≡ true
     → IsClosable a past
 closes_facts setup e past a r h = of e.step (checked setup e past r) h

@@ -5,7 +5,6 @@ use Rattle.std.specs.List.{list_any}
 use Rattle.action_names.specs.Names.{Name, has_name, is_ancestor, is_top, parent_of}
 use Rattle.run_model.specs.declared.history.Event.{Event}
 use Rattle.run_model.specs.Actions.{begins, is_aborted, is_begun, is_done, is_ended, made_by, names_begun, step_aborts, step_closes, step_commits, step_makes}
-use Rattle.run_model.specs.Refusals.{ended}
 use Rattle.run_model.specs.Replay.{Setup}
 use Rattle.run_model.specs.Runs.{IsRun}
 use Rattle.run_laws.specs.Laws.{NothingActiveBelowDone}
@@ -82,6 +81,7 @@ parent_open setup (e ∷ past) c r b d t = elim (begun_cases e past c b) [
       | inr q ↦ clash q.closed (not_closed p past u)
     ])
 
+-- The law: go up from the action, from each open child to its parent.
 pub nothing_active_below_done : NothingActiveBelowDone
 nothing_active_below_done setup past d c r b u k h = elim (climb IsOpen up d c k (descendant_is_own d c k, inl (b, u))).1 [
   | inl x ↦ absurd (clash h x.1)

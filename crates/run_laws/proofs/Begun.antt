@@ -10,12 +10,10 @@ use Rattle.run_model.specs.declared.step.Step.TheVariants.{Arms, Call, Crash, Ne
 use Rattle.run_model.specs.Actions.{begins, begun, is_begun, names_begun, next_number, step_crashes, step_makes}
 use Rattle.run_model.specs.Answers.{granted_or_waits, outcome}
 use Rattle.run_model.specs.Keeping.{blockers}
-use Rattle.run_model.specs.Places.{nothing}
 use Rattle.run_model.specs.Refusals.{arm_names}
 use Rattle.run_model.specs.Replay.{Setup}
 use Rattle.run_model.specs.Runs.{IsRun}
 use Rattle.run_model.specs.Votes.{may_prepare}
-use Rattle.run_laws.specs.NoRuns.{first}
 use Rattle.run_laws.proofs.Accepted.{answered, makes_facts}
 use Rattle.run_laws.proofs.Growth.{begun_stays, here, later}
 use Rattle.run_laws.proofs.Names.{clash, climb, has_name_append, last_child, parent_child, same_name_self, same_name_true}
@@ -37,6 +35,7 @@ children_more a c names e =
     ap (λ t. length (cond t (c ∷ filter (λ b. same_name (parent_of b) a) names) (filter (λ b. same_name (parent_of b) a) names)))
     (subst (λ b. same_name (parent_of c) b ≡ true) e (same_name_self (parent_of c)))
 
+-- a name more never makes them fewer
 children_grow : (a c : Name) (names : List Name) → children_in a names ≤ children_in a (c ∷ names)
 children_grow a c names = step (same_name (parent_of c) a) (filter (λ b. same_name (parent_of b) a) names)
   where
@@ -44,6 +43,7 @@ children_grow a c names = step (same_name (parent_of c) a) (filter (λ b. same_n
     step true xs = omega arith
     step false xs = omega arith
 
+-- of two lists together
 children_append : (a : Name) (xs ys : List Name) → children_in a (xs ++ ys) ≡ children_in a xs + children_in a ys
 children_append a [] ys = omega arith
 children_append a (x ∷ xs) ys = step (same_name (parent_of x) a) _ _ _ (children_append a xs ys)
@@ -58,6 +58,7 @@ data IsArm (a : Name) (child top : ℕ) (names : List Name) (c : Name) : Type 0 
   sub_arm : parent_of c ≡ a → child ≤ last_of c → last_of c < child + children_in a names → IsArm a child top names c
   top_arm : is_top c ≡ true → parent_of c ≡ [] → top ≤ last_of c → last_of c < top + children_in [] names → IsArm a child top names c
 
+-- the names of arms are that
 arms_are : (a : Name) (child top : ℕ) (kinds : List ArmKind) (c : Name) → has_name (arm_names a child top kinds) c ≡ true
     → IsArm a child top (arm_names a child top kinds) c
 arms_are a child top [] c h = absurd (false≢true h)
@@ -98,6 +99,7 @@ arms_are a child top (arm.Top ∷ kinds) c h = elim (or_cases _ _ h) [
     rest (sub_arm e low high) = sub_arm e low (omega (arith, children_grow a (top ∷ []) names))
     rest (top_arm t e low high) = top_arm t e (omega arith) (omega (arith, more))
 
+-- the only name of a list
 only : (b c : Name) → has_name (b ∷ []) c ≡ true → b ≡ c
 only b c h = elim (or_cases _ _ h) [ inl k ↦ same_name_true b c k | inr k ↦ absurd (false≢true k) ]
 
@@ -111,6 +113,7 @@ new_under setup step past names c p e low high made = record {
   made = subst (λ q. (is_top c ≡ true) ⊎ (step_makes step q ≡ true)) (sym e) made;
 }
 
+-- the next top action is new
 new_top : (setup : Setup) (step : Step) (past : List Event) (c : Name) → (next_number [] past ∷ []) ≡ c
     → IsNew setup step past ((next_number [] past ∷ []) ∷ []) c
 new_top setup step past c e =
@@ -119,6 +122,7 @@ new_top setup step past c e =
     subst (λ b. IsNew setup step past ((n ∷ []) ∷ []) b) e
     (new_under setup step past ((n ∷ []) ∷ []) (n ∷ []) [] refl (omega arith) (omega (arith, more)) (inl refl))
 
+-- the next child is new
 new_child : (setup : Setup) (a : Name) (g : ℕ) (past : List Event) (c : Name) → child_of a (next_number a past) ≡ c
     → IsNew setup (Call a g) past (child_of a (next_number a past) ∷ []) c
 new_child setup a g past c e =
@@ -129,11 +133,13 @@ new_child setup a g past c e =
     subst (λ d. IsNew setup (Call a g) past (b ∷ []) d) e
     (new_under setup (Call a g) past (b ∷ []) b a under (omega arith) (omega (arith, more)) (inr (same_name_self a)))
 
+-- an arm is new
 new_arm : (setup : Setup) (a : Name) (kinds : List ArmKind) (past : List Event) (names : List Name) (c : Name)
     → IsArm a (next_number a past) (next_number [] past) names c → IsNew setup (Arms a kinds) past names c
 new_arm setup a kinds past names c (sub_arm e low high) = new_under setup (Arms a kinds) past names c a e low high (inr (same_name_self a))
 new_arm setup a kinds past names c (top_arm t e low high) = new_under setup (Arms a kinds) past names c [] e low high (inl t)
 
+-- all that an outcome begins is new
 begins_new : (setup : Setup) (step : Step) (past : List Event) (c : Name)
     → has_name (names_begun (outcome setup step past)) c ≡ true → IsNew setup step past (names_begun (outcome setup step past)) c
 begins_new setup (Top g) past c h = new_top setup (Top g) past c (only (next_number [] past ∷ []) c h)
@@ -166,6 +172,7 @@ new_in_run setup e past c r h =
 pub begun_more : (e : Event) (past : List Event) (c : Name) → is_begun c past ≡ true → is_begun c (e ∷ past) ≡ true
 begun_more e past c h = begun_stays c {past = past} (later e here) h
 
+-- what was begun, is by the last event or was before
 pub begun_cases : (e : Event) (past : List Event) (c : Name) → is_begun c (e ∷ past) ≡ true → (begins e c ≡ true) ⊎ (is_begun c past ≡ true)
 begun_cases e past c h = or_cases _ _ (sym (has_name_append (names_begun e.answer) (begun past) c) ∙ h)
 

@@ -19,6 +19,7 @@ Before o j = (k : ℕ) × (o ≡ Some k) × (k < j)
 abbrev pub After : ℕ → Option ℕ → Type 0
 After j o = (o ≡ None) ⊎ ((k : ℕ) × (o ≡ Some k) × (j < k))
 
+-- a closing step after an event, where it is known whether the event closes
 closing_next : (c : Name) (e : Event) (past : List Event) (t : Bool) → step_closes e.step c ≡ t
     → closing_step c (e ∷ past) ≡ cond t (Some (suc (length past))) (closing_step c past)
 closing_next c e past t h = ap (λ u. cond u (Some (suc (length past))) (closing_step c past)) h

@@ -26,10 +26,12 @@ pub record Depends (a : Name) (g n : ℕ) (past : List Event) : Type 0 where
   pub is_least : dependency a g past ≡ Some least
   pub bound : least ≤ n
 
+-- the lesser is at most the second
 lesser_right : (d : Option ℕ) (n : ℕ) → (m : ℕ) × (lesser d (Some n) ≡ Some m) × (m ≤ n)
 lesser_right None n = (n, refl, omega arith)
 lesser_right (Some k) n = (min k n, refl, omega arith)
 
+-- and at most the first
 lesser_left : (d : Option ℕ) (n : ℕ) → (m : ℕ) × (lesser (Some n) d ≡ Some m) × (m ≤ n)
 lesser_left None n = (n, refl, omega arith)
 lesser_left (Some k) n = (min n k, refl, omega arith)
@@ -42,6 +44,7 @@ merged_keeps true d a before n h =
     (m, ap (λ x. lesser x (before d)) h ∙ e, l)
 merged_keeps false d a before n h = (n, h, omega arith)
 
+-- of what was begun, after any step
 keeps : (step : Step) (a : Name) (before : Name → Option ℕ) (own : Option ℕ) (n : ℕ) → before a ≡ Some n
     → (m : ℕ) × (dependency_after false step a before own ≡ Some m) × (m ≤ n)
 keeps (Commit d) a before own n h = merged_keeps (same_name (parent_of d) a) d a before n h
@@ -64,9 +67,11 @@ commits_one (Commit d) a b h k = sym (same_name_true d a h) ∙ same_name_true d
 commits_one (Decide d) a b h k = sym (same_name_true d a h) ∙ same_name_true d b k
 commits_one _ a b h k = absurd (false≢true h)
 
+-- the entry of its own home
 own_here : (g n : ℕ) → own_entry g g n ≡ Some n
 own_here g n = ap (λ t. cond t (Some n) None) (eqb_self g)
 
+-- a dependency after an event, where it is known whether the event begins the action
 pub dependency_next : (e : Event) (past : List Event) (a : Name) (g : ℕ) (t : Bool) → begins e a ≡ t
     → dependency a g (e ∷ past)
     ≡ dependency_after t e.step a (λ b. dependency b g past) (own_entry (home_of a (e ∷ past)) g (crashes g past))

@@ -4,22 +4,27 @@ use Rattle.std.proofs.lemmas.Bool.{true≢false}
 use Rattle.std.proofs.lemmas.List.{reverse-append}
 use Rattle.std.specs.List.{cons_option}
 
+-- each element has the fact
 abbrev pub Each : {X : Type 0} → (X → Type 0) → List X → Type 0
 Each P [] = Unit {0}
 Each P (x ∷ xs) = P x × Each P xs
 
+-- a fact that follows from another
 pub each_map : {X : Type 0} (P Q : X → Type 0) (xs : List X) → ((x : X) → P x → Q x) → Each P xs → Each Q xs
 each_map P Q [] f p = tt
 each_map P Q (x ∷ xs) f p = (f x p.0, each_map P Q xs f p.1)
 
+-- and from two others
 pub each_both : {X : Type 0} (P Q R : X → Type 0) (xs : List X) → ((x : X) → P x → Q x → R x) → Each P xs → Each Q xs → Each R xs
 each_both P Q R [] f p q = tt
 each_both P Q R (x ∷ xs) f p q = (f x p.0 q.0, each_both P Q R xs f p.1 q.1)
 
+-- one element more at the end
 pub each_snoc : {X : Type 0} (P : X → Type 0) (xs : List X) (x : X) → Each P xs → P x → Each P (xs ++ x ∷ [])
 each_snoc P [] x h k = (k, tt)
 each_snoc P (y ∷ ys) x h k = (h.0, each_snoc P ys x h.1 k)
 
+-- the list turned round
 pub each_reverse : {X : Type 0} (P : X → Type 0) (xs : List X) → Each P xs → Each P (reverse xs)
 each_reverse P [] h = tt
 each_reverse {X = X} P (x ∷ xs) h =
@@ -35,6 +40,7 @@ each_filter {X = X} P p (x ∷ xs) h = step (p x) refl (each_filter P p xs h.1)
     step true e k = (h.0 e, k)
     step false e k = k
 
+-- and back: of a list, what holds of each that passes
 pub each_filtered : {X : Type 0} (P : X → Type 0) (p : X → Bool) (xs : List X) → Each P (filter p xs) → Each (λ x. p x ≡ true → P x) xs
 each_filtered P p [] h = tt
 each_filtered P p (x ∷ xs) h = step (p x) refl (each_filtered P p xs) h

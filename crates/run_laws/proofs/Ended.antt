@@ -11,12 +11,15 @@ use Rattle.run_laws.proofs.Begun.{begun_more}
 use Rattle.run_laws.proofs.Growth.{Follows, here, later}
 use Rattle.run_laws.proofs.Names.{clash}
 
+-- what is not done has not ended
 pub not_ended : (c : Name) (past : List Event) → is_done c past ≡ false → is_ended c past ≡ false
 not_ended c past h = (or_parts _ _ h).0
 
+-- nor closed
 pub not_closed : (c : Name) (past : List Event) → is_done c past ≡ false → is_closed c past ≡ false
 not_closed c past h = (or_parts _ _ h).1
 
+-- what has neither committed nor aborted nor closed is not done
 pub undone_from : (c : Name) (past : List Event) → is_committed c past ≡ false → is_aborted c past ≡ false → is_closed c past ≡ false
     → is_done c past ≡ false
 undone_from c past x y z = or_from (is_ended c past) (is_closed c past) (or_from (is_committed c past) (is_aborted c past) x y) z
@@ -43,12 +46,14 @@ commits_begun setup e past c r h = elim (commits_facts setup e past c r h) [
   | inr d ↦ d.was_begun
 ]
 
+-- what has committed was begun
 pub committed_begun : (setup : Setup) (past : List Event) (c : Name) → IsRun setup past → is_committed c past ≡ true
     → is_begun c past ≡ true
 committed_begun setup [] c r h = absurd (false≢true h)
 committed_begun setup (e ∷ past) c r h =
     begun_more e past c (elim (or_cases _ _ h) [ inl k ↦ commits_begun setup e past c r k | inr k ↦ committed_begun setup past c r.2 k ])
 
+-- what has closed was begun
 pub closed_begun : (setup : Setup) (past : List Event) (c : Name) → IsRun setup past → is_closed c past ≡ true → is_begun c past ≡ true
 closed_begun setup [] c r h = absurd (false≢true h)
 closed_begun setup (e ∷ past) c r h =

@@ -10,16 +10,17 @@ use Rattle.run_model.specs.Keeping.{Performed, same_object}
 use Rattle.run_model.specs.Places.{Exchanges, collide, exchange, following, keeping, nothing}
 use Rattle.run_model.specs.Replay.{Store, store_after, updated}
 use Rattle.run_laws.specs.Laws.{ExchangesLeaveContents, ExchangesLeaveReplies}
-use Rattle.run_laws.specs.NoRuns.{first, second}
 use Rattle.run_laws.proofs.Names.{clash, eqb_self}
 use Rattle.atomic_types.specs.declared.op.Op as op
 
+-- objects that test as the same are equal
 pub same_object_true : (x y : ObjectId) → same_object x y ≡ true → x ≡ y
 same_object_true x y h =
     let p = and_parts _ _ h in
     let make : ℕ → ℕ → ObjectId = λ g n. record { guardian = g; number = n } in
     ap₂ make (eqb-true x.guardian y.guardian p.0) (eqb-true x.number y.number p.1)
 
+-- an object is the same as itself
 same_object_self : (x : ObjectId) → same_object x x ≡ true
 same_object_self x = and_from _ _ (eqb_self x.guardian) (eqb_self x.number)
 
@@ -81,6 +82,7 @@ free_together s x o p n = record {
     step z true = ap (λ c. content_after c p) (at_own s x o) ∙ law.0 ∙ sym (ap (λ c. content_after c o) (at_own s x p))
     step z false = refl
 
+-- so do any two that do not collide
 free : (s : Store) (o p : Performed) → collide o p ≡ false → AreFree s o.object o.operation p.object p.operation
 free s o p n = decide (same_object o.object p.object) refl
   where
@@ -91,6 +93,7 @@ free s o p n = decide (same_object o.object p.object) refl
         subst P (same_object_true o.object p.object e)
         (free_together s o.object o.operation p.operation (ap (λ t. t && conflicts o.operation p.operation) (sym e) ∙ n))
 
+-- each exchange leaves the replies
 pub exchanges_leave_replies : ExchangesLeaveReplies
 exchanges_leave_replies s _ _ nothing h = h
 exchanges_leave_replies s _ _ (keeping {os = os} {ps = ps} o e) h =
@@ -111,5 +114,6 @@ same_store (keeping o e) s = same_store e (updated s o.object o.operation)
 same_store (exchange o p os n) s = ap (λ t. store_after t os) (free s o p n).left
 same_store (following e f) s = same_store e s ∙ same_store f s
 
+-- and object by object
 pub exchanges_leave_contents : ExchangesLeaveContents
 exchanges_leave_contents s os ps e x = ap (λ t. t x) (same_store e s)

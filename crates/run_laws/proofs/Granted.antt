@@ -35,6 +35,7 @@ grant_parts o e past p = parts o.number e.step e.answer p.1
         (ap (λ (q : Performed). Op q.action q.object q.operation) made, ap (λ (q : Performed). Granted q.reply) made)
     parts n _ _ h = cc
 
+-- an operation is numbered by the event that granted it
 pub granted_before : (o : Performed) (e : Event) (past : List Event) {now : List Event} → Grants o e past → Follows (e ∷ past) now
     → o.number ≤ length now
 granted_before o e past p w = let l = follows_length w in let n = p.0 in omega arith
@@ -55,6 +56,7 @@ granted_free setup x wanted past [] r h =
     let e : Granted (reply_of (left_of (opening setup x) (kept_on x past)) wanted) ≡ Granted r = h in (refl, cc)
 granted_free setup x wanted past (b ∷ bs) r h = absurd (let e : Waits (b ∷ bs) ≡ Granted r = h in cc)
 
+-- what was checked before a grant
 granted_facts : (setup : Setup) (c : Name) (x : ObjectId) (wanted : op.Op) (r : Reply) (past : List Event)
     → AllFalse (checks setup (Op c x wanted) past)
     → outcome setup (Op c x wanted) past ≡ Granted r → IsGranted setup c x wanted r past
@@ -68,6 +70,7 @@ granted_facts setup c x wanted r past f a =
       reply = p.1;
     }
 
+-- what a grant in a run says
 pub granting : (setup : Setup) (o : Performed) (e : Event) (past : List Event) → IsRun setup (e ∷ past) → Grants o e past
     → IsGranted setup o.action o.object o.operation o.reply past
 granting setup o e past r p =

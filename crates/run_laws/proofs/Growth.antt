@@ -16,18 +16,22 @@ pub data Follows (past : List Event) : List Event → Type 0 where
   here : Follows past past
   later : {now : List Event} (e : Event) → Follows past now → Follows past (e ∷ now)
 
+-- what follows an event follows what came before it
 pub earlier : {e : Event} {past now : List Event} → Follows (e ∷ past) now → Follows past now
 earlier {e = e} here = later e here
 earlier (later f w) = later f (earlier w)
 
+-- what came before in a run is a run
 pub run_before : (setup : Setup) {past now : List Event} → Follows past now → IsRun setup now → IsRun setup past
 run_before setup here r = r
 run_before setup (later e w) r = run_before setup w r.2
 
+-- what some event did was done
 pub any_stays : (p : Event → Bool) {past now : List Event} → Follows past now → list_any p past ≡ true → list_any p now ≡ true
 any_stays p here h = h
 any_stays p (later {now = now} e w) h = or_right _ _ (any_stays p w h)
 
+-- committed, aborted, closed, begun and lost are for good
 pub committed_stays : (a : Name) {past now : List Event} → Follows past now → is_committed a past ≡ true → is_committed a now ≡ true
 committed_stays a w h = any_stays (λ e. step_commits e.step a) w h
 
@@ -48,18 +52,22 @@ lost_stays b here h = h
 lost_stays b (later {now = now} e w) h =
     or_left _ _ (lost_stays b w h)
 
+-- a history only grows
 pub follows_length : {past now : List Event} → Follows past now → length past ≤ length now
 follows_length here = omega arith
 follows_length (later e w) = let h = follows_length w in omega arith
 
+-- one history after another
 pub follows_through : {x y z : List Event} → Follows x y → Follows y z → Follows x z
 follows_through a here = a
 follows_through a (later e b) = later e (follows_through a b)
 
+-- histories as lists that are appended
 pub followed : (later before : List Event) → Follows before (later ++ before)
 followed [] before = here
 followed (e ∷ later') before = later e (followed later' before)
 
+-- an event that came, and back
 pub follows_from : {e : Event} {before past : List Event} → Came e before past → Follows (e ∷ before) past
 follows_from {e = e} {before = before} c =
     let P : List Event → Type 0 = λ h. Follows (e ∷ before) h in subst P (sym c.1) (followed c.0 (e ∷ before))

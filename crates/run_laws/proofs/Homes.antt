@@ -14,11 +14,13 @@ use Rattle.run_laws.proofs.Accepted.{AllFalse, checked}
 use Rattle.run_laws.proofs.Begun.{begun_cases, begun_more, begun_once}
 use Rattle.run_laws.proofs.Growth.{Follows, begun_stays, here, later}
 
+-- an event leaves the home of what was begun
 pub home_more : (setup : Setup) (e : Event) (past : List Event) (a : Name) → IsRun setup (e ∷ past) → is_begun a past ≡ true
     → home_of a (e ∷ past) ≡ home_of a past
 home_more setup e past a r h = ap (λ t. cond t (home_in e.step (λ b. home_of b past)) (home_of a past)) (begun_once setup e past a r h)
 
-pub incarnation_more : (setup : Setup) (e : Event) (past : List Event) (a : Name) → IsRun setup (e ∷ past) → is_begun a past ≡ true
+-- and its incarnation
+incarnation_more : (setup : Setup) (e : Event) (past : List Event) (a : Name) → IsRun setup (e ∷ past) → is_begun a past ≡ true
     → incarnation_of a (e ∷ past) ≡ incarnation_of a past
 incarnation_more setup e past a r h =
     ap (λ t. cond t (crashes (home_of a (e ∷ past)) past) (incarnation_of a past)) (begun_once setup e past a r h)
@@ -35,6 +37,7 @@ pub incarnation_new : (e : Event) (past : List Event) (a : Name) → begins e a 
     → incarnation_of a (e ∷ past) ≡ crashes (home_of a (e ∷ past)) past
 incarnation_new e past a h = ap (λ t. cond t (crashes (home_of a (e ∷ past)) past) (incarnation_of a past)) h
 
+-- the home stays for good
 pub home_stays : (setup : Setup) (a : Name) {past now : List Event} → Follows past now → IsRun setup now → is_begun a past ≡ true
     → home_of a now ≡ home_of a past
 home_stays setup a here r h = refl
@@ -48,6 +51,7 @@ crashes_next e past g true h =
 crashes_next e past g false h =
     ap (λ t. length (cond t (e ∷ filter (λ x. step_crashes x.step g) past) (filter (λ x. step_crashes x.step g) past))) h
 
+-- crashes are never fewer
 pub crashes_more : (e : Event) (past : List Event) (g : ℕ) → crashes g past ≤ crashes g (e ∷ past)
 crashes_more e past g = step (step_crashes e.step g) (crashes g (e ∷ past)) (crashes_next e past g (step_crashes e.step g) refl)
   where
@@ -88,6 +92,7 @@ crash_facts setup e past g r k = of e.step (checked setup e past r) k
         bounds h n e q m = omega arith
     of _ f k = absurd (false≢true k)
 
+-- what is lost began before, and its home is in the setup
 pub lost_facts : (setup : Setup) (past : List Event) (b : Name) → IsRun setup past → is_lost b past ≡ true → IsLostAt setup b past
 lost_facts setup [] b r h = absurd (false≢true h)
 lost_facts setup (e ∷ past) b r h = elim (or_cases _ _ h) [

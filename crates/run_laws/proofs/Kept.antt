@@ -4,9 +4,8 @@ use Rattle.std.proofs.lemmas.Bool.{and_from, and_left, and_parts, and_right, fal
 use Rattle.action_names.specs.Names.{Name, is_ancestor, same_name, top_of}
 use Rattle.atomic_types.specs.Operations.{is_read}
 use Rattle.run_model.specs.declared.history.Event.{Event}
-use Rattle.run_model.specs.Actions.{begun, crashes, home_of, is_aborted, is_begun, is_closed, is_committed, step_crashes}
+use Rattle.run_model.specs.Actions.{begun, home_of, is_aborted, is_begun, is_closed, is_committed, step_crashes}
 use Rattle.run_model.specs.Keeping.{Performed, is_kept, outlives_crash, prepared_after, undoes}
-use Rattle.run_model.specs.Refusals.{gone}
 use Rattle.run_model.specs.Replay.{Setup}
 use Rattle.run_model.specs.Runs.{IsRun}
 use Rattle.run_model.specs.Telling.{tells}
@@ -23,7 +22,7 @@ use Rattle.run_laws.proofs.NothingLost.{nothing_lost_under_committed, yes_facts}
 use Rattle.run_laws.proofs.Visible.{visible_from, visible_use}
 
 -- nothing visible to an action that is no orphan has an aborted ancestor
-pub never_aborted : (setup : Setup) (now : List Event) (a b f : Name) → IsRun setup now → is_orphan a now ≡ false
+never_aborted : (setup : Setup) (now : List Event) (a b f : Name) → IsRun setup now → is_orphan a now ≡ false
     → is_visible b a now ≡ true
     → is_ancestor f b ≡ true → is_aborted f now ≡ true → ⊥
 never_aborted setup now a b f r n v k h = elim (visible_use b a f now v k) [
@@ -200,12 +199,14 @@ kept_or_closed setup o e past a p w v r n s = elim (kept_or_dropped setup o e pa
   | inr x ↦ inr (x.0, closed_stays (top_of o.action) (earlier x.1.came) x.1.closed)
 ]
 
+-- the law
 pub visible_is_kept : VisibleIsKept
 visible_is_kept setup past a o e before r n c g v = elim (kept_or_dropped setup o e before a g (follows_from c) here r n v) [
   | inl x ↦ inl x
   | inr x ↦ let d = x.1 in inr (x.0, (d.crash, d.before, came_from d.came, d.crashes, d.kept, d.dropped, d.closed))
 ]
 
+-- The law: an operation is kept from its own event on, and no later one brings it back.
 pub kept_never_again : KeptNeverAgain
 kept_never_again o e before earlier more c g n = go more
   where

@@ -1,5 +1,5 @@
 -- A yes vote finds the dependency at the present incarnation, so nothing lost is visible under a committed top action.
-use Rattle.std.proofs.Common.{Bool, List, Option, Some, [], ap, arith, cond, eqb-true, false, inl, inr, is_none, length, refl, reverse, subst, suc, sym, true, zero, ℕ, ◌<◌, ◌||◌, ◌∙◌, ◌∷◌, ◌≡◌, ◌≤◌, ◌⊎◌}
+use Rattle.std.proofs.Common.{Bool, List, [], ap, arith, cond, eqb-true, false, inl, inr, is_none, length, refl, reverse, subst, suc, sym, true, zero, ℕ, ◌<◌, ◌||◌, ◌∙◌, ◌∷◌, ◌≡◌, ◌≤◌, ◌⊎◌}
 use Rattle.std.proofs.lemmas.Bool.{and_from, and_parts, cases_eq, false_from_ne_true, false≢true, not-false, not-true, or_cases}
 use Rattle.std.proofs.lemmas.List.{reverse-append}
 use Rattle.std.proofs.lemmas.List.Folds.{list_all-append}
@@ -36,6 +36,7 @@ pub record IsYes (setup : Setup) (g : ℕ) (t : Name) (past : List Event) : Type
   pub closed : is_closed t past ≡ true
   pub present : is_number (dependency t g past) (crashes g past) ≡ true
 
+-- what a vote yes says
 pub yes_facts : (setup : Setup) (e : Event) (past : List Event) (g : ℕ) (t : Name) → IsRun setup (e ∷ past)
     → votes_yes e.step e.answer g t ≡ true → IsYes setup g t past
 yes_facts setup e past g t r v = of e.step e.answer (checked setup e past r) (answered setup e past r) v
@@ -60,9 +61,6 @@ yes_facts setup e past g t r v = of e.step e.answer (checked setup e past r) (an
 crash_no_vote : (step : Step) (answer : Answer) (g h : ℕ) (t : Name) → step_crashes step g ≡ true → votes_yes step answer h t ≡ false
 crash_no_vote (Crash k) answer g h t c = refl
 crash_no_vote _ answer g h t c = absurd (false≢true c)
-
-number_is : (o : Option ℕ) (m n : ℕ) → o ≡ Some m → is_number o n ≡ true → m ≡ n
-number_is o m n e h = eqb-true m n (ap (λ x. is_number x n) (sym e) ∙ h)
 
 -- a home that prepared the tree had lost nothing of what the tree's commit makes visible
 lost_unprepared : (setup : Setup) (b t : Name) (now : List Event) {end : List Event} → Follows now end → IsRun setup end
@@ -122,6 +120,7 @@ each_guardian p n g h a b = fall n (all_reversed (down_from n) h) a b
           | inr e ↦ fall n q.1 a (omega arith)
         ]
 
+-- The law: the home of a lost action had prepared, as the decision asks; but then it had lost nothing.
 pub nothing_lost_under_committed : NothingLostUnderCommitted
 nothing_lost_under_committed setup now t b r p c k v = false_from_ne_true _ never
   where

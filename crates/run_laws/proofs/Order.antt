@@ -87,6 +87,7 @@ in_order setup end a o p e f before between r n w1 g1 w2 g2 v1 v2 c = elim (kept
         place_tops closing o.number p.number o.action p.action named1 named2 (closed_below (top_of o.action) q)
         (open_still (top_of p.action) (top_facts p.action named2).1)
 
+-- the law
 pub conflicts_keep_order : ConflictsKeepOrder
 conflicts_keep_order setup past a o p e f before between r n c g d h v w k =
     in_order setup past a o p e f before between r n (follows_from c) g (follows_from d) h v w k
@@ -116,5 +117,6 @@ visible_pairs setup (e ∷ past) a {end = end} w r n = elim (grant_cases e past)
         subst (EachPair (InOrder end)) (sym (reverse-append (o ∷ []) older))
         (pair_snoc (InOrder end) (reverse older) o rest (each_reverse (λ q. InOrder end q o) older before))
 
+-- the law
 pub grant_to_place : GrantToPlace
 grant_to_place setup past a r n = exchanged past (visible_by_grant a past) (visible_pairs setup past a here r n)

@@ -22,7 +22,6 @@ use Rattle.run_model.specs.Runs.{IsRun}
 use Rattle.run_model.specs.Visibility.{has_prepared, is_lost, is_orphan, is_visible, votes_yes}
 use Rattle.run_model.specs.Votes.{may_prepare}
 use Rattle.run_laws.specs.Laws.{RefusedOrphansAreOrphans, actor_of}
-use Rattle.run_laws.specs.NoRuns.{first}
 use Rattle.run_laws.proofs.Active.{nothing_active_below_done}
 use Rattle.run_laws.proofs.Begun.{begins_no_crash, begun_cases, nameless}
 use Rattle.run_laws.proofs.Homes.{as_before, crashes_next, home_more, incarnation_new}
@@ -70,10 +69,12 @@ crashed_lost setup (e ∷ past) b r k l p = elim (begun_cases e past b k) [
         finish false c =
             or_left _ _ (ih (subst (λ m. incarnation_of b past < m) (crashes_next e past (home_of b past) false c) older) unprepared)
 
+-- a dependency below a count is there
 below_cases : (o : Option ℕ) (m : ℕ) → is_below o m ≡ true → (n : ℕ) × (o ≡ Some n) × (n < m)
 below_cases None m h = absurd (false≢true h)
 below_cases (Some n) m h = (n, refl, ltb-true n m h)
 
+-- some number of a list passes
 any_number : (p : ℕ → Bool) (ns : List ℕ) → list_any p ns ≡ true → (n : ℕ) × (p n ≡ true)
 any_number p [] h = absurd (false≢true h)
 any_number p (n ∷ ns) h = elim (or_cases _ _ h) [ inl x ↦ (n, x) | inr x ↦ any_number p ns x ]
@@ -119,6 +120,7 @@ abbrev OrphanIsFirst : List Check → Type 0
 OrphanIsFirst [] = ⊥
 OrphanIsFirst (c ∷ cs) = Applies c.0 c.1 (OrphanIsFirst cs)
 
+-- where the first refusal is that of an orphan
 orphan_is_first : (cs : List Check) → first_refusal cs ≡ Some Orphan → OrphanIsFirst cs
 orphan_is_first [] h = cc
 orphan_is_first (c ∷ cs) h = first c.0 c.1 h (orphan_is_first cs)
@@ -161,6 +163,7 @@ refused_first setup step past h = of (first_refusal (checks setup step past)) (o
     of None answer h n = absurd (clash (ap refuses h) n)
     of (Some why) answer h n = let e : Refused why ≡ Refused Orphan = h in cc
 
+-- The law: the refusals in front say that the action was begun and is not done.
 pub refused_orphans_are_orphans : RefusedOrphansAreOrphans
 unfolding answer_of
 refused_orphans_are_orphans setup past step r h = of step (orphan_is_first (checks setup step past) (refused_first setup step past h))

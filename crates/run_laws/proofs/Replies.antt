@@ -31,6 +31,7 @@ after_snoc : (s : Store) (os : List Performed) (o : Performed)
 after_snoc s [] o = refl
 after_snoc s (p ∷ ps) o = after_snoc (updated s p.object p.operation) ps o
 
+-- those on one object
 abbrev on : ObjectId → List Performed → List Performed
 on x os = filter (λ p. same_object p.object x) os
 
@@ -67,6 +68,7 @@ same_writes c p q (o ∷ os) h = step (p o) (q o) h.0 (same_writes c p q os h.1)
     step true false (inr k) e = reads_leave (left_of c (filter p os)) o.operation k ∙ e
     step false true (inr k) e = e ∙ sym (reads_leave (left_of c (filter q os)) o.operation k)
 
+-- two tests one after the other
 filter_twice : (p q : Performed → Bool) (os : List Performed) → filter p (filter q os) ≡ filter (λ o. q o && p o) os
 filter_twice p q [] = refl
 filter_twice p q (o ∷ os) = step (q o) (filter_twice p q os)
@@ -136,6 +138,7 @@ reply_by_grant setup o e past a {end = end} p run w r n v =
     each : Each (λ q. Agrees q) (performed past)
     each = each_both _ _ _ (performed past) agree (granted_sees o.action x o.operation past given.free) kept_if_seen
 
+-- the law: an action is visible to itself
 pub replies_by_grant : RepliesByGrant
 replies_by_grant setup past o e before r c g n =
     let run = run_before setup (follows_from c) r in

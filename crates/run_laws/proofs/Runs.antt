@@ -7,6 +7,7 @@ use Rattle.run_model.specs.Replay.{Setup}
 use Rattle.run_model.specs.Runs.{IsRun, history_after, history_from, is_accepted}
 use Rattle.run_laws.specs.Stepping.{HistoriesAreRuns, RunMore}
 
+-- one step
 pub run_more : RunMore
 run_more setup step past r = go (is_accepted (answer_of setup step past)) refl
   where
@@ -21,5 +22,6 @@ run_from setup past [] r = r
 run_from setup past (step ∷ steps) r =
     run_from setup (history_after step (answer_of setup step past) past) steps (run_more setup step past r)
 
+-- from the start
 pub histories_are_runs : HistoriesAreRuns
 histories_are_runs setup steps = run_from setup [] steps tt

@@ -9,7 +9,6 @@ use Rattle.run_model.specs.Actions.{is_committed}
 use Rattle.run_model.specs.Keeping.{Performed, blockers, is_kept, kept_on, performed, same_object}
 use Rattle.run_model.specs.Telling.{holder_of, last_passing, or_else, told_committed, was_told}
 use Rattle.run_model.specs.Visibility.{is_visible}
-use Rattle.run_laws.specs.NoRuns.{first}
 use Rattle.run_laws.proofs.Each.{Each, each_fails, each_filtered, each_map, each_mapped}
 use Rattle.run_laws.proofs.Names.{ancestor_trans}
 use Rattle.run_laws.proofs.Visible.{visible_from}

@@ -18,11 +18,13 @@ use Rattle.run_laws.proofs.Order.{grant_to_place}
 use Rattle.run_laws.proofs.Replies.{reply_by_grant}
 use Rattle.atomic_types.specs.declared.op.Op as op
 
+-- what one operation more answers
 replayed_snoc : (s : Store) (os : List Performed) (o : Performed)
     → replayed s (os ++ o ∷ []) ≡ replayed s os ++ reply_of (store_after s os o.object) o.operation ∷ []
 replayed_snoc s [] o = refl
 replayed_snoc s (p ∷ ps) o = ap (λ rs. reply_of (s p.object) p.operation ∷ rs) (replayed_snoc (updated s p.object p.operation) ps o)
 
+-- and was answered
 given_snoc : (os : List Performed) (o : Performed) → replies_given (os ++ o ∷ []) ≡ replies_given os ++ o.reply ∷ []
 given_snoc [] o = refl
 given_snoc (p ∷ ps) o = ap (λ rs. p.reply ∷ rs) (given_snoc ps o)
@@ -52,11 +54,13 @@ serial_by_grant setup (e ∷ past) a {end = end} w r n = elim (grant_cases e pas
         ∙ ap₂ (λ rs r. rs ++ r ∷ []) rest (sym (reply_by_grant setup o e past a p (run_before setup w r) (earlier w) r n v))
         ∙ sym (ap replies_given (reverse-append (o ∷ []) older) ∙ given_snoc (reverse older) o)
 
+-- the law: the replies hold in order of grant, and exchanges lead from there to the order of place
 pub serial_view : SerialView
 serial_view setup past a r b n =
     exchanges_leave_replies (opening setup) (visible_by_grant a past) (visible_by_place a past) (grant_to_place setup past a r n)
     (serial_by_grant setup past a here r n)
 
+-- the parts of what was asked
 asked_parts : (o p : Performed) (os ps : List Performed) → asked (o ∷ os) ≡ asked (p ∷ ps)
     → (o.object ≡ p.object) × (o.operation ≡ p.operation) × (asked os ≡ asked ps)
 asked_parts o p os ps h =
@@ -77,6 +81,7 @@ same_asked s (o ∷ os) (p ∷ ps) h =
     ap₂ (λ x w. reply_of (s x) w ∷ replayed (updated s x w) os) q.0 q.1
     ∙ ap (λ l. reply_of (s p.object) p.operation ∷ l) (same_asked (updated s p.object p.operation) os ps q.2)
 
+-- the law: both are what the store answers to what was asked
 pub equal_lists_equal_replies : EqualListsEqualReplies
 equal_lists_equal_replies setup past other a b r q ba bb na nb e =
     sym (serial_view setup past a r ba na) ∙ same_asked (opening setup) (visible_by_place a past) (visible_by_place b other) e

@@ -19,6 +19,7 @@ use Rattle.run_laws.proofs.Homes.{as_before, incarnation_new}
 use Rattle.run_laws.proofs.Names.{ancestor_trans, ancestor_up, clash, parent_ancestor, same_name_self, same_name_true, single_top, top_of_ancestor}
 use Rattle.run_laws.proofs.Visible.{visibility_carries_over, visible_from, visible_self, visible_stays}
 
+-- a's dependency on h from incarnation n is b's home
 pub record IsSource (a b : Name) (h n : ℕ) (past : List Event) : Type 0 where
   pub was_begun : is_begun b past ≡ true
   pub tree : top_of b ≡ top_of a
@@ -46,6 +47,7 @@ lesser_cases (Some m) (Some k) n e = pick (nat_lt m k) refl
     pick true q = let l = ltb-true m k q in let s = same in inl (ap Some (omega arith))
     pick false q = let l = ltb-false m k q in let s = same in inr (ap Some (omega arith))
 
+-- the own entry is of the home
 own_cases : (home h c n : ℕ) → own_entry home h c ≡ Some n → (home ≡ h) × (c ≡ n)
 own_cases home h c n e = step (home == h) refl e
   where
@@ -126,6 +128,7 @@ source_old setup e past a h n r q k d =
         up f (inl z) = inr (or_left _ _ (ap (λ x. step_commits e.step x) z ∙ commits))
         up f (inr z) = inl (sym (ap (λ x. is_ancestor f x) p) ∙ z)
 
+-- Go back to the event that began the source.
 pub dependency_source : (setup : Setup) (past : List Event) (a : Name) (h n : ℕ) → IsRun setup past → is_begun a past ≡ true
     → dependency a h past ≡ Some n
     → (b : Name) × IsSource a b h n past

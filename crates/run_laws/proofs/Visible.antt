@@ -15,6 +15,7 @@ pub visible_use : (b a c : Name) (past : List Event) → is_visible b a past ≡
 visible_use b a c past h k =
     or_cases _ _ (all_ancestors_use (λ d. is_ancestor d a || is_committed d past) b c h k)
 
+-- and back
 pub visible_from : (b a : Name) (past : List Event)
     → ((c : Name) → is_ancestor c b ≡ true → (is_ancestor c a ≡ true) ⊎ (is_committed c past ≡ true)) → is_visible b a past ≡ true
 visible_from b a past h = all_ancestors_from (λ d. is_ancestor d a || is_committed d past) b (λ c k. join c (h c k))
@@ -23,6 +24,7 @@ visible_from b a past h = all_ancestors_from (λ d. is_ancestor d a || is_commit
     join c (inl e) = or_left _ _ e
     join c (inr e) = or_right _ _ e
 
+-- every action is visible to itself
 pub visible_self : (a : Name) (past : List Event) → is_visible a a past ≡ true
 visible_self a past = visible_from a a past (λ f k. inl k)
 
