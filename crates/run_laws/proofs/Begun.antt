@@ -24,7 +24,7 @@ abbrev pub children_in : Name → List Name → ℕ
 children_in a names = length (filter (λ b. same_name (parent_of b) a) names)
 
 -- a name that a step begins: its number is the next or above, and stays below the next number of then
-pub record IsNew (setup : Setup) (step : Step) (past : List Event) (names : List Name) (c : Name) : Type 0 where
+pub record IsNew (step : Step) (past : List Event) (names : List Name) (c : Name) : Type 0 where
   pub low : next_number (parent_of c) past ≤ last_of c
   pub high : last_of c < next_number (parent_of c) past + children_in (parent_of c) names
   pub made : (is_top c ≡ true) ⊎ (step_makes step (parent_of c) ≡ true)
@@ -104,49 +104,49 @@ only : (b c : Name) → has_name (b ∷ []) c ≡ true → b ≡ c
 only b c h = elim (or_cases _ _ h) [ inl k ↦ same_name_true b c k | inr k ↦ absurd (false≢true k) ]
 
 -- a name of which the parent is p
-new_under : (setup : Setup) (step : Step) (past : List Event) (names : List Name) (c p : Name) → parent_of c ≡ p
+new_under : (step : Step) (past : List Event) (names : List Name) (c p : Name) → parent_of c ≡ p
     → next_number p past ≤ last_of c → last_of c < next_number p past + children_in p names
-    → (is_top c ≡ true) ⊎ (step_makes step p ≡ true) → IsNew setup step past names c
-new_under setup step past names c p e low high made = record {
+    → (is_top c ≡ true) ⊎ (step_makes step p ≡ true) → IsNew step past names c
+new_under step past names c p e low high made = record {
   low = subst (λ q. next_number q past ≤ last_of c) (sym e) low;
   high = subst (λ q. last_of c < next_number q past + children_in q names) (sym e) high;
   made = subst (λ q. (is_top c ≡ true) ⊎ (step_makes step q ≡ true)) (sym e) made;
 }
 
 -- the next top action is new
-new_top : (setup : Setup) (step : Step) (past : List Event) (c : Name) → (next_number [] past ∷ []) ≡ c
-    → IsNew setup step past ((next_number [] past ∷ []) ∷ []) c
-new_top setup step past c e =
+new_top : (step : Step) (past : List Event) (c : Name) → (next_number [] past ∷ []) ≡ c
+    → IsNew step past ((next_number [] past ∷ []) ∷ []) c
+new_top step past c e =
     let n = next_number [] past in
     let more = children_more [] (n ∷ []) [] refl in
-    subst (λ b. IsNew setup step past ((n ∷ []) ∷ []) b) e
-    (new_under setup step past ((n ∷ []) ∷ []) (n ∷ []) [] refl (omega arith) (omega (arith, more)) (inl refl))
+    subst (λ b. IsNew step past ((n ∷ []) ∷ []) b) e
+    (new_under step past ((n ∷ []) ∷ []) (n ∷ []) [] refl (omega arith) (omega (arith, more)) (inl refl))
 
 -- the next child is new
-new_child : (setup : Setup) (a : Name) (g : ℕ) (past : List Event) (c : Name) → child_of a (next_number a past) ≡ c
-    → IsNew setup (Call a g) past (child_of a (next_number a past) ∷ []) c
-new_child setup a g past c e =
+new_child : (a : Name) (g : ℕ) (past : List Event) (c : Name) → child_of a (next_number a past) ≡ c
+    → IsNew (Call a g) past (child_of a (next_number a past) ∷ []) c
+new_child a g past c e =
     let b = child_of a (next_number a past) in
     let more = children_more a b [] (parent_child a (next_number a past)) in
     let l = last_child a (next_number a past) in
     let under = parent_child a (next_number a past) in
-    subst (λ d. IsNew setup (Call a g) past (b ∷ []) d) e
-    (new_under setup (Call a g) past (b ∷ []) b a under (omega arith) (omega (arith, more)) (inr (same_name_self a)))
+    subst (λ d. IsNew (Call a g) past (b ∷ []) d) e
+    (new_under (Call a g) past (b ∷ []) b a under (omega arith) (omega (arith, more)) (inr (same_name_self a)))
 
 -- an arm is new
-new_arm : (setup : Setup) (a : Name) (kinds : List ArmKind) (past : List Event) (names : List Name) (c : Name)
-    → IsArm a (next_number a past) (next_number [] past) names c → IsNew setup (Arms a kinds) past names c
-new_arm setup a kinds past names c (sub_arm e low high) = new_under setup (Arms a kinds) past names c a e low high (inr (same_name_self a))
-new_arm setup a kinds past names c (top_arm t e low high) = new_under setup (Arms a kinds) past names c [] e low high (inl t)
+new_arm : (a : Name) (kinds : List ArmKind) (past : List Event) (names : List Name) (c : Name)
+    → IsArm a (next_number a past) (next_number [] past) names c → IsNew (Arms a kinds) past names c
+new_arm a kinds past names c (sub_arm e low high) = new_under (Arms a kinds) past names c a e low high (inr (same_name_self a))
+new_arm a kinds past names c (top_arm t e low high) = new_under (Arms a kinds) past names c [] e low high (inl t)
 
 -- all that an outcome begins is new
 begins_new : (setup : Setup) (step : Step) (past : List Event) (c : Name)
-    → has_name (names_begun (outcome setup step past)) c ≡ true → IsNew setup step past (names_begun (outcome setup step past)) c
-begins_new setup (Top g) past c h = new_top setup (Top g) past c (only (next_number [] past ∷ []) c h)
-begins_new setup (NestedTop a) past c h = new_top setup (NestedTop a) past c (only (next_number [] past ∷ []) c h)
-begins_new setup (Call a g) past c h = new_child setup a g past c (only (child_of a (next_number a past)) c h)
+    → has_name (names_begun (outcome setup step past)) c ≡ true → IsNew step past (names_begun (outcome setup step past)) c
+begins_new setup (Top g) past c h = new_top (Top g) past c (only (next_number [] past ∷ []) c h)
+begins_new setup (NestedTop a) past c h = new_top (NestedTop a) past c (only (next_number [] past ∷ []) c h)
+begins_new setup (Call a g) past c h = new_child a g past c (only (child_of a (next_number a past)) c h)
 begins_new setup (Arms a kinds) past c h =
-    new_arm setup a kinds past (arm_names a (next_number a past) (next_number [] past) kinds) c
+    new_arm a kinds past (arm_names a (next_number a past) (next_number [] past) kinds) c
     (arms_are a (next_number a past) (next_number [] past) kinds c h)
 begins_new setup (Op a x wanted) past c h = absurd (clash h (none (blockers a x wanted past)))
   where
@@ -162,10 +162,10 @@ begins_new setup _ past c h = absurd (false≢true h)
 
 -- what a step of a run begins
 pub new_in_run : (setup : Setup) (e : Event) (past : List Event) (c : Name) → IsRun setup (e ∷ past) → begins e c ≡ true
-    → IsNew setup e.step past (names_begun e.answer) c
+    → IsNew e.step past (names_begun e.answer) c
 new_in_run setup e past c r h =
     let given = answered setup e past r in
-    subst (λ answer. IsNew setup e.step past (names_begun answer) c) (sym given)
+    subst (λ answer. IsNew e.step past (names_begun answer) c) (sym given)
     (begins_new setup e.step past c (subst (λ answer. has_name (names_begun answer) c ≡ true) given h))
 
 -- one event more

@@ -44,7 +44,7 @@ merged_keeps true d a before n h =
     (m, ap (λ x. lesser x (before d)) h ∙ e, l)
 merged_keeps false d a before n h = (n, h, omega arith)
 
--- of what was begun, after any step
+-- whatever the step, if the action was begun
 keeps : (step : Step) (a : Name) (before : Name → Option ℕ) (own : Option ℕ) (n : ℕ) → before a ≡ Some n
     → (m : ℕ) × (dependency_after false step a before own ≡ Some m) × (m ≤ n)
 keeps (Commit d) a before own n h = merged_keeps (same_name (parent_of d) a) d a before n h
@@ -120,8 +120,8 @@ record CommitsChild (e : Event) (past : List Event) (c b : Name) : Type 0 where
   pub above : is_ancestor child b ≡ true
   pub seen : is_visible b child past ≡ true
 
--- What a step makes visible under c, it does by the commit of a child of c: its commit is that of an f between c and b, and what
--- is between c and f has committed, so nothing is, for f was open.
+-- A step that makes b visible under c commits a child of c: it commits some f between c and b, and nothing lies between c and f,
+-- for that would have committed before f, which was open.
 child_commits : (setup : Setup) (e : Event) (past : List Event) (c b f : Name) → IsRun setup (e ∷ past) → is_ancestor c b ≡ true
     → is_visible b c (e ∷ past) ≡ true
     → is_ancestor f b ≡ true → step_commits e.step f ≡ true → is_ancestor f c ≡ false → CommitsChild e past c b

@@ -29,7 +29,7 @@ run_before setup (later e w) r = run_before setup w r.2
 -- what some event did was done
 pub any_stays : (p : Event → Bool) {past now : List Event} → Follows past now → list_any p past ≡ true → list_any p now ≡ true
 any_stays p here h = h
-any_stays p (later {now = now} e w) h = or_right _ _ (any_stays p w h)
+any_stays p (later e w) h = or_right _ _ (any_stays p w h)
 
 -- committed, aborted, closed, begun and lost are for good
 pub committed_stays : (a : Name) {past now : List Event} → Follows past now → is_committed a past ≡ true → is_committed a now ≡ true
@@ -44,13 +44,11 @@ closed_stays a w h = any_stays (λ e. step_closes e.step a) w h
 pub begun_stays : (a : Name) {past now : List Event} → Follows past now → is_begun a past ≡ true → is_begun a now ≡ true
 begun_stays a here h = h
 begun_stays a (later {now = now} e w) h =
-    has_name_append (names_begun e.answer) (begun now) a
-    ∙ or_right _ _ (begun_stays a w h)
+    has_name_append (names_begun e.answer) (begun now) a ∙ or_right _ _ (begun_stays a w h)
 
 pub lost_stays : (b : Name) {past now : List Event} → Follows past now → is_lost b past ≡ true → is_lost b now ≡ true
 lost_stays b here h = h
-lost_stays b (later {now = now} e w) h =
-    or_left _ _ (lost_stays b w h)
+lost_stays b (later e w) h = or_left _ _ (lost_stays b w h)
 
 -- a history only grows
 pub follows_length : {past now : List Event} → Follows past now → length past ≤ length now
@@ -67,7 +65,7 @@ pub followed : (later before : List Event) → Follows before (later ++ before)
 followed [] before = here
 followed (e ∷ later') before = later e (followed later' before)
 
--- an event that came, and back
+-- an event that came; and back
 pub follows_from : {e : Event} {before past : List Event} → Came e before past → Follows (e ∷ before) past
 follows_from {e = e} {before = before} c =
     let P : List Event → Type 0 = λ h. Follows (e ∷ before) h in subst P (sym c.1) (followed c.0 (e ∷ before))

@@ -161,8 +161,7 @@ pub record IsDropped (o : Performed) (now : List Event) : Type 0 where
 kept_or_dropped : (setup : Setup) (o : Performed) (e : Event) (past : List Event) (a : Name) {mid end : List Event} → Grants o e past
     → Follows (e ∷ past) mid → Follows mid end → IsRun setup end → is_orphan a end ≡ false → is_visible o.action a end ≡ true
     → (is_kept o mid ≡ true) ⊎ ((is_read o.operation ≡ true) × IsDropped o mid)
-kept_or_dropped setup o e past a p here v r n s =
-    inl (or_left _ _ (eq-eqb o.number (suc (length past)) p.0))
+kept_or_dropped setup o e past a p here v r n s = inl (or_left _ _ (eq-eqb o.number (suc (length past)) p.0))
 kept_or_dropped setup o e past a p (later {now = now} k w) v r n s = elim (kept_or_dropped setup o e past a p w (earlier v) r n s) [
   | inr x ↦ inr (x.0, still x.1)
   | inl x ↦ decide x (undoes k now o) refl

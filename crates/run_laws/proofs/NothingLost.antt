@@ -30,15 +30,15 @@ use Rattle.run_laws.proofs.Settled.{settled_begun, settled_visible}
 use Rattle.run_laws.proofs.Visible.{visible_use}
 
 -- a yes vote
-pub record IsYes (setup : Setup) (g : ℕ) (t : Name) (past : List Event) : Type 0 where
+pub record IsYes (g : ℕ) (t : Name) (past : List Event) : Type 0 where
   pub was_begun : is_begun t past ≡ true
   pub top : is_top t ≡ true
   pub closed : is_closed t past ≡ true
   pub present : is_number (dependency t g past) (crashes g past) ≡ true
 
--- what a vote yes says
+-- what a yes vote says
 pub yes_facts : (setup : Setup) (e : Event) (past : List Event) (g : ℕ) (t : Name) → IsRun setup (e ∷ past)
-    → votes_yes e.step e.answer g t ≡ true → IsYes setup g t past
+    → votes_yes e.step e.answer g t ≡ true → IsYes g t past
 yes_facts setup e past g t r v = of e.step e.answer (checked setup e past r) (answered setup e past r) v
   where
     given : (x : Bool) → VoteYes ≡ cond x VoteYes VoteNo → x ≡ true
@@ -46,10 +46,10 @@ yes_facts setup e past g t r v = of e.step e.answer (checked setup e past r) (an
     given false h = cc
 
     of : (step : Step) (answer : Answer) → AllFalse (checks setup step past) → answer ≡ outcome setup step past
-        → votes_yes step answer g t ≡ true → IsYes setup g t past
+        → votes_yes step answer g t ≡ true → IsYes g t past
     of (Prepare h b) VoteYes f a v =
         let p = and_parts _ _ v in
-        subst (λ x. IsYes setup x t past) (eqb-true h g p.0) (subst (λ x. IsYes setup h x past) (same_name_true b t p.1) (record {
+        subst (λ x. IsYes x t past) (eqb-true h g p.0) (subst (λ x. IsYes h x past) (same_name_true b t p.1) (record {
           was_begun = not-false _ f.1.0;
           top = not-false _ f.1.1.1.1.1.1.0;
           closed = not-false _ f.1.1.1.1.1.1.1.0;
@@ -89,7 +89,7 @@ lost_unprepared setup b t (e ∷ past) w r all q k l p = elim (or_cases _ _ l) [
     prepared_cases h = or_cases _ _ (ap (λ g. has_prepared g t (e ∷ past)) (sym (home_more setup e past b run h)) ∙ p)
 
     -- the vote found the dependency at the present incarnation, which is later than that of what was lost
-    voted : IsLostAt setup b past → IsYes setup (home_of b past) t past → ⊥
+    voted : IsLostAt setup b past → IsYes (home_of b past) t past → ⊥
     voted lost vote =
         let visible = settled_visible setup t b (earlier w) r all vote.top vote.closed k lost.was_begun in
         let d = depends_on_visible setup past t b run.2 lost.was_begun k visible in
