@@ -1,3 +1,4 @@
 pub mod Paths
 pub mod Numbers
 pub mod Text
+pub mod Entries
