@@ -210,3 +210,16 @@ count_new-known es (e ∷ others) known =
   where
     also : (g : ℕ) → IsSome (least_at others g) → IsSome (least_at (e ∷ others) g)
     also g some = elim (eq_by_cmp nat_cmp g e.0) as (λ b. IsSome (cond b (Some e.1) (least_at others g))) [ true ↦ refl | false ↦ some ]
+
+-- ---- the map of rising entries
+pub entries_of : (es : Entries) → IsRising es → map.entries (map.from_sorted {R = nat_cmp} es) ≡ es
+entries_of es s = map.entries-from_sorted nat_cmp es s
+
+pub len_of : (es : Entries) → IsRising es → map.len (map.from_sorted {R = nat_cmp} es) ≡ length es
+len_of es s = map.len-entries (map.from_sorted es) ∙ ap length (entries_of es s)
+
+pub get_of : (es : Entries) (g : ℕ) → IsRising es → map.get (map.from_sorted {R = nat_cmp} es) g ≡ least_at es g
+get_of es g s = map.get-from_sorted nat_cmp es g s
+
+pub empty_of : let none : map.FinMap nat_cmp ℕ = map.from_sorted [] in none ≡ map.empty
+empty_of = map.empty_of_len (map.from_sorted []) (len_of [] tt)

@@ -1,10 +1,10 @@
 -- What the definitions of names say of lists: beginnings, parents, last numbers and shared beginnings.
-use Rattle.std.proofs.Common.{◌≡◌, ℕ, zero, suc, ◌+◌, ◌-◌, ◌<◌, ◌≤◌, Bool, true, false, cond, eqb, nat_eq, ◌&&◌, ◌==◌, List, [], ◌∷◌, ◌++◌, length, get_or, take, drop, refl, sym, ap, ◌∙◌, arith, rules}
-use Rattle.std.specs.List.{AllByRecursion, zip, prefix_len, starts_with}
+use Rattle.std.proofs.Common.{◌≡◌, ℕ, zero, suc, ◌+◌, ◌-◌, ◌<◌, ◌≤◌, Bool, true, false, cond, eqb, nat_eq, ◌&&◌, ◌||◌, ◌==◌, List, [], ◌∷◌, ◌++◌, length, get_or, take, drop, refl, sym, ap, ◌∙◌, arith, rules}
+use Rattle.std.specs.List.{AllByRecursion, zip, prefix_len, starts_with, list_any}
 use Rattle.std.proofs.lemmas.Bool.Decides.{nat_tests}
 use native.Mathlib.Numerals.{unary_clauses}
 use lib.Pointwise.{pointwise}
-use Rattle.action_names.specs.Names.{Name, IsName, IsComponent, is_prefix, is_ancestor, is_top, meet_of, parent_of, last_of, child_of, max_depth}
+use Rattle.action_names.specs.Names.{Name, IsName, IsComponent, is_prefix, is_ancestor, is_top, meet_of, parent_of, last_of, same_name, has_name}
 
 -- the last number stands at the last place
 pub last_of-at : (a : Name) (d : ℕ) → 1 ≤ length a → last_of a ≡ get_or a (length a - 1) d
@@ -66,3 +66,8 @@ meet_of-zip (m ∷ a) [] = refl
 meet_of-zip (m ∷ a) (n ∷ b) =
     let more : 1 + prefix_len (λ (p : ℕ × ℕ). p.0 == p.1) (zip a b) ≡ suc (meet_of a b) = omega (arith, meet_of-zip a b) in
     ap (λ k. cond (m == n) k zero) more
+
+-- a list has a name where one of its names is the same
+pub list_any-has_name : (names : List Name) (a : Name) → list_any (λ b. same_name b a) names ≡ has_name names a
+list_any-has_name [] a = refl
+list_any-has_name (b ∷ names) a = ap (λ r. same_name b a || r) (list_any-has_name names a)

@@ -43,8 +43,10 @@ impl Deps {
     pub fn get(&self, guardian: u32) -> Option<u64>
         ensures { result ≡ map.get self.now guardian }
     {
-        let at = search(&self.least, guardian).ok()?;
-        Some(self.least[at].1)
+        match search(&self.least, guardian) {
+            Ok(at) => Some(self.least[at].1),
+            Err(_) => None,
+        }
     }
 
     /// Adds a dependency on an incarnation of the guardian: the lesser of the two stays.
@@ -132,6 +134,7 @@ fn lower_in(
     incarnation: u64,
 ) -> Result<(), AllocError>
     requires { IsRising least.old.items }
+    ensures rising { IsRising least.new.items }
     ensures ok { OnOk result (least.new.items
         ≡ with_least least.old.items guardian (lowered (least_at least.old.items guardian) incarnation)) }
     ensures err { OnErr result (least.new.items ≡ least.old.items) }

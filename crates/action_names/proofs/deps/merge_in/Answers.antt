@@ -22,7 +22,7 @@ loop-guardian-preserved c =
     let rises : IsRising (e ∷ rest) = rw left at (rising_drop others at c.requires.others) in
     let long : vec_len c.lower_in.new.least ≡ length (with_least es e.0 n) = omega (arith, c.lower_in.new.least.ok, ap length after) in
     record {
-      rising = rw after (rising_with_least es e.0 n c.loop-guardian.invariant.rising);
+      rising = c.lower_in.ensures.rising;
       merged = λ g. rw after (merge_step es e rest rises g ∙ rw left at (c.loop-guardian.invariant.merged g));
       room = omega (arith, places_step es e rest c.loop-guardian.invariant.rising n, ap (λ xs. count_new xs rest) after, ap (count_new es) left, c.loop-guardian.invariant.room, c.lower_in.ensures.capacity);
     }
