@@ -143,8 +143,8 @@ rising_with_least es g n s = is_sorted-put nat_cmp nat_cmp_total g n es s
 pub insert-from_sorted : (es : Entries) (g n : ℕ) → IsRising es → map.from_sorted {R = nat_cmp} (with_least es g n) ≡ map.insert (map.from_sorted es) g n
 insert-from_sorted es g n s =
     map.same_entries_map _ _ (map.entries-from_sorted nat_cmp (with_least es g n) (rising_with_least es g n s)
-      ∙ ap (put nat_cmp g n) (sym (map.entries-from_sorted nat_cmp es s))
-      ∙ sym (map.entries-insert nat_cmp_total (map.from_sorted es) g n))
+    ∙ ap (put nat_cmp g n) (sym (map.entries-from_sorted nat_cmp es s))
+    ∙ sym (map.entries-insert nat_cmp_total (map.from_sorted es) g n))
 
 -- ---- a merge
 -- a guardian below all of the rest has no entry there

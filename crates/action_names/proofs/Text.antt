@@ -1,5 +1,5 @@
 -- The text of a name: its numbers, joined by dots.
-use Rattle.std.proofs.Common.{◌≡◌, ℕ, ◌-◌, ◌<◌, ◌≤◌, false, eqb, List, [], ◌∷◌, ◌++◌, length, get_or, take, drop, map, refl, sym, ap, ◌∙◌, append-nil, length-take, decimal, arith}
+use Rattle.std.proofs.Common.{◌≡◌, ℕ, ◌-◌, ◌<◌, ◌≤◌, ◌≢◌, false, eqb, List, [], ◌∷◌, ◌++◌, length, get_or, take, drop, map, refl, sym, ap, ◌∙◌, append-nil, length-take, decimal, arith}
 use Rattle.std.specs.List.{All, AllByRecursion, flat_map, join_with_byte, slice_split}
 use Rattle.std.proofs.lemmas.List.{take_all, get_or-map, length-map}
 use Rattle.std.proofs.lemmas.List.Elements.{All-get_or, All-from_get_or, All-from_recursion}
@@ -7,7 +7,7 @@ use Rattle.std.proofs.lemmas.List.Splits.{slice_split_none, slice_split_at, leng
 use Rattle.std.proofs.lemmas.Bool.Decides.{nat_tests}
 use Rattle.std.proofs.lemmas.Fmt.{decimal_is_IsNumeral}
 use Rattle.std.proofs.lemmas.Str.Parse.{digit_at}
-use Rattle.action_names.specs.Names.{Name, IsName, IsComponent, name_text, max_depth}
+use Rattle.action_names.specs.Names.{Name, IsName, IsComponent, name_text}
 
 -- the first number, and each other one after a dot
 pub name_text-cons : (m : ℕ) (a : Name) → name_text (m ∷ a) ≡ decimal m ++ flat_map (λ n. 46 ∷ decimal n) a
@@ -25,7 +25,7 @@ pub name_text-places : (a : Name) (k : ℕ) → 1 ≤ length a → length a - 1 
 name_text-places [] k h l = absurd (omega arith)
 name_text-places (m ∷ a) k h l =
     let whole : take k (take (length (m ∷ a) - 1) a) ≡ a =
-        take_all k _ (omega (arith, length-take (length (m ∷ a) - 1) a)) ∙ take_all (length (m ∷ a) - 1) a (omega arith) in
+    take_all k _ (omega (arith, length-take (length (m ∷ a) - 1) a)) ∙ take_all (length (m ∷ a) - 1) a (omega arith) in
     rw whole (sym (name_text-cons m a))
 
 -- the digits of a number have no dot
@@ -50,13 +50,13 @@ name_text-from_parts text a parts = sym (join_with_byte-slice_split 46 text) ∙
 pub not_empty-from_parts : (text : List ℕ) (a : Name) → map decimal a ≡ slice_split (λ b. eqb b 46) text → 1 ≤ length a
 not_empty-from_parts text a parts = omega (arith, length-slice_split (λ b. eqb b 46) text, ap length parts, length-map a decimal)
 
--- each part of the text of a name is the text of a number
-pub part_of_name_text : (a : Name) → IsName a → (i : ℕ) (part : List ℕ) → let parts = slice_split (λ b. eqb b 46) (name_text a) in i < length parts → part ≡ get_or parts i part → (n : ℕ) × IsComponent n × (part ≡ decimal n)
-part_of_name_text a is i part l e =
-    let parts = slice_split-name_text a is.not_empty is.components in
-    let within : i < length a = omega (arith, ap length parts, length-map a decimal) in
-    (get_or a i 0, All-get_or IsComponent a i 0 within (All-from_recursion IsComponent a is.components), e ∙ ap (λ ps. get_or ps i part) parts ∙ get_or-map decimal a i 0 part within)
+-- the text of a name has as many parts as the name has numbers
+pub length-parts : (text : List ℕ) (a : Name) → IsName a → text ≡ name_text a → length (slice_split (λ b. eqb b 46) text) ≡ length a
+length-parts text a is e = rw e (ap length (slice_split-name_text a is.not_empty is.components) ∙ length-map a decimal)
 
--- and there are at most 32 of them
-pub parts_of_name_text : (a : Name) → IsName a → length (slice_split (λ b. eqb b 46) (name_text a)) ≤ max_depth
-parts_of_name_text a is = omega (arith, ap length (slice_split-name_text a is.not_empty is.components), length-map a decimal, is.not_too_deep)
+-- a text with a part that is not the text of a number is not that of a name
+pub not_name_text : (text part : List ℕ) (i : ℕ) → let parts = slice_split (λ b. eqb b 46) text in i < length parts → part ≡ get_or parts i part → ((n : ℕ) → IsComponent n → part ≢ decimal n) → (a : Name) → IsName a → text ≢ name_text a
+not_name_text text part i l read none a is e =
+    let parts : slice_split (λ b. eqb b 46) text ≡ map decimal a = rw e (slice_split-name_text a is.not_empty is.components) in
+    let within : i < length a = omega (arith, length-parts text a is e) in
+    none (get_or a i 0) (All-get_or IsComponent a i 0 within (All-from_recursion IsComponent a is.components)) (read ∙ ap (λ ps. get_or ps i part) parts ∙ get_or-map decimal a i 0 part within)

@@ -1,10 +1,9 @@
 //! Names of actions: how they are read, printed, made from one another and compared.
-ghost use Rattle.std.specs.Prelude.{◌≡◌, ◌≢◌, ◌↔◌, ◌<◌, ◌≤◌, ◌++◌, [], ◌∷◌, length, List, ℕ, true, false, Some, IsTrue, IsOk, IsNone, IfSome, IfOk, OnOk, OnErr, IsErrOf, string_bytes};
+ghost use Rattle.std.specs.Prelude.{◌≡◌, ◌≢◌, ◌↔◌, ◌<◌, ◌≤◌, ◌++◌, [], ◌∷◌, length, List, ℕ, refl, decimal, Some, IsTrue, IsOk, IsNone, IfSome, IfOk, OnOk, OnErr, IsErrOf, string_bytes};
 ghost use Rattle.std.specs.Ordering.{as_partial_cmp};
 ghost use Rattle.action_names.specs.Names.{IsName, IsComponent, name_text, child_of, parent_of, last_of, same_name, is_ancestor, is_top, meet_of, name_cmp, max_depth};
 ghost use Rattle.action_names.specs.Comparison.{same_name-partial_equivalence, same_name-equivalence, name_cmp-total, same_name-ties, name_cmp-partial_order};
 ghost use Rattle.action_names.specs.declared.name.NameFault.TheVariants.{Memory};
-ghost use Rattle.std.specs.Prelude.{decimal, refl};
 
 use smallvec::SmallVec;
 use std::alloc::{AllocError, AllocFailed, Global};
@@ -65,11 +64,12 @@ impl<T: Drop> From<AllocFailed<T>> for NameFault {
 
 impl Name {
     /// The name with this text: 1 to 32 numbers from 1 to 4294967295 without leading zeros, joined by dots.
-    /// `NotAName` comes exactly where no name has the text.
+    /// `NotAName` comes exactly where no name has the text. This takes no memory up to 8 numbers.
     pub fn parse(alloc: Global, text: &str) -> Result<Name, NameFault>
         ensures found { IfOk result (λ a. IsName a × (text.now ≡ name_text a)) }
         ensures refused { IsErrOf result NameFault.NotAName → (a : List ℕ) → IsName a → text.now ≢ name_text a }
         ensures never_deep { IsErrOf result NameFault.TooDeep → ⊥ }
+        ensures inline { (a : List ℕ) → IsName a → length a ≤ 8 → text.now ≡ name_text a → IsOk result }
     {
         let mut parts = SmallVec::new(alloc);
         for part in text.split('.') {
@@ -265,5 +265,106 @@ impl Ord for Name {
 
     fn cmp(&self, other: &Self) -> Ordering {
         self.parts.cmp(&other.parts)
+    }
+}
+
+#[cfg(test)]
+mod tests {
+    use super::*;
+    use std::test::Fail;
+
+    // The call's answer, or that of a second call where memory ran out.
+    macro_rules! again {
+        ($call:expr) => {
+            match $call {
+                Err(NameFault::Memory) => $call,
+                answer => answer,
+            }
+        };
+    }
+
+    const DEEPEST: &str =
+        "1.2.3.4.5.6.7.8.9.10.11.12.13.14.15.16.17.18.19.20.21.22.23.24.25.26.27.28.29.30.31.32";
+
+    const TOO_DEEP: &str =
+        "1.2.3.4.5.6.7.8.9.10.11.12.13.14.15.16.17.18.19.20.21.22.23.24.25.26.27.28.29.30.31.32.33";
+
+    #[test]
+    fn reads_what_it_prints(rt: HostRuntime) -> Result<(), Fail> {
+        for (text, depth) in [("7", 1), ("4294967295.1.20", 3), (DEEPEST, 32)] {
+            let name = again!(Name::parse(rt.alloc(), text))?;
+            assert_eq!(rt; name.depth(), depth);
+            let mut line = String::new(rt.alloc());
+            again!(name.write_to(&mut line).map_err(NameFault::from))?;
+            assert_eq!(rt; line.as_str(), text);
+            let printed = again!(format!(in rt.alloc(); "{name}").map_err(NameFault::from))?;
+            assert_eq!(rt; printed.as_str(), text);
+            let debugged = again!(format!(in rt.alloc(); "{name:?}").map_err(NameFault::from))?;
+            assert_eq!(rt; debugged.as_str(), text);
+        }
+        Ok(())
+    }
+
+    #[test]
+    fn refuses_other_texts(rt: HostRuntime) {
+        for text in [
+            "",
+            ".",
+            "1.",
+            ".1",
+            "1..2",
+            "0",
+            "1.0",
+            "01",
+            "+1",
+            "-1",
+            "1 ",
+            "1,2",
+            "4294967296",
+            "a",
+            TOO_DEEP,
+        ] {
+            let refused = matches!(
+                again!(Name::parse(rt.alloc(), text)),
+                Err(NameFault::NotAName)
+            );
+            assert!(rt; refused, "{text}");
+        }
+    }
+
+    #[test]
+    fn names_a_family(rt: HostRuntime) -> Result<(), Fail> {
+        let top = Name::top(rt.alloc(), 5)?;
+        let child = top.child(7)?;
+        assert!(rt; top.is_top());
+        assert!(rt; !child.is_top());
+        assert_eq!(rt; child.components(), [5, 7].as_slice());
+        assert_eq!(rt; child.last(), 7);
+        assert!(rt; child.parent()? == Some(top.copy()?));
+        assert!(rt; top.parent()? == None);
+        assert!(rt; top.is_ancestor(&child));
+        assert!(rt; child.is_ancestor(&child));
+        assert!(rt; !child.is_ancestor(&top));
+        assert_eq!(rt; child.meet(&top.child(8)?), 1);
+        assert!(rt; matches!(top.child(0), Err(NameFault::NotAName)));
+        let deepest = again!(Name::parse(rt.alloc(), DEEPEST))?;
+        assert!(rt; matches!(deepest.child(33), Err(NameFault::TooDeep)));
+        let parent = again!(deepest.parent().map_err(NameFault::from))?;
+        assert!(rt; matches!(parent, Some(name) if name.last() == 31));
+        Ok(())
+    }
+
+    #[test]
+    fn puts_beginnings_first(rt: HostRuntime) -> Result<(), Fail> {
+        let rising = ["1", "1.1", "1.1.5", "1.2", "1.10", "2"];
+        for (i, below) in rising.iter().enumerate() {
+            for (k, above) in rising.iter().enumerate() {
+                let left = Name::parse(rt.alloc(), below)?;
+                let right = Name::parse(rt.alloc(), above)?;
+                assert_eq!(rt; left.cmp(&right), i.cmp(&k));
+                assert_eq!(rt; left == right, i == k);
+            }
+        }
+        Ok(())
     }
 }

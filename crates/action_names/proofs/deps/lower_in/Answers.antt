@@ -15,8 +15,8 @@ returns-in-Ok-clause-ok c =
     let read = c.index_mut-entry.ensures.value in
     let own : entry.0 ≡ g = ap (λ (e : ℕ × ℕ). e.0) (get_or_read es at entry found.in_range read (0, 0)) ∙ found.same in
     let least : c.min-entry.result ≡ lowered (least_at es g) c.args.incarnation =
-        c.min-entry.ensures ∙ ap (λ (e : ℕ × ℕ). min e.1 c.args.incarnation) read
-        ∙ ap (λ o. lowered o c.args.incarnation) (sym (least_at-found es g at c.requires found entry)) in
+    c.min-entry.ensures ∙ ap (λ (e : ℕ × ℕ). min e.1 c.args.incarnation) read
+    ∙ ap (λ o. lowered o c.args.incarnation) (sym (least_at-found es g at c.requires found entry)) in
     rw (own, least) (sym (with_least-found es g (lowered (least_at es g) c.args.incarnation) at c.requires found))
 
 pub returns-in-Ok-clause-rising : goal.returns-in-Ok-clause-rising

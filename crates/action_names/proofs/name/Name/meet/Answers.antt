@@ -14,9 +14,9 @@ returns c =
     let b = c.other.inside.parts.items in
     let same = λ (p : ℕ × ℕ). p.0 == p.1 in
     let counted =
-        count_from_yields_List c.take_while.result c.count.result c.count.ensures.ran
-        (YieldsList-from_take_while _ same
-          (YieldsList-at c.take_while.ensures.source (YieldsList-from_zip (YieldsList-from_slice a (cc)) (YieldsList-from_slice b (cc))))
-          c.take_while.ensures.closure c.take_while.ensures.done (λ x r q k. search (rules, tests)))
-        ∙ length-prefix_len same (zip a b) ∙ meet_of-zip a b in
+    count_from_yields_List c.take_while.result c.count.result c.count.ensures.ran
+    (YieldsList-from_take_while _ same
+    (YieldsList-at c.take_while.ensures.source (YieldsList-from_zip (YieldsList-from_slice a (cc)) (YieldsList-from_slice b (cc))))
+    c.take_while.ensures.closure c.take_while.ensures.done (λ x r q k. search (rules, tests)))
+    ∙ length-prefix_len same (zip a b) ∙ meet_of-zip a b in
     cc

@@ -1,9 +1,8 @@
-use Rattle.std.proofs.Common.{◌≡◌, ℕ, ◌∷◌, eqb, false, length, decimal, lit<, IsNone, ap, sym, ◌∙◌, subst, arith, rules}
-use Rattle.std.specs.List.{slice_split}
-use Rattle.std.proofs.lemmas.List.{length-map}
+use Rattle.std.proofs.Common.{length, decimal, lit<, IsNone, refl, ap, ◌∙◌, arith, rules}
 use Rattle.std.proofs.lemmas.Iterator.Consumers.{YieldsList-turn, YieldsList-end}
 use Rattle.std.proofs.lemmas.Iterator.Splits.{YieldsList-from_str_split}
-use Rattle.action_names.proofs.Text.{name_text-from_parts, not_empty-from_parts, part_of_name_text, parts_of_name_text}
+use Rattle.std.proofs.lemmas.List.{length-map}
+use Rattle.action_names.proofs.Text.{name_text-from_parts, not_empty-from_parts, length-parts, not_name_text}
 use Rattle.action_names.proofs.name.Name.parse.Goals as goal
 
 -- more parts than a name may have
@@ -11,18 +10,34 @@ pub returns-then-len-eq-MAX_DEPTH-clause-refused : goal.returns-then-len-eq-MAX_
 returns-then-len-eq-MAX_DEPTH-clause-refused c _ a is text =
     let parts = YieldsList-from_str_split 46 c.args.text.now (lit< tt) (cc) (cc) (cc) in
     let turn = YieldsList-turn parts c.loop-part.yielded _ c.loop-part.yielded_by _ _ c.in-Some.part c.in-Some.is c.next.ensures.steps in
-    let most = rw (← text) at (parts_of_name_text a is) in
     let so_far = ap length c.loop-part.invariant.texts in
-    omega (arith, turn.0, most, so_far, length-map c.loop-part.parts.items decimal, length-map c.loop-part.yielded (λ part. part.now))
+    omega (arith, turn.0, length-parts c.args.text.now a is text, is.not_too_deep, so_far, length-map c.loop-part.parts.items decimal, length-map c.loop-part.yielded (λ part. part.now))
+
+pub returns-then-len-eq-MAX_DEPTH-clause-inline : goal.returns-then-len-eq-MAX_DEPTH-clause-inline
+returns-then-len-eq-MAX_DEPTH-clause-inline c a is short text = absurd (returns-then-len-eq-MAX_DEPTH-clause-refused c refl a is text)
 
 -- a part that is not the text of a number
 pub returns-in_err-number-clause-refused : goal.returns-in_err-number-clause-refused
-returns-in_err-number-clause-refused c _ a is text =
+returns-in_err-number-clause-refused c _ =
     let parts = YieldsList-from_str_split 46 c.args.text.now (lit< tt) (cc) (cc) (cc) in
     let turn = YieldsList-turn parts c.loop-part.yielded _ c.loop-part.yielded_by _ _ c.in-Some.part c.in-Some.is c.next.ensures.steps in
-    let number = part_of_name_text a is (length c.loop-part.yielded) c.in-Some.part.now (rw (← text) turn.0) (rw (← text) turn.1) in
     let none : IsNone c.parse_number.result = search rules in
-    c.parse_number.ensures.refused none number.0 number.1 number.2
+    not_name_text c.args.text.now c.in-Some.part.now (length c.loop-part.yielded) turn.0 turn.1 (c.parse_number.ensures.refused none)
+
+pub returns-in_err-number-clause-inline : goal.returns-in_err-number-clause-inline
+returns-in_err-number-clause-inline c a is short text =
+    let parts = YieldsList-from_str_split 46 c.args.text.now (lit< tt) (cc) (cc) (cc) in
+    let turn = YieldsList-turn parts c.loop-part.yielded _ c.loop-part.yielded_by _ _ c.in-Some.part c.in-Some.is c.next.ensures.steps in
+    let none : IsNone c.parse_number.result = search rules in
+    absurd (not_name_text c.args.text.now c.in-Some.part.now (length c.loop-part.yielded) turn.0 turn.1 (c.parse_number.ensures.refused none) a is text)
+
+-- the ninth number takes memory, and not one before it
+pub returns-in_err-push-clause-inline : goal.returns-in_err-push-clause-inline
+returns-in_err-push-clause-inline c a is short text =
+    let parts = YieldsList-from_str_split 46 c.args.text.now (lit< tt) (cc) (cc) (cc) in
+    let turn = YieldsList-turn parts c.loop-part.yielded _ c.loop-part.yielded_by _ _ c.in-Some.part c.in-Some.is c.next.ensures.steps in
+    let so_far = ap length c.loop-part.invariant.texts in
+    cc (c.in_err-push.ensures.succeeds (omega (arith, turn.0, length-parts c.args.text.now a is text, so_far, c.loop-part.invariant.inline, length-map c.loop-part.parts.items decimal, length-map c.loop-part.yielded (λ part. part.now))))
 
 -- every part is the text of a number
 pub returns-clause-found : goal.returns-clause-found

@@ -11,4 +11,5 @@ invariant-loop-part l = record {
   texts : map decimal l.parts.items ≡ map (λ part. part.now) l.yielded;
   components : AllByRecursion IsComponent l.parts.items;
   room : length l.parts.items ≤ max_depth;
+  inline : 8 ≤ l.parts.capacity;
 }
