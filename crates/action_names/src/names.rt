@@ -93,3 +93,28 @@ impl Names {
         self.names.contains(name)
     }
 }
+
+#[cfg(test)]
+mod tests {
+    use super::*;
+    use std::test::Fail;
+
+    #[test]
+    fn keeps_names_in_order(rt: HostRuntime) -> Result<(), Fail> {
+        let mut names = Names::new(rt.alloc());
+        assert!(rt; names.is_empty());
+        for number in [4, 2, 4] {
+            if let Err(failed) = names.push(Name::top(rt.alloc(), number)?) {
+                names.push(failed.value)?;
+            }
+        }
+        assert_eq!(rt; names.len(), 3);
+        assert!(rt; names.contains(&Name::top(rt.alloc(), 2)?));
+        assert!(rt; !names.contains(&Name::top(rt.alloc(), 3)?));
+        let copy = names.copy().or_else(|_| names.copy())?;
+        assert_eq!(rt; copy.as_slice(), names.as_slice());
+        let numbers = copy.into_vec();
+        assert_eq!(rt; Names::from_vec(numbers).len(), 3);
+        Ok(())
+    }
+}

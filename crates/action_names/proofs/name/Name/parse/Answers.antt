@@ -44,9 +44,11 @@ pub returns-clause-found : goal.returns-clause-found
 returns-clause-found c =
     let parts = YieldsList-from_str_split 46 c.args.text.now (lit< tt) (cc) (cc) (cc) in
     let all = YieldsList-end parts c.loop-part.yielded _ c.loop-part.yielded_by _ _ c.in-None.is c.next.ensures.steps in
-    let texts = c.loop-part.invariant.texts ∙ all.0 in
-    (record {
-      not_empty = not_empty-from_parts c.args.text.now c.loop-part.parts.items texts;
-      not_too_deep = c.loop-part.invariant.room;
-      components = c.loop-part.invariant.components;
-    }, name_text-from_parts c.args.text.now c.loop-part.parts.items texts)
+    let texts = c.loop-part.invariant.texts ∙ all.0 in (
+      record {
+        not_empty = not_empty-from_parts c.args.text.now c.loop-part.parts.items texts;
+        not_too_deep = c.loop-part.invariant.room;
+        components = c.loop-part.invariant.components;
+      },
+      name_text-from_parts c.args.text.now c.loop-part.parts.items texts,
+    )
