@@ -50,7 +50,7 @@ guardians_rise (e ∷ es) s i zero lt l = absurd (omega arith)
 guardians_rise (e ∷ es) s zero (suc j) lt l = guardian_above e.0 es (both_first _ _ s) j (omega arith)
 guardians_rise (e ∷ es) s (suc i) (suc j) lt l = guardians_rise es (both_second _ _ s) i j (omega arith) (omega arith)
 
-pub rising_tail : (e : ℕ × ℕ) (es : Entries) → IsRising (e ∷ es) → IsRising es
+rising_tail : (e : ℕ × ℕ) (es : Entries) → IsRising (e ∷ es) → IsRising es
 rising_tail e es s = both_second _ _ s
 
 -- what is left of rising entries rises
@@ -133,7 +133,7 @@ known_from_search es g (Ok i) s found absent = ap is_some (sym (least_at-found e
 known_from_search es g (Err i) s found absent = ap is_some (sym (least_at-absent es g i absent))
 
 -- ---- a new least incarnation
-pub least_at-with_least : (es : Entries) (g n q : ℕ) → least_at (with_least es g n) q ≡ cond (eq_by_cmp nat_cmp q g) (Some n) (least_at es q)
+least_at-with_least : (es : Entries) (g n q : ℕ) → least_at (with_least es g n) q ≡ cond (eq_by_cmp nat_cmp q g) (Some n) (least_at es q)
 least_at-with_least es g n q = find-put nat_cmp nat_cmp_total q g n es
 
 pub rising_with_least : (es : Entries) (g n : ℕ) → IsRising es → IsRising (with_least es g n)
@@ -155,10 +155,6 @@ least_at-below x (e ∷ es) h = rw (cmp_less x e.0 (lt_from_is_lt x e.0 (nat_cmp
 lesser_lowered : (d : Option ℕ) (n : ℕ) → Some (lowered d n) ≡ lesser d (Some n)
 lesser_lowered None n = refl
 lesser_lowered (Some m) n = refl
-
-pub lesser_none : (d : Option ℕ) → lesser d None ≡ d
-lesser_none None = refl
-lesser_none (Some m) = refl
 
 -- one entry of the others is taken in, and those after it are left
 pub merge_step : (es : Entries) (e : ℕ × ℕ) (rest : Entries) → IsRising (e ∷ rest) → (q : ℕ) → lesser (least_at (with_least es e.0 (lowered (least_at es e.0) e.1)) q) (least_at rest q) ≡ lesser (least_at es q) (least_at (e ∷ rest) q)
@@ -194,12 +190,6 @@ one_place false n = omega arith
 pub places_step : (es : Entries) (e : ℕ × ℕ) (rest : Entries) → IsRising es → (n : ℕ) → length (with_least es e.0 n) + count_new (with_least es e.0 n) rest ≤ length es + count_new es (e ∷ rest)
 places_step es e rest s n =
     omega (arith, length-put nat_cmp nat_cmp_total e.0 n es s, one_place (is_some (least_at es e.0)) (length es), count_new-cons es e rest, count_new-with_least es e.0 n rest)
-
--- where a guardian is new, a place is counted for it
-pub place_for_new : (es : Entries) (e : ℕ × ℕ) (rest : Entries) → is_some (least_at es e.0) ≡ false → 1 ≤ count_new es (e ∷ rest)
-place_for_new es e rest new =
-    let one : cond {A = ℕ} (not (is_some (least_at es e.0))) 1 0 ≡ 1 = ap (λ b. cond (not b) 1 0) new in
-    omega (arith, count_new-cons es e rest)
 
 -- no place is counted where each guardian is known
 pub count_new-known : (es others : Entries) → ((g : ℕ) → IsSome (least_at others g) → IsSome (least_at es g)) → count_new es others ≡ 0

@@ -25,10 +25,6 @@ all_components-take [] (suc k) h = h
 all_components-take (n ∷ a) zero h = tt
 all_components-take (n ∷ a) (suc k) h = (h.0, all_components-take a k h.1)
 
-pub all_components-append : (a b : Name) → AllByRecursion IsComponent a → AllByRecursion IsComponent b → AllByRecursion IsComponent (a ++ b)
-all_components-append [] b h k = k
-all_components-append (n ∷ a) b h k = (h.0, all_components-append a b h.1 k)
-
 length-parent : (a : Name) → length (parent_of a) ≡ length a - 1
 length-parent [] = refl
 length-parent (n ∷ []) = refl

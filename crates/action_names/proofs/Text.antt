@@ -10,12 +10,12 @@ use Rattle.std.proofs.lemmas.Str.Parse.{digit_at}
 use Rattle.action_names.specs.Names.{Name, IsName, IsComponent, name_text}
 
 -- the first number, and each other one after a dot
-pub name_text-cons : (m : ℕ) (a : Name) → name_text (m ∷ a) ≡ decimal m ++ flat_map (λ n. 46 ∷ decimal n) a
+name_text-cons : (m : ℕ) (a : Name) → name_text (m ∷ a) ≡ decimal m ++ flat_map (λ n. 46 ∷ decimal n) a
 name_text-cons m [] = sym (append-nil (decimal m))
 name_text-cons m (n ∷ a) = ap (λ t. decimal m ++ 46 ∷ t) (name_text-cons n a)
 
 -- the same, as std joins the parts of a text
-pub name_text-joined : (a : Name) → name_text a ≡ join_with_byte 46 (map decimal a)
+name_text-joined : (a : Name) → name_text a ≡ join_with_byte 46 (map decimal a)
 name_text-joined [] = refl
 name_text-joined (n ∷ []) = refl
 name_text-joined (m ∷ n ∷ a) = ap (λ t. decimal m ++ 46 ∷ t) (name_text-joined (n ∷ a))
@@ -35,7 +35,7 @@ no_dot n is =
     All-from_get_or (λ b. eqb b 46 ≡ false) (decimal n) 0 (λ i l. let digit = digit_at (decimal n) i numeral.1 l in grind (arith, nat_tests))
 
 -- cut at the dots, the text of a name gives the texts of its numbers
-pub slice_split-name_text : (a : Name) → 1 ≤ length a → AllByRecursion IsComponent a → slice_split (λ b. eqb b 46) (name_text a) ≡ map decimal a
+slice_split-name_text : (a : Name) → 1 ≤ length a → AllByRecursion IsComponent a → slice_split (λ b. eqb b 46) (name_text a) ≡ map decimal a
 slice_split-name_text [] h is = absurd (omega arith)
 slice_split-name_text (n ∷ []) h is = slice_split_none (λ b. eqb b 46) (decimal n) (no_dot n is.0)
 slice_split-name_text (m ∷ n ∷ a) h is =
