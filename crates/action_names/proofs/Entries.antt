@@ -1,5 +1,5 @@
 -- Entries of dependencies: where a search by guardian ends, and what a change at that place does.
-use Rattle.std.proofs.Common.{◌≡◌, ℕ, zero, suc, ◌+◌, ◌-◌, ◌<◌, ◌≤◌, T, Bool, true, false, cond, not, ◌&&◌, List, [], ◌∷◌, length, get_or, set, drop, min, Option, Some, None, is_some, IsSome, Result, Ok, Err, is_ok, IfOk, IfErr, count_by, refl, sym, ap, subst, ◌∙◌, arith}
+use Rattle.std.proofs.Common.{◌≡◌, ℕ, zero, suc, ◌+◌, ◌<◌, ◌≤◌, T, Bool, true, false, cond, not, ◌&&◌, [], ◌∷◌, length, get_or, set, drop, Option, Some, None, is_some, IsSome, Result, Ok, Err, is_ok, IfOk, IfErr, refl, sym, ap, ◌∙◌, arith}
 use Rattle.std.specs.List.{insert}
 use Rattle.std.specs.List.Sorted.{IsSearchInRange, IsBinarySearchResult, IsNonDecreasingBy}
 use Rattle.std.specs.Ordering.{nat_cmp, ordering_index, is_lt, is_eq, eq_by_cmp}

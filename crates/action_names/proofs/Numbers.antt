@@ -1,7 +1,7 @@
 -- The text of one number of a name: its digits, without leading zeros or a sign.
-use Rattle.std.proofs.Common.{◌≡◌, ℕ, zero, suc, ◌+◌, ◌<◌, ◌≤◌, ◌^◌, List, [], ◌∷◌, length, get_or, decimal, Option, Some, None, IfSome, IsNone, Result, Ok, Err, refl, sym, ap, subst, ◌∙◌, arith, rules}
-use Rattle.std.specs.Result.{result_ok, OkIff}
-use Rattle.std.specs.Str.Parse.{ParsesUnsigned, AllDigits, digits_value, IsNumeral}
+use Rattle.std.proofs.Common.{◌≡◌, ℕ, zero, suc, ◌<◌, ◌≤◌, ◌^◌, List, length, get_or, decimal, Some, IfSome, Result, Ok, Err, sym, ap, ◌∙◌, arith}
+use Rattle.std.specs.Result.{result_ok}
+use Rattle.std.specs.Str.Parse.{ParsesUnsigned, AllDigits, digits_value}
 use Rattle.std.proofs.lemmas.Str.Parse.{IsNumeralModel, numerals_by_value, tells_digits, parse_plain, digit_at}
 use Rattle.std.proofs.lemmas.Fmt.{decimal_is_IsNumeral, decimal_digit, decimal-digits_value, first_decimal, parse-decimal}
 use Rattle.action_names.specs.Names.{IsComponent}

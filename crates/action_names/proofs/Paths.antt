@@ -1,7 +1,6 @@
 -- What the definitions of names say of lists: beginnings, parents, last numbers and shared beginnings.
-use Rattle.std.proofs.Common.{◌≡◌, ℕ, zero, suc, ◌+◌, ◌-◌, ◌<◌, ◌≤◌, Bool, true, false, cond, eqb, nat_eq, ◌&&◌, ◌||◌, ◌==◌, List, [], ◌∷◌, ◌++◌, length, get_or, take, drop, refl, sym, ap, ◌∙◌, arith, rules}
+use Rattle.std.proofs.Common.{◌≡◌, ℕ, zero, suc, ◌+◌, ◌-◌, ◌≤◌, false, cond, nat_eq, ◌&&◌, ◌||◌, ◌==◌, List, [], ◌∷◌, length, get_or, take, refl, ap, arith}
 use Rattle.std.specs.List.{AllByRecursion, zip, prefix_len, starts_with, list_any}
-use Rattle.std.proofs.lemmas.Bool.Decides.{nat_tests}
 use native.Mathlib.Numerals.{unary_clauses}
 use lib.Pointwise.{pointwise}
 use Rattle.action_names.specs.Names.{Name, IsName, IsComponent, is_prefix, is_ancestor, is_top, meet_of, parent_of, last_of, same_name, has_name}

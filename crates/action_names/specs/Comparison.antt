@@ -1,8 +1,8 @@
 -- The laws of the two comparisons of names: `same_name` is an equivalence, and `name_cmp` a total order that agrees with it.
-use Rattle.std.specs.Prelude.{◌≡◌, ℕ, Bool, List, [], ◌∷◌, ◌&&◌, ◌==◌, nat_eq, Some, refl}
-use Rattle.std.specs.Ordering.{nat_cmp, eq_by_cmp, as_partial_cmp}
+use Rattle.std.specs.Prelude.{◌≡◌, [], ◌∷◌, ◌&&◌, ◌==◌, nat_eq, refl}
+use Rattle.std.specs.Ordering.{eq_by_cmp, as_partial_cmp}
 use Rattle.std.specs.Cmp.{IsEquivalence, IsPartialEquivalence, IsTotalOrder, IsPartialOrder, partial_equiv_from_equiv, po}
-use Rattle.std.specs.Cmp.Lexicographic.{pointwise, slice_cmp, texts_ties, nat_list_cmp_total, nat_list_eq_equiv}
+use Rattle.std.specs.Cmp.Lexicographic.{pointwise, texts_ties, nat_list_cmp_total, nat_list_eq_equiv}
 use mathlib.Core.Path.{sym, ap, subst, ◌∙◌}
 use Rattle.action_names.specs.Names.{Name, same_name, name_cmp}
 

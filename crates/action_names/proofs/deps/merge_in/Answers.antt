@@ -1,8 +1,8 @@
-use Rattle.std.proofs.Common.{◌≡◌, ◌+◌, ◌∷◌, length, get_or, drop, vec_len, Ok, IsErr, ap, ◌∙◌, arith, rules}
+use Rattle.std.proofs.Common.{◌≡◌, ◌+◌, ◌∷◌, length, get_or, drop, vec_len, ap, ◌∙◌, arith}
 use Rattle.std.proofs.lemmas.List.{drop_more}
 use Rattle.std.proofs.lemmas.Result.{IfOk-at_ok}
 use Rattle.action_names.specs.Deps.{IsRising, with_least, lowered, least_at, count_new}
-use Rattle.action_names.proofs.Entries.{rising_with_least, rising_drop, merge_step, places_step}
+use Rattle.action_names.proofs.Entries.{rising_drop, merge_step, places_step}
 use Rattle.action_names.proofs.deps.merge_in.Goals as goal
 
 -- with no new guardian no room is asked for, and that is always there

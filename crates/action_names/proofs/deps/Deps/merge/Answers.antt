@@ -1,7 +1,7 @@
 use Rattle.std.proofs.Common.{◌≡◌, ℕ, sym, ap, ◌∙◌}
 use Rattle.std.specs.FinMap as map
 use Rattle.std.proofs.lemmas.Result.{on_ok_weaker}
-use Rattle.action_names.specs.Deps.{lesser, least_at}
+use Rattle.action_names.specs.Deps.{least_at}
 use Rattle.action_names.proofs.Entries.{get_of, count_new-known}
 use Rattle.action_names.proofs.deps.Deps.merge.Goals as goal
 

@@ -1,6 +1,3 @@
-use Rattle.std.proofs.Common.{ap, ◌∙◌}
-use Rattle.std.specs.Ordering.{nat_cmp}
-use Rattle.std.specs.FinMap as map
 use Rattle.action_names.proofs.Entries.{empty_of}
 use Rattle.action_names.proofs.deps.Deps.new.Goals as goal
 

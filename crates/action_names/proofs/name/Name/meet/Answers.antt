@@ -1,4 +1,4 @@
-use Rattle.std.proofs.Common.{ℕ, ◌==◌, ◌∙◌, ap, rules}
+use Rattle.std.proofs.Common.{ℕ, ◌==◌, ◌∙◌, rules}
 use borrow.Author.Tests.{tests}
 use Rattle.std.specs.List.{zip}
 use Rattle.std.proofs.lemmas.Iterator.{YieldsList-from_slice, YieldsList-from_zip}
