@@ -159,6 +159,39 @@ impl Eq for Identifier {
     ghost laws = { nat_list_eq_equiv };
 }
 
+impl PartialOrd for Identifier {
+    ghost use Rattle.std.specs.Cmp.Lexicographic.{slice_cmp, texts_po};
+    ghost use Rattle.std.specs.Ordering.{nat_cmp, as_partial_cmp};
+
+    ghost partial_cmp = { as_partial_cmp (slice_cmp nat_cmp) };
+
+    ghost laws = { texts_po };
+
+    fn partial_cmp(&self, other: &Identifier) -> Option<Ordering> {
+        Some(self.cmp(other))
+    }
+}
+
+/// Byte by byte, a beginning first.
+impl Ord for Identifier {
+    ghost use Rattle.std.specs.Prelude.{refl};
+    ghost use Rattle.std.specs.Cmp.Lexicographic.{slice_cmp, texts_ties};
+    ghost use Rattle.std.proofs.lemmas.Cmp.{nat_list_cmp_total};
+    ghost use Rattle.std.specs.Ordering.{nat_cmp};
+
+    ghost cmp = { slice_cmp nat_cmp };
+
+    ghost total = { nat_list_cmp_total };
+
+    ghost matches_partial_cmp = { λ a b. refl };
+
+    ghost matches_eq = { texts_ties };
+
+    fn cmp(&self, other: &Identifier) -> Ordering {
+        self.text.cmp(&other.text)
+    }
+}
+
 impl fmt::Display for Identifier {
     ghost use Rattle.std.specs.Prelude.{Some};
 
