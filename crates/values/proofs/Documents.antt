@@ -1,5 +1,8 @@
 -- What is written for a document is read back as that document.
 use Rattle.std.proofs.Common.{◌≡◌, ℕ, ◌≤◌, pos, negsuc, List, [], Option, Some, option_map, option_and_then, refl, sym, ap, ◌∙◌, arith, append-nil}
+use Rattle.std.proofs.Common.{true, true≢false}
+use Rattle.std.specs.Prelude.{not, bytes_eq}
+use Rattle.std.proofs.lemmas.Slice.Eq.{bytes_eq-Decides}
 use Rattle.json.specs.Token.{Token}
 use Rattle.json.specs.Lex.{tokens}
 use Rattle.json.specs.Json as json
@@ -49,9 +52,11 @@ IsReadable-value (Text bytes) h = record { numbers = tt; shallow = omega arith; 
 pub read-value_text : (v : Value) → IsValue v → read (value_text v) ≡ Some (value_data v)
 read-value_text v h = read-compact_text (value_data v) (IsReadable-value v h)
 
--- a text that is read as d and is not its spelling is no spelling at all
-pub no_spelling : (text : List ℕ) (d e : Data) → read text ≡ Some d → (text ≡ compact_text d → ⊥) → read (compact_text e) ≡ Some e → text ≡ compact_text e → ⊥
-no_spelling text d e reads other back same =
+-- a text that is read as d, and is not what is written for d, is written for nothing
+pub no_spelling : (text written : List ℕ) (d e : Data) → read text ≡ Some d → written ≡ compact_text d → true ≡ not (bytes_eq written text)
+    → read (compact_text e) ≡ Some e → text ≡ compact_text e → ⊥
+no_spelling text written d e reads is other back same =
     let twice : Some d ≡ Some e = sym reads ∙ ap read same ∙ back in
     let one : d ≡ e = cc in
-    other (same ∙ ap compact_text (sym one))
+    let equal : written ≡ text = is ∙ ap compact_text one ∙ sym same in
+    true≢false (other ∙ ap not ((bytes_eq-Decides written text).1 equal))

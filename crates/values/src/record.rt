@@ -1,12 +1,18 @@
-ghost use Rattle.std.specs.Prelude.{◌≡◌, ◌↔◌, ◌++◌, List, is_some, IsTrue, IfOk, IfErr, OnOk, option_copied};
+ghost use Rattle.std.specs.Prelude.{◌≡◌, ◌↔◌, ◌++◌, List, is_some, IsTrue, IfOk, IfErr, OnOk, IsErrOf, ◌≢◌, option_copied};
 ghost use Rattle.std.specs.List.{position};
+ghost use Rattle.json.specs.Tree.{json_tokens};
+ghost use Rattle.serde_json.specs.Data.{object};
+ghost use Rattle.serde_json.specs.View.{members_view};
+ghost use Rattle.serde_json.specs.Written.{outline};
 ghost use Rattle.values.specs.declared.record.Field.{Field};
 ghost use Rattle.values.specs.Words.{same_bytes};
-ghost use Rattle.values.specs.Fields.{IsField, IsRecord, HasRisingNames, HasRecordForm, field_value, set_field};
+ghost use Rattle.values.specs.Fields.{IsField, IsRecord, HasRisingNames, HasRecordForm, field_value, set_field, field_members};
 
 use crate::value::Value;
-use crate::words::Identifier;
-use std::alloc::AllocError;
+use crate::words::{Identifier, ValueFault};
+use json::Writer;
+use serde_json::{Map, Value as Json};
+use std::alloc::{AllocError, Global};
 use std::marker::Model;
 use std::mem;
 
@@ -107,6 +113,37 @@ impl Record {
             fields.push(field.copy()?)?;
         }
         Ok(Record { fields })
+    }
+
+    /// The record whose fields these members are. `Unfit` comes exactly where they are no record's.
+    pub(crate) fn from_members(alloc: Global, members: &Map<String, Json>) -> Result<Record, ValueFault>
+        ensures found { IfOk result (λ r. IsRecord r × (members_view members.now.entries ≡ field_members r)) }
+        ensures refused { IsErrOf result ValueFault.Unfit
+            → (fields : List Field) → IsRecord fields → members_view members.now.entries ≢ field_members fields }
+    {
+        if members.is_empty() || members.len() > MAX_FIELDS {
+            return Err(ValueFault::Unfit);
+        }
+        let mut fields = Vec::with_capacity(alloc, members.len())?;
+        for (name, member) in members.iter() {
+            let name = Identifier::parse(alloc, name.as_str())?;
+            let value = Value::from_json(alloc, member)?;
+            fields.push(Field { name, value })?;
+        }
+        Ok(Record { fields })
+    }
+
+    pub(crate) fn write_tokens(&self, out: &mut Writer) -> Result<(), AllocError>
+        ensures ok { OnOk result (out.new.tokens ≡ out.old.tokens ++ json_tokens (outline (object (field_members self.now)))) }
+        ensures before { out.new.before ≡ out.old.before }
+        ensures fits { OnOk result (IsRecord self.now) }
+    {
+        out.begin_object()?;
+        for field in &self.fields {
+            out.key(field.name.as_str())?;
+            field.value.write_tokens(out)?;
+        }
+        out.end_object()
     }
 }
 

@@ -1,4 +1,4 @@
-use Rattle.std.proofs.Common.{List, Some, ◌∙◌, sym, ap}
+use Rattle.std.proofs.Common.{Some, ◌∙◌, sym, ap}
 use Rattle.std.specs.Option.{option_copied}
 use Rattle.values.specs.declared.record.Field.{Field}
 use Rattle.values.specs.Fields.{field_value}
