@@ -123,3 +123,10 @@ pub fn written_is_read_back()
     ensures contents { (c : Content) → IsContent c → read (content_text c) ≡ Some (content_data c) }
 {
 }
+
+/// Values that are spelled alike are equal, and so are contents.
+pub fn one_spelling()
+    ensures values { (v w : Value) → IsValue v → IsValue w → value_text v ≡ value_text w → v ≡ w }
+    ensures contents { (c d : Content) → IsContent c → IsContent d → content_text c ≡ content_text d → c ≡ d }
+{
+}
