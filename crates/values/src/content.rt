@@ -114,19 +114,16 @@ fn only_member(json: &Json) -> Option<(&str, &Json)>
 pub fn one_document()
     ensures values { (v w : Value) → value_data v ≡ value_data w → v ≡ w }
     ensures contents { (c d : Content) → content_data c ≡ content_data d → c ≡ d }
-{
-}
+{}
 
 /// What was written is read back as what it was.
 pub fn written_is_read_back()
     ensures values { (v : Value) → IsValue v → read (value_text v) ≡ Some (value_data v) }
     ensures contents { (c : Content) → IsContent c → read (content_text c) ≡ Some (content_data c) }
-{
-}
+{}
 
 /// Values that are spelled alike are equal, and so are contents.
 pub fn one_spelling()
     ensures values { (v w : Value) → IsValue v → IsValue w → value_text v ≡ value_text w → v ≡ w }
     ensures contents { (c d : Content) → IsContent c → IsContent d → content_text c ≡ content_text d → c ≡ d }
-{
-}
+{}

@@ -116,7 +116,10 @@ impl Record {
     }
 
     /// The record whose fields these members are. `Unfit` comes exactly where they are no record's.
-    pub(crate) fn from_members(alloc: Global, members: &Map<String, Json>) -> Result<Record, ValueFault>
+    pub(crate) fn from_members(
+        alloc: Global,
+        members: &Map<String, Json>,
+    ) -> Result<Record, ValueFault>
         ensures found { IfOk result (λ r. IsRecord r × (members_view members.now.entries ≡ field_members r)) }
         ensures refused { IsErrOf result ValueFault.Unfit
             → (fields : List Field) → IsRecord fields → members_view members.now.entries ≢ field_members fields }
