@@ -1,5 +1,5 @@
 -- Fields by their names and by their places.
-use Rattle.std.proofs.Common.{◌≡◌, ℕ, zero, suc, ◌+◌, ◌<◌, pos, List, [], ◌∷◌, ◌++◌, length, map, get_or, set, Bool, true, false, cond, Some, None, IsTrue, refl, sym, ap, ◌∙◌, subst, arith, Ordering, Less, Equal, Greater, true≢false}
+use Rattle.std.proofs.Common.{◌≡◌, ℕ, zero, suc, ◌+◌, ◌<◌, pos, List, [], ◌∷◌, ◌++◌, length, map, get_or, set, Bool, true, false, cond, Option, Some, None, IsTrue, refl, sym, ap, ◌∙◌, subst, arith, Ordering, Less, Equal, Greater, true≢false}
 use Rattle.std.proofs.lemmas.Cmp.{nat_list_cmp_total}
 use Rattle.std.proofs.lemmas.List.{get_or-map, length-map}
 use Rattle.std.proofs.lemmas.Map.Keys.{sorted_from_all_adjacent, Less-from_sorted}
@@ -13,7 +13,8 @@ use Rattle.values.specs.declared.value.Value.{Value}
 use Rattle.values.specs.declared.value.Value.TheVariants.{Int}
 use Rattle.values.specs.declared.record.Field.{Field}
 use Rattle.values.specs.Words.{same_bytes}
-use Rattle.values.specs.Fields.{IsField, HasRecordForm, HasRisingNames, field_value, set_field}
+use Rattle.values.specs.Values.{IsValue}
+use Rattle.values.specs.Fields.{IsField, IsRecord, HasRecordForm, HasRisingNames, field_value, set_field}
 
 -- whether the field has this name
 abbrev pub is_named : List ℕ → Field → Bool
@@ -104,3 +105,27 @@ rising_from_adjacent fields false h = (
 pub AllByRecursion-push : (fields : List Field) (f : Field) → AllByRecursion IsField fields → IsField f → AllByRecursion IsField (fields ++ f ∷ [])
 AllByRecursion-push [] f each here = (here, tt)
 AllByRecursion-push (g ∷ fields) f each here = (each.0, AllByRecursion-push fields f each.1 here)
+
+each_at : (b : Bool) (f : Field) (fields : List Field) (name : List ℕ) (v : Value) → IsField f → IsValue v → AllByRecursion IsField fields
+    → AllByRecursion IsField (set_field fields name v) → AllByRecursion IsField (cond b (with_value f v ∷ fields) (f ∷ set_field fields name v))
+each_at true f fields name v here fits each later = (record { name = here.name; value = fits }, each)
+each_at false f fields name v here fits each later = (here, later)
+
+each-set_field : (fields : List Field) (name : List ℕ) (v : Value) → AllByRecursion IsField fields → IsValue v → AllByRecursion IsField (set_field fields name v)
+each-set_field [] name v each fits = tt
+each-set_field (f ∷ fields) name v each fits = each_at (is_named name f) f fields name v each.0 fits each.1 (each-set_field fields name v each.1 fits)
+
+-- another value within the limits keeps a record one
+pub IsRecord-set_field : (fields : List Field) (name : List ℕ) (v : Value) → IsRecord fields → IsValue v → IsRecord (set_field fields name v)
+IsRecord-set_field fields name v h fits =
+    let form = HasRecordForm-set_field fields name v (record { not_empty = h.not_empty; within_limit = h.within_limit; rising = h.rising }) in
+    record { not_empty = form.not_empty; within_limit = form.within_limit; rising = form.rising; each = each-set_field fields name v h.each fits }
+
+value_at : (b : Bool) (f : Field) (rest : Option Value) (v : Value) → IsField f → (rest ≡ Some v → IsValue v) → cond b (Some f.value) rest ≡ Some v → IsValue v
+value_at true f rest v here later e = let same : f.value ≡ v = cc in subst IsValue same here.value
+value_at false f rest v here later e = later e
+
+-- what a field of a record holds is within the limits
+pub IsValue-field_value : (fields : List Field) (name : List ℕ) (v : Value) → AllByRecursion IsField fields → field_value fields name ≡ Some v → IsValue v
+IsValue-field_value [] name v each e = cc
+IsValue-field_value (f ∷ fields) name v each e = value_at (is_named name f) f (field_value fields name) v each.0 (IsValue-field_value fields name v each.1) e
