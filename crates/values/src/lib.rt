@@ -6,10 +6,12 @@
 
 mod content;
 mod record;
+#[cfg(test)]
+mod tests;
 mod value;
 mod words;
 
-pub use content::Content;
-pub use record::{Field, Record};
+pub use content::{Content, one_document, one_spelling, written_is_read_back};
+pub use record::{Field, MAX_FIELDS, Record};
 pub use value::{Kind, Value};
 pub use words::{Identifier, MAX_TEXT, Text, ValueFault};

@@ -1,0 +1,231 @@
+use crate::content::Content;
+use crate::record::{Field, Record};
+use crate::value::{Kind, Value};
+use crate::words::{Identifier, Text, ValueFault};
+use serde_json::Value as Json;
+use std::alloc::Global;
+use std::fmt::Write;
+use std::process::Abort;
+use std::test::Fail;
+
+/// Whether the answer is `Unfit`. Want of memory stays an error, and the test tries again.
+fn is_unfit<T: Drop>(answer: Result<T, ValueFault>) -> Result<bool, ValueFault> {
+    match answer {
+        Ok(_) => Ok(false),
+        Err(ValueFault::Unfit) => Ok(true),
+        Err(ValueFault::Memory) => Err(ValueFault::Memory),
+    }
+}
+
+/// A text, and the one spelling of what it is read as.
+fn check_spelling(
+    rt: &impl Abort,
+    alloc: Global,
+    text: &str,
+    wanted: &str,
+) -> Result<(), ValueFault> {
+    let read = Content::read(alloc, text)?;
+    assert_eq!(rt; read.text(alloc)?.as_str(), wanted);
+    let found = Content::from_spelling(alloc, wanted)?.copy()?;
+    assert_eq!(rt; found.text(alloc)?.as_str(), wanted);
+    assert!(rt; is_unfit(Content::from_spelling(alloc, text))?, "at {text}");
+    Ok(())
+}
+
+#[test]
+fn reads_each_spelling_and_writes_one(rt: HostRuntime) -> Result<(), Fail> {
+    let alloc = rt.alloc();
+    let cases = [
+        (
+            " {\n\"record\" : { \"b\" : -5 ,\t\"a\" : \"x\\ny\" } } ",
+            "{\"record\":{\"a\":\"x\\ny\",\"b\":-5}}",
+        ),
+        (
+            "{\"\\u0072ecord\":{\"\\u0061\":\"\\u0041\\u00e9\\ud83d\\ude00\"}}",
+            "{\"record\":{\"a\":\"A\u{e9}\u{1f600}\"}}",
+        ),
+        (
+            "{\"record\":{\"c\":\"\\u001f\\u0008\\u0009\\u000a\\u000c\\u000d\\u0022\\u005c\\/\u{7f}\"}}",
+            "{\"record\":{\"c\":\"\\u001f\\b\\t\\n\\f\\r\\\"\\\\/\u{7f}\"}}",
+        ),
+        (
+            "{\"record\":{\"a\":1,\"b\":\"\",\"a\":2}}",
+            "{\"record\":{\"a\":2,\"b\":\"\"}}",
+        ),
+        (
+            "{\"record\":{\"most\":9223372036854775807,\"least\":-9223372036854775808,\"none\":0}}",
+            "{\"record\":{\"least\":-9223372036854775808,\"most\":9223372036854775807,\"none\":0}}",
+        ),
+    ];
+    for (text, wanted) in cases {
+        if check_spelling(&rt, alloc, text, wanted).is_err() {
+            check_spelling(&rt, alloc, text, wanted)?;
+        }
+    }
+    Ok(())
+}
+
+#[test]
+fn refuses_what_is_no_content(rt: HostRuntime) {
+    let alloc = rt.alloc();
+    let cases = [
+        "",
+        "{",
+        "[]",
+        "{\"record\":[]}",
+        "{\"record\":{}}",
+        "{\"other\":{\"a\":1}}",
+        "{\"record\":{\"a\":1},\"x\":1}",
+        "{\"record\":{\"a\":1}}0",
+        "{\"record\":{\"A\":1}}",
+        "{\"record\":{\"1a\":1}}",
+        "{\"record\":{\"\":1}}",
+        "{\"record\":{\"a\":null}}",
+        "{\"record\":{\"a\":-0}}",
+        "{\"record\":{\"a\":1.0}}",
+        "{\"record\":{\"a\":1e0}}",
+        "{\"record\":{\"a\":9223372036854775808}}",
+        "{\"record\":{\"a\":-9223372036854775809}}",
+        "{\"record\":{\"a\":\"\\ud800\"}}",
+    ];
+    for text in cases {
+        let mut answer = is_unfit(Content::read(alloc, text));
+        if answer.is_err() {
+            answer = is_unfit(Content::read(alloc, text));
+        }
+        assert_eq!(rt; answer, Ok(true), "at {text}");
+    }
+}
+
+/// The piece so many times, between two ends.
+fn repeated(alloc: Global, end: &str, piece: &str, count: usize) -> Result<String, ValueFault> {
+    let mut text = String::with_capacity(alloc, 8192)?;
+    text.push_str(end)?;
+    for _ in 0..count {
+        text.push_str(piece)?;
+    }
+    text.push_str(end)?;
+    Ok(text)
+}
+
+/// A record with the fields f10, f11 and so on.
+fn wide_record(alloc: Global, end: u8) -> Result<String, ValueFault> {
+    let mut text = String::with_capacity(alloc, 1024)?;
+    text.push_str("{\"record\":{\"f10\":0")?;
+    for index in 11..end {
+        if write!(text, ",\"f{index}\":0").is_err() {
+            return Err(ValueFault::Memory);
+        }
+    }
+    text.push_str("}}")?;
+    Ok(text)
+}
+
+fn check_limits(rt: &impl Abort, alloc: Global) -> Result<(), ValueFault> {
+    for (length, unfit) in [(0, false), (1024, false), (1025, true)] {
+        let plain = repeated(alloc, "", "A", length)?;
+        assert_eq!(rt; is_unfit(Text::new(alloc, plain.as_str()))?, unfit);
+        let escaped = repeated(alloc, "\"", "\\u0041", length)?;
+        assert_eq!(rt; is_unfit(Value::read(alloc, escaped.as_str()))?, unfit);
+    }
+    for (length, unfit) in [(0, true), (1, false), (31, false), (32, false), (33, true)] {
+        let name = repeated(alloc, "", "z", length)?;
+        assert_eq!(rt; is_unfit(Identifier::parse(alloc, name.as_str()))?, unfit);
+    }
+    for (end, unfit) in [(74, false), (75, true)] {
+        let text = wide_record(alloc, end)?;
+        assert_eq!(rt; is_unfit(Content::read(alloc, text.as_str()))?, unfit);
+    }
+    Ok(())
+}
+
+#[test]
+fn keeps_to_the_limits(rt: HostRuntime) -> Result<(), Fail> {
+    if check_limits(&rt, rt.alloc()).is_err() {
+        check_limits(&rt, rt.alloc())?;
+    }
+    Ok(())
+}
+
+fn check_words(rt: &impl Abort, alloc: Global) -> Result<(), ValueFault> {
+    let name = Identifier::parse(alloc, "x_1")?;
+    let later = Identifier::parse(alloc, "x_10")?;
+    assert!(rt; name == name.copy()? && name < later && name != later);
+    let shown = format!(in alloc; "{name} {name:?}")?;
+    assert_eq!(rt; shown.as_str(), "x_1 Identifier { text: \"x_1\" }");
+    assert_eq!(rt; name.as_str(), "x_1");
+    Ok(())
+}
+
+fn check_values(rt: &impl Abort, alloc: Global) -> Result<(), ValueFault> {
+    let text = Value::Text(Text::new(alloc, "\u{e9}\"")?);
+    let number = Value::from_json(alloc, &Json::from_str(alloc, "-7")?)?;
+    assert!(rt; text == text.copy()? && number == Value::Int(-7) && text != number);
+    assert!(rt; text.kind() == Kind::Text && number.kind() == Kind::Int);
+    assert!(rt; Value::from_spelling(alloc, "\"\u{e9}\\\"\"")? == text);
+    assert!(rt; is_unfit(Value::from_spelling(alloc, " 7"))?);
+    let mut written = String::from_str(alloc, "=")?;
+    number.write_to(&mut written)?;
+    let before = written.clone()?;
+    if text.write_to(&mut written).is_err() {
+        assert_eq!(rt; written.as_str(), before.as_str());
+        text.write_to(&mut written)?;
+    }
+    assert_eq!(rt; written.as_str(), "=-7\"\u{e9}\\\"\"");
+    Ok(())
+}
+
+#[test]
+fn words_and_values(rt: HostRuntime) -> Result<(), Fail> {
+    if check_words(&rt, rt.alloc()).is_err() {
+        check_words(&rt, rt.alloc())?;
+    }
+    if check_values(&rt, rt.alloc()).is_err() {
+        check_values(&rt, rt.alloc())?;
+    }
+    Ok(())
+}
+
+fn two_fields(alloc: Global, first: &str, second: &str) -> Result<Vec<Field>, ValueFault> {
+    let mut fields = Vec::new(alloc);
+    for name in [first, second] {
+        let name = Identifier::parse(alloc, name)?;
+        fields.push(Field {
+            name,
+            value: Value::Int(1),
+        })?;
+    }
+    Ok(fields)
+}
+
+fn check_records(rt: &impl Abort, alloc: Global) -> Result<(), ValueFault> {
+    assert!(rt; Record::from_fields(Vec::new(alloc)).is_err());
+    assert!(rt; Record::from_fields(two_fields(alloc, "a", "a")?).is_err());
+    let back = Record::from_fields(two_fields(alloc, "b", "a")?).err();
+    assert_eq!(rt; back.map(|fields| fields.len()), Some(2));
+
+    let mut record = Record::from_fields(two_fields(alloc, "a", "b")?).map_err(
+        |_| ValueFault::Unfit,
+    )?;
+    let kept = record.copy()?;
+    let (b, c) = (
+        Identifier::parse(alloc, "b")?,
+        Identifier::parse(alloc, "c")?,
+    );
+    assert!(rt; record.set(&b, Value::Int(2)) == Some(Value::Int(1)));
+    assert!(rt; record.set(&c, Value::Int(3)) == None);
+    assert!(rt; record.get(&b) == Some(&Value::Int(2)) && record.get(&c) == None);
+    assert!(rt; kept.get(&b) == Some(&Value::Int(1)));
+    assert_eq!(rt; kept.fields().len(), 2);
+    let first = kept.fields()[0].copy()?;
+    assert!(rt; record.into_fields().first() == Some(&first));
+    Ok(())
+}
+
+#[test]
+fn records(rt: HostRuntime) -> Result<(), Fail> {
+    if check_records(&rt, rt.alloc()).is_err() {
+        check_records(&rt, rt.alloc())?;
+    }
+    Ok(())
+}
