@@ -9,6 +9,8 @@ mod laws;
 mod object;
 mod op;
 mod record;
+#[cfg(test)]
+mod tests;
 
 pub use atomic::AtomicType;
 pub use laws::object_laws;
