@@ -10,6 +10,6 @@ mod value;
 mod words;
 
 pub use content::Content;
-pub use record::{Field, Record};
+pub use record::{Field, MAX_FIELDS, Record};
 pub use value::{Kind, Value};
 pub use words::{Identifier, MAX_TEXT, Text, ValueFault};
