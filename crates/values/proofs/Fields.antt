@@ -1,5 +1,5 @@
 -- Fields by their names and by their places.
-use Rattle.std.proofs.Common.{◌≡◌, ℕ, zero, suc, ◌+◌, ◌<◌, ◌≤◌, pos, List, [], ◌∷◌, ◌++◌, length, map, get_or, set, Bool, true, false, cond, Option, Some, None, IsTrue, refl, sym, ap, ◌∙◌, subst, arith, Ordering, Less, Equal, Greater, true≢false}
+use Rattle.std.proofs.Common.{◌≡◌, ℕ, zero, suc, ◌+◌, ◌<◌, pos, List, [], ◌∷◌, ◌++◌, length, map, get_or, set, Bool, true, false, cond, Some, None, IsTrue, refl, sym, ap, ◌∙◌, subst, arith, Ordering, Less, Equal, Greater, true≢false}
 use Rattle.std.proofs.lemmas.Cmp.{nat_list_cmp_total}
 use Rattle.std.proofs.lemmas.List.{get_or-map, length-map}
 use Rattle.std.proofs.lemmas.Map.Keys.{sorted_from_all_adjacent, Less-from_sorted}
@@ -13,7 +13,7 @@ use Rattle.values.specs.declared.value.Value.{Value}
 use Rattle.values.specs.declared.value.Value.TheVariants.{Int}
 use Rattle.values.specs.declared.record.Field.{Field}
 use Rattle.values.specs.Words.{same_bytes}
-use Rattle.values.specs.Fields.{IsField, IsRecord, HasRecordForm, HasRisingNames, field_value, set_field}
+use Rattle.values.specs.Fields.{IsField, HasRecordForm, HasRisingNames, field_value, set_field}
 
 -- whether the field has this name
 abbrev pub is_named : List ℕ → Field → Bool
