@@ -2,7 +2,7 @@ ghost use Rattle.std.specs.Prelude.{◌≡◌, Bool, IsTrue, IfOk, OnErr};
 ghost use Rattle.atomic_types.specs.declared.op.Op.{Op};
 ghost use Rattle.atomic_types.specs.declared.op.Reply.{Reply};
 ghost use Rattle.atomic_types.specs.Operations.{class_of, classes_conflict};
-ghost use Rattle.atomic_types.specs.Laws.{ReadsLeave, ConflictIsSymmetric, OrderIsFree};
+ghost use Rattle.atomic_types.specs.Laws.{ReadsLeave, ConflictIsSymmetric, OrderIsFree, KnownStay};
 
 use crate::op::{Class, Op, Reply};
 use std::alloc::AllocError;
@@ -52,4 +52,6 @@ pub trait AtomicType: Drop {
     ghost symmetric: { ConflictIsSymmetric };
 
     ghost order_is_free: { OrderIsFree reply after };
+
+    ghost known_stay: { KnownStay knows after };
 }

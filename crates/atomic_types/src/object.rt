@@ -1,5 +1,5 @@
 ghost use Rattle.atomic_types.specs.Objects.{knows, reply_of, content_after};
-ghost use Rattle.atomic_types.specs.TypeLaws.{reads_leave, conflict_is_symmetric, objects_order_is_free};
+ghost use Rattle.atomic_types.specs.TypeLaws.{reads_leave, known_stay, conflict_is_symmetric, objects_order_is_free};
 
 use crate::atomic::AtomicType;
 use crate::op::{Op, Reply};
@@ -34,4 +34,6 @@ impl AtomicType for Content {
     ghost symmetric = { conflict_is_symmetric };
 
     ghost order_is_free = { objects_order_is_free };
+
+    ghost known_stay = { known_stay };
 }

@@ -1,5 +1,5 @@
 ghost use Rattle.atomic_types.specs.Records.{record_knows, record_reply, record_after};
-ghost use Rattle.atomic_types.specs.TypeLaws.{record_reads_leave, conflict_is_symmetric, order_is_free};
+ghost use Rattle.atomic_types.specs.TypeLaws.{record_reads_leave, record_known_stay, conflict_is_symmetric, order_is_free};
 
 use crate::atomic::AtomicType;
 use crate::op::{Op, Reply};
@@ -47,4 +47,6 @@ impl AtomicType for Record {
     ghost symmetric = { conflict_is_symmetric };
 
     ghost order_is_free = { order_is_free record_reply record_after record_reads_leave };
+
+    ghost known_stay = { record_known_stay };
 }
