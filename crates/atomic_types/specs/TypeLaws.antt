@@ -16,7 +16,7 @@ use Rattle.atomic_types.specs.declared.op.Class.{Class}
 use Rattle.atomic_types.specs.declared.op.Class.TheVariants.{Read, Write}
 use Rattle.atomic_types.specs.declared.op.Reply.{Reply}
 use Rattle.atomic_types.specs.Operations.{classes_conflict, class_of, is_read_class}
-use Rattle.atomic_types.specs.Records.{takes, record_knows, record_reply, record_after}
+use Rattle.atomic_types.specs.Records.{takes, record_knows, record_after}
 use Rattle.atomic_types.specs.Objects.{knows, reply_of, content_after}
 use Rattle.atomic_types.specs.Laws.{ReadsLeave, ConflictIsSymmetric, OrderIsFree, KnownStay}
 
@@ -80,13 +80,14 @@ held_kind-set [] name v q = λ h. refl
 held_kind-set (f ∷ fields) name v q =
     elim (same_bytes f.name name) as (λ b. IsTrue (takes (if b then Some f.value else field_value fields name) v)
     → held_kind (field_value (if b then record { name = f.name; value = v } ∷ fields else f ∷ set_field fields name v) q)
-    ≡ held_kind (field_value (f ∷ fields) q))
-    [ true ↦ λ h. elim (same_bytes f.name q) as (λ c. held_kind (if c then Some v else field_value fields q)
-    ≡ held_kind (if c then Some f.value else field_value fields q))
-    [ true ↦ ap (λ k. Some k) (sym (same_kinds (kind_of f.value) (kind_of v) h)) | false ↦ refl ]
-    | false ↦ λ h. elim (same_bytes f.name q) as (λ c. held_kind (if c then Some f.value else field_value (set_field fields name v) q)
-    ≡ held_kind (if c then Some f.value else field_value fields q))
-    [ true ↦ refl | false ↦ held_kind-set fields name v q h ] ]
+    ≡ held_kind (field_value (f ∷ fields) q)) [
+      | true ↦ λ h. elim (same_bytes f.name q) as (λ c. held_kind (if c then Some v else field_value fields q)
+          ≡ held_kind (if c then Some f.value else field_value fields q))
+          [ true ↦ ap (λ k. Some k) (sym (same_kinds (kind_of f.value) (kind_of v) h)) | false ↦ refl ]
+      | false ↦ λ h. elim (same_bytes f.name q) as (λ c. held_kind (if c then Some f.value else field_value (set_field fields name v) q)
+          ≡ held_kind (if c then Some f.value else field_value fields q))
+          [ true ↦ refl | false ↦ held_kind-set fields name v q h ]
+    ]
 
 pub record_known_stay : KnownStay record_knows record_after
 record_known_stay fields (Set name v) (Get q) h =
