@@ -2,7 +2,7 @@ ghost use Rattle.std.specs.Prelude.{◌≡◌, Bool, IsTrue, IfOk, OnErr};
 ghost use Rattle.atomic_types.specs.declared.op.Op.{Op};
 ghost use Rattle.atomic_types.specs.declared.op.Reply.{Reply};
 ghost use Rattle.atomic_types.specs.Operations.{class_of, classes_conflict};
-ghost use Rattle.atomic_types.specs.Laws.{ReadsLeave, ConflictIsSymmetric, OrderIsFree};
+ghost use Rattle.atomic_types.specs.Laws.{ReadsLeave, ConflictIsSymmetric, OrderIsFree, KnownStay};
 
 use crate::op::{Class, Op, Reply};
 use std::alloc::AllocError;
@@ -23,12 +23,18 @@ pub trait AtomicType: Drop {
         ensures { result ≡ knows self.now op.now };
 
     /// Whether an operation reads or writes, by its name alone.
-    fn class(op: &Op) -> Class
-        ensures { result ≡ class_of op.now };
+    final fn class(op: &Op) -> Class
+        ensures { result ≡ class_of op.now }
+    {
+        op.class()
+    }
 
     /// Whether operations of these classes conflict (Moss 1981).
-    fn conflicts(first: Class, second: Class) -> bool
-        ensures { result ≡ classes_conflict first second };
+    final fn conflicts(first: Class, second: Class) -> bool
+        ensures { result ≡ classes_conflict first second }
+    {
+        first.conflicts_with(second)
+    }
 
     /// An equal object.
     fn copy(&self) -> Result<Self, AllocError>
@@ -46,4 +52,6 @@ pub trait AtomicType: Drop {
     ghost symmetric: { ConflictIsSymmetric };
 
     ghost order_is_free: { OrderIsFree reply after };
+
+    ghost known_stay: { KnownStay knows after };
 }
