@@ -20,4 +20,5 @@ pub mod Runs
 pub mod Places
 pub mod Versions
 pub mod Texts
+pub mod Reading
 pub mod Transcripts

@@ -1,5 +1,8 @@
+ghost use Rattle.std.specs.Prelude.{◌≡◌, [], ◌∷◌, ◌++◌, length, IfOk, OnOk, OnErr, IsTrue, ◌↔◌};
+
 use action_names::Name;
 use atomic_types::Op;
+use std::alloc::{AllocError, Global};
 use std::marker::Model;
 
 /// An object: the number of its guardian, and its own number there, both from 1.
@@ -29,6 +32,66 @@ impl Model for ArmKinds {
     ghost Value = { List ArmKind };
 
     ghost view = { λ a. a.kinds.items };
+}
+
+impl ArmKinds {
+    /// No kinds.
+    pub fn new(alloc: Global) -> ArmKinds
+        ensures { result ≡ [] }
+    {
+        ArmKinds {
+            kinds: Vec::new(alloc),
+        }
+    }
+
+    pub fn from_vec(kinds: Vec<ArmKind>) -> ArmKinds
+        ensures { result ≡ kinds.items }
+    {
+        ArmKinds { kinds }
+    }
+
+    pub fn into_vec(self) -> Vec<ArmKind>
+        ensures { result.items ≡ self }
+    {
+        self.kinds
+    }
+
+    pub fn as_slice(&self) -> &[ArmKind]
+        ensures { result.now ≡ self.now }
+    {
+        self.kinds.as_slice()
+    }
+
+    pub fn len(&self) -> usize
+        ensures { result ≡ length self.now }
+    {
+        self.kinds.len()
+    }
+
+    /// Whether there are no kinds.
+    pub fn is_empty(&self) -> bool
+        ensures { IsTrue result ↔ (self.now ≡ []) }
+    {
+        self.kinds.is_empty()
+    }
+
+    /// Adds a kind at the end. After an error the kinds are as they were.
+    pub fn push(&mut self, kind: ArmKind) -> Result<(), AllocError>
+        ensures ok { OnOk result (self.new ≡ self.old ++ kind ∷ []) }
+        ensures err { OnErr result (self.new ≡ self.old) }
+    {
+        self.kinds.push(kind)?;
+        Ok(())
+    }
+
+    /// Equal kinds.
+    pub fn copy(&self) -> Result<ArmKinds, AllocError>
+        ensures { IfOk result (λ copy. copy ≡ self.now) }
+    {
+        Ok(ArmKinds {
+            kinds: self.kinds.clone()?,
+        })
+    }
 }
 
 /// One atomic step of a run. Guardians go by their numbers, from 1.
