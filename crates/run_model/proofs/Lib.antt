@@ -1,2 +1,5 @@
 pub mod Cutting
 pub mod Numbers
+pub mod Words
+pub mod Utf8
+pub mod Arms

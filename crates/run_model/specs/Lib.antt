@@ -21,4 +21,5 @@ pub mod Places
 pub mod Versions
 pub mod Texts
 pub mod Reading
+pub mod Spaces
 pub mod Transcripts

@@ -1,5 +1,5 @@
 -- Reading a text against its spelling, and the words that steps and operations begin with.
-use Rattle.std.specs.Prelude.{ℕ, ℤ, FitsSigned, ◌≡◌, ◌≢◌, ◌<◌, List, [], ◌∷◌, ◌++◌, length, slice_index, codes, decimal, Option, Some, None, Bool, true, false}
+use Rattle.std.specs.Prelude.{ℕ, ℤ, FitsSigned, ◌≡◌, ◌≢◌, ◌⊎◌, ◌<◌, List, [], ◌∷◌, ◌++◌, length, slice_index, codes, decimal, Option, Some, None, Bool, true, false}
 use Rattle.std.specs.Fmt.{signed_decimal}
 use Rattle.std.specs.Int.{w64}
 use Rattle.action_names.specs.Names.{Name, IsName, IsComponent, name_text}
@@ -8,6 +8,7 @@ use Rattle.atomic_types.specs.declared.op.Op as op
 use Rattle.atomic_types.specs.declared.op.Op.TheVariants.{Get, Set, Low, High, Size, Fetch, Store, AddHigh, AddLow, RemoveHigh, RemoveLow, Is, ValueOf, Change}
 use Rattle.atomic_types.specs.Operations.{IsOp}
 use Rattle.run_model.specs.declared.step.ArmKind.{ArmKind}
+use Rattle.run_model.specs.declared.step.ArmKind.TheVariants as arm
 use Rattle.run_model.specs.declared.step.ObjectId.{ObjectId}
 use Rattle.run_model.specs.declared.step.Step.{Step}
 use Rattle.run_model.specs.declared.step.Step.TheVariants.{Top, NestedTop, Call, Arms, Op, Commit, Close, Prepare, Decide, Abort, Tell, Crash, Recover}
@@ -27,29 +28,40 @@ pub record Cuts (mark : ℕ) (text front rest : List ℕ) : Type 0 where
   pub parts : text ≡ front ++ mark ∷ rest
   pub only : (a b : List ℕ) → Lacks mark a → text ≡ a ++ mark ∷ b → (front ≡ a) × (rest ≡ b)
 
--- both parts fit
-abbrev pub BothFit : {A B : Type 0} → (A → Type 0) → (B → Type 0) → A × B → Type 0
-BothFit p q x = p x.0 × q x.1
-
--- two texts with a mark between them
-abbrev pub joined : {A B : Type 0} → ℕ → (A → List ℕ) → (B → List ℕ) → A × B → List ℕ
-joined mark s t x = s x.0 ++ mark ∷ t x.1
-
--- a name, and the kinds of arms after it
-abbrev pub arms_text : Name × List ArmKind → List ℕ
-arms_text x = name_text x.0 ++ kinds_text x.1
-
-abbrev pub HasName : Name × List ArmKind → Type 0
-HasName x = IsName x.0
-
-abbrev pub any_kinds : List ArmKind → Type 0
-any_kinds kinds = Unit {0}
-
 abbrev pub IsIndex : ℤ → Type 0
 IsIndex z = FitsSigned w64 z
 
 abbrev pub IsObject : ObjectId → Type 0
 IsObject x = IsComponent x.guardian × IsComponent x.number
+
+-- what a text is read as that is two texts with a mark between them
+abbrev pub ReadsBoth : {A B : Type 0} → ℕ → (A → Type 0) → (B → Type 0) → (A → List ℕ) → (B → List ℕ) → List ℕ → Option (A × B) → Type 0
+ReadsBoth {A} {B} mark p q s t text None = (a : A) (b : B) → p a → q b → text ≢ s a ++ mark ∷ t b
+ReadsBoth {A} {B} mark p q s t text (Some x) = p x.0 × q x.1 × (text ≡ s x.0 ++ mark ∷ t x.1)
+
+-- what a text is read as that is a name, an object and an operation
+abbrev pub ReadsAct : List ℕ → Option (Name × ObjectId × op.Op) → Type 0
+ReadsAct text None =
+    (a : Name) (x : ObjectId) (wanted : op.Op) → IsName a → IsObject x → IsOp wanted → text ≢ name_text a ++ 32 ∷ (object_text x ++ 32 ∷ op_text wanted)
+ReadsAct text (Some x) = IsName x.0 × IsObject x.1 × IsOp x.2 × (text ≡ name_text x.0 ++ 32 ∷ (object_text x.1 ++ 32 ∷ op_text x.2))
+
+-- what a text is read as that is a name, and the kinds of arms after it
+abbrev pub ReadsArms : List ℕ → Option (Name × List ArmKind) → Type 0
+ReadsArms text None = (a : Name) (kinds : List ArmKind) → IsName a → text ≢ name_text a ++ kinds_text kinds
+ReadsArms text (Some x) = IsName x.0 × (text ≡ name_text x.0 ++ kinds_text x.1)
+
+-- the front is the text up to its first space, or all of it
+pub record IsFirstWord (text front : List ℕ) : Type 0 where
+  pub is_front : (rest : List ℕ) × (text ≡ front ++ rest)
+  pub only : (a b : List ℕ) → Lacks 32 a → text ≡ a ++ b → (b ≡ []) ⊎ (slice_index b 0 ≡ 32) → front ≡ a
+
+-- the letter of a kind of arm
+abbrev pub kind_letter : ArmKind → ℕ
+kind_letter arm.Sub = 115
+kind_letter arm.Top = 116
+
+abbrev pub any_kinds : List ArmKind → Type 0
+any_kinds kinds = Unit {0}
 
 -- a text that is its own spelling
 abbrev pub itself : List ℕ → List ℕ

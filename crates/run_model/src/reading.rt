@@ -7,7 +7,7 @@ ghost use Rattle.values.specs.Values.{IsValue, value_text};
 ghost use Rattle.values.specs.Words.{IsIdentifier};
 ghost use Rattle.atomic_types.specs.Operations.{IsOp};
 ghost use Rattle.run_model.specs.Texts.{Spells, object_text, op_text, kinds_text};
-ghost use Rattle.run_model.specs.Reading.{Reads, Lacks, Cuts, BothFit, joined, HasName, arms_text, any_kinds, itself, IsBare, op_word, IsOpNamed, op_arguments, IsStepNamed, step_arguments, IsIndex, IsObject};
+ghost use Rattle.run_model.specs.Reading.{Reads, Lacks, Cuts, ReadsBoth, ReadsAct, ReadsArms, IsFirstWord, any_kinds, kind_letter, itself, IsBare, op_word, IsOpNamed, op_arguments, IsStepNamed, step_arguments, IsIndex, IsObject};
 
 use crate::step::{ArmKind, ArmKinds, ObjectId, Step};
 use action_names::{Name, NameFault};
@@ -122,9 +122,11 @@ impl Argument for i64 {
     ghost spelling = { signed_decimal };
 
     fn read(alloc: Global, text: &str) -> Result<Option<i64>, AllocError> {
-        match Value::read(alloc, text)? {
-            Some(Value::Int(index)) => Ok(Some(index)),
-            _ => Ok(None),
+        match Value::from_spelling(alloc, text) {
+            Ok(Value::Int(index)) => Ok(Some(index)),
+            Ok(Value::Text(_)) => Ok(None),
+            Err(ValueFault::Unfit) => Ok(None),
+            Err(ValueFault::Memory) => Err(AllocError),
         }
     }
 }
@@ -139,6 +141,7 @@ impl Argument for ObjectId {
     }
 }
 
+#[tactic(auto, using(crate::specs::Spaces::number_lacks_slash))]
 fn object(text: &str) -> Option<ObjectId>
     ensures { Reads IsObject object_text text.now result }
 {
@@ -163,23 +166,33 @@ impl Argument for Op {
 }
 
 impl Word for u32 {
-    ghost is_word = { ? };
+    ghost use Rattle.run_model.specs.Spaces.{number_lacks_space};
+
+    ghost is_word = { number_lacks_space };
 }
 
 impl Word for Name {
-    ghost is_word = { ? };
+    ghost use Rattle.run_model.specs.Spaces.{name_lacks_space};
+
+    ghost is_word = { name_lacks_space };
 }
 
 impl Word for Identifier {
-    ghost is_word = { ? };
+    ghost use Rattle.run_model.specs.Spaces.{identifier_lacks_space};
+
+    ghost is_word = { identifier_lacks_space };
 }
 
 impl Word for i64 {
-    ghost is_word = { ? };
+    ghost use Rattle.run_model.specs.Spaces.{index_lacks_space};
+
+    ghost is_word = { index_lacks_space };
 }
 
 impl Word for ObjectId {
-    ghost is_word = { ? };
+    ghost use Rattle.run_model.specs.Spaces.{object_lacks_space};
+
+    ghost is_word = { object_lacks_space };
 }
 
 /// The text before the first mark, and the text after it.
@@ -194,7 +207,7 @@ fn cut(text: &str, mark: char) -> Option<(&str, &str)>
 
 /// Two arguments with a space between them.
 fn pair<A: Word, B: Argument>(alloc: Global, text: &str) -> Result<Option<(A, B)>, AllocError>
-    ensures { IfOk result (Reads (BothFit A.fits B.fits) (joined 32 A.spelling B.spelling) text.now) }
+    ensures { IfOk result (ReadsBoth 32 A.fits B.fits A.spelling B.spelling text.now) }
 {
     let Some((front, rest)) = cut(text, ' ') else {
         return Ok(None);
@@ -217,7 +230,7 @@ fn step(alloc: Global, word: &str, rest: &str) -> Result<Option<Step>, AllocErro
         "nest" => Ok(Name::read(alloc, rest)?.map(Step::NestedTop)),
         "call" => Ok(pair(alloc, rest)?.map(|(name, guardian)| Step::Call(name, guardian))),
         "arms" => Ok(arms(alloc, rest)?.map(|(name, kinds)| Step::Arms(name, kinds))),
-        "op" => Ok(pair::<Name, (ObjectId, Op)>(alloc, rest)?.map(|(name, act)| Step::Op(name, act.0, act.1))),
+        "op" => Ok(act(alloc, rest)?.map(|(name, object, operation)| Step::Op(name, object, operation))),
         "commit" => Ok(Name::read(alloc, rest)?.map(Step::Commit)),
         "close" => Ok(Name::read(alloc, rest)?.map(Step::Close)),
         "prepare" => Ok(pair(alloc, rest)?.map(|(guardian, name)| Step::Prepare(guardian, name))),
@@ -230,24 +243,28 @@ fn step(alloc: Global, word: &str, rest: &str) -> Result<Option<Step>, AllocErro
     }
 }
 
-impl Argument for (ObjectId, Op) {
-    ghost fits = { BothFit IsObject IsOp };
-
-    ghost spelling = { joined 32 object_text op_text };
-
-    fn read(alloc: Global, text: &str) -> Result<Option<(ObjectId, Op)>, AllocError> {
-        pair(alloc, text)
-    }
+/// A name, an object and an operation, with a space between two.
+#[tactic(auto, using(crate::specs::Spaces::name_lacks_space))]
+fn act(alloc: Global, text: &str) -> Result<Option<(Name, ObjectId, Op)>, AllocError>
+    ensures { IfOk result (ReadsAct text.now) }
+{
+    let Some((front, rest)) = cut(text, ' ') else {
+        return Ok(None);
+    };
+    let Some(name) = Name::read(alloc, front)? else {
+        return Ok(None);
+    };
+    let Some((object, operation)) = pair(alloc, rest)? else {
+        return Ok(None);
+    };
+    Ok(Some((name, object, operation)))
 }
 
 /// A name, and kinds of arms with a space before each.
 fn arms(alloc: Global, text: &str) -> Result<Option<(Name, ArmKinds)>, AllocError>
-    ensures { IfOk result (Reads HasName arms_text text.now) }
+    ensures { IfOk result (ReadsArms text.now) }
 {
-    let front = match cut(text, ' ') {
-        Some((front, _)) => front,
-        None => text,
-    };
+    let front = first_word(text);
     let Some(name) = Name::read(alloc, front)? else {
         return Ok(None);
     };
@@ -257,21 +274,39 @@ fn arms(alloc: Global, text: &str) -> Result<Option<(Name, ArmKinds)>, AllocErro
     Ok(Some((name, kinds)))
 }
 
+/// The text before the first space, or all of it.
+fn first_word(text: &str) -> &str
+    ensures { IsFirstWord text.now result.now }
+{
+    match cut(text, ' ') {
+        Some((front, _)) => front,
+        None => text,
+    }
+}
+
 fn arm_kinds(alloc: Global, bytes: &[u8]) -> Result<Option<ArmKinds>, AllocError>
     ensures { IfOk result (Reads any_kinds kinds_text bytes.now) }
 {
     let mut kinds = ArmKinds::new(alloc);
     let mut rest = bytes;
     while let [b' ', letter, after @ ..] = rest {
-        let kind = match letter {
-            b's' => ArmKind::Sub,
-            b't' => ArmKind::Top,
-            _ => return Ok(None),
+        let Some(kind) = arm_kind(*letter) else {
+            return Ok(None);
         };
         kinds.push(kind)?;
         rest = after;
     }
     Ok(rest.is_empty().then_some(kinds))
+}
+
+fn arm_kind(letter: u8) -> Option<ArmKind>
+    ensures { MatchOption result ((k : ArmKind) → letter ≢ kind_letter k) (λ k. letter ≡ kind_letter k) }
+{
+    match letter {
+        b's' => Some(ArmKind::Sub),
+        b't' => Some(ArmKind::Top),
+        _ => None,
+    }
 }
 
 /// The operation with this name and no argument.
