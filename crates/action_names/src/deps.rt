@@ -1,10 +1,16 @@
-use std::collections::BTreeMap;
+//! On which incarnations of guardians an action depends: the least of each guardian, in the order of the guardians.
+ghost use Rattle.std.specs.Prelude.{◌≡◌, ◌==◌, ◌+◌, ◌<◌, ◌≤◌, ℕ, List, IsSome, is_some, IsOk, IfOk, IfErr, OnOk, OnErr, vec_len, vec_capacity};
+ghost use Rattle.std.specs.Ordering.{nat_cmp};
+ghost use Rattle.std.specs.FinMap as map;
+ghost use Rattle.action_names.specs.Deps.{lesser, lowered, Entries, IsRising, least_at, with_least, count_new, IsAt, IsGapFor};
+
+use std::alloc::{AllocError, Global};
 use std::marker::Model;
 
 /// On which incarnation of each guardian an action depends, the least.
-#[derive(Drop)]
+#[derive(Debug, Drop)]
 pub struct Deps {
-    least: BTreeMap<u32, u64>,
+    least: Vec<(u32, u64)>,
 }
 
 impl Model for Deps {
@@ -12,10 +18,149 @@ impl Model for Deps {
     ghost use Rattle.std.specs.Ordering.{nat_cmp};
     ghost use Rattle.std.specs.Coded.{coded_ℕ};
     ghost use Rattle.std.specs.FinMap as map;
+    ghost use Rattle.action_names.specs.Deps.{IsRising};
 
     ghost Value = { map.FinMap nat_cmp ℕ };
 
     ghost coded = { map.code coded_ℕ coded_ℕ };
 
-    ghost view = { λ a. map.from_entries a.least.entries };
+    ghost view = { λ a. map.from_sorted a.least.items };
+
+    ghost invariant = { λ a. IsRising a.least.items };
+}
+
+impl Deps {
+    /// No dependency. This takes no memory.
+    pub fn new(alloc: Global) -> Self
+        ensures { result ≡ map.empty }
+    {
+        Deps {
+            least: Vec::new(alloc),
+        }
+    }
+
+    /// The least incarnation of the guardian, if there is a dependency on it.
+    pub fn get(&self, guardian: u32) -> Option<u64>
+        ensures { result ≡ map.get self.now guardian }
+    {
+        match search(&self.least, guardian) {
+            Ok(at) => Some(self.least[at].1),
+            Err(_) => None,
+        }
+    }
+
+    /// Adds a dependency on an incarnation of the guardian: the lesser of the two stays.
+    /// This takes memory only for a guardian that is new. Where memory runs out, nothing changes.
+    pub fn lower(&mut self, guardian: u32, incarnation: u64) -> Result<(), AllocError>
+        ensures ok { OnOk result
+            (self.new ≡ map.insert self.old guardian (lowered (map.get self.old guardian) incarnation)) }
+        ensures err { OnErr result (self.new ≡ self.old) }
+        ensures known { IsSome (map.get self.old guardian) → IsOk result }
+    {
+        lower_in(&mut self.least, guardian, incarnation)
+    }
+
+    /// Adds the dependencies of the other: the lesser incarnation of each guardian stays.
+    /// This takes memory only for guardians that are new. Where memory runs out, nothing changes.
+    pub fn merge(&mut self, other: &Deps) -> Result<(), AllocError>
+        ensures ok { OnOk result
+            ((g : ℕ) → map.get self.new g ≡ lesser (map.get self.old g) (map.get other.now g)) }
+        ensures err { OnErr result (self.new ≡ self.old) }
+        ensures known { ((g : ℕ) → IsSome (map.get other.now g) → IsSome (map.get self.old g)) → IsOk result }
+    {
+        merge_in(&mut self.least, &other.least)
+    }
+
+    /// A copy of the dependencies.
+    pub fn copy(&self) -> Result<Deps, AllocError>
+        ensures { IfOk result (λ deps. deps ≡ self.now) }
+    {
+        let least = Vec::from_slice(*self.least.allocator(), &self.least)?;
+        Ok(Deps { least })
+    }
+
+    /// On how many guardians there are dependencies.
+    pub fn len(&self) -> usize
+        ensures { result ≡ map.len self.now }
+    {
+        self.least.len()
+    }
+
+    /// Whether there is no dependency.
+    pub fn is_empty(&self) -> bool
+        ensures { result ≡ (map.len self.now == 0) }
+    {
+        self.least.is_empty()
+    }
+
+    /// Each guardian with its least incarnation, in the order of the guardians.
+    pub fn entries(&self) -> &[(u32, u64)]
+        ensures { result.now ≡ map.entries self.now }
+    {
+        &self.least
+    }
+}
+
+// The place of the guardian's entry, or that where it would go.
+fn search(least: &[(u32, u64)], guardian: u32) -> Result<usize, usize>
+    requires { IsRising least.now }
+    ensures found { IfOk result (IsAt least.now guardian) }
+    ensures absent { IfErr result (IsGapFor least.now guardian) }
+{
+    least.binary_search_by_key(&guardian, |&(known, _)| known)
+}
+
+// How many entries have a guardian that the known ones lack.
+fn count_new(known: &[(u32, u64)], entries: &[(u32, u64)]) -> usize
+    requires { IsRising known.now }
+    ensures { result ≡ count_new known.now entries.now }
+{
+    let is_new = |entry: &&(u32, u64)| !is_known(known, entry.0);
+    entries.iter().filter(is_new).count()
+}
+
+// Whether the guardian has an entry.
+fn is_known(least: &[(u32, u64)], guardian: u32) -> bool
+    requires { IsRising least.now }
+    ensures { result ≡ is_some (least_at least.now guardian) }
+{
+    search(least, guardian).is_ok()
+}
+
+// Adds one dependency. It takes memory only for a new guardian for whom no room is left.
+fn lower_in(least: &mut Vec<(u32, u64)>, guardian: u32, incarnation: u64) -> Result<(), AllocError>
+    requires { IsRising least.old.items }
+    ensures rising { IsRising least.new.items }
+    ensures ok { OnOk result (least.new.items
+        ≡ with_least least.old.items guardian (lowered (least_at least.old.items guardian) incarnation)) }
+    ensures err { OnErr result (least.new.items ≡ least.old.items) }
+    ensures known { IsSome (least_at least.old.items guardian) → IsOk result }
+    ensures room { vec_len least.old < vec_capacity least.old → IsOk result }
+    ensures capacity { vec_capacity least.old ≤ vec_capacity least.new }
+{
+    match search(least, guardian) {
+        Ok(at) => {
+            let entry = &mut least[at];
+            entry.1 = entry.1.min(incarnation);
+            Ok(())
+        }
+        Err(at) => Ok(least.insert(at, (guardian, incarnation))?),
+    }
+}
+
+// Adds the dependencies of the others, once there is room for those on new guardians.
+fn merge_in(least: &mut Vec<(u32, u64)>, others: &[(u32, u64)]) -> Result<(), AllocError>
+    requires own { IsRising least.old.items }
+    requires others { IsRising others.now }
+    ensures rising { IsRising least.new.items }
+    ensures ok { OnOk result
+        ((g : ℕ) → least_at least.new.items g ≡ lesser (least_at least.old.items g) (least_at others.now g)) }
+    ensures err { OnErr result (least.new.items ≡ least.old.items) }
+    ensures known { count_new least.old.items others.now ≡ 0 → IsOk result }
+{
+    least.reserve(count_new(least, others))?;
+    for &(guardian, incarnation) in others {
+        lower_in(least, guardian, incarnation).unwrap();
+    }
+    Ok(())
 }

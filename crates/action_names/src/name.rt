@@ -1,15 +1,24 @@
-ghost use Rattle.std.specs.Prelude.{◌≡◌, ◌≢◌, ◌↔◌, ◌<◌, length, List, ℕ, IfOk, IsErrOf};
-ghost use Rattle.action_names.specs.Names.{IsName, name_text, child_of, is_ancestor, is_top, meet_of, max_depth};
+//! Names of actions: how they are read, printed, made from one another and compared.
+ghost use Rattle.std.specs.Prelude.{◌≡◌, ◌≢◌, ◌↔◌, ◌<◌, ◌≤◌, ◌++◌, [], ◌∷◌, length, List, ℕ, refl, decimal, Some, IsTrue, IsOk, IsNone, IfSome, IfOk, OnOk, OnErr, IsErrOf, string_bytes};
+ghost use Rattle.std.specs.Ordering.{as_partial_cmp};
+ghost use Rattle.action_names.specs.Names.{IsName, IsComponent, name_text, child_of, parent_of, last_of, same_name, is_ancestor, is_top, meet_of, name_cmp, max_depth};
+ghost use Rattle.action_names.specs.Comparison.{same_name-partial_equivalence, same_name-equivalence, name_cmp-total, same_name-ties, name_cmp-partial_order};
+ghost use Rattle.action_names.specs.declared.name.NameFault.TheVariants.{Memory};
 
 use smallvec::SmallVec;
-use std::alloc::{AllocError, Global};
+use std::alloc::{AllocError, AllocFailed, Global};
+use std::cmp::Ordering;
+use std::io::Write;
 use std::marker::Model;
+use std::{fmt, str};
 use thiserror::Error;
 
 /// How many numbers a name has at most.
 pub const MAX_DEPTH: usize = 32;
 
 /// The name of an action: a path of 1 to 32 numbers from 1 to 4294967295, printed with dots between them.
+///
+/// Names are ordered number by number, and a name stands before those that it begins.
 #[derive(Drop)]
 pub struct Name {
     parts: SmallVec<u32, 8>,
@@ -37,21 +46,325 @@ pub enum NameFault {
     Memory,
 }
 
+impl From<AllocError> for NameFault {
+    ghost from_gives = { λ _ e. e ≡ Memory };
+
+    fn from(_error: AllocError) -> Self {
+        NameFault::Memory
+    }
+}
+
+impl<T: Drop> From<AllocFailed<T>> for NameFault {
+    ghost from_gives = { λ _ e. e ≡ Memory };
+
+    fn from(_failed: AllocFailed<T>) -> Self {
+        NameFault::Memory
+    }
+}
+
 impl Name {
     /// The name with this text: 1 to 32 numbers from 1 to 4294967295 without leading zeros, joined by dots.
-    /// `NotAName` comes exactly where no name has the text.
+    /// `NotAName` comes exactly where no name has the text. This takes no memory up to 8 numbers.
     pub fn parse(alloc: Global, text: &str) -> Result<Name, NameFault>
         ensures found { IfOk result (λ a. IsName a × (text.now ≡ name_text a)) }
         ensures refused { IsErrOf result NameFault.NotAName → (a : List ℕ) → IsName a → text.now ≢ name_text a }
         ensures never_deep { IsErrOf result NameFault.TooDeep → ⊥ }
+        ensures inline { (a : List ℕ) → IsName a → length a ≤ 8 → text.now ≡ name_text a → IsOk result }
     {
-        Err(NameFault::Memory)
+        let mut parts = SmallVec::new(alloc);
+        for part in text.split('.') {
+            if parts.len() == MAX_DEPTH {
+                return Err(NameFault::NotAName);
+            }
+            let number = parse_number(part).ok_or(NameFault::NotAName)?;
+            parts.push(number)?;
+        }
+        Ok(Name { parts })
     }
 
-    /// A copy of the name.
-    pub fn copy(&self) -> Result<Name, AllocError>
-        ensures { IfOk result (λ a. a ≡ self.now) }
+    /// The name of the top action with this number. `NotAName` comes exactly where the number is 0. This takes no memory.
+    pub fn top(alloc: Global, number: u32) -> Result<Name, NameFault>
+        ensures ok { IfOk result (λ a. IsName a × (a ≡ number ∷ [])) }
+        ensures found { IsOk result ↔ (0 < number) }
+        ensures refused { OnErr result (IsErrOf result NameFault.NotAName) }
     {
-        Err(AllocError)
+        if number == 0 {
+            return Err(NameFault::NotAName);
+        }
+        let mut parts = SmallVec::new(alloc);
+        parts.push_reserved(number);
+        Ok(Name { parts })
+    }
+
+    /// The name of the child with this number. `NotAName` comes exactly where the number is 0, and otherwise `TooDeep`
+    /// exactly where this name has 32 numbers. This takes no memory below 8 numbers.
+    pub fn child(&self, number: u32) -> Result<Name, NameFault>
+        ensures ok { IfOk result (λ a. IsName a × (a ≡ child_of self.now number)) }
+        ensures not_a_name { IsErrOf result NameFault.NotAName ↔ (number ≡ 0) }
+        ensures too_deep { IsErrOf result NameFault.TooDeep ↔ ((0 < number) × (length self.now ≡ max_depth)) }
+        ensures inline { 0 < number → length self.now < 8 → IsOk result }
+    {
+        if number == 0 {
+            return Err(NameFault::NotAName);
+        }
+        let depth = self.depth();
+        if depth == MAX_DEPTH {
+            return Err(NameFault::TooDeep);
+        }
+        let mut parts = SmallVec::with_capacity(*self.parts.allocator(), depth + 1)?;
+        parts.extend_from_slice(self.parts.as_slice())?;
+        parts.push(number)?;
+        Ok(Name { parts })
+    }
+
+    /// A copy of the name. This takes no memory up to 8 numbers.
+    pub fn copy(&self) -> Result<Name, AllocError>
+        ensures ok { IfOk result (λ a. IsName a × (a ≡ self.now)) }
+        ensures inline { length self.now ≤ 8 → IsOk result }
+    {
+        let parts = SmallVec::from_slice(*self.parts.allocator(), self.parts.as_slice())?;
+        Ok(Name { parts })
+    }
+
+    /// The parent of a subaction, and `None` exactly for a top action. This takes no memory up to 9 numbers.
+    pub fn parent(&self) -> Result<Option<Name>, AllocError>
+        ensures top { IfOk result (λ p. IsNone p ↔ IsTrue (is_top self.now)) }
+        ensures parent { IfOk result (λ p. IfSome p (λ a. IsName a × (a ≡ parent_of self.now))) }
+        ensures inline { length self.now ≤ 9 → IsOk result }
+    {
+        if self.is_top() {
+            return Ok(None);
+        }
+        let numbers = self.parts.as_slice();
+        let above = &numbers[..numbers.len() - 1];
+        let parts = SmallVec::from_slice(*self.parts.allocator(), above)?;
+        Ok(Some(Name { parts }))
+    }
+
+    /// Whether this is an ancestor of the other name. A name is an ancestor of itself.
+    pub fn is_ancestor(&self, of: &Name) -> bool
+        ensures { result ≡ is_ancestor self.now of.now }
+    {
+        of.parts.as_slice().starts_with(self.parts.as_slice())
+    }
+
+    /// How many leading numbers the two names share.
+    pub fn meet(&self, other: &Name) -> usize
+        ensures { result ≡ meet_of self.now other.now }
+    {
+        let pairs = self.parts.as_slice().iter().zip(other.parts.as_slice());
+        pairs.take_while(|(own, others)| own == others).count()
+    }
+
+    /// How many numbers the name has.
+    pub fn depth(&self) -> usize
+        ensures depth { result ≡ length self.now }
+        ensures named { IsName self.now }
+    {
+        self.parts.len()
+    }
+
+    /// Whether this is the name of a top action, which has no parent.
+    pub fn is_top(&self) -> bool
+        ensures { result ≡ is_top self.now }
+    {
+        self.parts.len() == 1
+    }
+
+    /// The numbers of the name, outermost first.
+    pub fn components(&self) -> &[u32]
+        ensures numbers { result.now ≡ self.now }
+        ensures named { IsName self.now }
+    {
+        self.parts.as_slice()
+    }
+
+    /// The last number, which tells the action from its siblings.
+    pub fn last(&self) -> u32
+        ensures { result ≡ last_of self.now }
+    {
+        let numbers = self.parts.as_slice();
+        numbers[numbers.len() - 1]
+    }
+
+    /// Appends the name to the text. Where memory runs out, the text stays as it was.
+    pub fn write_to(&self, text: &mut String) -> Result<(), AllocError>
+        ensures ok { OnOk result (string_bytes text.new ≡ string_bytes text.old ++ name_text self.now) }
+        ensures err { OnErr result (string_bytes text.new ≡ string_bytes text.old) }
+    {
+        let mut bytes: SmallVec<u8, 96> = SmallVec::new(*self.parts.allocator());
+        write!(bytes, "{self}").map_err(|_| AllocError)?;
+        let printed = str::from_utf8(bytes.as_slice()).map_err(|_| AllocError)?;
+        text.push_str(printed)
+    }
+}
+
+/// The number of a name with this text: from 1 to 4294967295, without leading zeros or a sign.
+fn parse_number(text: &str) -> Option<u32>
+    ensures found { IfSome result (λ n. IsComponent n × (text.now ≡ decimal n)) }
+    ensures refused { IsNone result → (n : ℕ) → IsComponent n → text.now ≢ decimal n }
+{
+    match text.as_bytes() {
+        [b'1'..=b'9', ..] => text.parse().ok(),
+        _ => None,
+    }
+}
+
+impl fmt::Display for Name {
+    ghost output = { λ a. Some (name_text a) };
+
+    fn fmt<W: fmt::Write>(&self, f: &mut fmt::Formatter<W>) -> fmt::Result {
+        if let [first, rest @ ..] = self.parts.as_slice() {
+            write!(f, "{first}")?;
+            for number in rest {
+                write!(f, ".{number}")?;
+            }
+        }
+        Ok(())
+    }
+}
+
+impl fmt::Debug for Name {
+    fn fmt<W: fmt::Write>(&self, f: &mut fmt::Formatter<W>) -> fmt::Result {
+        fmt::Display::fmt(self, f)
+    }
+}
+
+impl PartialEq for Name {
+    ghost eq = { same_name };
+
+    ghost laws = { same_name-partial_equivalence };
+
+    fn eq(&self, other: &Self) -> bool {
+        self.parts == other.parts
+    }
+}
+
+impl Eq for Name {
+    ghost laws = { same_name-equivalence };
+}
+
+impl PartialOrd for Name {
+    ghost partial_cmp = { as_partial_cmp name_cmp };
+
+    ghost laws = { name_cmp-partial_order };
+
+    fn partial_cmp(&self, other: &Self) -> Option<Ordering> {
+        Some(self.cmp(other))
+    }
+}
+
+impl Ord for Name {
+    ghost cmp = { name_cmp };
+
+    ghost total = { name_cmp-total };
+
+    ghost matches_partial_cmp = { λ _ _. refl };
+
+    ghost matches_eq = { same_name-ties };
+
+    fn cmp(&self, other: &Self) -> Ordering {
+        self.parts.cmp(&other.parts)
+    }
+}
+
+#[cfg(test)]
+mod tests {
+    use super::*;
+    use std::test::Fail;
+
+    // The call's answer, or that of a second call where memory ran out.
+    macro_rules! again {
+        ($call:expr) => {
+            match $call {
+                Err(NameFault::Memory) => $call,
+                answer => answer,
+            }
+        };
+    }
+
+    const DEEPEST: &str =
+        "1.2.3.4.5.6.7.8.9.10.11.12.13.14.15.16.17.18.19.20.21.22.23.24.25.26.27.28.29.30.31.32";
+
+    const TOO_DEEP: &str =
+        "1.2.3.4.5.6.7.8.9.10.11.12.13.14.15.16.17.18.19.20.21.22.23.24.25.26.27.28.29.30.31.32.33";
+
+    #[test]
+    fn reads_what_it_prints(rt: HostRuntime) -> Result<(), Fail> {
+        for (text, depth) in [("7", 1), ("4294967295.1.20", 3), (DEEPEST, 32)] {
+            let name = again!(Name::parse(rt.alloc(), text))?;
+            assert_eq!(rt; name.depth(), depth);
+            let mut line = String::new(rt.alloc());
+            again!(name.write_to(&mut line).map_err(NameFault::from))?;
+            assert_eq!(rt; line.as_str(), text);
+            let printed = again!(format!(in rt.alloc(); "{name}").map_err(NameFault::from))?;
+            assert_eq!(rt; printed.as_str(), text);
+            let debugged = again!(format!(in rt.alloc(); "{name:?}").map_err(NameFault::from))?;
+            assert_eq!(rt; debugged.as_str(), text);
+        }
+        Ok(())
+    }
+
+    #[test]
+    fn refuses_other_texts(rt: HostRuntime) {
+        for text in [
+            "",
+            ".",
+            "1.",
+            ".1",
+            "1..2",
+            "0",
+            "1.0",
+            "01",
+            "+1",
+            "-1",
+            "1 ",
+            "1,2",
+            "4294967296",
+            "a",
+            TOO_DEEP,
+        ] {
+            let refused = matches!(
+                again!(Name::parse(rt.alloc(), text)),
+                Err(NameFault::NotAName)
+            );
+            assert!(rt; refused, "{text}");
+        }
+    }
+
+    #[test]
+    fn names_a_family(rt: HostRuntime) -> Result<(), Fail> {
+        let top = Name::top(rt.alloc(), 5)?;
+        let child = top.child(7)?;
+        assert!(rt; top.is_top());
+        assert!(rt; !child.is_top());
+        assert_eq!(rt; child.components(), [5, 7].as_slice());
+        assert_eq!(rt; child.last(), 7);
+        assert!(rt; child.parent()? == Some(top.copy()?));
+        assert!(rt; top.parent()? == None);
+        assert!(rt; top.is_ancestor(&child));
+        assert!(rt; child.is_ancestor(&child));
+        assert!(rt; !child.is_ancestor(&top));
+        assert_eq!(rt; child.meet(&top.child(8)?), 1);
+        assert!(rt; matches!(top.child(0), Err(NameFault::NotAName)));
+        let deepest = again!(Name::parse(rt.alloc(), DEEPEST))?;
+        assert!(rt; matches!(deepest.child(33), Err(NameFault::TooDeep)));
+        let parent = again!(deepest.parent().map_err(NameFault::from))?;
+        assert!(rt; matches!(parent, Some(name) if name.last() == 31));
+        Ok(())
+    }
+
+    #[test]
+    fn puts_beginnings_first(rt: HostRuntime) -> Result<(), Fail> {
+        let rising = ["1", "1.1", "1.1.5", "1.2", "1.10", "2"];
+        for (i, below) in rising.iter().enumerate() {
+            for (k, above) in rising.iter().enumerate() {
+                let left = Name::parse(rt.alloc(), below)?;
+                let right = Name::parse(rt.alloc(), above)?;
+                assert_eq!(rt; left.cmp(&right), i.cmp(&k));
+                assert_eq!(rt; left == right, i == k);
+            }
+        }
+        Ok(())
     }
 }

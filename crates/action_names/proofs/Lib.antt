@@ -1,0 +1,4 @@
+pub mod Paths
+pub mod Numbers
+pub mod Text
+pub mod Entries

@@ -1,0 +1,28 @@
+use Rattle.std.proofs.Common.{◌≡◌, ◌+◌, ◌∷◌, length, get_or, drop, vec_len, Ok, IsErr, ap, ◌∙◌, arith, rules}
+use Rattle.std.proofs.lemmas.List.{drop_more}
+use Rattle.std.proofs.lemmas.Result.{IfOk-at_ok}
+use Rattle.action_names.specs.Deps.{IsRising, with_least, lowered, least_at, count_new}
+use Rattle.action_names.proofs.Entries.{rising_with_least, rising_drop, merge_step, places_step}
+use Rattle.action_names.proofs.deps.merge_in.Goals as goal
+
+-- with no new guardian no room is asked for, and that is always there
+pub returns-in_err-reserve-clause-known : goal.returns-in_err-reserve-clause-known
+returns-in_err-reserve-clause-known c none = absurd (omega (arith, c.in_err-reserve.ensures.full, c.count_new.ensures, rw c.deref.ensures.value at c.count_new.ensures, c.args.least.now.ok))
+
+pub loop-guardian-preserved : goal.loop-guardian-preserved
+loop-guardian-preserved c =
+    let es = c.loop-guardian.least.items in
+    let others = c.args.others.now in
+    let at = c.loop-guardian.guardian-index in
+    let rest = drop (at + 1) others in
+    let e = get_or others at (0, 0) in
+    let n = lowered (least_at es e.0) e.1 in
+    let after : c.lower_in.new.least.items ≡ with_least es e.0 n = IfOk-at_ok (λ _. c.lower_in.new.least.items ≡ with_least es e.0 n) c.unwrap.ensures c.lower_in.ensures.ok in
+    let left : drop at others ≡ e ∷ rest = drop_more others at (0, 0) c.loop-guardian-test.true in
+    let rises : IsRising (e ∷ rest) = rw left at (rising_drop others at c.requires.others) in
+    let long : vec_len c.lower_in.new.least ≡ length (with_least es e.0 n) = omega (arith, c.lower_in.new.least.ok, ap length after) in
+    record {
+      rising = c.lower_in.ensures.rising;
+      merged = λ g. rw after (merge_step es e rest rises g ∙ rw left at (c.loop-guardian.invariant.merged g));
+      room = omega (arith, places_step es e rest c.loop-guardian.invariant.rising n, ap (λ xs. count_new xs rest) after, ap (count_new es) left, c.loop-guardian.invariant.room, c.lower_in.ensures.capacity);
+    }

@@ -1,0 +1,9 @@
+use Rattle.std.proofs.Common.{◌∷◌, ◌++◌, get_or, take, decimal}
+use Rattle.std.specs.List.{flat_map}
+use Rattle.std.specs.Fmt.{HasWritten, IsPlainFormatter}
+use Rattle.action_names.proofs.name.NameDisplay.fmt.Given as goal
+
+-- the numbers so far are written
+abbrev pub invariant-loop-number : goal.invariant-loop-number
+invariant-loop-number g l =
+    IsPlainFormatter l.fn.f → HasWritten g.W.Write.write_str_gives l.fn.f (decimal (get_or l.self 0 0) ++ flat_map (λ n. 46 ∷ decimal n) (take l.number-index l.rest)) l.f
