@@ -1,7 +1,7 @@
 -- Values, their kinds, and a value's one spelling as JSON.
-use Rattle.std.specs.Prelude.{ℕ, ℤ, pos, negsuc, List, Bool, true, false, FitsSigned}
+use Rattle.std.specs.Prelude.{ℕ, List, Bool, true, false, FitsSigned}
 use Rattle.std.specs.Int.{w64}
-use Rattle.serde_json.specs.Data.{Data, number, string, unsigned, negative}
+use Rattle.serde_json.specs.Data.{Data, number, string}
 use Rattle.serde_json.specs.Find.{of_integer}
 use Rattle.serde_json.specs.Written.{compact_text}
 use Rattle.values.specs.declared.value.Value.{Value}

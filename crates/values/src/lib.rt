@@ -9,7 +9,7 @@ mod record;
 mod value;
 mod words;
 
-pub use content::Content;
-pub use record::{Field, Record};
+pub use content::{Content, one_document, written_is_read_back};
+pub use record::{Field, MAX_FIELDS, Record};
 pub use value::{Kind, Value};
 pub use words::{Identifier, MAX_TEXT, Text, ValueFault};
