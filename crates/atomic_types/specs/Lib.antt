@@ -2,3 +2,4 @@ pub mod Operations
 pub mod Records
 pub mod Objects
 pub mod Laws
+pub mod TypeLaws

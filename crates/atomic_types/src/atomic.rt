@@ -23,12 +23,18 @@ pub trait AtomicType: Drop {
         ensures { result ≡ knows self.now op.now };
 
     /// Whether an operation reads or writes, by its name alone.
-    fn class(op: &Op) -> Class
-        ensures { result ≡ class_of op.now };
+    final fn class(op: &Op) -> Class
+        ensures { result ≡ class_of op.now }
+    {
+        op.class()
+    }
 
     /// Whether operations of these classes conflict (Moss 1981).
-    fn conflicts(first: Class, second: Class) -> bool
-        ensures { result ≡ classes_conflict first second };
+    final fn conflicts(first: Class, second: Class) -> bool
+        ensures { result ≡ classes_conflict first second }
+    {
+        first.conflicts_with(second)
+    }
 
     /// An equal object.
     fn copy(&self) -> Result<Self, AllocError>

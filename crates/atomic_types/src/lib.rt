@@ -5,7 +5,13 @@
 #![tactic(auto)]
 
 mod atomic;
+mod laws;
+mod object;
 mod op;
+mod record;
+#[cfg(test)]
+mod tests;
 
 pub use atomic::AtomicType;
+pub use laws::object_laws;
 pub use op::{Class, Op, Reply, Signal};

@@ -1,0 +1,6 @@
+pub mod Example
+pub mod Telling
+pub mod Crashes
+pub mod Orphans
+pub mod Endings
+pub mod Refusals

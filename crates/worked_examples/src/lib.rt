@@ -1,0 +1,97 @@
+//! Runs by hand: what the definitions of runs answer, computed.
+//!
+//! Each function promises that the steps of one example are answered as the example says, and does nothing.
+#![tactic(auto, unfolding(run_model::specs::Answers::answer_of))]
+
+ghost use Rattle.worked_examples.specs.Example.{Answers, Explains, action_2};
+ghost use Rattle.worked_examples.specs.Telling as telling;
+ghost use Rattle.worked_examples.specs.Crashes as crashes;
+ghost use Rattle.worked_examples.specs.Orphans as orphans;
+ghost use Rattle.worked_examples.specs.Endings as endings;
+ghost use Rattle.worked_examples.specs.Refusals as refusals;
+
+/// A child's commit that was not told yet: its parent waits for it.
+pub fn committed_not_told()
+    ensures { Answers telling.committed_not_told }
+{}
+
+/// Once the commit was told, the parent sees what the child wrote.
+pub fn commit_told_to_parent()
+    ensures { Answers telling.commit_told_to_parent }
+{}
+
+/// An abort, once told, restores what the child overwrote.
+pub fn abort_restores()
+    ensures { Answers telling.abort_restores }
+{}
+
+/// A commit that was told before a child's commit leaves the lock with the child until that is told too.
+pub fn tells_out_of_order()
+    ensures { Answers telling.tells_out_of_order }
+{}
+
+/// A read alone holds a lock, which passes to the parent.
+pub fn read_lock_alone()
+    ensures { Answers telling.read_lock_alone }
+{}
+
+/// A guardian that crashed before its vote has lost a write, and votes no.
+pub fn crash_before_prepare()
+    ensures { Answers crashes.crash_before_prepare }
+{}
+
+/// What a guardian voted yes on survives its crash, locked until the outcome is told.
+pub fn crash_after_yes_vote()
+    ensures { Answers crashes.crash_after_yes_vote }
+{}
+
+/// A read lock is lost in a crash even after a yes vote; the read still comes before the write in order of place.
+pub fn prepared_read_lock_lost()
+    ensures answers { Answers crashes.prepared_read_lock_lost }
+    ensures explanation { Explains crashes.prepared_read_lock_lost action_2 crashes.read_before_write }
+{}
+
+/// A top action whose home crashed is not decided any more, and its abort frees the other guardian.
+pub fn coordinator_crashes()
+    ensures { Answers crashes.coordinator_crashes }
+{}
+
+/// An orphan goes on until its guardian is told that an ancestor aborted.
+pub fn orphan_by_abort()
+    ensures { Answers orphans.orphan_by_abort }
+{}
+
+/// A call to a guardian that crashed since its caller came to depend on it is an orphan there.
+pub fn orphan_by_crash_count()
+    ensures { Answers orphans.orphan_by_crash_count }
+{}
+
+/// A call carries what the caller's guardian knows of aborts.
+pub fn lists_by_call()
+    ensures { Answers orphans.lists_by_call }
+{}
+
+/// A call carries what the caller's guardian knows of crashes, its own among them.
+pub fn dependency_below_known_count()
+    ensures { Answers orphans.dependency_below_known_count }
+{}
+
+/// A nested top action that committed stays committed when its starter aborts.
+pub fn nested_top_action_outlives_starter()
+    ensures { Answers endings.nested_top_action_outlives_starter }
+{}
+
+/// What was done once is refused the second time.
+pub fn repeated_steps()
+    ensures { Answers endings.repeated_steps }
+{}
+
+/// Of several reasons to refuse a step, the first counts.
+pub fn refusal_numbers()
+    ensures { Answers refusals.refusal_numbers }
+{}
+
+/// A call that would begin an action of 33 levels is refused.
+pub fn depth_limit()
+    ensures { Answers refusals.depth_limit }
+{}
