@@ -3,3 +3,4 @@ pub mod Numbers
 pub mod Words
 pub mod Utf8
 pub mod Arms
+pub mod Growing

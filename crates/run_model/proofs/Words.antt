@@ -9,11 +9,11 @@ use Rattle.action_names.specs.Names.{name_text}
 use Rattle.values.specs.Values.{value_text}
 use Rattle.atomic_types.specs.declared.op.Op as op
 use Rattle.atomic_types.specs.declared.op.Op.TheVariants.{Get, Set, Low, High, Size, Fetch, Store, AddHigh, AddLow, RemoveHigh, RemoveLow, Is, ValueOf, Change}
-use Rattle.atomic_types.specs.Operations.{IsOp}
+use Rattle.atomic_types.specs.Operations.{IsOp, op_name}
 use Rattle.run_model.specs.declared.step.Step.{Step}
 use Rattle.run_model.specs.declared.step.Step.TheVariants.{Top, NestedTop, Call, Arms, Op, Commit, Close, Prepare, Decide, Abort, Tell, Crash, Recover}
 use Rattle.run_model.specs.Texts.{object_text, op_text, kinds_text, step_text, HasStepParts, IsStep, Spells, max_line}
-use Rattle.run_model.specs.Reading.{Reads, Lacks, Cuts, op_word, op_arguments, is_bare, IsBare, IsOpNamed, step_word, step_arguments, IsStepNamed}
+use Rattle.run_model.specs.Reading.{Reads, Lacks, Cuts, op_arguments, is_bare, IsBare, IsOpNamed, step_word, step_arguments, IsStepNamed}
 use Rattle.run_model.specs.Spaces.{Lacks-nil, Lacks-cons}
 use Rattle.run_model.proofs.Cutting.{no_cut}
 
@@ -25,31 +25,31 @@ Lacks-from_test (b ∷ bytes) h =
     let first : not (b == 32) ≡ true = p.0 in
     Lacks-cons 32 b bytes (grind (arith, nat_tests)) (Lacks-from_test bytes p.1)
 
-pub op_word_lacks : (o : op.Op) → Lacks 32 (op_word o)
-op_word_lacks (Get field) = Lacks-from_test (codes "get") refl
-op_word_lacks (Set field v) = Lacks-from_test (codes "set") refl
-op_word_lacks Low = Lacks-from_test (codes "low") refl
-op_word_lacks High = Lacks-from_test (codes "high") refl
-op_word_lacks Size = Lacks-from_test (codes "size") refl
-op_word_lacks (Fetch index) = Lacks-from_test (codes "fetch") refl
-op_word_lacks (Store index v) = Lacks-from_test (codes "store") refl
-op_word_lacks (AddHigh v) = Lacks-from_test (codes "addh") refl
-op_word_lacks (AddLow v) = Lacks-from_test (codes "addl") refl
-op_word_lacks RemoveHigh = Lacks-from_test (codes "remh") refl
-op_word_lacks RemoveLow = Lacks-from_test (codes "reml") refl
-op_word_lacks (Is tag) = Lacks-from_test (codes "is") refl
-op_word_lacks (ValueOf tag) = Lacks-from_test (codes "value") refl
-op_word_lacks (Change tag v) = Lacks-from_test (codes "change") refl
+pub op_name_lacks : (o : op.Op) → Lacks 32 (op_name o)
+op_name_lacks (Get field) = Lacks-from_test (codes "get") refl
+op_name_lacks (Set field v) = Lacks-from_test (codes "set") refl
+op_name_lacks Low = Lacks-from_test (codes "low") refl
+op_name_lacks High = Lacks-from_test (codes "high") refl
+op_name_lacks Size = Lacks-from_test (codes "size") refl
+op_name_lacks (Fetch index) = Lacks-from_test (codes "fetch") refl
+op_name_lacks (Store index v) = Lacks-from_test (codes "store") refl
+op_name_lacks (AddHigh v) = Lacks-from_test (codes "addh") refl
+op_name_lacks (AddLow v) = Lacks-from_test (codes "addl") refl
+op_name_lacks RemoveHigh = Lacks-from_test (codes "remh") refl
+op_name_lacks RemoveLow = Lacks-from_test (codes "reml") refl
+op_name_lacks (Is tag) = Lacks-from_test (codes "is") refl
+op_name_lacks (ValueOf tag) = Lacks-from_test (codes "value") refl
+op_name_lacks (Change tag v) = Lacks-from_test (codes "change") refl
 
 -- an operation's text is its name alone, or its name and its arguments
 pub record IsBareOp (o : op.Op) : Type 0 where
   pub bare : is_bare o ≡ true
   pub fits : IsOp o
-  pub text : op_text o ≡ op_word o
+  pub text : op_text o ≡ op_name o
 
 pub record IsFullOp (o : op.Op) : Type 0 where
   pub bare : is_bare o ≡ false
-  pub text : op_text o ≡ op_word o ++ 32 ∷ op_arguments o
+  pub text : op_text o ≡ op_name o ++ 32 ∷ op_arguments o
 
 pub op_cases : (o : op.Op) → IsBareOp o ⊎ IsFullOp o
 op_cases (Get field) = inr (record { bare = refl; text = refl })
@@ -72,15 +72,15 @@ pub op_of_cut : (text word rest : List ℕ) (o : Option op.Op) → Cuts 32 text 
 op_of_cut text word rest (Some x) cut h =
     (h.0.0, elim (op_cases x) [
       | inl b ↦ (let t = b.bare in let f = h.0.1 in absurd cc)
-      | inr f ↦ cut.parts ∙ ap (λ (w : List ℕ). w ++ 32 ∷ rest) h.0.2 ∙ ap (λ (r : List ℕ). op_word x ++ 32 ∷ r) h.1 ∙ sym f.text
+      | inr f ↦ cut.parts ∙ ap (λ (w : List ℕ). w ++ 32 ∷ rest) h.0.2 ∙ ap (λ (r : List ℕ). op_name x ++ 32 ∷ r) h.1 ∙ sym f.text
     ])
 op_of_cut text word rest None cut h = λ x fits e.
     elim (op_cases x) [
-      | inl b ↦ no_cut 32 word rest (op_word x) (op_word_lacks x) (sym b.text ∙ sym e ∙ cut.parts)
-      | inr f ↦ let same = cut.only (op_word x) (op_arguments x) (op_word_lacks x) (e ∙ f.text) in h x (fits, f.bare, same.0) same.1
+      | inl b ↦ no_cut 32 word rest (op_name x) (op_name_lacks x) (sym b.text ∙ sym e ∙ cut.parts)
+      | inr f ↦ let same = cut.only (op_name x) (op_arguments x) (op_name_lacks x) (e ∙ f.text) in h x (fits, f.bare, same.0) same.1
     ]
 
-pub op_of_word : (text : List ℕ) (o : Option op.Op) → ((a b : List ℕ) → Lacks 32 a → text ≢ a ++ 32 ∷ b) → Reads IsBare op_word text o → Reads IsOp op_text text o
+pub op_of_word : (text : List ℕ) (o : Option op.Op) → ((a b : List ℕ) → Lacks 32 a → text ≢ a ++ 32 ∷ b) → Reads IsBare op_name text o → Reads IsOp op_text text o
 op_of_word text (Some x) uncut h =
     elim (op_cases x) [
       | inl b ↦ (b.fits, h.1 ∙ sym b.text)
@@ -89,7 +89,7 @@ op_of_word text (Some x) uncut h =
 op_of_word text None uncut h = λ x fits e.
     elim (op_cases x) [
       | inl b ↦ h x b.bare (e ∙ b.text)
-      | inr f ↦ uncut (op_word x) (op_arguments x) (op_word_lacks x) (e ∙ f.text)
+      | inr f ↦ uncut (op_name x) (op_arguments x) (op_name_lacks x) (e ∙ f.text)
     ]
 
 pub step_word_lacks : (s : Step) → Lacks 32 (step_word s)

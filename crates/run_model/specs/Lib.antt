@@ -22,4 +22,5 @@ pub mod Versions
 pub mod Texts
 pub mod Reading
 pub mod Spaces
+pub mod Writing
 pub mod Transcripts

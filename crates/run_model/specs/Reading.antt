@@ -6,7 +6,7 @@ use Rattle.action_names.specs.Names.{Name, IsName, IsComponent, name_text}
 use Rattle.values.specs.Values.{value_text}
 use Rattle.atomic_types.specs.declared.op.Op as op
 use Rattle.atomic_types.specs.declared.op.Op.TheVariants.{Get, Set, Low, High, Size, Fetch, Store, AddHigh, AddLow, RemoveHigh, RemoveLow, Is, ValueOf, Change}
-use Rattle.atomic_types.specs.Operations.{IsOp}
+use Rattle.atomic_types.specs.Operations.{IsOp, op_name}
 use Rattle.run_model.specs.declared.step.ArmKind.{ArmKind}
 use Rattle.run_model.specs.declared.step.ArmKind.TheVariants as arm
 use Rattle.run_model.specs.declared.step.ObjectId.{ObjectId}
@@ -67,24 +67,7 @@ any_kinds kinds = Unit {0}
 abbrev pub itself : List ℕ → List ℕ
 itself text = text
 
--- an operation's name
-abbrev pub op_word : op.Op → List ℕ
-op_word (Get field) = codes "get"
-op_word (Set field v) = codes "set"
-op_word Low = codes "low"
-op_word High = codes "high"
-op_word Size = codes "size"
-op_word (Fetch index) = codes "fetch"
-op_word (Store index v) = codes "store"
-op_word (AddHigh v) = codes "addh"
-op_word (AddLow v) = codes "addl"
-op_word RemoveHigh = codes "remh"
-op_word RemoveLow = codes "reml"
-op_word (Is tag) = codes "is"
-op_word (ValueOf tag) = codes "value"
-op_word (Change tag v) = codes "change"
-
--- its arguments, a space between two
+-- the arguments of an operation, a space between two
 abbrev pub op_arguments : op.Op → List ℕ
 op_arguments (Get field) = field
 op_arguments (Set field v) = field ++ 32 ∷ value_text v
@@ -123,7 +106,7 @@ IsBare o = is_bare o ≡ true
 
 -- an operation of this name with arguments
 abbrev pub IsOpNamed : List ℕ → op.Op → Type 0
-IsOpNamed word o = IsOp o × (is_bare o ≡ false) × (word ≡ op_word o)
+IsOpNamed word o = IsOp o × (is_bare o ≡ false) × (word ≡ op_name o)
 
 -- the word that a step begins with
 abbrev pub step_word : Step → List ℕ

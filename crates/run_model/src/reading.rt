@@ -5,9 +5,9 @@ ghost use Rattle.std.specs.Fmt.{signed_decimal};
 ghost use Rattle.action_names.specs.Names.{IsName, IsComponent, name_text};
 ghost use Rattle.values.specs.Values.{IsValue, value_text};
 ghost use Rattle.values.specs.Words.{IsIdentifier};
-ghost use Rattle.atomic_types.specs.Operations.{IsOp};
+ghost use Rattle.atomic_types.specs.Operations.{IsOp, op_name};
 ghost use Rattle.run_model.specs.Texts.{Spells, object_text, op_text, kinds_text};
-ghost use Rattle.run_model.specs.Reading.{Reads, Lacks, Cuts, ReadsBoth, ReadsAct, ReadsArms, IsFirstWord, any_kinds, kind_letter, itself, IsBare, op_word, IsOpNamed, op_arguments, IsStepNamed, step_arguments, IsIndex, IsObject};
+ghost use Rattle.run_model.specs.Reading.{Reads, Lacks, Cuts, ReadsBoth, ReadsAct, ReadsArms, IsFirstWord, any_kinds, kind_letter, itself, IsBare, IsOpNamed, op_arguments, IsStepNamed, step_arguments, IsIndex, IsObject};
 
 use crate::step::{ArmKind, ArmKinds, ObjectId, Step};
 use action_names::{Name, NameFault};
@@ -45,7 +45,7 @@ trait Argument: Drop {
 
     ghost spelling: { Self → List ℕ };
 
-    fn read(alloc: Global, text: &str) -> Result<Option<Self>, AllocError>
+    fn from_text(alloc: Global, text: &str) -> Result<Option<Self>, AllocError>
         ensures { IfOk result (Reads fits spelling text.now) };
 }
 
@@ -59,7 +59,7 @@ impl Argument for u32 {
 
     ghost spelling = { decimal };
 
-    fn read(_alloc: Global, text: &str) -> Result<Option<u32>, AllocError> {
+    fn from_text(_alloc: Global, text: &str) -> Result<Option<u32>, AllocError> {
         Ok(component(text))
     }
 }
@@ -78,7 +78,7 @@ impl Argument for Name {
 
     ghost spelling = { name_text };
 
-    fn read(alloc: Global, text: &str) -> Result<Option<Name>, AllocError> {
+    fn from_text(alloc: Global, text: &str) -> Result<Option<Name>, AllocError> {
         match Name::parse(alloc, text) {
             Ok(name) => Ok(Some(name)),
             Err(NameFault::NotAName | NameFault::TooDeep) => Ok(None),
@@ -92,7 +92,7 @@ impl Argument for Identifier {
 
     ghost spelling = { itself };
 
-    fn read(alloc: Global, text: &str) -> Result<Option<Identifier>, AllocError> {
+    fn from_text(alloc: Global, text: &str) -> Result<Option<Identifier>, AllocError> {
         match Identifier::parse(alloc, text) {
             Ok(word) => Ok(Some(word)),
             Err(ValueFault::Unfit) => Ok(None),
@@ -106,7 +106,7 @@ impl Argument for Value {
 
     ghost spelling = { value_text };
 
-    fn read(alloc: Global, text: &str) -> Result<Option<Value>, AllocError> {
+    fn from_text(alloc: Global, text: &str) -> Result<Option<Value>, AllocError> {
         match Value::from_spelling(alloc, text) {
             Ok(value) => Ok(Some(value)),
             Err(ValueFault::Unfit) => Ok(None),
@@ -121,7 +121,7 @@ impl Argument for i64 {
 
     ghost spelling = { signed_decimal };
 
-    fn read(alloc: Global, text: &str) -> Result<Option<i64>, AllocError> {
+    fn from_text(alloc: Global, text: &str) -> Result<Option<i64>, AllocError> {
         match Value::from_spelling(alloc, text) {
             Ok(Value::Int(index)) => Ok(Some(index)),
             Ok(Value::Text(_)) => Ok(None),
@@ -136,7 +136,7 @@ impl Argument for ObjectId {
 
     ghost spelling = { object_text };
 
-    fn read(_alloc: Global, text: &str) -> Result<Option<ObjectId>, AllocError> {
+    fn from_text(_alloc: Global, text: &str) -> Result<Option<ObjectId>, AllocError> {
         Ok(object(text))
     }
 }
@@ -157,7 +157,7 @@ impl Argument for Op {
 
     ghost spelling = { op_text };
 
-    fn read(alloc: Global, text: &str) -> Result<Option<Op>, AllocError> {
+    fn from_text(alloc: Global, text: &str) -> Result<Option<Op>, AllocError> {
         match cut(text, ' ') {
             Some((word, rest)) => operation(alloc, word, rest),
             None => Ok(bare_operation(text)),
@@ -212,10 +212,10 @@ fn pair<A: Word, B: Argument>(alloc: Global, text: &str) -> Result<Option<(A, B)
     let Some((front, rest)) = cut(text, ' ') else {
         return Ok(None);
     };
-    let Some(first) = A::read(alloc, front)? else {
+    let Some(first) = A::from_text(alloc, front)? else {
         return Ok(None);
     };
-    let Some(second) = B::read(alloc, rest)? else {
+    let Some(second) = B::from_text(alloc, rest)? else {
         return Ok(None);
     };
     Ok(Some((first, second)))
@@ -227,15 +227,15 @@ fn step(alloc: Global, word: &str, rest: &str) -> Result<Option<Step>, AllocErro
 {
     match word {
         "top" => Ok(component(rest).map(Step::Top)),
-        "nest" => Ok(Name::read(alloc, rest)?.map(Step::NestedTop)),
+        "nest" => Ok(Name::from_text(alloc, rest)?.map(Step::NestedTop)),
         "call" => Ok(pair(alloc, rest)?.map(|(name, guardian)| Step::Call(name, guardian))),
         "arms" => Ok(arms(alloc, rest)?.map(|(name, kinds)| Step::Arms(name, kinds))),
         "op" => Ok(act(alloc, rest)?.map(|(name, object, operation)| Step::Op(name, object, operation))),
-        "commit" => Ok(Name::read(alloc, rest)?.map(Step::Commit)),
-        "close" => Ok(Name::read(alloc, rest)?.map(Step::Close)),
+        "commit" => Ok(Name::from_text(alloc, rest)?.map(Step::Commit)),
+        "close" => Ok(Name::from_text(alloc, rest)?.map(Step::Close)),
         "prepare" => Ok(pair(alloc, rest)?.map(|(guardian, name)| Step::Prepare(guardian, name))),
-        "decide" => Ok(Name::read(alloc, rest)?.map(Step::Decide)),
-        "abort" => Ok(Name::read(alloc, rest)?.map(Step::Abort)),
+        "decide" => Ok(Name::from_text(alloc, rest)?.map(Step::Decide)),
+        "abort" => Ok(Name::from_text(alloc, rest)?.map(Step::Abort)),
         "tell" => Ok(pair(alloc, rest)?.map(|(guardian, name)| Step::Tell(guardian, name))),
         "crash" => Ok(component(rest).map(Step::Crash)),
         "recover" => Ok(component(rest).map(Step::Recover)),
@@ -251,7 +251,7 @@ fn act(alloc: Global, text: &str) -> Result<Option<(Name, ObjectId, Op)>, AllocE
     let Some((front, rest)) = cut(text, ' ') else {
         return Ok(None);
     };
-    let Some(name) = Name::read(alloc, front)? else {
+    let Some(name) = Name::from_text(alloc, front)? else {
         return Ok(None);
     };
     let Some((object, operation)) = pair(alloc, rest)? else {
@@ -265,7 +265,7 @@ fn arms(alloc: Global, text: &str) -> Result<Option<(Name, ArmKinds)>, AllocErro
     ensures { IfOk result (ReadsArms text.now) }
 {
     let front = first_word(text);
-    let Some(name) = Name::read(alloc, front)? else {
+    let Some(name) = Name::from_text(alloc, front)? else {
         return Ok(None);
     };
     let Some(kinds) = arm_kinds(alloc, &text.as_bytes()[front.len()..])? else {
@@ -311,7 +311,7 @@ fn arm_kind(letter: u8) -> Option<ArmKind>
 
 /// The operation with this name and no argument.
 fn bare_operation(word: &str) -> Option<Op>
-    ensures { Reads IsBare op_word word.now result }
+    ensures { Reads IsBare op_name word.now result }
 {
     match word {
         "low" => Some(Op::Low),
@@ -328,14 +328,14 @@ fn operation(alloc: Global, word: &str, rest: &str) -> Result<Option<Op>, AllocE
     ensures { IfOk result (Reads (IsOpNamed word.now) op_arguments rest.now) }
 {
     match word {
-        "get" => Ok(Identifier::read(alloc, rest)?.map(Op::Get)),
+        "get" => Ok(Identifier::from_text(alloc, rest)?.map(Op::Get)),
         "set" => Ok(pair(alloc, rest)?.map(|(field, value)| Op::Set(field, value))),
-        "fetch" => Ok(i64::read(alloc, rest)?.map(Op::Fetch)),
+        "fetch" => Ok(i64::from_text(alloc, rest)?.map(Op::Fetch)),
         "store" => Ok(pair(alloc, rest)?.map(|(index, value)| Op::Store(index, value))),
-        "addh" => Ok(Value::read(alloc, rest)?.map(Op::AddHigh)),
-        "addl" => Ok(Value::read(alloc, rest)?.map(Op::AddLow)),
-        "is" => Ok(Identifier::read(alloc, rest)?.map(Op::Is)),
-        "value" => Ok(Identifier::read(alloc, rest)?.map(Op::ValueOf)),
+        "addh" => Ok(Value::from_text(alloc, rest)?.map(Op::AddHigh)),
+        "addl" => Ok(Value::from_text(alloc, rest)?.map(Op::AddLow)),
+        "is" => Ok(Identifier::from_text(alloc, rest)?.map(Op::Is)),
+        "value" => Ok(Identifier::from_text(alloc, rest)?.map(Op::ValueOf)),
         "change" => Ok(pair(alloc, rest)?.map(|(tag, value)| Op::Change(tag, value))),
         _ => Ok(None),
     }
