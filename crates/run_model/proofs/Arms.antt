@@ -43,7 +43,7 @@ first_of_uncut text uncut =
 
 -- ---- kinds
 
-kinds_head : (kinds : List ArmKind) → (kinds_text kinds ≡ []) ⊎ (get_or (kinds_text kinds) 0 0 ≡ 32)
+pub kinds_head : (kinds : List ArmKind) → (kinds_text kinds ≡ []) ⊎ (get_or (kinds_text kinds) 0 0 ≡ 32)
 kinds_head [] = inl refl
 kinds_head (arm.Sub ∷ kinds) = inr refl
 kinds_head (arm.Top ∷ kinds) = inr refl

@@ -4,3 +4,4 @@ pub mod Words
 pub mod Utf8
 pub mod Arms
 pub mod Growing
+pub mod OneSpelling

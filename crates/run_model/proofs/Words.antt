@@ -45,6 +45,7 @@ op_name_lacks (Change tag v) = Lacks-from_test (codes "change") refl
 pub record IsBareOp (o : op.Op) : Type 0 where
   pub bare : is_bare o ≡ true
   pub fits : IsOp o
+  pub nothing : op_arguments o ≡ []
   pub text : op_text o ≡ op_name o
 
 pub record IsFullOp (o : op.Op) : Type 0 where
@@ -54,15 +55,15 @@ pub record IsFullOp (o : op.Op) : Type 0 where
 pub op_cases : (o : op.Op) → IsBareOp o ⊎ IsFullOp o
 op_cases (Get field) = inr (record { bare = refl; text = refl })
 op_cases (Set field v) = inr (record { bare = refl; text = refl })
-op_cases Low = inl (record { bare = refl; fits = tt; text = refl })
-op_cases High = inl (record { bare = refl; fits = tt; text = refl })
-op_cases Size = inl (record { bare = refl; fits = tt; text = refl })
+op_cases Low = inl (record { bare = refl; fits = tt; nothing = refl; text = refl })
+op_cases High = inl (record { bare = refl; fits = tt; nothing = refl; text = refl })
+op_cases Size = inl (record { bare = refl; fits = tt; nothing = refl; text = refl })
 op_cases (Fetch index) = inr (record { bare = refl; text = refl })
 op_cases (Store index v) = inr (record { bare = refl; text = refl })
 op_cases (AddHigh v) = inr (record { bare = refl; text = refl })
 op_cases (AddLow v) = inr (record { bare = refl; text = refl })
-op_cases RemoveHigh = inl (record { bare = refl; fits = tt; text = refl })
-op_cases RemoveLow = inl (record { bare = refl; fits = tt; text = refl })
+op_cases RemoveHigh = inl (record { bare = refl; fits = tt; nothing = refl; text = refl })
+op_cases RemoveLow = inl (record { bare = refl; fits = tt; nothing = refl; text = refl })
 op_cases (Is tag) = inr (record { bare = refl; text = refl })
 op_cases (ValueOf tag) = inr (record { bare = refl; text = refl })
 op_cases (Change tag v) = inr (record { bare = refl; text = refl })

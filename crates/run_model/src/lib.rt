@@ -15,7 +15,7 @@ pub use action_names::{Deps, Name, NameFault, Names};
 pub use answer::{Answer, Refusal};
 pub use atomic_types::{Class, Op, Reply, Signal};
 pub use history::{Event, History};
-pub use reading::MAX_LINE;
+pub use reading::{MAX_LINE, one_spelling};
 pub use setup::{Setup, SetupFault};
 pub use step::{ArmKind, ArmKinds, ObjectId, Step};
 pub use values::{Content, Identifier, Kind, Value};

@@ -39,6 +39,12 @@ impl Step {
     }
 }
 
+/// A line spells one step at most.
+pub fn one_spelling()
+    ensures { (line : List ℕ) (s t : Step) → Spells line s → Spells line t → s ≡ t }
+{
+}
+
 /// What stands in a line before or after a space.
 trait Argument: Drop {
     ghost fits: { Self → Type 0 };
