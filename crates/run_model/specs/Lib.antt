@@ -23,4 +23,5 @@ pub mod Texts
 pub mod Reading
 pub mod Spaces
 pub mod Writing
+pub mod Documents
 pub mod Transcripts

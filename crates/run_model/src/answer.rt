@@ -89,7 +89,7 @@ impl Answer {
         ensures ok { OnOk result (string_bytes text.new ≡ string_bytes text.old ++ answer_text self.now) }
         ensures err { OnErr result (string_bytes text.new ≡ string_bytes text.old) }
     {
-        let len = text.len();
+        let len = text.as_str().len();
         let written = self.append_to(text);
         if written.is_err() {
             text.truncate(len);

@@ -16,6 +16,6 @@ pub use answer::{Answer, Refusal};
 pub use atomic_types::{Class, Op, Reply, Signal};
 pub use history::{Event, History};
 pub use reading::{MAX_LINE, one_spelling};
-pub use setup::{Setup, SetupFault};
+pub use setup::{MAX_GUARDIANS, MAX_OBJECTS, Setup, SetupFault, one_setup};
 pub use step::{ArmKind, ArmKinds, ObjectId, Step};
 pub use values::{Content, Identifier, Kind, Value};

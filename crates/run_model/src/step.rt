@@ -1,4 +1,4 @@
-ghost use Rattle.std.specs.Prelude.{◌≡◌, [], ◌∷◌, ◌++◌, length, IfOk, OnOk, OnErr, IsTrue, ◌↔◌};
+ghost use Rattle.std.specs.Prelude.{◌≡◌, [], ◌∷◌, ◌++◌, length, IfOk, OnOk, OnErr, ◌==◌};
 
 use action_names::Name;
 use atomic_types::Op;
@@ -70,7 +70,7 @@ impl ArmKinds {
 
     /// Whether there are no kinds.
     pub fn is_empty(&self) -> bool
-        ensures { IsTrue result ↔ (self.now ≡ []) }
+        ensures { result ≡ (length self.now == 0) }
     {
         self.kinds.is_empty()
     }
@@ -120,4 +120,27 @@ pub enum Step {
     Tell(u32, Name),
     Crash(u32),
     Recover(u32),
+}
+
+impl Step {
+    /// An equal step.
+    pub fn copy(&self) -> Result<Step, AllocError>
+        ensures { IfOk result (λ copy. copy ≡ self.now) }
+    {
+        Ok(match self {
+            Step::Top(guardian) => Step::Top(*guardian),
+            Step::NestedTop(name) => Step::NestedTop(name.copy()?),
+            Step::Call(name, guardian) => Step::Call(name.copy()?, *guardian),
+            Step::Arms(name, kinds) => Step::Arms(name.copy()?, kinds.copy()?),
+            Step::Op(name, object, operation) => Step::Op(name.copy()?, *object, operation.copy()?),
+            Step::Commit(name) => Step::Commit(name.copy()?),
+            Step::Close(name) => Step::Close(name.copy()?),
+            Step::Prepare(guardian, name) => Step::Prepare(*guardian, name.copy()?),
+            Step::Decide(name) => Step::Decide(name.copy()?),
+            Step::Abort(name) => Step::Abort(name.copy()?),
+            Step::Tell(guardian, name) => Step::Tell(*guardian, name.copy()?),
+            Step::Crash(guardian) => Step::Crash(*guardian),
+            Step::Recover(guardian) => Step::Recover(*guardian),
+        })
+    }
 }

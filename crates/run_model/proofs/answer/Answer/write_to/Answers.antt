@@ -1,8 +1,8 @@
-use Rattle.std.proofs.Common.{sym, ◌∙◌}
+use Rattle.std.proofs.Common.{length, sym, ap, ◌∙◌}
 use Rattle.run_model.proofs.Growing.{grown_cut, err_holds}
 use Rattle.run_model.proofs.answer.Answer.write_to.Goals as goal
 
 pub truncate-requires : goal.truncate-requires
 truncate-requires c = λ le.
-    grown_cut c.args.text.now c.append_to-written.new.text c.len-len.result c.len-len.ensures
+    grown_cut c.args.text.now c.append_to-written.new.text _ (ap length c.as_str-len.ensures.value)
     (err_holds c.append_to-written.result (sym c.is_err.ensures.value ∙ c.if-is_err.true) c.append_to-written.ensures.err) le
