@@ -3,7 +3,7 @@ use Rattle.std.proofs.Common.{◌≡◌, ℕ, ◌+◌, ◌≤◌, ◌<◌, Bool,
 use Rattle.std.specs.Prelude.{IsUtf8, OnErr, is_err}
 use Rattle.std.specs.String.Boundary.{IsSplitPoint}
 use Rattle.std.proofs.lemmas.Bool.{false≢true}
-use Rattle.std.proofs.lemmas.List.{take_all, take_at, take-take, take_more, length-append, append-nil}
+use Rattle.std.proofs.lemmas.List.{take_all, take_at, take-take, take_more, length-append, length-take, append-nil}
 use Rattle.std.proofs.lemmas.Str.{IsUtf8-string_bytes, IsCharBoundary-from_take}
 use Rattle.action_names.specs.Names.{Name, name_text}
 use Rattle.run_model.specs.Texts.{names_text}
@@ -18,9 +18,10 @@ grown_then old more mid new e h =
     ∙ take_at old more (length old) refl
 
 -- a text that grew may be cut where it ended before
-pub grown_cut : (old new : String Global) (n : ℕ) → n ≡ length (string_bytes old) → IsGrown (string_bytes old) (string_bytes new) → n ≤ length (string_bytes new) → IsSplitPoint (string_bytes new) n
-grown_cut old new n len grown le =
+pub grown_cut : (old new : String Global) (n : ℕ) → n ≡ length (string_bytes old) → IsGrown (string_bytes old) (string_bytes new) → IsSplitPoint (string_bytes new) n
+grown_cut old new n len grown =
     let front : take n (string_bytes new) ≡ string_bytes old = ap (λ k. take k (string_bytes new)) len ∙ grown in
+    let le : n ≤ length (string_bytes new) = omega (arith, ap length front, length-take n (string_bytes new)) in
     let b = IsCharBoundary-from_take (string_bytes new) n (IsUtf8-string_bytes new) le (subst IsUtf8 (sym front) (IsUtf8-string_bytes old)) in
     (le, λ some. b.1)
 

@@ -1,5 +1,5 @@
 -- Reading a setup from its JSON document.
-use Rattle.std.proofs.Common.{◌≡◌, ◌≢◌, ℕ, zero, suc, ◌+◌, ◌<◌, ◌≤◌, Bool, true, false, List, [], ◌∷◌, ◌++◌, length, get_or, take, codes, Option, Some, None, option_map, MatchOption, Bor, Vec, Global, string_bytes, bytes_eq, refl, sym, ap, subst, ◌∙◌, arith}
+use Rattle.std.proofs.Common.{◌≡◌, ◌≢◌, ℕ, zero, suc, ◌+◌, ◌<◌, ◌≤◌, Bool, true, false, List, [], ◌∷◌, ◌++◌, length, get_or, take, codes, Option, Some, None, Result, Ok, Err, string_bytes, bytes_eq, refl, sym, ap, subst, ◌∙◌, arith}
 use Rattle.std.specs.List.{AllByRecursion}
 use Rattle.std.proofs.lemmas.List.{take_more}
 use Rattle.std.proofs.lemmas.Slice.Eq.{bytes_eq-Decides}
@@ -8,12 +8,16 @@ use Rattle.serde_json.specs.Find.{get, get_member, as_array, as_object}
 use Rattle.serde_json.specs.View.{view, items_view, members_view}
 use Rattle.serde_json.specs.declared.value.Value.{Value as Json}
 use Rattle.serde_json.proofs.Views.{Entry, member_here, member_later, get_member-put}
+use Rattle.values.specs.declared.words.ValueFault.{ValueFault}
+use Rattle.values.specs.declared.words.ValueFault.TheVariants as faults
+use Rattle.run_model.specs.declared.setup.SetupFault.{SetupFault}
+use Rattle.run_model.specs.declared.setup.SetupFault.TheVariants.{Bad}
 use Rattle.values.specs.declared.content.Content.{Content}
 use Rattle.values.specs.Contents.{IsContent, content_data}
 use Rattle.values.proofs.Members.{object_from_members, content_from_data}
 use Rattle.run_model.specs.Replay.{Setup}
 use Rattle.run_model.specs.Texts.{AreObjects, IsSetup, IsSetupText, contents_items, guardians_items, setup_data, max_objects, max_guardians}
-use Rattle.run_model.specs.Documents.{guardian_data}
+use Rattle.run_model.specs.Documents.{guardian_data, setup_fault}
 
 -- ---- the one member of an object
 
@@ -57,17 +61,20 @@ array_from_items (object ms) items e = cc
 same_value : (name : List ℕ) (d e : Data) → object (member name d no_members) ≡ object (member name e no_members) → d ≡ e
 same_value name d e h = cc
 
-pub array_found : (d : Data) (es : List Entry) (name : List ℕ) (v : Json) (r : Option (Bor (Vec Json Global))) → Some (members_view es) ≡ as_object d → length es ≡ 1 → Some (view v) ≡ get name d
-    → option_map (λ a. items_view a.now.items) r ≡ as_array (view v)
-    → MatchOption r ((items : Items) → d ≢ object (member name (array items) no_members)) (λ a. d ≡ object (member name (array (items_view a.now.items)) no_members))
-array_found d es name v None is one here none items e =
-    let only = only_member_is d es name v is one (here ∙ ap (get name) (object_from_members d (members_view es) is)) in
-    let value : view v ≡ array items = same_value name (view v) (array items) (sym only ∙ e) in
+value_here : (d : Data) (es : List Entry) (name : List ℕ) (v : Json) → Some (members_view es) ≡ as_object d → length es ≡ 1 → Some (view v) ≡ get name d → d ≡ object (member name (view v) no_members)
+value_here d es name v is one here = only_member_is d es name v is one (here ∙ ap (get name) (object_from_members d (members_view es) is))
+
+pub no_array : (d : Data) (es : List Entry) (name : List ℕ) (v : Json) → Some (members_view es) ≡ as_object d → length es ≡ 1 → Some (view v) ≡ get name d → None ≡ as_array (view v)
+    → (items : Items) → d ≢ object (member name (array items) no_members)
+no_array d es name v is one here none items e =
+    let value : view v ≡ array items = same_value name (view v) (array items) (sym (value_here d es name v is one here) ∙ e) in
     let h : None ≡ found items = none ∙ ap as_array value in
     absurd cc
-array_found d es name v (Some a) is one here some =
-    let only = only_member_is d es name v is one (here ∙ ap (get name) (object_from_members d (members_view es) is)) in
-    only ∙ ap (λ x. object (member name x no_members)) (array_from_items (view v) (items_view a.now.items) some)
+
+pub an_array : (d : Data) (es : List Entry) (name : List ℕ) (v : Json) (vs slice : List Json) → Some (members_view es) ≡ as_object d → length es ≡ 1 → Some (view v) ≡ get name d
+    → Some (items_view vs) ≡ as_array (view v) → slice ≡ vs → d ≡ object (member name (array (items_view slice)) no_members)
+an_array d es name v vs slice is one here some same =
+    value_here d es name v is one here ∙ ap (λ x. object (member name x no_members)) (array_from_items (view v) (items_view vs) some ∙ ap (λ l. array (items_view l)) (sym same))
 
 -- ---- lists of documents
 
@@ -157,6 +164,23 @@ pub object_refused : (d : Data) (vs : List Json) (i : ℕ) (v : Json) → d ≡ 
     → (contents : List Content) → AreObjects contents → d ≢ guardian_data contents
 object_refused d vs i v is lt at none contents fits e =
     let x = items_at content_data IsContent vs contents i v (same_objects vs contents (sym is ∙ e)) fits.1 lt at in none x.0 x.1 x.2
+
+value_fault : (fault : ValueFault) → setup_fault fault ≡ Bad → fault ≡ faults.Unfit
+value_fault faults.Unfit e = refl
+value_fault faults.Memory e = absurd cc
+
+abbrev failed : {T E : Type 0} → E → Result T E
+failed e = Err e
+
+same_failed : {T E : Type 0} (a b : E) → failed {T = T} a ≡ failed b → a ≡ b
+same_failed a b e = cc
+
+-- the fault of a content is that of its guardian
+pub content_fault : {T : Type 0} (fault : ValueFault) (r : Result T SetupFault) (e : SetupFault) → r ≡ Err e → e ≡ setup_fault fault → r ≡ Err Bad → failed {T = Content} fault ≡ Err faults.Unfit
+content_fault {T} fault r e is made bad = ap failed (value_fault fault (sym made ∙ same_failed {T = T} e Bad (sym is ∙ bad)))
+
+pub same_fault : {T S : Type 0} (fault : SetupFault) (r : Result T SetupFault) (e : SetupFault) → r ≡ Err e → e ≡ fault → r ≡ Err Bad → failed {T = S} fault ≡ Err Bad
+same_fault {T} {S} fault r e is made bad = ap failed (sym made ∙ same_failed {T = T} e Bad (sym is ∙ bad))
 
 -- ---- all guardians
 

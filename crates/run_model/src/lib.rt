@@ -19,3 +19,6 @@ pub use reading::{MAX_LINE, one_spelling};
 pub use setup::{MAX_GUARDIANS, MAX_OBJECTS, Setup, SetupFault, one_setup};
 pub use step::{ArmKind, ArmKinds, ObjectId, Step};
 pub use values::{Content, Identifier, Kind, Value};
+
+#[cfg(test)]
+mod tests;

@@ -195,16 +195,16 @@ impl Objects {
 }
 
 /// The array under this name, of an object that has no other member.
-fn only_array<'a>(json: &'a Json, name: &str) -> Option<&'a Vec<Json>>
+fn only_array<'a>(json: &'a Json, name: &str) -> Option<&'a [Json]>
     ensures { MatchOption result
         ((items : Items) → view json.now ≢ object (member name.now (array items) no_members))
-        (λ items. view json.now ≡ object (member name.now (array (items_view items.now.items)) no_members)) }
+        (λ items. view json.now ≡ object (member name.now (array (items_view items.now)) no_members)) }
 {
     let members = json.as_object()?;
     if members.len() != 1 {
         return None;
     }
-    json.get(name)?.as_array()
+    Some(json.get(name)?.as_array()?.as_slice())
 }
 
 /// A text is one setup at most.
