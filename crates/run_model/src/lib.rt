@@ -7,6 +7,7 @@
 
 mod answer;
 mod history;
+mod reading;
 mod setup;
 mod step;
 
@@ -14,6 +15,10 @@ pub use action_names::{Deps, Name, NameFault, Names};
 pub use answer::{Answer, Refusal};
 pub use atomic_types::{Class, Op, Reply, Signal};
 pub use history::{Event, History};
-pub use setup::{Setup, SetupFault};
+pub use reading::{MAX_LINE, one_spelling};
+pub use setup::{MAX_GUARDIANS, MAX_OBJECTS, Setup, SetupFault, one_setup};
 pub use step::{ArmKind, ArmKinds, ObjectId, Step};
 pub use values::{Content, Identifier, Kind, Value};
+
+#[cfg(test)]
+mod tests;

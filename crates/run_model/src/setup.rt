@@ -1,6 +1,26 @@
+ghost use Rattle.std.specs.Prelude.{◌≡◌, ◌≢◌, List, ℕ, [], length, ◌≤◌, IfOk, IsErrOf, MatchOption};
+ghost use Rattle.std.specs.List.{AllByRecursion};
+ghost use Rattle.serde_json.specs.Data.{Data, Items, array, object, no_members, member};
+ghost use Rattle.serde_json.specs.View.{view, items_view};
+ghost use Rattle.values.specs.declared.content.Content.{Content};
+ghost use Rattle.run_model.specs.Replay.{objects_at};
+ghost use Rattle.run_model.specs.Texts.{IsSetup, IsSetupText, AreObjects, setup_data};
+ghost use Rattle.run_model.specs.Documents.{guardian_data};
+
+use serde_json::Value as Json;
+use std::alloc::{AllocError, AllocFailed, Global};
 use std::marker::Model;
 use thiserror::Error;
-use values::Content;
+use values::{Content, ValueFault};
+
+/// How many guardians a setup has at most.
+pub const MAX_GUARDIANS: usize = 1024;
+
+/// How many objects a guardian has at most.
+pub const MAX_OBJECTS: usize = 1024;
+
+const GUARDIANS: &str = "guardians";
+const OBJECTS: &str = "objects";
 
 /// The opening contents of one guardian's objects.
 #[derive(Drop)]
@@ -40,4 +60,155 @@ pub enum SetupFault {
     Bad,
     #[error("out of memory")]
     Memory,
+}
+
+impl From<AllocError> for SetupFault {
+    ghost use Rattle.std.specs.Prelude.{◌≡◌};
+    ghost use Rattle.run_model.specs.declared.setup.SetupFault.TheVariants.{Memory};
+
+    ghost from_gives = { λ _ e. e ≡ Memory };
+
+    fn from(_refused: AllocError) -> SetupFault {
+        SetupFault::Memory
+    }
+}
+
+impl<T: Drop> From<AllocFailed<T>> for SetupFault {
+    ghost use Rattle.std.specs.Prelude.{◌≡◌};
+    ghost use Rattle.run_model.specs.declared.setup.SetupFault.TheVariants.{Memory};
+
+    ghost from_gives = { λ _ e. e ≡ Memory };
+
+    fn from(_refused: AllocFailed<T>) -> SetupFault {
+        SetupFault::Memory
+    }
+}
+
+impl From<ValueFault> for SetupFault {
+    ghost use Rattle.std.specs.Prelude.{◌≡◌};
+    ghost use Rattle.run_model.specs.Documents.{setup_fault};
+
+    ghost from_gives = { λ fault e. e ≡ setup_fault fault };
+
+    fn from(fault: ValueFault) -> SetupFault {
+        match fault {
+            ValueFault::Unfit => SetupFault::Bad,
+            ValueFault::Memory => SetupFault::Memory,
+        }
+    }
+}
+
+impl Setup {
+    /// The setup whose JSON document these bytes are, whatever its white space and the order of its members. `Bad`
+    /// comes exactly where no setup is this document.
+    pub fn read(alloc: Global, bytes: &[u8]) -> Result<Setup, SetupFault>
+        ensures found { IfOk result (λ setup. IsSetupText bytes.now setup) }
+        ensures refused { IsErrOf result SetupFault.Bad
+            → (setup : List (List Content)) → IsSetupText bytes.now setup → ⊥ }
+    {
+        match Json::from_slice(alloc, bytes) {
+            Ok(json) => Setup::from_json(alloc, &json),
+            Err(error) if error.is_memory() => Err(SetupFault::Memory),
+            Err(_) => Err(SetupFault::Bad),
+        }
+    }
+
+    fn from_json(alloc: Global, json: &Json) -> Result<Setup, SetupFault>
+        ensures found { IfOk result (λ setup. IsSetup setup × (view json.now ≡ setup_data setup)) }
+        ensures refused { IsErrOf result SetupFault.Bad
+            → (setup : List (List Content)) → IsSetup setup → view json.now ≢ setup_data setup }
+    {
+        let Some(items) = only_array(json, GUARDIANS) else {
+            return Err(SetupFault::Bad);
+        };
+        if items.is_empty() || items.len() > MAX_GUARDIANS {
+            return Err(SetupFault::Bad);
+        }
+        let mut guardians = Vec::with_capacity(alloc, items.len())?;
+        for item in items {
+            guardians.push(Objects::from_json(alloc, item)?)?;
+        }
+        Ok(Setup { guardians })
+    }
+
+    /// How many guardians there are.
+    pub fn guardians(&self) -> usize
+        ensures { result ≡ length self.now }
+    {
+        self.guardians.len()
+    }
+
+    /// The opening contents of a guardian's objects; none where there is no such guardian.
+    pub fn objects(&self, guardian: u32) -> &[Content]
+        ensures found { 1 ≤ guardian → result.now ≡ objects_at self.now guardian }
+        ensures none { guardian ≡ 0 → result.now ≡ [] }
+    {
+        if guardian == 0 {
+            return &[];
+        }
+        match self.guardians.get(guardian as usize - 1) {
+            Some(objects) => objects.contents.as_slice(),
+            None => &[],
+        }
+    }
+
+    /// An equal setup.
+    pub fn copy(&self) -> Result<Setup, AllocError>
+        ensures { IfOk result (λ copy. copy ≡ self.now) }
+    {
+        let mut guardians = Vec::with_capacity(*self.guardians.allocator(), self.guardians.len())?;
+        for objects in &self.guardians {
+            guardians.push(objects.copy()?)?;
+        }
+        Ok(Setup { guardians })
+    }
+}
+
+impl Objects {
+    fn from_json(alloc: Global, json: &Json) -> Result<Objects, SetupFault>
+        ensures found { IfOk result (λ contents. AreObjects contents × (view json.now ≡ guardian_data contents)) }
+        ensures refused { IsErrOf result SetupFault.Bad
+            → (contents : List Content) → AreObjects contents → view json.now ≢ guardian_data contents }
+    {
+        let Some(items) = only_array(json, OBJECTS) else {
+            return Err(SetupFault::Bad);
+        };
+        if items.len() > MAX_OBJECTS {
+            return Err(SetupFault::Bad);
+        }
+        let mut contents = Vec::with_capacity(alloc, items.len())?;
+        for item in items {
+            contents.push(Content::from_json(alloc, item)?)?;
+        }
+        Ok(Objects { contents })
+    }
+
+    fn copy(&self) -> Result<Objects, AllocError>
+        ensures { IfOk result (λ copy. copy ≡ self.now) }
+    {
+        let mut contents = Vec::with_capacity(*self.contents.allocator(), self.contents.len())?;
+        for content in &self.contents {
+            contents.push(content.copy()?)?;
+        }
+        Ok(Objects { contents })
+    }
+}
+
+/// The array under this name, of an object that has no other member.
+fn only_array<'a>(json: &'a Json, name: &str) -> Option<&'a [Json]>
+    ensures { MatchOption result
+        ((items : Items) → view json.now ≢ object (member name.now (array items) no_members))
+        (λ items. view json.now ≡ object (member name.now (array (items_view items.now)) no_members)) }
+{
+    let members = json.as_object()?;
+    if members.len() != 1 {
+        return None;
+    }
+    Some(json.get(name)?.as_array()?.as_slice())
+}
+
+/// A text is one setup at most.
+pub fn one_setup()
+    ensures { (bytes : List ℕ) (s t : List (List Content)) → IsSetupText bytes s → IsSetupText bytes t → s ≡ t }
+{
 }

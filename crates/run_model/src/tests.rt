@@ -1,0 +1,267 @@
+use super::*;
+use std::alloc::{AllocError, Global};
+use std::process::Abort;
+use std::test::Fail;
+
+/// What stands in the table of lines: the fields of a step, seen again as one text.
+fn told(alloc: Global, step: &Step) -> Result<String, AllocError> {
+    match step {
+        Step::Top(g) => format!(in alloc; "T {g}"),
+        Step::NestedTop(a) => format!(in alloc; "N {a}"),
+        Step::Call(a, g) => format!(in alloc; "C {a} {g}"),
+        Step::Arms(a, kinds) => format!(in alloc; "A {a} {}", kinds.len()),
+        Step::Op(a, x, op) => format!(in alloc; "O {a} {} {} {}", x.guardian, x.number, op.name()),
+        Step::Commit(a) => format!(in alloc; "commits {a}"),
+        Step::Close(a) => format!(in alloc; "closes {a}"),
+        Step::Prepare(g, a) => format!(in alloc; "P {g} {a}"),
+        Step::Decide(a) => format!(in alloc; "decides {a}"),
+        Step::Abort(a) => format!(in alloc; "aborts {a}"),
+        Step::Tell(g, a) => format!(in alloc; "tells {g} {a}"),
+        Step::Crash(g) => format!(in alloc; "crashes {g}"),
+        Step::Recover(g) => format!(in alloc; "recovers {g}"),
+    }
+}
+
+const STEPS: [(&str, &str); 27] = [
+    ("top 4294967295", "T 4294967295"),
+    ("nest 1.2.3", "N 1.2.3"),
+    ("call 7 2", "C 7 2"),
+    ("arms 1", "A 1 0"),
+    ("arms 1.4 s t s", "A 1.4 3"),
+    ("op 1 2/7 get count", "O 1 2 7 get"),
+    ("op 1 2/7 set f \"a b\"", "O 1 2 7 set"),
+    ("op 1 2/7 low", "O 1 2 7 low"),
+    ("op 1 2/7 high", "O 1 2 7 high"),
+    ("op 1 2/7 size", "O 1 2 7 size"),
+    ("op 1 2/7 fetch -9223372036854775808", "O 1 2 7 fetch"),
+    ("op 1 2/7 store 0 -5", "O 1 2 7 store"),
+    ("op 1 2/7 addh \"\\n\"", "O 1 2 7 addh"),
+    ("op 1 2/7 addl 3", "O 1 2 7 addl"),
+    ("op 1 2/7 remh", "O 1 2 7 remh"),
+    ("op 1 2/7 reml", "O 1 2 7 reml"),
+    ("op 1 2/7 is some", "O 1 2 7 is"),
+    ("op 1 2/7 value some", "O 1 2 7 value"),
+    ("op 1 2/7 change some 1", "O 1 2 7 change"),
+    ("commit 1.1", "commits 1.1"),
+    ("close 1", "closes 1"),
+    ("prepare 3 1", "P 3 1"),
+    ("decide 1", "decides 1"),
+    ("abort 1", "aborts 1"),
+    ("tell 3 1.2", "tells 3 1.2"),
+    ("crash 3", "crashes 3"),
+    ("recover 3", "recovers 3"),
+];
+
+#[test]
+fn steps(rt: HostRuntime) -> Result<(), Fail> {
+    for (line, want) in STEPS {
+        let read = Step::read(rt.alloc(), line.as_bytes());
+        let read = read.or_else(|_| Step::read(rt.alloc(), line.as_bytes()))?;
+        let step = read.ok_or(line)?;
+        let copy = step.copy().or_else(|_| step.copy())?;
+        let seen = told(rt.alloc(), &copy).or_else(|_| told(rt.alloc(), &copy))?;
+        assert_eq!(rt; seen.as_str(), want);
+    }
+    Ok(())
+}
+
+const NO_STEPS: [&[u8]; 30] = [
+    b"",
+    b"top",
+    b"top ",
+    b"top 0",
+    b"top 01",
+    b"top +1",
+    b"top 4294967296",
+    b"top 1 ",
+    b"top  1",
+    b"top 1\r",
+    b"Top 1",
+    b"stop 1",
+    b"top \xff",
+    b"nest 1.1.1.1.1.1.1.1.1.1.1.1.1.1.1.1.1.1.1.1.1.1.1.1.1.1.1.1.1.1.1.1.1",
+    b"call 2 1.1",
+    b"tell 1.1 2",
+    b"arms 1 ",
+    b"arms 1 s  s",
+    b"arms 1 x",
+    b"arms 1 st",
+    b"op 1 1/1 set f \"\\u0041\"",
+    b"op 1 1/1 set f",
+    b"op 1 1/1 get",
+    b"op 1 1/1 get F",
+    b"op 1 1/1 low ",
+    b"op 1 1/1 low 1",
+    b"op 1 1/1 store -0 1",
+    b"op 1 1/1 fetch \"1\"",
+    b"op 1 1/0 low",
+    b"op 1 1 low",
+];
+
+#[test]
+fn no_steps(rt: HostRuntime) -> Result<(), Fail> {
+    for line in NO_STEPS {
+        let read = Step::read(rt.alloc(), line);
+        let read = read.or_else(|_| Step::read(rt.alloc(), line))?;
+        assert!(rt; read.is_none());
+    }
+    Ok(())
+}
+
+/// A line of so many arms of this action.
+fn arms_line(alloc: Global, front: &str, arms: usize) -> Result<String, AllocError> {
+    let mut line = String::from_str(alloc, front)?;
+    for _ in 0..arms {
+        line.push_str(" s")?;
+    }
+    Ok(line)
+}
+
+/// A write of a text of so many bytes.
+fn text_line(alloc: Global, len: usize) -> Result<String, AllocError> {
+    let mut line = String::from_str(alloc, "op 1 1/1 set f \"")?;
+    for _ in 0..len {
+        line.push('a')?;
+    }
+    line.push('"')?;
+    Ok(line)
+}
+
+#[test]
+fn long_lines(rt: HostRuntime) -> Result<(), Fail> {
+    let alloc = rt.alloc();
+    for (front, arms, len, is_step) in [("arms 1", 65, 136, true), ("arms 1", 4093, 8192, true), ("arms 10", 4093, 8193, false)] {
+        let line = arms_line(alloc, front, arms).or_else(|_| arms_line(alloc, front, arms))?;
+        assert_eq!(rt; line.len(), len);
+        let read = Step::read(alloc, line.as_bytes());
+        let read = read.or_else(|_| Step::read(alloc, line.as_bytes()))?;
+        assert_eq!(rt; read.is_some(), is_step);
+    }
+    for (len, is_step) in [(1024, true), (1025, false)] {
+        let line = text_line(alloc, len).or_else(|_| text_line(alloc, len))?;
+        let read = Step::read(alloc, line.as_bytes());
+        let read = read.or_else(|_| Step::read(alloc, line.as_bytes()))?;
+        assert_eq!(rt; read.is_some(), is_step);
+    }
+    Ok(())
+}
+
+fn names(alloc: Global) -> Result<Names, NameFault> {
+    let mut names = Names::new(alloc);
+    names.push(Name::parse(alloc, "1.2")?)?;
+    names.push(Name::parse(alloc, "10")?)?;
+    Ok(names)
+}
+
+fn is_written(rt: &impl Abort, alloc: Global, answer: &Answer, want: &str) -> Result<(), AllocError> {
+    let mut text = String::from_str(alloc, "1 ").or_else(|_| String::from_str(alloc, "1 "))?;
+    if answer.write_to(&mut text).is_err() {
+        assert_eq!(rt; text.as_str(), "1 ");
+        answer.write_to(&mut text)?;
+    }
+    let line = answer.text(alloc).or_else(|_| answer.text(alloc))?;
+    assert_eq!(rt; line.as_str(), want);
+    assert_eq!(rt; text.len(), want.len() + 2);
+    assert!(rt; text.as_str().ends_with(want));
+    Ok(())
+}
+
+#[test]
+fn answers(rt: HostRuntime) -> Result<(), Fail> {
+    let alloc = rt.alloc();
+    let began = Answer::Began(names(alloc).or_else(|_| names(alloc))?);
+    is_written(&rt, alloc, &began, "began 1.2 10")?;
+    let waits = Answer::Waits(names(alloc).or_else(|_| names(alloc))?);
+    let waits = waits.copy().or_else(|_| waits.copy())?;
+    is_written(&rt, alloc, &waits, "waits 1.2 10")?;
+    is_written(&rt, alloc, &Answer::Granted(Reply::Gives(Value::Int(-5))), "granted -5")?;
+    is_written(&rt, alloc, &Answer::Granted(Reply::Truth(true)), "granted true")?;
+    is_written(&rt, alloc, &Answer::Granted(Reply::Truth(false)), "granted false")?;
+    is_written(&rt, alloc, &Answer::Granted(Reply::Done), "granted done")?;
+    is_written(&rt, alloc, &Answer::Granted(Reply::Signals(Signal::WrongTag)), "granted signals wrong_tag")?;
+    is_written(&rt, alloc, &Answer::VoteYes, "vote yes")?;
+    is_written(&rt, alloc, &Answer::VoteNo, "vote no")?;
+    is_written(&rt, alloc, &Answer::Done(18446744073709551615), "done 18446744073709551615")?;
+    is_written(&rt, alloc, &Answer::Refused(Refusal::BadOp), "refused 19")?;
+    assert_eq!(rt; Refusal::NoGuardian.number(), 1);
+    assert_eq!(rt; Refusal::Limit.number(), 18);
+    Ok(())
+}
+
+fn setup(alloc: Global, bytes: &[u8]) -> Result<Setup, SetupFault> {
+    match Setup::read(alloc, bytes) {
+        Err(SetupFault::Memory) => Setup::read(alloc, bytes),
+        read => read,
+    }
+}
+
+const SETUP: &[u8] = b" { \"guardians\" : [ {\"objects\":[]},\n{\"objects\":[{\"record\":{\"n\":1,\"a\":\"b\"}}]} ] } ";
+
+const NO_SETUPS: [&[u8]; 10] = [
+    b"",
+    b"{}",
+    b"[]",
+    b"{\"guardians\":[]}",
+    b"{\"guardians\":{}}",
+    b"{\"guardians\":[{}]}",
+    b"{\"guardians\":[{\"objects\":[]}],\"x\":1}",
+    b"{\"guardians\":[{\"objects\":[],\"x\":1}]}",
+    b"{\"guardians\":[{\"objects\":[{\"record\":{}}]}]}",
+    b"{\"guardians\":[{\"objects\":[]}]}\xff",
+];
+
+#[test]
+fn setups(rt: HostRuntime) -> Result<(), Fail> {
+    let read = setup(rt.alloc(), SETUP)?;
+    let read = read.copy().or_else(|_| read.copy())?;
+    assert_eq!(rt; read.guardians(), 2);
+    for (guardian, objects) in [(0, 0), (1, 0), (2, 1), (3, 0)] {
+        assert_eq!(rt; read.objects(guardian).len(), objects);
+    }
+    for bytes in NO_SETUPS {
+        assert!(rt; matches!(setup(rt.alloc(), bytes), Err(SetupFault::Bad)));
+    }
+    Ok(())
+}
+
+/// A setup of so many guardians, each with no object.
+fn guardians(alloc: Global, count: usize) -> Result<String, AllocError> {
+    let mut text = String::from_str(alloc, "{\"guardians\":[{\"objects\":[]}")?;
+    for _ in 1..count {
+        text.push_str(",{\"objects\":[]}")?;
+    }
+    text.push_str("]}")?;
+    Ok(text)
+}
+
+#[test]
+fn large_setups(rt: HostRuntime) -> Result<(), Fail> {
+    let alloc = rt.alloc();
+    for (count, is_setup) in [(1024, true), (1025, false)] {
+        let text = guardians(alloc, count).or_else(|_| guardians(alloc, count))?;
+        assert_eq!(rt; setup(alloc, text.as_bytes()).is_ok(), is_setup);
+    }
+    Ok(())
+}
+
+#[test]
+fn histories(rt: HostRuntime) -> Result<(), Fail> {
+    let alloc = rt.alloc();
+    let mut history = History::new(alloc);
+    for guardian in [3, 5] {
+        let event = Event {
+            step: Step::Crash(guardian),
+            answer: Answer::Done(0),
+        };
+        if let Err(failed) = history.push(event) {
+            history.push(failed.value)?;
+        }
+    }
+    let copy = history.copy().or_else(|_| history.copy())?;
+    assert_eq!(rt; copy.len(), 2);
+    assert!(rt; !copy.is_empty());
+    assert!(rt; matches!(copy.events(), [Event { step: Step::Crash(3), .. }, Event { step: Step::Crash(5), .. }]));
+    let again = History::from_vec(copy.into_vec());
+    assert_eq!(rt; again.len(), 2);
+    Ok(())
+}
