@@ -19,13 +19,13 @@ pub mod Refusals
 pub mod Answers
 pub mod Runs
 pub mod Texts
-pub mod Reading
-pub mod Spaces
-pub mod Writing
-pub mod Documents
 pub mod Transcripts
 pub mod Places
 pub mod Versions
 pub mod LocalHistories
 pub mod Gathering
 pub mod StableContent
+pub mod Reading
+pub mod Spaces
+pub mod Writing
+pub mod Documents
