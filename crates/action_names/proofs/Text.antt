@@ -35,7 +35,7 @@ no_dot n is =
     All-from_get_or (λ b. eqb b 46 ≡ false) (decimal n) 0 (λ i l. let digit = digit_at (decimal n) i numeral.1 l in grind (arith, nat_tests))
 
 -- cut at the dots, the text of a name gives the texts of its numbers
-slice_split-name_text : (a : Name) → 1 ≤ length a → AllByRecursion IsComponent a → slice_split (λ b. eqb b 46) (name_text a) ≡ map decimal a
+pub slice_split-name_text : (a : Name) → 1 ≤ length a → AllByRecursion IsComponent a → slice_split (λ b. eqb b 46) (name_text a) ≡ map decimal a
 slice_split-name_text [] h is = absurd (omega arith)
 slice_split-name_text (n ∷ []) h is = slice_split_none (λ b. eqb b 46) (decimal n) (no_dot n is.0)
 slice_split-name_text (m ∷ n ∷ a) h is =

@@ -4,7 +4,7 @@ use Rattle.std.proofs.lemmas.Bool.{and_from, and_left, and_right, false≢true, 
 use Rattle.std.proofs.lemmas.List.{reverse-append}
 use Rattle.action_names.specs.Names.{Name}
 use Rattle.values.specs.declared.content.Content.{Content}
-use Rattle.atomic_types.proofs.TypeLaws.{reads_leave}
+use Rattle.atomic_types.specs.TypeLaws.{reads_leave}
 use Rattle.atomic_types.specs.Objects.{content_after, reply_of}
 use Rattle.atomic_types.specs.Operations.{class_of, classes_conflict, is_read, is_read_class}
 use Rattle.atomic_types.specs.declared.op.Class.{Class}
