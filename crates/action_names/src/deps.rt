@@ -168,6 +168,7 @@ fn merge_in(least: &mut Vec<(u32, u64)>, others: &[(u32, u64)]) -> Result<(), Al
 #[cfg(test)]
 mod tests {
     use super::*;
+    use crate::refusals::note_refusal;
     use std::test::Fail;
 
     #[test]
@@ -176,19 +177,27 @@ mod tests {
         assert!(rt; deps.is_empty());
         for (guardian, incarnation) in [(9, 4), (2, 6), (9, 3), (2, 8)] {
             if deps.lower(guardian, incarnation).is_err() {
+                note_refusal(&rt);
                 deps.lower(guardian, incarnation)?;
             }
         }
         assert_eq!(rt; deps.entries(), [(2, 6), (9, 3)].as_slice());
         assert_eq!(rt; deps.get(9), Some(3));
         assert_eq!(rt; deps.get(5), None);
-        let mut others = deps.copy().or_else(|_| deps.copy())?;
+        let mut others = deps.copy();
+        if others.is_err() {
+            note_refusal(&rt);
+            others = deps.copy();
+        }
+        let mut others = others?;
         for (guardian, incarnation) in [(5, 1), (2, 5)] {
             if others.lower(guardian, incarnation).is_err() {
+                note_refusal(&rt);
                 others.lower(guardian, incarnation)?;
             }
         }
         if deps.merge(&others).is_err() {
+            note_refusal(&rt);
             assert_eq!(rt; deps.entries(), [(2, 6), (9, 3)].as_slice());
             deps.merge(&others)?;
         }

@@ -271,13 +271,17 @@ impl Ord for Name {
 #[cfg(test)]
 mod tests {
     use super::*;
+    use crate::refusals::note_refusal;
     use std::test::Fail;
 
     // The call's answer, or that of a second call where memory ran out.
     macro_rules! again {
-        ($call:expr) => {
+        ($rt:expr; $call:expr) => {
             match $call {
-                Err(NameFault::Memory) => $call,
+                Err(NameFault::Memory) => {
+                    note_refusal(&$rt);
+                    $call
+                }
                 answer => answer,
             }
         };
@@ -292,14 +296,14 @@ mod tests {
     #[test]
     fn reads_what_it_prints(rt: HostRuntime) -> Result<(), Fail> {
         for (text, depth) in [("7", 1), ("4294967295.1.20", 3), (DEEPEST, 32)] {
-            let name = again!(Name::parse(rt.alloc(), text))?;
+            let name = again!(rt; Name::parse(rt.alloc(), text))?;
             assert_eq!(rt; name.depth(), depth);
             let mut line = String::new(rt.alloc());
-            again!(name.write_to(&mut line).map_err(NameFault::from))?;
+            again!(rt; name.write_to(&mut line).map_err(NameFault::from))?;
             assert_eq!(rt; line.as_str(), text);
-            let printed = again!(format!(in rt.alloc(); "{name}").map_err(NameFault::from))?;
+            let printed = again!(rt; format!(in rt.alloc(); "{name}").map_err(NameFault::from))?;
             assert_eq!(rt; printed.as_str(), text);
-            let debugged = again!(format!(in rt.alloc(); "{name:?}").map_err(NameFault::from))?;
+            let debugged = again!(rt; format!(in rt.alloc(); "{name:?}").map_err(NameFault::from))?;
             assert_eq!(rt; debugged.as_str(), text);
         }
         Ok(())
@@ -325,7 +329,7 @@ mod tests {
             TOO_DEEP,
         ] {
             let refused = matches!(
-                again!(Name::parse(rt.alloc(), text)),
+                again!(rt; Name::parse(rt.alloc(), text)),
                 Err(NameFault::NotAName)
             );
             assert!(rt; refused, "{text}");
@@ -354,7 +358,7 @@ mod tests {
 
     #[test]
     fn names_no_other_child(rt: HostRuntime) -> Result<(), Fail> {
-        let deepest = again!(Name::parse(rt.alloc(), DEEPEST))?;
+        let deepest = again!(rt; Name::parse(rt.alloc(), DEEPEST))?;
         assert_eq!(rt; deepest.child(0).err(), Some(NameFault::NotAName));
         assert_eq!(rt; deepest.child(33).err(), Some(NameFault::TooDeep));
         Ok(())

@@ -1,3 +1,5 @@
+//! Tests of operations and objects. Where memory is refused a test says so, asks again, and compares what follows;
+//! `scripts/refuse-memory` counts what is said.
 use super::*;
 use std::alloc::{AllocError, Global};
 use std::process::Abort;
@@ -5,27 +7,35 @@ use std::test::Fail;
 use values::{Content, Field, Identifier, Record, Value, ValueFault};
 
 /// What the call gives, asked again where memory was wanting.
-fn again<T, E: Drop, F: Fn() -> Result<T, E> + Drop>(call: F) -> Result<T, E>
+fn again<T, E: Drop, F: Fn() -> Result<T, E> + Drop>(rt: &impl Eprint, call: F) -> Result<T, E>
     requires { F.IsAlwaysCallable call }
 {
     match call() {
         Ok(value) => Ok(value),
-        Err(_) => call(),
+        Err(_) => {
+            note_refusal(rt);
+            call()
+        }
     }
 }
 
-fn identifier(alloc: Global, text: &str) -> Result<Identifier, ValueFault> {
-    again(|| Identifier::parse(alloc, text))
+/// Notes on standard error that memory was refused.
+fn note_refusal(rt: &impl Eprint) {
+    let _ = eprintln!(rt; "memory was refused");
 }
 
-fn spelled(alloc: Global, text: &str) -> Result<Value, ValueFault> {
-    again(|| Value::from_spelling(alloc, text))
+fn identifier(rt: &impl Eprint, alloc: Global, text: &str) -> Result<Identifier, ValueFault> {
+    again(rt, || Identifier::parse(alloc, text))
+}
+
+fn spelled(rt: &impl Eprint, alloc: Global, text: &str) -> Result<Value, ValueFault> {
+    again(rt, || Value::from_spelling(alloc, text))
 }
 
 /// A record with one field.
-fn balance(alloc: Global) -> Result<Record, Fail> {
-    let name = identifier(alloc, "balance")?;
-    let mut fields = again(|| Vec::with_capacity(alloc, 1))?;
+fn balance(rt: &impl Eprint, alloc: Global) -> Result<Record, Fail> {
+    let name = identifier(rt, alloc, "balance")?;
+    let mut fields = again(rt, || Vec::with_capacity(alloc, 1))?;
     fields.push(Field {
         name,
         value: Value::Int(100),
@@ -34,57 +44,68 @@ fn balance(alloc: Global) -> Result<Record, Fail> {
 }
 
 /// The reply of an operation that belongs to the object, performed again where memory was wanting.
-fn perform<T: AtomicType>(object: &mut T, op: &Op) -> Result<Option<Reply>, AllocError> {
+fn perform<T: AtomicType>(
+    rt: &impl Eprint,
+    object: &mut T,
+    op: &Op,
+) -> Result<Option<Reply>, AllocError> {
     if !object.knows(op) {
         return Ok(None);
     }
     let reply = match object.apply(op) {
         Ok(reply) => reply,
-        Err(_) => object.apply(op)?,
+        Err(_) => {
+            note_refusal(rt);
+            object.apply(op)?
+        }
     };
     Ok(Some(reply))
 }
 
 /// Operations on a balance of 100, one after another, each with its reply if it belongs to the record.
-fn step(alloc: Global, at: u8) -> Result<(Op, Option<Reply>), ValueFault> {
-    let name = identifier(alloc, if at == 3 { "n" } else { "balance" })?;
+fn step(rt: &impl Eprint, alloc: Global, at: u8) -> Result<(Op, Option<Reply>), ValueFault> {
+    let name = identifier(rt, alloc, if at == 3 { "n" } else { "balance" })?;
     Ok(match at {
         0 => (Op::Get(name), Some(Reply::Gives(Value::Int(100)))),
         1 => (Op::Set(name, Value::Int(50)), Some(Reply::Done)),
         2 => (Op::Get(name), Some(Reply::Gives(Value::Int(50)))),
         3 => (Op::Get(name), None),
-        4 => (Op::Set(name, spelled(alloc, "\"x\"")?), None),
+        4 => (Op::Set(name, spelled(rt, alloc, "\"x\"")?), None),
         _ => (Op::Size, None),
     })
 }
 
 fn keeps_a_balance<T: AtomicType>(
-    rt: &impl Abort,
+    rt: &(impl Abort + Eprint),
     alloc: Global,
     object: &mut T,
 ) -> Result<(), Fail> {
     for at in 0..6 {
-        let (op, reply) = step(alloc, at)?;
-        assert_eq!(rt; perform(object, &op)?, reply, "at {at}");
+        let (op, reply) = step(rt, alloc, at)?;
+        assert_eq!(rt; perform(rt, object, &op)?, reply, "at {at}");
     }
     Ok(())
 }
 
 #[test]
 fn records_and_objects_keep_a_balance(rt: HostRuntime) -> Result<(), Fail> {
-    let mut record = balance(rt.alloc())?;
-    let object = Content::Record(again(|| AtomicType::copy(&record))?);
-    let mut copy = again(|| AtomicType::copy(&object))?;
+    let mut record = balance(&rt, rt.alloc())?;
+    let object = Content::Record(again(&rt, || AtomicType::copy(&record))?);
+    let mut copy = again(&rt, || AtomicType::copy(&object))?;
     keeps_a_balance(&rt, rt.alloc(), &mut record)?;
     keeps_a_balance(&rt, rt.alloc(), &mut copy)
 }
 
 /// The operations with their names, and whether they read.
-fn operation(alloc: Global, at: u8) -> Result<(Op, &'static str, Class), ValueFault> {
+fn operation(
+    rt: &impl Eprint,
+    alloc: Global,
+    at: u8,
+) -> Result<(Op, &'static str, Class), ValueFault> {
     Ok(match at {
-        0 => (Op::Get(identifier(alloc, "f")?), "get", Class::Read),
+        0 => (Op::Get(identifier(rt, alloc, "f")?), "get", Class::Read),
         1 => (
-            Op::Set(identifier(alloc, "f")?, Value::Int(3)),
+            Op::Set(identifier(rt, alloc, "f")?, Value::Int(3)),
             "set",
             Class::Write,
         ),
@@ -97,10 +118,14 @@ fn operation(alloc: Global, at: u8) -> Result<(Op, &'static str, Class), ValueFa
         8 => (Op::AddLow(Value::Int(3)), "addl", Class::Write),
         9 => (Op::RemoveHigh, "remh", Class::Write),
         10 => (Op::RemoveLow, "reml", Class::Write),
-        11 => (Op::Is(identifier(alloc, "f")?), "is", Class::Read),
-        12 => (Op::ValueOf(identifier(alloc, "f")?), "value", Class::Read),
+        11 => (Op::Is(identifier(rt, alloc, "f")?), "is", Class::Read),
+        12 => (
+            Op::ValueOf(identifier(rt, alloc, "f")?),
+            "value",
+            Class::Read,
+        ),
         _ => (
-            Op::Change(identifier(alloc, "f")?, Value::Int(3)),
+            Op::Change(identifier(rt, alloc, "f")?, Value::Int(3)),
             "change",
             Class::Write,
         ),
@@ -110,8 +135,8 @@ fn operation(alloc: Global, at: u8) -> Result<(Op, &'static str, Class), ValueFa
 #[test]
 fn names_classes_and_copies(rt: HostRuntime) -> Result<(), Fail> {
     for at in 0..14 {
-        let (op, name, class) = operation(rt.alloc(), at)?;
-        let copy = again(|| op.copy())?;
+        let (op, name, class) = operation(&rt, rt.alloc(), at)?;
+        let copy = again(&rt, || op.copy())?;
         assert!(rt;
             op.name() == name && Record::class(&op) == class && copy == op,
             "{name}"
@@ -122,8 +147,8 @@ fn names_classes_and_copies(rt: HostRuntime) -> Result<(), Fail> {
 
 #[test]
 fn replies_are_copied(rt: HostRuntime) -> Result<(), Fail> {
-    let reply = Reply::Gives(spelled(rt.alloc(), "\"x\"")?);
-    let copy = again(|| reply.copy())?;
+    let reply = Reply::Gives(spelled(&rt, rt.alloc(), "\"x\"")?);
+    let copy = again(&rt, || reply.copy())?;
     assert!(rt; copy == reply);
     Ok(())
 }

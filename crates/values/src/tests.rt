@@ -1,3 +1,5 @@
+//! Tests of values and contents. Where memory is refused a test says so, asks again, and compares what follows;
+//! `scripts/refuse-memory` counts what is said.
 use crate::content::Content;
 use crate::record::{Field, Record};
 use crate::value::{Kind, Value};
@@ -7,6 +9,11 @@ use std::alloc::Global;
 use std::fmt::Write;
 use std::process::Abort;
 use std::test::Fail;
+
+/// Notes on standard error that memory was refused.
+fn note_refusal(rt: &impl Eprint) {
+    let _ = eprintln!(rt; "memory was refused");
+}
 
 /// Whether the answer is `Unfit`. Want of memory stays an error, and the test tries again.
 fn is_unfit<T: Drop>(answer: Result<T, ValueFault>) -> Result<bool, ValueFault> {
@@ -59,6 +66,7 @@ fn reads_each_spelling_and_writes_one(rt: HostRuntime) -> Result<(), Fail> {
     ];
     for (text, wanted) in cases {
         if check_spelling(&rt, alloc, text, wanted).is_err() {
+            note_refusal(&rt);
             check_spelling(&rt, alloc, text, wanted)?;
         }
     }
@@ -91,6 +99,7 @@ fn refuses_what_is_no_content(rt: HostRuntime) {
     for text in cases {
         let mut answer = is_unfit(Content::read(alloc, text));
         if answer.is_err() {
+            note_refusal(&rt);
             answer = is_unfit(Content::read(alloc, text));
         }
         assert_eq!(rt; answer, Ok(true), "at {text}");
@@ -142,6 +151,7 @@ fn check_limits(rt: &impl Abort, alloc: Global) -> Result<(), ValueFault> {
 #[test]
 fn keeps_to_the_limits(rt: HostRuntime) -> Result<(), Fail> {
     if check_limits(&rt, rt.alloc()).is_err() {
+        note_refusal(&rt);
         check_limits(&rt, rt.alloc())?;
     }
     Ok(())
@@ -157,7 +167,7 @@ fn check_words(rt: &impl Abort, alloc: Global) -> Result<(), ValueFault> {
     Ok(())
 }
 
-fn check_values(rt: &impl Abort, alloc: Global) -> Result<(), ValueFault> {
+fn check_values(rt: &(impl Abort + Eprint), alloc: Global) -> Result<(), ValueFault> {
     let text = Value::Text(Text::new(alloc, "\u{e9}\"")?);
     let number = Value::from_json(alloc, &Json::from_str(alloc, "-7")?)?;
     assert!(rt; text == text.copy()? && number == Value::Int(-7) && text != number);
@@ -168,6 +178,7 @@ fn check_values(rt: &impl Abort, alloc: Global) -> Result<(), ValueFault> {
     number.write_to(&mut written)?;
     let before = written.clone()?;
     if text.write_to(&mut written).is_err() {
+        note_refusal(rt);
         assert_eq!(rt; written.as_str(), before.as_str());
         text.write_to(&mut written)?;
     }
@@ -178,9 +189,11 @@ fn check_values(rt: &impl Abort, alloc: Global) -> Result<(), ValueFault> {
 #[test]
 fn words_and_values(rt: HostRuntime) -> Result<(), Fail> {
     if check_words(&rt, rt.alloc()).is_err() {
+        note_refusal(&rt);
         check_words(&rt, rt.alloc())?;
     }
     if check_values(&rt, rt.alloc()).is_err() {
+        note_refusal(&rt);
         check_values(&rt, rt.alloc())?;
     }
     Ok(())
@@ -225,6 +238,7 @@ fn check_records(rt: &impl Abort, alloc: Global) -> Result<(), ValueFault> {
 #[test]
 fn records(rt: HostRuntime) -> Result<(), Fail> {
     if check_records(&rt, rt.alloc()).is_err() {
+        note_refusal(&rt);
         check_records(&rt, rt.alloc())?;
     }
     Ok(())
