@@ -52,15 +52,29 @@ const STEPS: [(&str, &str); 27] = [
     ("recover 3", "recovers 3"),
 ];
 
+fn read(alloc: Global, line: &[u8]) -> Result<Option<Step>, AllocError> {
+    Step::read(alloc, line).or_else(|_| Step::read(alloc, line))
+}
+
+fn is_step(alloc: Global, line: &[u8]) -> Result<bool, AllocError> {
+    Ok(read(alloc, line)?.is_some())
+}
+
+fn is_read(rt: &impl Abort, alloc: Global, line: &str, want: &str) -> Result<(), AllocError> {
+    let step = read(alloc, line.as_bytes())?;
+    assert!(rt; step.is_some(), "{line}");
+    if let Some(step) = step {
+        let copy = step.copy().or_else(|_| step.copy())?;
+        let seen = told(alloc, &copy).or_else(|_| told(alloc, &copy))?;
+        assert_eq!(rt; seen.as_str(), want);
+    }
+    Ok(())
+}
+
 #[test]
 fn steps(rt: HostRuntime) -> Result<(), Fail> {
-    for (line, want) in STEPS {
-        let read = Step::read(rt.alloc(), line.as_bytes());
-        let read = read.or_else(|_| Step::read(rt.alloc(), line.as_bytes()))?;
-        let step = read.ok_or(line)?;
-        let copy = step.copy().or_else(|_| step.copy())?;
-        let seen = told(rt.alloc(), &copy).or_else(|_| told(rt.alloc(), &copy))?;
-        assert_eq!(rt; seen.as_str(), want);
+    for (line, want) in &STEPS {
+        is_read(&rt, rt.alloc(), line, want)?;
     }
     Ok(())
 }
@@ -100,10 +114,8 @@ const NO_STEPS: [&[u8]; 30] = [
 
 #[test]
 fn no_steps(rt: HostRuntime) -> Result<(), Fail> {
-    for line in NO_STEPS {
-        let read = Step::read(rt.alloc(), line);
-        let read = read.or_else(|_| Step::read(rt.alloc(), line))?;
-        assert!(rt; read.is_none());
+    for line in &NO_STEPS {
+        assert!(rt; !is_step(rt.alloc(), line)?);
     }
     Ok(())
 }
@@ -127,22 +139,25 @@ fn text_line(alloc: Global, len: usize) -> Result<String, AllocError> {
     Ok(line)
 }
 
+fn many_arms(rt: &impl Abort, alloc: Global, front: &str, arms: usize) -> Result<bool, AllocError> {
+    let line = arms_line(alloc, front, arms).or_else(|_| arms_line(alloc, front, arms))?;
+    assert_eq!(rt; line.len(), front.len().wrapping_add(arms.wrapping_mul(2)));
+    is_step(alloc, line.as_bytes())
+}
+
+fn long_text(alloc: Global, len: usize) -> Result<bool, AllocError> {
+    let line = text_line(alloc, len).or_else(|_| text_line(alloc, len))?;
+    is_step(alloc, line.as_bytes())
+}
+
 #[test]
 fn long_lines(rt: HostRuntime) -> Result<(), Fail> {
     let alloc = rt.alloc();
-    for (front, arms, len, is_step) in [("arms 1", 65, 136, true), ("arms 1", 4093, 8192, true), ("arms 10", 4093, 8193, false)] {
-        let line = arms_line(alloc, front, arms).or_else(|_| arms_line(alloc, front, arms))?;
-        assert_eq!(rt; line.len(), len);
-        let read = Step::read(alloc, line.as_bytes());
-        let read = read.or_else(|_| Step::read(alloc, line.as_bytes()))?;
-        assert_eq!(rt; read.is_some(), is_step);
-    }
-    for (len, is_step) in [(1024, true), (1025, false)] {
-        let line = text_line(alloc, len).or_else(|_| text_line(alloc, len))?;
-        let read = Step::read(alloc, line.as_bytes());
-        let read = read.or_else(|_| Step::read(alloc, line.as_bytes()))?;
-        assert_eq!(rt; read.is_some(), is_step);
-    }
+    assert!(rt; many_arms(&rt, alloc, "arms 1", 65)?);
+    assert!(rt; many_arms(&rt, alloc, "arms 1", 4093)?, "8,192 bytes");
+    assert!(rt; !many_arms(&rt, alloc, "arms 10", 4093)?, "8,193 bytes");
+    assert!(rt; long_text(alloc, 1024)?);
+    assert!(rt; !long_text(alloc, 1025)?);
     Ok(())
 }
 
@@ -244,13 +259,15 @@ fn guardians(alloc: Global, count: usize) -> Result<String, AllocError> {
     Ok(text)
 }
 
+fn is_setup(alloc: Global, count: usize) -> Result<bool, AllocError> {
+    let text = guardians(alloc, count).or_else(|_| guardians(alloc, count))?;
+    Ok(setup(alloc, text.as_bytes()).is_ok())
+}
+
 #[test]
 fn large_setups(rt: HostRuntime) -> Result<(), Fail> {
-    let alloc = rt.alloc();
-    for (count, is_setup) in [(1024, true), (1025, false)] {
-        let text = guardians(alloc, count).or_else(|_| guardians(alloc, count))?;
-        assert_eq!(rt; setup(alloc, text.as_bytes()).is_ok(), is_setup);
-    }
+    assert!(rt; is_setup(rt.alloc(), 1024)?);
+    assert!(rt; !is_setup(rt.alloc(), 1025)?);
     Ok(())
 }
 
