@@ -50,7 +50,6 @@ no_component text other n fits is =
     let e = ap (λ t. get_or t 0 0) is in
     other (omega (arith, d.0)) (omega (arith, d.1))
 
-
 -- a whole number is spelled as an index
 pub int_text : (z : ℤ) → value_text (Int z) ≡ signed_decimal z
 int_text (pos n) = refl

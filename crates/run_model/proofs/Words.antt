@@ -70,11 +70,13 @@ op_cases (Change tag v) = inr (record { bare = refl; text = refl })
 
 -- what is read of a cut text is read of the whole
 pub op_of_cut : (text word rest : List ℕ) (o : Option op.Op) → Cuts 32 text word rest → Reads (IsOpNamed word) op_arguments rest o → Reads IsOp op_text text o
-op_of_cut text word rest (Some x) cut h =
-    (h.0.0, elim (op_cases x) [
-      | inl b ↦ (let t = b.bare in let f = h.0.1 in absurd cc)
-      | inr f ↦ cut.parts ∙ ap (λ (w : List ℕ). w ++ 32 ∷ rest) h.0.2 ∙ ap (λ (r : List ℕ). op_name x ++ 32 ∷ r) h.1 ∙ sym f.text
-    ])
+op_of_cut text word rest (Some x) cut h = (
+  h.0.0,
+  elim (op_cases x) [
+    | inl b ↦ (let t = b.bare in let f = h.0.1 in absurd cc)
+    | inr f ↦ cut.parts ∙ ap (λ (w : List ℕ). w ++ 32 ∷ rest) h.0.2 ∙ ap (λ (r : List ℕ). op_name x ++ 32 ∷ r) h.1 ∙ sym f.text
+  ],
+)
 op_of_cut text word rest None cut h = λ x fits e.
     elim (op_cases x) [
       | inl b ↦ no_cut 32 word rest (op_name x) (op_name_lacks x) (sym b.text ∙ sym e ∙ cut.parts)

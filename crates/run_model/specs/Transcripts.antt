@@ -23,10 +23,10 @@ BeginsWithStep text = (step : Step) × IsStep step × (rest : List ℕ) × (text
 pub data IsAnswered (setup : Setup) : List Event → ℕ → List ℕ → List ℕ → Type 0 where
   at_end : {past : List Event} {number : ℕ} → IsAnswered setup past number [] []
   step : {past : List Event} {number : ℕ} {rest answers : List ℕ} (step : Step) → IsStep step
-    → IsAnswered setup (history_after step (answer_of setup step past) past) (suc number) rest answers
-    → IsAnswered setup past number (step_text step ++ line_feed ∷ rest) (answer_text (answer_of setup step past) ++ line_feed ∷ answers)
+      → IsAnswered setup (history_after step (answer_of setup step past) past) (suc number) rest answers
+      → IsAnswered setup past number (step_text step ++ line_feed ∷ rest) (answer_text (answer_of setup step past) ++ line_feed ∷ answers)
   no_step : {past : List Event} {number : ℕ} {text : List ℕ} → text ≢ [] → (BeginsWithStep text → ⊥)
-    → IsAnswered setup past number text (error_text number)
+      → IsAnswered setup past number text (error_text number)
 
 -- the answer text of a steps text
 abbrev pub IsTranscript : Setup → List ℕ → List ℕ → Type 0

@@ -42,8 +42,7 @@ impl Step {
 /// A line spells one step at most.
 pub fn one_spelling()
     ensures { (line : List ℕ) (s t : Step) → Spells line s → Spells line t → s ≡ t }
-{
-}
+{}
 
 /// What stands in a line before or after a space.
 trait Argument: Drop {
@@ -236,7 +235,9 @@ fn step(alloc: Global, word: &str, rest: &str) -> Result<Option<Step>, AllocErro
         "nest" => Ok(Name::from_text(alloc, rest)?.map(Step::NestedTop)),
         "call" => Ok(pair(alloc, rest)?.map(|(name, guardian)| Step::Call(name, guardian))),
         "arms" => Ok(arms(alloc, rest)?.map(|(name, kinds)| Step::Arms(name, kinds))),
-        "op" => Ok(act(alloc, rest)?.map(|(name, object, operation)| Step::Op(name, object, operation))),
+        "op" => Ok(act(alloc, rest)?.map(|(name, object, operation)| Step::Op(
+            name, object, operation,
+        ))),
         "commit" => Ok(Name::from_text(alloc, rest)?.map(Step::Commit)),
         "close" => Ok(Name::from_text(alloc, rest)?.map(Step::Close)),
         "prepare" => Ok(pair(alloc, rest)?.map(|(guardian, name)| Step::Prepare(guardian, name))),

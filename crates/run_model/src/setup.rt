@@ -20,6 +20,7 @@ pub const MAX_GUARDIANS: usize = 1024;
 pub const MAX_OBJECTS: usize = 1024;
 
 const GUARDIANS: &str = "guardians";
+
 const OBJECTS: &str = "objects";
 
 /// The opening contents of one guardian's objects.
@@ -210,5 +211,4 @@ fn only_array<'a>(json: &'a Json, name: &str) -> Option<&'a [Json]>
 /// A text is one setup at most.
 pub fn one_setup()
     ensures { (bytes : List ℕ) (s t : List (List Content)) → IsSetupText bytes s → IsSetupText bytes t → s ≡ t }
-{
-}
+{}

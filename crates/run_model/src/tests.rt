@@ -168,7 +168,12 @@ fn names(alloc: Global) -> Result<Names, NameFault> {
     Ok(names)
 }
 
-fn is_written(rt: &impl Abort, alloc: Global, answer: &Answer, want: &str) -> Result<(), AllocError> {
+fn is_written(
+    rt: &impl Abort,
+    alloc: Global,
+    answer: &Answer,
+    want: &str,
+) -> Result<(), AllocError> {
     let mut text = String::from_str(alloc, "1 ").or_else(|_| String::from_str(alloc, "1 "))?;
     if answer.write_to(&mut text).is_err() {
         assert_eq!(rt; text.as_str(), "1 ");
@@ -195,10 +200,25 @@ fn lists_of_names(rt: HostRuntime) -> Result<(), Fail> {
 #[test]
 fn grants(rt: HostRuntime) -> Result<(), Fail> {
     let alloc = rt.alloc();
-    is_written(&rt, alloc, &Answer::Granted(Reply::Gives(Value::Int(-5))), "granted -5")?;
-    is_written(&rt, alloc, &Answer::Granted(Reply::Truth(false)), "granted false")?;
+    is_written(
+        &rt,
+        alloc,
+        &Answer::Granted(Reply::Gives(Value::Int(-5))),
+        "granted -5",
+    )?;
+    is_written(
+        &rt,
+        alloc,
+        &Answer::Granted(Reply::Truth(false)),
+        "granted false",
+    )?;
     is_written(&rt, alloc, &Answer::Granted(Reply::Done), "granted done")?;
-    is_written(&rt, alloc, &Answer::Granted(Reply::Signals(Signal::WrongTag)), "granted signals wrong_tag")?;
+    is_written(
+        &rt,
+        alloc,
+        &Answer::Granted(Reply::Signals(Signal::WrongTag)),
+        "granted signals wrong_tag",
+    )?;
     Ok(())
 }
 
@@ -207,7 +227,12 @@ fn other_answers(rt: HostRuntime) -> Result<(), Fail> {
     let alloc = rt.alloc();
     is_written(&rt, alloc, &Answer::VoteYes, "vote yes")?;
     is_written(&rt, alloc, &Answer::VoteNo, "vote no")?;
-    is_written(&rt, alloc, &Answer::Done(18446744073709551615), "done 18446744073709551615")?;
+    is_written(
+        &rt,
+        alloc,
+        &Answer::Done(18446744073709551615),
+        "done 18446744073709551615",
+    )?;
     is_written(&rt, alloc, &Answer::Refused(Refusal::BadOp), "refused 19")?;
     assert_eq!(rt; Refusal::NoGuardian.number(), 1);
     Ok(())
@@ -220,7 +245,8 @@ fn setup(alloc: Global, bytes: &[u8]) -> Result<Setup, SetupFault> {
     }
 }
 
-const SETUP: &[u8] = b" { \"guardians\" : [ {\"objects\":[]},\n{\"objects\":[{\"record\":{\"n\":1,\"a\":\"b\"}}]} ] } ";
+const SETUP: &[u8] =
+    b" { \"guardians\" : [ {\"objects\":[]},\n{\"objects\":[{\"record\":{\"n\":1,\"a\":\"b\"}}]} ] } ";
 
 const NO_SETUPS: [&[u8]; 10] = [
     b"",

@@ -57,4 +57,3 @@ abbrev pub invented_reply : Histories
 invented_reply =
     let hs = histories_of transfer in
     record { registry = hs.registry; guardians = map (λ h. map (λ s. with_reply s) h) hs.guardians }
-
