@@ -1,7 +1,27 @@
+//! Tests of texts and copies. Where memory is refused a test says so, asks again, and compares what follows;
+//! `scripts/refuse-memory` counts what is said.
 use super::*;
 use std::alloc::{AllocError, Global};
 use std::process::Abort;
 use std::test::Fail;
+
+/// Notes on standard error that memory was refused.
+fn note_refusal(rt: &impl Eprint) {
+    let _ = eprintln!(rt; "memory was refused");
+}
+
+// The call's answer, or that of a second call where memory was refused.
+macro_rules! again {
+    ($rt:expr; $call:expr) => {
+        match $call {
+            Err(_) => {
+                note_refusal($rt);
+                $call
+            }
+            done => done,
+        }
+    };
+}
 
 /// What stands in the table of lines: the fields of a step, seen again as one text.
 fn told(alloc: Global, step: &Step) -> Result<String, AllocError> {
@@ -22,14 +42,34 @@ fn told(alloc: Global, step: &Step) -> Result<String, AllocError> {
     }
 }
 
-const STEPS: [(&str, &str); 27] = [
-    ("top 4294967295", "T 4294967295"),
+const OF_ACTIONS: [(&str, &str); 8] = [
     ("nest 1.2.3", "N 1.2.3"),
     ("call 7 2", "C 7 2"),
     ("arms 1", "A 1 0"),
     ("arms 1.4 s t s", "A 1.4 3"),
+    ("commit 1.1", "commits 1.1"),
+    ("close 1", "closes 1"),
+    ("decide 1", "decides 1"),
+    ("abort 1", "aborts 1"),
+];
+
+const OF_GUARDIANS: [(&str, &str); 5] = [
+    ("top 4294967295", "T 4294967295"),
+    ("prepare 3 1", "P 3 1"),
+    ("tell 3 1.2", "tells 3 1.2"),
+    ("crash 3", "crashes 3"),
+    ("recover 3", "recovers 3"),
+];
+
+const OF_RECORDS_AND_VARIANTS: [(&str, &str); 5] = [
     ("op 1 2/7 get count", "O 1 2 7 get"),
     ("op 1 2/7 set f \"a b\"", "O 1 2 7 set"),
+    ("op 1 2/7 is some", "O 1 2 7 is"),
+    ("op 1 2/7 value some", "O 1 2 7 value"),
+    ("op 1 2/7 change some 1", "O 1 2 7 change"),
+];
+
+const OF_ARRAYS: [(&str, &str); 9] = [
     ("op 1 2/7 low", "O 1 2 7 low"),
     ("op 1 2/7 high", "O 1 2 7 high"),
     ("op 1 2/7 size", "O 1 2 7 size"),
@@ -39,41 +79,59 @@ const STEPS: [(&str, &str); 27] = [
     ("op 1 2/7 addl 3", "O 1 2 7 addl"),
     ("op 1 2/7 remh", "O 1 2 7 remh"),
     ("op 1 2/7 reml", "O 1 2 7 reml"),
-    ("op 1 2/7 is some", "O 1 2 7 is"),
-    ("op 1 2/7 value some", "O 1 2 7 value"),
-    ("op 1 2/7 change some 1", "O 1 2 7 change"),
-    ("commit 1.1", "commits 1.1"),
-    ("close 1", "closes 1"),
-    ("prepare 3 1", "P 3 1"),
-    ("decide 1", "decides 1"),
-    ("abort 1", "aborts 1"),
-    ("tell 3 1.2", "tells 3 1.2"),
-    ("crash 3", "crashes 3"),
-    ("recover 3", "recovers 3"),
 ];
 
-fn read(alloc: Global, line: &[u8]) -> Result<Option<Step>, AllocError> {
-    Step::read(alloc, line).or_else(|_| Step::read(alloc, line))
+fn read(rt: &impl Eprint, alloc: Global, line: &[u8]) -> Result<Option<Step>, AllocError> {
+    again!(rt; Step::read(alloc, line))
 }
 
-fn is_step(alloc: Global, line: &[u8]) -> Result<bool, AllocError> {
-    Ok(read(alloc, line)?.is_some())
+fn is_step(rt: &impl Eprint, alloc: Global, line: &[u8]) -> Result<bool, AllocError> {
+    Ok(read(rt, alloc, line)?.is_some())
 }
 
-fn is_read(rt: &impl Abort, alloc: Global, line: &str, want: &str) -> Result<(), AllocError> {
-    let step = read(alloc, line.as_bytes())?;
+fn is_read(
+    rt: &(impl Abort + Eprint),
+    alloc: Global,
+    line: &str,
+    want: &str,
+) -> Result<(), AllocError> {
+    let step = read(rt, alloc, line.as_bytes())?;
     assert!(rt; step.is_some(), "{line}");
     if let Some(step) = step {
-        let copy = step.copy().or_else(|_| step.copy())?;
-        let seen = told(alloc, &copy).or_else(|_| told(alloc, &copy))?;
+        let copy = again!(rt; step.copy())?;
+        let seen = again!(rt; told(alloc, &copy))?;
         assert_eq!(rt; seen.as_str(), want);
     }
     Ok(())
 }
 
 #[test]
-fn steps(rt: HostRuntime) -> Result<(), Fail> {
-    for (line, want) in &STEPS {
+fn steps_of_actions(rt: HostRuntime) -> Result<(), Fail> {
+    for (line, want) in &OF_ACTIONS {
+        is_read(&rt, rt.alloc(), line, want)?;
+    }
+    Ok(())
+}
+
+#[test]
+fn steps_of_guardians(rt: HostRuntime) -> Result<(), Fail> {
+    for (line, want) in &OF_GUARDIANS {
+        is_read(&rt, rt.alloc(), line, want)?;
+    }
+    Ok(())
+}
+
+#[test]
+fn operations_of_records_and_variants(rt: HostRuntime) -> Result<(), Fail> {
+    for (line, want) in &OF_RECORDS_AND_VARIANTS {
+        is_read(&rt, rt.alloc(), line, want)?;
+    }
+    Ok(())
+}
+
+#[test]
+fn operations_of_arrays(rt: HostRuntime) -> Result<(), Fail> {
+    for (line, want) in &OF_ARRAYS {
         is_read(&rt, rt.alloc(), line, want)?;
     }
     Ok(())
@@ -115,7 +173,7 @@ const NO_STEPS: [&[u8]; 30] = [
 #[test]
 fn no_steps(rt: HostRuntime) -> Result<(), Fail> {
     for line in &NO_STEPS {
-        assert!(rt; !is_step(rt.alloc(), line)?);
+        assert!(rt; !is_step(&rt, rt.alloc(), line)?);
     }
     Ok(())
 }
@@ -139,15 +197,20 @@ fn text_line(alloc: Global, len: usize) -> Result<String, AllocError> {
     Ok(line)
 }
 
-fn many_arms(rt: &impl Abort, alloc: Global, front: &str, arms: usize) -> Result<bool, AllocError> {
-    let line = arms_line(alloc, front, arms).or_else(|_| arms_line(alloc, front, arms))?;
+fn many_arms(
+    rt: &(impl Abort + Eprint),
+    alloc: Global,
+    front: &str,
+    arms: usize,
+) -> Result<bool, AllocError> {
+    let line = again!(rt; arms_line(alloc, front, arms))?;
     assert_eq!(rt; line.len(), front.len().wrapping_add(arms.wrapping_mul(2)));
-    is_step(alloc, line.as_bytes())
+    is_step(rt, alloc, line.as_bytes())
 }
 
-fn long_text(alloc: Global, len: usize) -> Result<bool, AllocError> {
-    let line = text_line(alloc, len).or_else(|_| text_line(alloc, len))?;
-    is_step(alloc, line.as_bytes())
+fn long_text(rt: &impl Eprint, alloc: Global, len: usize) -> Result<bool, AllocError> {
+    let line = again!(rt; text_line(alloc, len))?;
+    is_step(rt, alloc, line.as_bytes())
 }
 
 #[test]
@@ -156,8 +219,8 @@ fn long_lines(rt: HostRuntime) -> Result<(), Fail> {
     assert!(rt; many_arms(&rt, alloc, "arms 1", 65)?);
     assert!(rt; many_arms(&rt, alloc, "arms 1", 4093)?, "8,192 bytes");
     assert!(rt; !many_arms(&rt, alloc, "arms 10", 4093)?, "8,193 bytes");
-    assert!(rt; long_text(alloc, 1024)?);
-    assert!(rt; !long_text(alloc, 1025)?);
+    assert!(rt; long_text(&rt, alloc, 1024)?);
+    assert!(rt; !long_text(&rt, alloc, 1025)?);
     Ok(())
 }
 
@@ -169,17 +232,18 @@ fn names(alloc: Global) -> Result<Names, NameFault> {
 }
 
 fn is_written(
-    rt: &impl Abort,
+    rt: &(impl Abort + Eprint),
     alloc: Global,
     answer: &Answer,
     want: &str,
 ) -> Result<(), AllocError> {
-    let mut text = String::from_str(alloc, "1 ").or_else(|_| String::from_str(alloc, "1 "))?;
+    let mut text = again!(rt; String::from_str(alloc, "1 "))?;
     if answer.write_to(&mut text).is_err() {
+        note_refusal(rt);
         assert_eq!(rt; text.as_str(), "1 ");
         answer.write_to(&mut text)?;
     }
-    let line = answer.text(alloc).or_else(|_| answer.text(alloc))?;
+    let line = again!(rt; answer.text(alloc))?;
     assert_eq!(rt; line.as_str(), want);
     assert_eq!(rt; text.len(), want.len() + 2);
     assert!(rt; text.as_str().ends_with(want));
@@ -189,10 +253,10 @@ fn is_written(
 #[test]
 fn lists_of_names(rt: HostRuntime) -> Result<(), Fail> {
     let alloc = rt.alloc();
-    let began = Answer::Began(names(alloc).or_else(|_| names(alloc))?);
+    let began = Answer::Began(again!(&rt; names(alloc))?);
     is_written(&rt, alloc, &began, "began 1.2 10")?;
-    let waits = Answer::Waits(names(alloc).or_else(|_| names(alloc))?);
-    let waits = waits.copy().or_else(|_| waits.copy())?;
+    let waits = Answer::Waits(again!(&rt; names(alloc))?);
+    let waits = again!(&rt; waits.copy())?;
     is_written(&rt, alloc, &waits, "waits 1.2 10")?;
     Ok(())
 }
@@ -238,9 +302,12 @@ fn other_answers(rt: HostRuntime) -> Result<(), Fail> {
     Ok(())
 }
 
-fn setup(alloc: Global, bytes: &[u8]) -> Result<Setup, SetupFault> {
+fn setup(rt: &impl Eprint, alloc: Global, bytes: &[u8]) -> Result<Setup, SetupFault> {
     match Setup::read(alloc, bytes) {
-        Err(SetupFault::Memory) => Setup::read(alloc, bytes),
+        Err(SetupFault::Memory) => {
+            note_refusal(rt);
+            Setup::read(alloc, bytes)
+        }
         read => read,
     }
 }
@@ -263,37 +330,15 @@ const NO_SETUPS: [&[u8]; 10] = [
 
 #[test]
 fn setups(rt: HostRuntime) -> Result<(), Fail> {
-    let read = setup(rt.alloc(), SETUP)?;
-    let read = read.copy().or_else(|_| read.copy())?;
+    let read = setup(&rt, rt.alloc(), SETUP)?;
+    let read = again!(&rt; read.copy())?;
     assert_eq!(rt; read.guardians(), 2);
     for (guardian, objects) in [(0, 0), (1, 0), (2, 1), (3, 0)] {
         assert_eq!(rt; read.objects(guardian).len(), objects);
     }
     for bytes in NO_SETUPS {
-        assert!(rt; matches!(setup(rt.alloc(), bytes), Err(SetupFault::Bad)));
+        assert!(rt; matches!(setup(&rt, rt.alloc(), bytes), Err(SetupFault::Bad)));
     }
-    Ok(())
-}
-
-/// A setup of so many guardians, each with no object.
-fn guardians(alloc: Global, count: usize) -> Result<String, AllocError> {
-    let mut text = String::from_str(alloc, "{\"guardians\":[{\"objects\":[]}")?;
-    for _ in 1..count {
-        text.push_str(",{\"objects\":[]}")?;
-    }
-    text.push_str("]}")?;
-    Ok(text)
-}
-
-fn is_setup(alloc: Global, count: usize) -> Result<bool, AllocError> {
-    let text = guardians(alloc, count).or_else(|_| guardians(alloc, count))?;
-    Ok(setup(alloc, text.as_bytes()).is_ok())
-}
-
-#[test]
-fn large_setups(rt: HostRuntime) -> Result<(), Fail> {
-    assert!(rt; is_setup(rt.alloc(), 1024)?);
-    assert!(rt; !is_setup(rt.alloc(), 1025)?);
     Ok(())
 }
 
@@ -306,13 +351,24 @@ fn histories(rt: HostRuntime) -> Result<(), Fail> {
             answer: Answer::VoteNo,
         };
         if let Err(failed) = history.push(event) {
+            note_refusal(&rt);
             history.push(failed.value)?;
         }
     }
-    let copy = history.copy().or_else(|_| history.copy())?;
+    let copy = again!(&rt; history.copy())?;
     assert_eq!(rt; copy.len(), 2);
     for event in copy.events() {
         assert!(rt; matches!(event.step, Step::Crash(3 | 5)));
     }
+    Ok(())
+}
+
+#[test]
+fn kinds_of_arms(rt: HostRuntime) -> Result<(), Fail> {
+    let alloc = rt.alloc();
+    let kinds = again!(&rt; Vec::from_slice(alloc, &[ArmKind::Sub, ArmKind::Top]))?;
+    let arms = ArmKinds::from_vec(kinds);
+    assert!(rt; matches!(arms.as_slice(), [ArmKind::Sub, ArmKind::Top]));
+    assert_eq!(rt; arms.into_vec().len(), 2);
     Ok(())
 }
