@@ -360,6 +360,8 @@ fn histories(rt: HostRuntime) -> Result<(), Fail> {
     for event in copy.events() {
         assert!(rt; matches!(event.step, Step::Crash(3 | 5)));
     }
+    let given_back = History::from_vec(copy.into_vec());
+    assert!(rt; given_back.len() == 2 && !given_back.is_empty());
     Ok(())
 }
 
