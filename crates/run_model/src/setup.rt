@@ -4,7 +4,7 @@ ghost use Rattle.serde_json.specs.Data.{Data, Items, array, object, no_members, 
 ghost use Rattle.serde_json.specs.View.{view, items_view};
 ghost use Rattle.values.specs.declared.content.Content.{Content};
 ghost use Rattle.run_model.specs.Replay.{objects_at};
-ghost use Rattle.run_model.specs.Texts.{IsSetup, IsSetupText, AreObjects, setup_data};
+ghost use Rattle.run_model.specs.Texts.{IsSetup, IsSetupText, AreObjects, setup_data, max_guardians, max_objects};
 ghost use Rattle.run_model.specs.Documents.{guardian_data};
 
 use serde_json::Value as Json;
@@ -30,12 +30,15 @@ struct Objects {
 }
 
 impl Model for Objects {
-    ghost use Rattle.std.specs.Prelude.{List};
+    ghost use Rattle.std.specs.Prelude.{List, length, ◌≤◌};
     ghost use Rattle.values.specs.declared.content.Content.{Content};
+    ghost use Rattle.run_model.specs.Texts.{max_objects};
 
     ghost Value = { List Content };
 
     ghost view = { λ a. a.contents.items };
+
+    ghost invariant = { λ a. length a.contents.items ≤ max_objects };
 }
 
 /// The guardians of a run, each with its objects and their opening contents. Both are numbered from 1.
@@ -45,12 +48,15 @@ pub struct Setup {
 }
 
 impl Model for Setup {
-    ghost use Rattle.std.specs.Prelude.{List};
+    ghost use Rattle.std.specs.Prelude.{List, length, ◌≤◌};
     ghost use Rattle.values.specs.declared.content.Content.{Content};
+    ghost use Rattle.run_model.specs.Texts.{max_guardians};
 
     ghost Value = { List (List Content) };
 
     ghost view = { λ a. a.guardians.items };
+
+    ghost invariant = { λ a. length a.guardians.items ≤ max_guardians };
 }
 
 /// Why a document is no setup.
@@ -132,17 +138,19 @@ impl Setup {
         Ok(Setup { guardians })
     }
 
-    /// How many guardians there are.
+    /// How many guardians there are: at most 1,024.
     pub fn guardians(&self) -> usize
-        ensures { result ≡ length self.now }
+        ensures value { result ≡ length self.now }
+        ensures limit { result ≤ max_guardians }
     {
         self.guardians.len()
     }
 
-    /// The opening contents of a guardian's objects; none where there is no such guardian.
+    /// The opening contents of a guardian's objects, at most 1,024; none where there is no such guardian.
     pub fn objects(&self, guardian: u32) -> &[Content]
         ensures found { 1 ≤ guardian → result.now ≡ objects_at self.now guardian }
         ensures none { guardian ≡ 0 → result.now ≡ [] }
+        ensures limit { length result.now ≤ max_objects }
     {
         if guardian == 0 {
             return &[];
