@@ -1,6 +1,7 @@
 ghost use Rattle.std.specs.Prelude.{◌≡◌, ◌≢◌, ◌++◌, ◌↔◌, ◌≤◌, ◌+ℤ◌, ◌-ℤ◌, ◌≤ℤ◌, pos, List, length, IsTrue, IfOk, IfErr, OnOk, OnErr, IsErrOf, option_copied};
 ghost use Rattle.std.specs.List.{AllByRecursion};
 ghost use Rattle.json.specs.Tree.{json_tokens};
+ghost use Rattle.serde_json.specs.Data.{array};
 ghost use Rattle.serde_json.specs.View.{view, items_view};
 ghost use Rattle.serde_json.specs.Written.{outline};
 ghost use Rattle.values.specs.declared.value.Value.{Value};
@@ -106,7 +107,6 @@ impl Array {
         requires { kind_of value ≡ self.old.kind }
         ensures changed { self.new ≡ set_item self.old index value }
         ensures before { result ≡ item_at self.old index }
-        ensures keeps { IsStoredArray self.old → IsValue value → IsStoredArray self.new }
     {
         if index < self.low {
             return None;
@@ -192,14 +192,14 @@ impl Array {
         ensures refused { IsErrOf result ValueFault.Unfit
             → (a : ArrayContent) → IsStoredArray a → view json.now ≢ array_data a }
     {
-        let (items, low, of) = three_members(json, "items", "low", "of").ok_or(ValueFault::Unfit)?;
+        let (list, number, of) = three_members(json, "items", "low", "of").ok_or(ValueFault::Unfit)?;
         let kind = Kind::from_json(of).ok_or(ValueFault::Unfit)?;
-        let low = low.as_i64().ok_or(ValueFault::Unfit)?;
-        let items = items.as_array().ok_or(ValueFault::Unfit)?;
-        if items.len() > MAX_ITEMS {
+        let low = number.as_i64().ok_or(ValueFault::Unfit)?;
+        let elements = list.as_array().ok_or(ValueFault::Unfit)?;
+        if elements.len() > MAX_ITEMS {
             return Err(ValueFault::Unfit);
         }
-        let items = read_items(alloc, items)?;
+        let items = read_items(alloc, elements)?;
         Array::from_items(kind, low, items).map_err(|_| ValueFault::Unfit)
     }
 
@@ -210,13 +210,9 @@ impl Array {
     {
         out.begin_object()?;
         out.key("items")?;
-        out.begin_array()?;
-        for item in &self.items {
-            item.write_tokens(out)?;
-        }
-        out.end_array()?;
+        write_items(&self.items, out)?;
         out.key("low")?;
-        out.i64(self.low)?;
+        Value::Int(self.low).write_tokens(out)?;
         out.key("of")?;
         out.string(self.kind.name())?;
         out.end_object()
@@ -250,4 +246,16 @@ fn read_items(alloc: Global, documents: &[Json]) -> Result<Vec<Value>, ValueFaul
         items.push(Value::from_json(alloc, document)?)?;
     }
     Ok(items)
+}
+
+fn write_items(items: &VecDeque<Value>, out: &mut Writer) -> Result<(), AllocError>
+    ensures ok { OnOk result (out.new.tokens ≡ out.old.tokens ++ json_tokens (outline (array (item_elements items.now.items)))) }
+    ensures before { out.new.before ≡ out.old.before }
+    ensures fits { OnOk result (AllByRecursion IsValue items.now.items) }
+{
+    out.begin_array()?;
+    for item in items {
+        item.write_tokens(out)?;
+    }
+    out.end_array()
 }

@@ -109,13 +109,23 @@ impl Content {
         Ok(content)
     }
 
+    /// The content of a store that this text is, however it is spelled. `Unfit` comes exactly where no such content is
+    /// this text.
+    pub fn read_stored(alloc: Global, text: &str) -> Result<Content, ValueFault>
+        ensures found { IfOk result (λ c. IsStoredContent c × (read text.now ≡ Some (content_data c))) }
+        ensures refused { IsErrOf result ValueFault.Unfit
+            → (c : Content) → IsStoredContent c → read text.now ≢ Some (content_data c) }
+    {
+        let json = Json::from_str(alloc, text)?;
+        Content::from_stored_json(alloc, &json)
+    }
+
     /// The content of a store whose one spelling this is. `Unfit` comes exactly where no such content is spelled so.
     pub fn from_stored_spelling(alloc: Global, text: &str) -> Result<Content, ValueFault>
         ensures found { IfOk result (λ c. IsStoredContent c × (text.now ≡ content_text c)) }
         ensures refused { IsErrOf result ValueFault.Unfit → (c : Content) → IsStoredContent c → text.now ≢ content_text c }
     {
-        let json = Json::from_str(alloc, text)?;
-        let content = Content::from_stored_json(alloc, &json)?;
+        let content = Content::read_stored(alloc, text)?;
         if content.text(alloc)?.as_str() != text {
             return Err(ValueFault::Unfit);
         }

