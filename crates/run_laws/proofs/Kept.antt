@@ -42,7 +42,7 @@ never_lost setup now a b r h n v l = decide (same_name (top_of b) (top_of a)) re
     decide false e =
         let top = top_facts b (nameless setup now b r h) in
         let seen = visible_from b (top_of b) now (λ f k. inr (committed f k)) in
-        clash l (nothing_lost_under_committed setup now (top_of b) b r top.0 (committed (top_of b) top.1) top.1 seen)
+        clash l (nothing_lost_under_committed setup now r (top_of b) b top.0 (committed (top_of b) top.1) top.1 seen)
       where
         -- b is of another tree, of which nothing is above a
         committed : (f : Name) → is_ancestor f b ≡ true → is_committed f now ≡ true
@@ -200,7 +200,7 @@ kept_or_closed setup o e past a p w v r n s = elim (kept_or_dropped setup o e pa
 
 -- the law
 pub visible_is_kept : VisibleIsKept
-visible_is_kept setup past a o e before r n c g v = elim (kept_or_dropped setup o e before a g (follows_from c) here r n v) [
+visible_is_kept setup past r a o e before n c g v = elim (kept_or_dropped setup o e before a g (follows_from c) here r n v) [
   | inl x ↦ inl x
   | inr x ↦ let d = x.1 in inr (x.0, (d.crash, d.before, came_from d.came, d.crashes, d.kept, d.dropped, d.closed))
 ]

@@ -20,6 +20,7 @@ pub mod Places
 pub mod Sorted
 pub mod Order
 pub mod Serial
+pub mod Serving
 pub mod Known
 pub mod Sources
 pub mod Orphans

@@ -122,7 +122,7 @@ each_guardian p n g h a b = fall n (all_reversed (down_from n) h) a b
 
 -- The law: the home of a lost action had prepared, as the decision asks; but then it had lost nothing.
 pub nothing_lost_under_committed : NothingLostUnderCommitted
-nothing_lost_under_committed setup now t b r p c k v = false_from_ne_true _ never
+nothing_lost_under_committed setup now r t b p c k v = false_from_ne_true _ never
   where
     all : (f : Name) → is_ancestor f b ≡ true → is_committed f now ≡ true
     all f l = elim (visible_use b t f now v l) [

@@ -89,7 +89,7 @@ in_order setup end a o p e f before between r n w1 g1 w2 g2 v1 v2 c = elim (kept
 
 -- the law
 pub conflicts_keep_order : ConflictsKeepOrder
-conflicts_keep_order setup past a o p e f before between r n c g d h v w k =
+conflicts_keep_order setup past r a o p e f before between n c g d h v w k =
     in_order setup past a o p e f before between r n (follows_from c) g (follows_from d) h v w k
 
 -- each two that are visible
@@ -119,4 +119,4 @@ visible_pairs setup (e ∷ past) a {end = end} w r n = elim (grant_cases e past)
 
 -- the law
 pub grant_to_place : GrantToPlace
-grant_to_place setup past a r n = exchanged past (visible_by_grant a past) (visible_pairs setup past a here r n)
+grant_to_place setup past r a n = exchanged past (visible_by_grant a past) (visible_pairs setup past a here r n)

@@ -140,6 +140,6 @@ reply_by_grant setup o e past a {end = end} p run w r n v =
 
 -- the law: an action is visible to itself
 pub replies_by_grant : RepliesByGrant
-replies_by_grant setup past o e before r c g n =
+replies_by_grant setup past r o e before c g n =
     let run = run_before setup (follows_from c) r in
     reply_by_grant setup o e before o.action g run here run.2 n (visible_self o.action before)

@@ -56,8 +56,8 @@ serial_by_grant setup (e ∷ past) a {end = end} w r n = elim (grant_cases e pas
 
 -- the law: the replies hold in order of grant, and exchanges lead from there to the order of place
 pub serial_view : SerialView
-serial_view setup past a r b n =
-    exchanges_leave_replies (opening setup) (visible_by_grant a past) (visible_by_place a past) (grant_to_place setup past a r n)
+serial_view setup past r a b n =
+    exchanges_leave_replies (opening setup) (visible_by_grant a past) (visible_by_place a past) (grant_to_place setup past r a n)
     (serial_by_grant setup past a here r n)
 
 -- the parts of what was asked
@@ -83,6 +83,6 @@ same_asked s (o ∷ os) (p ∷ ps) h =
 
 -- the law: both are what the store answers to what was asked
 pub equal_lists_equal_replies : EqualListsEqualReplies
-equal_lists_equal_replies setup past other a b r q ba bb na nb e =
-    sym (serial_view setup past a r ba na) ∙ same_asked (opening setup) (visible_by_place a past) (visible_by_place b other) e
-    ∙ serial_view setup other b q bb nb
+equal_lists_equal_replies setup past r other a b q ba bb na nb e =
+    sym (serial_view setup past r a ba na) ∙ same_asked (opening setup) (visible_by_place a past) (visible_by_place b other) e
+    ∙ serial_view setup other q b bb nb

@@ -6,6 +6,7 @@ use Rattle.atomic_types.specs.Objects.{reply_of}
 use Rattle.run_model.specs.declared.step.Step.{Step}
 use Rattle.run_model.specs.declared.step.Step.TheVariants.{NestedTop, Call, Arms, Op, Commit, Close}
 use Rattle.run_model.specs.declared.step.ObjectId.{ObjectId}
+use Rattle.run_model.specs.declared.answer.Answer.{Answer}
 use Rattle.run_model.specs.declared.answer.Answer.TheVariants.{Refused}
 use Rattle.run_model.specs.declared.answer.Refusal.TheVariants.{Orphan}
 use Rattle.run_model.specs.declared.history.Event.{Event}
@@ -36,9 +37,12 @@ NothingActiveBelowDone = (setup : Setup) (past : List Event) (d c : Name) → Is
     → (f : Name) × IsTrue (is_ancestor f c) × IsTrue (is_aborted f past)
 
 -- No lost action is visible under a committed top action.
-abbrev pub NothingLostUnderCommitted : Type 0
-NothingLostUnderCommitted = (setup : Setup) (past : List Event) (t b : Name) → IsRun setup past
+abbrev pub NothingLostAt : List Event → Type 0
+NothingLostAt past = (t b : Name)
     → IsTrue (is_top t) → IsTrue (is_committed t past) → IsTrue (is_ancestor t b) → IsTrue (is_visible b t past) → IsFalse (is_lost b past)
+
+abbrev pub NothingLostUnderCommitted : Type 0
+NothingLostUnderCommitted = (setup : Setup) (past : List Event) → IsRun setup past → NothingLostAt past
 
 -- the crash before which the operation was kept and after which it is not came after its top action had closed
 abbrev pub DroppedWhenClosed : Performed → List Event → Type 0
@@ -46,10 +50,13 @@ DroppedWhenClosed o past = (crash : Event) × (earlier : List Event) × Came cra
     × IsTrue (is_kept o earlier) × IsFalse (is_kept o (crash ∷ earlier)) × IsTrue (is_closed (top_of o.action) earlier)
 
 -- What is visible to an action that is no orphan is kept, but for reads that a crash dropped after their top action had closed.
-abbrev pub VisibleIsKept : Type 0
-VisibleIsKept = (setup : Setup) (past : List Event) (a : Name) (o : Performed) (e : Event) (before : List Event) → IsRun setup past
+abbrev pub VisibleIsKeptAt : List Event → Type 0
+VisibleIsKeptAt past = (a : Name) (o : Performed) (e : Event) (before : List Event)
     → IsFalse (is_orphan a past) → Came e before past → Grants o e before → IsTrue (is_visible o.action a past)
     → IsTrue (is_kept o past) ⊎ (IsTrue (is_read o.operation) × DroppedWhenClosed o past)
+
+abbrev pub VisibleIsKept : Type 0
+VisibleIsKept = (setup : Setup) (past : List Event) → IsRun setup past → VisibleIsKeptAt past
 
 -- What is not kept is never kept again.
 abbrev pub KeptNeverAgain : Type 0
@@ -57,16 +64,21 @@ KeptNeverAgain = (o : Performed) (e : Event) (before earlier later : List Event)
     → IsFalse (is_kept o earlier) → IsFalse (is_kept o (later ++ earlier))
 
 -- Two conflicting operations that are visible to one action that is no orphan stand by place as they stood by grant.
-abbrev pub ConflictsKeepOrder : Type 0
-ConflictsKeepOrder = (setup : Setup) (past : List Event) (a : Name) (o p : Performed) (e f : Event) (before between : List Event) → IsRun setup past
+abbrev pub ConflictsKeepOrderAt : List Event → Type 0
+ConflictsKeepOrderAt past = (a : Name) (o p : Performed) (e f : Event) (before between : List Event)
     → IsFalse (is_orphan a past) → Came e before between → Grants o e before → Came f between past → Grants p f between
     → IsTrue (is_visible o.action a past) → IsTrue (is_visible p.action a past) → IsTrue (collide o p)
     → IsTrue (place_lt (place_of o past) (place_of p past))
 
+abbrev pub ConflictsKeepOrder : Type 0
+ConflictsKeepOrder = (setup : Setup) (past : List Event) → IsRun setup past → ConflictsKeepOrderAt past
+
 -- The list by place comes from the list by grant through exchanges of neighbours that do not conflict.
+abbrev pub GrantToPlaceAt : List Event → Type 0
+GrantToPlaceAt past = (a : Name) → IsFalse (is_orphan a past) → Exchanges (visible_by_grant a past) (visible_by_place a past)
+
 abbrev pub GrantToPlace : Type 0
-GrantToPlace = (setup : Setup) (past : List Event) (a : Name) → IsRun setup past → IsFalse (is_orphan a past)
-    → Exchanges (visible_by_grant a past) (visible_by_place a past)
+GrantToPlace = (setup : Setup) (past : List Event) → IsRun setup past → GrantToPlaceAt past
 
 -- Exchanges leave each reply: where those of one list are a store's, so are those of the other.
 abbrev pub ExchangesLeaveReplies : Type 0
@@ -93,24 +105,33 @@ PlacesDiffer = (past : List Event) (o p : Performed) → place_of o past ≡ pla
 
 -- A reply that an action was given while it was no orphan is that of the operations so far that were visible to it, replayed in
 -- order of grant.
-abbrev pub RepliesByGrant : Type 0
-RepliesByGrant = (setup : Setup) (past : List Event) (o : Performed) (e : Event) (before : List Event) → IsRun setup past
+abbrev pub RepliesByGrantAt : Setup → List Event → Type 0
+RepliesByGrantAt setup past = (o : Performed) (e : Event) (before : List Event)
     → Came e before past → Grants o e before → IsFalse (is_orphan o.action before)
     → o.reply ≡ reply_of (store_after (opening setup) (visible_by_grant o.action before) o.object) o.operation
 
+abbrev pub RepliesByGrant : Type 0
+RepliesByGrant = (setup : Setup) (past : List Event) → IsRun setup past → RepliesByGrantAt setup past
+
 -- The serial view: the operations visible to a begun action that is no orphan, replayed from the setup's contents in order of
 -- place, give exactly the replies that were given.
-abbrev pub SerialView : Type 0
-SerialView = (setup : Setup) (past : List Event) (a : Name) → IsRun setup past → IsTrue (is_begun a past) → IsFalse (is_orphan a past)
+abbrev pub SerialViewAt : Setup → List Event → Type 0
+SerialViewAt setup past = (a : Name) → IsTrue (is_begun a past) → IsFalse (is_orphan a past)
     → replayed (opening setup) (visible_by_place a past) ≡ replies_given (visible_by_place a past)
+
+abbrev pub SerialView : Type 0
+SerialView = (setup : Setup) (past : List Event) → IsRun setup past → SerialViewAt setup past
 
 -- Two runs of one setup whose visible lists of two such actions are equal, as lists of action, object and operation, give them
 -- equal replies.
-abbrev pub EqualListsEqualReplies : Type 0
-EqualListsEqualReplies = (setup : Setup) (past other : List Event) (a b : Name) → IsRun setup past → IsRun setup other
+abbrev pub EqualListsAt : Setup → List Event → Type 0
+EqualListsAt setup past = (other : List Event) (a b : Name) → IsRun setup other
     → IsTrue (is_begun a past) → IsTrue (is_begun b other) → IsFalse (is_orphan a past) → IsFalse (is_orphan b other)
     → asked (visible_by_place a past) ≡ asked (visible_by_place b other)
     → replies_given (visible_by_place a past) ≡ replies_given (visible_by_place b other)
+
+abbrev pub EqualListsEqualReplies : Type 0
+EqualListsEqualReplies = (setup : Setup) (past : List Event) → IsRun setup past → EqualListsAt setup past
 
 -- the action that takes the step, of those that may be refused as orphans
 abbrev pub actor_of : Step → Option Name
@@ -122,8 +143,10 @@ actor_of (Commit a) = Some a
 actor_of (Close t) = Some t
 actor_of _ = None
 
--- Who is refused as an orphan is one.
+-- Who is refused as an orphan is one: where a step is answered so, an action takes it, and it is an orphan.
+abbrev pub OrphanWhereRefused : Step → Answer → List Event → Type 0
+OrphanWhereRefused step answer past = answer ≡ Refused Orphan → (a : Name) × (actor_of step ≡ Some a) × IsTrue (is_orphan a past)
+
 abbrev pub RefusedOrphansAreOrphans : Type 0
 RefusedOrphansAreOrphans = (setup : Setup) (past : List Event) (step : Step) → IsRun setup past
-    → answer_of setup step past ≡ Refused Orphan
-    → (a : Name) × (actor_of step ≡ Some a) × IsTrue (is_orphan a past)
+    → OrphanWhereRefused step (answer_of setup step past) past

@@ -1,3 +1,4 @@
 pub mod Laws
+pub mod Serving
 pub mod NoRuns
 pub mod Stepping

@@ -5,6 +5,7 @@
 
 ghost use Rattle.run_laws.specs.Laws.{VisibilityCarriesOver, NothingActiveBelowDone, NothingLostUnderCommitted, VisibleIsKept, KeptNeverAgain, ConflictsKeepOrder, GrantToPlace, ExchangesLeaveReplies, ExchangesLeaveContents, ListIsByPlace, PlacesDiffer, RepliesByGrant, SerialView, EqualListsEqualReplies, RefusedOrphansAreOrphans};
 ghost use Rattle.run_laws.specs.NoRuns.{WriteBesideRead, WriteDropped, VoteAfterCrash};
+ghost use Rattle.run_laws.specs.Serving.{RunsAreServed};
 ghost use Rattle.run_laws.specs.Stepping.{RunMore, HistoriesAreRuns};
 
 /// Where C is visible to A and B to C, B is visible to A.
@@ -75,6 +76,11 @@ pub fn serial_view()
 /// Equal visible lists, in two runs of one setup, are given equal replies.
 pub fn equal_lists_equal_replies()
     ensures { EqualListsEqualReplies }
+{}
+
+/// The laws that speak of one run, together: what a world promises of its history.
+pub fn runs_are_served()
+    ensures { RunsAreServed }
 {}
 
 /// Who is refused as an orphan is one.

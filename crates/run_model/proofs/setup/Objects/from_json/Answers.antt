@@ -24,3 +24,9 @@ pub returns-clause-found : goal.returns-clause-found
 returns-clause-found c =
     objects_read (view c.args.json.now) c.in-Some.items.now c.loop-item.contents.items c.in-Some.ensures c.if-items-gt-MAX_OBJECTS.false
     (subst (λ l. ReadsItems content_data IsContent l c.loop-item.contents.items) (take_all _ _ c.loop-item-test.false) c.loop-item.invariant)
+
+pub invariant_of-result : goal.invariant_of-result
+invariant_of-result c =
+    let fits = objects_read (view c.args.json.now) c.in-Some.items.now c.loop-item.contents.items c.in-Some.ensures c.if-items-gt-MAX_OBJECTS.false
+      (subst (λ l. ReadsItems content_data IsContent l c.loop-item.contents.items) (take_all _ _ c.loop-item-test.false) c.loop-item.invariant) in
+    fits.0.0

@@ -36,3 +36,10 @@ returns-clause-found c =
     guardians_read (view c.args.json.now) c.in-Some.items.now c.loop-item.guardians.items c.in-Some.ensures
     (let some = eqb-false _ _ (sym c.is_empty.ensures ∙ c.if-is_empty.false) in omega arith) c.if-items-gt-MAX_GUARDIANS.false
     (subst (λ l. ReadsItems guardian_data AreObjects l c.loop-item.guardians.items) (take_all _ _ c.loop-item-test.false) c.loop-item.invariant)
+
+pub invariant_of-result : goal.invariant_of-result
+invariant_of-result c =
+    let fits = guardians_read (view c.args.json.now) c.in-Some.items.now c.loop-item.guardians.items c.in-Some.ensures
+      (let some = eqb-false _ _ (sym c.is_empty.ensures ∙ c.if-is_empty.false) in omega arith) c.if-items-gt-MAX_GUARDIANS.false
+      (subst (λ l. ReadsItems guardian_data AreObjects l c.loop-item.guardians.items) (take_all _ _ c.loop-item-test.false) c.loop-item.invariant) in
+    fits.0.within_limit
