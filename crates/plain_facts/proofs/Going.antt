@@ -1,13 +1,13 @@
 -- Going over a history event by event: what the definitions of a list of events say of each event.
-use Rattle.std.proofs.Common.{◌≡◌, ℕ, suc, ◌+◌, ◌<◌, ◌≤◌, Bool, true, false, cond, ◌&&◌, ◌||◌, List, [], ◌∷◌, ◌++◌, length, filter, reverse, map, take, get_or, IsNone, IsTrue, IfSome, ◌↔◌, refl, sym, ap, ◌∙◌, arith, length-append, Option, Some, None}
+use Rattle.std.proofs.Common.{◌≡◌, ℕ, suc, ◌+◌, ◌-◌, ◌<◌, ◌≤◌, Bool, not, true, false, cond, ◌&&◌, ◌||◌, List, [], ◌∷◌, ◌++◌, length, filter, reverse, map, take, get_or, IsNone, IsTrue, IfSome, ◌↔◌, refl, sym, ap, ◌∙◌, arith, length-append, Option, Some, None}
 use Rattle.std.specs.List.{list_any}
 use Rattle.std.proofs.lemmas.Bool.{false≢true}
 use Rattle.std.proofs.lemmas.List.{append_assoc, map-append, reverse-append, take_more}
 use Rattle.std.proofs.lemmas.List.Elements.{filter-append}
 use Rattle.std.proofs.lemmas.List.Folds.{list_any-append}
 use Rattle.action_names.specs.Names.{Name, IsName, ancestors, has_name, is_top, parent_of, same_name}
-use Rattle.action_names.proofs.Paths.{length-parent}
 use Rattle.run_model.specs.declared.history.Event.{Event}
+use Rattle.run_model.specs.Telling.{last_passing, or_else}
 use Rattle.run_model.specs.Actions.{begins, begun, is_begun, made_by, names_begun, step_makes}
 
 -- a name of two lists together
@@ -74,10 +74,20 @@ up_from_parent (n ∷ []) None t p = refl
 up_from_parent (m ∷ n ∷ b) None t p = absurd (false≢true (t.0 refl))
 up_from_parent b (Some a) t p = ap ancestors p.1
 
+length_parent : (b : Name) → length (parent_of b) ≡ length b - 1
+length_parent [] = refl
+length_parent (n ∷ []) = refl
+length_parent (m ∷ n ∷ b) = omega (arith, length_parent (n ∷ b))
+
+-- the parent has a name
+pub parent_named : (b : Name) (next : Option Name) → IfSome next (λ p. IsName p × (p ≡ parent_of b)) → IfSome next IsName
+parent_named b None p = tt
+parent_named b (Some a) p = p.0
+
 -- the parent stands higher
 pub height_falls : (b : Name) (next : Option Name) → IsName b → IfSome next (λ p. IsName p × (p ≡ parent_of b)) → suc (height next) ≤ length b
 height_falls b None is p = is.not_empty
-height_falls b (Some a) is p = let l = ap length p.1 in let m = length-parent b in let e = is.not_empty in omega arith
+height_falls b (Some a) is p = let l = ap length p.1 in let m = length_parent b in let e = is.not_empty in omega arith
 
 -- one ancestor more in the list
 pub up_more : (a b : Name) (items more : List Name) (next : Option Name) → IsName b → ancestors b ++ reverse items ≡ ancestors a
@@ -89,6 +99,35 @@ up_more a b items more next is so_far pushed t p =
     ∙ sym (append_assoc (ancestors (parent_of b)) (b ∷ []) (reverse items))
     ∙ ap (λ l. l ++ reverse items) (sym (ancestors_last b is.not_empty))
     ∙ so_far
+
+or_else_assoc : (x y z : Option Name) → or_else (or_else x y) z ≡ or_else x (or_else y z)
+or_else_assoc None y z = refl
+or_else_assoc (Some a) y z = refl
+
+-- one more at the end of a list is the last that passes, if it does
+last_passing_push : (p : Name → Bool) (names : List Name) (b : Name)
+    → last_passing p (names ++ b ∷ []) ≡ or_else (cond (p b) (Some b) None) (last_passing p names)
+last_passing_push p [] b = step (p b)
+  where
+    step : (t : Bool) → or_else None (cond t (Some b) None) ≡ or_else (cond t (Some b) None) None
+    step true = refl
+    step false = refl
+last_passing_push p (a ∷ names) b =
+    ap (λ o. or_else o (cond (p a) (Some a) None)) (last_passing_push p names b)
+    ∙ or_else_assoc (cond (p b) (Some b) None) (last_passing p names) (cond (p a) (Some a) None)
+
+-- the nearest ancestor that passes is the action itself, or else one above
+pub nearest_is_own : (p : Name → Bool) (b : Name) → IsName b → p b ≡ true → last_passing p (ancestors b) ≡ Some b
+nearest_is_own p b is passes =
+    ap (last_passing p) (ancestors_last b is.not_empty) ∙ last_passing_push p (ancestors (parent_of b)) b
+    ∙ ap (λ t. or_else (cond t (Some b) None) (last_passing p (ancestors (parent_of b)))) passes
+
+pub nearest_is_above : (p : Name → Bool) (b : Name) (next : Option Name) → IsName b → p b ≡ false → (IsNone next ↔ IsTrue (is_top b))
+    → IfSome next (λ a. IsName a × (a ≡ parent_of b)) → last_passing p (up_from next) ≡ last_passing p (ancestors b)
+nearest_is_above p b next is fails t a =
+    ap (last_passing p) (up_from_parent b next t a)
+    ∙ sym (ap (last_passing p) (ancestors_last b is.not_empty) ∙ last_passing_push p (ancestors (parent_of b)) b
+    ∙ ap (λ t. or_else (cond t (Some b) None) (last_passing p (ancestors (parent_of b)))) fails)
 
 -- ---- going on
 

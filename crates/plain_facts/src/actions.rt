@@ -19,21 +19,33 @@ pub fn begins(event: &Event, action: &Name) -> bool
 pub fn is_begun(history: &History, action: &Name) -> bool
     ensures { result ≡ is_begun action.now history.now }
 {
-    history.events().iter().rev().any(|event| begins(event, action))
+    history
+        .events()
+        .iter()
+        .rev()
+        .any(|event| begins(event, action))
 }
 
 /// Whether the action has committed.
 pub fn is_committed(history: &History, action: &Name) -> bool
     ensures { result ≡ is_committed action.now history.now }
 {
-    history.events().iter().rev().any(|event| steps::commits(&event.step, action))
+    history
+        .events()
+        .iter()
+        .rev()
+        .any(|event| steps::commits(&event.step, action))
 }
 
 /// Whether the action has aborted.
 pub fn is_aborted(history: &History, action: &Name) -> bool
     ensures { result ≡ is_aborted action.now history.now }
 {
-    history.events().iter().rev().any(|event| steps::aborts(&event.step, action))
+    history
+        .events()
+        .iter()
+        .rev()
+        .any(|event| steps::aborts(&event.step, action))
 }
 
 /// Whether the action has committed or aborted.
@@ -47,7 +59,11 @@ pub fn is_ended(history: &History, action: &Name) -> bool
 pub fn is_closed(history: &History, action: &Name) -> bool
     ensures { result ≡ is_closed action.now history.now }
 {
-    history.events().iter().rev().any(|event| steps::closes(&event.step, action))
+    history
+        .events()
+        .iter()
+        .rev()
+        .any(|event| steps::closes(&event.step, action))
 }
 
 /// Whether the action has ended or closed.
@@ -67,7 +83,11 @@ pub fn crashes(history: &History, guardian: u32) -> u64
 fn crashes_among(events: &[Event], guardian: u32) -> u64
     ensures { result ≡ crashes guardian (reverse events.now) }
 {
-    events.iter().rev().filter(|event| steps::crashes(&event.step, guardian)).count() as u64
+    events
+        .iter()
+        .rev()
+        .filter(|event| steps::crashes(&event.step, guardian))
+        .count() as u64
 }
 
 /// Whether the guardian has crashed and not recovered since.
@@ -139,14 +159,17 @@ pub fn is_gone(history: &History, action: &Name) -> bool
 pub fn is_busy(history: &History, action: &Name) -> bool
     ensures { result ≡ is_busy action.now history.now }
 {
-    history.events().iter().rev().any(|event| steps::makes(&event.step, action) && some_open(history, &event.answer))
+    history.events().iter().rev().any(|event| steps::makes(&event.step, action)
+        && some_open(history, &event.answer))
 }
 
 /// Whether something that the answer begins has neither committed nor aborted.
 fn some_open(history: &History, answer: &Answer) -> bool
     ensures { result ≡ list_any (λ b. not (is_ended b history.now)) (names_begun answer.now) }
 {
-    steps::names_begun(answer).iter().any(|name| !is_ended(history, name))
+    steps::names_begun(answer)
+        .iter()
+        .any(|name| !is_ended(history, name))
 }
 
 /// All ancestors of the action, outermost first.
@@ -196,6 +219,9 @@ fn next_number(history: &History, parent: &[u32]) -> u64
 fn children_begun(answer: &Answer, parent: &[u32]) -> u64
     ensures { result ≡ min (length (filter (λ b. same_name (parent_of b) parent.now) (names_begun answer.now))) 4294967296 }
 {
-    let count = steps::names_begun(answer).iter().filter(|name| steps::is_parent(parent, name)).count();
+    let count = steps::names_begun(answer)
+        .iter()
+        .filter(|name| steps::is_parent(parent, name))
+        .count();
     PAST_NUMBERS.min(count as u64)
 }

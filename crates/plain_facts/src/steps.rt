@@ -145,7 +145,10 @@ pub fn tells(step: &Step, guardian: u32, action: &Name, told: bool, ended: bool)
 {
     match step {
         Step::Tell(at, name) => *at == guardian && name == action,
-        Step::Prepare(at, top) => *at == guardian && is_proper_ancestor(top, action) && ended && !told,
+        Step::Prepare(at, top) => *at == guardian
+            && is_proper_ancestor(top, action)
+            && ended
+            && !told,
         _ => false,
     }
 }

@@ -19,14 +19,22 @@ use std::alloc::AllocError;
 pub fn has_prepared(history: &History, guardian: u32, action: &Name) -> bool
     ensures { result ≡ has_prepared guardian action.now history.now }
 {
-    history.events().iter().rev().any(|event| steps::votes_yes(event, guardian, action))
+    history
+        .events()
+        .iter()
+        .rev()
+        .any(|event| steps::votes_yes(event, guardian, action))
 }
 
 /// Whether the guardian has voted on the action, either way.
 pub fn has_voted(history: &History, guardian: u32, action: &Name) -> bool
     ensures { result ≡ has_voted guardian action.now history.now }
 {
-    history.events().iter().rev().any(|event| steps::votes(&event.step, guardian, action))
+    history
+        .events()
+        .iter()
+        .rev()
+        .any(|event| steps::votes(&event.step, guardian, action))
 }
 
 /// Whether the guardian has prepared the action after the event of this number. Events are numbered from 1.
@@ -116,7 +124,11 @@ pub fn tells(event: &Event, history: &History, guardian: u32, action: &Name) -> 
 
 /// Who holds the operations of the action at the guardian: its nearest ancestor that the guardian has not been told committed. `None`
 /// where there is none, and the operations belong to the base.
-pub fn holder_of(history: &History, guardian: u32, action: &Name) -> Result<Option<Name>, AllocError>
+pub fn holder_of(
+    history: &History,
+    guardian: u32,
+    action: &Name,
+) -> Result<Option<Name>, AllocError>
     ensures { IfOk result (λ holder. holder ≡ holder_of guardian action.now history.now) }
 {
     let mut next = Some(action.copy()?);
@@ -131,7 +143,11 @@ pub fn holder_of(history: &History, guardian: u32, action: &Name) -> Result<Opti
 
 /// The guardian whose lists the event carries to this one, if it does, where it follows the history: a call those of the caller's
 /// home, a commit those of the action's home to its parent's home where that is up, a prepare those of the top action's home.
-pub fn carried_from(event: &Event, history: &History, guardian: u32) -> Result<Option<u32>, AllocError>
+pub fn carried_from(
+    event: &Event,
+    history: &History,
+    guardian: u32,
+) -> Result<Option<u32>, AllocError>
     ensures { IfOk result (λ sender. sender ≡ carried_from event.now.step guardian history.now) }
 {
     let sender = match &event.step {
