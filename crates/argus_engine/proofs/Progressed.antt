@@ -1,0 +1,163 @@
+-- How far the engine has come, and what that gives at its end.
+use Rattle.std.proofs.Common.{◌≡◌, ◌≢◌, ℕ, suc, ◌+◌, ◌<◌, ◌≤◌, List, [], ◌∷◌, ◌++◌, length, take, drop, Option, Some, None, refl, sym, ap, subst, ◌∙◌, append_assoc, append-nil, arith, length-append, take-append-drop}
+use Rattle.std.specs.List.{AllByRecursion}
+use Rattle.std.specs.Io.KnownBytes.{Consumes, Appends, IsAtEnd}
+use Rattle.std.proofs.KnownBytes.{Consumes-trans, Consumes-nil, Appends-trans, Appends-nil}
+use Rattle.run_model.specs.declared.step.Step.{Step}
+use Rattle.run_model.specs.declared.history.Event.{Event}
+use Rattle.run_model.specs.Replay.{Setup}
+use Rattle.run_model.specs.Answers.{answer_of}
+use Rattle.run_model.specs.Runs.{World, history_after, history_from, world_after}
+use Rattle.run_model.specs.Texts.{IsStep, step_text, answer_text}
+use Rattle.run_model.specs.Transcripts.{IsAnswered, at_end, no_step, error_text, BeginsWithStep}
+use Rattle.argus_engine.specs.declared.engine.Ended.{Ended}
+use Rattle.argus_engine.specs.declared.engine.Ended.TheVariants.{Done, Stopped}
+use Rattle.argus_engine.specs.Serving.{Gives, Begins, step_lines, Made, Answers, BeginsAnswers, HasEnded}
+use Rattle.argus_engine.specs.Reading.{FacesNoStep, ReadsStep, answer_lines, Progress, TakesFront}
+use Rattle.argus_engine.proofs.Bytes.{left_text, gives_more}
+use Rattle.argus_engine.proofs.OneAnswer.{back, forth, one_answer}
+
+pub nothing_yet : (input : Option (List ℕ)) (world : World) (written : List ℕ) → written ≡ [] → Progress input input world world 1 written
+nothing_yet input world written e = record { steps = []; each = tt; taken = Consumes-nil input; count = refl; setup = refl; past = refl; answers = e }
+
+each_more : (steps : List Step) (s : Step) → AllByRecursion IsStep steps → IsStep s → AllByRecursion IsStep (steps ++ s ∷ [])
+each_more [] s each fits = (fits, tt)
+each_more (t ∷ steps) s each fits = (each.0, each_more steps s each.1 fits)
+
+lines_more : (steps : List Step) (s : Step) → step_lines (steps ++ s ∷ []) ≡ step_lines steps ++ (step_text s ++ 10 ∷ [])
+lines_more [] s = refl
+lines_more (t ∷ steps) s =
+    ap (λ (l : List ℕ). step_text t ++ 10 ∷ l) (lines_more steps s) ∙ sym (append_assoc (step_text t) (10 ∷ step_lines steps) (step_text s ++ 10 ∷ []))
+
+past_more : (setup : Setup) (past : List Event) (steps : List Step) (s : Step)
+    → history_from setup past (steps ++ s ∷ []) ≡ history_after s (answer_of setup s (history_from setup past steps)) (history_from setup past steps)
+past_more setup past [] s = refl
+past_more setup past (t ∷ steps) s = past_more setup (history_after t (answer_of setup t past) past) steps s
+
+answers_more : (setup : Setup) (past : List Event) (steps : List Step) (s : Step)
+    → answer_lines setup past (steps ++ s ∷ []) ≡ answer_lines setup past steps ++ (answer_text (answer_of setup s (history_from setup past steps)) ++ 10 ∷ [])
+answers_more setup past [] s = refl
+answers_more setup past (t ∷ steps) s =
+    let answer = answer_of setup t past in
+    let later = history_after t answer past in
+    ap (λ (l : List ℕ). answer_text answer ++ 10 ∷ l) (answers_more setup later steps s)
+    ∙ sym (append_assoc (answer_text answer) (10 ∷ answer_lines setup later steps) (answer_text (answer_of setup s (history_from setup later steps)) ++ 10 ∷ []))
+
+-- one line more
+pub one_more : (input left now : Option (List ℕ)) (old new next : World) (number : ℕ) (written grown : List ℕ) (s : Step)
+    → Progress input left old new number written → ReadsStep left now s
+    → next ≡ world_after new s (answer_of new.setup s new.past) → grown ≡ written ++ (answer_text (answer_of new.setup s new.past) ++ 10 ∷ [])
+    → Progress input now old next (number + 1) grown
+one_more input left now old new next number written grown s p reads stepped wrote =
+    let past = history_from old.setup old.past p.steps in
+    let same : answer_of new.setup s new.past ≡ answer_of old.setup s past = ap (λ (u : Setup). answer_of u s new.past) p.setup ∙ ap (λ (h : List Event). answer_of old.setup s h) p.past in
+    record {
+      steps = p.steps ++ s ∷ [];
+      each = each_more p.steps s p.each reads.0;
+      taken = subst (Consumes input now) (sym (lines_more p.steps s)) (Consumes-trans input left now (step_lines p.steps) (step_text s ++ 10 ∷ []) p.taken reads.1);
+      count = let l = length-append p.steps (s ∷ []) in let c = p.count in omega arith;
+      setup = ap (λ (w : World). w.setup) stepped ∙ p.setup;
+      past = ap (λ (w : World). w.past) stepped ∙ ap (λ (h : List Event). history_after s (answer_of new.setup s new.past) h) p.past
+          ∙ ap (λ a. history_after s a past) same ∙ sym (past_more old.setup old.past p.steps s);
+      answers = wrote ∙ ap (λ (l : List ℕ). l ++ (answer_text (answer_of new.setup s new.past) ++ 10 ∷ [])) p.answers
+          ∙ ap (λ a. answer_lines old.setup old.past p.steps ++ (answer_text a ++ 10 ∷ [])) same ∙ sym (answers_more old.setup old.past p.steps s);
+    }
+
+-- the same with what was written said in another way
+pub same_progress : (input left : Option (List ℕ)) (old new : World) (number : ℕ) (written other : List ℕ) → Progress input left old new number written → written ≡ other
+    → Progress input left old new number other
+same_progress input left old new number written other p e = subst (Progress input left old new number) e p
+
+made : (input left : Option (List ℕ)) (old new after : World) (number : ℕ) (written rest : List ℕ) (p : Progress input left old new number written) → after ≡ new
+    → Made old after (step_lines p.steps ++ rest) rest
+made input left old new after number written rest p e = record {
+  steps = p.steps;
+  each = p.each;
+  lines = refl;
+  setup = ap (λ (w : World). w.setup) e ∙ p.setup;
+  past = ap (λ (w : World). w.past) e ∙ p.past;
+}
+
+-- the reader has nothing more
+pub answers_done : (input left : Option (List ℕ)) (old new after : World) (number : ℕ) (written : List ℕ) → Progress input left old new number written → Gives left [] → after ≡ new
+    → Answers input old after written Done
+answers_done input left old new after number written p gives e =
+    let lines = step_lines p.steps in
+    let answers = answer_lines old.setup old.past p.steps in
+    record {
+      text = lines ++ [];
+      given = gives_more input left lines [] p.taken gives;
+      answered = subst (λ (a : List ℕ). IsAnswered old.setup old.past 1 (lines ++ []) a) (append-nil answers ∙ sym p.answers) (forth old.setup old.past 1 p.steps [] [] p.each at_end);
+      rest = [];
+      made = made input left old new after number written [] p e;
+      is_end = refl;
+    }
+
+-- what comes next is no step, and its error was written
+pub answers_stopped : (input left : Option (List ℕ)) (old new after : World) (number : ℕ) (written all : List ℕ) → Progress input left old new number written → FacesNoStep left → after ≡ new
+    → all ≡ written ++ error_text number → Answers input old after all Stopped
+answers_stopped input left old new after number written all p faces e wrote =
+    let lines = step_lines p.steps in
+    let answers = answer_lines old.setup old.past p.steps in
+    let rest = faces.0 in
+    let error = error_text number in
+    record {
+      text = lines ++ rest;
+      given = gives_more input left lines rest p.taken faces.1;
+      answered = subst (λ (a : List ℕ). IsAnswered old.setup old.past 1 (lines ++ rest) a) (ap (λ (l : List ℕ). l ++ error) (sym p.answers) ∙ sym wrote)
+          (forth old.setup old.past 1 p.steps rest error p.each
+          (subst (λ n. IsAnswered old.setup (history_from old.setup old.past p.steps) n rest error) (let c = p.count in omega arith) (no_step faces.2 faces.3)));
+      rest = rest;
+      made = made input left old new after number written rest p e;
+      is_end = (faces.2, faces.3);
+    }
+
+-- what was written so far begins what belongs to all
+pub begins_so_far : (input left : Option (List ℕ)) (old new : World) (number : ℕ) (written : List ℕ) → Progress input left old new number written → BeginsAnswers input old written
+begins_so_far input left old new number written p =
+    let lines = step_lines p.steps in
+    let answers = answer_lines old.setup old.past p.steps in
+    let rest = left_text input left lines p.taken in
+    record {
+      text = lines ++ rest.0;
+      given = rest.1;
+      each = λ all h. let b = back old.setup old.past 1 p.steps rest.0 all p.each h in (b.0, b.1 ∙ ap (λ (l : List ℕ). l ++ b.0) (sym p.answers));
+      read = lines;
+      is_read = (rest.0, refl);
+      answers = answers;
+      answered = subst (λ (t : List ℕ). IsAnswered old.setup old.past 1 t answers) (append-nil lines)
+          (subst (λ (a : List ℕ). IsAnswered old.setup old.past 1 (lines ++ []) a) (append-nil answers) (forth old.setup old.past 1 p.steps [] [] p.each at_end));
+      is_part = ([], sym (append-nil written ∙ p.answers));
+    }
+
+shorter : (part written all : List ℕ) → Begins part written → Begins written all → Begins part all
+shorter part written all b c = (b.0 ++ c.0, c.1 ∙ ap (λ (l : List ℕ). l ++ c.0) b.1 ∙ append_assoc part b.0 c.0)
+
+-- so does a beginning of it
+pub begins_part : (input : Option (List ℕ)) (old : World) (part written : List ℕ) → Begins part written → BeginsAnswers input old written → BeginsAnswers input old part
+begins_part input old part written b h = record {
+  text = h.text;
+  given = h.given;
+  each = λ all a. shorter part written all b (h.each all a);
+  read = h.read;
+  is_read = h.is_read;
+  answers = h.answers;
+  answered = h.answered;
+  is_part = shorter part written h.answers b h.is_part;
+}
+
+-- the front of the bytes that were to be written behind others
+pub front_begins : (sent bytes : List ℕ) (count : ℕ) → Begins (sent ++ take count bytes) (sent ++ bytes)
+front_begins sent bytes count = (drop count bytes, ap (λ (l : List ℕ). sent ++ l) (sym (take-append-drop count bytes)) ∙ sym (append_assoc sent (take count bytes) (drop count bytes)))
+
+pub begins_all : (input : Option (List ℕ)) (old new : World) (written : List ℕ) (ended : Ended) → Answers input old new written ended → BeginsAnswers input old written
+begins_all input old new written ended h = record {
+  text = h.text;
+  given = h.given;
+  each = λ all a. ([], one_answer old.setup old.past 1 h.text all written a h.answered ∙ sym (append-nil written));
+  read = h.text;
+  is_read = ([], sym (append-nil h.text));
+  answers = written;
+  answered = h.answered;
+  is_part = ([], sym (append-nil written));
+}
