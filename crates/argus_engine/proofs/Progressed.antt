@@ -1,7 +1,10 @@
 -- How far the engine has come, and what that gives at its end.
 use Rattle.std.proofs.Common.{◌≡◌, ◌≢◌, ℕ, suc, ◌+◌, ◌<◌, ◌≤◌, List, [], ◌∷◌, ◌++◌, length, take, drop, Option, Some, None, refl, sym, ap, subst, ◌∙◌, append_assoc, append-nil, arith, length-append, take-append-drop}
 use Rattle.std.specs.List.{AllByRecursion}
-use Rattle.std.specs.Io.KnownBytes.{Consumes, Appends, IsAtEnd}
+use Rattle.std.specs.Prelude.{if◌then◌else◌, ◌==◌}
+use Rattle.std.specs.declared.io.buffered.BufReader.{BufReader}
+use Rattle.std.specs.Io.Buffered.{reader_remaining, reader_inner, reader_buffer, reader_capacity}
+use Rattle.std.specs.Io.KnownBytes.{Consumes, Appends, IsAtEnd, prepend_known}
 use Rattle.std.proofs.KnownBytes.{Consumes-trans, Consumes-nil, Appends-trans, Appends-nil}
 use Rattle.run_model.specs.declared.step.Step.{Step}
 use Rattle.run_model.specs.declared.history.Event.{Event}
@@ -10,10 +13,12 @@ use Rattle.run_model.specs.Answers.{answer_of}
 use Rattle.run_model.specs.Runs.{World, history_after, history_from, world_after}
 use Rattle.run_model.specs.Texts.{IsStep, step_text, answer_text}
 use Rattle.run_model.specs.Transcripts.{IsAnswered, at_end, no_step, error_text, BeginsWithStep}
+use Rattle.argus_engine.specs.declared.engine.Next.{Next}
+use Rattle.argus_engine.specs.declared.engine.Next.TheVariants as found
 use Rattle.argus_engine.specs.declared.engine.Ended.{Ended}
 use Rattle.argus_engine.specs.declared.engine.Ended.TheVariants.{Done, Stopped}
-use Rattle.argus_engine.specs.Serving.{Gives, Begins, step_lines, Made, Answers, BeginsAnswers, HasEnded}
-use Rattle.argus_engine.specs.Reading.{FacesNoStep, ReadsStep, answer_lines, Progress, TakesFront}
+use Rattle.argus_engine.specs.Serving.{Gives, Begins, step_lines, Made, Answers, BeginsAnswers, HasEnded, Writes}
+use Rattle.argus_engine.specs.Reading.{FacesNoStep, ReadsStep, answer_lines, Progress, TakesFront, Running, GoesOn, Moves}
 use Rattle.argus_engine.proofs.Bytes.{left_text, gives_more}
 use Rattle.argus_engine.proofs.OneAnswer.{back, forth, one_answer}
 
@@ -161,3 +166,106 @@ begins_all input old new written ended h = record {
   answered = h.answered;
   is_part = ([], sym (append-nil written));
 }
+
+-- ---- with what the writer took and what is kept for it
+
+pub started : (input before : Option (List ℕ)) (world : World) (kept : List ℕ) → kept ≡ [] → Running input input before before world world 1 kept
+started input before world kept e = record { sent = []; appended = Appends-nil before; progress = nothing_yet input world kept e }
+
+pub went_on : {input left before after : Option (List ℕ)} {old new : World} {number : ℕ} {kept : List ℕ} (now : Option (List ℕ)) (next : World) (grown : List ℕ) (kind : Next)
+    → Running input left before after old new number kept → GoesOn left now new next kept grown kind → kind ≡ found.Answered → Running input now before after old next (number + 1) grown
+went_on {left = left} {new = new} {kept = kept} now next grown kind r goes e =
+    let (s, reads, stepped, wrote) = subst (GoesOn left now new next kept grown) e goes in
+    record {
+      sent = r.sent;
+      appended = r.appended;
+      progress = one_more _ _ now _ new next _ (r.sent ++ kept) (r.sent ++ grown) s r.progress reads stepped
+          (ap (λ (l : List ℕ). r.sent ++ l) wrote ∙ sym (append_assoc r.sent kept _));
+    }
+
+-- a beginning of what was kept was sent, and the rest is kept
+pub sent_some : {input left before after : Option (List ℕ)} {old new : World} {number : ℕ} {kept : List ℕ} (later : Option (List ℕ)) (rest : List ℕ)
+    → Running input left before after old new number kept → Moves after later kept rest → Running input left before later old new number rest
+sent_some {before = before} {after = after} {kept = kept} later rest r moved = record {
+  sent = r.sent ++ moved.0;
+  appended = Appends-trans before after later r.sent moved.0 r.appended moved.1;
+  progress = same_progress _ _ _ _ _ (r.sent ++ kept) ((r.sent ++ moved.0) ++ rest) r.progress (ap (λ (l : List ℕ). r.sent ++ l) moved.2 ∙ sym (append_assoc r.sent moved.0 rest));
+}
+
+pub moves_all : (after later : Option (List ℕ)) (kept none : List ℕ) → Appends after later kept → none ≡ [] → Moves after later kept none
+moves_all after later kept none took e = (kept, took, sym (ap (λ (l : List ℕ). kept ++ l) e ∙ append-nil kept))
+
+pub moves_none : (after : Option (List ℕ)) (kept : List ℕ) → Moves after after kept kept
+moves_none after kept = ([], Appends-nil after, refl)
+
+pub begun : {input left before after : Option (List ℕ)} {old new : World} {number : ℕ} {kept : List ℕ} (same : List ℕ)
+    → Running input left before after old new number kept → same ≡ kept → Writes before after (λ sent. BeginsAnswers input old (sent ++ same))
+begun {input} {old = old} same r e =
+    (r.sent, r.appended, subst (λ (l : List ℕ). BeginsAnswers input old (r.sent ++ l)) (sym e) (begins_so_far _ _ _ _ _ _ r.progress))
+
+-- a beginning of what was kept was sent
+pub begun_part : {input left before after : Option (List ℕ)} {old new : World} {number : ℕ} {kept : List ℕ} (later : Option (List ℕ)) (none : List ℕ)
+    → Running input left before after old new number kept → TakesFront after later kept → none ≡ [] → Writes before later (λ sent. BeginsAnswers input old (sent ++ none))
+begun_part {input} {before = before} {after = after} {old = old} {kept = kept} later none r took e =
+    let sent = r.sent ++ take took.0 kept in
+    (
+      sent,
+      Appends-trans before after later r.sent (take took.0 kept) r.appended took.2,
+      subst (BeginsAnswers input old) (sym (ap (λ (l : List ℕ). sent ++ l) e ∙ append-nil sent))
+      (begins_part input old sent (r.sent ++ kept) (front_begins r.sent kept took.0) (begins_so_far _ _ _ _ _ _ r.progress)),
+    )
+
+pub done : {input left before after : Option (List ℕ)} {old new : World} {number : ℕ} {kept : List ℕ} (now : Option (List ℕ)) (next : World) (grown : List ℕ) (kind : Next)
+    → Running input left before after old new number kept → GoesOn left now new next kept grown kind → kind ≡ found.End
+    → Writes before after (λ sent. Answers input old next (sent ++ grown) Done)
+done {input} {left} {old = old} {new = new} {number = number} {kept = kept} now next grown kind r goes e =
+    let (gives, same, wrote) = subst (GoesOn left now new next kept grown) e goes in
+    (r.sent, r.appended, subst (λ (l : List ℕ). Answers input old next (r.sent ++ l) Done) (sym wrote) (answers_done input left old new next number (r.sent ++ kept) r.progress gives same))
+
+pub stopped : {input left before after : Option (List ℕ)} {old new : World} {number : ℕ} {kept : List ℕ} (now : Option (List ℕ)) (next : World) (grown all : List ℕ) (kind : Next)
+    → Running input left before after old new number kept → GoesOn left now new next kept grown kind → kind ≡ found.NoStep → all ≡ grown ++ error_text number
+    → Writes before after (λ sent. Answers input old next (sent ++ all) Stopped)
+stopped {input} {left} {old = old} {new = new} {number = number} {kept = kept} now next grown all kind r goes e wrote =
+    let (faces, same, none) = subst (GoesOn left now new next kept grown) e goes in
+    (
+      r.sent,
+      r.appended,
+      answers_stopped input left old new next number (r.sent ++ kept) (r.sent ++ all) r.progress faces same
+      (ap (λ (l : List ℕ). r.sent ++ l) (wrote ∙ ap (λ (l : List ℕ). l ++ error_text number) none) ∙ sym (append_assoc r.sent kept (error_text number))),
+    )
+
+pub kept_at_no_step : (left now : Option (List ℕ)) (new next : World) (kept grown all : List ℕ) (kind : Next) → GoesOn left now new next kept grown kind → kind ≡ found.NoStep → all ≡ grown → all ≡ kept
+kept_at_no_step left now new next kept grown all kind goes e same = same ∙ (subst (GoesOn left now new next kept grown) e goes).2
+
+-- what was answered is begun
+pub begun_of_answers : (input before after : Option (List ℕ)) (old new : World) (kept : List ℕ) (ended : Ended)
+    → Writes before after (λ sent. Answers input old new (sent ++ kept) ended) → Writes before after (λ sent. BeginsAnswers input old (sent ++ kept))
+begun_of_answers input before after old new kept ended w = (w.0, w.1, begins_all input old new (w.0 ++ kept) ended w.2)
+
+-- ---- what was kept is written at last
+
+pub ends_begun : (input before after later : Option (List ℕ)) (old : World) (kept text : List ℕ)
+    → Writes before after (λ sent. BeginsAnswers input old (sent ++ kept)) → text ≡ kept → TakesFront after later text → Writes before later (λ written. BeginsAnswers input old written)
+ends_begun input before after later old kept text w e took =
+    let sent = w.0 ++ take took.0 text in
+    (
+      sent,
+      Appends-trans before after later w.0 (take took.0 text) w.1 took.2,
+      begins_part input old sent (w.0 ++ kept) (subst (λ (l : List ℕ). Begins sent (w.0 ++ l)) e (front_begins w.0 text took.0)) w.2,
+    )
+
+pub ends_nothing : (input before : Option (List ℕ)) (world : World) → Writes before before (λ written. BeginsAnswers input world written)
+ends_nothing input before world = ([], Appends-nil before, begins_so_far input input world world 1 [] (nothing_yet input world [] refl))
+
+-- a new buffer hides nothing of what its reader gives
+pub buffered_gives : {T A : Type 0} (r : BufReader T A) (inner : T) (remaining : T → Option (List ℕ)) → reader_inner r ≡ inner → reader_buffer r ≡ [] → reader_capacity r ≡ 8192
+    → reader_remaining remaining r ≡ remaining inner
+buffered_gives r inner remaining e empty size = seen (reader_capacity r) (reader_buffer r) (remaining (reader_inner r)) size empty ∙ ap remaining e
+  where
+    unchanged : (known : Option (List ℕ)) → prepend_known [] known ≡ known
+    unchanged None = refl
+    unchanged (Some xs) = refl
+
+    seen : (capacity : ℕ) (buffer : List ℕ) (known : Option (List ℕ)) → capacity ≡ 8192 → buffer ≡ [] → (if capacity == 0 then None else prepend_known buffer known) ≡ known
+    seen capacity buffer known e f =
+        ap (λ (n : ℕ). if n == 0 then None else prepend_known buffer known) e ∙ ap (λ (b : List ℕ). prepend_known b known) f ∙ unchanged known

@@ -58,3 +58,13 @@ pub record Progress (input left : Option (List ℕ)) (old new : World) (number :
 -- the writer took the front of the bytes
 abbrev pub TakesFront : Option (List ℕ) → Option (List ℕ) → List ℕ → Type 0
 TakesFront old new bytes = (count : ℕ) × (count ≤ length bytes) × Appends old new (take count bytes)
+
+-- the writer took a beginning of what was kept for it, and the rest is kept
+abbrev pub Moves : Option (List ℕ) → Option (List ℕ) → List ℕ → List ℕ → Type 0
+Moves old new kept rest = (sent : List ℕ) × Appends old new sent × (kept ≡ sent ++ rest)
+
+-- the progress, with what was written in two parts: what the writer took, and what is kept for it
+pub record Running (input left before after : Option (List ℕ)) (old new : World) (number : ℕ) (kept : List ℕ) : Type 0 where
+  pub sent : List ℕ
+  pub appended : Appends before after sent
+  pub progress : Progress input left old new number (sent ++ kept)

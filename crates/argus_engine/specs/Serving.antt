@@ -1,6 +1,7 @@
 -- What the engine makes of the bytes of a reader, and what it leaves with a writer.
 use Rattle.std.specs.Prelude.{ℕ, ◌≡◌, ◌≢◌, List, [], ◌∷◌, ◌++◌, Option, None, Some, ⊤}
 use Rattle.std.specs.List.{AllByRecursion}
+use Rattle.std.specs.Io.KnownBytes.{Appends}
 use Rattle.run_model.specs.declared.step.Step.{Step}
 use Rattle.run_model.specs.Texts.{IsStep, step_text}
 use Rattle.run_model.specs.Runs.{World, history_from}
@@ -43,6 +44,10 @@ pub record Answers (input : Option (List ℕ)) (old new : World) (written : List
   pub rest : List ℕ
   pub made : Made old new text rest
   pub is_end : HasEnded ended rest
+
+-- the writer took these bytes, of which the fact holds
+abbrev pub Writes : Option (List ℕ) → Option (List ℕ) → (List ℕ → Type 0) → Type 0
+Writes before after fact = (written : List ℕ) × Appends before after written × fact written
 
 -- What was written is a beginning of what belongs to all that the reader gives; and it is a beginning of what belongs to some
 -- beginning of it.

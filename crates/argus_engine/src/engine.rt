@@ -1,23 +1,19 @@
-ghost use Rattle.std.specs.Prelude.{◌≡◌, List, ℕ, IfOk, OnOk, OnErr, string_bytes, ◌++◌, ◌∷◌, [], MatchBool};
-ghost use Rattle.std.specs.Io.KnownBytes.{Appends};
+ghost use Rattle.std.specs.Prelude.{◌≡◌, IfOk, OnOk, OnErr, string_bytes, ◌++◌, ◌∷◌, [], MatchBool};
 ghost use Rattle.run_model.specs.declared.step.Step.{Step};
 ghost use Rattle.run_model.specs.Answers.{answer_of};
 ghost use Rattle.run_model.specs.Runs.{world_after};
 ghost use Rattle.run_model.specs.Texts.{Spells, answer_text};
 ghost use Rattle.run_model.specs.Transcripts.{error_text, line_feed};
-ghost use Rattle.argus_engine.specs.Serving.{Answers, BeginsAnswers};
+ghost use Rattle.argus_engine.specs.Serving.{Answers, BeginsAnswers, Writes};
 ghost use Rattle.argus_engine.specs.Reading.{GoesOn};
 
 use crate::reading::{Line, read_line};
-use crate::writing::{finish, send};
+use crate::writing::{finish, send_if_full};
 use run_model::{Answer, Step};
 use std::alloc::{AllocError, AllocFailed, Global};
 use std::io::{BufReader, Read, Write};
 use thiserror::Error;
 use world::World;
-
-/// How many bytes of answers are kept before they are written.
-const BUFFER_SIZE: usize = 8192;
 
 /// How the engine came to its end.
 #[derive(Clone, Copy, Debug, PartialEq, Eq, Drop)]
@@ -69,17 +65,17 @@ pub(crate) enum Next {
 /// answer, or `error` with the line's number, after which nothing more is written. A line is ended by a line feed and has
 /// at most 8,192 bytes before it. After a fault the world has made the steps up to where it came, and of the answers that
 /// belong to what was read a beginning was written.
-#[tactic(auto, using(crate::proofs::Progressed::begins_all, crate::proofs::Progressed::begins_part))]
 pub fn steps<R: Read, W: Write>(
     alloc: Global,
     world: &mut World,
     reader: &mut R,
     writer: &mut W,
 ) -> Result<Ended, Fault>
-    ensures ok { IfOk result (λ ended. (written : List ℕ) × Appends (W.contents writer.old) (W.contents writer.new) written
-        × Answers (R.remaining reader.old) world.old world.new written ended) }
-    ensures err { OnErr result ((written : List ℕ) × Appends (W.contents writer.old) (W.contents writer.new) written
-        × BeginsAnswers (R.remaining reader.old) world.old written) }
+    ensures ok { IfOk result (λ ended. Writes (W.contents writer.old) (W.contents writer.new)
+        (λ written. Answers (R.remaining reader.old) world.old world.new written ended)) }
+    // also after a fault
+    ensures begun { Writes (W.contents writer.old) (W.contents writer.new)
+        (λ written. BeginsAnswers (R.remaining reader.old) world.old written) }
     ensures setup { world.new.setup ≡ world.old.setup }
 {
     let Ok(mut buffered) = BufReader::new(alloc, reader) else {
@@ -94,7 +90,6 @@ pub fn steps<R: Read, W: Write>(
 }
 
 /// Answers line after line. Answers that are not yet written are left in the text, also after a fault.
-#[tactic(auto, using(crate::proofs::Progressed::nothing_yet, crate::proofs::Progressed::one_more, crate::proofs::Progressed::answers_done, crate::proofs::Progressed::answers_stopped, crate::proofs::Progressed::begins_so_far))]
 fn answer_all<R: Read, W: Write>(
     alloc: Global,
     world: &mut World,
@@ -103,10 +98,10 @@ fn answer_all<R: Read, W: Write>(
     answers: &mut String,
 ) -> Result<Ended, Fault>
     requires { string_bytes answers.old ≡ [] }
-    ensures ok { IfOk result (λ ended. (sent : List ℕ) × Appends (W.contents writer.old) (W.contents writer.new) sent
-        × Answers (R.remaining reader.old) world.old world.new (sent ++ string_bytes answers.new) ended) }
-    ensures err { OnErr result ((sent : List ℕ) × Appends (W.contents writer.old) (W.contents writer.new) sent
-        × BeginsAnswers (R.remaining reader.old) world.old (sent ++ string_bytes answers.new)) }
+    ensures ok { IfOk result (λ ended. Writes (W.contents writer.old) (W.contents writer.new)
+        (λ sent. Answers (R.remaining reader.old) world.old world.new (sent ++ string_bytes answers.new) ended)) }
+    ensures begun { Writes (W.contents writer.old) (W.contents writer.new)
+        (λ sent. BeginsAnswers (R.remaining reader.old) world.old (sent ++ string_bytes answers.new)) }
     ensures setup { world.new.setup ≡ world.old.setup }
 {
     let mut line = Vec::new(alloc);
@@ -119,9 +114,7 @@ fn answer_all<R: Read, W: Write>(
             }
             Next::End => return Ok(Ended::Done),
         }
-        if answers.len() >= BUFFER_SIZE {
-            send(writer, answers)?;
-        }
+        send_if_full(writer, answers)?;
     }
     Err(Fault::Input)
 }

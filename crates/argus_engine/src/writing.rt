@@ -2,17 +2,23 @@
 
 ghost use Rattle.std.specs.Prelude.{◌≡◌, ◌≤◌, [], length, take, IfOk, OnOk, OnErr, string_bytes};
 ghost use Rattle.std.specs.Io.KnownBytes.{Appends, Keeps};
-ghost use Rattle.argus_engine.specs.Reading.{TakesFront};
+ghost use Rattle.argus_engine.specs.Reading.{Moves, TakesFront};
 
 use crate::engine::Fault;
 use std::io::{ErrorKind, Write};
 
-/// Writes the text and empties it, also after a fault.
-pub(crate) fn send<W: Write>(writer: &mut W, text: &mut String) -> Result<(), Fault>
-    ensures ok { OnOk result (Appends (W.contents writer.old) (W.contents writer.new) (string_bytes text.old)) }
-    ensures err { OnErr result (TakesFront (W.contents writer.old) (W.contents writer.new) (string_bytes text.old)) }
-    ensures empty { string_bytes text.new ≡ [] }
+/// How many bytes of answers are kept before they are written.
+const BUFFER_SIZE: usize = 8192;
+
+/// Writes the text and empties it, where it is long enough. After a fault it is empty, and a beginning of it was written.
+#[tactic(auto, using(crate::proofs::Progressed::moves_all, crate::proofs::Progressed::moves_none))]
+pub(crate) fn send_if_full<W: Write>(writer: &mut W, text: &mut String) -> Result<(), Fault>
+    ensures ok { OnOk result (Moves (W.contents writer.old) (W.contents writer.new) (string_bytes text.old) (string_bytes text.new)) }
+    ensures err { OnErr result (TakesFront (W.contents writer.old) (W.contents writer.new) (string_bytes text.old) × (string_bytes text.new ≡ [])) }
 {
+    if text.len() < BUFFER_SIZE {
+        return Ok(());
+    }
     let written = write_bytes(writer, text.as_bytes());
     text.clear();
     written
@@ -22,7 +28,7 @@ pub(crate) fn send<W: Write>(writer: &mut W, text: &mut String) -> Result<(), Fa
 #[tactic(auto, using(crate::proofs::Bytes::flushed, crate::proofs::Bytes::not_flushed))]
 pub(crate) fn finish<W: Write>(writer: &mut W, text: &str) -> Result<(), Fault>
     ensures ok { OnOk result (Appends (W.contents writer.old) (W.contents writer.new) text.now) }
-    ensures err { OnErr result (TakesFront (W.contents writer.old) (W.contents writer.new) text.now) }
+    ensures front { TakesFront (W.contents writer.old) (W.contents writer.new) text.now }
 {
     write_bytes(writer, text.as_bytes())?;
     match writer.flush() {
