@@ -1,0 +1,158 @@
+-- Lines at the front of what a reader gives.
+use Rattle.std.proofs.Common.{◌≡◌, ◌≢◌, ℕ, zero, suc, ◌+◌, ◌-◌, ◌<◌, ◌≤◌, List, [], ◌∷◌, ◌++◌, length, take, drop, slice_index, Option, Some, None, refl, sym, ap, subst, ◌∙◌, append_assoc, append-nil, arith, length-append}
+use Rattle.std.proofs.Math.Seq.{take-add}
+use Rattle.std.proofs.lemmas.List.{take_all, take_rest, length-drop}
+use Rattle.std.specs.Io.KnownBytes.{Consumes, Appends, Keeps, IsAtEnd, ReadConsumes}
+use Rattle.std.proofs.KnownBytes.{Consumes-trans, Appends-trans, Appends-nil, Appends-kept, Consumes-nil}
+use Rattle.run_model.specs.declared.step.Step.{Step}
+use Rattle.run_model.specs.Texts.{IsStep, step_text, max_line, Spells}
+use Rattle.run_model.specs.Transcripts.{BeginsWithStep}
+use Rattle.run_model.specs.Reading.{Lacks}
+use Rattle.run_model.specs.Spaces.{Lacks-nil, Lacks-cons, Lacks-append}
+use Rattle.run_model.proofs.Cutting.{same_cut, no_cut}
+use Rattle.argus_engine.specs.Serving.{Gives}
+use Rattle.argus_engine.specs.Reading.{FacesNoStep, TakesFront}
+use Rattle.argus_engine.proofs.NoLineFeed.{step_lacks_line_feed}
+
+-- what is left after the bytes that were read, as far as it is known
+pub left_text : (old new : Option (List ℕ)) (bytes : List ℕ) → Consumes old new bytes → (rest : List ℕ) × Gives old (bytes ++ rest) × Gives new rest
+left_text None None bytes h = ([], tt, tt)
+left_text None (Some ys) bytes h = (ys, tt, refl)
+left_text (Some xs) None bytes h = absurd h
+left_text (Some xs) (Some ys) bytes h = (ys, h, refl)
+
+pub gives_more : (old new : Option (List ℕ)) (bytes rest : List ℕ) → Consumes old new bytes → Gives new rest → Gives old (bytes ++ rest)
+gives_more None new bytes rest h g = tt
+gives_more (Some xs) None bytes rest h g = absurd h
+gives_more (Some xs) (Some ys) bytes rest h g = h ∙ ap (λ (r : List ℕ). bytes ++ r) g
+
+pub at_end_gives : (old : Option (List ℕ)) → IsAtEnd old → Gives old []
+at_end_gives None h = tt
+at_end_gives (Some xs) h = h
+
+-- where nothing was read and nothing is left, nothing was there
+pub nothing_was : (old new : Option (List ℕ)) → Consumes old new [] → IsAtEnd new → IsAtEnd old
+nothing_was None new h e = tt
+nothing_was (Some xs) None h e = absurd h
+nothing_was (Some xs) (Some ys) h e = h ∙ e
+
+not_empty : (a b : List ℕ) → a ≢ [] → a ++ b ≢ []
+not_empty [] b some e = some refl
+not_empty (x ∷ a) b some e = absurd cc
+
+-- a last line without its line feed is no step
+pub cut_is_no_step : (old : Option (List ℕ)) (start : Option (List ℕ)) (bytes : List ℕ) → Consumes start old bytes → Lacks 10 bytes → bytes ≢ [] → IsAtEnd old → FacesNoStep start
+cut_is_no_step old start bytes h lacks some e = (
+  bytes,
+  subst (Gives start) (append-nil bytes) (gives_more start old bytes [] h (at_end_gives old e)),
+  some,
+  λ b. no_cut 10 (step_text b.0) b.2 bytes lacks b.3,
+)
+
+-- where a text begins with more bytes than a line has, none of them a line feed, no cut within a line's length is there
+too_long : (bytes rest a b : List ℕ) → Lacks 10 bytes → length a < length bytes → bytes ++ rest ≢ a ++ 10 ∷ b
+too_long [] rest a b lacks long e = absurd (omega arith)
+too_long (c ∷ bytes) rest [] b lacks long e = let h : c ≡ 10 = cc in lacks 0 (omega arith) h
+too_long (c ∷ bytes) rest (d ∷ a) b lacks long e =
+    let t : bytes ++ rest ≡ a ++ 10 ∷ b = cc in too_long bytes rest a b (λ i lt h. lacks (suc i) (omega arith) h) (omega arith) t
+
+some_of_length : (bytes : List ℕ) → 1 ≤ length bytes → bytes ≢ []
+some_of_length [] h e = absurd (omega arith)
+some_of_length (x ∷ bytes) h e = absurd cc
+
+pub long_is_no_step : (start now : Option (List ℕ)) (bytes : List ℕ) → Consumes start now bytes → Lacks 10 bytes → max_line < length bytes → FacesNoStep start
+long_is_no_step start now bytes h lacks long =
+    let left = left_text start now bytes h in
+    (
+      bytes ++ left.0,
+      left.1,
+      not_empty bytes left.0 (some_of_length bytes (omega arith)),
+      λ b. too_long bytes left.0 (step_text b.0) b.2 lacks (let l = b.1.line in omega arith) b.3,
+    )
+
+-- a line that spells no step
+pub line_is_no_step : (start now : Option (List ℕ)) (line : List ℕ) → Consumes start now (line ++ 10 ∷ []) → Lacks 10 line → ((s : Step) → Spells line s → ⊥) → FacesNoStep start
+line_is_no_step start now line h lacks none =
+    let left = left_text start now (line ++ 10 ∷ []) h in
+    let shape : (line ++ 10 ∷ []) ++ left.0 ≡ line ++ 10 ∷ left.0 = append_assoc line (10 ∷ []) left.0 in
+    (
+      line ++ 10 ∷ left.0,
+      subst (Gives start) shape left.1,
+      filled line left.0,
+      λ b. let same = same_cut 10 line (step_text b.0) left.0 b.2 lacks (step_lacks_line_feed b.0 b.1.parts) b.3 in none b.0 (record { fits = b.1; text = same.0 }),
+    )
+  where
+    filled : (a b : List ℕ) → a ++ 10 ∷ b ≢ []
+    filled [] b e = absurd cc
+    filled (x ∷ a) b e = absurd cc
+
+-- one more byte of a line
+pub one_more_byte : (start mid now : Option (List ℕ)) (bytes grown : List ℕ) (byte : ℕ) → Consumes start mid bytes → Consumes mid now (byte ∷ []) → grown ≡ bytes ++ byte ∷ [] → Consumes start now grown
+one_more_byte start mid now bytes grown byte h more e = subst (Consumes start now) (sym e) (Consumes-trans start mid now bytes (byte ∷ []) h more)
+
+pub one_more_lacks : (bytes grown : List ℕ) (byte : ℕ) → Lacks 10 bytes → byte ≢ 10 → grown ≡ bytes ++ byte ∷ [] → Lacks 10 grown
+one_more_lacks bytes grown byte h other e = subst (Lacks 10) (sym e) (Lacks-append 10 bytes (byte ∷ []) h (Lacks-cons 10 byte [] other (Lacks-nil 10)))
+
+-- a read that took nothing before one that took the bytes
+pub kept_then : (start mid now : Option (List ℕ)) (bytes : List ℕ) → Keeps start mid → Consumes mid now bytes → Consumes start now bytes
+kept_then None mid now bytes k h = tt
+kept_then (Some xs) None now bytes k h = absurd k
+kept_then (Some xs) (Some ys) None bytes k h = absurd h
+kept_then (Some xs) (Some ys) (Some zs) bytes k h = sym k ∙ h
+
+pub kept_end : (start mid : Option (List ℕ)) → Keeps start mid → IsAtEnd mid → IsAtEnd start
+kept_end None mid k h = tt
+kept_end (Some xs) None k h = absurd k
+kept_end (Some xs) (Some ys) k h = sym k ∙ h
+
+-- what a read at the end says
+pub read_none : (start mid now : Option (List ℕ)) (buffer : List ℕ) → Keeps start mid → Consumes mid now (take 0 buffer) → IsAtEnd now → IsAtEnd start
+read_none start mid now buffer k h e = kept_end start mid k (nothing_was mid now h e)
+
+-- what a read of one byte says
+pub read_one : (start mid now : Option (List ℕ)) (buffer : List ℕ) (count byte : ℕ) → Keeps start mid → Consumes mid now (take count buffer) → length buffer ≡ 1 → count ≢ 0 → count ≤ length buffer
+    → byte ≡ slice_index buffer 0 → Consumes start now (byte ∷ [])
+read_one start mid now [] count byte k h one some fits e = absurd (omega arith)
+read_one start mid now (b ∷ d ∷ buffer) count byte k h one some fits e = absurd (omega arith)
+read_one start mid now (b ∷ []) zero byte k h one some fits e = absurd (some refl)
+read_one start mid now (b ∷ []) (suc zero) byte k h one some fits e = subst (λ c. Consumes start now (c ∷ [])) (sym e) (kept_then start mid now (b ∷ []) k h)
+read_one start mid now (b ∷ []) (suc (suc n)) byte k h one some fits e = absurd (omega arith)
+
+-- one more write of the rest
+pub wrote_more : (start mid now : Option (List ℕ)) (bytes : List ℕ) (count more : ℕ) → Appends start mid (take count bytes) → Appends mid now (take more (take (length bytes - count) (drop count bytes)))
+    → Appends start now (take (count + more) bytes)
+wrote_more start mid now bytes count more h n =
+    subst (Appends start now) (sym (take-add count more bytes))
+    (Appends-trans start mid now (take count bytes) (take more (drop count bytes)) h (subst (λ (l : List ℕ). Appends mid now (take more l)) (take_rest bytes count) n))
+
+pub within_more : (bytes : List ℕ) (count more : ℕ) → count ≤ length bytes → more ≤ length (take (length bytes - count) (drop count bytes)) → count + more ≤ length bytes
+within_more bytes count more h n =
+    let short : more ≤ length (drop count bytes) = subst (λ (l : List ℕ). more ≤ length l) (take_rest bytes count) n in
+    omega (arith, length-drop count bytes)
+
+pub wrote_all : (start mid : Option (List ℕ)) (bytes : List ℕ) (count : ℕ) → Appends start mid (take count bytes) → count ≡ length bytes → Appends start mid bytes
+wrote_all start mid bytes count h e = subst (Appends start mid) (ap (λ n. take n bytes) e ∙ take_all (length bytes) bytes (omega arith)) h
+
+pub wrote_front : (start mid : Option (List ℕ)) (bytes : List ℕ) (count : ℕ) → Appends start mid (take count bytes) → count ≤ length bytes → TakesFront start mid bytes
+wrote_front start mid bytes count h within = (count, within, h)
+
+-- a write that failed took nothing
+pub wrote_none : (start mid now : Option (List ℕ)) (bytes : List ℕ) (count : ℕ) → Appends start mid (take count bytes) → count ≤ length bytes → Keeps mid now → TakesFront start now bytes
+wrote_none start mid now bytes count h within k = (count, within, Appends-kept start mid now (take count bytes) h k)
+
+-- all was written, and a flush followed
+pub flushed : (start mid now : Option (List ℕ)) (bytes : List ℕ) → Appends start mid bytes → Keeps mid now → Appends start now bytes
+flushed start mid now bytes h k = Appends-kept start mid now bytes h k
+
+pub not_flushed : (start mid now : Option (List ℕ)) (bytes : List ℕ) → Appends start mid bytes → Keeps mid now → TakesFront start now bytes
+not_flushed start mid now bytes h k =
+    (length bytes, omega arith, subst (Appends start now) (sym (take_all (length bytes) bytes (omega arith))) (Appends-kept start mid now bytes h k))
+
+pub took_none : (start now : Option (List ℕ)) (bytes : List ℕ) → Keeps start now → Appends start now (take 0 bytes)
+took_none start now bytes k = Appends-kept start start now [] (Appends-nil start) k
+
+-- a write that gave nothing took nothing
+pub gave_none : (start now : Option (List ℕ)) → Appends start now [] → Keeps start now
+gave_none None now h = tt
+gave_none (Some xs) None h = absurd h
+gave_none (Some xs) (Some ys) h = h ∙ append-nil xs

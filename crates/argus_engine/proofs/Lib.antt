@@ -1,0 +1,4 @@
+pub mod NoLineFeed
+pub mod OneAnswer
+pub mod Progressed
+pub mod Bytes

@@ -1,0 +1,9 @@
+use Rattle.std.proofs.Common.{string_bytes}
+use Rattle.argus_engine.specs.Reading.{Running}
+use Rattle.argus_engine.proofs.engine.answer_all.Given as goal
+
+-- the lines before this number were answered
+abbrev pub invariant-loop-number : goal.invariant-loop-number
+invariant-loop-number g l =
+    Running (g.R.Read.remaining l.fn.reader) (g.R.Read.remaining l.reader) (g.W.Write.contents l.fn.writer) (g.W.Write.contents l.writer)
+    l.fn.world l.world l.number (string_bytes l.answers)

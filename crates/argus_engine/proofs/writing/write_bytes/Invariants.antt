@@ -1,0 +1,10 @@
+use Rattle.std.proofs.Common.{◌≤◌, length, take}
+use Rattle.std.specs.Io.KnownBytes.{Appends}
+use Rattle.argus_engine.proofs.writing.write_bytes.Given as goal
+
+-- the writer took this many of the bytes
+abbrev pub invariant-loop : goal.invariant-loop
+invariant-loop g l = record {
+  within : l.count ≤ length l.bytes;
+  taken : Appends (g.W.Write.contents l.fn.writer) (g.W.Write.contents l.writer) (take l.count l.bytes);
+}

@@ -1,0 +1,70 @@
+-- Words for the clauses of private functions: one line, and how far the engine has come.
+use Rattle.std.specs.Prelude.{ℕ, ◌≡◌, ◌≢◌, ◌≤◌, suc, List, [], ◌∷◌, ◌++◌, Option, length, take}
+use Rattle.std.specs.List.{AllByRecursion}
+use Rattle.std.specs.Io.KnownBytes.{Appends, Consumes}
+use Rattle.run_model.specs.declared.step.Step.{Step}
+use Rattle.run_model.specs.declared.history.Event.{Event}
+use Rattle.run_model.specs.Replay.{Setup}
+use Rattle.run_model.specs.Answers.{answer_of}
+use Rattle.run_model.specs.Runs.{World, history_after, history_from, world_after}
+use Rattle.run_model.specs.Texts.{IsStep, step_text, answer_text, max_line, Spells}
+use Rattle.run_model.specs.Transcripts.{BeginsWithStep, line_feed}
+use Rattle.run_model.specs.Reading.{Lacks}
+use Rattle.argus_engine.specs.declared.reading.Line.{Line}
+use Rattle.argus_engine.specs.declared.reading.Line.TheVariants as line
+use Rattle.argus_engine.specs.declared.engine.Next.{Next}
+use Rattle.argus_engine.specs.declared.engine.Next.TheVariants.{Answered, NoStep, End}
+use Rattle.argus_engine.specs.Serving.{Gives, step_lines}
+
+-- what the reader goes on with is the line of no step
+abbrev pub FacesNoStep : Option (List ℕ) → Type 0
+FacesNoStep input = (text : List ℕ) × Gives input text × (text ≢ []) × (BeginsWithStep text → ⊥)
+
+-- what was read: a line with its line feed, or the front of something else, or nothing
+abbrev pub ReadsLine : Option (List ℕ) → Option (List ℕ) → List ℕ → Line → Type 0
+ReadsLine old new bytes line.Whole = Consumes old new (bytes ++ line_feed ∷ []) × Lacks line_feed bytes
+ReadsLine old new bytes line.Bad = FacesNoStep old
+ReadsLine old new bytes line.Missing = Gives old []
+
+-- the reader went on with the line of the step
+abbrev pub ReadsStep : Option (List ℕ) → Option (List ℕ) → Step → Type 0
+ReadsStep old new step = IsStep step × Consumes old new (step_text step ++ line_feed ∷ [])
+
+-- one more line was answered, or none was there to be answered
+abbrev pub GoesOn : Option (List ℕ) → Option (List ℕ) → World → World → List ℕ → List ℕ → Next → Type 0
+GoesOn old new world after pending grown Answered =
+    (step : Step) × ReadsStep old new step × (after ≡ world_after world step (answer_of world.setup step world.past))
+    × (grown ≡ pending ++ (answer_text (answer_of world.setup step world.past) ++ line_feed ∷ []))
+GoesOn old new world after pending grown NoStep = FacesNoStep old × (after ≡ world) × (grown ≡ pending)
+GoesOn old new world after pending grown End = Gives old [] × (after ≡ world) × (grown ≡ pending)
+
+-- the lines of the answers of steps, one after another
+abbrev pub answer_lines : Setup → List Event → List Step → List ℕ
+answer_lines setup past [] = []
+answer_lines setup past (step ∷ steps) =
+    let answer = answer_of setup step past in
+    answer_text answer ++ line_feed ∷ answer_lines setup (history_after step answer past) steps
+
+-- this many lines were read before this number and answered, and nothing else was
+pub record Progress (input left : Option (List ℕ)) (old new : World) (number : ℕ) (written : List ℕ) : Type 0 where
+  pub steps : List Step
+  pub each : AllByRecursion IsStep steps
+  pub taken : Consumes input left (step_lines steps)
+  pub count : number ≡ suc (length steps)
+  pub setup : new.setup ≡ old.setup
+  pub past : new.past ≡ history_from old.setup old.past steps
+  pub answers : written ≡ answer_lines old.setup old.past steps
+
+-- the writer took the front of the bytes
+abbrev pub TakesFront : Option (List ℕ) → Option (List ℕ) → List ℕ → Type 0
+TakesFront old new bytes = (count : ℕ) × (count ≤ length bytes) × Appends old new (take count bytes)
+
+-- the writer took a beginning of what was kept for it, and the rest is kept
+abbrev pub Moves : Option (List ℕ) → Option (List ℕ) → List ℕ → List ℕ → Type 0
+Moves old new kept rest = (sent : List ℕ) × Appends old new sent × (kept ≡ sent ++ rest)
+
+-- the progress, with what was written in two parts: what the writer took, and what is kept for it
+pub record Running (input left before after : Option (List ℕ)) (old new : World) (number : ℕ) (kept : List ℕ) : Type 0 where
+  pub sent : List ℕ
+  pub appended : Appends before after sent
+  pub progress : Progress input left old new number (sent ++ kept)

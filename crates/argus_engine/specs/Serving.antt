@@ -1,0 +1,62 @@
+-- What the engine makes of the bytes of a reader, and what it leaves with a writer.
+use Rattle.std.specs.Prelude.{ℕ, ◌≡◌, ◌≢◌, List, [], ◌∷◌, ◌++◌, Option, None, Some, ⊤}
+use Rattle.std.specs.List.{AllByRecursion}
+use Rattle.std.specs.Io.KnownBytes.{Appends}
+use Rattle.run_model.specs.declared.step.Step.{Step}
+use Rattle.run_model.specs.Texts.{IsStep, step_text}
+use Rattle.run_model.specs.Runs.{World, history_from}
+use Rattle.run_model.specs.Transcripts.{IsAnswered, BeginsWithStep, line_feed}
+use Rattle.argus_engine.specs.declared.engine.Ended.{Ended}
+use Rattle.argus_engine.specs.declared.engine.Ended.TheVariants.{Done, Stopped}
+
+-- the bytes of a reader, where they are known, are this text
+abbrev pub Gives : Option (List ℕ) → List ℕ → Type 0
+Gives None text = ⊤
+Gives (Some bytes) text = bytes ≡ text
+
+-- the text begins with this part
+abbrev pub Begins : List ℕ → List ℕ → Type 0
+Begins part text = (rest : List ℕ) × (text ≡ part ++ rest)
+
+-- the lines of steps
+abbrev pub step_lines : List Step → List ℕ
+step_lines [] = []
+step_lines (step ∷ steps) = step_text step ++ line_feed ∷ step_lines steps
+
+-- done, every line was a step; stopped, what comes next is no line of a step
+abbrev pub HasEnded : Ended → List ℕ → Type 0
+HasEnded Done rest = rest ≡ []
+HasEnded Stopped rest = (rest ≢ []) × (BeginsWithStep rest → ⊥)
+
+-- The steps of the first lines were made, and no other.
+pub record Made (old new : World) (text rest : List ℕ) : Type 0 where
+  pub steps : List Step
+  pub each : AllByRecursion IsStep steps
+  pub lines : text ≡ step_lines steps ++ rest
+  pub setup : new.setup ≡ old.setup
+  pub past : new.past ≡ history_from old.setup old.past steps
+
+-- All that the reader gave was answered, and the steps before its end were made.
+pub record Answers (input : Option (List ℕ)) (old new : World) (written : List ℕ) (ended : Ended) : Type 0 where
+  pub text : List ℕ
+  pub given : Gives input text
+  pub answered : IsAnswered old.setup old.past 1 text written
+  pub rest : List ℕ
+  pub made : Made old new text rest
+  pub is_end : HasEnded ended rest
+
+-- the writer took these bytes, of which the fact holds
+abbrev pub Writes : Option (List ℕ) → Option (List ℕ) → (List ℕ → Type 0) → Type 0
+Writes before after fact = (written : List ℕ) × Appends before after written × fact written
+
+-- What was written is a beginning of what belongs to all that the reader gives; and it is a beginning of what belongs to some
+-- beginning of it.
+pub record BeginsAnswers (input : Option (List ℕ)) (old : World) (written : List ℕ) : Type 0 where
+  pub text : List ℕ
+  pub given : Gives input text
+  pub each : (answers : List ℕ) → IsAnswered old.setup old.past 1 text answers → Begins written answers
+  pub read : List ℕ
+  pub is_read : Begins read text
+  pub answers : List ℕ
+  pub answered : IsAnswered old.setup old.past 1 read answers
+  pub is_part : Begins written answers

@@ -1,0 +1,179 @@
+ghost use Rattle.std.specs.Prelude.{◌≡◌, IfOk, OnOk, OnErr, string_bytes, ◌++◌, ◌∷◌, [], MatchBool};
+ghost use Rattle.run_model.specs.declared.step.Step.{Step};
+ghost use Rattle.run_model.specs.Answers.{answer_of};
+ghost use Rattle.run_model.specs.Runs.{world_after};
+ghost use Rattle.run_model.specs.Texts.{Spells, answer_text};
+ghost use Rattle.run_model.specs.Transcripts.{error_text, line_feed};
+ghost use Rattle.argus_engine.specs.Serving.{Answers, BeginsAnswers, Writes};
+ghost use Rattle.argus_engine.specs.Reading.{GoesOn};
+
+use crate::reading::{Line, read_line};
+use crate::writing::{finish, send_if_full};
+use run_model::{Answer, Step};
+use std::alloc::{AllocError, AllocFailed, Global};
+use std::io::{BufReader, Read, Write};
+use thiserror::Error;
+use world::World;
+
+/// How the engine came to its end.
+#[derive(Clone, Copy, Debug, PartialEq, Eq, Drop)]
+pub enum Ended {
+    /// Every line was a step.
+    Done,
+    /// A line was no step, and its error is the last that was written.
+    Stopped,
+}
+
+/// Why the engine gave up.
+#[derive(Clone, Copy, Debug, PartialEq, Eq, Drop, Error)]
+pub enum Fault {
+    /// Memory ran out.
+    #[error("fault memory")]
+    Memory,
+    /// The store failed. No store stands below the engine yet, so this does not come.
+    #[error("fault store")]
+    Store,
+    /// A read failed.
+    #[error("fault input")]
+    Input,
+    /// A write or the last flush failed.
+    #[error("fault output")]
+    Output,
+}
+
+impl From<AllocError> for Fault {
+    fn from(_refused: AllocError) -> Fault {
+        Fault::Memory
+    }
+}
+
+impl<T: Drop> From<AllocFailed<T>> for Fault {
+    fn from(_refused: AllocFailed<T>) -> Fault {
+        Fault::Memory
+    }
+}
+
+/// What came of looking for one more line.
+#[derive(Clone, Copy, Drop)]
+pub(crate) enum Next {
+    Answered,
+    NoStep,
+    End,
+}
+
+/// Reads steps to the end or to the first line that is no step, makes each in the world, and writes the line of each
+/// answer, or `error` with the line's number, after which nothing more is written. A line is ended by a line feed and has
+/// at most 8,192 bytes before it. After a fault the world has made the steps up to where it came, and of the answers that
+/// belong to what was read a beginning was written.
+pub fn steps<R: Read, W: Write>(
+    alloc: Global,
+    world: &mut World,
+    reader: &mut R,
+    writer: &mut W,
+) -> Result<Ended, Fault>
+    ensures ok { IfOk result (λ ended. Writes (W.contents writer.old) (W.contents writer.new)
+        (λ written. Answers (R.remaining reader.old) world.old world.new written ended)) }
+    // also after a fault
+    ensures begun { Writes (W.contents writer.old) (W.contents writer.new)
+        (λ written. BeginsAnswers (R.remaining reader.old) world.old written) }
+    ensures setup { world.new.setup ≡ world.old.setup }
+{
+    let Ok(mut buffered) = BufReader::new(alloc, reader) else {
+        return Err(Fault::Memory);
+    };
+    let mut answers = String::new(alloc);
+    let ended = answer_all(alloc, world, &mut buffered, writer, &mut answers);
+    let finished = finish(writer, answers.as_str());
+    let ended = ended?;
+    finished?;
+    Ok(ended)
+}
+
+/// Answers line after line. Answers that are not yet written are left in the text, also after a fault.
+fn answer_all<R: Read, W: Write>(
+    alloc: Global,
+    world: &mut World,
+    reader: &mut R,
+    writer: &mut W,
+    answers: &mut String,
+) -> Result<Ended, Fault>
+    requires { string_bytes answers.old ≡ [] }
+    ensures ok { IfOk result (λ ended. Writes (W.contents writer.old) (W.contents writer.new)
+        (λ sent. Answers (R.remaining reader.old) world.old world.new (sent ++ string_bytes answers.new) ended)) }
+    ensures begun { Writes (W.contents writer.old) (W.contents writer.new)
+        (λ sent. BeginsAnswers (R.remaining reader.old) world.old (sent ++ string_bytes answers.new)) }
+    ensures setup { world.new.setup ≡ world.old.setup }
+{
+    let mut line = Vec::new(alloc);
+    for number in 1..u64::MAX {
+        match answer_next(alloc, world, reader, &mut line, answers)? {
+            Next::Answered => (),
+            Next::NoStep => {
+                push_error(alloc, number, answers)?;
+                return Ok(Ended::Stopped);
+            }
+            Next::End => return Ok(Ended::Done),
+        }
+        send_if_full(writer, answers)?;
+    }
+    Err(Fault::Input)
+}
+
+/// Reads one line, makes its step and appends the line of its answer. After a fault the text is as it was.
+#[tactic(auto, using(crate::proofs::Bytes::line_is_no_step))]
+fn answer_next<R: Read>(
+    alloc: Global,
+    world: &mut World,
+    reader: &mut R,
+    line: &mut Vec<u8>,
+    answers: &mut String,
+) -> Result<Next, Fault>
+    ensures ok { IfOk result (λ next. GoesOn (R.remaining reader.old) (R.remaining reader.new) world.old world.new
+        (string_bytes answers.old) (string_bytes answers.new) next) }
+    ensures err { OnErr result (string_bytes answers.new ≡ string_bytes answers.old) }
+    ensures setup { world.new.setup ≡ world.old.setup }
+{
+    match read_line(reader, line)? {
+        Line::Whole => match answer_line(alloc, world, line, answers)? {
+            true => Ok(Next::Answered),
+            false => Ok(Next::NoStep),
+        },
+        Line::Bad => Ok(Next::NoStep),
+        Line::Missing => Ok(Next::End),
+    }
+}
+
+/// Makes the step that the line spells and appends the line of its answer; `false` where the line spells no step. After a
+/// refusal of memory the text is as it was.
+fn answer_line(alloc: Global, world: &mut World, line: &[u8], answers: &mut String) -> Result<bool, AllocError>
+    ensures ok { IfOk result (λ is_step. MatchBool is_step
+        ((step : Step) × Spells line.now step × (world.new ≡ world_after world.old step (answer_of world.old.setup step world.old.past))
+        × (string_bytes answers.new ≡ string_bytes answers.old ++ (answer_text (answer_of world.old.setup step world.old.past) ++ line_feed ∷ [])))
+        (((step : Step) → Spells line.now step → ⊥) × (world.new ≡ world.old) × (string_bytes answers.new ≡ string_bytes answers.old))) }
+    ensures err { OnErr result (string_bytes answers.new ≡ string_bytes answers.old) }
+    ensures setup { world.new.setup ≡ world.old.setup }
+{
+    let Some(step) = Step::read(alloc, line)? else {
+        return Ok(false);
+    };
+    let answer = world.step(&step)?;
+    push_answer(alloc, &answer, answers)?;
+    Ok(true)
+}
+
+fn push_answer(alloc: Global, answer: &Answer, answers: &mut String) -> Result<(), AllocError>
+    ensures ok { OnOk result (string_bytes answers.new ≡ string_bytes answers.old ++ (answer_text answer.now ++ line_feed ∷ [])) }
+    ensures err { OnErr result (string_bytes answers.new ≡ string_bytes answers.old) }
+{
+    let mut line = answer.text(alloc)?;
+    line.push('\n')?;
+    answers.push_str(line.as_str())
+}
+
+fn push_error(alloc: Global, number: u64, answers: &mut String) -> Result<(), AllocError>
+    ensures ok { OnOk result (string_bytes answers.new ≡ string_bytes answers.old ++ error_text number) }
+    ensures err { OnErr result (string_bytes answers.new ≡ string_bytes answers.old) }
+{
+    let line = format!(in alloc; "error {number}\n")?;
+    answers.push_str(line.as_str())
+}
