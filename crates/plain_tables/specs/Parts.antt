@@ -1,5 +1,5 @@
 -- When each part of the tables says what a history says.
-use Rattle.std.specs.Prelude.{ℕ, ◌≡◌, ◌≤◌, ◌-◌, ◌+◌, ◌&&◌, Bool, List, [], ◌∷◌, ◌++◌, length, find, filter, reverse, slice_get, slice_index, Option, Some, None, IsTrue}
+use Rattle.std.specs.Prelude.{ℕ, ◌≡◌, ◌≤◌, ◌-◌, ◌+◌, ◌&&◌, ◌||◌, Bool, List, [], ◌∷◌, ◌++◌, length, find, filter, reverse, slice_index, slice_index_or, if◌then◌else◌, Option, Some, None, IsTrue}
 use Rattle.std.specs.FinMap as map
 use Rattle.std.specs.Ordering.{nat_cmp}
 use Rattle.action_names.specs.Names.{Name, same_name, has_name, is_top, parent_of}
@@ -73,12 +73,20 @@ pub record IsKnown (setup : Setup) (g : ℕ) (k : Known) (past : List Event) : T
 -- one entry for each guardian, in their order
 pub record AreLists (setup : Setup) (lists : List Known) (past : List Event) : Type 0 where
   pub count : length lists ≡ length setup
-  pub each : (g : ℕ) (k : Known) → IsGuardian setup g → slice_get lists (g - 1) ≡ Some k → IsKnown setup g k past
+  pub each : (g : ℕ) (d : Known) → IsGuardian setup g → IsKnown setup g (slice_index_or lists (g - 1) d) past
+
+-- the names and those that the event tells the guardian to have aborted
+abbrev pub AreToldToo : List Name → List Name → Event → List Event → ℕ → Type 0
+AreToldToo old new e past g = (b : Name) → has_name new b ≡ (has_name old b || (tells e past g b && is_aborted b past))
+
+-- the names of both
+abbrev pub AreBoth : List Name → List Name → List Name → Type 0
+AreBoth old others new = (b : Name) → has_name new b ≡ (has_name old b || has_name others b)
 
 -- the one guardian whose knowledge a step may change
 abbrev pub receiver_of : Step → List Event → Option ℕ
 receiver_of (Call a g) past = Some g
-receiver_of (Commit a) past = Some (home_of (parent_of a) past)
+receiver_of (Commit a) past = if is_top a then None else Some (home_of (parent_of a) past)
 receiver_of (Prepare g t) past = Some g
 receiver_of (Tell g a) past = Some g
 receiver_of (Crash g) past = Some g

@@ -8,6 +8,7 @@ use Rattle.plain_tables.specs.declared.keeping.KeptChange.{KeptChange}
 use Rattle.plain_tables.specs.declared.keeping.KeptChange.TheVariants.{Same, Granted, Left}
 use Rattle.plain_tables.specs.declared.tables.Tables.{Tables}
 use Rattle.plain_tables.specs.declared.tables.Changes.{Changes}
+use Rattle.plain_tables.specs.Changed.{kept_after, lists_after}
 use Rattle.plain_tables.specs.Parts.{AreDependencies, kept_of, AreLists}
 
 -- the tables say what the definitions say of this history
@@ -15,17 +16,6 @@ pub record IsTables (setup : Setup) (tables : Tables) (past : List Event) : Type
   pub dependencies : AreDependencies tables.dependencies.items past
   pub kept : tables.kept.items ≡ kept_of past
   pub lists : AreLists setup tables.lists.items past
-
--- the kept operations after the change
-abbrev pub kept_after : List Performed → KeptChange → List Performed
-kept_after os Same = os
-kept_after os (Granted o) = os ++ o ∷ []
-kept_after os (Left left) = left.items
-
--- the guardians' lists after the change of one of them
-abbrev pub lists_after : List Known → Option (ℕ × Known) → List Known
-lists_after lists None = lists
-lists_after lists (Some (g, k)) = slice_set lists (g - 1) k
 
 -- With the changes the tables are those of this history, and there is room for them.
 pub record AreChanges (setup : Setup) (tables : Tables) (changes : Changes) (past : List Event) : Type 0 where

@@ -95,6 +95,15 @@ fn rows_begun(
     Ok(added)
 }
 
+fn inherited(alloc: Global, rows: &[Row], name: &Name) -> Result<Deps, AllocError>
+    ensures { IfOk result (λ deps. (g : ℕ) → map.get deps g ≡ inherited (is_top name.now) name.now (λ b. least_in rows.now b g)) }
+{
+    match name.parent()? {
+        Some(parent) => deps_of(alloc, rows, &parent),
+        None => Ok(Deps::new(alloc)),
+    }
+}
+
 fn row_begun(
     alloc: Global,
     rows: &[Row],
@@ -104,10 +113,7 @@ fn row_begun(
 ) -> Result<Row, AllocError>
     ensures { IfOk result (λ row. IsRowBegun rows.now name.now home present row) }
 {
-    let mut deps = match name.parent()? {
-        Some(parent) => deps_of(alloc, rows, &parent)?,
-        None => Deps::new(alloc),
-    };
+    let mut deps = inherited(alloc, rows, name)?;
     deps.lower(home, present)?;
     Ok(Row {
         action: name.copy()?,

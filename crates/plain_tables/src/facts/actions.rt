@@ -3,7 +3,7 @@ ghost use Rattle.action_names.specs.Names.{ancestors};
 ghost use Rattle.run_model.specs.Actions.{home_of, crashes, is_aborted};
 
 use run_model::{History, Name, Names};
-use std::alloc::AllocError;
+use std::alloc::{AllocError, Global};
 
 pub fn is_aborted(history: &History, action: &Name) -> bool
     ensures { result ≡ is_aborted action.now history.now }
@@ -23,7 +23,7 @@ pub fn home_of(history: &History, action: &Name) -> u32
     0
 }
 
-pub fn ancestors(action: &Name) -> Result<Names, AllocError>
+pub fn ancestors(alloc: Global, action: &Name) -> Result<Names, AllocError>
     ensures { IfOk result (λ names. names ≡ ancestors action.now) }
 {
     Err(AllocError)
