@@ -1,11 +1,12 @@
 -- Kept operations after an event.
-use Rattle.std.proofs.Common.{Bool, List, [], ap, append-nil, arith, cond, false, filter, length, not, refl, reverse, subst, suc, sym, true, ℕ, ◌&&◌, ◌||◌, ◌++◌, ◌<◌, ◌==◌, ◌∙◌, ◌∷◌, ◌≡◌, ◌≤◌}
+use Rattle.std.proofs.Common.{Bool, List, [], ap, append-nil, arith, cond, false, filter, get_or, length, not, refl, reverse, subst, suc, sym, true, ℕ, ◌&&◌, ◌||◌, ◌++◌, ◌<◌, ◌==◌, ◌∙◌, ◌∷◌, ◌≡◌, ◌≢◌, ◌≤◌}
+use Rattle.std.proofs.Math.Bool.{or-false}
 use Rattle.std.proofs.lemmas.Bool.{false_from_ne_true}
 use Rattle.std.proofs.Common.{eqb-true}
 use Rattle.std.proofs.lemmas.List.{reverse-append}
 use Rattle.std.proofs.lemmas.List.Elements.{filter-append}
 use Rattle.std.specs.List.{list_any}
-use Rattle.action_names.specs.Names.{Name, ancestors}
+use Rattle.action_names.specs.Names.{Name, ancestors, top_of}
 use Rattle.atomic_types.specs.declared.op.Op as op
 use Rattle.atomic_types.specs.declared.op.Reply.{Reply}
 use Rattle.run_model.specs.declared.answer.Answer.{Answer}
@@ -19,7 +20,7 @@ use Rattle.run_model.specs.Keeping.{Performed, is_kept, outlives_crash, performe
 use Rattle.run_model.specs.Telling.{step_tells, tells, told_since_crash}
 use Rattle.run_laws.proofs.Each.{Each}
 use Rattle.run_laws.proofs.Names.{eqb_self}
-use Rattle.plain_tables.specs.Parts.{kept_of}
+use Rattle.plain_tables.specs.Parts.{kept_of, may_undo}
 
 -- the operations that an event does not undo
 abbrev pub left_by : Event → List Event → List Performed → List Performed
@@ -140,20 +141,86 @@ pub nothing_granted : (step : Step) (answer : Answer) (n : ℕ) → ((a : Name) 
 nothing_granted (Op a x o) answer n other = absurd (other a x o refl)
 nothing_granted _ answer n other = refl
 
--- an operation undoes nothing
-pub operation_undoes_nothing : (step : Step) (a : Name) (x : ObjectId) (o : op.Op) → step ≡ Op a x o → UndoesNothing step
-operation_undoes_nothing step a x o q =
-    subst (λ s. UndoesNothing s) (sym q) (nothing_told (λ g b told ended. refl) (λ g. refl))
-
--- nor does any other step that neither tells nor crashes
-pub others_undo_nothing : (step : Step) → ((g : ℕ) (t : Name) → step ≡ Prepare g t → ⊥) → ((g : ℕ) (a : Name) → step ≡ Tell g a → ⊥)
-    → ((g : ℕ) → step ≡ Crash g → ⊥) → UndoesNothing step
-others_undo_nothing (Prepare g t) p q r = absurd (p g t refl)
-others_undo_nothing (Tell g a) p q r = absurd (q g a refl)
-others_undo_nothing (Crash g) p q r = absurd (r g refl)
-others_undo_nothing _ p q r = nothing_told (λ g b told ended. refl) (λ g. refl)
-
 -- an answer that is no grant grants nothing
 pub ungranted : (step : Step) (answer : Answer) (n : ℕ) → ((r : Reply) → answer ≡ Granted r → ⊥) → performed_by n step answer ≡ []
 ungranted (Op a x o) (Granted r) n other = absurd (other r refl)
 ungranted _ _ n other = refl
+
+-- a step that neither tells nor crashes undoes nothing
+pub others_undo_nothing : (step : Step) → may_undo step ≡ false → UndoesNothing step
+others_undo_nothing (Prepare g t) h = cc
+others_undo_nothing (Tell g a) h = cc
+others_undo_nothing (Crash g) h = cc
+others_undo_nothing _ h = nothing_told (λ g b told ended. refl) (λ g. refl)
+
+-- what is kept after an operation
+pub kept_performed : (e : Event) (past : List Event) (a : Name) (x : ObjectId) (wanted : op.Op) → e.step ≡ Op a x wanted
+    → kept_of past ++ performed_by (suc (length past)) (Op a x wanted) e.answer ≡ kept_of (e ∷ past)
+kept_performed e past a x wanted q = of e.answer refl
+  where
+    unmoved : UndoesNothing e.step
+    unmoved = subst (λ s. UndoesNothing s) (sym q) (nothing_told (λ g b told ended. refl) (λ g. refl))
+
+    none : (answer : Answer) → e.answer ≡ answer → performed_by (suc (length past)) (Op a x wanted) answer ≡ []
+        → kept_of past ++ performed_by (suc (length past)) (Op a x wanted) answer ≡ kept_of (e ∷ past)
+    none answer k n =
+        ap (λ os. kept_of past ++ os) n ∙ append-nil (kept_of past)
+        ∙ kept_same e past (ap (λ s. performed_by (suc (length past)) s e.answer) q
+        ∙ ap (λ y. performed_by (suc (length past)) (Op a x wanted) y) k ∙ n) unmoved
+
+    of : (answer : Answer) → e.answer ≡ answer
+        → kept_of past ++ performed_by (suc (length past)) (Op a x wanted) answer ≡ kept_of (e ∷ past)
+    of (Granted r) k = kept_granted e past a x wanted r q k
+    of answer k = none answer k refl
+
+-- what a crash undoes
+undoes_by_crash : (e : Event) (past : List Event) (o : Performed) (h : ℕ) → e.step ≡ Crash h
+    → undoes e past o ≡ ((h == o.object.guardian) && not (outlives_crash o past))
+undoes_by_crash e past o h q =
+    ap (λ t. t || (step_crashes e.step o.object.guardian && not (outlives_crash o past)))
+    (none_passes (λ c. tells e past o.object.guardian c && is_aborted c past) untold (ancestors o.action))
+    ∙ ap (λ s. step_crashes s o.object.guardian && not (outlives_crash o past)) q
+  where
+    untold : (c : Name) → (tells e past o.object.guardian c && is_aborted c past) ≡ false
+    untold c =
+        ap (λ s. step_tells s o.object.guardian c (told_since_crash o.object.guardian c past) (is_ended c past) && is_aborted c past) q
+
+-- a crash of another guardian undoes nothing of an operation
+pub crash_elsewhere : (e : Event) (past : List Event) (o : Performed) (h g : ℕ) → e.step ≡ Crash h → g ≡ o.object.guardian → h ≢ g
+    → false ≡ undoes e past o
+crash_elsewhere e past o h g q k n =
+    sym (undoes_by_crash e past o h q
+    ∙ ap (λ t. t && not (outlives_crash o past)) (false_from_ne_true _ (λ p. n (eqb-true h o.object.guardian p ∙ sym k))))
+
+-- that of its own guardian undoes it unless it outlives that
+pub crash_here : (e : Event) (past : List Event) (o : Performed) (h g : ℕ) → e.step ≡ Crash h → g ≡ o.object.guardian → h ≡ g
+    → not (outlives_crash o past) ≡ undoes e past o
+crash_here e past o h g q k n =
+    sym (undoes_by_crash e past o h q
+    ∙ ap (λ t. t && not (outlives_crash o past)) (ap (λ x. x == o.object.guardian) (n ∙ k) ∙ eqb_self o.object.guardian))
+
+-- what any other step undoes
+pub undoes_by_telling : (e : Event) (past : List Event) (o : Performed) (g : ℕ) (names : List Name) → ((h : ℕ) → e.step ≡ Crash h → ⊥)
+    → g ≡ o.object.guardian → names ≡ ancestors o.action
+    → list_any (λ c. tells e past g c && is_aborted c past) names ≡ undoes e past o
+undoes_by_telling e past o g names other k q =
+    ap (λ ns. list_any (λ c. tells e past g c && is_aborted c past) ns) q
+    ∙ ap (λ x. list_any (λ c. tells e past x c && is_aborted c past) (ancestors o.action)) k
+    ∙ sym (ap (λ t. told || (t && not (outlives_crash o past))) (of e.step other) ∙ or-false told)
+  where
+    told : Bool
+    told = list_any (λ c. tells e past o.object.guardian c && is_aborted c past) (ancestors o.action)
+
+    of : (step : Step) → ((h : ℕ) → step ≡ Crash h → ⊥) → step_crashes step o.object.guardian ≡ false
+    of (Crash h) n = absurd (n h refl)
+    of _ n = refl
+
+-- the outermost of a name's ancestors is its top action
+pub first_ancestor : (a b : Name) → 1 ≤ length a → b ≡ get_or (ancestors a) 0 b → b ≡ top_of a
+first_ancestor [] b h q = absurd (omega arith)
+first_ancestor (n ∷ a) b h q = q
+
+-- and there is one
+pub some_ancestor : (a : Name) → 1 ≤ length a → 0 < length (ancestors a)
+some_ancestor [] h = absurd (omega arith)
+some_ancestor (n ∷ a) h = omega arith

@@ -1,5 +1,5 @@
 -- When each part of the tables says what a history says.
-use Rattle.std.specs.Prelude.{ℕ, ◌≡◌, ◌≤◌, ◌-◌, ◌+◌, ◌&&◌, ◌||◌, Bool, List, [], ◌∷◌, ◌++◌, length, find, filter, reverse, slice_index, slice_index_or, if◌then◌else◌, Option, Some, None, IsTrue}
+use Rattle.std.specs.Prelude.{ℕ, ◌≡◌, ◌≤◌, ◌-◌, ◌+◌, ◌&&◌, ◌||◌, Bool, true, false, List, [], ◌∷◌, ◌++◌, length, find, filter, reverse, slice_index, slice_index_or, if◌then◌else◌, Option, Some, None, IsTrue}
 use Rattle.std.specs.FinMap as map
 use Rattle.std.specs.Ordering.{nat_cmp}
 use Rattle.action_names.specs.Names.{Name, same_name, has_name, is_top, parent_of}
@@ -60,6 +60,13 @@ AreRowsOfCommit rows c (r ∷ s ∷ more) = ⊥
 -- the kept operations, the oldest first
 abbrev pub kept_of : List Event → List Performed
 kept_of past = reverse (filter (λ o. is_kept o past) (performed past))
+
+-- only a step that tells or crashes undoes operations
+abbrev pub may_undo : Step → Bool
+may_undo (Prepare g t) = true
+may_undo (Tell g a) = true
+may_undo (Crash g) = true
+may_undo _ = false
 
 -- how many crashes of h are counted
 abbrev pub counted : List ℕ → ℕ → ℕ

@@ -11,7 +11,7 @@ ghost use Rattle.run_model.specs.Replay.{Setup};
 ghost use Rattle.run_model.specs.Runs.{IsRun};
 ghost use Rattle.plain_tables.specs.Parts.{newest_row, least_in, AreDependencies, AreNewRows, IsRowBegun, AreRowsBegun, AreRowsOfCommit};
 
-use crate::facts::actions;
+use plain_facts::actions;
 use run_model::{Answer, Deps, Event, History, Name, Names, Setup, Step};
 use std::alloc::{AllocError, Global};
 

@@ -1,14 +1,14 @@
 //! Granted operations, and which of them are kept.
-ghost use Rattle.std.specs.Prelude.{◌≡◌, ◌∷◌, [], reverse, filter, not, IfOk, ◌++◌, ◌&&◌};
+ghost use Rattle.std.specs.Prelude.{◌≡◌, List, suc, length, ◌∷◌, [], reverse, filter, not, IfOk, ◌++◌, ◌&&◌};
 ghost use Rattle.std.specs.List.{list_any};
 ghost use Rattle.action_names.specs.Names.{ancestors};
 ghost use Rattle.run_model.specs.Actions.{is_aborted};
-ghost use Rattle.run_model.specs.Keeping.{Performed, undoes, outlives_crash};
+ghost use Rattle.run_model.specs.Keeping.{Performed, performed_by, undoes, outlives_crash};
 ghost use Rattle.run_model.specs.Telling.{tells};
-ghost use Rattle.plain_tables.specs.Parts.{kept_of};
+ghost use Rattle.plain_tables.specs.Parts.{kept_of, may_undo};
 ghost use Rattle.plain_tables.specs.Changed.{kept_after};
 
-use crate::facts::{actions, telling};
+use plain_facts::{actions, telling};
 use run_model::{Answer, Class, Event, History, Name, ObjectId, Op, Reply, Step};
 use std::alloc::{AllocError, Global};
 use std::marker::Model;
@@ -99,23 +99,47 @@ pub fn kept_change(
     requires { kept.now ≡ kept_of history.now }
     ensures { IfOk result (λ change. kept_after kept.now change ≡ kept_of (event.now ∷ history.now)) }
 {
-    match (&event.step, &event.answer) {
-        (Step::Op(action, object, operation), Answer::Granted(reply)) => {
-            let number = history.events().len() as u64 + 1;
-            Ok(KeptChange::Granted(Performed {
-                number,
-                action: action.copy()?,
-                object: *object,
-                operation: operation.copy()?,
-                reply: reply.copy()?,
-            }))
-        }
-        (Step::Op(_, _, _), _) => Ok(KeptChange::Same),
-        (Step::Prepare(_, _) | Step::Tell(_, _) | Step::Crash(_), _) => Ok(KeptChange::Left(left(
-            alloc, kept, history, event,
-        )?)),
-        _ => Ok(KeptChange::Same),
+    if let Step::Op(action, object, operation) = &event.step {
+        return granted(history, action, *object, operation, &event.answer);
     }
+    if may_undo(&event.step) {
+        return Ok(KeptChange::Left(left(alloc, kept, history, event)?));
+    }
+    Ok(KeptChange::Same)
+}
+
+// The operation is kept, if it is granted.
+fn granted(
+    history: &History,
+    action: &Name,
+    object: ObjectId,
+    operation: &Op,
+    answer: &Answer,
+) -> Result<KeptChange, AllocError>
+    ensures { IfOk result (λ change. (os : List Performed) →
+        kept_after os change ≡ os ++ performed_by (suc (length history.now)) (Step.Op action.now object operation.now) answer.now) }
+{
+    let Answer::Granted(reply) = answer else {
+        return Ok(KeptChange::Same);
+    };
+    let number = history.events().len() as u64 + 1;
+    Ok(KeptChange::Granted(Performed {
+        number,
+        action: action.copy()?,
+        object,
+        operation: operation.copy()?,
+        reply: reply.copy()?,
+    }))
+}
+
+// Whether such a step may undo operations.
+fn may_undo(step: &Step) -> bool
+    ensures { result ≡ may_undo step.now }
+{
+    matches!(
+        step,
+        Step::Prepare(_, _) | Step::Tell(_, _) | Step::Crash(_)
+    )
 }
 
 // Copies of the operations that the event does not undo.
@@ -145,12 +169,13 @@ fn undoes(
     ensures { IfOk result (λ undone. undone ≡ undoes event.now history.now operation.now) }
 {
     let above = actions::ancestors(alloc, &operation.action)?;
-    let guardian = operation.object.guardian;
-    Ok(match event.step {
-        Step::Crash(crashed) => crashed == guardian
-            && !outlives_crash(history, operation, above.as_slice()),
-        _ => is_told_aborted(event, history, guardian, above.as_slice()),
-    })
+    if let Step::Crash(crashed) = event.step {
+        if crashed != operation.object.guardian {
+            return Ok(false);
+        }
+        return Ok(!outlives_crash(history, operation, above.as_slice()));
+    }
+    Ok(is_told_aborted(event, history, operation.object.guardian, above.as_slice()))
 }
 
 // Whether the event tells the guardian that one of the actions aborted.
@@ -161,21 +186,20 @@ fn is_told_aborted(event: &Event, history: &History, guardian: u32, names: &[Nam
         && actions::is_aborted(history, name))
 }
 
-// Whether a crash leaves the operation, of which these are the action's ancestors.
+// Whether a crash leaves the operation, of which these are the action's ancestors, the outermost first.
 fn outlives_crash(history: &History, operation: &Performed, above: &[Name]) -> bool
     requires { above.now ≡ ancestors operation.now.action }
     ensures { result ≡ outlives_crash operation.now history.now }
 {
-    match above.first() {
-        Some(top) => match operation.operation.class() {
-            Class::Read => false,
-            Class::Write => telling::prepared_after(
-                history,
-                operation.number,
-                operation.object.guardian,
-                top,
-            ),
-        },
-        None => false,
+    prove!(operation.action.depth() > 0);
+    let top = &above[0];
+    match operation.operation.class() {
+        Class::Read => false,
+        Class::Write => telling::prepared_after(
+            history,
+            operation.number,
+            operation.object.guardian,
+            top,
+        ),
     }
 }

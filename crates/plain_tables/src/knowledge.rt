@@ -6,7 +6,7 @@ ghost use Rattle.run_model.specs.Runs.{IsRun};
 ghost use Rattle.plain_tables.specs.Parts.{IsGuardian, IsKnown, AreLists, AreToldToo, AreBoth, counted, receiver_of};
 ghost use Rattle.plain_tables.specs.Changed.{lists_after};
 
-use crate::facts::{actions, telling};
+use plain_facts::{actions, telling};
 use run_model::{Event, History, Name, Names, Setup, Step};
 use std::alloc::{AllocError, Global};
 
@@ -57,7 +57,13 @@ impl Known {
 }
 
 /// The one guardian who learns from the event, if any, and what it knows then.
-pub fn knowledge_change(alloc: Global, lists: &[Known], setup: &Setup, history: &History, event: &Event) -> Result<Option<(u32, Known)>, AllocError>
+pub fn knowledge_change(
+    alloc: Global,
+    lists: &[Known],
+    setup: &Setup,
+    history: &History,
+    event: &Event,
+) -> Result<Option<(u32, Known)>, AllocError>
     requires lists { AreLists setup.now lists.now history.now }
     requires run { IsRun setup.now (event.now ∷ history.now) }
     ensures { IfOk result (λ change. AreLists setup.now (lists_after lists.now change) (event.now ∷ history.now)) }
@@ -76,22 +82,32 @@ fn receiver_of(history: &History, step: &Step) -> Result<Option<u32>, AllocError
     ensures { IfOk result (λ receiver. receiver ≡ receiver_of step.now history.now) }
 {
     Ok(match step {
-        Step::Call(_, guardian) | Step::Prepare(guardian, _) | Step::Tell(guardian, _) | Step::Crash(guardian) => Some(*guardian),
-        Step::Commit(action) => action.parent()?.map(|parent| actions::home_of(history, &parent)),
+        Step::Call(_, guardian)
+        | Step::Prepare(guardian, _)
+        | Step::Tell(guardian, _)
+        | Step::Crash(guardian) => Some(*guardian),
+        Step::Commit(action) => action
+            .parent()?
+            .map(|parent| actions::home_of(history, &parent)),
         _ => None,
     })
 }
 
 // A crash loses all but the number of the guardian's own crashes, now one more.
-fn known_after_crash(alloc: Global, setup: &Setup, history: &History, event: &Event, crashed: u32) -> Result<Known, AllocError>
+fn known_after_crash(
+    alloc: Global,
+    setup: &Setup,
+    history: &History,
+    event: &Event,
+    crashed: u32,
+) -> Result<Known, AllocError>
     requires run { IsRun setup.now (event.now ∷ history.now) }
+    requires guardian { IsGuardian setup.now crashed }
     requires crash { step_crashes event.now.step crashed ≡ true }
     ensures { IfOk result (λ known. IsKnown setup.now crashed known (event.now ∷ history.now)) }
 {
-    let mut crashes = Vec::with_capacity(alloc, crashed as usize)?;
-    for _other in 1..crashed {
-        crashes.push(0)?;
-    }
+    prove!(history.events().len() < usize::MAX);
+    let mut crashes = vec![in alloc; 0; crashed as usize - 1]?;
     crashes.push(actions::crashes(history, crashed) + 1)?;
     Ok(Known {
         aborts: Names::new(alloc),
@@ -100,7 +116,14 @@ fn known_after_crash(alloc: Global, setup: &Setup, history: &History, event: &Ev
 }
 
 // The receiver learns of aborts that the event tells, and what the sender of lists knows.
-fn known_after_news(alloc: Global, lists: &[Known], setup: &Setup, history: &History, event: &Event, receiver: u32) -> Result<Known, AllocError>
+fn known_after_news(
+    alloc: Global,
+    lists: &[Known],
+    setup: &Setup,
+    history: &History,
+    event: &Event,
+    receiver: u32,
+) -> Result<Known, AllocError>
     requires lists { AreLists setup.now lists.now history.now }
     requires run { IsRun setup.now (event.now ∷ history.now) }
     requires guardian { IsGuardian setup.now receiver }
@@ -113,7 +136,7 @@ fn known_after_news(alloc: Global, lists: &[Known], setup: &Setup, history: &His
     let Some(sender) = telling::carried_from(event, history, receiver)? else {
         return Ok(Known {
             aborts,
-            crashes: own.crashes.clone()?,
+            crashes: Vec::from_slice(alloc, &own.crashes)?,
         });
     };
     let sender = known_by(lists, sender);
@@ -125,7 +148,12 @@ fn known_after_news(alloc: Global, lists: &[Known], setup: &Setup, history: &His
 }
 
 // Adds the actions of which the event tells the guardian that they aborted.
-fn learn_told(aborts: &mut Names, history: &History, event: &Event, guardian: u32) -> Result<(), AllocError>
+fn learn_told(
+    aborts: &mut Names,
+    history: &History,
+    event: &Event,
+    guardian: u32,
+) -> Result<(), AllocError>
     ensures { OnOk result (AreToldToo aborts.old aborts.new event.now history.now guardian) }
 {
     for earlier in history.events() {
@@ -158,7 +186,12 @@ fn learn(names: &mut Names, name: &Name) -> Result<(), AllocError>
 }
 
 // The greater of the two numbers of each guardian.
-fn greater_counts(alloc: Global, guardians: usize, own: &[u64], others: &[u64]) -> Result<Vec<u64>, AllocError>
+fn greater_counts(
+    alloc: Global,
+    guardians: usize,
+    own: &[u64],
+    others: &[u64],
+) -> Result<Vec<u64>, AllocError>
     ensures { IfOk result (λ counts. (k : ℕ) → k < guardians → slice_index counts.items k ≡ max (slice_index own.now k) (slice_index others.now k)) }
 {
     let mut counts = Vec::with_capacity(alloc, guardians)?;

@@ -6,7 +6,6 @@
 #![tactic(auto)]
 
 mod dependencies;
-mod facts;
 mod keeping;
 mod knowledge;
 mod tables;

@@ -1,2 +1,0 @@
-pub mod actions;
-pub mod telling;
