@@ -1,16 +1,17 @@
 -- What guardians know after an event.
 use Rattle.std.proofs.Common.{Bool, List, None, Option, Some, [], ap, arith, cond, eqb-true, false, filter, get_or, length, max, not, refl, replicate, reverse, set, subst, suc, sym, take, true, zero, ℕ, ◌&&◌, ◌++◌, ◌+◌, ◌-◌, ◌<◌, ◌==◌, ◌∙◌, ◌∷◌, ◌≡◌, ◌≢◌, ◌≤◌, ◌||◌}
 use Rattle.std.proofs.Math.Bool.{or-false, or_assoc}
-use Rattle.std.proofs.lemmas.Bool.{false_from_ne_true}
+use Rattle.std.proofs.lemmas.Bool.{eqb-false, false_from_ne_true}
 use Rattle.std.proofs.lemmas.List.{get_or-set_other, get_or-set_same, length-set, reverse-append, take_more}
 use Rattle.std.proofs.lemmas.List.Folds.{list_any-append}
 use Rattle.std.specs.List.{list_any}
-use Rattle.action_names.specs.Names.{Name, has_name, is_proper_ancestor, is_top, parent_of, same_name}
+use Rattle.action_names.specs.Names.{Name, ancestors, has_name, is_proper_ancestor, is_top, parent_of, same_name}
 use Rattle.run_model.specs.declared.history.Event.{Event}
 use Rattle.run_model.specs.declared.step.Step.{Step}
 use Rattle.run_model.specs.declared.step.Step.TheVariants.{Abort, Call, Commit, Crash, Prepare, Tell}
 use Rattle.run_model.specs.Actions.{crashes, home_of, is_aborted, is_down, is_ended, step_aborts, step_crashes}
-use Rattle.run_model.specs.Lists.{carried_from, from_sender, greater_of_sender, known_crashes, knows_abort}
+use Rattle.run_model.specs.Lists.{carried_from, down_from, from_sender, greater_of_sender, guardians_of, is_below, is_known_orphan, known_crashes, knows_abort, up_to}
+use Rattle.run_model.specs.Dependencies.{dependency}
 use Rattle.run_model.specs.Refusals.{checks}
 use Rattle.run_model.specs.Replay.{Setup}
 use Rattle.run_model.specs.Runs.{IsRun}
@@ -20,9 +21,10 @@ use Rattle.run_laws.proofs.Each.{Each}
 use Rattle.run_laws.proofs.Homes.{crashes_next}
 use Rattle.run_laws.proofs.Known.{known_count}
 use Rattle.run_laws.proofs.Names.{clash, eqb_self, has_name_append, same_name_self, same_name_true}
+use Rattle.plain_tables.specs.declared.dependencies.Row.{Row}
 use Rattle.plain_tables.specs.declared.knowledge.Known.{Known}
 use Rattle.plain_tables.specs.Changed.{lists_after}
-use Rattle.plain_tables.specs.Parts.{AreBoth, AreLists, AreToldToo, IsGuardian, IsKnown, counted, receiver_of}
+use Rattle.plain_tables.specs.Parts.{AreBoth, AreDependencies, AreLists, AreToldToo, IsGuardian, IsKnown, counted, least_in, receiver_of}
 
 -- two numbers that differ
 differ : (h g : ℕ) → (h ≡ g → ⊥) → (h == g) ≡ false
@@ -408,3 +410,62 @@ known_at setup past lists g k h there q = subst (λ x. IsKnown setup g x past) (
 pub no_crash : (step : Step) (g : ℕ) → ((h : ℕ) → step ≡ Crash h → ⊥) → step_crashes step g ≡ false
 no_crash (Crash h) g n = absurd (n h refl)
 no_crash _ g n = refl
+
+-- tests that agree
+pub any_agrees : (p q : Name → Bool) → ((c : Name) → p c ≡ q c) → (names : List Name) → list_any p names ≡ list_any q names
+any_agrees p q h [] = refl
+any_agrees p q h (c ∷ names) = ap (λ t. t || list_any p names) (h c) ∙ ap (λ t. q c || t) (any_agrees p q h names)
+
+-- one guardian more
+any_next : (p : ℕ → Bool) (n : ℕ) → list_any p (up_to (suc n)) ≡ (list_any p (up_to n) || p (suc n))
+any_next p n =
+    ap (λ xs. list_any p xs) (reverse-append (suc n ∷ []) (down_from n))
+    ∙ list_any-append p (up_to n) (suc n ∷ [])
+    ∙ ap (λ t. list_any p (up_to n) || t) (or-false (p (suc n)))
+
+-- tests that agree on guardians
+pub any_agrees_up_to : (p q : ℕ → Bool) (n : ℕ) → ((h : ℕ) → 1 ≤ h → h ≤ n → p h ≡ q h) → list_any p (up_to n) ≡ list_any q (up_to n)
+any_agrees_up_to p q zero h = refl
+any_agrees_up_to p q (suc n) h =
+    any_next p n
+    ∙ ap (λ t. t || p (suc n)) (any_agrees_up_to p q n (λ g low high. h g low (omega arith)))
+    ∙ ap (λ t. list_any q (up_to n) || t) (h (suc n) (omega arith) (omega arith))
+    ∙ sym (any_next q n)
+
+-- none of one guardian more
+pub none_next : (p : ℕ → Bool) (n : ℕ) → list_any p (up_to n) ≡ false → p (n + 1) ≡ false → list_any p (up_to (n + 1)) ≡ false
+none_next p n h k =
+    let e : n + 1 ≡ suc n = omega arith in
+    ap (λ m. list_any p (up_to m)) e ∙ any_next p n ∙ ap (λ t. t || p (suc n)) h ∙ ap (λ m. p m) (sym e) ∙ k
+
+-- one of them
+pub any_within : (p : ℕ → Bool) (n i : ℕ) → i < n → p (i + 1) ≡ true → list_any p (up_to n) ≡ true
+any_within p zero i lt h = absurd (omega arith)
+any_within p (suc n) i lt h = any_next p n ∙ of (i == n) refl
+  where
+    or-true : (t : Bool) → (t || true) ≡ true
+    or-true true = refl
+    or-true false = refl
+
+    smaller : (i == n) ≡ false → i < n
+    smaller q = let d = eqb-false i n q in omega arith
+
+    of : (t : Bool) → (i == n) ≡ t → (list_any p (up_to n) || p (suc n)) ≡ true
+    of true q =
+        let e : suc n ≡ i + 1 = let k = eqb-true i n q in omega arith in
+        ap (λ t. list_any p (up_to n) || t) (ap (λ m. p m) e ∙ h) ∙ or-true (list_any p (up_to n))
+    of false q = ap (λ t. t || p (suc n)) (any_within p n i (smaller q) h)
+
+-- what is known of an orphan, by the tables
+pub known_orphan : (setup : Setup) (past : List Event) (rows : List Row) (g : ℕ) (k : Known) (a : Name) → AreDependencies rows past
+    → IsKnown setup g k past
+    → (list_any (λ c. has_name k.aborts c) (ancestors a)
+    || list_any (λ h. is_below (least_in rows a h) (counted k.crashes.items h)) (guardians_of setup)) ≡ is_known_orphan setup a g past
+known_orphan setup past rows g k a rows_said known =
+    ap (λ t. t || list_any (λ h. is_below (least_in rows a h) (counted k.crashes.items h)) (guardians_of setup))
+    (any_agrees (λ c. has_name k.aborts c) (λ c. knows_abort g c past) known.aborts (ancestors a))
+    ∙ ap (λ t. list_any (λ c. knows_abort g c past) (ancestors a) || t)
+    (any_agrees_up_to (λ h. is_below (least_in rows a h) (counted k.crashes.items h))
+    (λ h. is_below (dependency a h past) (known_crashes g h past)) (length setup)
+    (λ h low high. ap (λ d. is_below d (counted k.crashes.items h)) (rows_said a h)
+    ∙ ap (λ n. is_below (dependency a h past) n) (known.counts h (low, high))))

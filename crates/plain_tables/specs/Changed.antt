@@ -4,6 +4,8 @@ use Rattle.run_model.specs.Keeping.{Performed}
 use Rattle.plain_tables.specs.declared.knowledge.Known.{Known}
 use Rattle.plain_tables.specs.declared.keeping.KeptChange.{KeptChange}
 use Rattle.plain_tables.specs.declared.keeping.KeptChange.TheVariants.{Same, Granted, Left}
+use Rattle.run_model.specs.Replay.{Setup}
+use Rattle.plain_tables.specs.Parts.{IsGuardian}
 
 -- the kept operations after the change
 abbrev pub kept_after : List Performed → KeptChange → List Performed
@@ -15,3 +17,8 @@ kept_after os (Left left) = left.items
 abbrev pub lists_after : List Known → Option (ℕ × Known) → List Known
 lists_after lists None = lists
 lists_after lists (Some (g, k)) = slice_set lists (g - 1) k
+
+-- whoever learns is a guardian of the setup
+abbrev pub IsReceiver : Setup → Option (ℕ × Known) → Type 0
+IsReceiver setup None = Unit {0}
+IsReceiver setup (Some (g, k)) = IsGuardian setup g

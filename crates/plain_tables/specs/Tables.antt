@@ -8,7 +8,7 @@ use Rattle.plain_tables.specs.declared.keeping.KeptChange.{KeptChange}
 use Rattle.plain_tables.specs.declared.keeping.KeptChange.TheVariants.{Same, Granted, Left}
 use Rattle.plain_tables.specs.declared.tables.Tables.{Tables}
 use Rattle.plain_tables.specs.declared.tables.Changes.{Changes}
-use Rattle.plain_tables.specs.Changed.{kept_after, lists_after}
+use Rattle.plain_tables.specs.Changed.{IsReceiver, kept_after, lists_after}
 use Rattle.plain_tables.specs.Parts.{AreDependencies, kept_of, AreLists}
 
 -- the tables say what the definitions say of this history
@@ -22,5 +22,6 @@ pub record AreChanges (setup : Setup) (tables : Tables) (changes : Changes) (pas
   pub dependencies : AreDependencies (tables.dependencies.items ++ changes.dependencies.items) past
   pub kept : kept_after tables.kept.items changes.kept ≡ kept_of past
   pub lists : AreLists setup (lists_after tables.lists.items changes.lists) past
+  pub receiver : IsReceiver setup changes.lists
   pub room : vec_len tables.dependencies + vec_len changes.dependencies ≤ vec_capacity tables.dependencies
   pub room_to_keep : vec_len tables.kept < vec_capacity tables.kept

@@ -1,10 +1,11 @@
 //! What guardians know of aborts and crashes.
 ghost use Rattle.std.specs.Prelude.{◌≡◌, ◌∷◌, [], ◌-◌, ◌≤◌, ◌<◌, ◌||◌, ℕ, true, false, max, length, slice_index, slice_index_or, IfOk, OnOk, Some};
+ghost use Rattle.std.specs.List.{list_any};
 ghost use Rattle.action_names.specs.Names.{Name, has_name, same_name};
 ghost use Rattle.run_model.specs.Actions.{step_crashes};
 ghost use Rattle.run_model.specs.Runs.{IsRun};
 ghost use Rattle.plain_tables.specs.Parts.{IsGuardian, IsKnown, AreLists, AreToldToo, AreBoth, counted, receiver_of};
-ghost use Rattle.plain_tables.specs.Changed.{lists_after};
+ghost use Rattle.plain_tables.specs.Changed.{lists_after, IsReceiver};
 
 use plain_facts::{actions, telling};
 use run_model::{Event, History, Name, Names, Setup, Step};
@@ -48,6 +49,12 @@ impl Known {
         self.aborts.contains(action)
     }
 
+    pub fn has_any_abort(&self, actions: &[Name]) -> bool
+        ensures { result ≡ list_any (λ c. has_name self.now.aborts c) actions.now }
+    {
+        actions.iter().any(|action| self.has_abort(action))
+    }
+
     pub fn crashes_of(&self, guardian: u32) -> u64
         requires { 1 ≤ guardian }
         ensures { result ≡ counted self.now.crashes.items guardian }
@@ -66,7 +73,8 @@ pub fn knowledge_change(
 ) -> Result<Option<(u32, Known)>, AllocError>
     requires lists { AreLists setup.now lists.now history.now }
     requires run { IsRun setup.now (event.now ∷ history.now) }
-    ensures { IfOk result (λ change. AreLists setup.now (lists_after lists.now change) (event.now ∷ history.now)) }
+    ensures lists { IfOk result (λ change. AreLists setup.now (lists_after lists.now change) (event.now ∷ history.now)) }
+    ensures receiver { IfOk result (λ change. IsReceiver setup.now change) }
 {
     let Some(receiver) = receiver_of(history, &event.step)? else {
         return Ok(None);

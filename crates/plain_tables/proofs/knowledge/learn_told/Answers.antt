@@ -17,7 +17,7 @@ loop-earlier-preserved c =
     elim c.match-earlier.branch [
       | in-Abort+then-tells+in_ok-learn w ↦
           subst (λ ns. AreToldOf old ns (take (i + 1) events) e past g) (sym w.aborts-is)
-          (told_more old new w.learn.new.aborts events i x e past g w.in-Abort.action c.loop-earlier.invariant c.loop-earlier-test.true
+          (told_more old new w.learn.new.names events i x e past g w.in-Abort.action c.loop-earlier.invariant c.loop-earlier-test.true
           c.earlier-item.is w.in-Abort.is (sym w.tells.ensures ∙ w.if-tells.true) w.in_ok-learn.ensures)
       | in-Abort+else-tells w ↦
           subst (λ ns. AreToldOf old ns (take (i + 1) events) e past g) (sym w.aborts-is)
@@ -33,4 +33,4 @@ returns c =
     let events = c.events-earlier-items.result.now in
     told_all c.args.aborts.now c.loop-earlier.aborts events c.args.event.now c.args.history.now c.args.guardian c.events-earlier-items.ensures
     (subst (λ es. AreToldOf c.args.aborts.now c.loop-earlier.aborts es c.args.event.now c.args.history.now c.args.guardian)
-    (take_all events c.loop-earlier.earlier-index c.loop-earlier-test.false) c.loop-earlier.invariant)
+    (take_all _ _ c.loop-earlier-test.false) c.loop-earlier.invariant)
