@@ -1,0 +1,3 @@
+pub mod StubSpec
+pub mod Plain
+pub mod Arms
