@@ -1,8 +1,9 @@
 -- What holds of the numbers from 1 on, one after another.
-use Rattle.std.proofs.Common.{Bool, List, [], ap, arith, cond, false, true, refl, reverse, suc, zero, sym, inl, inr, ℕ, ◌++◌, ◌+◌, ◌<◌, ◌∙◌, ◌∷◌, ◌≡◌, ◌≤◌, ◌&&◌, add-one}
+use Rattle.std.proofs.Common.{Bool, List, [], ap, arith, cond, false, true, refl, reverse, subst, suc, zero, sym, inl, inr, ℕ, ◌++◌, ◌+◌, ◌<◌, ◌∙◌, ◌∷◌, ◌≡◌, ◌≤◌, ◌&&◌, add-one}
 use Rattle.std.proofs.lemmas.Bool.{cases_eq}
 use Rattle.std.proofs.lemmas.List.{reverse-append}
 use Rattle.std.proofs.lemmas.List.Folds.{list_all-append}
+use Rattle.std.proofs.lemmas.List.Sums.{sum_by-append}
 use Rattle.std.specs.List.{list_all, count_by, sum_by}
 use Rattle.run_model.specs.Lists.{down_from, up_to}
 
@@ -34,3 +35,25 @@ not_all p (suc n) i lt h = elim (cases_eq i n) [
     and_false : (t : Bool) → (t && false) ≡ false
     and_false true = refl
     and_false false = refl
+
+-- how many numbers pass, with one number more
+count_up_to : (p : ℕ → Bool) (n : ℕ) → count_by p (up_to (suc n)) ≡ count_by p (up_to n) + cond (p (suc n)) 1 0
+count_up_to p n =
+    ap (λ ns. count_by p ns) (up_to_more n) ∙ sum_by-append (λ m. cond (p m) 1 0) (up_to n) (suc n ∷ [])
+    ∙ ap (λ m. count_by p (up_to n) + m) (none_plus (cond (p (suc n)) 1 0))
+  where
+    none_plus : (m : ℕ) → 0 + m ≡ m
+    none_plus m = omega arith
+
+pub count_one_more : (p : ℕ → Bool) (n k : ℕ) → k ≡ count_by p (up_to n) → p (n + 1) ≡ true → k + 1 ≡ count_by p (up_to (n + 1))
+count_one_more p n k h passes =
+    let next : suc n ≡ n + 1 = omega arith in
+    let P : ℕ → Type 0 = λ m. p m ≡ true → k + 1 ≡ count_by p (up_to m) in
+    subst P next (λ yes. ap (λ m. m + 1) h ∙ sym (count_up_to p n ∙ ap (λ t. count_by p (up_to n) + cond t 1 0) yes)) passes
+
+pub count_no_more : (p : ℕ → Bool) (n k : ℕ) → k ≡ count_by p (up_to n) → p (n + 1) ≡ false → k ≡ count_by p (up_to (n + 1))
+count_no_more p n k h fails =
+    let next : suc n ≡ n + 1 = omega arith in
+    let none : (m : ℕ) → m + 0 ≡ m = λ m. omega arith in
+    let P : ℕ → Type 0 = λ m. p m ≡ false → k ≡ count_by p (up_to m) in
+    subst P next (λ f. h ∙ sym (count_up_to p n ∙ ap (λ t. count_by p (up_to n) + cond t 1 0) f ∙ none (count_by p (up_to n)))) fails

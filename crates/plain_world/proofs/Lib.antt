@@ -1,3 +1,6 @@
 pub mod Homes
 pub mod ArmNames
 pub mod Counting
+pub mod Places
+pub mod Kept
+pub mod Accepted

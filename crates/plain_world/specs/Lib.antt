@@ -1,3 +1,4 @@
 pub mod StubSpec
 pub mod Plain
 pub mod Arms
+pub mod Kept

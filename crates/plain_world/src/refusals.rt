@@ -13,13 +13,11 @@ ghost use Rattle.run_model.specs.Refusals.{checks, first_refusal, no_action, end
 ghost use Rattle.plain_world.specs.Plain.{IsPlain};
 ghost use Rattle.plain_world.specs.Arms.{uses_up};
 
-use crate::stub::{
-    has_prepared, has_voted, home_of, is_begun, is_busy, is_closed, is_done, is_down, is_ended,
-    is_gone, next_child, next_top, told_since_crash,
-};
 use crate::view::View;
 use action_names::{MAX_DEPTH, Name};
 use atomic_types::AtomicType;
+use plain_facts::actions::{home_of, is_begun, is_busy, is_closed, is_done, is_down, is_ended, is_gone, next_child, next_top};
+use plain_facts::telling::{has_prepared, has_voted, told_since_crash};
 use run_model::{ArmKind, ArmKinds, Content, ObjectId, Op, Refusal, Setup, Step};
 use std::alloc::AllocError;
 
