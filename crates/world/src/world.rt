@@ -3,6 +3,7 @@ ghost use Rattle.run_model.specs.Answers.{answer_of};
 ghost use Rattle.run_model.specs.Runs.{World, IsRun, world_after};
 ghost use Rattle.world.specs.Running.{Ran, RanBefore};
 
+use crate::plain::PlainWorld;
 use run_model::{Answer, History, Setup, Step};
 use std::alloc::{AllocError, Global};
 use std::marker::Model;
@@ -10,18 +11,15 @@ use std::marker::Model;
 /// Guardians, their objects and the actions on them.
 #[derive(Drop)]
 pub struct World {
-    setup: Setup,
-    history: History,
+    plain: PlainWorld,
 }
 
 impl Model for World {
-    ghost use Rattle.run_model.specs.Runs.{World, IsRun};
+    ghost use Rattle.run_model.specs.Runs.{World};
 
     ghost Value = { World };
 
-    ghost view = { λ a. record { setup = a.setup; past = a.history } };
-
-    ghost invariant = { λ a. IsRun a.setup a.history };
+    ghost view = { λ a. a.plain };
 }
 
 impl World {
@@ -30,8 +28,7 @@ impl World {
         ensures { IfOk result (λ world. world ≡ record { setup = setup; past = [] }) }
     {
         Ok(World {
-            setup,
-            history: History::new(alloc),
+            plain: PlainWorld::new(alloc, setup)?,
         })
     }
 
@@ -42,7 +39,7 @@ impl World {
         ensures after { IfOk result (λ answer. self.new ≡ world_after self.old step.now answer) }
         ensures err { OnErr result (self.new ≡ self.old) }
     {
-        Err(AllocError)
+        self.plain.step(step)
     }
 
     /// Makes the steps one after another, and appends their answers. Where memory runs out, the world and the answers are those of the
@@ -64,13 +61,13 @@ impl World {
         ensures past { result.now ≡ self.now.past }
         ensures run { IsRun self.now.setup self.now.past }
     {
-        &self.history
+        self.plain.history()
     }
 
     /// The setup from which it began.
     pub fn setup(&self) -> &Setup
         ensures { result.now ≡ self.now.setup }
     {
-        &self.setup
+        self.plain.setup()
     }
 }
