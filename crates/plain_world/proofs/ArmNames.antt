@@ -34,7 +34,8 @@ cut_alike child top (arm.Sub ∷ kinds) = elim (cases_lt child 4294967296) [
       ∙ ap (λ t. is_used_up child || t) (ap (λ n. uses_up n (min top 4294967296) kinds) f ∙ cut_alike (suc child) top kinds)
   | inr ge ↦
       let e : min child 4294967296 ≡ 4294967296 = omega arith in
-      ap (λ n. is_used_up n || uses_up (suc n) (min top 4294967296) kinds) e ∙ sym (ap (λ t. t || uses_up (suc child) top kinds) (used_up child ge))
+      ap (λ n. is_used_up n || uses_up (suc n) (min top 4294967296) kinds) e
+      ∙ sym (ap (λ t. t || uses_up (suc child) top kinds) (used_up child ge))
 ]
 cut_alike child top (arm.Top ∷ kinds) = elim (cases_lt top 4294967296) [
   | inl lt ↦
@@ -44,7 +45,8 @@ cut_alike child top (arm.Top ∷ kinds) = elim (cases_lt top 4294967296) [
       ∙ ap (λ t. is_used_up top || t) (ap (λ n. uses_up (min child 4294967296) n kinds) f ∙ cut_alike child (suc top) kinds)
   | inr ge ↦
       let e : min top 4294967296 ≡ 4294967296 = omega arith in
-      ap (λ n. is_used_up n || uses_up (min child 4294967296) (suc n) kinds) e ∙ sym (ap (λ t. t || uses_up child (suc top) kinds) (used_up top ge))
+      ap (λ n. is_used_up n || uses_up (min child 4294967296) (suc n) kinds) e
+      ∙ sym (ap (λ t. t || uses_up child (suc top) kinds) (used_up top ge))
 ]
 
 few_enough : (n : ℕ) → n ≤ 64 → ltb 64 n ≡ false
@@ -85,7 +87,8 @@ names_alike a child top (arm.Sub ∷ kinds) h = elim (cases_lt child 4294967296)
       let e : min child 4294967296 ≡ child = omega arith in
       let f : suc child ≡ min (suc child) 4294967296 = omega arith in
       ap (λ n. child_of a n ∷ arm_names a (suc n) (min top 4294967296) kinds) e
-      ∙ ap (λ bs. child_of a child ∷ bs) (ap (λ n. arm_names a n (min top 4294967296) kinds) f ∙ names_alike a (suc child) top kinds (or_false (is_used_up child) _ h))
+      ∙ ap (λ bs. child_of a child ∷ bs) (ap (λ n. arm_names a n (min top 4294967296) kinds) f
+      ∙ names_alike a (suc child) top kinds (or_false (is_used_up child) _ h))
   | inr ge ↦ absurd (true≢false (sym (ap (λ t. t || uses_up (suc child) top kinds) (used_up child ge)) ∙ h))
 ]
 names_alike a child top (arm.Top ∷ kinds) h = elim (cases_lt top 4294967296) [
@@ -93,7 +96,8 @@ names_alike a child top (arm.Top ∷ kinds) h = elim (cases_lt top 4294967296) [
       let e : min top 4294967296 ≡ top = omega arith in
       let f : suc top ≡ min (suc top) 4294967296 = omega arith in
       ap (λ n. (n ∷ []) ∷ arm_names a (min child 4294967296) (suc n) kinds) e
-      ∙ ap (λ bs. (top ∷ []) ∷ bs) (ap (λ n. arm_names a (min child 4294967296) n kinds) f ∙ names_alike a child (suc top) kinds (or_false (is_used_up top) _ h))
+      ∙ ap (λ bs. (top ∷ []) ∷ bs) (ap (λ n. arm_names a (min child 4294967296) n kinds) f
+      ∙ names_alike a child (suc top) kinds (or_false (is_used_up top) _ h))
   | inr ge ↦ absurd (true≢false (sym (ap (λ t. t || uses_up child (suc top) kinds) (used_up top ge)) ∙ h))
 ]
 

@@ -17,7 +17,8 @@ and_true false = refl
 -- one number more
 all_up_to : (p : ℕ → Bool) (n : ℕ) → list_all p (up_to (suc n)) ≡ (list_all p (up_to n) && p (suc n))
 all_up_to p n =
-    ap (λ ns. list_all p ns) (up_to_more n) ∙ list_all-append p (up_to n) (suc n ∷ []) ∙ ap (λ t. list_all p (up_to n) && t) (and_true (p (suc n)))
+    ap (λ ns. list_all p ns) (up_to_more n) ∙ list_all-append p (up_to n) (suc n ∷ [])
+    ∙ ap (λ t. list_all p (up_to n) && t) (and_true (p (suc n)))
 
 pub all_one_more : (p : ℕ → Bool) (n : ℕ) → list_all p (up_to n) ≡ true → p (n + 1) ≡ true → list_all p (up_to (n + 1)) ≡ true
 all_one_more p n h k = rw add-one (all_up_to p n ∙ both (list_all p (up_to n)) (p (suc n)) h (rw add-one at k))
@@ -28,7 +29,8 @@ all_one_more p n h k = rw add-one (all_up_to p n ∙ both (list_all p (up_to n))
 pub not_all : (p : ℕ → Bool) (n i : ℕ) → i < n → p (i + 1) ≡ false → list_all p (up_to n) ≡ false
 not_all p zero i lt h = absurd (omega arith)
 not_all p (suc n) i lt h = elim (cases_eq i n) [
-  | inl e ↦ all_up_to p n ∙ ap (λ t. list_all p (up_to n) && t) (ap (λ m. p (suc m)) (sym e) ∙ (rw add-one at h)) ∙ and_false (list_all p (up_to n))
+  | inl e ↦ all_up_to p n ∙ ap (λ t. list_all p (up_to n) && t) (ap (λ m. p (suc m)) (sym e) ∙ (rw add-one at h))
+      ∙ and_false (list_all p (up_to n))
   | inr ne ↦ all_up_to p n ∙ ap (λ t. t && p (suc n)) (not_all p n i (omega arith) h)
 ]
   where

@@ -35,8 +35,10 @@ filter_twice p q (x ∷ xs) =
     elim (q x) as (λ t. filter p (cond t (x ∷ filter q xs) (filter q xs))
     ≡ cond (p x && t) (x ∷ filter (λ y. p y && q y) xs) (filter (λ y. p y && q y) xs)) [
       | true ↦ elim (p x) as (λ s. cond s (x ∷ filter p (filter q xs)) (filter p (filter q xs))
-          ≡ cond (s && true) (x ∷ filter (λ y. p y && q y) xs) (filter (λ y. p y && q y) xs)) [ true ↦ ap (λ ys. x ∷ ys) rest | false ↦ rest ]
-      | false ↦ elim (p x) as (λ s. filter p (filter q xs) ≡ cond (s && false) (x ∷ filter (λ y. p y && q y) xs) (filter (λ y. p y && q y) xs))
+          ≡ cond (s && true) (x ∷ filter (λ y. p y && q y) xs) (filter (λ y. p y && q y) xs)) [ true ↦ ap
+              (λ ys. x ∷ ys) rest | false ↦ rest ]
+      | false ↦ elim (p x) as (λ s. filter p (filter q xs)
+          ≡ cond (s && false) (x ∷ filter (λ y. p y && q y) xs) (filter (λ y. p y && q y) xs))
           [ true ↦ rest | false ↦ rest ]
     ]
 
@@ -95,15 +97,18 @@ holder_step a x wanted past o os =
       | true ↦ elim (conflicts o.operation wanted) as (λ k. cond k (with_other a (h o) (rising_names n)) (rising_names n)
           ≡ rising_names (filter (λ c. not (is_ancestor c a)) (filter_map h (cond k (o ∷ f) f)))) [
             | false ↦ refl
-            | true ↦ elim (h o) as (λ m. with_other a m (rising_names n) ≡ rising_names (filter (λ c. not (is_ancestor c a)) (cons_option m (filter_map h f)))) [
+            | true ↦ elim (h o) as (λ m. with_other a m (rising_names n)
+                ≡ rising_names (filter (λ c. not (is_ancestor c a)) (cons_option m (filter_map h f)))) [
               | None ↦ refl
-              | Some c ↦ elim (is_ancestor c a) as (λ t. cond t (rising_names n) (insert_name c (rising_names n)) ≡ rising_names (cond (not t) (c ∷ n) n))
+              | Some c ↦ elim (is_ancestor c a) as (λ t. cond t (rising_names n) (insert_name c (rising_names n))
+                  ≡ rising_names (cond (not t) (c ∷ n) n))
                   [ true ↦ refl | false ↦ refl ]
             ]
           ]
     ]
 
-pub holder_more : (a : Name) (x : ObjectId) (wanted : op.Op) (past : List Event) (os : List Performed) (i : ℕ) (o : Performed) (before after : List Name)
+pub holder_more : (a : Name) (x : ObjectId) (wanted : op.Op) (past : List Event) (os : List Performed) (i : ℕ) (o : Performed)
+    (before after : List Name)
     → i < length os → o ≡ get_or os i o → before ≡ holders a x wanted past (those_on x (take i os))
     → after ≡ with_holder a x wanted past o before → after ≡ holders a x wanted past (those_on x (take (i + 1) os))
 holder_more a x wanted past os i o before after lt is so_far added =
@@ -111,7 +116,8 @@ holder_more a x wanted past os i o before after lt is so_far added =
     ∙ ap (λ ps. holders a x wanted past ps) (sym (those_more x os i o lt is))
 
 -- known operations leave the content the same operations
-pub left_knows : (c : Content) (os : List Performed) (p : op.Op) → list_all (λ o. knows c o.operation) os ≡ true → knows (left_of c os) p ≡ knows c p
+pub left_knows : (c : Content) (os : List Performed) (p : op.Op) → list_all (λ o. knows c o.operation) os ≡ true
+    → knows (left_of c os) p ≡ knows c p
 left_knows c [] p h = refl
 left_knows c (o ∷ os) p h =
     let q = and_parts _ _ h in
@@ -124,7 +130,8 @@ front_known x c os j h =
     let q : Performed → Bool = λ o. same_object o.object x in
     let e = ap (λ ps. those_on x ps) (sym (take-append-drop j os)) ∙ ap (λ ps. filter q ps) (reverse-append (take j os) (drop j os))
     ∙ filter-append q (reverse (drop j os)) (reverse (take j os)) in
-    (and_parts _ _ (sym (list_all-append p (filter q (reverse (drop j os))) (filter q (reverse (take j os)))) ∙ ap (λ ps. list_all p ps) (sym e) ∙ h)).1
+    (and_parts _ _ (sym (list_all-append p (filter q (reverse (drop j os))) (filter q (reverse (take j os))))
+    ∙ ap (λ ps. list_all p ps) (sym e) ∙ h)).1
 
 -- so the next one is known
 pub next_known : (x : ObjectId) (c content : Content) (os : List Performed) (i : ℕ) (o : Performed) → all_known x c os ≡ true
@@ -136,7 +143,8 @@ next_known x c content os i o all lt is same left =
     ap (λ k. knows k o.operation) left ∙ left_knows c (those_on x (take i os)) o.operation q.1 ∙ q.0
 
 -- what was granted in a run is known
-granted_known : (setup : Setup) (past : List Event) → IsRun setup past → Each (λ o. knows (opening setup o.object) o.operation ≡ true) (performed past)
+granted_known : (setup : Setup) (past : List Event) → IsRun setup past
+    → Each (λ o. knows (opening setup o.object) o.operation ≡ true) (performed past)
 granted_known setup [] r = tt
 granted_known setup (e ∷ past) r =
     let Q : List Performed → Type 0 = λ os. Each (λ o. knows (opening setup o.object) o.operation ≡ true) os in
@@ -168,7 +176,8 @@ known_among : (setup : Setup) (x : ObjectId) (q : Performed → Bool) (os : List
     → list_all (λ o. knows (opening setup x) o.operation) (filter (λ o. same_object o.object x && q o) os) ≡ true
 known_among setup x q [] h = refl
 known_among setup x q (o ∷ os) h =
-    known_more setup x (q o) (same_object o.object x) o (filter (λ p. same_object p.object x && q p) os) refl h.0 (known_among setup x q os h.1)
+    known_more setup x (q o) (same_object o.object x) o (filter (λ p. same_object p.object x && q p) os) refl h.0
+        (known_among setup x q os h.1)
 
 -- an object knows all its kept operations
 pub kept_known : (setup : Setup) (past : List Event) (x : ObjectId) → IsRun setup past

@@ -3,4 +3,3 @@ pub mod ArmNames
 pub mod Counting
 pub mod Places
 pub mod Kept
-pub mod Accepted

@@ -13,7 +13,8 @@ pub found : (a : Name) (xs : List Name) (i : ℕ) (y : Name) → i < length xs �
 found a xs i y lt is same h =
     let s = split xs i y lt is in
     h ∙ ap (λ ys. take i xs ++ insert_name a ys) s
-    ∙ ap (λ t. take i xs ++ cond t (y ∷ drop (i + 1) xs) (cond (name_lt a y) (a ∷ y ∷ drop (i + 1) xs) (y ∷ insert_name a (drop (i + 1) xs)))) same
+    ∙ ap (λ t. take i xs ++ cond t (y ∷ drop (i + 1) xs)
+    (cond (name_lt a y) (a ∷ y ∷ drop (i + 1) xs) (y ∷ insert_name a (drop (i + 1) xs)))) same
     ∙ ap (λ ys. take i xs ++ ys) (sym s) ∙ take-append-drop i xs
 
 -- it is before the name at i
@@ -22,17 +23,20 @@ pub before : (a : Name) (xs : List Name) (i : ℕ) (y : Name) → i < length xs 
 before a xs i y lt is other less h =
     let s = split xs i y lt is in
     h ∙ ap (λ ys. take i xs ++ insert_name a ys) s
-    ∙ ap (λ t. take i xs ++ cond t (y ∷ drop (i + 1) xs) (cond (name_lt a y) (a ∷ y ∷ drop (i + 1) xs) (y ∷ insert_name a (drop (i + 1) xs)))) other
+    ∙ ap (λ t. take i xs ++ cond t (y ∷ drop (i + 1) xs)
+    (cond (name_lt a y) (a ∷ y ∷ drop (i + 1) xs) (y ∷ insert_name a (drop (i + 1) xs)))) other
     ∙ ap (λ t. take i xs ++ cond t (a ∷ y ∷ drop (i + 1) xs) (y ∷ insert_name a (drop (i + 1) xs))) less
     ∙ ap (λ ys. take i xs ++ a ∷ ys) (sym s)
 
 -- it is behind the name at i
-pub behind : (a : Name) (xs : List Name) (i : ℕ) (y : Name) → i < length xs → y ≡ get_or xs i y → same_name a y ≡ false → name_lt a y ≡ false
+pub behind : (a : Name) (xs : List Name) (i : ℕ) (y : Name) → i < length xs → y ≡ get_or xs i y → same_name a y ≡ false
+    → name_lt a y ≡ false
     → insert_name a xs ≡ take i xs ++ insert_name a (drop i xs) → insert_name a xs ≡ take (i + 1) xs ++ insert_name a (drop (i + 1) xs)
 behind a xs i y lt is other less h =
     let s = split xs i y lt is in
     h ∙ ap (λ ys. take i xs ++ insert_name a ys) s
-    ∙ ap (λ t. take i xs ++ cond t (y ∷ drop (i + 1) xs) (cond (name_lt a y) (a ∷ y ∷ drop (i + 1) xs) (y ∷ insert_name a (drop (i + 1) xs)))) other
+    ∙ ap (λ t. take i xs ++ cond t (y ∷ drop (i + 1) xs)
+    (cond (name_lt a y) (a ∷ y ∷ drop (i + 1) xs) (y ∷ insert_name a (drop (i + 1) xs)))) other
     ∙ ap (λ t. take i xs ++ cond t (a ∷ y ∷ drop (i + 1) xs) (y ∷ insert_name a (drop (i + 1) xs))) less
     ∙ sym (append_assoc (take i xs) (y ∷ []) (insert_name a (drop (i + 1) xs)))
     ∙ ap (λ ys. ys ++ insert_name a (drop (i + 1) xs)) (sym (take_more xs i y lt ∙ ap (λ z. take i xs ++ z ∷ []) (sym is)))
@@ -42,4 +46,5 @@ pub last : (a : Name) (xs : List Name) (i : ℕ) → length xs ≤ i
     → insert_name a xs ≡ take i xs ++ insert_name a (drop i xs) → insert_name a xs ≡ insert xs (length xs) a
 last a xs i all h =
     h ∙ ap (λ ys. ys ++ insert_name a (drop i xs)) (take_all i xs all) ∙ ap (λ ys. xs ++ insert_name a ys) (drop_all i xs all)
-    ∙ sym (ap (λ ys. ys ++ a ∷ drop (length xs) xs) (take_all (length xs) xs (omega arith)) ∙ ap (λ ys. xs ++ a ∷ ys) (drop_all (length xs) xs (omega arith)))
+    ∙ sym (ap (λ ys. ys ++ a ∷ drop (length xs) xs) (take_all (length xs) xs (omega arith))
+    ∙ ap (λ ys. xs ++ a ∷ ys) (drop_all (length xs) xs (omega arith)))

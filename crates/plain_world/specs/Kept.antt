@@ -1,5 +1,5 @@
 -- Operations on one object among those of a list, which stands with the oldest first.
-use Rattle.std.specs.Prelude.{Bool, not, ◌&&◌, List, filter, filter_map, reverse, if◌then◌else◌, Option, Some, None}
+use Rattle.std.specs.Prelude.{ℕ, Bool, not, ◌&&◌, List, filter, filter_map, reverse, if◌then◌else◌, Option, Some, None}
 use Rattle.std.specs.List.{list_all, list_any}
 use Rattle.action_names.specs.Names.{Name, is_ancestor, insert_name, rising_names}
 use Rattle.values.specs.declared.content.Content.{Content}
@@ -9,7 +9,8 @@ use Rattle.atomic_types.specs.Operations.{conflicts}
 use Rattle.run_model.specs.declared.step.ObjectId.{ObjectId}
 use Rattle.run_model.specs.declared.history.Event.{Event}
 use Rattle.run_model.specs.Telling.{holder_of}
-use Rattle.run_model.specs.Keeping.{Performed, same_object}
+use Rattle.run_model.specs.Keeping.{Performed, kept_on, same_object}
+use Rattle.run_model.specs.Answers.{is_concerned}
 
 -- those on x, the newest first
 abbrev pub those_on : ObjectId → List Performed → List Performed
@@ -37,3 +38,7 @@ with_other a (Some c) names = if is_ancestor c a then names else insert_name c n
 abbrev pub with_holder : Name → ObjectId → op.Op → List Event → Performed → List Name → List Name
 with_holder a x wanted past o names =
     if same_object o.object x && conflicts o.operation wanted then with_other a (holder_of x.guardian o.action past) names else names
+
+-- a telling of a's outcome at g changes the object of this number there
+abbrev pub is_changed : ℕ → Name → List Event → ℕ → Bool
+is_changed g a past n = list_any (λ o. is_concerned g a past o) (kept_on (record { guardian = g; number = n }) past)

@@ -2,3 +2,4 @@ pub mod StubSpec
 pub mod Plain
 pub mod Arms
 pub mod Kept
+pub mod Ready

@@ -1,7 +1,6 @@
 //! What the kept operations on an object say: for whom an operation waits, what is left for it, and what a telling changes.
 ghost use Rattle.std.specs.Prelude.{◌≡◌, ◌≤◌, ◌&&◌, true, length, reverse, IfOk, OnOk, IsTrue, MatchOption};
-ghost use Rattle.std.specs.List.{insert};
-ghost use Rattle.std.specs.List.{list_any};
+ghost use Rattle.std.specs.List.{insert, list_any};
 ghost use Rattle.action_names.specs.Names.{insert_name};
 ghost use Rattle.atomic_types.specs.Objects.{knows};
 ghost use Rattle.atomic_types.specs.Operations.{conflicts};
@@ -22,7 +21,12 @@ use run_model::{Content, History, ObjectId, Op};
 use std::alloc::{AllocError, Global};
 
 /// The names for which an operation of the action on the object waits.
-pub fn blockers(view: &View<'_>, name: &Name, object: ObjectId, operation: &Op) -> Result<Names, AllocError>
+pub fn blockers(
+    view: &View<'_>,
+    name: &Name,
+    object: ObjectId,
+    operation: &Op,
+) -> Result<Names, AllocError>
     requires { IsPlain view.now.setup.now view.now.tables.now view.now.history.now }
     ensures { IfOk result (λ names. names ≡ blockers name.now object operation.now view.now.history.now) }
 {
@@ -31,7 +35,14 @@ pub fn blockers(view: &View<'_>, name: &Name, object: ObjectId, operation: &Op) 
 }
 
 /// The holders of conflicting operations on the object that are no ancestors of the action, each once, rising.
-fn holders(alloc: Global, history: &History, kept: &[Performed], name: &Name, object: ObjectId, operation: &Op) -> Result<Names, AllocError>
+fn holders(
+    alloc: Global,
+    history: &History,
+    kept: &[Performed],
+    name: &Name,
+    object: ObjectId,
+    operation: &Op,
+) -> Result<Names, AllocError>
     ensures { IfOk result (λ names. names ≡ holders name.now object operation.now history.now (those_on object kept.now)) }
 {
     let mut names = Vec::new(alloc);
@@ -42,7 +53,14 @@ fn holders(alloc: Global, history: &History, kept: &[Performed], name: &Name, ob
 }
 
 /// Adds the holder of the kept operation, where the action's operation waits for it.
-fn add_holder(names: &mut Vec<Name>, history: &History, performed: &Performed, name: &Name, object: ObjectId, operation: &Op) -> Result<(), AllocError>
+fn add_holder(
+    names: &mut Vec<Name>,
+    history: &History,
+    performed: &Performed,
+    name: &Name,
+    object: ObjectId,
+    operation: &Op,
+) -> Result<(), AllocError>
     ensures { OnOk result (names.new.items ≡ with_holder name.now object operation.now history.now performed.now names.old.items) }
 {
     if !is_against(performed, object, operation) {
@@ -134,11 +152,18 @@ pub fn is_changed(view: &View<'_>, object: ObjectId, name: &Name) -> Result<bool
 }
 
 #[tactic(auto, using(std::proofs::lemmas::List::Folds::list_any_more, std::proofs::lemmas::List::Folds::list_any_at))]
-fn concerns_any(history: &History, kept: &[Performed], object: ObjectId, name: &Name) -> Result<bool, AllocError>
+fn concerns_any(
+    history: &History,
+    kept: &[Performed],
+    object: ObjectId,
+    name: &Name,
+) -> Result<bool, AllocError>
     ensures { IfOk result (λ any. any ≡ any_on object (λ o. is_concerned object.guardian name.now history.now o) kept.now) }
 {
     for performed in kept {
-        if performed.object() == object && is_concerned(history, object.guardian, name, performed)? {
+        if performed.object() == object
+            && is_concerned(history, object.guardian, name, performed)?
+        {
             return Ok(true);
         }
     }
@@ -146,7 +171,12 @@ fn concerns_any(history: &History, kept: &[Performed], object: ObjectId, name: &
 }
 
 /// Whether a telling of the action's outcome at the guardian concerns the kept operation.
-fn is_concerned(history: &History, guardian: u32, name: &Name, performed: &Performed) -> Result<bool, AllocError>
+fn is_concerned(
+    history: &History,
+    guardian: u32,
+    name: &Name,
+    performed: &Performed,
+) -> Result<bool, AllocError>
     ensures { IfOk result (λ concerned. concerned ≡ is_concerned guardian name.now history.now performed.now) }
 {
     if !is_committed(history, name) {

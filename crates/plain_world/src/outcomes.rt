@@ -94,7 +94,13 @@ fn begin_arms(view: &View<'_>, parent: &Name, kinds: &ArmKinds) -> Result<Answer
 }
 
 /// The names of arms, with children from one number on and top actions from another.
-fn arm_names(alloc: Global, parent: &Name, mut child: u64, mut top: u64, kinds: &[ArmKind]) -> Result<Names, AllocError>
+fn arm_names(
+    alloc: Global,
+    parent: &Name,
+    mut child: u64,
+    mut top: u64,
+    kinds: &[ArmKind],
+) -> Result<Names, AllocError>
     requires { uses_up child top kinds.now ≡ false }
     ensures { IfOk result (λ names. names ≡ arm_names parent.now child top kinds.now) }
 {
@@ -115,7 +121,12 @@ fn arm_names(alloc: Global, parent: &Name, mut child: u64, mut top: u64, kinds: 
 }
 
 /// The reply of the operation, or the names for which it waits.
-fn operate(view: &View<'_>, name: &Name, object: ObjectId, operation: &Op) -> Result<Answer, AllocError>
+fn operate(
+    view: &View<'_>,
+    name: &Name,
+    object: ObjectId,
+    operation: &Op,
+) -> Result<Answer, AllocError>
     requires plain { IsPlain view.now.setup.now view.now.tables.now view.now.history.now }
     requires guardian { 1 ≤ object.guardian }
     requires number { 1 ≤ object.number }

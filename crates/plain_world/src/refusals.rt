@@ -5,18 +5,20 @@ ghost use Rattle.run_model.specs.declared.step.Step.TheVariants.{Top, NestedTop,
 ghost use Rattle.run_model.specs.declared.step.Step.TheVariants as steps;
 ghost use Rattle.run_model.specs.Actions.{is_begun, home_of, next_number};
 ghost use Rattle.run_model.specs.Lists.{is_known_orphan};
-ghost use Rattle.run_model.specs.Visibility.{has_prepared};
-ghost use Rattle.run_model.specs.Dependencies.{dependency};
 ghost use Rattle.run_model.specs.Votes.{all_prepared};
 ghost use Rattle.run_model.specs.Replay.{opening, objects_at};
 ghost use Rattle.run_model.specs.Refusals.{checks, first_refusal, no_action, ended_or_closed, busy, gone, known_orphan, has_sub, is_past_arms};
 ghost use Rattle.plain_world.specs.Plain.{IsPlain};
 ghost use Rattle.plain_world.specs.Arms.{uses_up};
+ghost use Rattle.plain_world.specs.Ready.{is_ready};
 
 use crate::view::View;
 use action_names::{MAX_DEPTH, Name};
 use atomic_types::AtomicType;
-use plain_facts::actions::{home_of, is_begun, is_busy, is_closed, is_done, is_down, is_ended, is_gone, next_child, next_top};
+use plain_facts::actions::{
+    home_of, is_begun, is_busy, is_closed, is_done, is_down, is_ended, is_gone, next_child,
+    next_top,
+};
 use plain_facts::telling::{has_prepared, has_voted, told_since_crash};
 use run_model::{ArmKind, ArmKinds, Content, ObjectId, Op, Refusal, Setup, Step};
 use std::alloc::AllocError;
@@ -59,22 +61,26 @@ pub fn opening(setup: &Setup, object: ObjectId) -> Option<&Content>
     ensures { MatchOption result
         (IsTrue ((object.number == 0) || nat_lt (length (objects_at setup.now object.guardian)) object.number))
         (λ content. (((object.number == 0) || nat_lt (length (objects_at setup.now object.guardian)) object.number) ≡ false)
-            × (content.now ≡ opening setup.now object)) }
+        × (content.now ≡ opening setup.now object)) }
 {
     if object.number == 0 {
         return None;
     }
-    setup.objects(object.guardian).get(object.number as usize - 1)
+    setup
+        .objects(object.guardian)
+        .get(object.number as usize - 1)
 }
 
 /// Whether the action is known as an orphan at its home.
 fn is_known_orphan(view: &View<'_>, name: &Name) -> Result<bool, AllocError>
     requires plain { IsPlain view.now.setup.now view.now.tables.now view.now.history.now }
     requires begun { IsTrue (is_begun name.now view.now.history.now) }
-    ensures { IfOk result (λ known. known ≡ is_known_orphan view.now.setup.now name.now (home_of name.now view.now.history.now) view.now.history.now) }
+    ensures { IfOk result (λ known. known ≡ is_known_orphan view.now.setup.now name.now
+        (home_of name.now view.now.history.now) view.now.history.now) }
 {
     let home = home_of(view.history, name);
-    view.tables.is_known_orphan(view.setup, view.history, name, home)
+    view.tables
+        .is_known_orphan(view.setup, view.history, name, home)
 }
 
 /// Why the action may do nothing more: it is over, it is busy, or its home crashed.
@@ -273,8 +279,7 @@ fn all_prepared(view: &View<'_>, name: &Name) -> bool
 /// Whether the guardian, where it is a participant, voted yes.
 fn is_ready(view: &View<'_>, name: &Name, guardian: u32) -> bool
     requires { IsPlain view.now.setup.now view.now.tables.now view.now.history.now }
-    ensures { result ≡ (is_none (dependency name.now guardian view.now.history.now)
-        || has_prepared guardian name.now view.now.history.now) }
+    ensures { result ≡ is_ready name.now view.now.history.now guardian }
 {
     let dependency = view
         .tables
@@ -392,9 +397,15 @@ fn uses_up(mut child: u64, mut top: u64, kinds: &[ArmKind]) -> bool
     false
 }
 
-fn of_operation(view: &View<'_>, name: &Name, object: ObjectId, operation: &Op) -> Result<Option<Refusal>, AllocError>
+fn of_operation(
+    view: &View<'_>,
+    name: &Name,
+    object: ObjectId,
+    operation: &Op,
+) -> Result<Option<Refusal>, AllocError>
     requires { IsPlain view.now.setup.now view.now.tables.now view.now.history.now }
-    ensures { IfOk result (λ why. why ≡ first_refusal (checks view.now.setup.now (steps.Op name.now object operation.now) view.now.history.now)) }
+    ensures { IfOk result (λ why. why ≡ first_refusal
+        (checks view.now.setup.now (steps.Op name.now object operation.now) view.now.history.now)) }
 {
     if is_no_guardian(view.setup, object.guardian) {
         return Ok(Some(Refusal::NoGuardian));

@@ -32,10 +32,12 @@ pub ran_more : (old mid new : World) (steps : List Step) (i : ℕ) (s : Step) (a
 ran_more old mid new steps i s answer before so_far after ran lt is given moved added =
     let front : take (i + 1) steps ≡ take i steps ++ s ∷ [] = take_more steps i s lt ∙ ap (λ t. take i steps ++ t ∷ []) (sym is) in
     let past = history_from old.setup old.past (take i steps) in
-    let own : answer ≡ answer_of old.setup s past = given ∙ ap (λ setup. answer_of setup s mid.past) ran.same_setup ∙ ap (λ p. answer_of old.setup s p) ran.history in
+    let own : answer ≡ answer_of old.setup s past = given ∙ ap (λ setup. answer_of setup s mid.past) ran.same_setup
+    ∙ ap (λ p. answer_of old.setup s p) ran.history in
     record {
       answers =
-          added ∙ ap (λ answers. answers ++ answer ∷ []) ran.answers ∙ append_assoc before (answers_from old.setup old.past (take i steps)) (answer ∷ [])
+          added ∙ ap (λ answers. answers ++ answer ∷ []) ran.answers
+          ∙ append_assoc before (answers_from old.setup old.past (take i steps)) (answer ∷ [])
           ∙ ap (λ answers. before ++ answers) (ap (λ a. answers_from old.setup old.past (take i steps) ++ a ∷ []) own
           ∙ sym (answers_push old.setup old.past (take i steps) s) ∙ ap (λ ss. answers_from old.setup old.past ss) (sym front));
       same_setup = ap (λ (w : World). w.setup) moved ∙ ran.same_setup;

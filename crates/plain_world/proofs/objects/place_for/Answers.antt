@@ -8,9 +8,11 @@ returns-then-eq c =
     (sym c.eq.ensures ∙ c.if-eq.true) c.loop-index.invariant
 
 pub returns-then-lt : goal.returns-then-lt
-returns-then-lt c =
-    (omega arith, before c.args.name.now c.args.names.now c.loop-index.index c.index-names-index.result c.loop-index-test.true c.index-names-index.is
-    (sym c.eq.ensures ∙ c.if-eq.false) (sym c.lt.ensures ∙ c.if-lt.true) c.loop-index.invariant)
+returns-then-lt c = (
+  omega arith,
+  before c.args.name.now c.args.names.now c.loop-index.index c.index-names-index.result c.loop-index-test.true c.index-names-index.is
+      (sym c.eq.ensures ∙ c.if-eq.false) (sym c.lt.ensures ∙ c.if-lt.true) c.loop-index.invariant,
+)
 
 pub loop-index-preserved : goal.loop-index-preserved
 loop-index-preserved c =

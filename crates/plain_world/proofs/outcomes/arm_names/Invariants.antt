@@ -6,6 +6,7 @@ use Rattle.plain_world.proofs.outcomes.arm_names.Given as goal
 -- the names so far, with those of the arms to come, and numbers for these
 abbrev pub invariant-loop-kind : goal.invariant-loop-kind
 invariant-loop-kind l = record {
-  names : l.names ++ arm_names l.fn.parent l.child l.top (drop l.kind-index l.kinds) ≡ arm_names l.fn.parent l.initial.child l.initial.top l.kinds;
+  names : l.names ++ arm_names l.fn.parent l.child l.top (drop l.kind-index l.kinds)
+      ≡ arm_names l.fn.parent l.initial.child l.initial.top l.kinds;
   left : uses_up l.child l.top (drop l.kind-index l.kinds) ≡ false;
 }

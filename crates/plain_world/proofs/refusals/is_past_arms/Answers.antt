@@ -7,7 +7,8 @@ use Rattle.plain_world.proofs.refusals.is_past_arms.Goals as goal
 pub returns : goal.returns
 returns c =
     let few : length c.args.kinds.now ≤ 64 = omega arith in
-    past_arms c.args.name.now c.args.kinds.now c.args.view.now.history.now c.uses_up.result (sym c.is_empty.ensures ∙ c.if-is_empty.false) few
+    past_arms c.args.name.now c.args.kinds.now c.args.view.now.history.now c.uses_up.result (sym c.is_empty.ensures
+    ∙ c.if-is_empty.false) few
     (c.uses_up.ensures ∙ ap (λ ks. uses_up c.next_child.result c.next_top.result ks) c.as_slice.ensures
     ∙ ap (λ n. uses_up n c.next_top.result c.args.kinds.now) c.next_child.ensures
     ∙ ap (λ n. uses_up (min (next_number c.args.name.now c.args.view.now.history.now) 4294967296) n c.args.kinds.now) c.next_top.ensures)
