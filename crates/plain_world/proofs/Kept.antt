@@ -35,8 +35,11 @@ filter_twice p q (x ∷ xs) =
     elim (q x) as (λ t. filter p (cond t (x ∷ filter q xs) (filter q xs))
     ≡ cond (p x && t) (x ∷ filter (λ y. p y && q y) xs) (filter (λ y. p y && q y) xs)) [
       | true ↦ elim (p x) as (λ s. cond s (x ∷ filter p (filter q xs)) (filter p (filter q xs))
-          ≡ cond (s && true) (x ∷ filter (λ y. p y && q y) xs) (filter (λ y. p y && q y) xs)) [ true ↦ ap
-              (λ ys. x ∷ ys) rest | false ↦ rest ]
+          ≡ cond (s && true) (x ∷ filter (λ y. p y && q y) xs) (filter (λ y. p y && q y) xs)) [
+            | true ↦ ap
+                (λ ys. x ∷ ys) rest
+            | false ↦ rest
+          ]
       | false ↦ elim (p x) as (λ s. filter p (filter q xs)
           ≡ cond (s && false) (x ∷ filter (λ y. p y && q y) xs) (filter (λ y. p y && q y) xs))
           [ true ↦ rest | false ↦ rest ]
@@ -99,11 +102,11 @@ holder_step a x wanted past o os =
             | false ↦ refl
             | true ↦ elim (h o) as (λ m. with_other a m (rising_names n)
                 ≡ rising_names (filter (λ c. not (is_ancestor c a)) (cons_option m (filter_map h f)))) [
-              | None ↦ refl
-              | Some c ↦ elim (is_ancestor c a) as (λ t. cond t (rising_names n) (insert_name c (rising_names n))
-                  ≡ rising_names (cond (not t) (c ∷ n) n))
-                  [ true ↦ refl | false ↦ refl ]
-            ]
+                  | None ↦ refl
+                  | Some c ↦ elim (is_ancestor c a) as (λ t. cond t (rising_names n) (insert_name c (rising_names n))
+                      ≡ rising_names (cond (not t) (c ∷ n) n))
+                      [ true ↦ refl | false ↦ refl ]
+                ]
           ]
     ]
 
@@ -177,7 +180,7 @@ known_among : (setup : Setup) (x : ObjectId) (q : Performed → Bool) (os : List
 known_among setup x q [] h = refl
 known_among setup x q (o ∷ os) h =
     known_more setup x (q o) (same_object o.object x) o (filter (λ p. same_object p.object x && q p) os) refl h.0
-        (known_among setup x q os h.1)
+    (known_among setup x q os h.1)
 
 -- an object knows all its kept operations
 pub kept_known : (setup : Setup) (past : List Event) (x : ObjectId) → IsRun setup past

@@ -1,4 +1,3 @@
-pub mod Homes
 pub mod ArmNames
 pub mod Counting
 pub mod Places

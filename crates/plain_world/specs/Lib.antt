@@ -1,4 +1,3 @@
-pub mod StubSpec
 pub mod Plain
 pub mod Arms
 pub mod Kept

@@ -6,7 +6,6 @@
 mod objects;
 mod outcomes;
 mod refusals;
-mod stub;
 mod view;
 mod world;
 

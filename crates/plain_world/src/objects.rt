@@ -11,12 +11,12 @@ ghost use Rattle.plain_world.specs.Kept.{those_on, any_on, all_known, holders, w
 ghost use Rattle.plain_world.specs.Plain.{IsPlain};
 
 use crate::refusals::opening;
-use crate::stub::Performed;
 use crate::view::View;
 use action_names::{Name, Names};
 use atomic_types::AtomicType;
 use plain_facts::actions::is_committed;
 use plain_facts::telling::holder_of;
+use plain_tables::Performed;
 use run_model::{Content, History, ObjectId, Op};
 use std::alloc::{AllocError, Global};
 

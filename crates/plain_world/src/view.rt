@@ -1,4 +1,4 @@
-use crate::stub::Tables;
+use plain_tables::Tables;
 use run_model::{History, Setup};
 use std::alloc::Global;
 

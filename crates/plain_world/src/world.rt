@@ -3,9 +3,9 @@ ghost use Rattle.run_model.specs.Answers.{answer_of};
 ghost use Rattle.run_model.specs.Runs.{World, IsRun, is_accepted, world_after};
 ghost use Rattle.plain_world.specs.Plain.{IsPlain};
 
-use crate::stub::Tables;
 use crate::view::View;
 use crate::{outcomes, refusals};
+use plain_tables::Tables;
 use run_model::{Answer, Event, History, Setup, Step};
 use std::alloc::{AllocError, Global};
 use std::marker::Model;

@@ -4,7 +4,6 @@
 //! crates below. The engine of the program and every service stand on `World::step` and `World::run`.
 #![tactic(auto)]
 
-mod plain;
 mod world;
 
 pub use run_model::{Answer, Event, History, Setup, Step};

@@ -3,7 +3,7 @@ ghost use Rattle.run_model.specs.Answers.{answer_of};
 ghost use Rattle.run_model.specs.Runs.{World, IsRun, world_after};
 ghost use Rattle.world.specs.Running.{Ran, RanBefore};
 
-use crate::plain::PlainWorld;
+use plain_world::PlainWorld;
 use run_model::{Answer, History, Setup, Step};
 use std::alloc::{AllocError, Global};
 use std::marker::Model;

@@ -7,7 +7,7 @@ use Rattle.plain_world.proofs.objects.replay.Goals as goal
 pub apply-requires : goal.apply-requires
 apply-requires c =
     let same : same_object c.performed-item.result.object c.args.object
-        ≡ true = grind (arith, c.eq.ensures, c.object.ensures, c.if-eq.true) in
+    ≡ true = grind (arith, c.eq.ensures, c.object.ensures, c.if-eq.true) in
     ap (λ p. knows c.loop-performed.content p) c.operation.ensures
     ∙ next_known c.args.object c.args.opening.now c.loop-performed.content c.args.kept.now c.loop-performed.performed-index
     c.performed-item.result
