@@ -20,6 +20,7 @@ use plain_facts::actions::{crashes, next_child, next_top};
 use run_model::{Answer, ArmKind, ArmKinds, ObjectId, Op, Step};
 use std::alloc::{AllocError, Global};
 
+/// The answer of a step that nothing refuses.
 pub fn of_step(view: &View<'_>, step: &Step) -> Result<Answer, AllocError>
     requires plain { IsPlain view.now.setup.now view.now.tables.now view.now.history.now }
     requires accepted { first_refusal (checks view.now.setup.now step.now view.now.history.now) ≡ None }
@@ -42,7 +43,7 @@ pub fn of_step(view: &View<'_>, step: &Step) -> Result<Answer, AllocError>
     }
 }
 
-/// The top action with this number, which comes but for want of memory.
+/// The top action with this number. From 1 on there is one, so `Err` comes for want of memory alone.
 fn top_name(alloc: Global, number: u64) -> Result<Name, AllocError>
     requires { number ≤ 4294967295 }
     ensures { IfOk result (λ name. name ≡ number ∷ []) }
@@ -50,7 +51,7 @@ fn top_name(alloc: Global, number: u64) -> Result<Name, AllocError>
     Name::top(alloc, number as u32).map_err(|_| AllocError)
 }
 
-/// The child with this number, which comes but for want of memory.
+/// The child with this number. From 1 on, and with room for a level more, `Err` comes for want of memory alone.
 fn child_name(parent: &Name, number: u64) -> Result<Name, AllocError>
     requires { number ≤ 4294967295 }
     ensures { IfOk result (λ name. name ≡ child_of parent.now number) }
@@ -58,6 +59,7 @@ fn child_name(parent: &Name, number: u64) -> Result<Name, AllocError>
     parent.child(number as u32).map_err(|_| AllocError)
 }
 
+/// The answer that one action begins.
 fn began(alloc: Global, name: Name) -> Result<Answer, AllocError>
     ensures { IfOk result (λ answer. answer ≡ Began (name ∷ [])) }
 {

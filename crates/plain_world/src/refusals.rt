@@ -27,6 +27,7 @@ const MAX_NUMBER: u64 = 4294967295;
 
 const MAX_ARMS: usize = 64;
 
+/// The first refusal of the step that applies.
 pub fn of_step(view: &View<'_>, step: &Step) -> Result<Option<Refusal>, AllocError>
     requires { IsPlain view.now.setup.now view.now.tables.now view.now.history.now }
     ensures { IfOk result (λ why. why ≡ first_refusal (checks view.now.setup.now step.now view.now.history.now)) }

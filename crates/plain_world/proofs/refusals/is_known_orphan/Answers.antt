@@ -1,6 +1,6 @@
 use Rattle.std.proofs.Common.{IfOk, subst, sym, ◌≡◌, ℕ}
 use Rattle.run_model.specs.Lists.{is_known_orphan}
-use Rattle.plain_tables.specs.Tables.{IsGuardian}
+use Rattle.plain_tables.specs.Parts.{IsGuardian}
 use Rattle.plain_tables.proofs.Homes.{home_in_setup}
 use Rattle.plain_world.proofs.refusals.is_known_orphan.Goals as goal
 
