@@ -1,5 +1,5 @@
 -- Going over a history event by event: what the definitions of a list of events say of each event.
-use Rattle.std.proofs.Common.{◌≡◌, ℕ, suc, ◌+◌, ◌-◌, ◌<◌, ◌≤◌, Bool, not, true, false, cond, ◌&&◌, ◌||◌, List, [], ◌∷◌, ◌++◌, length, filter, reverse, map, take, get_or, IsNone, IsTrue, IfSome, ◌↔◌, refl, sym, ap, ◌∙◌, arith, length-append, Option, Some, None}
+use Rattle.std.proofs.Common.{◌≡◌, ℕ, suc, ◌+◌, ◌-◌, ◌<◌, ◌≤◌, Bool, true, false, cond, ◌&&◌, ◌||◌, List, [], ◌∷◌, ◌++◌, length, filter, reverse, map, take, get_or, IsNone, IsTrue, IfSome, ◌↔◌, refl, sym, subst, ap, ◌∙◌, arith, length-append, Option, Some, None}
 use Rattle.std.specs.List.{list_any}
 use Rattle.std.proofs.lemmas.Bool.{false≢true}
 use Rattle.std.proofs.lemmas.List.{append_assoc, map-append, reverse-append, take_more}
@@ -84,20 +84,33 @@ pub parent_named : (b : Name) (next : Option Name) → IfSome next (λ p. IsName
 parent_named b None p = tt
 parent_named b (Some a) p = p.0
 
+-- so has who is there
+here_named : (o : Option Name) (b : Name) → o ≡ Some b → IfSome o IsName → IsName b
+here_named o b here named = let Named : Option Name → Type 0 = λ x. IfSome x IsName in subst Named here named
+
 -- the parent stands higher
-pub height_falls : (b : Name) (next : Option Name) → IsName b → IfSome next (λ p. IsName p × (p ≡ parent_of b)) → suc (height next) ≤ length b
-height_falls b None is p = is.not_empty
-height_falls b (Some a) is p = let l = ap length p.1 in let m = length_parent b in let e = is.not_empty in omega arith
+pub height_falls : (o next : Option Name) (b : Name) → o ≡ Some b → IfSome o IsName → IfSome next (λ p. IsName p × (p ≡ parent_of b))
+    → height next < height o
+height_falls o next b here named p =
+    let whole : height o ≡ length b = ap height here in
+    let shorter = step next (here_named o b here named) p in
+    omega arith
+  where
+    step : (above : Option Name) → IsName b → IfSome above (λ a. IsName a × (a ≡ parent_of b)) → suc (height above) ≤ length b
+    step None is q = is.not_empty
+    step (Some a) is q = let l = ap length q.1 in let m = length_parent b in let e = is.not_empty in omega arith
 
 -- one ancestor more in the list
-pub up_more : (a b : Name) (items more : List Name) (next : Option Name) → IsName b → ancestors b ++ reverse items ≡ ancestors a
+pub up_more : (a b : Name) (o next : Option Name) (items more : List Name) → o ≡ Some b → IfSome o IsName → up_from o ++ reverse items ≡ ancestors a
     → more ≡ items ++ b ∷ [] → (IsNone next ↔ IsTrue (is_top b)) → IfSome next (λ p. IsName p × (p ≡ parent_of b))
     → up_from next ++ reverse more ≡ ancestors a
-up_more a b items more next is so_far pushed t p =
+up_more a b o next items more here named so_far pushed t p =
+    let is = here_named o b here named in
     ap (λ l. l ++ reverse more) (up_from_parent b next t p)
     ∙ ap (λ l. ancestors (parent_of b) ++ l) (ap reverse pushed ∙ reverse-append items (b ∷ []))
     ∙ sym (append_assoc (ancestors (parent_of b)) (b ∷ []) (reverse items))
     ∙ ap (λ l. l ++ reverse items) (sym (ancestors_last b is.not_empty))
+    ∙ ap (λ x. up_from x ++ reverse items) (sym here)
     ∙ so_far
 
 or_else_assoc : (x y z : Option Name) → or_else (or_else x y) z ≡ or_else x (or_else y z)
@@ -116,17 +129,27 @@ last_passing_push p (a ∷ names) b =
     ap (λ o. or_else o (cond (p a) (Some a) None)) (last_passing_push p names b)
     ∙ or_else_assoc (cond (p b) (Some b) None) (last_passing p names) (cond (p a) (Some a) None)
 
--- the nearest ancestor that passes is the action itself, or else one above
-pub nearest_is_own : (p : Name → Bool) (b : Name) → IsName b → p b ≡ true → last_passing p (ancestors b) ≡ Some b
-nearest_is_own p b is passes =
-    ap (last_passing p) (ancestors_last b is.not_empty) ∙ last_passing_push p (ancestors (parent_of b)) b
-    ∙ ap (λ t. or_else (cond t (Some b) None) (last_passing p (ancestors (parent_of b)))) passes
+-- the nearest ancestor that passes is the action itself
+pub nearest_is_own : (p : Name → Bool) (o : Option Name) (b : Name) → o ≡ Some b → IfSome o IsName → p b ≡ true
+    → Some b ≡ last_passing p (up_from o)
+nearest_is_own p o b here named passes =
+    let is = here_named o b here named in
+    sym
+    (ap (λ x. last_passing p (up_from x)) here
+    ∙ ap (last_passing p) (ancestors_last b is.not_empty)
+    ∙ last_passing_push p (ancestors (parent_of b)) b
+    ∙ ap (λ t. or_else (cond t (Some b) None) (last_passing p (ancestors (parent_of b)))) passes)
 
-pub nearest_is_above : (p : Name → Bool) (b : Name) (next : Option Name) → IsName b → p b ≡ false → (IsNone next ↔ IsTrue (is_top b))
-    → IfSome next (λ a. IsName a × (a ≡ parent_of b)) → last_passing p (up_from next) ≡ last_passing p (ancestors b)
-nearest_is_above p b next is fails t a =
+-- or else one above
+pub nearest_is_above : (p : Name → Bool) (o next : Option Name) (b : Name) → o ≡ Some b → IfSome o IsName → p b ≡ false
+    → (IsNone next ↔ IsTrue (is_top b)) → IfSome next (λ a. IsName a × (a ≡ parent_of b)) → last_passing p (up_from next) ≡ last_passing p (up_from o)
+nearest_is_above p o next b here named fails t a =
+    let is = here_named o b here named in
     ap (last_passing p) (up_from_parent b next t a)
-    ∙ sym (ap (last_passing p) (ancestors_last b is.not_empty) ∙ last_passing_push p (ancestors (parent_of b)) b
+    ∙ sym
+    (ap (λ x. last_passing p (up_from x)) here
+    ∙ ap (last_passing p) (ancestors_last b is.not_empty)
+    ∙ last_passing_push p (ancestors (parent_of b)) b
     ∙ ap (λ t. or_else (cond t (Some b) None) (last_passing p (ancestors (parent_of b)))) fails)
 
 -- ---- going on

@@ -7,3 +7,5 @@
 pub mod actions;
 mod steps;
 pub mod telling;
+#[cfg(test)]
+mod tests;

@@ -441,7 +441,7 @@ none_next p n h k =
 -- one of them
 pub any_within : (p : ℕ → Bool) (n i : ℕ) → i < n → p (i + 1) ≡ true → list_any p (up_to n) ≡ true
 any_within p zero i lt h = absurd (omega arith)
-any_within p (suc n) i lt h = any_next p n ∙ of (i == n) refl
+any_within p (suc n) i lt h = any_next p n ∙ of (i == n) refl (λ below. any_within p n i below h)
   where
     or-true : (t : Bool) → (t || true) ≡ true
     or-true true = refl
@@ -450,11 +450,11 @@ any_within p (suc n) i lt h = any_next p n ∙ of (i == n) refl
     smaller : (i == n) ≡ false → i < n
     smaller q = let d = eqb-false i n q in omega arith
 
-    of : (t : Bool) → (i == n) ≡ t → (list_any p (up_to n) || p (suc n)) ≡ true
-    of true q =
+    of : (t : Bool) → (i == n) ≡ t → (i < n → list_any p (up_to n) ≡ true) → (list_any p (up_to n) || p (suc n)) ≡ true
+    of true q before =
         let e : suc n ≡ i + 1 = let k = eqb-true i n q in omega arith in
         ap (λ t. list_any p (up_to n) || t) (ap (λ m. p m) e ∙ h) ∙ or-true (list_any p (up_to n))
-    of false q = ap (λ t. t || p (suc n)) (any_within p n i (smaller q) h)
+    of false q before = ap (λ t. t || p (suc n)) (before (smaller q))
 
 -- what is known of an orphan, by the tables
 pub known_orphan : (setup : Setup) (past : List Event) (rows : List Row) (g : ℕ) (k : Known) (a : Name) → AreDependencies rows past

@@ -186,12 +186,19 @@ fn is_outdated(rows: &[Row], known: &Known, action: &Name, guardians: usize) -> 
     ensures { result ≡ list_any (λ h. is_below (least_in rows.now action.now h) (counted known.now.crashes.items h)) (up_to guardians) }
 {
     for index in 0..guardians {
-        let guardian = index as u32 + 1;
-        if let Some(least) = dependencies::least_in(rows, action, guardian) {
-            if least < known.crashes_of(guardian) {
-                return true;
-            }
+        if is_outdated_at(rows, known, action, index as u32 + 1) {
+            return true;
         }
     }
     false
+}
+
+fn is_outdated_at(rows: &[Row], known: &Known, action: &Name, guardian: u32) -> bool
+    requires { 1 ≤ guardian }
+    ensures { result ≡ is_below (least_in rows.now action.now guardian) (counted known.now.crashes.items guardian) }
+{
+    match dependencies::least_in(rows, action, guardian) {
+        Some(least) => least < known.crashes_of(guardian),
+        None => false,
+    }
 }

@@ -5,8 +5,8 @@ use Rattle.plain_tables.proofs.Knowing.{lists_as_before, lists_with, no_crash}
 use Rattle.plain_tables.proofs.knowledge.knowledge_change.Goals as goal
 use Rattle.plain_tables.proofs.knowledge.knowledge_change.Goals.{in-Crash+in_ok-known-in-Crash, in_default-step+in_ok-known-in_default-step}
 
-pub returns-in_default : goal.returns-in_default
-returns-in_default c =
+pub returns-in_default-clause-lists : goal.returns-in_default-clause-lists
+returns-in_default-clause-lists c =
     lists_as_before c.args.setup.now c.args.event.now c.args.history.now c.args.lists.now c.requires.run
     (sym c.in_ok-receiver.ensures ∙ c.in_default.is) c.requires.lists
 
@@ -24,8 +24,8 @@ known_after_news-requires c = record {
   no_crash = no_crash c.args.event.now.step c.in-Some.receiver c.in_default-step.not-Crash;
 }
 
-pub returns : goal.returns
-returns c =
+pub returns-clause-lists : goal.returns-clause-lists
+returns-clause-lists c =
     let setup = c.args.setup.now in
     let e = c.args.event.now in
     let past = c.args.history.now in
@@ -41,3 +41,8 @@ returns c =
           subst (λ k. AreLists setup (slice_set lists (r - 1) k) (e ∷ past)) (sym w.known-is)
           (lists_with setup e past lists r _ c.requires.run q there w.in_ok-known-in_default-step.ensures c.requires.lists)
     ]
+
+pub returns-clause-receiver : goal.returns-clause-receiver
+returns-clause-receiver c =
+    receiver_in_setup c.args.setup.now c.args.event.now c.args.history.now c.in-Some.receiver c.requires.run
+    (sym c.in_ok-receiver.ensures ∙ c.in-Some.is)
