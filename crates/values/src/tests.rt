@@ -312,7 +312,9 @@ fn check_emptied(rt: &impl Abort, alloc: Global) -> Result<(), ValueFault> {
     let text = "{\"array\":{\"items\":[],\"low\":4611686018427387905,\"of\":\"int\"}}";
     let stored = Content::from_stored_spelling(alloc, text)?.copy()?;
     assert_eq!(rt; stored.text(alloc)?.as_str(), text);
-    assert!(rt; is_unfit(Content::read(alloc, text))? && is_unfit(Content::from_spelling(alloc, text))?);
+    assert!(rt;
+        is_unfit(Content::read(alloc, text))? && is_unfit(Content::from_spelling(alloc, text))?
+    );
     let json = Json::from_str(alloc, text)?;
     assert!(rt; !is_unfit(Content::from_stored_json(alloc, &json))?);
     assert!(rt; is_unfit(Content::from_json(alloc, &json))?);
@@ -340,18 +342,28 @@ fn ints(alloc: Global, numbers: &[i64]) -> Result<Vec<Value>, ValueFault> {
 fn check_arrays(rt: &impl Abort, alloc: Global) -> Result<(), ValueFault> {
     assert!(rt; Array::from_items(Kind::Text, 0, ints(alloc, &[1])?).is_err());
     assert!(rt; Array::from_items(Kind::Int, GREATEST_INDEX, ints(alloc, &[1, 2])?).is_err());
-    let least = Array::from_items(Kind::Int, LEAST_INDEX, Vec::new(alloc)).map_err(|_| ValueFault::Unfit)?;
-    assert!(rt; !least.has_room_below() && least.has_room_above() && least.high() == LEAST_INDEX - 1);
+    let least = Array::from_items(Kind::Int, LEAST_INDEX, Vec::new(alloc)).map_err(
+        |_| ValueFault::Unfit,
+    )?;
+    assert!(rt;
+        !least.has_room_below() && least.has_room_above() && least.high() == LEAST_INDEX - 1
+    );
 
-    let mut array = Array::from_items(Kind::Int, 5, ints(alloc, &[10, 20])?).map_err(|_| ValueFault::Unfit)?;
+    let mut array = Array::from_items(Kind::Int, 5, ints(alloc, &[10, 20])?).map_err(
+        |_| ValueFault::Unfit,
+    )?;
     let kept = array.copy()?;
     assert!(rt; array.has_room_below() && array.has_room_above() && array.kind() == Kind::Int);
     array.add_high(Value::Int(30))?;
     array.add_low(Value::Int(0))?;
     assert!(rt; array.low() == 4 && array.high() == 7 && array.size() == 4);
-    assert!(rt; array.fetch(4) == Some(&Value::Int(0)) && array.fetch(8) == None && array.fetch(3) == None);
+    assert!(rt;
+        array.fetch(4) == Some(&Value::Int(0)) && array.fetch(8) == None && array.fetch(3) == None
+    );
     assert!(rt; array.store(6, Value::Int(21)) == Some(Value::Int(20)));
-    assert!(rt; array.remove_high() == Some(Value::Int(30)) && array.remove_low() == Some(Value::Int(0)));
+    assert!(rt;
+        array.remove_high() == Some(Value::Int(30)) && array.remove_low() == Some(Value::Int(0))
+    );
     assert!(rt; array.low() == 5 && array.high() == 6 && array.fetch(6) == Some(&Value::Int(21)));
     assert!(rt; kept.fetch(6) == Some(&Value::Int(20)) && kept.size() == 2);
     Ok(())
@@ -363,8 +375,13 @@ fn check_variants(rt: &impl Abort, alloc: Global) -> Result<(), ValueFault> {
         let name = Identifier::parse(alloc, name)?;
         tags.push(Tag { name, kind })?;
     }
-    let (none, some) = (Identifier::parse(alloc, "none")?, Identifier::parse(alloc, "some")?);
-    let mut variant = Variant::from_parts(tags, none.copy()?, Value::Int(0)).ok_or(ValueFault::Unfit)?;
+    let (none, some) = (
+        Identifier::parse(alloc, "none")?,
+        Identifier::parse(alloc, "some")?,
+    );
+    let mut variant = Variant::from_parts(tags, none.copy()?, Value::Int(0)).ok_or(
+        ValueFault::Unfit,
+    )?;
     let kept = variant.copy()?;
     assert!(rt; variant.kind_of(&some) == Some(Kind::Text) && Kind::Text.name() == "text");
     variant.change(some.copy()?, Value::Text(Text::new(alloc, "x")?));
