@@ -57,6 +57,7 @@ impl AtomicType for Array {
     ghost known_stay = { array_known_stay };
 }
 
+/// Puts a copy of the value at the index.
 #[tactic(auto, using(crate::specs::TypeLaws::same_kinds_back))]
 fn store(array: &mut Array, index: i64, value: &Value) -> Result<Reply, AllocError>
     requires { IsTrue (same_kind array.old.kind (kind_of value.now)) }
@@ -71,6 +72,7 @@ fn store(array: &mut Array, index: i64, value: &Value) -> Result<Reply, AllocErr
     }
 }
 
+/// Adds a copy of the value above the last item.
 #[tactic(auto, using(crate::specs::TypeLaws::same_kinds_back))]
 fn add_high(array: &mut Array, value: &Value) -> Result<Reply, AllocError>
     requires { IsTrue (same_kind array.old.kind (kind_of value.now)) }
@@ -85,6 +87,7 @@ fn add_high(array: &mut Array, value: &Value) -> Result<Reply, AllocError>
     Ok(Reply::Done)
 }
 
+/// Adds a copy of the value below the first item.
 #[tactic(auto, using(crate::specs::TypeLaws::same_kinds_back))]
 fn add_low(array: &mut Array, value: &Value) -> Result<Reply, AllocError>
     requires { IsTrue (same_kind array.old.kind (kind_of value.now)) }

@@ -54,6 +54,7 @@ impl AtomicType for Variant {
     ghost known_stay = { variant_known_stay };
 }
 
+/// Gives the variant a copy of the tag and of the value.
 #[tactic(auto, using(crate::specs::TypeLaws::tag_takes_kind))]
 fn change(variant: &mut Variant, tag: &Identifier, value: &Value) -> Result<Reply, AllocError>
     requires { IsTrue (tag_takes (tag_kind variant.old.tags tag.now) (kind_of value.now)) }

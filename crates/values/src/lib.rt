@@ -15,7 +15,9 @@ mod variant;
 mod words;
 
 pub use array::{Array, GREATEST_INDEX, LEAST_INDEX, MAX_ITEMS};
-pub use content::{Content, contents_may_be_stored, one_document, one_spelling, written_is_read_back};
+pub use content::{
+    Content, contents_may_be_stored, one_document, one_spelling, written_is_read_back,
+};
 pub use record::{Field, MAX_FIELDS, Record};
 pub use value::{Kind, Value};
 pub use variant::{MAX_TAGS, Tag, Variant};

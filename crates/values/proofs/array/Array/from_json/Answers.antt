@@ -9,10 +9,10 @@ use Rattle.values.proofs.array.Array.from_json.Goals as goal
 pub returns-then-len-gt-MAX_ITEMS-clause-refused : goal.returns-then-len-gt-MAX_ITEMS-clause-refused
 returns-then-len-gt-MAX_ITEMS-clause-refused c = λ unfit a h same.
     let is : view c.args.json.now ≡ object (member (codes "items") (view c.in_ok-list.list.now)
-        (member (codes "low") (view c.in_ok-list.number.now) (member (codes "of") (view c.in_ok-list.of.now) no_members))) = search rules in
+    (member (codes "low") (view c.in_ok-list.number.now) (member (codes "of") (view c.in_ok-list.of.now) no_members))) = search rules in
     let found : Some (items_view c.in_ok-elements.elements.now.items) ≡ as_array (view c.in_ok-list.list.now) = search rules in
     let count = length-elements c.in_ok-elements.elements.now.items a.items
-        (elements_are (view c.args.json.now) (view c.in_ok-list.list.now) (view c.in_ok-list.number.now) (view c.in_ok-list.of.now) c.in_ok-elements.elements.now.items a is found same) in
+    (elements_are (view c.args.json.now) (view c.in_ok-list.list.now) (view c.in_ok-list.number.now) (view c.in_ok-list.of.now) c.in_ok-elements.elements.now.items a is found same) in
     let few = h.form.within_limit in
     omega (arith, c.len.ensures, count, few)
 
