@@ -1,13 +1,12 @@
 -- Homes, receivers and senders are guardians of the setup.
-use Rattle.std.proofs.Common.{Bool, List, None, Option, Some, [], ap, arith, cond, eqb-true, false, inl, inr, length, nat_lt, not, refl, subst, sym, true, ℕ, ◌&&◌, ◌==◌, ◌∙◌, ◌∷◌, ◌≡◌, ◌≤◌, ◌||◌}
+use Rattle.std.proofs.Common.{Bool, List, None, Some, [], ap, arith, cond, false, inl, inr, length, nat_lt, not, refl, subst, sym, true, ℕ, ◌&&◌, ◌==◌, ◌∙◌, ◌∷◌, ◌≡◌, ◌≤◌, ◌||◌}
 use Rattle.std.proofs.lemmas.Bool.{eqb-false, false≢true, ltb-false, not-false, or_parts}
 use Rattle.action_names.specs.Names.{Name, has_name, is_top, parent_of}
-use Rattle.run_model.specs.declared.answer.Answer.{Answer}
 use Rattle.run_model.specs.declared.answer.Answer.TheVariants.{VoteNo, VoteYes}
 use Rattle.run_model.specs.declared.history.Event.{Event}
 use Rattle.run_model.specs.declared.step.Step.{Step}
 use Rattle.run_model.specs.declared.step.Step.TheVariants.{Arms, Call, Commit, Crash, NestedTop, Op, Prepare, Tell, Top}
-use Rattle.run_model.specs.Actions.{begins, home_in, home_of, is_begun, is_down, names_begun}
+use Rattle.run_model.specs.Actions.{home_in, home_of, is_begun, is_down, names_begun}
 use Rattle.run_model.specs.Answers.{granted_or_waits, outcome}
 use Rattle.run_model.specs.Keeping.{blockers}
 use Rattle.run_model.specs.Lists.{carried_from}

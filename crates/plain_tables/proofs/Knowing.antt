@@ -1,11 +1,11 @@
 -- What guardians know after an event.
-use Rattle.std.proofs.Common.{Bool, List, None, Option, Some, [], ap, arith, cond, eqb-true, false, filter, get_or, length, max, not, refl, replicate, reverse, set, subst, suc, sym, take, true, zero, ℕ, ◌&&◌, ◌++◌, ◌+◌, ◌-◌, ◌<◌, ◌==◌, ◌∙◌, ◌∷◌, ◌≡◌, ◌≢◌, ◌≤◌, ◌||◌}
+use Rattle.std.proofs.Common.{Bool, List, None, Option, Some, [], ap, arith, cond, eqb-true, false, get_or, length, max, not, refl, replicate, reverse, set, subst, suc, sym, take, true, zero, ℕ, ◌&&◌, ◌++◌, ◌+◌, ◌-◌, ◌<◌, ◌==◌, ◌∙◌, ◌∷◌, ◌≡◌, ◌≢◌, ◌≤◌, ◌||◌}
 use Rattle.std.proofs.Math.Bool.{or-false, or_assoc}
 use Rattle.std.proofs.lemmas.Bool.{eqb-false, false_from_ne_true}
 use Rattle.std.proofs.lemmas.List.{get_or-set_other, get_or-set_same, length-set, reverse-append, take_more}
 use Rattle.std.proofs.lemmas.List.Folds.{list_any-append}
 use Rattle.std.specs.List.{list_any}
-use Rattle.action_names.specs.Names.{Name, ancestors, has_name, is_proper_ancestor, is_top, parent_of, same_name}
+use Rattle.action_names.specs.Names.{Name, ancestors, has_name, is_proper_ancestor, parent_of, same_name}
 use Rattle.run_model.specs.declared.history.Event.{Event}
 use Rattle.run_model.specs.declared.step.Step.{Step}
 use Rattle.run_model.specs.declared.step.Step.TheVariants.{Abort, Call, Commit, Crash, Prepare, Tell}
@@ -20,10 +20,9 @@ use Rattle.run_laws.proofs.Accepted.{AllFalse, checked}
 use Rattle.run_laws.proofs.Each.{Each}
 use Rattle.run_laws.proofs.Homes.{crashes_next}
 use Rattle.run_laws.proofs.Known.{known_count}
-use Rattle.run_laws.proofs.Names.{clash, eqb_self, has_name_append, same_name_self, same_name_true}
+use Rattle.run_laws.proofs.Names.{clash, eqb_self, has_name_append, same_name_true}
 use Rattle.plain_tables.specs.declared.dependencies.Row.{Row}
 use Rattle.plain_tables.specs.declared.knowledge.Known.{Known}
-use Rattle.plain_tables.specs.Changed.{lists_after}
 use Rattle.plain_tables.specs.Parts.{AreBoth, AreDependencies, AreLists, AreToldToo, IsGuardian, IsKnown, counted, least_in, receiver_of}
 
 -- two numbers that differ

@@ -1,19 +1,16 @@
 -- Rows of dependencies: what the rows that an event adds must say.
-use Rattle.std.proofs.Common.{take, get_or, length, ◌<◌, ◌+◌, Bool, List, None, Option, Some, [], ap, cond, eqb-true, false, find, refl, reverse, subst, sym, true, ℕ, ◌&&◌, ◌||◌, ◌++◌, ◌==◌, ◌∙◌, ◌∷◌, ◌≡◌}
-use Rattle.std.proofs.lemmas.Bool.{false≢true}
+use Rattle.std.proofs.Common.{take, get_or, length, ◌<◌, ◌+◌, Bool, List, None, Option, Some, [], ap, cond, eqb-true, false, find, refl, reverse, subst, sym, true, ℕ, ◌||◌, ◌++◌, ◌==◌, ◌∙◌, ◌∷◌, ◌≡◌}
 use Rattle.std.proofs.lemmas.List.{reverse-append, take_more}
 use Rattle.std.proofs.lemmas.List.Folds.{find-append}
 use Rattle.std.specs.FinMap as map
-use Rattle.std.specs.List.{AllZip}
 use Rattle.std.specs.Option.{option_or}
-use Rattle.std.specs.Prelude.{IsTrue}
 use Rattle.std.specs.Ordering.{eq_by_cmp, nat_cmp}
 use Rattle.std.proofs.lemmas.Cmp.{nat_cmp_total}
 use Rattle.std.specs.Cmp.{unsigned_tied}
 use Rattle.action_names.specs.Deps.{Deps, lesser, lowered}
 use Rattle.action_names.specs.Names.{Name, has_name, is_top, parent_of, same_name}
 use Rattle.run_model.specs.declared.answer.Answer.{Answer}
-use Rattle.run_model.specs.declared.answer.Answer.TheVariants.{Began, Done, VoteNo, VoteYes}
+use Rattle.run_model.specs.declared.answer.Answer.TheVariants.{Began}
 use Rattle.run_model.specs.declared.history.Event.{Event}
 use Rattle.run_model.specs.declared.step.Step.{Step}
 use Rattle.run_model.specs.declared.step.Step.TheVariants.{Commit}

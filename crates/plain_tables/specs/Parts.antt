@@ -1,7 +1,6 @@
 -- When each part of the tables says what a history says.
-use Rattle.std.specs.Prelude.{ℕ, ◌≡◌, ◌≤◌, ◌-◌, ◌+◌, ◌&&◌, ◌||◌, Bool, true, false, List, [], ◌∷◌, ◌++◌, length, find, filter, reverse, slice_index, slice_index_or, if◌then◌else◌, Option, Some, None, IsTrue}
+use Rattle.std.specs.Prelude.{ℕ, ◌≡◌, ◌≤◌, ◌-◌, ◌&&◌, ◌||◌, Bool, true, false, List, [], ◌∷◌, length, find, filter, reverse, slice_index, slice_index_or, if◌then◌else◌, Option, Some, None, IsTrue}
 use Rattle.std.specs.FinMap as map
-use Rattle.std.specs.Ordering.{nat_cmp}
 use Rattle.action_names.specs.Names.{Name, same_name, has_name, is_top, parent_of}
 use Rattle.action_names.specs.Deps.{lesser}
 use Rattle.std.specs.List.{AllZip}

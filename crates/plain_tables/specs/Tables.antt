@@ -1,11 +1,7 @@
 -- When the tables, and the changes that an event makes to them, are those of a history.
-use Rattle.std.specs.Prelude.{ℕ, ◌≡◌, ◌≤◌, ◌<◌, ◌+◌, ◌-◌, List, ◌++◌, Option, Some, None, slice_set, vec_len, vec_capacity, ◌∷◌, []}
+use Rattle.std.specs.Prelude.{◌≡◌, ◌≤◌, ◌<◌, ◌+◌, List, ◌++◌, vec_len, vec_capacity}
 use Rattle.run_model.specs.declared.history.Event.{Event}
-use Rattle.run_model.specs.Keeping.{Performed}
 use Rattle.run_model.specs.Replay.{Setup}
-use Rattle.plain_tables.specs.declared.knowledge.Known.{Known}
-use Rattle.plain_tables.specs.declared.keeping.KeptChange.{KeptChange}
-use Rattle.plain_tables.specs.declared.keeping.KeptChange.TheVariants.{Same, Granted, Left}
 use Rattle.plain_tables.specs.declared.tables.Tables.{Tables}
 use Rattle.plain_tables.specs.declared.tables.Changes.{Changes}
 use Rattle.plain_tables.specs.Changed.{IsReceiver, kept_after, lists_after}

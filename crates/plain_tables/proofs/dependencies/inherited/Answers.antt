@@ -1,4 +1,4 @@
-use Rattle.std.proofs.Common.{◌≡◌, None, ap, ◌∙◌, refl, subst, sym, IsNone}
+use Rattle.std.proofs.Common.{ap, ◌∙◌, refl, subst, sym, IsNone}
 use Rattle.std.specs.FinMap as map
 use Rattle.std.specs.Ordering.{nat_cmp}
 use Rattle.run_model.specs.Dependencies.{inherited}

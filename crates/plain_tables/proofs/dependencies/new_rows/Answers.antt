@@ -1,4 +1,3 @@
-use Rattle.std.proofs.Common.{◌≡◌, ap, sym, ◌∙◌}
 use Rattle.std.proofs.lemmas.Result.{IfOk-weaker}
 use Rattle.plain_tables.specs.Parts.{AreNewRows, AreRowsBegun, AreRowsOfCommit}
 use Rattle.plain_tables.proofs.Rows.{begun_rows, commit_rows, no_rows, nothing_begun}

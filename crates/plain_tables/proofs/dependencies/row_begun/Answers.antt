@@ -1,4 +1,4 @@
-use Rattle.std.proofs.Common.{◌≡◌, ap, ◌∙◌}
+use Rattle.std.proofs.Common.{ap, ◌∙◌}
 use Rattle.action_names.specs.Deps.{lesser}
 use Rattle.run_model.specs.Dependencies.{own_entry}
 use Rattle.std.specs.FinMap as map

@@ -1,5 +1,3 @@
-use Rattle.std.proofs.Common.{◌≡◌, ap, ◌∙◌, sym, subst}
-use Rattle.plain_tables.specs.Parts.{AreRowsBegun}
 use Rattle.plain_tables.proofs.Rows.{begun_more}
 use Rattle.plain_tables.proofs.dependencies.rows_begun.Goals as goal
 

@@ -1,6 +1,6 @@
-use Rattle.std.proofs.Common.{◌≡◌, ap, subst, sym, ◌<◌, length}
+use Rattle.std.proofs.Common.{ap, subst, sym, ◌<◌, length}
 use Rattle.action_names.specs.Names.{IsName}
-use Rattle.plain_tables.proofs.Kept.{first_ancestor, some_ancestor}
+use Rattle.plain_tables.proofs.Kept.{some_ancestor}
 use Rattle.plain_tables.proofs.keeping.outlives_crash.Goals as goal
 
 pub bounds-above-0 : goal.bounds-above-0

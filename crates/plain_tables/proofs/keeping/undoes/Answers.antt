@@ -1,4 +1,4 @@
-use Rattle.std.proofs.Common.{◌≡◌, ap, not, sym, ◌∙◌}
+use Rattle.std.proofs.Common.{ap, not, ◌∙◌}
 use Rattle.action_names.specs.Names.{ancestors}
 use Rattle.plain_tables.proofs.Kept.{crash_elsewhere, crash_here, undoes_by_telling}
 use Rattle.plain_tables.proofs.keeping.undoes.Goals as goal

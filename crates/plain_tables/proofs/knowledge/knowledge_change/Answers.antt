@@ -1,4 +1,4 @@
-use Rattle.std.proofs.Common.{◌≡◌, ap, slice_set, subst, sym, ◌-◌, ◌∙◌, ◌∷◌}
+use Rattle.std.proofs.Common.{slice_set, subst, sym, ◌-◌, ◌∙◌, ◌∷◌}
 use Rattle.plain_tables.specs.Parts.{AreLists}
 use Rattle.plain_tables.proofs.Homes.{receiver_in_setup}
 use Rattle.plain_tables.proofs.Knowing.{lists_as_before, lists_with, no_crash}

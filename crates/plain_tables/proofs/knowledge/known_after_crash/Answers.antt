@@ -1,4 +1,4 @@
-use Rattle.std.proofs.Common.{◌≡◌, ap, arith, length, sym, ◌∙◌}
+use Rattle.std.proofs.Common.{ap, arith, length}
 use Rattle.std.proofs.lemmas.List.{length-reverse}
 use Rattle.plain_tables.proofs.Knowing.{crashes_bound}
 use Rattle.plain_tables.proofs.knowledge.known_after_crash.Goals as goal

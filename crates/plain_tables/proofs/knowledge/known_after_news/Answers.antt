@@ -1,4 +1,4 @@
-use Rattle.std.proofs.Common.{◌≡◌, ap, get_or, length, max, subst, sym, ◌<◌, ◌≤◌, ◌∙◌}
+use Rattle.std.proofs.Common.{ap, get_or, max, subst, sym, ◌<◌, ◌≤◌, ◌∙◌}
 use Rattle.plain_tables.specs.Parts.{AreBoth, AreToldToo}
 use Rattle.plain_tables.proofs.Homes.{sender_in_setup}
 use Rattle.plain_tables.proofs.Knowing.{known_at, news_alone, news_from}

@@ -1,4 +1,4 @@
-use Rattle.std.proofs.Common.{◌≡◌, ap, sym, ◌∙◌, ◌||◌}
+use Rattle.std.proofs.Common.{ap, sym, ◌∙◌, ◌||◌}
 use Rattle.action_names.specs.Names.{has_name, same_name}
 use Rattle.plain_tables.proofs.Knowing.{learnt, learnt_new}
 use Rattle.plain_tables.proofs.knowledge.learn.Goals as goal

@@ -1,4 +1,4 @@
-use Rattle.std.proofs.Common.{◌≡◌, subst, sym, take, ◌+◌, ◌∙◌}
+use Rattle.std.proofs.Common.{subst, sym, take, ◌+◌, ◌∙◌}
 use Rattle.std.proofs.lemmas.List.{take_all}
 use Rattle.plain_tables.proofs.Knowing.{AreToldOf, no_abort, told_all, told_more, untold_abort}
 use Rattle.plain_tables.proofs.knowledge.learn_told.Goals as goal

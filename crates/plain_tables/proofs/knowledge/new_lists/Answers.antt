@@ -1,4 +1,4 @@
-use Rattle.std.proofs.Common.{◌≡◌, arith, length}
+use Rattle.std.proofs.Common.{arith}
 use Rattle.plain_tables.proofs.Knowing.{blank_lists}
 use Rattle.plain_tables.proofs.knowledge.new_lists.Goals as goal
 

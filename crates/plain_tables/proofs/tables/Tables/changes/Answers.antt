@@ -1,4 +1,4 @@
-use Rattle.std.proofs.Common.{◌≡◌, ap, arith, subst, sym, ◌++◌, ◌∙◌, ◌∷◌}
+use Rattle.std.proofs.Common.{ap, arith, subst, sym, ◌++◌, ◌∙◌, ◌∷◌}
 use Rattle.plain_tables.specs.Changed.{kept_after, lists_after}
 use Rattle.plain_tables.specs.Parts.{AreDependencies, AreLists}
 use Rattle.plain_tables.proofs.Rows.{dependencies_grow}

@@ -1,4 +1,4 @@
-use Rattle.std.proofs.Common.{ap, subst, sym, ◌||◌, ◌≡◌, ◌≤◌, ◌∙◌}
+use Rattle.std.proofs.Common.{ap, subst, sym, ◌||◌, ◌≤◌, ◌∙◌}
 use Rattle.std.specs.List.{list_any}
 use Rattle.action_names.specs.Names.{has_name}
 use Rattle.run_model.specs.Lists.{guardians_of, is_below, up_to}
