@@ -4,6 +4,7 @@
 //! nothing else about a type.
 #![tactic(auto)]
 
+mod array;
 mod atomic;
 mod laws;
 mod object;
@@ -11,6 +12,7 @@ mod op;
 mod record;
 #[cfg(test)]
 mod tests;
+mod variant;
 
 pub use atomic::AtomicType;
 pub use laws::object_laws;

@@ -16,6 +16,8 @@ impl AtomicType for Content {
     fn knows(&self, op: &Op) -> bool {
         match self {
             Content::Record(record) => record.knows(op),
+            Content::Array(array) => array.knows(op),
+            Content::Variant(variant) => variant.knows(op),
         }
     }
 
@@ -26,6 +28,8 @@ impl AtomicType for Content {
     fn apply(&mut self, op: &Op) -> Result<Reply, AllocError> {
         match self {
             Content::Record(record) => record.apply(op),
+            Content::Array(array) => array.apply(op),
+            Content::Variant(variant) => variant.apply(op),
         }
     }
 

@@ -4,7 +4,7 @@ use super::*;
 use std::alloc::{AllocError, Global};
 use std::process::Abort;
 use std::test::Fail;
-use values::{Content, Field, Identifier, Record, Value, ValueFault};
+use values::{Array, Content, Field, Identifier, Record, Value, ValueFault, Variant};
 
 /// What the call gives, asked again where memory was wanting.
 fn again<T, E: Drop, F: Fn() -> Result<T, E> + Drop>(rt: &impl Eprint, call: F) -> Result<T, E>
@@ -161,4 +161,90 @@ fn only_reads_do_not_conflict(rt: HostRuntime) {
         assert!(rt; Content::conflicts(first, second));
     }
     assert!(rt; !Content::conflicts(read, read));
+}
+
+/// Operations on an empty array of ints at 1, one after another, each with its reply if it belongs to the array.
+fn array_step(rt: &impl Eprint, alloc: Global, at: u8) -> Result<(Op, Option<Reply>), ValueFault> {
+    let gives = |number| Some(Reply::Gives(Value::Int(number)));
+    Ok(match at {
+        0 => (Op::AddLow(Value::Int(5)), Some(Reply::Done)),
+        1 => (Op::Low, gives(0)),
+        2 => (Op::AddHigh(Value::Int(6)), Some(Reply::Done)),
+        3 => (Op::Fetch(1), gives(6)),
+        4 => (Op::Fetch(2), Some(Reply::Signals(Signal::Bounds))),
+        5 => (Op::Store(1, Value::Int(7)), Some(Reply::Done)),
+        6 => (Op::Store(-1, Value::Int(7)), Some(Reply::Signals(Signal::Bounds))),
+        7 => (Op::RemoveLow, gives(5)),
+        8 => (Op::RemoveHigh, gives(7)),
+        9 => (Op::RemoveHigh, Some(Reply::Signals(Signal::Bounds))),
+        10 => (Op::High, gives(0)),
+        11 => (Op::Size, gives(0)),
+        12 => (Op::AddHigh(spelled(rt, alloc, "\"x\"")?), None),
+        _ => (Op::Is(identifier(rt, alloc, "none")?), None),
+    })
+}
+
+/// Operations on a variant with the tag none, one after another, each with its reply if it belongs to the variant.
+fn variant_step(rt: &impl Eprint, alloc: Global, at: u8) -> Result<(Op, Option<Reply>), ValueFault> {
+    let (none, some) = (identifier(rt, alloc, "none")?, identifier(rt, alloc, "some")?);
+    Ok(match at {
+        0 => (Op::Is(none), Some(Reply::Truth(true))),
+        1 => (Op::ValueOf(some), Some(Reply::Signals(Signal::WrongTag))),
+        2 => (Op::Change(some, spelled(rt, alloc, "\"x\"")?), Some(Reply::Done)),
+        3 => (Op::ValueOf(some), Some(Reply::Gives(spelled(rt, alloc, "\"x\"")?))),
+        4 => (Op::Change(some, Value::Int(3)), None),
+        5 => (Op::Is(identifier(rt, alloc, "other")?), None),
+        _ => (Op::Low, None),
+    })
+}
+
+fn content(rt: &impl Eprint, alloc: Global, text: &str) -> Result<Content, ValueFault> {
+    again(rt, || Content::from_spelling(alloc, text))
+}
+
+fn behaves_as_array<T: AtomicType>(
+    rt: &(impl Abort + Eprint),
+    alloc: Global,
+    object: &mut T,
+) -> Result<(), Fail> {
+    for at in 0..14 {
+        let (op, reply) = array_step(rt, alloc, at)?;
+        assert_eq!(rt; perform(rt, object, &op)?, reply, "at {at}");
+    }
+    Ok(())
+}
+
+fn behaves_as_variant<T: AtomicType>(
+    rt: &(impl Abort + Eprint),
+    alloc: Global,
+    object: &mut T,
+) -> Result<(), Fail> {
+    for at in 0..7 {
+        let (op, reply) = variant_step(rt, alloc, at)?;
+        assert_eq!(rt; perform(rt, object, &op)?, reply, "at {at}");
+    }
+    Ok(())
+}
+
+#[test]
+fn arrays_grow_and_shrink_at_both_ends(rt: HostRuntime) -> Result<(), Fail> {
+    let text = "{\"array\":{\"items\":[],\"low\":1,\"of\":\"int\"}}";
+    let mut object = content(&rt, rt.alloc(), text)?;
+    let array = Array::from_items(values::Kind::Int, 1, Vec::new(rt.alloc()));
+    let Ok(mut array) = array else {
+        return Err("no array".into());
+    };
+    behaves_as_array(&rt, rt.alloc(), &mut array)?;
+    behaves_as_array(&rt, rt.alloc(), &mut object)
+}
+
+#[test]
+fn variants_answer_under_their_tag(rt: HostRuntime) -> Result<(), Fail> {
+    let text = "{\"variant\":{\"tag\":\"none\",\"tags\":{\"none\":\"int\",\"some\":\"text\"},\"value\":0}}";
+    let mut object = content(&rt, rt.alloc(), text)?;
+    if let Content::Variant(variant) = &object {
+        let mut copy: Variant = again(&rt, || AtomicType::copy(variant))?;
+        behaves_as_variant(&rt, rt.alloc(), &mut copy)?;
+    }
+    behaves_as_variant(&rt, rt.alloc(), &mut object)
 }

@@ -14,7 +14,8 @@ use Rattle.run_model.specs.declared.setup.SetupFault.{SetupFault}
 use Rattle.run_model.specs.declared.setup.SetupFault.TheVariants.{Bad}
 use Rattle.values.specs.declared.content.Content.{Content}
 use Rattle.values.specs.Contents.{IsContent, content_data}
-use Rattle.values.proofs.Members.{object_from_members, content_from_data}
+use Rattle.values.proofs.Members.{object_from_members}
+use Rattle.values.proofs.Contents.{content_from_data}
 use Rattle.run_model.specs.Replay.{Setup}
 use Rattle.run_model.specs.Texts.{AreObjects, IsSetup, IsSetupText, contents_items, guardians_items, setup_data, max_objects, max_guardians}
 use Rattle.run_model.specs.Documents.{guardian_data, setup_fault}

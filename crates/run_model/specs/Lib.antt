@@ -3,8 +3,12 @@ pub use Rattle.action_names.specs.Deps
 pub use Rattle.values.specs.Words
 pub use Rattle.values.specs.Values
 pub use Rattle.values.specs.Contents
+pub use Rattle.values.specs.Items
+pub use Rattle.values.specs.Tags
 pub use Rattle.atomic_types.specs.Operations
 pub use Rattle.atomic_types.specs.Records
+pub use Rattle.atomic_types.specs.Arrays
+pub use Rattle.atomic_types.specs.Variants
 pub use Rattle.atomic_types.specs.Objects
 pub use Rattle.atomic_types.specs.Laws
 pub mod Actions

@@ -11,19 +11,16 @@ use Rattle.json.specs.Tree as tree
 use Rattle.serde_json.specs.Data.{Data, null, boolean, number, string, array, object, Members, no_members, member, put}
 use Rattle.serde_json.specs.Find.{as_object}
 use Rattle.serde_json.specs.Events.{members_len}
-use Rattle.serde_json.specs.Read.{of_members, read}
+use Rattle.serde_json.specs.Read.{of_members}
 use Rattle.serde_json.specs.View.{view, members_view}
 use Rattle.serde_json.specs.Written.{outline, members_outline}
 use Rattle.serde_json.proofs.Views.{Entry, members_len-members_view}
 use Rattle.values.specs.declared.value.Value.{Value}
 use Rattle.values.specs.declared.value.Value.TheVariants.{Int, Text}
 use Rattle.values.specs.declared.record.Field.{Field}
-use Rattle.values.specs.declared.content.Content.{Content}
-use Rattle.values.specs.declared.content.Content.TheVariants.{Record}
 use Rattle.values.specs.Values.{value_data}
 use Rattle.values.specs.Fields.{IsField, IsRecord, HasRisingNames, field_members}
-use Rattle.values.specs.Contents.{IsContent, content_data, content_text}
-use Rattle.values.proofs.Documents.{IsReadable, IsReadable-value, read-compact_text}
+use Rattle.values.proofs.Documents.{IsReadable, IsReadable-value}
 
 -- ---- objects
 
@@ -64,9 +61,6 @@ fields_from_members (f ∷ fields) (g ∷ others) e =
     let rest : fields ≡ others = fields_from_members fields others (cc) in
     λ i. (let h : Field = record { name = name i; value = value i } in h) ∷ rest i
 
-pub content_from_data : (c d : Content) → content_data c ≡ content_data d → c ≡ d
-content_from_data (Record fields) (Record others) e = ap Record (fields_from_members fields others (cc))
-
 -- ---- how many, and in which order
 
 names_of : Members → List (List ℕ)
@@ -100,15 +94,19 @@ unfolding IsStrictlySortedBy
 rising_bytes [] h = tt
 rising_bytes (k ∷ ks) h = (all_below k ks h.0, rising_bytes ks h.1)
 
+-- the names of members in order rise
+pub rising_names : (es : List Entry) (fields : List Field) → members_view es ≡ field_members fields → IsStrictlySortedBy string_cmp (keys_of es) → HasRisingNames fields
+rising_names es fields same rising =
+    let names = sym (names_of-members_view es) ∙ ap names_of same ∙ names_of-field_members fields in
+    subst (IsStrictlySortedBy (slice_cmp nat_cmp)) names (rising_bytes (keys_of es) rising)
+
 -- members in order are the fields of a record, where each is a field
 pub IsRecord-from_members : (es : List Entry) (fields : List Field) → members_view es ≡ field_members fields → IsStrictlySortedBy string_cmp (keys_of es)
     → 1 ≤ length es → length es ≤ 64 → AllByRecursion IsField fields → IsRecord fields
 IsRecord-from_members es fields same rising some few each = record {
   not_empty = omega (arith, length-entries es fields same);
   within_limit = omega (arith, length-entries es fields same);
-  rising =
-      let names = sym (names_of-members_view es) ∙ ap names_of same ∙ names_of-field_members fields in
-      subst (IsStrictlySortedBy (slice_cmp nat_cmp)) names (rising_bytes (keys_of es) rising);
+  rising = rising_names es fields same rising;
   each = each;
 }
 
@@ -149,22 +147,30 @@ put_last (first ∷ done) f more h =
     nat_list_cmp_total.antisymm f.name first.name ∙ ap ordering_reverse (below_middle first done f more h.0) in
     rw above (ap (member first.name (value_data first.value)) (put_last done f more h.1))
 
-of_members-outline : (done fields : List Field) → HasRisingNames (done ++ fields) → AllByRecursion IsField fields
+-- what a field holds is read back
+abbrev pub ReadsBack : Field → Type 0
+ReadsBack f = IsReadable (value_data f.value)
+
+pub each_reads_back : (fields : List Field) → AllByRecursion IsField fields → AllByRecursion ReadsBack fields
+each_reads_back [] each = tt
+each_reads_back (f ∷ fields) each = (IsReadable-value f.value each.0.value, each_reads_back fields each.1)
+
+of_members-outline : (done fields : List Field) → HasRisingNames (done ++ fields) → AllByRecursion ReadsBack fields
     → of_members (members_outline (field_members fields)) (field_members done) ≡ Some (field_members (done ++ fields))
 of_members-outline done [] rising each = ap (λ fs. Some (field_members fs)) (sym (append-nil done))
 of_members-outline done (f ∷ fields) rising each =
     let whole = append_assoc done (f ∷ []) fields in
     let left = members_outline (field_members fields) in
-    ap (option_and_then (λ d. of_members left (put f.name d (field_members done)))) (IsReadable-value f.value each.0.value).converts
+    ap (option_and_then (λ d. of_members left (put f.name d (field_members done)))) each.0.converts
     ∙ ap (of_members left) (put_last done f fields rising)
     ∙ of_members-outline (done ++ f ∷ []) fields (subst HasRisingNames (sym whole) rising) each.1
     ∙ ap (λ fs. Some (field_members fs)) whole
 
-numbers-outline : (fields : List Field) → AllByRecursion IsField fields → tree.MembersHaveNumbers (members_outline (field_members fields))
+numbers-outline : (fields : List Field) → AllByRecursion ReadsBack fields → tree.MembersHaveNumbers (members_outline (field_members fields))
 numbers-outline [] each = tt
-numbers-outline (f ∷ fields) each = ((IsReadable-value f.value each.0.value).numbers, numbers-outline fields each.1)
+numbers-outline (f ∷ fields) each = (each.0.numbers, numbers-outline fields each.1)
 
-flat : (v : Value) → tree.depth (outline (value_data v)) ≡ 0
+pub flat : (v : Value) → tree.depth (outline (value_data v)) ≡ 0
 flat (Int z) = refl
 flat (Text bytes) = refl
 
@@ -172,16 +178,24 @@ depth-outline : (fields : List Field) → tree.members_depth (members_outline (f
 depth-outline [] = refl
 depth-outline (f ∷ fields) = omega (arith, flat f.value, depth-outline fields)
 
-pub IsReadable-content : (c : Content) → IsContent c → IsReadable (content_data c)
-IsReadable-content (Record fields) h = record {
-  numbers = (numbers-outline fields h.each, tt);
+pub depth-fields : (fields : List Field) → tree.depth (outline (object (field_members fields))) ≡ 1
+depth-fields fields = omega (arith, depth-outline fields)
+
+-- members in order, each of which is read back, are read back
+pub IsReadable-fields : (fields : List Field) → HasRisingNames fields → AllByRecursion ReadsBack fields → IsReadable (object (field_members fields))
+IsReadable-fields fields rising each = record {
+  numbers = numbers-outline fields each;
   shallow = omega (arith, depth-outline fields);
-  converts = ap (λ o. option_map object (option_and_then (λ d. Some (put (codes "record") d no_members)) (option_map object o))) (of_members-outline [] fields h.rising h.each);
+  converts = ap (option_map object) (of_members-outline [] fields rising each);
 }
 
--- a content that was written is read back
-pub read-content_text : (c : Content) → IsContent c → read (content_text c) ≡ Some (content_data c)
-read-content_text c h = read-compact_text (content_data c) (IsReadable-content c h)
+-- an object of one member is read back where its document is
+pub IsReadable-under : (name : List ℕ) (d : Data) → IsReadable d → tree.depth (outline d) ≤ 126 → IsReadable (object (member name d no_members))
+IsReadable-under name d h shallow = record {
+  numbers = (h.numbers, tt);
+  shallow = omega arith;
+  converts = ap (λ o. option_map object (option_and_then (λ e. Some (put name e no_members)) o)) h.converts;
+}
 
 -- ---- writing
 

@@ -1,4 +1,6 @@
 pub mod Words
 pub mod Values
 pub mod Fields
+pub mod Items
+pub mod Tags
 pub mod Contents

@@ -1,8 +1,10 @@
 //! Tests of values and contents. Where memory is refused a test says so, asks again, and compares what follows;
 //! `scripts/refuse-memory` counts what is said.
-use crate::content::Content;
+use crate::array::{Array, GREATEST_INDEX, LEAST_INDEX};
+use crate::content::{Content, contents_may_be_stored};
 use crate::record::{Field, Record};
 use crate::value::{Kind, Value};
+use crate::variant::{Tag, Variant};
 use crate::words::{Identifier, Text, ValueFault};
 use serde_json::Value as Json;
 use std::alloc::Global;
@@ -257,6 +259,130 @@ fn records(rt: HostRuntime) -> Result<(), Fail> {
     if check_records(&rt, rt.alloc()).is_err() {
         note_refusal(&rt);
         check_records(&rt, rt.alloc())?;
+    }
+    Ok(())
+}
+
+#[test]
+fn arrays_and_variants_are_spelled(rt: HostRuntime) -> Result<(), Fail> {
+    spelled_as(
+        &rt,
+        rt.alloc(),
+        " {\"array\":{\"of\":\"int\" , \"low\":-1,\"items\":[3, -4]}}",
+        "{\"array\":{\"items\":[3,-4],\"low\":-1,\"of\":\"int\"}}",
+    )?;
+    spelled_as(
+        &rt,
+        rt.alloc(),
+        "{\"variant\":{\"value\":\"x\",\"tags\":{\"b\":\"int\",\"a\":\"text\"},\"tag\":\"a\"}}",
+        "{\"variant\":{\"tag\":\"a\",\"tags\":{\"a\":\"text\",\"b\":\"int\"},\"value\":\"x\"}}",
+    )?;
+    Ok(())
+}
+
+#[test]
+fn refuses_what_is_no_array_or_variant(rt: HostRuntime) {
+    let alloc = rt.alloc();
+    let cases = [
+        "{\"array\":[]}",
+        "{\"array\":{\"items\":[],\"low\":1}}",
+        "{\"array\":{\"items\":[],\"low\":1,\"of\":\"int\",\"x\":1}}",
+        "{\"array\":{\"items\":[],\"low\":1,\"of\":\"real\"}}",
+        "{\"array\":{\"items\":[],\"low\":1.0,\"of\":\"int\"}}",
+        "{\"array\":{\"items\":[\"1\"],\"low\":1,\"of\":\"int\"}}",
+        "{\"array\":{\"items\":[1],\"low\":-4611686018427387905,\"of\":\"int\"}}",
+        "{\"array\":{\"items\":[1,2],\"low\":4611686018427387904,\"of\":\"int\"}}",
+        "{\"variant\":{\"tag\":\"a\",\"tags\":{},\"value\":1}}",
+        "{\"variant\":{\"tag\":\"b\",\"tags\":{\"a\":\"int\"},\"value\":1}}",
+        "{\"variant\":{\"tag\":\"a\",\"tags\":{\"a\":\"text\"},\"value\":1}}",
+        "{\"variant\":{\"tag\":\"a\",\"tags\":{\"a\":1},\"value\":1}}",
+        "{\"variant\":{\"tag\":\"A\",\"tags\":{\"A\":\"int\"},\"value\":1}}",
+    ];
+    for text in cases {
+        let mut answer = is_unfit(Content::read_stored(alloc, text));
+        if answer.is_err() {
+            note_refusal(&rt);
+            answer = is_unfit(Content::read_stored(alloc, text));
+        }
+        assert_eq!(rt; answer, Ok(true), "at {text}");
+    }
+}
+
+fn check_emptied(rt: &impl Abort, alloc: Global) -> Result<(), ValueFault> {
+    let text = "{\"array\":{\"items\":[],\"low\":4611686018427387905,\"of\":\"int\"}}";
+    let stored = Content::from_stored_spelling(alloc, text)?.copy()?;
+    assert_eq!(rt; stored.text(alloc)?.as_str(), text);
+    assert!(rt; is_unfit(Content::read(alloc, text))? && is_unfit(Content::from_spelling(alloc, text))?);
+    let json = Json::from_str(alloc, text)?;
+    assert!(rt; !is_unfit(Content::from_stored_json(alloc, &json))?);
+    assert!(rt; is_unfit(Content::from_json(alloc, &json))?);
+    Ok(())
+}
+
+#[test]
+fn an_emptied_array_is_stored_and_in_no_setup(rt: HostRuntime) -> Result<(), Fail> {
+    contents_may_be_stored();
+    if check_emptied(&rt, rt.alloc()).is_err() {
+        note_refusal(&rt);
+        check_emptied(&rt, rt.alloc())?;
+    }
+    Ok(())
+}
+
+fn ints(alloc: Global, numbers: &[i64]) -> Result<Vec<Value>, ValueFault> {
+    let mut items = Vec::new(alloc);
+    for number in numbers {
+        items.push(Value::Int(*number))?;
+    }
+    Ok(items)
+}
+
+fn check_arrays(rt: &impl Abort, alloc: Global) -> Result<(), ValueFault> {
+    assert!(rt; Array::from_items(Kind::Text, 0, ints(alloc, &[1])?).is_err());
+    assert!(rt; Array::from_items(Kind::Int, GREATEST_INDEX, ints(alloc, &[1, 2])?).is_err());
+    let least = Array::from_items(Kind::Int, LEAST_INDEX, Vec::new(alloc)).map_err(|_| ValueFault::Unfit)?;
+    assert!(rt; !least.has_room_below() && least.has_room_above() && least.high() == LEAST_INDEX - 1);
+
+    let mut array = Array::from_items(Kind::Int, 5, ints(alloc, &[10, 20])?).map_err(|_| ValueFault::Unfit)?;
+    let kept = array.copy()?;
+    assert!(rt; array.has_room_below() && array.has_room_above() && array.kind() == Kind::Int);
+    array.add_high(Value::Int(30))?;
+    array.add_low(Value::Int(0))?;
+    assert!(rt; array.low() == 4 && array.high() == 7 && array.size() == 4);
+    assert!(rt; array.fetch(4) == Some(&Value::Int(0)) && array.fetch(8) == None && array.fetch(3) == None);
+    assert!(rt; array.store(6, Value::Int(21)) == Some(Value::Int(20)));
+    assert!(rt; array.remove_high() == Some(Value::Int(30)) && array.remove_low() == Some(Value::Int(0)));
+    assert!(rt; array.low() == 5 && array.high() == 6 && array.fetch(6) == Some(&Value::Int(21)));
+    assert!(rt; kept.fetch(6) == Some(&Value::Int(20)) && kept.size() == 2);
+    Ok(())
+}
+
+fn check_variants(rt: &impl Abort, alloc: Global) -> Result<(), ValueFault> {
+    let mut tags = Vec::new(alloc);
+    for (name, kind) in [("none", Kind::Int), ("some", Kind::Text)] {
+        let name = Identifier::parse(alloc, name)?;
+        tags.push(Tag { name, kind })?;
+    }
+    let (none, some) = (Identifier::parse(alloc, "none")?, Identifier::parse(alloc, "some")?);
+    let mut variant = Variant::from_parts(tags, none.copy()?, Value::Int(0)).ok_or(ValueFault::Unfit)?;
+    let kept = variant.copy()?;
+    assert!(rt; variant.kind_of(&some) == Some(Kind::Text) && Kind::Text.name() == "text");
+    variant.change(some.copy()?, Value::Text(Text::new(alloc, "x")?));
+    assert!(rt; *variant.tag() == some && variant.value().kind() == Kind::Text);
+    assert!(rt; *kept.tag() == none && *kept.value() == Value::Int(0));
+    assert!(rt; kept.tags().len() == 2 && kept.tags()[1].copy()?.kind == Kind::Text);
+    Ok(())
+}
+
+#[test]
+fn arrays_and_variants(rt: HostRuntime) -> Result<(), Fail> {
+    if check_arrays(&rt, rt.alloc()).is_err() {
+        note_refusal(&rt);
+        check_arrays(&rt, rt.alloc())?;
+    }
+    if check_variants(&rt, rt.alloc()).is_err() {
+        note_refusal(&rt);
+        check_variants(&rt, rt.alloc())?;
     }
     Ok(())
 }

@@ -37,6 +37,10 @@ steps_of example = map (λ line. line.0) example
 abbrev pub Answers : Example → Type 0
 Answers example = answers_from opening_setup [] (steps_of example) ≡ map (λ line. line.1) example
 
+-- the same from another setup
+abbrev pub AnswersFrom : Setup → Example → Type 0
+AnswersFrom setup example = answers_from setup [] (steps_of example) ≡ map (λ line. line.1) example
+
 -- the history that the steps leave
 abbrev pub history_of : Example → List Event
 history_of example = history_from opening_setup [] (steps_of example)

@@ -4,4 +4,5 @@ pub mod Crashes
 pub mod Orphans
 pub mod Endings
 pub mod Refusals
+pub mod Types
 pub mod Histories

@@ -9,13 +9,14 @@ ghost use Rattle.run_model.specs.Texts.{step_text, answer_text};
 ghost use Rattle.run_model.specs.Versions.{locks_on, versions, base_of};
 ghost use Rattle.run_model.specs.Gathering.{least_failing};
 ghost use Rattle.run_model.specs.StableContent.{stable_count, stable_base, stable_prepared, is_stably_decided};
-ghost use Rattle.worked_examples.specs.Example.{Answers, Explains, opening_setup, history_of, record_of, action_1, action_1_1, action_2, balance, set_balance, gives};
+ghost use Rattle.worked_examples.specs.Example.{Answers, AnswersFrom, Explains, opening_setup, history_of, record_of, action_1, action_1_1, action_2, balance, set_balance, gives};
 ghost use Rattle.worked_examples.specs.Histories as histories;
 ghost use Rattle.worked_examples.specs.Telling as telling;
 ghost use Rattle.worked_examples.specs.Crashes as crashes;
 ghost use Rattle.worked_examples.specs.Orphans as orphans;
 ghost use Rattle.worked_examples.specs.Endings as endings;
 ghost use Rattle.worked_examples.specs.Refusals as refusals;
+ghost use Rattle.worked_examples.specs.Types as types;
 
 /// A child's commit that was not told yet: its parent waits for it.
 pub fn committed_not_told()
@@ -101,6 +102,21 @@ pub fn refusal_numbers()
 /// A call that would begin an action of 33 levels is refused.
 pub fn depth_limit()
     ensures { Answers refusals.depth_limit }
+{}
+
+/// An array grows and shrinks at both ends, and its low index moves with the low end.
+pub fn array_ends()
+    ensures { AnswersFrom types.setup_of_types types.array_ends }
+{}
+
+/// At the least index nothing is added below.
+pub fn array_bounds()
+    ensures { AnswersFrom types.setup_at_the_bound types.array_bounds }
+{}
+
+/// A variant gives its value under its tag alone.
+pub fn variant_tags()
+    ensures { AnswersFrom types.setup_of_types types.variant_tags }
 {}
 
 /// Histories that fit together fail nowhere.

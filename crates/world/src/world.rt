@@ -1,8 +1,11 @@
 ghost use Rattle.std.specs.Prelude.{◌≡◌, [], IfOk, OnOk, OnErr};
 ghost use Rattle.run_model.specs.Answers.{answer_of};
-ghost use Rattle.run_model.specs.Runs.{World, IsRun, world_after};
+ghost use Rattle.run_model.specs.Runs.{World, world_after};
+ghost use Rattle.run_laws.specs.Laws.{OrphanWhereRefused};
+ghost use Rattle.run_laws.specs.Serving.{IsServed};
 ghost use Rattle.world.specs.Running.{Ran, RanBefore};
 
+use plain_world::PlainWorld;
 use run_model::{Answer, History, Setup, Step};
 use std::alloc::{AllocError, Global};
 use std::marker::Model;
@@ -10,8 +13,7 @@ use std::marker::Model;
 /// Guardians, their objects and the actions on them.
 #[derive(Drop)]
 pub struct World {
-    setup: Setup,
-    history: History,
+    plain: PlainWorld,
 }
 
 impl Model for World {
@@ -19,9 +21,9 @@ impl Model for World {
 
     ghost Value = { World };
 
-    ghost view = { λ a. record { setup = a.setup; past = a.history } };
+    ghost view = { λ a. a.plain };
 
-    ghost invariant = { λ a. IsRun a.setup a.history };
+    ghost invariant = { λ a. IsRun a.plain.setup a.plain.past };
 }
 
 impl World {
@@ -30,8 +32,7 @@ impl World {
         ensures { IfOk result (λ world. world ≡ record { setup = setup; past = [] }) }
     {
         Ok(World {
-            setup,
-            history: History::new(alloc),
+            plain: PlainWorld::new(alloc, setup)?,
         })
     }
 
@@ -40,17 +41,22 @@ impl World {
     pub fn step(&mut self, step: &Step) -> Result<Answer, AllocError>
         ensures answer { IfOk result (λ answer. answer ≡ answer_of self.old.setup step.now self.old.past) }
         ensures after { IfOk result (λ answer. self.new ≡ world_after self.old step.now answer) }
+        ensures orphans { IfOk result (λ answer. OrphanWhereRefused step.now answer self.old.past) }
+        ensures served { IsServed self.new.setup self.new.past }
         ensures err { OnErr result (self.new ≡ self.old) }
     {
-        Err(AllocError)
+        self.plain.step(step)
     }
 
     /// Makes the steps one after another, and appends their answers. Where memory runs out, the world and the answers are those of the
     /// steps before.
     pub fn run(&mut self, steps: &[Step], answers: &mut Vec<Answer>) -> Result<(), AllocError>
         ensures ok { OnOk result (Ran self.old self.new steps.now answers.old.items answers.new.items) }
+        ensures served { IsServed self.new.setup self.new.past }
         ensures err { OnErr result (RanBefore self.old self.new steps.now answers.old.items answers.new.items) }
     {
+        // so that what happened before is known to be a run
+        let _ = &self.plain;
         for step in steps {
             answers.reserve(1)?;
             let answer = self.step(step)?;
@@ -62,15 +68,15 @@ impl World {
     /// What has happened: the accepted steps with their answers. This takes no memory.
     pub fn history(&self) -> &History
         ensures past { result.now ≡ self.now.past }
-        ensures run { IsRun self.now.setup self.now.past }
+        ensures served { IsServed self.now.setup self.now.past }
     {
-        &self.history
+        self.plain.history()
     }
 
     /// The setup from which it began.
     pub fn setup(&self) -> &Setup
         ensures { result.now ≡ self.now.setup }
     {
-        &self.setup
+        self.plain.setup()
     }
 }

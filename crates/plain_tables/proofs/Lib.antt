@@ -1,0 +1,4 @@
+pub mod Homes
+pub mod Kept
+pub mod Knowing
+pub mod Rows

@@ -1,0 +1,4 @@
+pub mod ArmNames
+pub mod Counting
+pub mod Places
+pub mod Kept

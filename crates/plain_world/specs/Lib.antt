@@ -1,0 +1,4 @@
+pub mod Plain
+pub mod Arms
+pub mod Kept
+pub mod Ready

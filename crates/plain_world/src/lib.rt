@@ -1,0 +1,13 @@
+//! The world that answers every step by going over its history, as the definitions are written.
+//!
+//! Its history is a run. What the definitions' recursion could not find in time stands in tables, which grow with the history.
+#![tactic(auto)]
+
+mod objects;
+mod outcomes;
+mod refusals;
+mod view;
+mod world;
+
+pub use run_model::{Answer, Event, History, Setup, Step};
+pub use world::PlainWorld;

@@ -1,0 +1,107 @@
+ghost use Rattle.std.specs.Prelude.{◌≡◌, [], IfOk, OnErr};
+ghost use Rattle.run_model.specs.Answers.{answer_of};
+ghost use Rattle.run_model.specs.Runs.{World, IsRun, is_accepted, world_after};
+ghost use Rattle.plain_world.specs.Plain.{IsPlain};
+
+use crate::view::View;
+use crate::{outcomes, refusals};
+use plain_tables::Tables;
+use run_model::{Answer, Event, History, Setup, Step};
+use std::alloc::{AllocError, Global};
+use std::marker::Model;
+
+/// Guardians, their objects and the actions on them.
+#[derive(Drop)]
+pub struct PlainWorld {
+    alloc: Global,
+    setup: Setup,
+    history: History,
+    tables: Tables,
+}
+
+impl Model for PlainWorld {
+    ghost use Rattle.run_model.specs.Runs.{World};
+    ghost use Rattle.plain_world.specs.Plain.{IsPlain};
+
+    ghost Value = { World };
+
+    ghost view = { λ a. record { setup = a.setup; past = a.history } };
+
+    ghost invariant = { λ a. IsPlain a.setup a.tables a.history };
+}
+
+impl PlainWorld {
+    /// The guardians of the setup, to whom nothing has happened.
+    pub fn new(alloc: Global, setup: Setup) -> Result<PlainWorld, AllocError>
+        ensures { IfOk result (λ world. world ≡ record { setup = setup; past = [] }) }
+    {
+        let tables = Tables::new(alloc, &setup)?;
+        Ok(PlainWorld {
+            alloc,
+            setup,
+            history: History::new(alloc),
+            tables,
+        })
+    }
+
+    /// Makes one step and gives its answer. An accepted step is in the history from then on, with its answer; one that is refused or
+    /// waits changes nothing. `Err` comes for want of memory alone, and then the world is as it was.
+    pub fn step(&mut self, step: &Step) -> Result<Answer, AllocError>
+        ensures answer { IfOk result (λ answer. answer ≡ answer_of self.old.setup step.now self.old.past) }
+        ensures after { IfOk result (λ answer. self.new ≡ world_after self.old step.now answer) }
+        ensures err { OnErr result (self.new ≡ self.old) }
+    {
+        let view = View {
+            alloc: self.alloc,
+            setup: &self.setup,
+            history: &self.history,
+            tables: &self.tables,
+        };
+        let answer = answer_to(&view, step)?;
+        if !is_accepted(&answer) {
+            return Ok(answer);
+        }
+        let event = Event {
+            step: step.copy()?,
+            answer: answer.copy()?,
+        };
+        let changes = self.tables.changes(&self.setup, &self.history, &event)?;
+        self.history.push(event)?;
+        self.tables.install(&self.setup, &self.history, changes);
+        Ok(answer)
+    }
+
+    /// What has happened: the accepted steps with their answers. This takes no memory.
+    pub fn history(&self) -> &History
+        ensures past { result.now ≡ self.now.past }
+        ensures run { IsRun self.now.setup self.now.past }
+    {
+        &self.history
+    }
+
+    /// The setup from which it began.
+    pub fn setup(&self) -> &Setup
+        ensures { result.now ≡ self.now.setup }
+    {
+        &self.setup
+    }
+}
+
+/// The answer of a step: its first refusal, or what comes of it.
+#[tactic(auto, unfolding(run_model::specs::Answers::answer_of))]
+fn answer_to(view: &View<'_>, step: &Step) -> Result<Answer, AllocError>
+    requires { IsPlain view.now.setup.now view.now.tables.now view.now.history.now }
+    ensures { IfOk result (λ answer. answer ≡ answer_of view.now.setup.now step.now view.now.history.now) }
+{
+    match refusals::of_step(view, step)? {
+        Some(why) => Ok(Answer::Refused(why)),
+        None => outcomes::of_step(view, step),
+    }
+}
+
+/// Whether the step of this answer happened.
+fn is_accepted(answer: &Answer) -> bool
+    ensures { result ≡ is_accepted answer.now }
+{
+    !matches!(answer, Answer::Waits(_) | Answer::Refused(_))
+}
