@@ -62,8 +62,7 @@ some_of_length (x ∷ bytes) h e = absurd cc
 
 pub long_is_no_step : (start now : Option (List ℕ)) (bytes : List ℕ) → Consumes start now bytes → Lacks 10 bytes → max_line < length bytes → FacesNoStep start
 long_is_no_step start now bytes h lacks long =
-    let left = left_text start now bytes h in
-    (
+    let left = left_text start now bytes h in (
       bytes ++ left.0,
       left.1,
       not_empty bytes left.0 (some_of_length bytes (omega arith)),
@@ -74,8 +73,7 @@ long_is_no_step start now bytes h lacks long =
 pub line_is_no_step : (start now : Option (List ℕ)) (line : List ℕ) → Consumes start now (line ++ 10 ∷ []) → Lacks 10 line → ((s : Step) → Spells line s → ⊥) → FacesNoStep start
 line_is_no_step start now line h lacks none =
     let left = left_text start now (line ++ 10 ∷ []) h in
-    let shape : (line ++ 10 ∷ []) ++ left.0 ≡ line ++ 10 ∷ left.0 = append_assoc line (10 ∷ []) left.0 in
-    (
+    let shape : (line ++ 10 ∷ []) ++ left.0 ≡ line ++ 10 ∷ left.0 = append_assoc line (10 ∷ []) left.0 in (
       line ++ 10 ∷ left.0,
       subst (Gives start) shape left.1,
       filled line left.0,

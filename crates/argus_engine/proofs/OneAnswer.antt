@@ -58,14 +58,13 @@ pub by_step : (setup : Setup) (past : List Event) (number : ℕ) (s : Step) (res
 by_step setup past number s rest answers fits h =
     elim (ways setup past number (step_text s ++ 10 ∷ rest) answers h) [
       | inl w ↦ (
-        let same = same_step w.made s w.rest rest w.fits fits (sym w.line) in
-        (
-          w.more,
-          w.answer ∙ ap (λ (t : Step). answer_text (answer_of setup t past) ++ 10 ∷ w.more) same.0,
-          subst (λ (r : List ℕ). IsAnswered setup (history_after s (answer_of setup s past) past) (suc number) r w.more) same.1
-          (subst (λ (t : Step). IsAnswered setup (history_after t (answer_of setup t past) past) (suc number) w.rest w.more) same.0 w.answered),
-        )
-      )
+          let same = same_step w.made s w.rest rest w.fits fits (sym w.line) in (
+            w.more,
+            w.answer ∙ ap (λ (t : Step). answer_text (answer_of setup t past) ++ 10 ∷ w.more) same.0,
+            subst (λ (r : List ℕ). IsAnswered setup (history_after s (answer_of setup s past) past) (suc number) r w.more) same.1
+                (subst (λ (t : Step). IsAnswered setup (history_after t (answer_of setup t past) past) (suc number) w.rest w.more) same.0 w.answered),
+          )
+          )
       | inr (inl w) ↦ absurd (w.other (s, fits, rest, refl))
       | inr (inr w) ↦ absurd (not_empty (step_text s) rest w.ended)
     ]
@@ -88,8 +87,7 @@ back setup past number (s ∷ steps) rest answers each h =
     let answer = answer_of setup s past in
     let shape : (step_text s ++ 10 ∷ step_lines steps) ++ rest ≡ step_text s ++ 10 ∷ (step_lines steps ++ rest) = append_assoc (step_text s) (10 ∷ step_lines steps) rest in
     let first = by_step setup past number s (step_lines steps ++ rest) answers each.0 (subst (λ (t : List ℕ). IsAnswered setup past number t answers) shape h) in
-    let others = back setup (history_after s answer past) (suc number) steps rest first.0 each.1 first.2 in
-    (
+    let others = back setup (history_after s answer past) (suc number) steps rest first.0 each.1 first.2 in (
       others.0,
       first.1 ∙ ap (λ (m : List ℕ). answer_text answer ++ 10 ∷ m) others.1 ∙ sym (append_assoc (answer_text answer) (10 ∷ answer_lines setup (history_after s answer past) steps) others.0),
       subst (λ n. IsAnswered setup (history_from setup (history_after s answer past) steps) n rest others.0) (omega arith) others.2,

@@ -207,12 +207,11 @@ begun {input} {old = old} same r e =
 pub begun_part : {input left before after : Option (List ℕ)} {old new : World} {number : ℕ} {kept : List ℕ} (later : Option (List ℕ)) (none : List ℕ)
     → Running input left before after old new number kept → TakesFront after later kept → none ≡ [] → Writes before later (λ sent. BeginsAnswers input old (sent ++ none))
 begun_part {input} {before = before} {after = after} {old = old} {kept = kept} later none r took e =
-    let sent = r.sent ++ take took.0 kept in
-    (
+    let sent = r.sent ++ take took.0 kept in (
       sent,
       Appends-trans before after later r.sent (take took.0 kept) r.appended took.2,
       subst (BeginsAnswers input old) (sym (ap (λ (l : List ℕ). sent ++ l) e ∙ append-nil sent))
-      (begins_part input old sent (r.sent ++ kept) (front_begins r.sent kept took.0) (begins_so_far _ _ _ _ _ _ r.progress)),
+          (begins_part input old sent (r.sent ++ kept) (front_begins r.sent kept took.0) (begins_so_far _ _ _ _ _ _ r.progress)),
     )
 
 pub done : {input left before after : Option (List ℕ)} {old new : World} {number : ℕ} {kept : List ℕ} (now : Option (List ℕ)) (next : World) (grown : List ℕ) (kind : Next)
@@ -226,12 +225,11 @@ pub stopped : {input left before after : Option (List ℕ)} {old new : World} {n
     → Running input left before after old new number kept → GoesOn left now new next kept grown kind → kind ≡ found.NoStep → all ≡ grown ++ error_text number
     → Writes before after (λ sent. Answers input old next (sent ++ all) Stopped)
 stopped {input} {left} {old = old} {new = new} {number = number} {kept = kept} now next grown all kind r goes e wrote =
-    let (faces, same, none) = subst (GoesOn left now new next kept grown) e goes in
-    (
+    let (faces, same, none) = subst (GoesOn left now new next kept grown) e goes in (
       r.sent,
       r.appended,
       answers_stopped input left old new next number (r.sent ++ kept) (r.sent ++ all) r.progress faces same
-      (ap (λ (l : List ℕ). r.sent ++ l) (wrote ∙ ap (λ (l : List ℕ). l ++ error_text number) none) ∙ sym (append_assoc r.sent kept (error_text number))),
+          (ap (λ (l : List ℕ). r.sent ++ l) (wrote ∙ ap (λ (l : List ℕ). l ++ error_text number) none) ∙ sym (append_assoc r.sent kept (error_text number))),
     )
 
 pub kept_at_no_step : (left now : Option (List ℕ)) (new next : World) (kept grown all : List ℕ) (kind : Next) → GoesOn left now new next kept grown kind → kind ≡ found.NoStep → all ≡ grown → all ≡ kept
@@ -247,8 +245,7 @@ begun_of_answers input before after old new kept ended w = (w.0, w.1, begins_all
 pub ends_begun : (input before after later : Option (List ℕ)) (old : World) (kept text : List ℕ)
     → Writes before after (λ sent. BeginsAnswers input old (sent ++ kept)) → text ≡ kept → TakesFront after later text → Writes before later (λ written. BeginsAnswers input old written)
 ends_begun input before after later old kept text w e took =
-    let sent = w.0 ++ take took.0 text in
-    (
+    let sent = w.0 ++ take took.0 text in (
       sent,
       Appends-trans before after later w.0 (take took.0 text) w.1 took.2,
       begins_part input old sent (w.0 ++ kept) (subst (λ (l : List ℕ). Begins sent (w.0 ++ l)) e (front_begins w.0 text took.0)) w.2,

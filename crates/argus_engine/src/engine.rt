@@ -145,7 +145,12 @@ fn answer_next<R: Read>(
 
 /// Makes the step that the line spells and appends the line of its answer; `false` where the line spells no step. After a
 /// refusal of memory the text is as it was.
-fn answer_line(alloc: Global, world: &mut World, line: &[u8], answers: &mut String) -> Result<bool, AllocError>
+fn answer_line(
+    alloc: Global,
+    world: &mut World,
+    line: &[u8],
+    answers: &mut String,
+) -> Result<bool, AllocError>
     ensures ok { IfOk result (λ is_step. MatchBool is_step
         ((step : Step) × Spells line.now step × (world.new ≡ world_after world.old step (answer_of world.old.setup step world.old.past))
         × (string_bytes answers.new ≡ string_bytes answers.old ++ (answer_text (answer_of world.old.setup step world.old.past) ++ line_feed ∷ [])))

@@ -9,3 +9,6 @@ mod reading;
 mod writing;
 
 pub use engine::{Ended, Fault, steps};
+
+#[cfg(test)]
+mod tests;

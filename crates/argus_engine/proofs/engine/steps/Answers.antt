@@ -23,4 +23,3 @@ returns-clause-begun g c =
     subst (λ input. Writes (g.W.Write.contents c.args.writer.now) (g.W.Write.contents c.finish-finished.new.writer) (λ written. BeginsAnswers input c.args.world.now written))
     (buffered_gives c.in-Ok.buffered _ (λ r. g.R.Read.remaining r.now) c.in-Ok.ensures.inner c.in-Ok.ensures.empty c.in-Ok.ensures.capacity)
     (ends_begun _ _ _ _ _ _ _ c.answer_all-ended.ensures.begun c.as_str.ensures.value c.finish-finished.ensures.front)
-

@@ -1,0 +1,63 @@
+-- What clap's answers say of the words.
+use Rattle.std.proofs.Common.{◌≡◌, List, [], ◌∷◌, Bool, true, Option, Some, None, IsNone, map, option_map, codes, refl, sym, ap, ap₂, subst, ◌∙◌, rules}
+use Rattle.std.specs.Prelude.{Box}
+use Rattle.std.specs.Box.{box_value}
+use Rattle.clap.specs.Words.{App, Row, Text, HasMatchesOf, app_of, first_of, found_of, is_simple, is_simple_and_free, rows_of, subcommand_of, subcommand_rows, subcommand_rows_of, HasKind, fault_of}
+use Rattle.clap.specs.declared.parser.matches.ArgMatches.{ArgMatches}
+use Rattle.clap.specs.declared.parser.matches.ArgMatches.TheViews.{out-ArgMatches, out-SubCommand}
+use Rattle.clap.specs.declared.parser.matches.SubCommand.{SubCommand}
+use Rattle.std.specs.Borrow.{Bor}
+use Rattle.clap.specs.Words.{first_value, subcommand_name_of}
+use Rattle.clap.specs.declared.parser.matches.Found.{Found}
+use Rattle.clap.proofs.WalkLemmas.{first_value-rows}
+use Rattle.clap.proofs.OnLiterals.{clap_on_literals}
+use Rattle.argus.specs.declared.request.Command.{Command}
+use Rattle.argus.specs.declared.request.Command.TheVariants.{Steps}
+use Rattle.argus.specs.Words.{argus_app, HasPaths, IsFound, IsCommand}
+
+pub argus_is_simple : is_simple argus_app ≡ true
+unfolding clap_on_literals
+argus_is_simple = refl
+
+pub argus_is_free : is_simple_and_free argus_app ≡ true
+unfolding clap_on_literals
+argus_is_free = refl
+
+-- what was found is what clap's definition finds
+pub found_is : (app : App) (words : List Text) (m : ArgMatches) → app ≡ argus_app → HasMatchesOf app words m → subcommand_rows_of m ≡ subcommand_of argus_app words
+found_is app words m e h = (h (ap is_simple e ∙ argus_is_simple)).1 ∙ ap (λ (a : App). subcommand_of a words) e
+
+pub command_is : (app : App) (words : List Text) (m : ArgMatches) (command : Command) → app ≡ argus_app → HasMatchesOf app words m → IsFound (subcommand_rows_of m) command → IsCommand words command
+command_is app words m command e h found = subst (λ o. IsFound o command) (found_is app words m e h) found
+
+pub no_command : (app : App) (words : List Text) (m : ArgMatches) → app ≡ argus_app → HasMatchesOf app words m
+    → ((command : Command) → IsFound (subcommand_rows_of m) command → ⊥) → (command : Command) → IsCommand words command → ⊥
+no_command app words m e h none command is = none command (subst (λ o. IsFound o command) (sym (found_is app words m e h)) is)
+
+-- what stands at an id
+pub path_is : (f : Found) (id : Text) (r : Option (Bor Text)) (path : Bor Text) → option_map (λ t. t.now) r ≡ first_value f id → r ≡ Some path → first_of id (rows_of f) ≡ Some path.now
+path_is f id r path e is = sym (first_value-rows f id) ∙ sym e ∙ ap (option_map (λ t. t.now)) is
+
+pub no_path : (f : Found) (id : Text) (r : Option (Bor Text)) → option_map (λ t. t.now) r ≡ first_value f id → r ≡ None → first_of id (rows_of f) ≡ None
+no_path f id r e is = sym (first_value-rows f id) ∙ sym e ∙ ap (option_map (λ t. t.now)) is
+
+pub no_setup : (rows : List Row) → first_of (codes "SETUP") rows ≡ None → (command : Command) → HasPaths rows command → ⊥
+no_setup rows e (Steps setup file) h = let p = h.0 in absurd cc
+
+pub no_file : (rows : List Row) → first_of (codes "FILE") rows ≡ None → (command : Command) → HasPaths rows command → ⊥
+no_file rows e (Steps setup file) h = let p = h.1 in absurd cc
+
+-- the subcommand that was used, with its rows
+found_in : {Z : Type 0} (b : Option (Box SubCommand Z)) (name : Text) (rows : List Row) → Some name ≡ option_map (λ x. (out-SubCommand (box_value x)).name.now) b
+    → Some rows ≡ option_map (λ p. p.1) (subcommand_rows b) → subcommand_rows b ≡ Some (name, rows)
+found_in None name rows e f = absurd cc
+found_in (Some b) name rows e f =
+    let n : name ≡ (out-SubCommand (box_value b)).name.now = cc in
+    let r : rows ≡ rows_of (found_of (out-SubCommand (box_value b)).matches) = cc in
+    ap₂ (λ (x : Text) (y : List Row). Some (x, y)) (sym n) (sym r)
+
+pub sub_is : (m : ArgMatches) (r : Option (Bor Text × Bor ArgMatches)) (name : Bor Text) (found : Bor ArgMatches)
+    → option_map (λ p. p.0.now) r ≡ subcommand_name_of m → option_map (λ p. rows_of (found_of p.1.now)) r ≡ option_map (λ p. p.1) (subcommand_rows_of m) → r ≡ Some (name, found)
+    → subcommand_rows_of m ≡ Some (name.now, rows_of (found_of found.now))
+sub_is m r name found e f is =
+    found_in (out-ArgMatches m).subcommand name.now (rows_of (found_of found.now)) (sym (ap (option_map (λ p. p.0.now)) is) ∙ e) (sym (ap (option_map (λ p. rows_of (found_of p.1.now))) is) ∙ f)

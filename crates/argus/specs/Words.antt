@@ -1,0 +1,38 @@
+-- What the words of a command line are, by clap's own definition of simple commands.
+use Rattle.std.specs.Prelude.{ℕ, ◌≡◌, List, Option, Some, codes, true}
+use Rattle.clap.specs.Words.{App, Row, Rule, Text, first_of, new_app, new_rule, with_rule, with_subcommand, HasKind, fault_of, subcommand_of}
+use Rattle.clap.specs.Simple.{on_top}
+use Rattle.argus.specs.declared.request.Command.{Command}
+use Rattle.argus.specs.declared.request.Command.TheVariants.{Steps}
+use Rattle.argus.specs.declared.request.CommandFault.{CommandFault}
+use Rattle.argus.specs.declared.request.CommandFault.TheVariants.{Said, Incomplete}
+
+-- an argument that has to be there
+abbrev pub needed : Text → Rule
+needed id = record (new_rule id) { required = true }
+
+-- `steps SETUP FILE`
+abbrev pub steps_app : App
+steps_app = with_rule (with_rule (new_app (codes "steps")) (needed (codes "SETUP"))) (needed (codes "FILE"))
+
+-- `argus`, whose words come without its own name, and which shows help where there are none
+abbrev pub argus_app : App
+argus_app =
+    with_subcommand (on_top (λ s. record s { no_binary_name = true; arg_required_else_help = true; subcommand_required = true }) (new_app (codes "argus"))) steps_app.top
+
+-- the paths of the command stand in the rows of the subcommand
+abbrev pub HasPaths : List Row → Command → Type 0
+HasPaths rows (Steps setup file) = (first_of (codes "SETUP") rows ≡ Some setup.now) × (first_of (codes "FILE") rows ≡ Some file.now)
+
+-- the command is the subcommand that was found, with its paths
+abbrev pub IsFound : Option (Text × List Row) → Command → Type 0
+IsFound found command = (rows : List Row) × (found ≡ Some (codes "steps", rows)) × HasPaths rows command
+
+-- the words are this command
+abbrev pub IsCommand : List Text → Command → Type 0
+IsCommand words command = IsFound (subcommand_of argus_app words) command
+
+-- the words are no command: clap says so, or they lack a part
+abbrev pub IsFault : List Text → CommandFault → Type 0
+IsFault words (Said error) = HasKind (fault_of argus_app words) error
+IsFault words Incomplete = (command : Command) → IsCommand words command → ⊥

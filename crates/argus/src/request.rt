@@ -1,0 +1,28 @@
+//! What a command line asks for.
+
+/// What the words ask for.
+#[derive(Clone, Copy, Drop)]
+pub enum Command<'a> {
+    /// Answers the steps of a file at a setup: the paths of the setup and of the file.
+    Steps(&'a str, &'a str),
+}
+
+/// Why words are no command.
+#[derive(Drop)]
+pub enum CommandFault {
+    /// What clap says: a mistake in the words, help that was asked for, or want of memory.
+    Said(clap::Error),
+    /// A part of the command is not there.
+    Incomplete,
+}
+
+impl From<clap::Error> for CommandFault {
+    ghost use Rattle.std.specs.Prelude.{◌≡◌};
+    ghost use Rattle.argus.specs.declared.request.CommandFault.TheVariants.{Said};
+
+    ghost from_gives = { λ error e. e ≡ Said error };
+
+    fn from(error: clap::Error) -> CommandFault {
+        CommandFault::Said(error)
+    }
+}

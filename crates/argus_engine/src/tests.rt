@@ -1,0 +1,221 @@
+//! Tests of the engine on readers and writers that fail, and of what it writes where nothing fails. Where memory is refused
+//! a test says so and runs again; `scripts/refuse-memory` counts what is said.
+use super::*;
+use run_model::{Setup, SetupFault};
+use std::alloc::{AllocError, Global};
+use std::io::{self, ErrorKind, Read, Write};
+use std::process::Abort;
+use std::test::Fail;
+use world::World;
+
+const SETUP: &str = "{\"guardians\":[{\"objects\":[{\"record\":{\"balance\":100}}]}]}";
+
+const STEPS: &str = "top 1\ncall 1 1\nop 1.1 1/1 set balance 50\nop 1 1/1 get balance\ncommit 1.1\n\
+op 1 1/1 get balance\ntell 1 1.1\nop 1 1/1 get balance\n";
+
+const ANSWERS: &str =
+    "began 1\nbegan 1.1\ngranted done\nrefused 5\ndone 0\nwaits 1.1\ndone 1\ngranted 50\n";
+
+/// Notes on standard error that memory was refused.
+fn note_refusal(rt: &impl Eprint) {
+    let _ = eprintln!(rt; "memory was refused");
+}
+
+/// A reader that gives a few bytes at a time and fails after so many calls.
+#[derive(Drop)]
+struct Failing<'a> {
+    bytes: &'a [u8],
+    calls_left: usize,
+}
+
+impl Read for Failing<'_> {
+    fn read(&mut self, buf: &mut [u8]) -> io::Result<usize> {
+        if self.calls_left == 0 {
+            return Err(io::Error::from(ErrorKind::Other));
+        }
+        self.calls_left -= 1;
+        let n = self.bytes.len().min(buf.len()).min(7);
+        buf[..n].copy_from_slice(&self.bytes[..n]);
+        self.bytes = &self.bytes[n..];
+        Ok(n)
+    }
+}
+
+/// A writer that takes a few bytes at a time and fails after so many calls.
+#[derive(Drop)]
+struct Full {
+    taken: Vec<u8>,
+    calls_left: usize,
+}
+
+impl Write for Full {
+    fn write(&mut self, buf: &[u8]) -> io::Result<usize> {
+        if self.calls_left == 0 {
+            return Err(io::Error::from(ErrorKind::Other));
+        }
+        self.calls_left -= 1;
+        let n = buf.len().min(5);
+        self.taken.extend_from_slice(&buf[..n])?;
+        Ok(n)
+    }
+
+    fn flush(&mut self) -> io::Result<()> {
+        match self.calls_left {
+            0 => Err(io::Error::from(ErrorKind::Other)),
+            _ => Ok(()),
+        }
+    }
+}
+
+fn new_world(alloc: Global) -> Result<World, AllocError> {
+    match Setup::read(alloc, SETUP.as_bytes()) {
+        Ok(setup) => World::new(alloc, setup),
+        Err(SetupFault::Bad | SetupFault::Memory) => Err(AllocError),
+    }
+}
+
+/// What the engine answers to a text, and what it wrote.
+fn answered<R: Read>(alloc: Global, reader: &mut R, writer: &mut Full) -> Result<Ended, Fault> {
+    let mut world = new_world(alloc)?;
+    steps(alloc, &mut world, reader, writer)
+}
+
+fn roomy(alloc: Global, calls_left: usize) -> Full {
+    Full {
+        taken: Vec::new(alloc),
+        calls_left,
+    }
+}
+
+/// The text is answered so, also where memory is refused the first time.
+fn is_answered(
+    rt: &(impl Abort + Eprint),
+    alloc: Global,
+    text: &[u8],
+    ended: Ended,
+    answers: &str,
+) {
+    let mut writer = roomy(alloc, usize::MAX);
+    let mut reader = text;
+    let mut came = answered(alloc, &mut reader, &mut writer);
+    if came == Err(Fault::Memory) {
+        note_refusal(rt);
+        assert!(rt; answers.as_bytes().starts_with(writer.taken.as_slice()));
+        writer = roomy(alloc, usize::MAX);
+        reader = text;
+        came = answered(alloc, &mut reader, &mut writer);
+    }
+    assert!(rt; came == Ok(ended));
+    assert!(rt; writer.taken.as_slice() == answers.as_bytes());
+}
+
+#[test]
+fn answers_each_line(rt: HostRuntime) {
+    is_answered(&rt, rt.alloc(), b"", Ended::Done, "");
+    is_answered(&rt, rt.alloc(), STEPS.as_bytes(), Ended::Done, ANSWERS);
+}
+
+#[test]
+fn stops_at_an_error(rt: HostRuntime) {
+    let alloc = rt.alloc();
+    is_answered(&rt, alloc, b"\n", Ended::Stopped, "error 1\n");
+    is_answered(&rt, alloc, b"top 1", Ended::Stopped, "error 1\n");
+    is_answered(
+        &rt,
+        alloc,
+        b"top 1\ntop  1\ntop 1\n",
+        Ended::Stopped,
+        "began 1\nerror 2\n",
+    );
+    is_answered(&rt, alloc, b"top 1\r\n", Ended::Stopped, "error 1\n");
+    is_answered(
+        &rt,
+        alloc,
+        b"top 1\ntop \xff\n",
+        Ended::Stopped,
+        "began 1\nerror 2\n",
+    );
+    is_answered(
+        &rt,
+        alloc,
+        b"top 1\ntop 1\ncrash 1",
+        Ended::Stopped,
+        "began 1\nbegan 2\nerror 3\n",
+    );
+}
+
+#[test]
+fn stops_at_a_long_line(rt: HostRuntime) -> Result<(), Fail> {
+    let mut text = Vec::from_slice(rt.alloc(), b"top 1\n")?;
+    for _ in 0..4096 {
+        text.extend_from_slice(b"aa")?;
+    }
+    text.push(b'\n')?;
+    is_answered(
+        &rt,
+        rt.alloc(),
+        text.as_slice(),
+        Ended::Stopped,
+        "began 1\nerror 2\n",
+    );
+    text.pop();
+    text.extend_from_slice(b"aa\n")?;
+    is_answered(
+        &rt,
+        rt.alloc(),
+        text.as_slice(),
+        Ended::Stopped,
+        "began 1\nerror 2\n",
+    );
+    Ok(())
+}
+
+#[test]
+fn says_where_a_read_failed(rt: HostRuntime) {
+    for calls_left in 0..20 {
+        let mut reader = Failing {
+            bytes: STEPS.as_bytes(),
+            calls_left,
+        };
+        let mut writer = roomy(rt.alloc(), usize::MAX);
+        let came = answered(rt.alloc(), &mut reader, &mut writer);
+        match came {
+            Ok(ended) => assert!(rt;
+                ended == Ended::Done && writer.taken.as_slice() == ANSWERS.as_bytes()
+            ),
+            Err(Fault::Memory) => note_refusal(&rt),
+            Err(fault) => assert!(rt; fault == Fault::Input),
+        }
+        assert!(rt; ANSWERS.as_bytes().starts_with(writer.taken.as_slice()));
+    }
+}
+
+#[test]
+fn says_where_a_write_failed(rt: HostRuntime) {
+    for calls_left in 0..20 {
+        let mut reader = STEPS.as_bytes();
+        let mut writer = roomy(rt.alloc(), calls_left);
+        let came = answered(rt.alloc(), &mut reader, &mut writer);
+        match came {
+            Ok(ended) => assert!(rt;
+                ended == Ended::Done && writer.taken.as_slice() == ANSWERS.as_bytes()
+            ),
+            Err(Fault::Memory) => note_refusal(&rt),
+            Err(fault) => assert!(rt; fault == Fault::Output),
+        }
+        assert!(rt; ANSWERS.as_bytes().starts_with(writer.taken.as_slice()));
+    }
+}
+
+#[test]
+fn faults_have_names(rt: HostRuntime) -> Result<(), Fail> {
+    let alloc = rt.alloc();
+    let faults = [Fault::Memory, Fault::Store, Fault::Input, Fault::Output];
+    let mut text = String::new(alloc);
+    for fault in &faults {
+        let name = format!(in alloc; "{fault};")?;
+        text.push_str(name.as_str())?;
+    }
+    assert!(rt; text.as_str() == "fault memory;fault store;fault input;fault output;");
+    Ok(())
+}
