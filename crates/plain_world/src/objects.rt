@@ -1,5 +1,5 @@
 //! What the kept operations on an object say: for whom an operation waits, what is left for it, and what a telling changes.
-ghost use Rattle.std.specs.Prelude.{◌≡◌, ◌≤◌, ◌&&◌, true, length, IfOk, OnOk, IsTrue, MatchOption};
+ghost use Rattle.std.specs.Prelude.{◌≡◌, ◌≤◌, ◌&&◌, length, IfOk, OnOk, IsTrue, MatchOption};
 ghost use Rattle.std.specs.List.{insert, list_any};
 ghost use Rattle.action_names.specs.Names.{insert_name};
 ghost use Rattle.atomic_types.specs.Operations.{conflicts};

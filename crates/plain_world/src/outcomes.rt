@@ -1,5 +1,5 @@
 //! What a step is answered where nothing refuses it.
-ghost use Rattle.std.specs.Prelude.{◌≡◌, ◌≤◌, ◌<◌, false, [], ◌∷◌, length, None, IfOk, IsTrue, if◌then◌else◌};
+ghost use Rattle.std.specs.Prelude.{◌≡◌, ◌≤◌, false, [], ◌∷◌, length, None, IfOk, IsTrue, if◌then◌else◌};
 ghost use Rattle.action_names.specs.Names.{child_of};
 ghost use Rattle.atomic_types.specs.Objects.{knows};
 ghost use Rattle.run_model.specs.declared.answer.Answer.TheVariants.{Began, VoteYes, VoteNo};
