@@ -1,5 +1,5 @@
 -- The numbers of arms: those that pass the limit, as the names tell it and as two counters tell it.
-use Rattle.std.proofs.Common.{Bool, List, [], ap, arith, false, inl, inr, length, min, refl, suc, sym, true, ℕ, ◌<◌, ◌==◌, ◌∙◌, ◌∷◌, ◌≡◌, ◌≤◌, ◌||◌, ltb}
+use Rattle.std.proofs.Common.{Bool, List, [], ap, arith, false, inl, inr, length, min, refl, suc, sym, true, ℕ, ◌==◌, ◌∙◌, ◌∷◌, ◌≡◌, ◌≤◌, ◌||◌, ltb}
 use Rattle.std.proofs.lemmas.Bool.{cases_lt, le-ltb, lt-ltb, true≢false}
 use Rattle.std.specs.List.{list_any}
 use Rattle.action_names.specs.Names.{Name, child_of, last_of}

@@ -1,10 +1,10 @@
 -- What holds of the numbers from 1 on, one after another.
-use Rattle.std.proofs.Common.{Bool, List, [], ap, arith, cond, false, true, refl, reverse, subst, suc, zero, sym, inl, inr, ℕ, ◌++◌, ◌+◌, ◌<◌, ◌∙◌, ◌∷◌, ◌≡◌, ◌≤◌, ◌&&◌, add-one}
+use Rattle.std.proofs.Common.{Bool, [], ap, arith, cond, false, true, refl, subst, suc, zero, sym, inl, inr, ℕ, ◌++◌, ◌+◌, ◌<◌, ◌∙◌, ◌∷◌, ◌≡◌, ◌&&◌, add-one}
 use Rattle.std.proofs.lemmas.Bool.{cases_eq}
 use Rattle.std.proofs.lemmas.List.{reverse-append}
 use Rattle.std.proofs.lemmas.List.Folds.{list_all-append}
 use Rattle.std.proofs.lemmas.List.Sums.{sum_by-append}
-use Rattle.std.specs.List.{list_all, count_by, sum_by}
+use Rattle.std.specs.List.{list_all, count_by}
 use Rattle.run_model.specs.Lists.{down_from, up_to}
 
 up_to_more : (n : ℕ) → up_to (suc n) ≡ up_to n ++ suc n ∷ []

@@ -1,6 +1,6 @@
 -- Operations on one object, in the order in which tables keep them, and what a run says of them.
-use Rattle.std.proofs.Common.{Bool, List, None, Option, Some, [], ap, arith, cond, false, filter, filter_map, get_or, inl, inr, length, not, refl, reverse, subst, suc, sym, take, true, ℕ, ◌&&◌, ◌++◌, ◌+◌, ◌<◌, ◌∙◌, ◌∷◌, ◌≡◌, ◌||◌}
-use Rattle.std.proofs.lemmas.Bool.{and_parts, false≢true, not-false}
+use Rattle.std.proofs.Common.{Bool, List, None, Option, Some, [], ap, cond, false, filter, filter_map, get_or, inl, inr, length, not, refl, reverse, subst, sym, take, true, ℕ, ◌&&◌, ◌++◌, ◌+◌, ◌<◌, ◌∙◌, ◌∷◌, ◌≡◌, ◌||◌}
+use Rattle.std.proofs.lemmas.Bool.{and_parts, not-false}
 use Rattle.std.proofs.lemmas.List.{reverse-append, reverse-reverse, take-append-drop, take_more}
 use Rattle.std.proofs.lemmas.List.Elements.{filter-append}
 use Rattle.std.proofs.lemmas.List.Folds.{list_all-append, list_any-append}
@@ -8,7 +8,7 @@ use Rattle.std.specs.List.{cons_option, list_all, list_any}
 use Rattle.std.specs.Prelude.{drop}
 use Rattle.action_names.specs.Names.{Name, insert_name, is_ancestor, rising_names}
 use Rattle.values.specs.declared.content.Content.{Content}
-use Rattle.atomic_types.specs.Objects.{content_after, knows}
+use Rattle.atomic_types.specs.Objects.{knows}
 use Rattle.atomic_types.specs.Operations.{conflicts}
 use Rattle.atomic_types.specs.TypeLaws.{known_stay}
 use Rattle.atomic_types.specs.declared.op.Op as op

@@ -1,5 +1,5 @@
 -- Where a name stands among rising names.
-use Rattle.std.proofs.Common.{Bool, List, [], ap, arith, cond, drop, drop-cons, false, get_or, length, refl, suc, sym, take, true, ℕ, ◌++◌, ◌+◌, ◌<◌, ◌∙◌, ◌∷◌, ◌≡◌, ◌≤◌, add-one, append_assoc}
+use Rattle.std.proofs.Common.{List, [], ap, arith, cond, drop, drop-cons, false, get_or, length, suc, sym, take, true, ℕ, ◌++◌, ◌+◌, ◌<◌, ◌∙◌, ◌∷◌, ◌≡◌, ◌≤◌, add-one, append_assoc}
 use Rattle.std.proofs.lemmas.List.{drop_all, take-append-drop, take_all, take_more}
 use Rattle.std.specs.List.{insert}
 use Rattle.action_names.specs.Names.{Name, insert_name, name_lt, same_name}

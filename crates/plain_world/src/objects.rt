@@ -1,8 +1,7 @@
 //! What the kept operations on an object say: for whom an operation waits, what is left for it, and what a telling changes.
-ghost use Rattle.std.specs.Prelude.{◌≡◌, ◌≤◌, ◌&&◌, true, length, reverse, IfOk, OnOk, IsTrue, MatchOption};
+ghost use Rattle.std.specs.Prelude.{◌≡◌, ◌≤◌, ◌&&◌, length, IfOk, OnOk, IsTrue, MatchOption};
 ghost use Rattle.std.specs.List.{insert, list_any};
 ghost use Rattle.action_names.specs.Names.{insert_name};
-ghost use Rattle.atomic_types.specs.Objects.{knows};
 ghost use Rattle.atomic_types.specs.Operations.{conflicts};
 ghost use Rattle.run_model.specs.Keeping.{blockers, kept_on, same_object};
 ghost use Rattle.run_model.specs.Replay.{opening, objects_at, left_of};

@@ -1,11 +1,11 @@
 //! What a step is answered where nothing refuses it.
-ghost use Rattle.std.specs.Prelude.{◌≡◌, ◌≤◌, ◌<◌, ◌&&◌, false, [], ◌∷◌, length, nat_le, None, IfOk, IsTrue, if◌then◌else◌};
-ghost use Rattle.action_names.specs.Names.{child_of, max_depth};
+ghost use Rattle.std.specs.Prelude.{◌≡◌, ◌≤◌, false, [], ◌∷◌, length, None, IfOk, IsTrue, if◌then◌else◌};
+ghost use Rattle.action_names.specs.Names.{child_of};
 ghost use Rattle.atomic_types.specs.Objects.{knows};
 ghost use Rattle.run_model.specs.declared.answer.Answer.TheVariants.{Began, VoteYes, VoteNo};
 ghost use Rattle.run_model.specs.Actions.{next_number};
 ghost use Rattle.run_model.specs.Keeping.{blockers};
-ghost use Rattle.run_model.specs.Refusals.{checks, first_refusal, has_sub, is_past_arms, arm_names};
+ghost use Rattle.run_model.specs.Refusals.{checks, first_refusal, is_past_arms, arm_names};
 ghost use Rattle.run_model.specs.Replay.{opening, objects_at};
 ghost use Rattle.run_model.specs.Votes.{may_prepare};
 ghost use Rattle.run_model.specs.Answers.{outcome, granted_or_waits, told_count};

@@ -1,9 +1,9 @@
 //! When a step is refused: for each kind of step its refusals in their order.
-ghost use Rattle.std.specs.Prelude.{◌≡◌, ◌≤◌, false, ◌==◌, ◌||◌, ◌&&◌, [], ◌∷◌, length, nat_lt, nat_le, IfOk, IsTrue, MatchOption, is_none};
+ghost use Rattle.std.specs.Prelude.{◌≡◌, ◌≤◌, false, ◌==◌, ◌||◌, [], ◌∷◌, length, nat_lt, IfOk, IsTrue, MatchOption};
 ghost use Rattle.atomic_types.specs.Objects.{knows};
 ghost use Rattle.run_model.specs.declared.step.Step.TheVariants.{Top, NestedTop, Call, Arms, Commit, Close, Prepare, Decide, Abort, Tell, Crash, Recover};
 ghost use Rattle.run_model.specs.declared.step.Step.TheVariants as steps;
-ghost use Rattle.run_model.specs.Actions.{is_begun, home_of, next_number};
+ghost use Rattle.run_model.specs.Actions.{is_begun, home_of};
 ghost use Rattle.run_model.specs.Lists.{is_known_orphan};
 ghost use Rattle.run_model.specs.Votes.{all_prepared};
 ghost use Rattle.run_model.specs.Replay.{opening, objects_at};

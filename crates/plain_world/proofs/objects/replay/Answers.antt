@@ -1,4 +1,4 @@
-use Rattle.std.proofs.Common.{ap, arith, sym, true, ◌∙◌, ◌≡◌}
+use Rattle.std.proofs.Common.{ap, arith, true, ◌∙◌, ◌≡◌}
 use Rattle.atomic_types.specs.Objects.{knows}
 use Rattle.run_model.specs.Keeping.{same_object}
 use Rattle.plain_world.proofs.Kept.{next_known}

@@ -1,4 +1,4 @@
-use Rattle.std.proofs.Common.{ap, arith, length, min, subst, sym, ◌∙◌, ◌≡◌, ◌≤◌, [], ℕ}
+use Rattle.std.proofs.Common.{ap, arith, length, min, sym, ◌∙◌, ◌≤◌}
 use Rattle.run_model.specs.Actions.{next_number}
 use Rattle.plain_world.specs.Arms.{uses_up}
 use Rattle.plain_world.proofs.ArmNames.{past_arms}
