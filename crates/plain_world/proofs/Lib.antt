@@ -2,3 +2,4 @@ pub mod ArmNames
 pub mod Counting
 pub mod Places
 pub mod Kept
+pub mod Known
