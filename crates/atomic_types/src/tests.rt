@@ -173,7 +173,10 @@ fn array_step(rt: &impl Eprint, alloc: Global, at: u8) -> Result<(Op, Option<Rep
         3 => (Op::Fetch(1), gives(6)),
         4 => (Op::Fetch(2), Some(Reply::Signals(Signal::Bounds))),
         5 => (Op::Store(1, Value::Int(7)), Some(Reply::Done)),
-        6 => (Op::Store(-1, Value::Int(7)), Some(Reply::Signals(Signal::Bounds))),
+        6 => (
+            Op::Store(-1, Value::Int(7)),
+            Some(Reply::Signals(Signal::Bounds)),
+        ),
         7 => (Op::RemoveLow, gives(5)),
         8 => (Op::RemoveHigh, gives(7)),
         9 => (Op::RemoveHigh, Some(Reply::Signals(Signal::Bounds))),
@@ -185,13 +188,26 @@ fn array_step(rt: &impl Eprint, alloc: Global, at: u8) -> Result<(Op, Option<Rep
 }
 
 /// Operations on a variant with the tag none, one after another, each with its reply if it belongs to the variant.
-fn variant_step(rt: &impl Eprint, alloc: Global, at: u8) -> Result<(Op, Option<Reply>), ValueFault> {
-    let (none, some) = (identifier(rt, alloc, "none")?, identifier(rt, alloc, "some")?);
+fn variant_step(
+    rt: &impl Eprint,
+    alloc: Global,
+    at: u8,
+) -> Result<(Op, Option<Reply>), ValueFault> {
+    let (none, some) = (
+        identifier(rt, alloc, "none")?,
+        identifier(rt, alloc, "some")?,
+    );
     Ok(match at {
         0 => (Op::Is(none), Some(Reply::Truth(true))),
         1 => (Op::ValueOf(some), Some(Reply::Signals(Signal::WrongTag))),
-        2 => (Op::Change(some, spelled(rt, alloc, "\"x\"")?), Some(Reply::Done)),
-        3 => (Op::ValueOf(some), Some(Reply::Gives(spelled(rt, alloc, "\"x\"")?))),
+        2 => (
+            Op::Change(some, spelled(rt, alloc, "\"x\"")?),
+            Some(Reply::Done),
+        ),
+        3 => (
+            Op::ValueOf(some),
+            Some(Reply::Gives(spelled(rt, alloc, "\"x\"")?)),
+        ),
         4 => (Op::Change(some, Value::Int(3)), None),
         5 => (Op::Is(identifier(rt, alloc, "other")?), None),
         _ => (Op::Low, None),
@@ -240,7 +256,8 @@ fn arrays_grow_and_shrink_at_both_ends(rt: HostRuntime) -> Result<(), Fail> {
 
 #[test]
 fn variants_answer_under_their_tag(rt: HostRuntime) -> Result<(), Fail> {
-    let text = "{\"variant\":{\"tag\":\"none\",\"tags\":{\"none\":\"int\",\"some\":\"text\"},\"value\":0}}";
+    let text =
+        "{\"variant\":{\"tag\":\"none\",\"tags\":{\"none\":\"int\",\"some\":\"text\"},\"value\":0}}";
     let mut object = content(&rt, rt.alloc(), text)?;
     if let Content::Variant(variant) = &object {
         let mut copy: Variant = again(&rt, || AtomicType::copy(variant))?;

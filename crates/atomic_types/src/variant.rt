@@ -20,9 +20,7 @@ impl AtomicType for Variant {
     fn knows(&self, op: &Op) -> bool {
         match op {
             Op::Is(tag) | Op::ValueOf(tag) => self.kind_of(tag).is_some(),
-            Op::Change(tag, value) => self
-                .kind_of(tag)
-                .is_some_and(|kind| kind == value.kind()),
+            Op::Change(tag, value) => self.kind_of(tag).is_some_and(|kind| kind == value.kind()),
             _ => false,
         }
     }

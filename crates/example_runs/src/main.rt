@@ -18,9 +18,17 @@ fn main(rt: HostRuntime) -> Result<(), Error> {
     for text in input.as_str().split('%') {
         if let Some(example) = Example::read(text) {
             println!(rt; "{}", example.name)?;
-            show(&rt, "by the engine", runs::by_the_engine(rt.alloc(), &example))?;
+            show(
+                &rt,
+                "by the engine",
+                runs::by_the_engine(rt.alloc(), &example),
+            )?;
             show(&rt, "as one list", runs::as_one_list(rt.alloc(), &example))?;
-            show(&rt, "step by step", runs::step_by_step(rt.alloc(), &example))?;
+            show(
+                &rt,
+                "step by step",
+                runs::step_by_step(rt.alloc(), &example),
+            )?;
         }
     }
     Ok(())

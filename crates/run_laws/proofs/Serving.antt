@@ -15,5 +15,5 @@ runs_are_served setup past r = record {
   nothing_lost = nothing_lost_under_committed setup past r;
   visible_is_kept = visible_is_kept setup past r;
   conflicts_keep_order = conflicts_keep_order setup past r;
-  grant_to_place = grant_to_place setup past r
+  grant_to_place = grant_to_place setup past r;
 }

@@ -39,12 +39,12 @@ ran_more old now new steps more step answer before after longer m l r a w =
     let same : answer ≡ answer_of old.setup step past = a ∙ ap₂ (λ s p. answer_of s step p) r.same_setup r.history in
     record {
       answers =
-        l ∙ ap₂ (λ bs b. bs ++ b ∷ []) r.answers same ∙ append_assoc before (answers_from old.setup old.past steps) (answer_of old.setup step past ∷ [])
-        ∙ ap (λ bs. before ++ bs) (sym (answers_snoc old.setup old.past steps step)) ∙ ap (λ ss. before ++ answers_from old.setup old.past ss) (sym m);
+          l ∙ ap₂ (λ bs b. bs ++ b ∷ []) r.answers same ∙ append_assoc before (answers_from old.setup old.past steps) (answer_of old.setup step past ∷ [])
+          ∙ ap (λ bs. before ++ bs) (sym (answers_snoc old.setup old.past steps step)) ∙ ap (λ ss. before ++ answers_from old.setup old.past ss) (sym m);
       same_setup = ap (λ v. v.setup) w ∙ r.same_setup;
       history =
-        ap (λ v. v.past) w ∙ ap₂ (λ b p. history_after step b p) same r.history ∙ sym (history_snoc old.setup old.past steps step)
-        ∙ ap (λ ss. history_from old.setup old.past ss) (sym m)
+          ap (λ v. v.past) w ∙ ap₂ (λ b p. history_after step b p) same r.history ∙ sym (history_snoc old.setup old.past steps step)
+          ∙ ap (λ ss. history_from old.setup old.past ss) (sym m);
     }
 
 -- a step of a run leaves a run, also where it failed

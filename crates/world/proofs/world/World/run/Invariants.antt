@@ -6,5 +6,5 @@ use Rattle.world.proofs.world.World.run.Given as goal
 abbrev pub invariant-loop-step : goal.invariant-loop-step
 invariant-loop-step l = record {
   ran : Ran l.fn.self l.self (take l.step-index l.steps) l.fn.answers.items l.answers.items;
-  served : IsServed l.self.setup l.self.past
+  served : IsServed l.self.setup l.self.past;
 }
