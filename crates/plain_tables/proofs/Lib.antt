@@ -2,3 +2,4 @@ pub mod Homes
 pub mod Kept
 pub mod Knowing
 pub mod Rows
+pub mod Runs

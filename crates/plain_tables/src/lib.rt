@@ -12,3 +12,6 @@ mod tables;
 
 pub use keeping::Performed;
 pub use tables::{Changes, Tables};
+
+#[cfg(test)]
+mod tests;
