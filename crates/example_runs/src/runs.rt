@@ -79,7 +79,9 @@ pub(crate) fn as_one_list(alloc: Global, example: &Example<'_>) -> Result<String
     let mut answers: Vec<Answer> = Vec::new(alloc);
     if world.run(list.as_slice(), &mut answers).is_err() {
         let made = answers.len();
-        world.run(&list[made..], &mut answers)?;
+        if made < list.len() {
+            world.run(&list[made..], &mut answers)?;
+        }
     }
     text_of(alloc, answers.as_slice())
 }
