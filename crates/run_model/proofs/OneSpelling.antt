@@ -1,5 +1,5 @@
 -- Two steps with one text are the same step.
-use Rattle.std.proofs.Common.{◌≡◌, ◌≢◌, ℕ, zero, suc, ◌+◌, ◌<◌, ◌≤◌, ◌^◌, Bool, true, false, List, [], ◌∷◌, ◌++◌, length, get_or, map, Option, Some, None, bytes_eq, refl, sym, ap, subst, ◌∙◌, arith, ◌⊎◌, inl, inr, decimal}
+use Rattle.std.proofs.Common.{◌≡◌, ◌≢◌, ℕ, suc, false, List, [], ◌∷◌, ◌++◌, get_or, map, Option, Some, bytes_eq, refl, sym, ap, ◌∙◌, arith, ◌⊎◌, inl, inr, decimal}
 use Rattle.std.specs.Fmt.{signed_decimal}
 use Rattle.std.specs.List.{AllByRecursion}
 use Rattle.std.proofs.lemmas.Bool.{true≢false}
@@ -20,7 +20,7 @@ use Rattle.run_model.specs.declared.step.ArmKind.TheVariants as arm
 use Rattle.run_model.specs.declared.step.ObjectId.{ObjectId}
 use Rattle.run_model.specs.declared.step.Step.{Step}
 use Rattle.run_model.specs.declared.step.Step.TheVariants.{Top, NestedTop, Call, Arms, Op, Commit, Close, Prepare, Decide, Abort, Tell, Crash, Recover}
-use Rattle.run_model.specs.Texts.{object_text, op_text, kinds_text, step_text, HasStepParts, Spells}
+use Rattle.run_model.specs.Texts.{object_text, op_text, kinds_text, HasStepParts, Spells}
 use Rattle.run_model.specs.Reading.{Lacks, IsIndex, IsObject, op_arguments, step_word, step_arguments}
 use Rattle.run_model.specs.Spaces.{number_lacks_space, number_lacks_slash, name_lacks_space, object_lacks_space, index_lacks_space, identifier_lacks_space}
 use Rattle.run_model.proofs.Cutting.{same_cut, no_cut}
@@ -45,7 +45,8 @@ same_numbers (m ∷ a) (n ∷ b) f g e =
     let q = same_numbers a b f.1 g.1 others in
     cc
 
-same_name : (a b : Name) → IsName a → IsName b → name_text a ≡ name_text b → a ≡ b
+-- a name has one spelling
+pub same_name : (a b : Name) → IsName a → IsName b → name_text a ≡ name_text b → a ≡ b
 same_name a b f g e = same_numbers a b f.components g.components (sym (slice_split-name_text a f.not_empty f.components) ∙ rw e (slice_split-name_text b g.not_empty g.components))
 
 same_object : (x y : ObjectId) → IsObject x → IsObject y → object_text x ≡ object_text y → x ≡ y

@@ -1,8 +1,7 @@
 -- The texts of steps are UTF-8.
-use Rattle.std.proofs.Common.{◌≡◌, ℕ, ℤ, pos, negsuc, suc, ◌<◌, ◌^◌, Bool, true, List, [], ◌∷◌, ◌++◌, refl, arith, decimal, codes}
+use Rattle.std.proofs.Common.{◌≡◌, ℕ, ℤ, pos, negsuc, suc, ◌<◌, ◌^◌, true, List, [], ◌∷◌, ◌++◌, refl, arith, decimal, codes}
 use Rattle.std.specs.Prelude.{IsUtf8}
 use Rattle.std.specs.Fmt.{signed_decimal}
-use Rattle.std.specs.Str.{IsAscii}
 use Rattle.std.specs.List.{AllByRecursion, list_all}
 use Rattle.std.proofs.lemmas.Bool.{and_parts}
 use Rattle.std.proofs.lemmas.Bool.Decides.{nat_tests}
@@ -24,7 +23,7 @@ use Rattle.run_model.specs.declared.step.ObjectId.{ObjectId}
 use Rattle.run_model.specs.declared.step.Step.{Step}
 use Rattle.run_model.specs.declared.step.Step.TheVariants.{Top, NestedTop, Call, Arms, Op, Commit, Close, Prepare, Decide, Abort, Tell, Crash, Recover}
 use Rattle.run_model.specs.Texts.{object_text, op_text, kinds_text, step_text, HasStepParts}
-use Rattle.run_model.specs.Reading.{IsIndex, IsObject}
+use Rattle.run_model.specs.Reading.{IsIndex}
 
 -- a byte below 128 before a text
 ascii_then : (b : ℕ) (text : List ℕ) → b < 128 → IsUtf8 text → IsUtf8 (b ∷ text)

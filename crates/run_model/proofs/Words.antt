@@ -1,18 +1,16 @@
 -- Steps and operations are their first word, a space, and their arguments.
-use Rattle.std.proofs.Common.{◌≡◌, ◌≢◌, ℕ, zero, suc, ◌+◌, ◌<◌, ◌≤◌, Bool, true, false, not, eqb, List, [], ◌∷◌, ◌++◌, length, get_or, Option, Some, None, refl, sym, ap, subst, ◌∙◌, append_assoc, arith, ◌⊎◌, inl, inr, decimal, codes}
-use Rattle.std.specs.Prelude.{IsNone, ◌&&◌, ◌==◌}
+use Rattle.std.proofs.Common.{◌≡◌, ◌≢◌, ℕ, ◌≤◌, true, false, not, List, [], ◌∷◌, ◌++◌, length, Option, Some, None, refl, sym, ap, subst, ◌∙◌, append_assoc, arith, ◌⊎◌, inl, inr, codes}
+use Rattle.std.specs.Prelude.{IsNone, ◌==◌}
 use Rattle.std.specs.List.{list_all}
-use Rattle.std.specs.Fmt.{signed_decimal}
 use Rattle.std.proofs.lemmas.Bool.{and_parts}
 use Rattle.std.proofs.lemmas.Bool.Decides.{nat_tests}
 use Rattle.action_names.specs.Names.{name_text}
-use Rattle.values.specs.Values.{value_text}
 use Rattle.atomic_types.specs.declared.op.Op as op
 use Rattle.atomic_types.specs.declared.op.Op.TheVariants.{Get, Set, Low, High, Size, Fetch, Store, AddHigh, AddLow, RemoveHigh, RemoveLow, Is, ValueOf, Change}
 use Rattle.atomic_types.specs.Operations.{IsOp, op_name}
 use Rattle.run_model.specs.declared.step.Step.{Step}
 use Rattle.run_model.specs.declared.step.Step.TheVariants.{Top, NestedTop, Call, Arms, Op, Commit, Close, Prepare, Decide, Abort, Tell, Crash, Recover}
-use Rattle.run_model.specs.Texts.{object_text, op_text, kinds_text, step_text, HasStepParts, IsStep, Spells, max_line}
+use Rattle.run_model.specs.Texts.{object_text, op_text, step_text, Spells, max_line}
 use Rattle.run_model.specs.Reading.{Reads, Lacks, Cuts, op_arguments, is_bare, IsBare, IsOpNamed, step_word, step_arguments, IsStepNamed}
 use Rattle.run_model.specs.Spaces.{Lacks-nil, Lacks-cons}
 use Rattle.run_model.proofs.Cutting.{no_cut}

@@ -1,9 +1,8 @@
 -- Where a set of histories fails, and the run that is gathered from them. Histories stand here in order, the oldest event first, each
 -- event with its stamp; the guardians' histories by their numbers, from 1.
-use Rattle.std.specs.Prelude.{ℕ, max, Bool, true, false, not, ◌&&◌, ◌||◌, ◌==◌, ◌≡◌, ◌-◌, nat_lt, nat_le, List, [], ◌∷◌, ◌++◌, length, map, reverse, filter, find, if◌then◌else◌, Option, Some, None, option_map, unwrap_or, slice_get}
+use Rattle.std.specs.Prelude.{ℕ, max, Bool, true, false, not, ◌&&◌, ◌||◌, ◌==◌, ◌≡◌, ◌-◌, nat_lt, nat_le, List, [], ◌∷◌, ◌++◌, length, map, reverse, filter, find, if◌then◌else◌, Option, None, option_map, unwrap_or, slice_get}
 use Rattle.std.specs.List.{list_any}
 use Rattle.values.specs.Words.{same_bytes}
-use Rattle.run_model.specs.declared.step.Step.{Step}
 use Rattle.run_model.specs.declared.answer.Answer.{Answer}
 use Rattle.run_model.specs.declared.history.Event.{Event}
 use Rattle.run_model.specs.Replay.{Setup}

@@ -25,6 +25,7 @@ pub mod Runs
 pub mod Texts
 pub mod Transcripts
 pub mod Places
+pub mod Explaining
 pub mod Versions
 pub mod LocalHistories
 pub mod Gathering

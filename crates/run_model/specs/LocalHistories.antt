@@ -1,9 +1,8 @@
 -- Which guardians an event names, and the histories that guardians and the registry keep, with what their messages carried.
-use Rattle.std.specs.Prelude.{ℕ, Bool, true, false, not, ◌&&◌, ◌||◌, ◌==◌, List, [], ◌∷◌, ◌++◌, map, filter, filter_map, if◌then◌else◌, Option, Some, None, option_map}
+use Rattle.std.specs.Prelude.{ℕ, Bool, true, false, not, ◌&&◌, ◌||◌, ◌==◌, List, [], ◌∷◌, map, filter, filter_map, if◌then◌else◌, Option, Some, None, option_map}
 use Rattle.action_names.specs.Names.{Name, parent_of, is_proper_ancestor, rising_names}
 use Rattle.run_model.specs.declared.step.Step.{Step}
 use Rattle.run_model.specs.declared.step.Step.TheVariants.{Top, NestedTop, Call, Arms, Op, Commit, Close, Prepare, Decide, Abort, Tell, Crash, Recover}
-use Rattle.run_model.specs.declared.answer.Answer.{Answer}
 use Rattle.run_model.specs.declared.history.Event.{Event}
 use Rattle.run_model.specs.Actions.{names_begun, begun, home_of, incarnation_of, maker_of, is_ended, is_committed}
 use Rattle.run_model.specs.Telling.{told_since_crash}

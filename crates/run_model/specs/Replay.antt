@@ -1,5 +1,5 @@
 -- One plain store, and what operations that are replayed on it answer and leave.
-use Rattle.std.specs.Prelude.{ℕ, Bool, List, [], ◌∷◌, length, if◌then◌else◌, unwrap_or, slice_get, ◌-◌}
+use Rattle.std.specs.Prelude.{ℕ, List, [], ◌∷◌, if◌then◌else◌, unwrap_or, slice_get, ◌-◌}
 use Rattle.values.specs.declared.content.Content.{Content}
 use Rattle.values.specs.declared.content.Content.TheVariants.{Record}
 use Rattle.atomic_types.specs.declared.op.Op.{Op}

@@ -1,5 +1,5 @@
 -- The texts of steps and answers, and the JSON document that a setup is.
-use Rattle.std.specs.Prelude.{ℕ, ◌≤◌, List, [], ◌∷◌, ◌++◌, length, codes, decimal, IsUtf8, FitsSigned, ◌≡◌, Some}
+use Rattle.std.specs.Prelude.{ℕ, ◌≤◌, List, [], ◌∷◌, ◌++◌, length, codes, decimal, IsUtf8, ◌≡◌, Some}
 use Rattle.std.specs.Fmt.{signed_decimal}
 use Rattle.std.specs.List.{AllByRecursion}
 use Rattle.serde_json.specs.Data.{Data, array, object, Items, no_items, item, no_members, member}

@@ -1,5 +1,5 @@
 -- The lock set and the stack of versions of an object.
-use Rattle.std.specs.Prelude.{Bool, true, List, [], ◌∷◌, ◌≡◌, length, map, if◌then◌else◌, Option, Some, None, is_none, filter, filter_map, IsTrue, ◌↔◌, Contains}
+use Rattle.std.specs.Prelude.{Bool, true, List, [], ◌∷◌, map, if◌then◌else◌, Option, Some, None, is_none, filter, filter_map, ◌↔◌, Contains}
 use Rattle.action_names.specs.Names.{Name, is_ancestor, rising_names}
 use Rattle.values.specs.declared.content.Content.{Content}
 use Rattle.atomic_types.specs.declared.op.Class.{Class}

@@ -10,6 +10,7 @@ mod history;
 mod reading;
 mod setup;
 mod step;
+pub mod text;
 
 pub use action_names::{Deps, Name, NameFault, Names};
 pub use answer::{Answer, Refusal};

@@ -1,0 +1,5 @@
+pub mod Ended
+pub mod Inserted
+pub mod Lines
+pub mod Placing
+pub mod Standings

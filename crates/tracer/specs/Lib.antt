@@ -1,0 +1,4 @@
+pub mod Endings
+pub mod Explained
+pub mod Losses
+pub mod Places
