@@ -5,7 +5,7 @@
 #![tactic(auto)]
 
 pub mod actions;
-mod steps;
+pub mod steps;
 pub mod telling;
 #[cfg(test)]
 mod tests;

@@ -1,10 +1,10 @@
 //! What guardians voted and were told, and what follows of it: who holds an operation, and whose lists a step carries.
-ghost use Rattle.std.specs.Prelude.{◌≡◌, ◌∷◌, ◌==◌, ◌&&◌, not, [], List, IfOk};
+ghost use Rattle.std.specs.Prelude.{◌≡◌, ◌∷◌, ◌==◌, ◌&&◌, not, [], List, Bool, false, IfOk};
 ghost use Rattle.action_names.specs.Names.{parent_of};
 ghost use Rattle.run_model.specs.Actions.{home_of, is_down};
 ghost use Rattle.run_model.specs.declared.history.Event.{Event};
 ghost use Rattle.run_model.specs.Visibility.{has_prepared};
-ghost use Rattle.run_model.specs.Telling.{told_since_crash, was_told, told_committed, tells, holder_of};
+ghost use Rattle.run_model.specs.Telling.{step_tells, told_since_crash, was_told, told_committed, tells, holder_of};
 ghost use Rattle.run_model.specs.Votes.{has_voted};
 ghost use Rattle.run_model.specs.Keeping.{prepared_after};
 ghost use Rattle.run_model.specs.Lists.{carried_from};
@@ -117,9 +117,20 @@ pub fn told_committed(history: &History, guardian: u32, action: &Name) -> bool
 pub fn tells(event: &Event, history: &History, guardian: u32, action: &Name) -> bool
     ensures { result ≡ tells event.now history.now guardian action.now }
 {
+    if !may_tell(&event.step, guardian, action) {
+        return false;
+    }
     let told = told_of(history, guardian, action);
     let ended = told.committed || told.aborted;
     steps::tells(&event.step, guardian, action, told.since_crash, ended)
+}
+
+/// Whether the step tells the guardian the outcome of the action where that has ended and was not told: what a look at the step alone
+/// rules out, the history need not be gone over for.
+fn may_tell(step: &Step, guardian: u32, action: &Name) -> bool
+    ensures { (told ended : Bool) → result ≡ false → step_tells step.now guardian action.now told ended ≡ false }
+{
+    steps::tells(step, guardian, action, false, true)
 }
 
 /// Who holds the operations of the action at the guardian: its nearest ancestor that the guardian has not been told committed. `None`
