@@ -1,8 +1,8 @@
 -- What clap's answers say of the words.
-use Rattle.std.proofs.Common.{◌≡◌, List, [], ◌∷◌, Bool, true, Option, Some, None, IsNone, map, option_map, codes, refl, sym, ap, ap₂, subst, ◌∙◌, rules}
+use Rattle.std.proofs.Common.{◌≡◌, List, true, Option, Some, None, option_map, codes, refl, sym, ap, ap₂, subst, ◌∙◌}
 use Rattle.std.specs.Prelude.{Box}
 use Rattle.std.specs.Box.{box_value}
-use Rattle.clap.specs.Words.{App, Row, Text, HasMatchesOf, app_of, first_of, found_of, is_simple, is_simple_and_free, rows_of, subcommand_of, subcommand_rows, subcommand_rows_of, HasKind, fault_of}
+use Rattle.clap.specs.Words.{App, Row, Text, HasMatchesOf, first_of, found_of, is_simple, is_simple_and_free, rows_of, subcommand_of, subcommand_rows, subcommand_rows_of}
 use Rattle.clap.specs.declared.parser.matches.ArgMatches.{ArgMatches}
 use Rattle.clap.specs.declared.parser.matches.ArgMatches.TheViews.{out-ArgMatches, out-SubCommand}
 use Rattle.clap.specs.declared.parser.matches.SubCommand.{SubCommand}
@@ -12,8 +12,8 @@ use Rattle.clap.specs.declared.parser.matches.Found.{Found}
 use Rattle.clap.proofs.WalkLemmas.{first_value-rows}
 use Rattle.clap.proofs.OnLiterals.{clap_on_literals}
 use Rattle.argus.specs.declared.request.Command.{Command}
-use Rattle.argus.specs.declared.request.Command.TheVariants.{Steps}
-use Rattle.argus.specs.Words.{argus_app, HasPaths, IsFound, IsCommand}
+use Rattle.argus.specs.declared.request.Steps.{Steps}
+use Rattle.argus.specs.Words.{argus_app, AreGiven, IsFound, IsCommand}
 
 pub argus_is_simple : is_simple argus_app ≡ true
 unfolding clap_on_literals
@@ -35,17 +35,17 @@ pub no_command : (app : App) (words : List Text) (m : ArgMatches) → app ≡ ar
 no_command app words m e h none command is = none command (subst (λ o. IsFound o command) (sym (found_is app words m e h)) is)
 
 -- what stands at an id
-pub path_is : (f : Found) (id : Text) (r : Option (Bor Text)) (path : Bor Text) → option_map (λ t. t.now) r ≡ first_value f id → r ≡ Some path → first_of id (rows_of f) ≡ Some path.now
-path_is f id r path e is = sym (first_value-rows f id) ∙ sym e ∙ ap (option_map (λ t. t.now)) is
+pub word_is : (f : Found) (id : Text) (r : Option (Bor Text)) (word : Bor Text) → option_map (λ t. t.now) r ≡ first_value f id → r ≡ Some word → first_of id (rows_of f) ≡ Some word.now
+word_is f id r word e is = sym (first_value-rows f id) ∙ sym e ∙ ap (option_map (λ t. t.now)) is
 
-pub no_path : (f : Found) (id : Text) (r : Option (Bor Text)) → option_map (λ t. t.now) r ≡ first_value f id → r ≡ None → first_of id (rows_of f) ≡ None
-no_path f id r e is = sym (first_value-rows f id) ∙ sym e ∙ ap (option_map (λ t. t.now)) is
+pub no_word : (f : Found) (id : Text) (r : Option (Bor Text)) → option_map (λ t. t.now) r ≡ first_value f id → r ≡ None → first_of id (rows_of f) ≡ None
+no_word f id r e is = sym (first_value-rows f id) ∙ sym e ∙ ap (option_map (λ t. t.now)) is
 
-pub no_setup : (rows : List Row) → first_of (codes "SETUP") rows ≡ None → (command : Command) → HasPaths rows command → ⊥
-no_setup rows e (Steps setup file) h = let p = h.0 in absurd cc
+pub no_setup : (rows : List Row) → first_of (codes "SETUP") rows ≡ None → (given : Steps) → AreGiven rows given → ⊥
+no_setup rows e given h = let p = h.setup in absurd cc
 
-pub no_file : (rows : List Row) → first_of (codes "FILE") rows ≡ None → (command : Command) → HasPaths rows command → ⊥
-no_file rows e (Steps setup file) h = let p = h.1 in absurd cc
+pub no_file : (rows : List Row) → first_of (codes "FILE") rows ≡ None → (given : Steps) → AreGiven rows given → ⊥
+no_file rows e given h = let p = h.file in absurd cc
 
 -- the subcommand that was used, with its rows
 found_in : {Z : Type 0} (b : Option (Box SubCommand Z)) (name : Text) (rows : List Row) → Some name ≡ option_map (λ x. (out-SubCommand (box_value x)).name.now) b

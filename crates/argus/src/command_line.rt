@@ -1,9 +1,10 @@
 //! The command line, as clap reads it.
 
-ghost use Rattle.std.specs.Prelude.{◌≡◌, map, IfOk, IfErr, IfSome, IsNone};
-ghost use Rattle.clap.specs.Words.{app_of, found_of, rows_of, subcommand_rows_of};
+ghost use Rattle.std.specs.Prelude.{◌≡◌, false, codes, map, IfOk, IfErr, IfSome, IsNone};
+ghost use Rattle.clap.specs.Words.{app_of, found_of, rows_of, rule_of, subcommand_rows_of};
 ghost use Rattle.argus.specs.declared.request.Command.{Command};
-ghost use Rattle.argus.specs.Words.{HasPaths, IsCommand, IsFault, IsFound, argus_app, steps_app};
+ghost use Rattle.argus.specs.declared.request.Steps.{Steps};
+ghost use Rattle.argus.specs.Words.{AreGiven, IsCommand, IsFault, IsFound, argus_app, needed, optional, steps_app};
 
 use crate::request::{self, CommandFault};
 use clap::{Arg, ArgMatches};
@@ -34,19 +35,21 @@ fn taken<'a>(matches: &ArgMatches<'a>) -> Option<request::Command<'a>>
     ensures none { IsNone result → (command : Command) → IsFound (subcommand_rows_of matches.now) command → ⊥ }
 {
     match matches.subcommand() {
-        Some(("steps", found)) => paths(found),
+        Some(("steps", found)) => Some(request::Command::Steps(steps_given(found)?)),
         _ => None,
     }
 }
 
-#[tactic(auto, using(crate::proofs::Finding::path_is, crate::proofs::Finding::no_path, crate::proofs::Finding::no_setup, crate::proofs::Finding::no_file))]
-fn paths<'a>(found: &ArgMatches<'a>) -> Option<request::Command<'a>>
-    ensures found { IfSome result (HasPaths (rows_of (found_of found.now))) }
-    ensures none { IsNone result → (command : Command) → HasPaths (rows_of (found_of found.now)) command → ⊥ }
+#[tactic(auto, using(crate::proofs::Finding::word_is, crate::proofs::Finding::no_word, crate::proofs::Finding::no_setup, crate::proofs::Finding::no_file))]
+fn steps_given<'a>(found: &ArgMatches<'a>) -> Option<request::Steps<'a>>
+    ensures found { IfSome result (AreGiven (rows_of (found_of found.now))) }
+    ensures none { IsNone result → (given : Steps) → AreGiven (rows_of (found_of found.now)) given → ⊥ }
 {
-    let setup = found.get_str("SETUP")?;
-    let file = found.get_str("FILE")?;
-    Some(request::Command::Steps(setup, file))
+    Some(request::Steps {
+        setup: found.get_str("SETUP")?,
+        file: found.get_str("FILE")?,
+        explain: found.get_str("explain"),
+    })
 }
 
 /// The command line of the program, for clap.
@@ -64,14 +67,31 @@ fn definition<'a>(alloc: Global) -> Result<clap::Command<'a>, AllocError>
 fn steps<'a>(alloc: Global) -> Result<clap::Command<'a>, AllocError>
     ensures { IfOk result (λ steps. app_of steps ≡ steps_app) }
 {
-    let setup = Arg::new(alloc, "SETUP")
-        .help("The JSON document of the guardians and their objects")
-        .required(true);
-    let file = Arg::new(alloc, "FILE")
-        .help("The steps, one a line; - is standard input")
-        .required(true);
     clap::Command::new(alloc, "steps")
         .about("Makes the steps of a file and writes their answers")
-        .arg(setup)?
-        .arg(file)
+        .arg(needed(
+            alloc,
+            "SETUP",
+            "The JSON document of the guardians and their objects",
+        ))?
+        .arg(needed(alloc, "FILE", "The steps, one a line; - is standard input"))?
+        .arg(explain_option(alloc))
+}
+
+/// An argument that has to be there.
+fn needed<'a>(alloc: Global, id: &'a str, help: &'a str) -> Arg<'a>
+    ensures rule { rule_of result ≡ needed id.now }
+    ensures local { result.global ≡ false }
+{
+    Arg::new(alloc, id).help(help).required(true)
+}
+
+fn explain_option<'a>(alloc: Global) -> Arg<'a>
+    ensures rule { rule_of result ≡ optional (codes "explain") }
+    ensures local { result.global ≡ false }
+{
+    Arg::new(alloc, "explain")
+        .long("explain")
+        .value_name("ACTION")
+        .help("Writes, after the answers, what the action sees, by place in the serial order")
 }

@@ -39,7 +39,7 @@ fn obey(rt: &HostRuntime) -> Result<ExitCode, Fault> {
         words.push(text.as_str())?;
     }
     match command_line::command(rt.alloc(), words.as_slice()) {
-        Ok(Command::Steps(setup, file)) => run::steps(rt, setup, file),
+        Ok(Command::Steps(given)) => run::steps(rt, &given),
         Err(fault) => explain(rt, &fault),
     }
 }

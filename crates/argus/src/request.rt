@@ -3,8 +3,19 @@
 /// What the words ask for.
 #[derive(Clone, Copy, Drop)]
 pub enum Command<'a> {
-    /// Answers the steps of a file at a setup: the paths of the setup and of the file.
-    Steps(&'a str, &'a str),
+    /// Answers the steps of a file at a setup.
+    Steps(Steps<'a>),
+}
+
+/// What the answering of steps is given.
+#[derive(Clone, Copy, Drop)]
+pub struct Steps<'a> {
+    /// The path of the setup.
+    pub setup: &'a str,
+    /// The path of the steps; `-` is standard input.
+    pub file: &'a str,
+    /// The action to explain after the answers.
+    pub explain: Option<&'a str>,
 }
 
 /// Why words are no command.

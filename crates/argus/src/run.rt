@@ -1,6 +1,7 @@
 //! Running a command on files.
 
-use argus_engine::{Ended, Fault, steps as answer_steps};
+use crate::request::Steps;
+use argus_engine::{Ended, Fault, explain_text, steps as answer_steps};
 use run_model::{Setup, SetupFault};
 use std::process::ExitCode;
 use std::{fs, io};
@@ -9,30 +10,36 @@ use world::World;
 /// The file that is standard input.
 const STANDARD_INPUT: &str = "-";
 
-/// Makes the steps of a file in a new world of the setup, and writes their answers to standard output. The status is 1 where
-/// the setup is none, or a line is no step.
-pub fn steps(rt: &HostRuntime, setup: &str, file: &str) -> Result<ExitCode, Fault> {
-    let Some(setup) = read_setup(rt, setup)? else {
+/// Makes the steps of a file in a new world of the setup, and writes their answers to standard output, and after them what is to be
+/// explained. The status is 1 where the setup is none, or a line is no step; then nothing is explained.
+pub fn steps(rt: &HostRuntime, given: &Steps<'_>) -> Result<ExitCode, Fault> {
+    let Some(setup) = read_setup(rt, given.setup)? else {
         return match println!(rt; "error setup") {
             Ok(()) => Ok(ExitCode::FAILURE),
             Err(_) => Err(Fault::Output),
         };
     };
     let mut world = World::new(rt.alloc(), setup)?;
-    let ended = if file == STANDARD_INPUT {
+    match (answer_file(rt, &mut world, given.file)?, given.explain) {
+        (Ended::Stopped, _) => Ok(ExitCode::FAILURE),
+        (Ended::Done, None) => Ok(ExitCode::SUCCESS),
+        (Ended::Done, Some(action)) => {
+            explain_text(rt.alloc(), world.history(), action, &mut io::writer(rt))?;
+            Ok(ExitCode::SUCCESS)
+        }
+    }
+}
+
+/// Makes the steps of a file in the world, and writes their answers.
+fn answer_file(rt: &HostRuntime, world: &mut World, file: &str) -> Result<Ended, Fault> {
+    if file == STANDARD_INPUT {
         let mut input = rt.reader();
-        answer_steps(rt.alloc(), &mut world, &mut input, &mut io::writer(rt))?
-    } else {
-        let mut input = match fs::open(rt, file) {
-            Ok(input) => input,
-            Err(error) => return Err(read_fault(&error)),
-        };
-        answer_steps(rt.alloc(), &mut world, &mut input, &mut io::writer(rt))?
-    };
-    Ok(match ended {
-        Ended::Done => ExitCode::SUCCESS,
-        Ended::Stopped => ExitCode::FAILURE,
-    })
+        return answer_steps(rt.alloc(), world, &mut input, &mut io::writer(rt));
+    }
+    match fs::open(rt, file) {
+        Ok(mut input) => answer_steps(rt.alloc(), world, &mut input, &mut io::writer(rt)),
+        Err(error) => Err(read_fault(&error)),
+    }
 }
 
 /// The setup in a file; `None` where the file holds none.

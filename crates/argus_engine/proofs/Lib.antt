@@ -2,3 +2,4 @@ pub mod NoLineFeed
 pub mod OneAnswer
 pub mod Progressed
 pub mod Bytes
+pub mod Explanations

@@ -5,10 +5,12 @@
 #![tactic(auto)]
 
 mod engine;
+mod explaining;
 mod reading;
 mod writing;
 
 pub use engine::{Ended, Fault, steps};
+pub use explaining::explain_text;
 
 #[cfg(test)]
 mod tests;

@@ -1,7 +1,7 @@
 //! Tests of the engine on readers and writers that fail, and of what it writes where nothing fails. Where memory is refused
 //! a test says so and runs again; `scripts/refuse-memory` counts what is said.
 use super::*;
-use run_model::{Setup, SetupFault};
+use run_model::{Setup, SetupFault, Step};
 use std::alloc::{AllocError, Global};
 use std::io::{self, ErrorKind, Read, Write};
 use std::process::Abort;
@@ -98,7 +98,8 @@ fn is_answered(
     let mut writer = roomy(alloc, usize::MAX);
     let mut reader = text;
     let mut came = answered(alloc, &mut reader, &mut writer);
-    if came == Err(Fault::Memory) {
+    // the writer takes memory too, and what it wants comes as a failed write
+    if matches!(came, Err(Fault::Memory | Fault::Output)) {
         note_refusal(rt);
         assert!(rt; answers.as_bytes().starts_with(writer.taken.as_slice()));
         writer = roomy(alloc, usize::MAX);
@@ -144,29 +145,35 @@ fn stops_at_an_error(rt: HostRuntime) {
     );
 }
 
-#[test]
-fn stops_at_a_long_line(rt: HostRuntime) -> Result<(), Fail> {
-    let mut text = Vec::from_slice(rt.alloc(), b"top 1\n")?;
-    for _ in 0..4096 {
-        text.extend_from_slice(b"aa")?;
+/// A step, and then a line of so many bytes.
+fn long_line(alloc: Global, len: usize) -> Result<Vec<u8>, AllocError> {
+    let mut text = Vec::from_slice(alloc, b"top 1\n")?;
+    for _ in 0..len {
+        text.push(b'a')?;
     }
     text.push(b'\n')?;
-    is_answered(
-        &rt,
-        rt.alloc(),
-        text.as_slice(),
-        Ended::Stopped,
-        "began 1\nerror 2\n",
-    );
-    text.pop();
-    text.extend_from_slice(b"aa\n")?;
-    is_answered(
-        &rt,
-        rt.alloc(),
-        text.as_slice(),
-        Ended::Stopped,
-        "began 1\nerror 2\n",
-    );
+    Ok(text)
+}
+
+#[test]
+fn stops_at_a_long_line(rt: HostRuntime) -> Result<(), Fail> {
+    let alloc = rt.alloc();
+    for len in [8192, 8194] {
+        let text = match long_line(alloc, len) {
+            Ok(text) => text,
+            Err(_) => {
+                note_refusal(&rt);
+                long_line(alloc, len)?
+            }
+        };
+        is_answered(
+            &rt,
+            alloc,
+            text.as_slice(),
+            Ended::Stopped,
+            "began 1\nerror 2\n",
+        );
+    }
     Ok(())
 }
 
@@ -183,7 +190,7 @@ fn says_where_a_read_failed(rt: HostRuntime) {
             Ok(ended) => assert!(rt;
                 ended == Ended::Done && writer.taken.as_slice() == ANSWERS.as_bytes()
             ),
-            Err(Fault::Memory) => note_refusal(&rt),
+            Err(Fault::Memory | Fault::Output) => note_refusal(&rt),
             Err(fault) => assert!(rt; fault == Fault::Input),
         }
         assert!(rt; ANSWERS.as_bytes().starts_with(writer.taken.as_slice()));
@@ -207,15 +214,126 @@ fn says_where_a_write_failed(rt: HostRuntime) {
     }
 }
 
+/// The fault's text, asked again where memory was refused.
+fn named(rt: &impl Eprint, alloc: Global, fault: Fault) -> Result<String, Fail> {
+    match format!(in alloc; "{fault}") {
+        Ok(text) => Ok(text),
+        Err(_) => {
+            note_refusal(rt);
+            Ok(format!(in alloc; "{fault}")?)
+        }
+    }
+}
+
 #[test]
 fn faults_have_names(rt: HostRuntime) -> Result<(), Fail> {
-    let alloc = rt.alloc();
-    let faults = [Fault::Memory, Fault::Store, Fault::Input, Fault::Output];
-    let mut text = String::new(alloc);
-    for fault in &faults {
-        let name = format!(in alloc; "{fault};")?;
-        text.push_str(name.as_str())?;
+    let names = [
+        (Fault::Memory, "fault memory"),
+        (Fault::Store, "fault store"),
+        (Fault::Input, "fault input"),
+        (Fault::Output, "fault output"),
+    ];
+    for (fault, name) in names {
+        let text = named(&rt, rt.alloc(), fault)?;
+        assert!(rt; text.as_str() == name);
     }
-    assert!(rt; text.as_str() == "fault memory;fault store;fault input;fault output;");
+    Ok(())
+}
+
+/// What is explained of the action after the steps of a text.
+fn explained(alloc: Global, text: &str, action: &str) -> Result<Vec<u8>, Fault> {
+    let mut world = new_world(alloc)?;
+    let mut answers = roomy(alloc, usize::MAX);
+    steps(alloc, &mut world, &mut text.as_bytes(), &mut answers)?;
+    let mut lines = roomy(alloc, usize::MAX);
+    explain_text(alloc, world.history(), action, &mut lines)?;
+    Ok(lines.taken)
+}
+
+/// The action is explained so, also where memory is refused the first time.
+fn is_explained(
+    rt: &(impl Abort + Eprint),
+    alloc: Global,
+    text: &str,
+    action: &str,
+    lines: &str,
+) -> Result<(), Fault> {
+    let came = match explained(alloc, text, action) {
+        Err(Fault::Memory | Fault::Output) => {
+            note_refusal(rt);
+            explained(alloc, text, action)?
+        }
+        came => came?,
+    };
+    assert!(rt; came.as_slice() == lines.as_bytes());
+    Ok(())
+}
+
+#[test]
+fn explains_what_an_action_sees(rt: HostRuntime) -> Result<(), Fault> {
+    let alloc = rt.alloc();
+    let seen = "*.4.3 1.1 1/1 set balance 50 -> done\n*.6 1 1/1 get balance -> 50\n";
+    is_explained(&rt, alloc, STEPS, "1", seen)
+}
+
+#[test]
+fn explains_no_other_action(rt: HostRuntime) -> Result<(), Fault> {
+    let alloc = rt.alloc();
+    is_explained(&rt, alloc, STEPS, "1.2", "refused 2\n")?;
+    is_explained(&rt, alloc, STEPS, "one", "refused 2\n")?;
+    is_explained(&rt, alloc, "top 1\nabort 1\n", "1", "orphan\n")
+}
+
+#[test]
+fn writes_a_beginning_where_a_write_fails(rt: HostRuntime) -> Result<(), Fault> {
+    let alloc = rt.alloc();
+    let world = match new_world(alloc) {
+        Ok(world) => world,
+        Err(_) => {
+            note_refusal(&rt);
+            new_world(alloc)?
+        }
+    };
+    let mut writer = roomy(alloc, 1);
+    match explain_text(alloc, world.history(), "1", &mut writer) {
+        Err(Fault::Memory) => note_refusal(&rt),
+        came => assert!(rt; came == Err(Fault::Output)),
+    }
+    assert!(rt; b"refused 2\n".starts_with(writer.taken.as_slice()));
+    Ok(())
+}
+
+/// The step of the line, written again.
+fn rewritten(alloc: Global, line: &str) -> Result<Option<String>, AllocError> {
+    match Step::read(alloc, line.as_bytes())? {
+        Some(step) => Ok(Some(step.text(alloc)?)),
+        None => Ok(None),
+    }
+}
+
+#[test]
+fn writes_a_step_as_it_is_read(rt: HostRuntime) -> Result<(), Fault> {
+    let alloc = rt.alloc();
+    let lines = [
+        "top 1",
+        "nest 1.2",
+        "call 1 2",
+        "arms 1 s t",
+        "op 1.1 2/3 set name \"one\"",
+        "op 1.1 2/3 fetch -4",
+        "prepare 2 1",
+        "tell 3 1.1",
+        "recover 1",
+    ];
+    for line in lines {
+        let again = match rewritten(alloc, line) {
+            Ok(again) => again,
+            Err(_) => {
+                note_refusal(&rt);
+                rewritten(alloc, line)?
+            }
+        };
+        assert!(rt; again.is_some_and(|text| text.as_str() == line));
+    }
     Ok(())
 }

@@ -3,7 +3,6 @@ use Rattle.std.proofs.lemmas.Result.{IfOk-weaker}
 use Rattle.std.proofs.lemmas.Bool.{and_parts}
 use Rattle.clap.specs.Words.{App, app_of, new_app, with_subcommand}
 use Rattle.clap.specs.Simple.{Shape, app_of_fields, on_top}
-use Rattle.argus.specs.Words.{argus_app, steps_app}
 use Rattle.argus.proofs.command_line.definition.Goals as goal
 
 untrue : (b : Bool) → not b ≡ true → b ≡ false
