@@ -3,3 +3,4 @@ pub mod Counting
 pub mod Places
 pub mod Kept
 pub mod Known
+pub mod Holding

@@ -178,8 +178,12 @@ fn is_concerned(
 ) -> Result<bool, AllocError>
     ensures { IfOk result (λ concerned. concerned ≡ is_concerned guardian name.now history.now performed.now) }
 {
+    // its holder would be an ancestor of it: nobody else need be looked up in the history
+    if !name.is_ancestor(performed.action()) {
+        return Ok(false);
+    }
     if !is_committed(history, name) {
-        return Ok(name.is_ancestor(performed.action()));
+        return Ok(true);
     }
     Ok(match holder_of(history, guardian, performed.action())? {
         Some(holder) => holder == *name,
