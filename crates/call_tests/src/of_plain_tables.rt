@@ -1,5 +1,6 @@
 //! Tests of each call at short runs. A plain world makes the steps, so that what happens to it is a run.
 ghost use Rattle.std.specs.Prelude.{◌≡◌, [], IfOk, OnOk};
+ghost use Rattle.run_model.specs.Runs.{is_accepted};
 ghost use Rattle.plain_tables.specs.Tables.{IsTables};
 
 use crate::refusals::{again, note_refusal};
@@ -23,6 +24,13 @@ fn new_world(alloc: Global) -> Result<PlainWorld, SetupFault>
     Ok(PlainWorld::new(alloc, Setup::read(alloc, SETUP)?)?)
 }
 
+/// Whether the step of this answer happened.
+fn is_accepted(answer: &Answer) -> bool
+    ensures { result ≡ is_accepted answer.now }
+{
+    !matches!(answer, Answer::Waits(_) | Answer::Refused(_))
+}
+
 /// Makes the step in the world, and puts its event into the history and the tables.
 fn follow(
     rt: &impl Eprint,
@@ -37,9 +45,11 @@ fn follow(
     ensures past { OnOk result (history.new ≡ world.new.past) }
 {
     let answer = again!(rt; world.step(&step))?;
-    if matches!(answer, Answer::Waits(_) | Answer::Refused(_)) {
-        return Err("no event".into());
+    if !is_accepted(&answer) {
+        return Err("the step is not accepted".into());
     }
+    // so that what happened is known to be a run
+    let _ = world.history();
     let event = Event { step, answer };
     let changes = again!(rt; tables.changes(world.setup(), history, &event))?;
     if let Err(failed) = history.push(event) {
