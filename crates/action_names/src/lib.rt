@@ -7,8 +7,6 @@
 mod deps;
 mod name;
 mod names;
-#[cfg(test)]
-mod refusals;
 
 pub use deps::Deps;
 pub use name::{MAX_DEPTH, Name, NameFault};

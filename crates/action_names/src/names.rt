@@ -93,35 +93,3 @@ impl Names {
         self.names.contains(name)
     }
 }
-
-#[cfg(test)]
-mod tests {
-    use super::*;
-    use crate::refusals::note_refusal;
-    use std::test::Fail;
-
-    #[test]
-    fn keeps_names_in_order(rt: HostRuntime) -> Result<(), Fail> {
-        let mut names = Names::new(rt.alloc());
-        assert!(rt; names.is_empty());
-        for number in [4, 2, 4] {
-            if let Err(failed) = names.push(Name::top(rt.alloc(), number)?) {
-                note_refusal(&rt);
-                names.push(failed.value)?;
-            }
-        }
-        assert_eq!(rt; names.len(), 3);
-        assert!(rt; names.contains(&Name::top(rt.alloc(), 2)?));
-        assert!(rt; !names.contains(&Name::top(rt.alloc(), 3)?));
-        let mut copy = names.copy();
-        if copy.is_err() {
-            note_refusal(&rt);
-            copy = names.copy();
-        }
-        let copy = copy?;
-        assert_eq!(rt; copy.as_slice(), names.as_slice());
-        let numbers = copy.into_vec();
-        assert_eq!(rt; Names::from_vec(numbers).len(), 3);
-        Ok(())
-    }
-}

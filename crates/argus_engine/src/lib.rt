@@ -11,6 +11,3 @@ mod writing;
 
 pub use engine::{Ended, Fault, steps};
 pub use explaining::explain_text;
-
-#[cfg(test)]
-mod tests;

@@ -10,8 +10,6 @@ mod laws;
 mod object;
 mod op;
 mod record;
-#[cfg(test)]
-mod tests;
 mod variant;
 
 pub use atomic::AtomicType;

@@ -7,5 +7,3 @@
 pub mod actions;
 pub mod steps;
 pub mod telling;
-#[cfg(test)]
-mod tests;

@@ -2,4 +2,3 @@ pub mod Homes
 pub mod Kept
 pub mod Knowing
 pub mod Rows
-pub mod Runs

@@ -12,6 +12,3 @@ mod tables;
 
 pub use keeping::Performed;
 pub use tables::{Changes, Tables};
-
-#[cfg(test)]
-mod tests;

@@ -8,8 +8,6 @@ mod array;
 mod content;
 mod record;
 mod shape;
-#[cfg(test)]
-mod tests;
 mod value;
 mod variant;
 mod words;

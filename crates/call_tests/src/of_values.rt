@@ -1,20 +1,13 @@
-//! Tests of values and contents. Where memory is refused a test says so, asks again, and compares what follows;
-//! `scripts/refuse-memory` counts what is said.
-use crate::array::{Array, GREATEST_INDEX, LEAST_INDEX};
-use crate::content::{Content, contents_may_be_stored};
-use crate::record::{Field, Record};
-use crate::value::{Kind, Value};
-use crate::variant::{Tag, Variant};
-use crate::words::{Identifier, Text, ValueFault};
+//! Tests of values and contents.
+use crate::refusals::{again, note_refusal};
 use serde_json::Value as Json;
 use std::alloc::Global;
 use std::process::Abort;
 use std::test::Fail;
-
-/// Notes on standard error that memory was refused.
-fn note_refusal(rt: &impl Eprint) {
-    let _ = eprintln!(rt; "memory was refused");
-}
+use values::{
+    Array, Content, Field, GREATEST_INDEX, Identifier, Kind, LEAST_INDEX, Record, Tag, Text, Value,
+    ValueFault, Variant, contents_may_be_stored,
+};
 
 /// Whether the answer is `Unfit`. Want of memory stays an error, and the test tries again.
 fn is_unfit<T: Drop>(answer: Result<T, ValueFault>) -> Result<bool, ValueFault> {
@@ -47,11 +40,7 @@ fn spelled_as(
     text: &str,
     wanted: &str,
 ) -> Result<(), ValueFault> {
-    if check_spelling(rt, alloc, text, wanted).is_err() {
-        note_refusal(rt);
-        check_spelling(rt, alloc, text, wanted)?;
-    }
-    Ok(())
+    again!(rt; check_spelling(rt, alloc, text, wanted))
 }
 
 #[test]
@@ -133,11 +122,7 @@ fn refuses_what_is_no_content(rt: HostRuntime) {
         "{\"record\":{\"a\":\"\\ud800\"}}",
     ];
     for text in cases {
-        let mut answer = is_unfit(Content::read(alloc, text));
-        if answer.is_err() {
-            note_refusal(&rt);
-            answer = is_unfit(Content::read(alloc, text));
-        }
+        let answer = again!(&rt; is_unfit(Content::read(alloc, text)));
         assert_eq!(rt; answer, Ok(true), "at {text}");
     }
 }
@@ -169,10 +154,7 @@ fn check_limits(rt: &impl Abort, alloc: Global) -> Result<(), ValueFault> {
 
 #[test]
 fn keeps_to_the_limits(rt: HostRuntime) -> Result<(), Fail> {
-    if check_limits(&rt, rt.alloc()).is_err() {
-        note_refusal(&rt);
-        check_limits(&rt, rt.alloc())?;
-    }
+    again!(&rt; check_limits(&rt, rt.alloc()))?;
     Ok(())
 }
 
@@ -207,14 +189,8 @@ fn check_values(rt: &(impl Abort + Eprint), alloc: Global) -> Result<(), ValueFa
 
 #[test]
 fn words_and_values(rt: HostRuntime) -> Result<(), Fail> {
-    if check_words(&rt, rt.alloc()).is_err() {
-        note_refusal(&rt);
-        check_words(&rt, rt.alloc())?;
-    }
-    if check_values(&rt, rt.alloc()).is_err() {
-        note_refusal(&rt);
-        check_values(&rt, rt.alloc())?;
-    }
+    again!(&rt; check_words(&rt, rt.alloc()))?;
+    again!(&rt; check_values(&rt, rt.alloc()))?;
     Ok(())
 }
 
@@ -256,10 +232,7 @@ fn check_records(rt: &impl Abort, alloc: Global) -> Result<(), ValueFault> {
 
 #[test]
 fn records(rt: HostRuntime) -> Result<(), Fail> {
-    if check_records(&rt, rt.alloc()).is_err() {
-        note_refusal(&rt);
-        check_records(&rt, rt.alloc())?;
-    }
+    again!(&rt; check_records(&rt, rt.alloc()))?;
     Ok(())
 }
 
@@ -299,11 +272,7 @@ fn refuses_what_is_no_array_or_variant(rt: HostRuntime) {
         "{\"variant\":{\"tag\":\"A\",\"tags\":{\"A\":\"int\"},\"value\":1}}",
     ];
     for text in cases {
-        let mut answer = is_unfit(Content::read_stored(alloc, text));
-        if answer.is_err() {
-            note_refusal(&rt);
-            answer = is_unfit(Content::read_stored(alloc, text));
-        }
+        let answer = again!(&rt; is_unfit(Content::read_stored(alloc, text)));
         assert_eq!(rt; answer, Ok(true), "at {text}");
     }
 }
@@ -324,10 +293,7 @@ fn check_emptied(rt: &impl Abort, alloc: Global) -> Result<(), ValueFault> {
 #[test]
 fn an_emptied_array_is_stored_and_in_no_setup(rt: HostRuntime) -> Result<(), Fail> {
     contents_may_be_stored();
-    if check_emptied(&rt, rt.alloc()).is_err() {
-        note_refusal(&rt);
-        check_emptied(&rt, rt.alloc())?;
-    }
+    again!(&rt; check_emptied(&rt, rt.alloc()))?;
     Ok(())
 }
 
@@ -423,17 +389,8 @@ fn check_variants(rt: &impl Abort, alloc: Global) -> Result<(), ValueFault> {
 
 #[test]
 fn arrays_and_variants(rt: HostRuntime) -> Result<(), Fail> {
-    if check_ends(&rt, rt.alloc()).is_err() {
-        note_refusal(&rt);
-        check_ends(&rt, rt.alloc())?;
-    }
-    if check_arrays(&rt, rt.alloc()).is_err() {
-        note_refusal(&rt);
-        check_arrays(&rt, rt.alloc())?;
-    }
-    if check_variants(&rt, rt.alloc()).is_err() {
-        note_refusal(&rt);
-        check_variants(&rt, rt.alloc())?;
-    }
+    again!(&rt; check_ends(&rt, rt.alloc()))?;
+    again!(&rt; check_arrays(&rt, rt.alloc()))?;
+    again!(&rt; check_variants(&rt, rt.alloc()))?;
     Ok(())
 }

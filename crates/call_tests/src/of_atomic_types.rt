@@ -1,41 +1,23 @@
-//! Tests of operations and objects. Where memory is refused a test says so, asks again, and compares what follows;
-//! `scripts/refuse-memory` counts what is said.
-use super::*;
+//! Tests of operations and objects.
+use crate::refusals::again;
+use atomic_types::{AtomicType, Class, Op, Reply, Signal, object_laws};
 use std::alloc::{AllocError, Global};
 use std::process::Abort;
 use std::test::Fail;
-use values::{Array, Content, Field, Identifier, Record, Value, ValueFault, Variant};
-
-/// What the call gives, asked again where memory was wanting.
-fn again<T, E: Drop, F: Fn() -> Result<T, E> + Drop>(rt: &impl Eprint, call: F) -> Result<T, E>
-    requires { F.IsAlwaysCallable call }
-{
-    match call() {
-        Ok(value) => Ok(value),
-        Err(_) => {
-            note_refusal(rt);
-            call()
-        }
-    }
-}
-
-/// Notes on standard error that memory was refused.
-fn note_refusal(rt: &impl Eprint) {
-    let _ = eprintln!(rt; "memory was refused");
-}
+use values::{Array, Content, Field, Identifier, Kind, Record, Value, ValueFault, Variant};
 
 fn identifier(rt: &impl Eprint, alloc: Global, text: &str) -> Result<Identifier, ValueFault> {
-    again(rt, || Identifier::parse(alloc, text))
+    again!(rt; Identifier::parse(alloc, text))
 }
 
 fn spelled(rt: &impl Eprint, alloc: Global, text: &str) -> Result<Value, ValueFault> {
-    again(rt, || Value::from_spelling(alloc, text))
+    again!(rt; Value::from_spelling(alloc, text))
 }
 
 /// A record with one field.
 fn balance(rt: &impl Eprint, alloc: Global) -> Result<Record, Fail> {
     let name = identifier(rt, alloc, "balance")?;
-    let mut fields = again(rt, || Vec::with_capacity(alloc, 1))?;
+    let mut fields = again!(rt; Vec::with_capacity(alloc, 1))?;
     fields.push(Field {
         name,
         value: Value::Int(100),
@@ -52,14 +34,7 @@ fn perform<T: AtomicType>(
     if !object.knows(op) {
         return Ok(None);
     }
-    let reply = match object.apply(op) {
-        Ok(reply) => reply,
-        Err(_) => {
-            note_refusal(rt);
-            object.apply(op)?
-        }
-    };
-    Ok(Some(reply))
+    Ok(Some(again!(rt; object.apply(op))?))
 }
 
 /// Operations on a balance of 100, one after another, each with its reply if it belongs to the record.
@@ -90,8 +65,8 @@ fn keeps_a_balance<T: AtomicType>(
 #[test]
 fn records_and_objects_keep_a_balance(rt: HostRuntime) -> Result<(), Fail> {
     let mut record = balance(&rt, rt.alloc())?;
-    let object = Content::Record(again(&rt, || AtomicType::copy(&record))?);
-    let mut copy = again(&rt, || AtomicType::copy(&object))?;
+    let object = Content::Record(again!(&rt; AtomicType::copy(&record))?);
+    let mut copy = again!(&rt; AtomicType::copy(&object))?;
     keeps_a_balance(&rt, rt.alloc(), &mut record)?;
     keeps_a_balance(&rt, rt.alloc(), &mut copy)
 }
@@ -136,7 +111,7 @@ fn operation(
 fn names_classes_and_copies(rt: HostRuntime) -> Result<(), Fail> {
     for at in 0..14 {
         let (op, name, class) = operation(&rt, rt.alloc(), at)?;
-        let copy = again(&rt, || op.copy())?;
+        let copy = again!(&rt; op.copy())?;
         assert!(rt;
             op.name() == name && Record::class(&op) == class && copy == op,
             "{name}"
@@ -148,7 +123,7 @@ fn names_classes_and_copies(rt: HostRuntime) -> Result<(), Fail> {
 #[test]
 fn replies_are_copied(rt: HostRuntime) -> Result<(), Fail> {
     let reply = Reply::Gives(spelled(&rt, rt.alloc(), "\"x\"")?);
-    let copy = again(&rt, || reply.copy())?;
+    let copy = again!(&rt; reply.copy())?;
     assert!(rt; copy == reply);
     Ok(())
 }
@@ -215,7 +190,7 @@ fn variant_step(
 }
 
 fn content(rt: &impl Eprint, alloc: Global, text: &str) -> Result<Content, ValueFault> {
-    again(rt, || Content::from_spelling(alloc, text))
+    again!(rt; Content::from_spelling(alloc, text))
 }
 
 fn behaves_as_array<T: AtomicType>(
@@ -246,7 +221,7 @@ fn behaves_as_variant<T: AtomicType>(
 fn arrays_grow_and_shrink_at_both_ends(rt: HostRuntime) -> Result<(), Fail> {
     let text = "{\"array\":{\"items\":[],\"low\":1,\"of\":\"int\"}}";
     let mut object = content(&rt, rt.alloc(), text)?;
-    let array = Array::from_items(values::Kind::Int, 1, Vec::new(rt.alloc()));
+    let array = Array::from_items(Kind::Int, 1, Vec::new(rt.alloc()));
     let Ok(mut array) = array else {
         return Err("no array".into());
     };
@@ -260,7 +235,7 @@ fn variants_answer_under_their_tag(rt: HostRuntime) -> Result<(), Fail> {
         "{\"variant\":{\"tag\":\"none\",\"tags\":{\"none\":\"int\",\"some\":\"text\"},\"value\":0}}";
     let mut object = content(&rt, rt.alloc(), text)?;
     if let Content::Variant(variant) = &object {
-        let mut copy: Variant = again(&rt, || AtomicType::copy(variant))?;
+        let mut copy: Variant = again!(&rt; AtomicType::copy(variant))?;
         behaves_as_variant(&rt, rt.alloc(), &mut copy)?;
     }
     behaves_as_variant(&rt, rt.alloc(), &mut object)

@@ -1,27 +1,12 @@
-//! Tests of texts and copies. Where memory is refused a test says so, asks again, and compares what follows;
-//! `scripts/refuse-memory` counts what is said.
-use super::*;
+//! Tests of texts and copies of setups, steps, answers and histories.
+use crate::refusals::{again, note_refusal};
+use run_model::{
+    Answer, ArmKind, ArmKinds, Event, History, Name, NameFault, Names, Refusal, Reply, Setup,
+    SetupFault, Signal, Step, Value,
+};
 use std::alloc::{AllocError, Global};
 use std::process::Abort;
 use std::test::Fail;
-
-/// Notes on standard error that memory was refused.
-fn note_refusal(rt: &impl Eprint) {
-    let _ = eprintln!(rt; "memory was refused");
-}
-
-// The call's answer, or that of a second call where memory was refused.
-macro_rules! again {
-    ($rt:expr; $call:expr) => {
-        match $call {
-            Err(_) => {
-                note_refusal($rt);
-                $call
-            }
-            done => done,
-        }
-    };
-}
 
 /// What stands in the table of lines: the fields of a step, seen again as one text.
 fn told(alloc: Global, step: &Step) -> Result<String, AllocError> {
@@ -303,13 +288,7 @@ fn other_answers(rt: HostRuntime) -> Result<(), Fail> {
 }
 
 fn setup(rt: &impl Eprint, alloc: Global, bytes: &[u8]) -> Result<Setup, SetupFault> {
-    match Setup::read(alloc, bytes) {
-        Err(SetupFault::Memory) => {
-            note_refusal(rt);
-            Setup::read(alloc, bytes)
-        }
-        read => read,
-    }
+    again!(rt; Setup::read(alloc, bytes), Err(SetupFault::Memory))
 }
 
 const SETUP: &[u8] =

@@ -1,28 +1,10 @@
-//! Tests of each fact at one history of two guardians. Where memory is refused a test says so, asks again, and compares what follows;
-//! `scripts/refuse-memory` counts what is said.
-use crate::actions::*;
-use crate::telling::*;
+//! Tests of each fact at one history of two guardians.
+use crate::refusals::again;
+use plain_facts::actions::*;
+use plain_facts::telling::*;
 use run_model::{Answer, Event, History, Name, Names, Step};
 use std::alloc::{AllocError, Global};
 use std::test::Fail;
-
-/// Notes on standard error that memory was refused.
-fn note_refusal(rt: &impl Eprint) {
-    let _ = eprintln!(rt; "memory was refused");
-}
-
-// The call's answer, or that of a second call where memory was refused.
-macro_rules! again {
-    ($rt:expr; $call:expr) => {
-        match $call {
-            Err(_) => {
-                note_refusal($rt);
-                $call
-            }
-            done => done,
-        }
-    };
-}
 
 /// The steps with their answers: the names that were begun, a vote, or nothing for `done`.
 const EVENTS: [(&str, &str); 19] = [

@@ -1,6 +1,6 @@
-//! Tests of the engine on readers and writers that fail, and of what it writes where nothing fails. Where memory is refused
-//! a test says so and runs again; `scripts/refuse-memory` counts what is said.
-use super::*;
+//! Tests of the engine on readers and writers that fail, and of what it writes where nothing fails.
+use crate::refusals::{again, note_refusal};
+use argus_engine::{Ended, Fault, explain_text, steps};
 use run_model::{Setup, SetupFault, Step};
 use std::alloc::{AllocError, Global};
 use std::io::{self, ErrorKind, Read, Write};
@@ -15,11 +15,6 @@ op 1 1/1 get balance\ntell 1 1.1\nop 1 1/1 get balance\n";
 
 const ANSWERS: &str =
     "began 1\nbegan 1.1\ngranted done\nrefused 5\ndone 0\nwaits 1.1\ndone 1\ngranted 50\n";
-
-/// Notes on standard error that memory was refused.
-fn note_refusal(rt: &impl Eprint) {
-    let _ = eprintln!(rt; "memory was refused");
-}
 
 /// A reader that gives a few bytes at a time and fails after so many calls.
 #[derive(Drop)]
@@ -159,13 +154,7 @@ fn long_line(alloc: Global, len: usize) -> Result<Vec<u8>, AllocError> {
 fn stops_at_a_long_line(rt: HostRuntime) -> Result<(), Fail> {
     let alloc = rt.alloc();
     for len in [8192, 8194] {
-        let text = match long_line(alloc, len) {
-            Ok(text) => text,
-            Err(_) => {
-                note_refusal(&rt);
-                long_line(alloc, len)?
-            }
-        };
+        let text = again!(&rt; long_line(alloc, len))?;
         is_answered(
             &rt,
             alloc,
@@ -216,13 +205,7 @@ fn says_where_a_write_failed(rt: HostRuntime) {
 
 /// The fault's text, asked again where memory was refused.
 fn named(rt: &impl Eprint, alloc: Global, fault: Fault) -> Result<String, Fail> {
-    match format!(in alloc; "{fault}") {
-        Ok(text) => Ok(text),
-        Err(_) => {
-            note_refusal(rt);
-            Ok(format!(in alloc; "{fault}")?)
-        }
-    }
+    Ok(again!(rt; format!(in alloc; "{fault}"))?)
 }
 
 #[test]
@@ -258,13 +241,7 @@ fn is_explained(
     action: &str,
     lines: &str,
 ) -> Result<(), Fault> {
-    let came = match explained(alloc, text, action) {
-        Err(Fault::Memory | Fault::Output) => {
-            note_refusal(rt);
-            explained(alloc, text, action)?
-        }
-        came => came?,
-    };
+    let came = again!(rt; explained(alloc, text, action), Err(Fault::Memory | Fault::Output))?;
     assert!(rt; came.as_slice() == lines.as_bytes());
     Ok(())
 }
@@ -287,13 +264,7 @@ fn explains_no_other_action(rt: HostRuntime) -> Result<(), Fault> {
 #[test]
 fn writes_a_beginning_where_a_write_fails(rt: HostRuntime) -> Result<(), Fault> {
     let alloc = rt.alloc();
-    let world = match new_world(alloc) {
-        Ok(world) => world,
-        Err(_) => {
-            note_refusal(&rt);
-            new_world(alloc)?
-        }
-    };
+    let world = again!(&rt; new_world(alloc))?;
     let mut writer = roomy(alloc, 1);
     match explain_text(alloc, world.history(), "1", &mut writer) {
         Err(Fault::Memory) => note_refusal(&rt),
@@ -326,14 +297,8 @@ fn writes_a_step_as_it_is_read(rt: HostRuntime) -> Result<(), Fault> {
         "recover 1",
     ];
     for line in lines {
-        let again = match rewritten(alloc, line) {
-            Ok(again) => again,
-            Err(_) => {
-                note_refusal(&rt);
-                rewritten(alloc, line)?
-            }
-        };
-        assert!(rt; again.is_some_and(|text| text.as_str() == line));
+        let written = again!(&rt; rewritten(alloc, line))?;
+        assert!(rt; written.is_some_and(|text| text.as_str() == line));
     }
     Ok(())
 }
