@@ -1,0 +1,21 @@
+-- What the maps of a store stand for.
+use Rattle.std.specs.Prelude.{ℕ, List, map}
+use Rattle.std.specs.FinMap.{from_entries}
+use Rattle.std.specs.FinSet as set
+use Rattle.stable_store.specs.Stored.{Stored, Record}
+use Rattle.stable_store.specs.declared.kept.Prepared.{Prepared}
+use Rattle.stable_store.specs.declared.kept.Kept.{Kept}
+
+abbrev pub record_of : Prepared → Record
+record_of p = record { home = p.home; values = p.values.entries }
+
+abbrev pub records_of : List (ℕ × Prepared) → List (ℕ × Record)
+records_of es = map (λ e. (e.0, record_of e.1)) es
+
+abbrev pub held : Kept → Stored
+held k = record {
+  base = from_entries k.base.entries;
+  prepared = from_entries (records_of k.prepared.entries);
+  decided = set.from_list k.decided.keys;
+  count = k.count;
+}

@@ -1,0 +1,3 @@
+pub mod Stored
+pub mod Calls
+pub mod Held
