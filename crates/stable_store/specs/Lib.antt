@@ -1,3 +1,5 @@
 pub mod Stored
 pub mod Calls
 pub mod Held
+pub mod Undone
+pub mod Plain

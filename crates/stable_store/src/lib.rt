@@ -6,8 +6,11 @@
 
 mod fault;
 mod kept;
+mod laid;
+mod plain;
 mod stable;
 
 pub use fault::StoreFault;
 pub use kept::{Kept, Prepared};
+pub use plain::PlainStable;
 pub use stable::{GREATEST_COUNT, Stable};
