@@ -3,3 +3,4 @@ pub mod Calls
 pub mod Held
 pub mod Undone
 pub mod Plain
+pub mod Failing

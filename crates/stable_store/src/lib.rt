@@ -4,12 +4,14 @@
 //! `PlainStable` keeps the content in memory; `FailOnce` makes one call of another store fail.
 #![tactic(auto)]
 
+mod fail_once;
 mod fault;
 mod kept;
 mod laid;
 mod plain;
 mod stable;
 
+pub use fail_once::FailOnce;
 pub use fault::StoreFault;
 pub use kept::{Kept, Prepared};
 pub use plain::PlainStable;
