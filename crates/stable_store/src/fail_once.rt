@@ -59,14 +59,17 @@ impl<S: Stable> FailOnce<S> {
 }
 
 impl<S: Stable> Stable for FailOnce<S> {
-    ghost use Rattle.std.specs.Prelude.{◌≡◌, ◌⊎◌};
-    ghost use Rattle.stable_store.specs.Failing.{all_failures};
+    ghost use Rattle.std.specs.Prelude.{◌≡◌, ◌⊎◌, ◌≤◌, IfOk};
+    ghost use Rattle.stable_store.specs.Stored.{after_prepare, after_install, after_discard, after_decide, after_bump, greatest_count};
+    ghost use Rattle.stable_store.specs.Calls.{IsRefused};
+    ghost use Rattle.stable_store.specs.Held.{held};
+    ghost use Rattle.stable_store.specs.Failing.{all_failures, MayFail, MakesInside, TakesTurn};
 
     ghost content = { λ s. S.content s.inner };
 
     ghost failures = { λ s. all_failures (S.failures s.inner) s.failed };
 
-    ghost may_fail = { λ s. S.may_fail s.inner ⊎ (s.calls_left ≡ 1) };
+    ghost may_fail = { λ s. MayFail S.may_fail s };
 
     ghost is_honest = { λ s. S.is_honest s.inner };
 
@@ -80,42 +83,69 @@ impl<S: Stable> Stable for FailOnce<S> {
         top: u32,
         home: u32,
         values: BTreeMap<u32, Content>,
-    ) -> Result<(), StoreFault> {
+    ) -> Result<(), StoreFault>
+        ensures makes { MakesInside S.content S.failures S.is_honest S.is_up S.may_leave self.old self.new
+            (MayFail S.may_fail self.old) (after_prepare top home values.entries (S.content self.old.inner)) result }
+        ensures turn { TakesTurn self.old self.new result }
+    {
         if self.count_call() {
             return Err(StoreFault::Failed);
         }
         self.inner.prepare(alloc, top, home, values)
     }
 
-    fn install(&mut self, alloc: Global, top: u32) -> Result<(), StoreFault> {
+    fn install(&mut self, alloc: Global, top: u32) -> Result<(), StoreFault>
+        ensures makes { MakesInside S.content S.failures S.is_honest S.is_up S.may_leave self.old self.new
+            (MayFail S.may_fail self.old) (after_install top (S.content self.old.inner)) result }
+        ensures turn { TakesTurn self.old self.new result }
+    {
         if self.count_call() {
             return Err(StoreFault::Failed);
         }
         self.inner.install(alloc, top)
     }
 
-    fn discard(&mut self, top: u32) -> Result<(), StoreFault> {
+    fn discard(&mut self, top: u32) -> Result<(), StoreFault>
+        ensures makes { MakesInside S.content S.failures S.is_honest S.is_up S.may_leave self.old self.new
+            (MayFail S.may_fail self.old) (after_discard top (S.content self.old.inner)) result }
+        ensures turn { TakesTurn self.old self.new result }
+    {
         if self.count_call() {
             return Err(StoreFault::Failed);
         }
         self.inner.discard(top)
     }
 
-    fn decide(&mut self, top: u32) -> Result<(), StoreFault> {
+    fn decide(&mut self, top: u32) -> Result<(), StoreFault>
+        ensures makes { MakesInside S.content S.failures S.is_honest S.is_up S.may_leave self.old self.new
+            (MayFail S.may_fail self.old) (after_decide top (S.content self.old.inner)) result }
+        ensures turn { TakesTurn self.old self.new result }
+    {
         if self.count_call() {
             return Err(StoreFault::Failed);
         }
         self.inner.decide(top)
     }
 
-    fn bump(&mut self) -> Result<(), StoreFault> {
+    fn bump(&mut self) -> Result<(), StoreFault>
+        ensures makes { MakesInside S.content S.failures S.is_honest S.is_up S.may_leave self.old self.new
+            (MayFail S.may_fail self.old ⊎ (greatest_count ≤ (S.content self.old.inner).count))
+            (after_bump (S.content self.old.inner)) result }
+        ensures spent { greatest_count ≤ (S.content self.old.inner).count → IsRefused result }
+        ensures turn { TakesTurn self.old self.new result }
+    {
         if self.count_call() {
             return Err(StoreFault::Failed);
         }
         self.inner.bump()
     }
 
-    fn load(&mut self, alloc: Global) -> Result<Kept, StoreFault> {
+    fn load(&mut self, alloc: Global) -> Result<Kept, StoreFault>
+        ensures makes { MakesInside S.content S.failures S.is_honest S.is_up S.may_leave self.old self.new
+            (MayFail S.may_fail self.old) (S.content self.old.inner) result }
+        ensures loaded { IfOk result (λ kept. held kept ≡ S.content self.old.inner) }
+        ensures turn { TakesTurn self.old self.new result }
+    {
         if self.count_call() {
             return Err(StoreFault::Failed);
         }
