@@ -1,5 +1,5 @@
 -- Maps and sets of numbers, as lists of entries.
-use Rattle.std.proofs.Common.{◌≡◌, ◌⊎◌, ℕ, List, [], ◌∷◌, map, Bool, true, false, ◌||◌, cond, Option, Some, None, option_map, IsSome, is_some, refl, sym, ap, subst, ◌∙◌, nat_cmp, true≢false, Ordering, Less, Equal, Greater}
+use Rattle.std.proofs.Common.{◌≡◌, ℕ, List, [], ◌∷◌, Bool, true, false, ◌||◌, cond, Option, Some, None, option_map, IsSome, is_some, refl, sym, ap, subst, ◌∙◌, nat_cmp, true≢false, Ordering, Less, Equal, Greater}
 use Rattle.std.specs.List.{list_any}
 use Rattle.std.specs.Map.{lookup}
 use Rattle.std.specs.Ordering.{eq_by_cmp, is_eq}

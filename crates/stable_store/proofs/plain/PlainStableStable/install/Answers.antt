@@ -1,4 +1,4 @@
-use Rattle.std.proofs.Common.{◌≡◌, Option, Some, None, option_map, sym, ap, ◌∙◌, refl}
+use Rattle.std.proofs.Common.{◌≡◌, Some, None, option_map, sym, ap, ◌∙◌, refl}
 use Rattle.std.specs.FinMap.{get, remove, from_entries}
 use Rattle.stable_store.specs.Stored.{installed, after_install}
 use Rattle.stable_store.specs.Held.{record_of, records_of, contents_in}
