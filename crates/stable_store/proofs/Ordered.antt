@@ -57,6 +57,7 @@ pub all_copied : {X : Type 0} (all before after left rest : List (ℕ × X)) (k 
     → after ++ rest ≡ all
 all_copied {X = X} all before after left rest k v w sorted so_far next put same =
     let as_seen : (es : List (ℕ × X)) → seen (λ x. x) es ≡ es = λ es. map-id es in
+    let parts = (λ i. as_seen before i ++ as_seen left i) ∙ so_far ∙ sym (as_seen all) in
     (λ i. sym (as_seen after) i ++ sym (as_seen rest) i)
-    ∙ copied_on (λ x. x) all before after left rest k v w sorted ((λ i. as_seen before i ++ as_seen left i) ∙ so_far ∙ sym (as_seen all)) next put same
+    ∙ copied_on (λ x. x) all before after left rest k v w sorted parts next put same
     ∙ as_seen all

@@ -40,8 +40,8 @@ Rests content is_honest is_up may_leave s = is_honest s → is_up s → (c : Sto
 
 -- The call made of the content what is stated, or nothing, and counted a failure only with this excuse.
 -- A stop leaves the content before it or after it; and while the store is up, its content.
-pub record Makes {S T : Type 0} (content : S → Stored) (failures : S → ℕ) (is_honest is_up : S → Type 0) (may_leave : S → Stored → Type 0)
-    (old new : S) (excuse : Type 0) (after : Stored) (result : Result T StoreFault) : Type 0 where
+pub record Makes {S T : Type 0} (content : S → Stored) (failures : S → ℕ) (is_honest is_up : S → Type 0)
+    (may_leave : S → Stored → Type 0) (old new : S) (excuse : Type 0) (after : Stored) (result : Result T StoreFault) : Type 0 where
   -- the content is the one after at `Ok`, and else that before
   pub changes : Changes (content old) after (content new) result
   -- at `Ok` and at want of memory no failure is counted

@@ -27,8 +27,8 @@ abbrev pub MayFail : {S : Type 0} → (S → Type 0) → Failing S → Type 0
 MayFail may_fail f = may_fail f.inner ⊎ (f.calls_left ≡ 1)
 
 -- what is said of a call, with the inner store's content and failures
-abbrev pub MakesInside : {S T : Type 0} → (S → Stored) → (S → ℕ) → (S → Type 0) → (S → Type 0) → (S → Stored → Type 0)
-    → Failing S → Failing S → Type 0 → Stored → Result T StoreFault → Type 0
+abbrev pub MakesInside : {S T : Type 0} → (S → Stored) → (S → ℕ) → (S → Type 0) → (S → Type 0)
+    → (S → Stored → Type 0) → Failing S → Failing S → Type 0 → Stored → Result T StoreFault → Type 0
 MakesInside content failures is_honest is_up may_leave =
     Makes (λ f. content f.inner) (λ f. all_failures (failures f.inner) f.failed) (λ f. is_honest f.inner) (λ f. is_up f.inner)
     (λ f. may_leave f.inner)
