@@ -1,4 +1,4 @@
-mod Ordered
-mod Maps
+pub mod Ordered
+pub mod Maps
 mod WayBack
 mod Made
