@@ -8,7 +8,7 @@ use Rattle.stable_store.specs.declared.fault.StoreFault.TheVariants.{Memory, Fai
 abbrev pub most_failures : ℕ
 most_failures = 18446744073709551615
 
--- one failure more was counted, or no more are
+-- more failures are counted than before, or as many as can be
 abbrev pub HasCounted : ℕ → ℕ → Type 0
 HasCounted before now = (before < now) ⊎ (now ≡ most_failures)
 

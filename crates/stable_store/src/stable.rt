@@ -14,6 +14,10 @@ pub const GREATEST_COUNT: u64 = 9_223_372_036_854_775_807;
 
 /// What a guardian keeps through a crash. A call makes its whole change or none: where it answers an error the content
 /// is what it was, and what it was handed by value is dropped. `Memory` is want of memory; every other error is counted.
+/// A stop in the midst of a call leaves the content before it or after it, as long as the device returns what was
+/// written to it; a stop after an `Ok` leaves the content after it.
+///
+/// Objects, top actions and guardians go by their numbers.
 pub trait Stable: Drop {
     /// What it contains, however that is kept.
     ghost content: { Self → Stored };
