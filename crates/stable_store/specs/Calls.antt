@@ -1,5 +1,5 @@
 -- What is said of a call of a store: what it changed and counted, and what a stop may leave.
-use Rattle.std.specs.Prelude.{◌≡◌, ◌⊎◌, ◌<◌, ℕ, Result, Ok, Err, OnOk}
+use Rattle.std.specs.Prelude.{◌≡◌, ◌⊎◌, ℕ, ◌+◌, min, Result, Ok, Err, OnOk}
 use Rattle.stable_store.specs.Stored.{Stored}
 use Rattle.stable_store.specs.declared.fault.StoreFault.{StoreFault}
 use Rattle.stable_store.specs.declared.fault.StoreFault.TheVariants.{Memory, Failed, NotOurs}
@@ -8,9 +8,9 @@ use Rattle.stable_store.specs.declared.fault.StoreFault.TheVariants.{Memory, Fai
 abbrev pub most_failures : ℕ
 most_failures = 18446744073709551615
 
--- more failures are counted than before, or as many as can be
+-- one failure more was counted, up to the greatest number
 abbrev pub HasCounted : ℕ → ℕ → Type 0
-HasCounted before now = (before < now) ⊎ (now ≡ most_failures)
+HasCounted before now = now ≡ min (before + 1) most_failures
 
 -- a fault is counted, and comes only with this excuse, unless it is want of memory
 abbrev pub IsExcused : Type 0 → ℕ → ℕ → StoreFault → Type 0
