@@ -1,0 +1,4 @@
+pub mod Ordered
+pub mod Maps
+mod WayBack
+mod Made

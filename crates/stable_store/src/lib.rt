@@ -1,0 +1,20 @@
+//! Stable stores: what a guardian keeps through a crash.
+//!
+//! `Stable` says what each call makes of a store's content, what it counts, and what a stop in its midst may leave.
+//! `PlainStable` keeps the content in memory; `FailOnce` makes one call of another store fail.
+#![tactic(auto)]
+
+mod fail_once;
+mod fault;
+mod kept;
+mod laid;
+mod plain;
+mod stable;
+#[cfg(test)]
+mod tests;
+
+pub use fail_once::FailOnce;
+pub use fault::StoreFault;
+pub use kept::{Kept, Prepared};
+pub use plain::PlainStable;
+pub use stable::{GREATEST_COUNT, Stable};
