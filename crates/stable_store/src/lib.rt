@@ -10,8 +10,6 @@ mod kept;
 mod laid;
 mod plain;
 mod stable;
-#[cfg(test)]
-mod tests;
 
 pub use fail_once::FailOnce;
 pub use fault::StoreFault;

@@ -1,6 +1,6 @@
 //! Tests of the engine on readers and writers that fail, and of what it writes where nothing fails.
-use crate::refusals::{again, note_refusal};
 use argus_engine::{Ended, Fault, explain_text, steps};
+use refusals::{again, note_refusal};
 use run_model::{Setup, SetupFault, Step};
 use std::alloc::{AllocError, Global};
 use std::io::{self, ErrorKind, Read, Write};

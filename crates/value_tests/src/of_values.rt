@@ -1,5 +1,5 @@
 //! Tests of values and contents.
-use crate::refusals::{again, note_refusal};
+use refusals::{again, note_refusal};
 use serde_json::Value as Json;
 use std::alloc::Global;
 use std::process::Abort;

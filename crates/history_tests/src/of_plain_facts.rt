@@ -1,7 +1,7 @@
 //! Tests of each fact at one history of two guardians.
-use crate::refusals::again;
 use plain_facts::actions::*;
 use plain_facts::telling::*;
+use refusals::again;
 use run_model::{Answer, Event, History, Name, Names, Step};
 use std::alloc::{AllocError, Global};
 use std::test::Fail;

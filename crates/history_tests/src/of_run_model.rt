@@ -1,5 +1,5 @@
 //! Tests of texts and copies of setups, steps, answers and histories.
-use crate::refusals::{again, note_refusal};
+use refusals::{again, note_refusal};
 use run_model::{
     Answer, ArmKind, ArmKinds, Event, History, Name, NameFault, Names, Refusal, Reply, Setup,
     SetupFault, Signal, Step, Value,

@@ -1,6 +1,6 @@
-//! Tests of stores. Where memory is refused a test says so, compares what the store contains, and asks again;
-//! `scripts/refuse-memory` counts what is said.
-use super::*;
+//! Tests of stores.
+use refusals::{again, note_refusal};
+use stable_store::{FailOnce, GREATEST_COUNT, Kept, PlainStable, Stable, StoreFault};
 use std::alloc::{AllocError, Global};
 use std::collections::BTreeMap;
 use std::fmt::Write;
@@ -14,24 +14,6 @@ const A: &str = "{\"record\":{\"n\":1}}";
 const B: &str = "{\"variant\":{\"tag\":\"t\",\"tags\":{\"t\":\"int\"},\"value\":2}}";
 
 const C: &str = "{\"array\":{\"items\":[\"x\"],\"low\":3,\"of\":\"text\"}}";
-
-/// Notes on standard error that memory was refused.
-fn note_refusal(rt: &impl Eprint) {
-    let _ = eprintln!(rt; "memory was refused");
-}
-
-// The call's answer, or that of a second call where memory was refused.
-macro_rules! again {
-    ($rt:expr; $call:expr) => {
-        match $call {
-            Err(_) => {
-                note_refusal($rt);
-                $call
-            }
-            done => done,
-        }
-    };
-}
 
 /// Contents by object number, from their spellings.
 fn contents(alloc: Global, spelled: &[(u32, &str)]) -> Result<BTreeMap<u32, Content>, ValueFault> {

@@ -1,6 +1,6 @@
 //! Tests of names, lists of names, and dependencies.
-use crate::refusals::{again, note_refusal};
 use action_names::{Deps, Name, NameFault, Names};
+use refusals::{again, note_refusal};
 use std::test::Fail;
 
 const DEEPEST: &str =

@@ -1,6 +1,6 @@
 //! Tests of operations and objects.
-use crate::refusals::again;
 use atomic_types::{AtomicType, Class, Op, Reply, Signal, object_laws};
+use refusals::again;
 use std::alloc::{AllocError, Global};
 use std::process::Abort;
 use std::test::Fail;

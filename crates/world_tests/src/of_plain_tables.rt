@@ -3,9 +3,9 @@ ghost use Rattle.std.specs.Prelude.{◌≡◌, [], IfOk, OnOk};
 ghost use Rattle.run_model.specs.Runs.{is_accepted};
 ghost use Rattle.plain_tables.specs.Tables.{IsTables};
 
-use crate::refusals::{again, note_refusal};
 use plain_tables::{Performed, Tables};
 use plain_world::PlainWorld;
+use refusals::{again, note_refusal};
 use run_model::{
     Answer, Event, History, Name, ObjectId, Op, Reply, Setup, SetupFault, Step, Value,
 };
