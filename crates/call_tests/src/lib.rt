@@ -1,5 +1,5 @@
-//! Tests of the calls of the crates below, a module a crate, and nothing else: a crate with tests is proved twice, and what stands
-//! here alone is quick to prove.
+//! Tests of the public calls of the crates below, a module for each crate. Nothing else stands here, since a crate with tests is
+//! proved twice.
 //!
 //! Where memory is refused a test says so, asks again, and compares what follows; `scripts/refuse-memory` counts what is said.
 #![tactic(auto)]
