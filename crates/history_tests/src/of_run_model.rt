@@ -74,6 +74,12 @@ fn is_step(rt: &impl Eprint, alloc: Global, line: &[u8]) -> Result<bool, AllocEr
     Ok(read(rt, alloc, line)?.is_some())
 }
 
+/// What a copy of the step tells.
+fn told_of_copy(rt: &impl Eprint, alloc: Global, step: &Step) -> Result<String, AllocError> {
+    let copy = again!(rt; step.copy())?;
+    again!(rt; told(alloc, &copy))
+}
+
 fn is_read(
     rt: &(impl Abort + Eprint),
     alloc: Global,
@@ -83,9 +89,7 @@ fn is_read(
     let step = read(rt, alloc, line.as_bytes())?;
     assert!(rt; step.is_some(), "{line}");
     if let Some(step) = step {
-        let copy = again!(rt; step.copy())?;
-        let seen = again!(rt; told(alloc, &copy))?;
-        assert_eq!(rt; seen.as_str(), want);
+        assert_eq!(rt; told_of_copy(rt, alloc, &step)?.as_str(), want);
     }
     Ok(())
 }

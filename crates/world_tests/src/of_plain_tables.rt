@@ -104,6 +104,24 @@ fn is_orphan_at(
     again!(rt; tables.is_known_orphan(setup, history, top, guardian))
 }
 
+/// Checks what is said of the action whose home crashed.
+fn is_orphan_at_home(
+    rt: &(impl Abort + Eprint),
+    alloc: Global,
+    tables: &Tables,
+    setup: &Setup,
+    history: &History,
+) -> Result<(), Fail>
+    requires { IsTables setup.now tables.now history.now }
+{
+    let top = Name::top(alloc, 1)?;
+    depends_on_its_home(rt, tables, setup, history, &top);
+    home_knows_its_crash(rt, tables, setup, history, &top);
+    assert!(rt; is_orphan_at(rt, tables, setup, history, &top, 1)?);
+    assert!(rt; !is_orphan_at(rt, tables, setup, history, &top, 2)?);
+    Ok(())
+}
+
 #[test]
 fn says_what_happened(rt: HostRuntime) -> Result<(), Fail> {
     let alloc = rt.alloc();
@@ -113,13 +131,7 @@ fn says_what_happened(rt: HostRuntime) -> Result<(), Fail> {
     let mut history = History::new(alloc);
     follow(&rt, &mut world, &mut tables, &mut history, Step::Top(1))?;
     follow(&rt, &mut world, &mut tables, &mut history, Step::Crash(1))?;
-    let setup = world.setup();
-    let top = Name::top(alloc, 1)?;
-    depends_on_its_home(&rt, &tables, setup, &history, &top);
-    home_knows_its_crash(&rt, &tables, setup, &history, &top);
-    assert!(rt; is_orphan_at(&rt, &tables, setup, &history, &top, 1)?);
-    assert!(rt; !is_orphan_at(&rt, &tables, setup, &history, &top, 2)?);
-    Ok(())
+    is_orphan_at_home(&rt, alloc, &tables, world.setup(), &history)
 }
 
 /// Checks the parts of the operation.
