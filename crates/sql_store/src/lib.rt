@@ -1,0 +1,12 @@
+//! A guardian's stable store in the tables of a SQL database.
+#![tactic(auto)]
+
+mod decoding;
+mod mirror;
+mod schema;
+mod statements;
+mod store;
+#[cfg(test)]
+mod tests;
+
+pub use store::SqlStable;
