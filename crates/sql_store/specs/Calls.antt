@@ -1,6 +1,9 @@
 -- What a call makes of a database that has a store's tables.
 use Rattle.std.specs.Prelude.{◌≡◌, ◌⊎◌, Bool, true, false, Option, Some, None, Result, Ok, Err, OnOk, OnErr, IsTrue}
+use Rattle.std.specs.List.{AllByRecursion}
 use Rattle.sqlite.specs.Tree.{Trees}
+use Rattle.sqlite_trees.specs.View.{IsShaped}
+use Rattle.sqlite_trees.specs.declared.store.Shape.TheVariants.{Table}
 use Rattle.sqlite.specs.Effect.{Database, IsDatabase}
 use Rattle.sqlite.specs.State.{State, HasCleanDisk}
 use Rattle.stable_store.specs.declared.kept.Kept.{Kept}
@@ -13,6 +16,8 @@ use Rattle.sql_store.specs.Rows.{Holds, IsStorable}
 pub record IsStore (db : Database) (c : Stored) : Type 0 where
   pub schema : db.schema ≡ stable_schema
   pub sound : IsDatabase db
+  -- the rows of each table come by rising integers
+  pub placed : AllByRecursion (λ t. IsShaped Table (db.trees t.tree)) stable_schema.tables
   pub holds : Holds db.trees c
   pub storable : IsStorable c
 

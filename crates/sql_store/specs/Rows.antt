@@ -1,15 +1,13 @@
 -- What the rows of the tables stand for.
 use Rattle.std.specs.Prelude.{◌≡◌, ℕ, pos, Bool, ◌&&◌, List, find, codes, Option, Some, None, option_map, is_some, IfSome}
-use Rattle.std.specs.Ordering.{nat_cmp}
+use Rattle.std.specs.Ordering.{nat_cmp, is_eq}
 use Rattle.std.specs.FinMap as map
 use Rattle.std.specs.FinSet as set
 use Rattle.sqlite.specs.declared.types.Value.{Value}
 use Rattle.sqlite.specs.declared.types.Value.TheVariants.{Int, Text}
-use Rattle.sqlite.specs.Collation.TheVariants.{Binary}
-use Rattle.sqlite.specs.Order.{Row, column}
+use Rattle.sqlite.specs.Order.{Row, column, value_cmp}
 use Rattle.sqlite.specs.Tree.{Trees}
 use Rattle.sqlite_trees.specs.Tree.{has_rowid}
-use Rattle.sqlite_schema.specs.Rules.{equal}
 use Rattle.values.specs.declared.content.Content.{Content}
 use Rattle.values.specs.Contents.{IsStoredContent, content_text}
 use Rattle.stable_store.specs.Stored.{Stored, Record}
@@ -20,14 +18,14 @@ row_at rows n = find (has_rowid (pos n)) rows
 
 -- the row of a prepared value, whose first columns are the top action and the object
 abbrev pub is_value_of : ℕ → ℕ → Row → Bool
-is_value_of top object row = equal Binary (column row 1) (Int (pos top)) && equal Binary (column row 2) (Int (pos object))
+is_value_of top object row = is_eq (value_cmp (column row 1) (Int (pos top))) && is_eq (value_cmp (column row 2) (Int (pos object)))
 
 abbrev pub value_at : List Row → ℕ → ℕ → Option Row
 value_at rows top object = find (is_value_of top object) rows
 
 -- the row of `meta` with the count
 abbrev pub is_count : Row → Bool
-is_count row = equal Binary (column row 1) (Text (codes "count"))
+is_count row = is_eq (value_cmp (column row 1) (Text (codes "count")))
 
 -- a content as a column has it
 abbrev pub written : Content → Value

@@ -1,5 +1,12 @@
 //! The statements that write, each call one transaction.
 
+ghost use Rattle.std.specs.Prelude.{◌≡◌, pos};
+ghost use Rattle.sqlite_value.specs.Value.{owned};
+ghost use Rattle.sqlite.specs.declared.types.Value.TheVariants.{Int};
+ghost use Rattle.sqlite.specs.Held.{state};
+ghost use Rattle.stable_store.specs.Stored.{Stored, after_decide};
+ghost use Rattle.sql_store.specs.Calls.{Stands, Carries};
+
 use sqlite::types::ValueRef;
 use sqlite::{Alter, Connection, Error, ErrorCode, Transaction};
 use stable_store::Prepared;
@@ -20,7 +27,9 @@ const TABLES: [&str; 5] = [
 const BUSY: Error = Error::SqliteFailure(ErrorCode::TransactionState);
 
 /// A number as a parameter.
-fn number(n: u32) -> ValueRef<'static> {
+fn number(n: u32) -> ValueRef<'static>
+    ensures { owned result ≡ Int (pos n) }
+{
     ValueRef::Int(i64::from(n))
 }
 
@@ -39,7 +48,9 @@ pub(crate) fn create<A: Alter>(conn: &mut Connection<A>) -> Result<(), Error> {
 }
 
 /// Adds a number to the decided.
-pub(crate) fn decide<A: Alter>(conn: &mut Connection<A>, top: u32) -> Result<(), Error> {
+pub(crate) fn decide<A: Alter>(conn: &mut Connection<A>, top: u32) -> Result<(), Error>
+    ensures { (c : Stored) → Stands (state A.Store conn.old) c → Carries (state A.Store conn.old) (state A.Store conn.new) c (after_decide top c) result }
+{
     if !conn.is_autocommit() {
         return Err(BUSY);
     }
