@@ -5,4 +5,4 @@ mod Parts
 mod Decides
 mod Means
 mod Contents
-mod Statements
+mod Runs
