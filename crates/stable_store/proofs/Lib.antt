@@ -1,0 +1,4 @@
+mod Ordered
+mod Maps
+mod WayBack
+mod Made

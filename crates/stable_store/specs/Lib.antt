@@ -1,3 +1,6 @@
 pub mod Stored
 pub mod Calls
 pub mod Held
+pub mod Undone
+pub mod Plain
+pub mod Failing

@@ -4,10 +4,17 @@
 //! `PlainStable` keeps the content in memory; `FailOnce` makes one call of another store fail.
 #![tactic(auto)]
 
+mod fail_once;
 mod fault;
 mod kept;
+mod laid;
+mod plain;
 mod stable;
+#[cfg(test)]
+mod tests;
 
+pub use fail_once::FailOnce;
 pub use fault::StoreFault;
 pub use kept::{Kept, Prepared};
+pub use plain::PlainStable;
 pub use stable::{GREATEST_COUNT, Stable};
