@@ -96,10 +96,17 @@ after_decides n db after c was schema sound made =
       sound = sound;
       placed = (
         subst Placed (sym meta) was.placed.0,
-        (subst Placed (sym base) was.placed.1.0,
-        (subst Placed (sym prepared) was.placed.1.1.0,
-        (subst Placed (sym values) was.placed.1.1.1.0,
-        (subst Placed (sym puts.rows) (placed_put row (db.trees 6) made.gone (pos n) refl was.placed.1.1.1.1.0), tt)))));
+        (
+          subst Placed (sym base) was.placed.1.0,
+          (
+            subst Placed (sym prepared) was.placed.1.1.0,
+            (
+              subst Placed (sym values) was.placed.1.1.1.0,
+              (subst Placed (sym puts.rows) (placed_put row (db.trees 6) made.gone (pos n) refl was.placed.1.1.1.1.0), tt),
+            ),
+          ),
+        ),
+      );
       holds = record {
         count = ap (λ rows. option_map (λ r. column r 2) (find is_count rows)) meta ∙ was.holds.count;
         base = λ o. ap (λ rows. option_map (λ r. column r 2) (row_at rows o)) base ∙ was.holds.base o;

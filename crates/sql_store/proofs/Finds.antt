@@ -29,6 +29,7 @@ module _ (p : Row → Bool) where
     where
       off : q r ≡ false → p r ≡ false
       off is = elim (cases_Bool (p r)) [ inl passes ↦ absurd (true≢false (sym (h r (inl refl) passes) ∙ is)) | inr fails ↦ fails ]
+
       go : (b : Bool) → q r ≡ b → find p (filter q rows) ≡ find p rows → find p (cond b (r ∷ filter q rows) (filter q rows)) ≡ cond (p r) (Some r) (find p rows)
       go true is later = ap (cond (p r) (Some r)) later
       go false is later = rw (off is) later

@@ -37,9 +37,9 @@ same_truth false false h k = refl
 pub key_is : (v : Value) (n q : ℕ) → v ≡ Int (pos n) → is_eq (value_cmp v (Int (pos q))) ≡ eq_by_cmp nat_cmp q n
 key_is v n q is = same_truth (is_eq (value_cmp v (Int (pos q)))) (eq_by_cmp nat_cmp q n)
     (λ h. let same : q ≡ n = pos_same q n (sym (value_cmp-Int (pos q) (pos n)) ∙ tied_back value_cmp_total (Int (pos n)) (Int (pos q)) (sym (ap (λ w. value_cmp w (Int (pos q))) is) ∙ equal_is _ h)) in
-        ap (λ k. eq_by_cmp nat_cmp k n) same ∙ ap is_eq (tied_itself nat_cmp_total n))
+    ap (λ k. eq_by_cmp nat_cmp k n) same ∙ ap is_eq (tied_itself nat_cmp_total n))
     (λ h. let same : q ≡ n = exact_unsigned q n (equal_is _ h) in
-        ap (λ w. is_eq (value_cmp w (Int (pos q)))) (is ∙ ap (λ k. Int (pos k)) (sym same)) ∙ ap is_eq (tied_itself value_cmp_total (Int (pos q))))
+    ap (λ w. is_eq (value_cmp w (Int (pos q)))) (is ∙ ap (λ k. Int (pos k)) (sym same)) ∙ ap is_eq (tied_itself value_cmp_total (Int (pos q))))
 
 truth_is : (b : Bool) → is_true (from_truth (Some b)) ≡ b
 truth_is true = refl

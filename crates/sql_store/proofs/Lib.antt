@@ -1,3 +1,6 @@
+mod Ordered
+mod Maps
+mod WayBack
 mod Texts
 mod Finds
 mod Keys

@@ -25,8 +25,8 @@ tied q n h = exact_unsigned q n (equal_is _ h)
 others_stay : (rows : List Row) (gone : List ℤ) (n q : ℕ) → eq_by_cmp nat_cmp q n ≡ false → ((id : ℤ) → Has gone id → id ≡ pos n) → row_at (without_all rows gone) q ≡ row_at rows q
 others_stay rows gone n q apart all = find_kept (has_rowid (pos q)) rows gone (λ r h at id i.
     false_from_ne_true (has_rowid id r) (λ also.
-      let same = one_key (rowid r) q n at (ap (λ k. has_rowid k r) (sym (all id i)) ∙ also) in
-      true≢false (sym (ap (λ k. eq_by_cmp nat_cmp k n) same ∙ ap is_eq (tied_itself nat_cmp_total n)) ∙ apart)))
+    let same = one_key (rowid r) q n at (ap (λ k. has_rowid k r) (sym (all id i)) ∙ also) in
+    true≢false (sym (ap (λ k. eq_by_cmp nat_cmp k n) same ∙ ap is_eq (tied_itself nat_cmp_total n)) ∙ apart)))
 
 pub row_put : (rows : List Row) (gone : List ℤ) (row : Row) (n : ℕ) → rowid row ≡ Int (pos n) → ((id : ℤ) → Has gone id → id ≡ pos n) → is_taken (without_all rows gone) row ≡ false
     → (q : ℕ) → row_at (put_row row (without_all rows gone)) q ≡ cond (eq_by_cmp nat_cmp q n) (Some row) (row_at rows q)
@@ -34,9 +34,11 @@ row_put rows gone row n is all free q = go (eq_by_cmp nat_cmp q n) refl
   where
     at : has_rowid (pos q) row ≡ eq_by_cmp nat_cmp q n
     at = key_is (rowid row) n q is
+
     absent : q ≡ n → (r : Row) → Has (without_all rows gone) r → has_rowid (pos q) r ≡ false
     absent same r h = false_from_ne_true (has_rowid (pos q) r) (λ there.
         true≢false (sym (some_from (λ y. is_eq (value_cmp (rowid y) (rowid row))) (without_all rows gone) r h (ap (λ v. is_eq (value_cmp (rowid r) v)) (is ∙ ap (λ k. Int (pos k)) (sym same)) ∙ there)) ∙ free))
+
     go : (b : Bool) → eq_by_cmp nat_cmp q n ≡ b → row_at (put_row row (without_all rows gone)) q ≡ cond b (Some row) (row_at rows q)
     go true e = find_put_new (has_rowid (pos q)) row (without_all rows gone) (at ∙ e) (find_none (has_rowid (pos q)) (without_all rows gone) (absent (tied q n e)))
     go false e = find_put_other (has_rowid (pos q)) row (without_all rows gone) (at ∙ e) free ∙ others_stay rows gone n q e all

@@ -49,7 +49,7 @@ module _ (sql : List ℕ) (params : Row) (old : State) (schema : Schema) (has : 
       let known = sym h.1.is ∙ ap (λ s. understood s sql) has in
       let bare = subst IsPlain (sym known) plain in
       let may : MayCommit old None command (statement_of sql (understood schema sql)) params db =
-          subst₂ (λ k t. MayCommit old None k t params db) (ap command_of known ∙ is) (ap (statement_of sql) known) (rw (bare.0, bare.1, append-nil params) at h.2) in
+      subst₂ (λ k t. MayCommit old None k t params db) (ap command_of known ∙ is) (ap (statement_of sql) known) (rw (bare.0, bare.1, append-nil params) at h.2) in
       elim may [
         | inl (inl commit, same) ↦ absurd (never_commit command rows commit)
         | inl (inr release, same) ↦ absurd (never_release command release.0 rows release.2)
@@ -62,9 +62,9 @@ unfolding ExecutesIn IsNotRun
 err_leaves sql params old new e (inl (inl same)) = inl same.1
 err_leaves sql params old new e (inl (inr failed)) = inr failed.3
 err_leaves sql params old new e (inr h) = elim (cases_Bool (shows_rows false h.0)) [
-    | inl shows ↦ inl (rw shows at h.2).1
-    | inr runs ↦ ran (rw runs at h.2)
-  ]
+  | inl shows ↦ inl (rw shows at h.2).1
+  | inr runs ↦ ran (rw runs at h.2)
+]
   where
     ran : RunsCommand old new sql h.0 (timed params h.0.formats h.1.now) (Err e) → IsUnchanged old new ⊎ IsRolledBack old new
     ran (inl (why, same)) = inl same
@@ -109,9 +109,9 @@ runs_opens old new r Nothing text params count alone h = h.0.0.was_open
 pub ok_opens : (sql : List ℕ) (params : Row) (old new : State) (count : ℕ) → old.in_transaction ≡ false → Executes sql params old new (Ok count) → IsTrue old.is_open
 unfolding ExecutesIn
 ok_opens sql params old new count alone h = elim (cases_Bool (shows_rows false h.0)) [
-    | inl shows ↦ absurd (let e = (rw shows at h.2).0 in cc)
-    | inr runs ↦ runs_opens old new h.0.returning h.0.command (text_of sql h.0) (timed params h.0.formats h.1.now) count alone (rw runs at h.2)
-  ]
+  | inl shows ↦ absurd (let e = (rw shows at h.2).0 in cc)
+  | inr runs ↦ runs_opens old new h.0.returning h.0.command (text_of sql h.0) (timed params h.0.formats h.1.now) count alone (rw runs at h.2)
+]
 
 -- a promise over a crash, from one that says more
 pub survives_as : (old new : State) (P Q : Trees → Type 0) → ((db : Trees) → P db → Q db) → Survives old new P → Survives old new Q
@@ -157,11 +157,13 @@ module _ (text : List ℕ) (command : Command) (params : Row) (f : Stored → St
       let store = (was opened).0 in
       let w = runs_to old new count c store needs h in
       ((opened, w.shown.is_open, m.does old.step_limit old.now new.now w.tally c store needs w.sound w.changed, w.shown.mode ∙ mode), tt)
-  carries old new c (Err e) was needs settled mode h =
-      (tt, λ up.
+  carries old new c (Err e) was needs settled mode h = (
+    tt,
+    λ up.
         let opened = err_opens text params old new e h up in
         let same : new.now ≡ old.now = err_keeps text params old new (Err e) settled h up in
-        (subst (λ d. IsStore d c) (sym same) (was opened).0, err_mode text params old new e mode h))
+        (subst (λ d. IsStore d c) (sym same) (was opened).0, err_mode text params old new e mode h),
+  )
 
   -- what a stop leaves
   pub stops : (old : State) (c : Stored) (db : Trees) → IsStore old.now c → Needs c → CommitsBy text params old db → Holds db (f c)

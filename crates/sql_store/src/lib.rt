@@ -2,6 +2,7 @@
 #![tactic(auto)]
 
 mod decoding;
+mod laid;
 mod mirror;
 mod schema;
 mod statements;

@@ -54,8 +54,10 @@ pub(crate) fn decide<A: Alter>(conn: &mut Connection<A>, top: u32) -> Result<(),
     if !conn.is_autocommit() {
         return Err(BUSY);
     }
-    conn.execute("INSERT OR REPLACE INTO decided VALUES (?1)", &[number(top)])?;
-    Ok(())
+    match conn.execute("INSERT OR REPLACE INTO decided VALUES (?1)", &[number(top)]) {
+        Ok(_) => Ok(()),
+        Err(error) => Err(error),
+    }
 }
 
 /// Writes the count.

@@ -7,7 +7,7 @@ ghost use Rattle.stable_store.specs.Held.{held};
 ghost use Rattle.sql_store.specs.Calls.{MayLeave, content_of};
 
 use crate::decoding::{Found, check_version, fault_of, find_tables, read_content};
-use crate::{mirror, schema, statements};
+use crate::{laid, mirror, schema, statements};
 use sqlite::{Alter, Connection, Error};
 use stable_store::{GREATEST_COUNT, Kept, Prepared, Stable, StoreFault};
 use std::alloc::Global;
@@ -159,14 +159,14 @@ impl<A: Alter + Drop> Stable for SqlStable<A> {
         let Some(record) = kept.prepared.get(&top) else {
             return self.discard(top);
         };
-        let before = mirror::put_over(alloc, &mut kept.base, &record.values)?;
+        let replaced = laid::lay(alloc, &mut kept.base, &record.values)?;
         match statements::install(&mut self.conn, alloc, top, &record.values) {
             Ok(()) => {
                 kept.prepared.remove(&top);
                 Ok(())
             }
             Err(error) => {
-                mirror::put_back(&mut kept.base, before);
+                laid::undo(&mut kept.base, replaced);
                 Err(counted(&mut self.failures, fault_of(error)))
             }
         }
@@ -231,7 +231,7 @@ impl<A: Alter + Drop> Stable for SqlStable<A> {
         if !mirror::are_same(alloc, &found, kept)? {
             return Err(counted(&mut self.failures, StoreFault::Failed));
         }
-        Ok(mirror::copy(alloc, kept)?)
+        Ok(kept.copy(alloc)?)
     }
 
     fn failures(&self) -> u64 {
