@@ -9,3 +9,10 @@ mod Decides
 mod Means
 mod Contents
 mod Runs
+mod Same
+mod Made
+mod Known
+mod Cascade
+mod Discards
+mod Removed
+mod Recorded

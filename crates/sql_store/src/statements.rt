@@ -1,11 +1,11 @@
 //! The statements that write, each call one transaction.
 
-ghost use Rattle.std.specs.Prelude.{◌≡◌, pos};
+ghost use Rattle.std.specs.Prelude.{◌≡◌, ◌≤◌, pos};
 ghost use Rattle.sqlite_value.specs.Value.{owned};
 ghost use Rattle.sqlite.specs.declared.types.Value.TheVariants.{Int};
 ghost use Rattle.sqlite.specs.Held.{state};
-ghost use Rattle.stable_store.specs.Stored.{Stored, after_decide};
-ghost use Rattle.sql_store.specs.Calls.{Stands, Carries};
+ghost use Rattle.stable_store.specs.Stored.{Stored, after_decide, after_discard, greatest_count};
+ghost use Rattle.sql_store.specs.Calls.{Stands, Carries, with_count};
 
 use sqlite::types::ValueRef;
 use sqlite::{Alter, Connection, Error, ErrorCode, Transaction};
@@ -60,25 +60,42 @@ pub(crate) fn decide<A: Alter>(conn: &mut Connection<A>, top: u32) -> Result<(),
     }
 }
 
+/// The count as a parameter.
+fn stored_count(count: u64) -> ValueRef<'static>
+    requires { count ≤ greatest_count }
+    ensures { owned result ≡ Int (pos count) }
+{
+    ValueRef::Int(count as i64)
+}
+
 /// Writes the count.
-pub(crate) fn count<A: Alter>(conn: &mut Connection<A>, count: i64) -> Result<(), Error> {
+pub(crate) fn count<A: Alter>(conn: &mut Connection<A>, count: u64) -> Result<(), Error>
+    requires { count ≤ greatest_count }
+    ensures { (c : Stored) → Stands (state A.Store conn.old) c → Carries (state A.Store conn.old) (state A.Store conn.new) c (with_count count c) result }
+{
     if !conn.is_autocommit() {
         return Err(BUSY);
     }
-    conn.execute(
+    match conn.execute(
         "INSERT OR REPLACE INTO meta VALUES ('count', ?1)",
-        &[ValueRef::Int(count)],
-    )?;
-    Ok(())
+        &[stored_count(count)],
+    ) {
+        Ok(_) => Ok(()),
+        Err(error) => Err(error),
+    }
 }
 
 /// Deletes a record. The values go with it.
-pub(crate) fn discard<A: Alter>(conn: &mut Connection<A>, top: u32) -> Result<(), Error> {
+pub(crate) fn discard<A: Alter>(conn: &mut Connection<A>, top: u32) -> Result<(), Error>
+    ensures { (c : Stored) → Stands (state A.Store conn.old) c → Carries (state A.Store conn.old) (state A.Store conn.new) c (after_discard top c) result }
+{
     if !conn.is_autocommit() {
         return Err(BUSY);
     }
-    conn.execute("DELETE FROM prepared WHERE top = ?1", &[number(top)])?;
-    Ok(())
+    match conn.execute("DELETE FROM prepared WHERE top = ?1", &[number(top)]) {
+        Ok(_) => Ok(()),
+        Err(error) => Err(error),
+    }
 }
 
 /// Writes a record in place of the one that the top action had.
