@@ -16,3 +16,4 @@ mod Cascade
 mod Discards
 mod Removed
 mod Recorded
+mod Inside

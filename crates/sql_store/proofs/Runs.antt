@@ -16,11 +16,11 @@ use Rattle.sqlite.specs.State.{State, mode_of, Executes, ExecutesIn, CommitsBy, 
 use Rattle.sqlite.specs.Effect.{IsDatabase}
 use Rattle.sqlite.specs.State.{Writes}
 use Rattle.sqlite.proofs.Callers.{IsPlain, command_of, statement_of, runs_as}
-use Rattle.stable_store.specs.Stored.{Stored, after_decide, after_discard}
+use Rattle.stable_store.specs.Stored.{Stored, after_decide, after_discard, after_prepare}
 use Rattle.sql_store.specs.Tables.{stable_schema}
 use Rattle.sql_store.specs.Rows.{Holds, IsStorable}
 use Rattle.sql_store.specs.Calls.{IsStore, IsAtRest, Stands, Carries, with_count, after_put}
-use Rattle.sql_store.proofs.Texts.{decide_text, decide_command, decide_is, decide_plain, count_text, count_command, count_is, count_plain, base_text, base_command, base_is, base_plain, discard_text, discard_command, discard_is, discard_plain}
+use Rattle.sql_store.proofs.Texts.{record_text, record_command, record_is, record_plain, value_text, value_command, value_is, value_plain, decide_text, decide_command, decide_is, decide_plain, count_text, count_command, count_is, count_plain, base_text, base_command, base_is, base_plain, discard_text, discard_command, discard_is, discard_plain}
 use Rattle.sql_store.proofs.Discards.{discards}
 use Rattle.sql_store.proofs.Removed.{after_discards}
 use Rattle.values.specs.declared.content.Content.{Content}
@@ -29,7 +29,10 @@ use Rattle.sql_store.proofs.Contents.{after_decides, after_counts, after_puts_ba
 use Rattle.sqlite.specs.declared.types.Value.TheVariants.{Int, Text}
 use Rattle.sqlite.specs.State.{HasCleanDisk}
 use Rattle.std.proofs.Common.{arith, pos, ◌∷◌, cond}
-use Rattle.sql_store.proofs.Decides.{plain_mode, decides, counts, puts_base}
+use Rattle.sql_store.proofs.Decides.{plain_mode, decides, counts, puts_base, puts_home, puts_value}
+use Rattle.sql_store.proofs.Recorded.{more, after_puts_home, after_puts_value}
+use Rattle.std.specs.FinMap as map
+use Rattle.std.proofs.Common.{nat_cmp}
 
 abbrev pub writes_rows : Command → Type 0
 writes_rows (InsertOr at way from clauses) = Unit {0}
@@ -148,7 +151,7 @@ pub record Means (text : List ℕ) (command : Command) (params : Row) (f : Store
 
 module _ (text : List ℕ) (command : Command) (params : Row) (f : Stored → Stored) (Needs : Stored → Type 0) (m : Means text command params f Needs) where
   -- what was written
-  runs_to : (old new : State) (count : ℕ) (c : Stored) → IsStore old.now c → Needs c → Executes text params old new (Ok count) → Writes old new None command (statement_of text (understood stable_schema text)) params count
+  pub runs_to : (old new : State) (count : ℕ) (c : Stored) → IsStore old.now c → Needs c → Executes text params old new (Ok count) → Writes old new None command (statement_of text (understood stable_schema text)) params count
   runs_to old new count c store needs h = wrote command m.rows (runs_as text params old new stable_schema store.schema command m.is m.plain count h)
     where
       wrote : (k : Command) → writes_rows k → Runs old new None k (statement_of text (understood stable_schema text)) params count → Writes old new None k (statement_of text (understood stable_schema text)) params count
@@ -263,4 +266,27 @@ discard_means n = record {
   does = λ limit db after tally c store _ sound h.
       let made = discards limit n db tally after (statement_of discard_text (understood stable_schema discard_text)) store.schema store.placed.1.1.0 h in
       after_discards n db after c store made.1 made.0 sound;
+}
+
+-- a record with no value yet
+pub record_means : (n home : ℕ) → Means record_text record_command (Int (pos n) ∷ Int (pos home) ∷ []) (after_prepare n home []) (λ c. map.get c.prepared n ≡ None)
+record_means n home = record {
+  is = record_is;
+  plain = record_plain;
+  rows = tt;
+  does = λ limit db after tally c store none sound h.
+      let made = puts_home limit n home db tally after (statement_of record_text (understood stable_schema record_text)) store.schema h in
+      after_puts_home n home db after c none store made.0 sound made.1;
+}
+
+-- one value more of a record
+pub value_means : (n home o : ℕ) (v : Content) (before : List (ℕ × Content)) (c : Stored) → map.is_sorted nat_cmp (more before o v) ≡ true → IsStoredContent v
+    → Means value_text value_command (Int (pos n) ∷ Int (pos o) ∷ Text (content_text v) ∷ []) (λ _. after_prepare n home (more before o v) c) (λ d. d ≡ after_prepare n home before c)
+value_means n home o v before c sorted fits = record {
+  is = value_is;
+  plain = value_plain;
+  rows = tt;
+  does = λ limit db after tally d store same sound h.
+      let made = puts_value limit n o (content_text v) db tally after (statement_of value_text (understood stable_schema value_text)) store.schema h in
+      after_puts_value n home o v before c sorted fits db after (subst (IsStore db) same store) made.1 made.0 sound;
 }

@@ -5,8 +5,9 @@ use Rattle.sqlite.specs.Tree.{Trees}
 use Rattle.sqlite_trees.specs.View.{IsShaped}
 use Rattle.sqlite_trees.specs.declared.store.Shape.TheVariants.{Table}
 use Rattle.sqlite.specs.Effect.{Database, IsDatabase}
-use Rattle.sqlite.specs.State.{State, HasCleanDisk}
-use Rattle.std.specs.FinMap.{insert}
+use Rattle.sqlite.specs.State.{State, HasCleanDisk, KeepsCommit}
+use Rattle.std.specs.Ordering.{nat_cmp}
+use Rattle.std.specs.FinMap.{FinMap, insert}
 use Rattle.values.specs.declared.content.Content.{Content}
 use Rattle.stable_store.specs.Stored.{Stored}
 use Rattle.sql_store.specs.Tables.{stable_schema}
@@ -46,6 +47,25 @@ pub record Carries {T E : Type 0} (old new : State) (before after : Stored) (res
 abbrev pub with_count : ℕ → Stored → Stored
 with_count n c = record c { count = n }
 
+-- another base
+abbrev pub with_base : FinMap nat_cmp Content → Stored → Stored
+with_base base c = record c { base = base }
+
 -- another content of an object
 abbrev pub after_put : ℕ → Content → Stored → Stored
 after_put object v c = record c { base = insert c.base object v }
+
+-- ---- within a transaction
+
+-- the transaction sees a store with this content
+pub record IsWithin (s : State) (c : Stored) : Type 0 where
+  pub store : IsStore s.now c
+  pub mode : s.in_transaction ≡ true
+
+abbrev pub Sees : State → Stored → Type 0
+Sees s c = HasCleanDisk s → IsTrue s.is_open → IsWithin s c
+
+-- A part of a transaction that found this content left the one after it, and at an error what the transaction began with.
+pub record Steps {T E : Type 0} (old new : State) (after : Stored) (result : Result T E) : Type 0 where
+  pub ok : HasCleanDisk new → OnOk result (IsTrue old.is_open × IsTrue new.is_open × IsWithin new after)
+  pub kept : HasCleanDisk new → KeepsCommit old new
