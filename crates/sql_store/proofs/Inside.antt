@@ -14,7 +14,7 @@ use Rattle.sqlite_trees.specs.declared.store.Store.{Ghosts}
 use Rattle.sqlite.specs.Held.{Held, state}
 use Rattle.stable_store.specs.Stored.{Stored}
 use Rattle.sql_store.specs.Rows.{Holds, IsStorable}
-use Rattle.sql_store.specs.Calls.{IsStore, IsAtRest, Stands, Carries, IsWithin, Sees, Steps}
+use Rattle.sql_store.specs.Calls.{IsStore, IsAtRest, Stands, Carries, IsWithin, Sees, Stays, Steps}
 use Rattle.sql_store.proofs.Runs.{Means, runs_to}
 
 unchanged_keeps : (old new : State) → IsUnchanged old new → KeepsCommit old new
@@ -58,14 +58,12 @@ module _ {S : Type 0} (g : Ghosts S) (text : List ℕ) (command : Command) (para
   }
 
 -- two parts in turn
-pub steps_then : {T U E : Type 0} (a b d : State) (x y : Stored) (v : U) (r : Result T E) → (HasCleanDisk d → HasCleanDisk b) → Steps {T = U} {E = E} a b x (Ok v) → (Sees b x → Steps b d y r) → Steps a d y r
+pub steps_then : {T U E F : Type 0} (a b d : State) (x y : Stored) (v : U) (r : Result T E) → (HasCleanDisk d → HasCleanDisk b) → Steps {T = U} {E = F} a b x (Ok v) → (Stays b x → Steps b d y r) → Steps a d y r
 steps_then a b d x y v (Ok w) clean one two =
-    let sees = λ (h : HasCleanDisk b) (up : IsTrue b.is_open). (one.ok h).2 in
-    let next = two sees in
+    let next = two (λ h. ((one.ok h).1, (one.ok h).2)) in
     record { ok = λ h. ((one.ok (clean h)).0, (next.ok h).1, (next.ok h).2); kept = λ h. keeps_then a b d (one.kept (clean h)) (next.kept h) }
 steps_then a b d x y v (Err e) clean one two =
-    let sees = λ (h : HasCleanDisk b) (up : IsTrue b.is_open). (one.ok h).2 in
-    record { ok = λ _. tt; kept = λ h. keeps_then a b d (one.kept (clean h)) ((two sees).kept h) }
+    record { ok = λ _. tt; kept = λ h. keeps_then a b d (one.kept (clean h)) ((two (λ k. ((one.ok k).1, (one.ok k).2))).kept h) }
 
 pub steps_as : {T E : Type 0} (a b : State) (x y : Stored) (r : Result T E) → x ≡ y → Steps a b x r → Steps a b y r
 steps_as a b x y r is h = subst (λ z. Steps a b z r) is h
@@ -81,8 +79,11 @@ step_err h = record { ok = λ _. tt; kept = h.kept }
 pub step_none : {T E : Type 0} (s : State) (x : Stored) (e : E) → Steps {T = T} {E = E} s s x (Err e)
 step_none s x e = record { ok = λ _. tt; kept = λ _. keeps_same s }
 
-pub step_same : {E : Type 0} (s : State) (x : Stored) → Sees s x → (HasCleanDisk s → IsTrue s.is_open) → Steps {T = Unit {0}} {E = E} s s x (Ok tt)
-step_same s x sees up = record { ok = λ h. (up h, up h, sees h (up h)); kept = λ _. keeps_same s }
+pub step_same : {E : Type 0} (s : State) (x : Stored) → Stays s x → Steps {T = Unit {0}} {E = E} s s x (Ok tt)
+step_same s x stays = record { ok = λ h. let it = stays h in (it.0, it.0, it.1); kept = λ _. keeps_same s }
+
+pub sees_of : (s : State) (x : Stored) → Stays s x → Sees s x
+sees_of s x stays h up = (stays h).1
 
 -- ---- the end of a transaction, which began at `a`, ran up to `b` and left `d`
 
@@ -148,3 +149,14 @@ module _ (a b d : State) (c after : Stored) (stands : Stands a c) (law : IsTrue 
         | inl fails ↦ let u = fails.3 in back (part.kept (late h)) (late h) (u.was_open up) (u.undone up).0 (u.undone up).1 mode
         | inr late_ ↦ absurd (true≢false (sym (part.ok (late h)).2.mode ∙ late_.1))
       ]
+
+-- as it began
+pub begin_sees : {S : Type 0} (g : Ghosts S) (h : Held S) (c : Stored) → Stands (state g h) c → Sees (state g (record h { in_transaction = true })) c
+begin_sees g h c stands clean up = record { store = (stands clean up).store; mode = refl }
+
+pub begin_steps : {S T E : Type 0} (g : Ghosts S) (h : Held S) (b : State) (x : Stored) (r : Result T E) → Steps (state g (record h { in_transaction = true })) b x r → Steps (state g h) b x r
+begin_steps g h b x (Ok v) it = record { ok = it.ok; kept = λ k. let m = it.kept k in record { was_open = m.was_open; committed = m.committed } }
+begin_steps g h b x (Err e) it = record { ok = λ _. tt; kept = λ k. let m = it.kept k in record { was_open = m.was_open; committed = m.committed } }
+
+pub survives_self : (s : State) → Survives s s (λ _. ⊥)
+survives_self s = record { clean = omega arith; shield = λ h. h; counts = omega arith; limit = refl; closes = λ _ up. inl up; crash = λ _ db h. inl h }

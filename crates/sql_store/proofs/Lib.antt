@@ -17,3 +17,5 @@ mod Discards
 mod Removed
 mod Recorded
 mod Inside
+mod Loops
+mod Back

@@ -7,9 +7,9 @@ use Rattle.sqlite_trees.specs.declared.store.Shape.TheVariants.{Table}
 use Rattle.sqlite.specs.Effect.{Database, IsDatabase}
 use Rattle.sqlite.specs.State.{State, HasCleanDisk, KeepsCommit}
 use Rattle.std.specs.Ordering.{nat_cmp}
-use Rattle.std.specs.FinMap.{FinMap, insert}
+use Rattle.std.specs.FinMap.{FinMap, insert, remove}
 use Rattle.values.specs.declared.content.Content.{Content}
-use Rattle.stable_store.specs.Stored.{Stored}
+use Rattle.stable_store.specs.Stored.{Stored, Record}
 use Rattle.sql_store.specs.Tables.{stable_schema}
 use Rattle.sql_store.specs.Rows.{Holds, IsStorable}
 
@@ -47,6 +47,11 @@ pub record Carries {T E : Type 0} (old new : State) (before after : Stored) (res
 abbrev pub with_count : ℕ → Stored → Stored
 with_count n c = record c { count = n }
 
+-- another record of a top action, or none
+abbrev pub with_record : ℕ → Option Record → FinMap nat_cmp Record → FinMap nat_cmp Record
+with_record top None records = remove records top
+with_record top (Some r) records = insert records top r
+
 -- another base
 abbrev pub with_base : FinMap nat_cmp Content → Stored → Stored
 with_base base c = record c { base = base }
@@ -64,6 +69,10 @@ pub record IsWithin (s : State) (c : Stored) : Type 0 where
 
 abbrev pub Sees : State → Stored → Type 0
 Sees s c = HasCleanDisk s → IsTrue s.is_open → IsWithin s c
+
+-- and it is open
+abbrev pub Stays : State → Stored → Type 0
+Stays s c = HasCleanDisk s → IsTrue s.is_open × IsWithin s c
 
 -- A part of a transaction that found this content left the one after it, and at an error what the transaction began with.
 pub record Steps {T E : Type 0} (old new : State) (after : Stored) (result : Result T E) : Type 0 where

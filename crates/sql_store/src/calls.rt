@@ -27,7 +27,9 @@ pub(crate) fn prepare<A: Alter>(
     ensures carries { Stands (state A.Store conn.old) (held kept.old)
         → Carries (state A.Store conn.old) (state A.Store conn.new) (held kept.old) (after_prepare top home values.entries (held kept.old)) result }
 {
-    let before = kept.prepared.insert(top, Prepared { home, values })?;
+    let Ok(before) = kept.prepared.insert(top, Prepared { home, values }) else {
+        return Err(StoreFault::Memory);
+    };
     let Some(record) = kept.prepared.get(&top) else {
         unreachable!()
     };
@@ -53,7 +55,9 @@ pub(crate) fn install<A: Alter>(
     let Some(record) = kept.prepared.get(&top) else {
         return discard(conn, kept, top);
     };
-    let replaced = laid::lay(alloc, &mut kept.base, &record.values)?;
+    let Ok(replaced) = laid::lay(alloc, &mut kept.base, &record.values) else {
+        return Err(StoreFault::Memory);
+    };
     match statements::install(conn, alloc, top, &record.values) {
         Ok(()) => {
             kept.prepared.remove(&top);

@@ -9,7 +9,7 @@ ghost use Rattle.sqlite.specs.State.{Survives};
 ghost use Rattle.sqlite.specs.Held.{state};
 ghost use Rattle.values.specs.declared.content.Content.{Content as Spec};
 ghost use Rattle.stable_store.specs.Stored.{Stored, laid, after_prepare, after_discard, after_decide, greatest_count};
-ghost use Rattle.sql_store.specs.Calls.{Stands, Carries, Sees, Steps, with_count, with_base, after_put};
+ghost use Rattle.sql_store.specs.Calls.{Stands, Carries, Sees, Stays, Steps, with_count, with_base, after_put};
 
 use sqlite::types::ValueRef;
 use sqlite::{Alter, Connection, Error, ErrorCode, Transaction};
@@ -143,7 +143,7 @@ pub(crate) fn install<A: Alter>(
     values: &BTreeMap<u32, Content>,
 ) -> Result<(), Error>
     ensures { (c : Stored) → Stands (state A.Store conn.old) c
-        → Carries (state A.Store conn.old) (state A.Store conn.new) c (after_discard top (with_base (laid values.now.entries c.base) c)) result }
+        → Carries (state A.Store conn.old) (state A.Store conn.new) c (with_base (laid values.now.entries c.base) (after_discard top c)) result }
 {
     if !conn.is_autocommit() {
         return Err(BUSY);
@@ -228,7 +228,7 @@ fn put_values<A: Alter>(
 ) -> Result<(), Error>
     ensures same { tx.new.conn.ghost_name ≡ tx.old.conn.ghost_name }
     ensures survives { Survives (state A.Store tx.old.conn.now) (state A.Store tx.new.conn.now) (λ _. ⊥) }
-    ensures steps { (home : ℕ) (c : Stored) → Sees (state A.Store tx.old.conn.now) (after_prepare top home [] c)
+    ensures steps { (home : ℕ) (c : Stored) → Stays (state A.Store tx.old.conn.now) (after_prepare top home [] c)
         → Steps (state A.Store tx.old.conn.now) (state A.Store tx.new.conn.now) (after_prepare top home values.now.entries c) result }
 {
     let _rising = values.len();
@@ -276,10 +276,10 @@ fn install_record<A: Alter>(
     ensures same { tx.new.conn.ghost_name ≡ tx.old.conn.ghost_name }
     ensures survives { Survives (state A.Store tx.old.conn.now) (state A.Store tx.new.conn.now) (λ _. ⊥) }
     ensures steps { (c : Stored) → Sees (state A.Store tx.old.conn.now) c
-        → Steps (state A.Store tx.old.conn.now) (state A.Store tx.new.conn.now) (after_discard top (with_base (laid values.now.entries c.base) c)) result }
+        → Steps (state A.Store tx.old.conn.now) (state A.Store tx.new.conn.now) (with_base (laid values.now.entries c.base) (after_discard top c)) result }
 {
-    match put_base(tx, alloc, values) {
-        Ok(()) => delete_record(tx, top),
+    match delete_record(tx, top) {
+        Ok(()) => put_base(tx, alloc, values),
         Err(error) => Err(error),
     }
 }
@@ -292,7 +292,7 @@ fn put_base<A: Alter>(
 ) -> Result<(), Error>
     ensures same { tx.new.conn.ghost_name ≡ tx.old.conn.ghost_name }
     ensures survives { Survives (state A.Store tx.old.conn.now) (state A.Store tx.new.conn.now) (λ _. ⊥) }
-    ensures steps { (c : Stored) → Sees (state A.Store tx.old.conn.now) c
+    ensures steps { (c : Stored) → Stays (state A.Store tx.old.conn.now) c
         → Steps (state A.Store tx.old.conn.now) (state A.Store tx.new.conn.now) (with_base (laid values.now.entries c.base) c) result }
 {
     for (&object, content) in values {

@@ -1,19 +1,15 @@
-use Rattle.std.proofs.Common.{rules, ◌≡◌, ◌≤◌, ℕ, pos, true, List, [], ◌∷◌, ◌++◌, None, string_bytes, ◌+◌, ◌-◌, ◌*◌, ◌<◌, length, ◌/◌, ◌%◌, Bool, false, nat_eq, nat_lt, slice_index_or, slice_set, bit_and, bit_or, Fits, w8, w32, w64, Bor, MutBor}
-use Rattle.std.specs.Ordering.{nat_cmp}
-use Rattle.std.specs.FinMap.{get, is_sorted}
-use Rattle.sqlite_value.specs.Value.{owned}
-use Rattle.sqlite.specs.declared.types.Value.TheVariants.{Int, Text}
-use Rattle.sqlite.specs.State.{Survives}
+use Rattle.std.proofs.Common.{Ok, arith}
 use Rattle.sqlite.specs.Held.{state}
-use Rattle.values.specs.declared.content.Content.{Content as Spec}
-use Rattle.stable_store.specs.Stored.{Stored, laid, after_prepare, after_discard, after_decide, greatest_count}
-use Rattle.sql_store.specs.Calls.{Stands, Carries, Sees, Steps, with_count, with_base, after_put}
+use Rattle.stable_store.specs.Stored.{after_discard}
+use Rattle.sql_store.proofs.Inside.{steps_then, step_err}
 use Rattle.sql_store.proofs.statements.install_record.Goals as goal
 
--- src/statements.rt:270:1
 pub returns-in-Ok-clause-steps : goal.returns-in-Ok-clause-steps
-returns-in-Ok-clause-steps g c = ?
+returns-in-Ok-clause-steps g c k sees =
+    let mid = state g.A.Store c.delete_record.new.tx.conn.now in
+    let last = state g.A.Store c.put_base.new.tx.conn.now in
+    steps_then _ mid last (after_discard c.args.top k) _ _ c.put_base.result (λ h. omega (arith, c.put_base.ensures.survives.clean)) (c.in-Ok.ensures.steps k sees)
+    (λ stays. c.put_base.ensures.steps (after_discard c.args.top k) stays)
 
--- src/statements.rt:270:1
 pub returns-in-Err-clause-steps : goal.returns-in-Err-clause-steps
-returns-in-Err-clause-steps g c = ?
+returns-in-Err-clause-steps g c k sees = step_err (c.in-Err.ensures.steps k sees)
