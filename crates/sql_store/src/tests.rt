@@ -1,4 +1,5 @@
 //! Tests of the store over disks in memory.
+use crate::schema::is_known;
 use crate::store::SqlStable;
 use sqlite::{Alter, Connection, FileStore, Files, MemStore, Options};
 use sqlite_disk::{Crash, Disk, Fuse, Memory};
@@ -118,6 +119,16 @@ fn is_refused(alloc: Global, batch: &str, tables: i64) -> Result<bool, Fail> {
         )?
         .get(0)?;
     Ok(fault == StoreFault::NotOurs && count == tables)
+}
+
+#[test]
+fn the_schema_of_a_store_is_known(rt: HostRuntime) -> Result<(), Fail> {
+    let alloc = rt.alloc();
+    let conn = opened(alloc, in_memory(alloc, "")?)?.into_connection();
+    assert!(rt; is_known(conn.schema()));
+    let conn = opened(alloc, in_memory(alloc, "CREATE TABLE other(x INTEGER)")?)?.into_connection();
+    assert!(rt; !is_known(conn.schema()));
+    Ok(())
 }
 
 #[test]
@@ -337,39 +348,62 @@ fn survives(
     Ok(fault.is_none())
 }
 
-fn survives_each_stop(rt: &impl Abort, alloc: Global, change: Change) -> Result<(), Fail> {
+/// Lets the database, or the log, fail after each number of calls, up to one that suffices.
+fn survives_each_stop(
+    rt: &impl Abort,
+    alloc: Global,
+    change: Change,
+    in_log: bool,
+) -> Result<(), Fail> {
     let start = filled(alloc)?;
     let bytes = start.db.inner().bytes();
-    let mut ended = 0;
     for calls in 0..200 {
-        if survives(rt, alloc, change, fused(alloc, bytes, u64::MAX, calls)?)? {
-            ended += 1;
-            break;
+        let (log, db) = if in_log {
+            (calls, u64::MAX)
+        } else {
+            (u64::MAX, calls)
+        };
+        if survives(rt, alloc, change, fused(alloc, bytes, log, db)?)? {
+            return Ok(());
         }
     }
-    for calls in 0..200 {
-        if survives(rt, alloc, change, fused(alloc, bytes, calls, u64::MAX)?)? {
-            ended += 1;
-            break;
-        }
-    }
-    assert_eq!(rt; ended, 2);
-    Ok(())
+    Err("no number of calls suffices")?
 }
 
 #[test]
-fn a_stop_in_prepare_leaves_before_or_after(rt: HostRuntime) -> Result<(), Fail> {
-    survives_each_stop(&rt, rt.alloc(), Change::Prepare)
+fn a_stop_of_the_database_in_prepare(rt: HostRuntime) -> Result<(), Fail> {
+    survives_each_stop(&rt, rt.alloc(), Change::Prepare, false)
 }
 
 #[test]
-fn a_stop_in_install_leaves_before_or_after(rt: HostRuntime) -> Result<(), Fail> {
-    survives_each_stop(&rt, rt.alloc(), Change::Install)
+fn a_stop_of_the_log_in_prepare(rt: HostRuntime) -> Result<(), Fail> {
+    survives_each_stop(&rt, rt.alloc(), Change::Prepare, true)
 }
 
 #[test]
-fn a_stop_in_a_smaller_change_leaves_before_or_after(rt: HostRuntime) -> Result<(), Fail> {
-    survives_each_stop(&rt, rt.alloc(), Change::Discard)?;
-    survives_each_stop(&rt, rt.alloc(), Change::Decide)?;
-    survives_each_stop(&rt, rt.alloc(), Change::Bump)
+fn a_stop_of_the_database_in_install(rt: HostRuntime) -> Result<(), Fail> {
+    survives_each_stop(&rt, rt.alloc(), Change::Install, false)
+}
+
+#[test]
+fn a_stop_of_the_log_in_install(rt: HostRuntime) -> Result<(), Fail> {
+    survives_each_stop(&rt, rt.alloc(), Change::Install, true)
+}
+
+#[test]
+fn a_stop_in_discard(rt: HostRuntime) -> Result<(), Fail> {
+    survives_each_stop(&rt, rt.alloc(), Change::Discard, false)?;
+    survives_each_stop(&rt, rt.alloc(), Change::Discard, true)
+}
+
+#[test]
+fn a_stop_in_decide(rt: HostRuntime) -> Result<(), Fail> {
+    survives_each_stop(&rt, rt.alloc(), Change::Decide, false)?;
+    survives_each_stop(&rt, rt.alloc(), Change::Decide, true)
+}
+
+#[test]
+fn a_stop_in_bump(rt: HostRuntime) -> Result<(), Fail> {
+    survives_each_stop(&rt, rt.alloc(), Change::Bump, false)?;
+    survives_each_stop(&rt, rt.alloc(), Change::Bump, true)
 }
