@@ -1,4 +1,3 @@
-use Rattle.std.proofs.Common.{arith}
 use Rattle.stable_store.specs.Held.{held}
 use Rattle.sql_store.proofs.Made.{as_ok, as_err}
 use Rattle.sql_store.proofs.calls.bump.Goals as goal

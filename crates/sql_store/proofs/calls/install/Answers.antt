@@ -1,9 +1,9 @@
 use Rattle.std.proofs.Common.{◌≡◌, Some, None, option_map, Ok, Err, sym, ap, subst, ◌∙◌}
-use Rattle.std.specs.FinMap.{get, remove, from_entries}
+use Rattle.std.specs.FinMap.{get, remove}
 use Rattle.sqlite.specs.Held.{state}
 use Rattle.sqlite.specs.declared.error.Error.{Error}
-use Rattle.stable_store.specs.Stored.{Stored, installed, after_install, after_discard}
-use Rattle.stable_store.specs.Held.{held, record_of, records_of, contents_in}
+use Rattle.stable_store.specs.Stored.{installed}
+use Rattle.stable_store.specs.Held.{held, record_of, contents_in}
 use Rattle.stable_store.specs.Calls.{Changes}
 use Rattle.sql_store.specs.Calls.{Carries}
 use Rattle.sql_store.proofs.Maps.{taken_seen}

@@ -1,4 +1,4 @@
-use Rattle.std.proofs.Common.{◌≡◌, Result, Ok, Err, IsOk, OnOk, OnErr, refl, sym, ap, subst, ◌∙◌, option_map, None}
+use Rattle.std.proofs.Common.{◌≡◌, Result, Ok, Err, IsOk, OnOk, OnErr, refl, sym, ap, subst, ◌∙◌, option_map}
 use Rattle.std.specs.FinMap.{from_entries}
 use Rattle.stable_store.specs.Held.{record_of, records_of}
 use Rattle.sql_store.specs.Calls.{with_record}

@@ -1,6 +1,5 @@
-use Rattle.std.proofs.Common.{◌≡◌, ℕ, List, [], ◌∷◌, Ok, Err, subst, subst₂, refl}
+use Rattle.std.proofs.Common.{[], ◌∷◌, subst, subst₂}
 use Rattle.sqlite.specs.Values.{bound_value}
-use Rattle.sqlite.specs.Tree.{Trees}
 use Rattle.sqlite.specs.State.{Survives, Executes, CommitsBy}
 use Rattle.sqlite.specs.Held.{state}
 use Rattle.sql_store.proofs.Texts.{count_text, count_command}

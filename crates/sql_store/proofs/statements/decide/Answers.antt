@@ -1,10 +1,9 @@
-use Rattle.std.proofs.Common.{◌≡◌, ℕ, List, [], ◌∷◌, Ok, Err, subst, subst₂, refl}
+use Rattle.std.proofs.Common.{[], ◌∷◌, subst, subst₂}
 use Rattle.sqlite.specs.Values.{bound_value}
-use Rattle.sqlite.specs.Tree.{Trees}
 use Rattle.sqlite.specs.State.{Survives, Executes, CommitsBy}
 use Rattle.sqlite.specs.Held.{state}
 use Rattle.sql_store.proofs.Texts.{decide_text, decide_command}
-use Rattle.stable_store.specs.Stored.{Stored, after_decide}
+use Rattle.stable_store.specs.Stored.{after_decide}
 use Rattle.sql_store.proofs.Runs.{not_true, decide_means, carried, refused}
 use Rattle.sql_store.proofs.statements.decide.Goals as goal
 

@@ -1,8 +1,7 @@
-use Rattle.std.proofs.Common.{◌≡◌, Ok, Err, true, sym, ap, subst, rules}
-use Rattle.sqlite.specs.Held.{Held, state}
-use Rattle.sqlite.specs.declared.error.Error.{Error}
+use Rattle.std.proofs.Common.{◌≡◌, Ok, Err, true, subst, rules}
+use Rattle.sqlite.specs.Held.{state}
 use Rattle.sqlite.proofs.Callers.{survives_begin}
-use Rattle.stable_store.specs.Stored.{Stored, laid, after_prepare, after_discard}
+use Rattle.stable_store.specs.Stored.{laid, after_discard}
 use Rattle.sql_store.specs.Calls.{Carries, Steps, with_base}
 use Rattle.sql_store.proofs.Inside.{committed, rolled, begin_sees, begin_steps}
 use Rattle.sql_store.proofs.statements.install.Goals as goal

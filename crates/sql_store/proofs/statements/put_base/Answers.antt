@@ -1,9 +1,9 @@
-use Rattle.std.proofs.Common.{◌≡◌, ◌∷◌, Ok, Err, rules, refl, sym, ap, subst, ◌∙◌, arith}
+use Rattle.std.proofs.Common.{◌≡◌, Ok, rules, refl, sym, ap, ◌∙◌, arith}
 use Rattle.std.specs.Map.Iter.{deref_pair}
 use Rattle.std.proofs.lemmas.Map.Iter.{rest_more}
 use Rattle.sqlite.specs.Held.{state}
 use Rattle.sqlite.proofs.StateLemmas.{survives_then}
-use Rattle.stable_store.specs.Stored.{Stored, laid}
+use Rattle.stable_store.specs.Stored.{laid}
 use Rattle.sql_store.specs.Calls.{with_base, after_put}
 use Rattle.sql_store.proofs.Inside.{steps_then, step_ok, step_same, sees_of, survives_self}
 use Rattle.sql_store.proofs.statements.put_base.Goals as goal

@@ -1,9 +1,8 @@
-use Rattle.std.proofs.Common.{◌≡◌, ℕ, List, [], ◌∷◌, ◌++◌, Ok}
+use Rattle.std.proofs.Common.{◌≡◌, Ok}
 use Rattle.sqlite.specs.State.{Survives}
 use Rattle.sqlite.specs.Held.{state}
 use Rattle.sqlite.specs.declared.error.Error.{Error}
-use Rattle.values.specs.declared.content.Content.{Content}
-use Rattle.stable_store.specs.Stored.{Stored, laid, after_prepare}
+use Rattle.stable_store.specs.Stored.{Stored, laid}
 use Rattle.sql_store.specs.Calls.{Stays, Steps, with_base}
 use Rattle.sql_store.proofs.statements.put_base.Given as goal
 

@@ -1,12 +1,9 @@
-use Rattle.std.proofs.Common.{◌≡◌, ℕ, List, [], ◌∷◌, ◌++◌, Ok, Err, Result, true, IsTrue, refl, sym, ap, subst, subst₂, ◌∙◌, arith}
-use Rattle.std.proofs.Common.{pos}
-use Rattle.sqlite.specs.declared.types.Value.TheVariants.{Int, Text}
+use Rattle.std.proofs.Common.{[], ◌∷◌, IsTrue, ap, subst, subst₂, ◌∙◌, arith}
+use Rattle.sqlite.specs.declared.types.Value.TheVariants.{Text}
 use Rattle.sqlite.specs.Values.{bound_value}
 use Rattle.sqlite.specs.State.{HasCleanDisk, ExecutesInside}
 use Rattle.sqlite.specs.Held.{state}
-use Rattle.sqlite.specs.declared.error.Error.{Error}
-use Rattle.stable_store.specs.Stored.{Stored, after_discard}
-use Rattle.sql_store.specs.Calls.{Sees, Steps, after_put}
+use Rattle.sql_store.specs.Calls.{Steps, after_put}
 use Rattle.sql_store.proofs.Texts.{base_text, base_command}
 use Rattle.sql_store.proofs.Runs.{base_means}
 use Rattle.sql_store.proofs.Inside.{steps, step_ok, step_err}

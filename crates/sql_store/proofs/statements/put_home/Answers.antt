@@ -1,4 +1,4 @@
-use Rattle.std.proofs.Common.{[], Ok, arith}
+use Rattle.std.proofs.Common.{[], arith}
 use Rattle.sqlite.specs.Held.{state}
 use Rattle.stable_store.specs.Stored.{after_prepare, after_discard}
 use Rattle.sql_store.proofs.Inside.{steps_then, steps_as, step_err, sees_of}

@@ -1,13 +1,12 @@
-use Rattle.std.proofs.Common.{◌≡◌, ℕ, List, [], ◌∷◌, ◌++◌, Ok, Err, Result, true, IsTrue, refl, sym, ap, subst, subst₂, ◌∙◌, arith}
+use Rattle.std.proofs.Common.{[], ◌∷◌, IsTrue, refl, ap, subst, subst₂, ◌∙◌, arith}
 use Rattle.std.proofs.Common.{pos}
 use Rattle.sqlite.specs.declared.types.Value.TheVariants.{Int, Text}
 use Rattle.sqlite.specs.Values.{bound_value}
 use Rattle.sqlite_value.specs.Value.{owned}
 use Rattle.sqlite.specs.State.{HasCleanDisk, ExecutesInside}
 use Rattle.sqlite.specs.Held.{state}
-use Rattle.sqlite.specs.declared.error.Error.{Error}
-use Rattle.stable_store.specs.Stored.{Stored, after_prepare}
-use Rattle.sql_store.specs.Calls.{Sees, Steps, after_put}
+use Rattle.stable_store.specs.Stored.{after_prepare}
+use Rattle.sql_store.specs.Calls.{Steps}
 use Rattle.sql_store.proofs.Texts.{value_text, value_command}
 use Rattle.sql_store.proofs.Runs.{value_means}
 use Rattle.sql_store.proofs.Inside.{steps, step_ok, step_err}

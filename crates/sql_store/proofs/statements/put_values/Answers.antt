@@ -5,7 +5,7 @@ use Rattle.std.specs.List.Sorted.{IsStrictlySortedBy}
 use Rattle.std.proofs.lemmas.Map.Iter.{rest_more}
 use Rattle.sqlite.specs.Held.{state}
 use Rattle.sqlite.proofs.StateLemmas.{survives_then}
-use Rattle.stable_store.specs.Stored.{Stored, after_prepare}
+use Rattle.stable_store.specs.Stored.{after_prepare}
 use Rattle.sql_store.proofs.Inside.{steps_then, step_ok, step_err, step_same, sees_of, survives_self}
 use Rattle.sql_store.proofs.Recorded.{more}
 use Rattle.sql_store.proofs.Loops.{rising, later}

@@ -1,4 +1,4 @@
-use Rattle.std.proofs.Common.{◌⊎◌, inl, ◌≤◌, Ok, Err, refl, sym, ap, subst}
+use Rattle.std.proofs.Common.{◌⊎◌, inl, ◌≤◌, Ok, Err, sym, subst}
 use Rattle.sqlite.specs.Held.{state}
 use Rattle.stable_store.specs.Stored.{after_bump, greatest_count}
 use Rattle.stable_store.specs.Held.{held}

@@ -1,4 +1,4 @@
-use Rattle.std.proofs.Common.{Ok, Err, refl, sym, ap, subst}
+use Rattle.std.proofs.Common.{Ok, Err, sym, subst}
 use Rattle.sqlite.specs.Held.{state}
 use Rattle.stable_store.specs.Stored.{after_prepare}
 use Rattle.stable_store.specs.Held.{held}
