@@ -9,3 +9,4 @@ mod Decides
 mod Means
 mod Contents
 mod Runs
+mod Shown

@@ -1,3 +1,4 @@
 pub mod Tables
 pub mod Rows
 pub mod Calls
+pub mod Reading

@@ -4,6 +4,7 @@
 mod decoding;
 mod laid;
 mod mirror;
+mod rows;
 mod schema;
 mod statements;
 mod store;
