@@ -10,3 +10,4 @@ mod Means
 mod Contents
 mod Runs
 mod Shown
+mod Valued

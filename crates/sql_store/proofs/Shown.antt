@@ -1,5 +1,5 @@
 -- Maps that are read row by row.
-use Rattle.std.proofs.Common.{◌≡◌, inl, inr, ℕ, List, [], ◌∷◌, ◌++◌, Bool, true, false, ◌||◌, cond, Option, Some, None, option_map, is_some, refl, sym, ap, subst, ◌∙◌, nat_cmp, true≢false}
+use Rattle.std.proofs.Common.{◌≡◌, ◌⊎◌, inl, inr, ℕ, List, [], ◌∷◌, ◌++◌, Bool, true, false, ◌||◌, cond, Option, Some, None, option_map, is_some, refl, sym, ap, subst, ◌∙◌, nat_cmp, true≢false}
 use Rattle.std.specs.Ordering.{eq_by_cmp, is_eq}
 use Rattle.std.specs.Cmp.{nat_cmp_total}
 use Rattle.std.proofs.lemmas.Cmp.{eq_by_cmp_equiv}
@@ -24,7 +24,7 @@ use Rattle.sql_store.specs.Reading.{IsMapOf, Adds, IsSetOf}
 pub not_some : {X : Type 0} (x : X) → None ≡ Some x → ⊥
 not_some x e = true≢false (sym (ap is_some e))
 
-at_itself : (k : ℕ) → eq_by_cmp nat_cmp k k ≡ true
+pub at_itself : (k : ℕ) → eq_by_cmp nat_cmp k k ≡ true
 at_itself k = (eq_by_cmp_equiv nat_cmp_total).refl k
 
 pub tied_numbers : (q k : ℕ) → eq_by_cmp nat_cmp q k ≡ true → q ≡ k
@@ -34,6 +34,29 @@ pub has_last : {X : Type 0} (x y : X) → Has (y ∷ []) x → x ≡ y
 has_last x y (inl same) = same
 has_last x y (inr h) = absurd h
 
+module _ {V : Type 0} (Shows : Row → ℕ → V → Type 0) (row : Row) (before after : FinMap nat_cmp V) (add : Adds Shows row before after) where
+  found : (q : ℕ) → get after q ≡ cond (eq_by_cmp nat_cmp q add.key) (Some add.value) (get before q)
+  found q = ap (λ m. get m q) add.added ∙ get-insert nat_cmp_total before add.key add.value q
+
+  pub adds_here : get after add.key ≡ Some add.value
+  adds_here = found add.key ∙ ap (λ b. cond b (Some add.value) (get before add.key)) (at_itself add.key)
+
+  stays_at : (k : ℕ) (v : V) (b : Bool) → eq_by_cmp nat_cmp k add.key ≡ b → get before k ≡ Some v → cond b (Some add.value) (get before k) ≡ Some v
+  stays_at k v false e h = h
+  stays_at k v true e h = absurd (not_some v (sym add.new ∙ ap (get before) (sym (tied_numbers k add.key e)) ∙ h))
+
+  pub adds_stays : (k : ℕ) (v : V) → get before k ≡ Some v → get after k ≡ Some v
+  adds_stays k v h = found k ∙ stays_at k v (eq_by_cmp nat_cmp k add.key) refl h
+
+  back_at : (k : ℕ) (v : V) (b : Bool) → eq_by_cmp nat_cmp k add.key ≡ b → cond b (Some add.value) (get before k) ≡ Some v → (get before k ≡ Some v) ⊎ Shows row k v
+  back_at k v false e h = inl h
+  back_at k v true e h =
+      let value : add.value ≡ v = let w = h in cc in
+      inr (subst (λ x. Shows row k x) value (subst (λ n. Shows row n add.value) (sym (tied_numbers k add.key e)) add.shows))
+
+  pub adds_back : (k : ℕ) (v : V) → get after k ≡ Some v → (get before k ≡ Some v) ⊎ Shows row k v
+  adds_back k v h = back_at k v (eq_by_cmp nat_cmp k add.key) refl (sym (found k) ∙ h)
+
 module _ {V : Type 0} (Shows : Row → ℕ → V → Type 0) where
   pub none_shown : IsMapOf Shows [] (empty {R = nat_cmp})
   none_shown = record { each = λ r h. absurd h; from = λ k v h. absurd (not_some v (sym (get-empty nat_cmp k) ∙ h)) }
@@ -42,33 +65,14 @@ module _ {V : Type 0} (Shows : Row → ℕ → V → Type 0) where
   pub one_shown : (rows : List Row) (row : Row) (before after : FinMap nat_cmp V) → IsMapOf Shows rows before → Adds Shows row before after → IsMapOf Shows (rows ++ row ∷ []) after
   one_shown rows row before after was add = record {
     each = λ r h. elim (has_either rows (row ∷ []) r h) [
-      | inl old ↦ let e = was.each r old in (e.0, e.1, e.2, stays e.0 e.1 e.3)
-      | inr last ↦ (add.key, add.value, subst (λ x. Shows x add.key add.value) (sym (has_last r row last)) add.shows, here)
+      | inl old ↦ let e = was.each r old in (e.0, e.1, e.2, adds_stays Shows row before after add e.0 e.1 e.3)
+      | inr last ↦ (add.key, add.value, subst (λ x. Shows x add.key add.value) (sym (has_last r row last)) add.shows, adds_here Shows row before after add)
     ];
-    from = λ k v h. back k v h (eq_by_cmp nat_cmp k add.key) refl;
+    from = λ k v h. elim (adds_back Shows row before after add k v h) [
+      | inl old ↦ let f = was.from k v old in (f.0, has_left rows (row ∷ []) f.0 f.1, f.2)
+      | inr here ↦ (row, has_right rows (row ∷ []) row (inl refl), here)
+    ];
   }
-    where
-      found : (q : ℕ) → get after q ≡ cond (eq_by_cmp nat_cmp q add.key) (Some add.value) (get before q)
-      found q = ap (λ m. get m q) add.added ∙ get-insert nat_cmp_total before add.key add.value q
-
-      here : get after add.key ≡ Some add.value
-      here = found add.key ∙ ap (λ b. cond b (Some add.value) (get before add.key)) (at_itself add.key)
-
-      stays_at : (k : ℕ) (v : V) (b : Bool) → eq_by_cmp nat_cmp k add.key ≡ b → get before k ≡ Some v → cond b (Some add.value) (get before k) ≡ Some v
-      stays_at k v false e h = h
-      stays_at k v true e h = absurd (not_some v (sym add.new ∙ ap (get before) (sym (tied_numbers k add.key e)) ∙ h))
-
-      stays : (k : ℕ) (v : V) → get before k ≡ Some v → get after k ≡ Some v
-      stays k v h = found k ∙ stays_at k v (eq_by_cmp nat_cmp k add.key) refl h
-
-      from_at : (k : ℕ) (v : V) (b : Bool) → eq_by_cmp nat_cmp k add.key ≡ b → cond b (Some add.value) (get before k) ≡ Some v → (r : Row) × Has (rows ++ row ∷ []) r × Shows r k v
-      from_at k v false e h = let f = was.from k v h in (f.0, has_left rows (row ∷ []) f.0 f.1, f.2)
-      from_at k v true e h =
-          let value : add.value ≡ v = let w = h in cc in
-          (row, has_right rows (row ∷ []) row (inl refl), subst (λ x. Shows row k x) value (subst (λ n. Shows row n add.value) (sym (tied_numbers k add.key e)) add.shows))
-
-      back : (k : ℕ) (v : V) → get after k ≡ Some v → (b : Bool) → eq_by_cmp nat_cmp k add.key ≡ b → (r : Row) × Has (rows ++ row ∷ []) r × Shows r k v
-      back k v h b e = from_at k v b e (ap (λ c. cond c (Some add.value) (get before k)) (sym e) ∙ sym (found k) ∙ h)
 
 pub none_if : {X : Type 0} (o : Option X) → false ≡ is_some o → o ≡ None
 none_if None h = refl

@@ -72,6 +72,15 @@ pub record AddsValue (row : Row) (before after : map.FinMap nat_cmp Record) : Ty
   pub rising : map.is_sorted nat_cmp values ≡ true
   pub added : after ≡ map.insert before top (record had { values = values })
 
+abbrev pub HaveNoValues : map.FinMap nat_cmp Record → Type 0
+HaveNoValues m = (top : ℕ) → IfSome (map.get m top) (λ r. r.values ≡ [])
+
+-- the records with the homes of these rows, and the values of those
+pub record AreRecordsOf (homes values : List Row) (m : map.FinMap nat_cmp Record) : Type 0 where
+  pub before : map.FinMap nat_cmp Record
+  pub with_homes : IsMapOf ShowsHome homes before
+  pub with_values : AreValuesOf values before m
+
 -- ---- states
 
 -- the database has the tables of a store alone, and nothing waits for a commit

@@ -9,7 +9,7 @@ ghost use Rattle.std.specs.Ordering.{nat_cmp};
 ghost use Rattle.values.specs.Contents.{IsStoredContent};
 ghost use Rattle.stable_store.specs.Held.{contents_in, records_of};
 ghost use Rattle.sql_store.specs.Rows.{written};
-ghost use Rattle.sql_store.specs.Reading.{IsMapOf, Adds, IsSetOf, ShowsContent, ShowsHome, AddsValue, AreValuesOf};
+ghost use Rattle.sql_store.specs.Reading.{IsMapOf, Adds, IsSetOf, ShowsContent, ShowsHome, AddsValue, AreValuesOf, HaveNoValues, AreRecordsOf};
 
 use sqlite::{Error, ErrorCode, Row};
 use stable_store::{Prepared, StoreFault};
@@ -104,7 +104,7 @@ fn put_home(
 }
 
 /// The records of rows of a top action and its home each.
-pub(crate) fn homes_of(alloc: Global, rows: &[Row]) -> Result<BTreeMap<u32, Prepared>, StoreFault>
+fn homes_of(alloc: Global, rows: &[Row]) -> Result<BTreeMap<u32, Prepared>, StoreFault>
     ensures { IfOk result (λ records. IsMapOf ShowsHome rows.now (from_entries (records_of records.entries))) }
 {
     let mut records = BTreeMap::new(alloc);
@@ -130,17 +130,32 @@ fn put_value(
 }
 
 /// Puts the values of rows into the records that they name.
-pub(crate) fn put_values(
+fn put_values(
     alloc: Global,
     rows: &[Row],
     records: &mut BTreeMap<u32, Prepared>,
 ) -> Result<(), StoreFault>
+    requires { HaveNoValues (from_entries (records_of records.old.entries)) }
     ensures { OnOk result (AreValuesOf rows.now (from_entries (records_of records.old.entries)) (from_entries (records_of records.new.entries))) }
 {
     for row in rows {
         put_value(alloc, row, records)?;
     }
     Ok(())
+}
+
+/// The records of rows of a top action and its home each, with the values of rows of a top action, an object and a content
+/// each. `NotOurs` where a value has no record.
+pub(crate) fn prepared_of(
+    alloc: Global,
+    homes: &[Row],
+    values: &[Row],
+) -> Result<BTreeMap<u32, Prepared>, StoreFault>
+    ensures { IfOk result (λ records. AreRecordsOf homes.now values.now (from_entries (records_of records.entries))) }
+{
+    let mut records = homes_of(alloc, homes)?;
+    put_values(alloc, values, &mut records)?;
+    Ok(records)
 }
 
 /// The numbers of rows of one each.

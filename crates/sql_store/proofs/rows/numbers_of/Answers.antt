@@ -12,7 +12,7 @@ loop-row-init c = subst (λ ks. IsSetOf _ (set.from_list ks)) (sym c.new-numbers
 pub loop-row-preserved : goal.loop-row-preserved
 loop-row-preserved c =
     subst (λ rows. IsSetOf rows (set.from_list c.insert.new.self.keys)) (sym (next_row _ _ _ c.loop-row-test.true c.row-item.is))
-    (one_in_set _ _ _ _ _ c.loop-row.invariant c.in_ok-number_in.ensures (grown _ _ _ c.in_ok-insert.ensures.updates))
+    (one_in_set _ _ _ _ _ c.loop-row.invariant c.in_ok-number_in.ensures (grown _ _ _ c.in_ok-insert.ensures.updates.0))
 
 pub returns : goal.returns
 returns c = subst (λ rows. IsSetOf rows (set.from_list c.loop-row.numbers.keys)) (take_all _ _ c.loop-row-test.false) c.loop-row.invariant
