@@ -11,3 +11,5 @@ mod Contents
 mod Runs
 mod Shown
 mod Valued
+mod Queries
+mod Readings

@@ -121,9 +121,13 @@ one_value rows row first before after itself was add = record {
   homes = λ t. same_homes row before after add t ∙ was.homes t;
   each = λ r h. elim (has_either rows (row ∷ []) r h) [
     | inl old ↦ let e = was.each r old in (e.0, e.1, e.2, e.3, value_stays row before after add e.0 e.1 e.2 e.4)
-    | inr last ↦ (add.top, add.adds.key, add.adds.value,
-        subst (λ x. IsValueRow x add.top add.adds.key add.adds.value) (sym (has_last r row last)) (record { top_is = add.top_is; shows = add.adds.shows }),
-        value_here row before after add (itself add.top))
+    | inr last ↦ (
+      add.top,
+      add.adds.key,
+      add.adds.value,
+      subst (λ x. IsValueRow x add.top add.adds.key add.adds.value) (sym (has_last r row last)) (record { top_is = add.top_is; shows = add.adds.shows }),
+      value_here row before after add (itself add.top),
+    )
   ];
   from = λ t o c h. elim (value_back row before after add t o c h) [
     | inl old ↦ let f = was.from t o c old in (f.0, has_left rows (row ∷ []) f.0 f.1, f.2)

@@ -1,5 +1,5 @@
 -- What a call that reads the tables answers, and what it leaves.
-use Rattle.std.specs.Prelude.{◌≡◌, ℕ, ◌+◌, pos, Bool, true, false, List, [], ◌∷◌, Option, Some, None, option_map, IfSome, is_some, Result, IfOk, OnErr, IsTrue}
+use Rattle.std.specs.Prelude.{◌≡◌, ℕ, ◌+◌, pos, Bool, true, false, List, [], ◌∷◌, find, Option, Some, None, option_map, IfSome, is_some, Result, IfOk, OnErr, IsTrue}
 use Rattle.std.specs.Ordering.{nat_cmp}
 use Rattle.std.specs.FinMap as map
 use Rattle.std.specs.FinSet as set
@@ -10,10 +10,10 @@ use Rattle.sqlite.specs.State.{State, HasCleanDisk}
 use Rattle.sqlite_rules.specs.Lists.{Has}
 use Rattle.values.specs.declared.content.Content.{Content}
 use Rattle.values.specs.Contents.{IsStoredContent}
-use Rattle.stable_store.specs.Stored.{Record}
+use Rattle.stable_store.specs.Stored.{Stored, Record}
 use Rattle.stable_store.specs.declared.fault.StoreFault.{StoreFault}
 use Rattle.sql_store.specs.Tables.{stable_schema}
-use Rattle.sql_store.specs.Rows.{written, value_in}
+use Rattle.sql_store.specs.Rows.{row_at, value_at, is_count, written, value_in, Holds, IsStorable}
 
 -- ---- rows
 
@@ -80,6 +80,32 @@ pub record AreRecordsOf (homes values : List Row) (m : map.FinMap nat_cmp Record
   pub before : map.FinMap nat_cmp Record
   pub with_homes : IsMapOf ShowsHome homes before
   pub with_values : AreValuesOf values before m
+
+-- there is one row, and its number is this
+abbrev pub IsOnlyNumber : List Row → ℕ → Type 0
+IsOnlyNumber rows n = (row : Row) × (rows ≡ row ∷ []) × (column row 0 ≡ Int (pos n))
+
+-- ---- what tables hold, part by part
+
+pub record HoldsBase (db : Trees) (base : map.FinMap nat_cmp Content) : Type 0 where
+  pub holds : (object : ℕ) → option_map (λ r. column r 2) (row_at (db 2) object) ≡ option_map written (map.get base object)
+  pub storable : (object : ℕ) → IfSome (map.get base object) IsStoredContent
+
+pub record HoldsPrepared (db : Trees) (prepared : map.FinMap nat_cmp Record) : Type 0 where
+  pub homes : (top : ℕ) → option_map (λ r. column r 2) (row_at (db 3) top) ≡ option_map (λ r. Int (pos r.home)) (map.get prepared top)
+  pub values : (top object : ℕ) → option_map (λ r. column r 3) (value_at (db 4) top object) ≡ option_map written (value_in (map.get prepared top) object)
+  pub storable : (top object : ℕ) → IfSome (value_in (map.get prepared top) object) IsStoredContent
+  pub rising : AreRising prepared
+
+abbrev pub HoldsDecided : Trees → set.FinSet nat_cmp → Type 0
+HoldsDecided db decided = (top : ℕ) → is_some (row_at (db 6) top) ≡ set.contains decided top
+
+abbrev pub HoldsCount : Trees → ℕ → Type 0
+HoldsCount db count = option_map (λ r. column r 2) (find is_count (db 0)) ≡ Some (Int (pos count))
+
+-- the trees hold this content, which a store may hold
+abbrev pub HoldsStored : Trees → Stored → Type 0
+HoldsStored db c = Holds db c × IsStorable c
 
 -- ---- states
 

@@ -18,7 +18,7 @@ use std::collections::{BTreeMap, BTreeSet};
 use values::{Content, ValueFault};
 
 /// The fault where a column does not read as what it should be.
-fn unread(error: Error) -> StoreFault {
+pub(crate) fn unread(error: Error) -> StoreFault {
     match error {
         Error::SqliteFailure(ErrorCode::OutOfMemory) => StoreFault::Memory,
         _ => StoreFault::NotOurs,
