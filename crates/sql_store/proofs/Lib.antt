@@ -13,3 +13,4 @@ mod Shown
 mod Valued
 mod Queries
 mod Readings
+mod Sequences
