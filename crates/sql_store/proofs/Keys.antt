@@ -69,3 +69,7 @@ int_key v n is h = exact_signed (id_in v) (pos n) (sym (value_cmp-Int (id_in v) 
 pub plainly : (b : Bool) → ((b && true) || false) ≡ true → b ≡ true
 plainly true h = refl
 plainly false h = absurd (true≢false (sym h))
+
+-- a row has its rowid
+pub tied_id : (v : Value) → v ≡ Int (id_in v) → is_eq (value_cmp v (Int (id_in v))) ≡ true
+tied_id v is = ap (λ w. is_eq (value_cmp v w)) (sym is) ∙ ap is_eq (tied_itself value_cmp_total v)

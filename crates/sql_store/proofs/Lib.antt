@@ -14,3 +14,13 @@ mod Valued
 mod Queries
 mod Readings
 mod Sequences
+mod Same
+mod Made
+mod Known
+mod Cascade
+mod Discards
+mod Removed
+mod Recorded
+mod Inside
+mod Loops
+mod Back

@@ -18,7 +18,7 @@ use Rattle.sql_store.specs.Rows.{row_at}
 use Rattle.sql_store.proofs.Keys.{one_key, key_is, equal_is}
 use Rattle.sql_store.proofs.Finds.{find_none, find_kept, find_gone, find_put_new, find_put_other}
 
-tied : (q n : ℕ) → eq_by_cmp nat_cmp q n ≡ true → q ≡ n
+pub tied : (q n : ℕ) → eq_by_cmp nat_cmp q n ≡ true → q ≡ n
 tied q n h = exact_unsigned q n (equal_is _ h)
 
 -- rows with other keys stay

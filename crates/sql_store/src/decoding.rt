@@ -55,22 +55,22 @@ pub(crate) fn fault_of(error: Error) -> StoreFault {
 
 /// Which of the tables the database has.
 pub(crate) fn find_tables<A: Alter>(conn: &mut Connection<A>) -> Result<Found, StoreFault> {
-    let mut accepted = 0usize;
-    let mut missing = 0usize;
+    let mut all_accepted = true;
+    let mut all_missing = true;
     for query in QUERIES {
         match conn.prepare(query) {
-            Ok(_) => accepted += 1,
-            Err(Error::SqlInputError(CompileError::NoSuchTable)) => missing += 1,
+            Ok(_) => all_missing = false,
+            Err(Error::SqlInputError(CompileError::NoSuchTable)) => all_accepted = false,
             Err(Error::SqlInputError(CompileError::OutOfMemory)) => return Err(StoreFault::Memory),
-            Err(Error::SqlInputError(_)) => {}
+            Err(Error::SqlInputError(_)) => return Ok(Found::Others),
             Err(error) => return Err(fault_of(error)),
         }
     }
-    if missing == QUERIES.len() {
-        return Ok(Found::Nothing);
-    }
-    if accepted == QUERIES.len() {
+    if all_accepted {
         return Ok(Found::Tables);
+    }
+    if all_missing {
+        return Ok(Found::Nothing);
     }
     Ok(Found::Others)
 }

@@ -1,6 +1,7 @@
 //! A guardian's stable store in the tables of a SQL database.
 #![tactic(auto)]
 
+mod calls;
 mod decoding;
 mod laid;
 mod mirror;

@@ -1,23 +1,32 @@
 //! The content that the tables stand for, in maps.
 
+ghost use Rattle.std.specs.Prelude.{◌≡◌, IsSome, option_map};
+ghost use Rattle.std.specs.Ordering.{nat_cmp};
+ghost use Rattle.std.specs.FinMap.{get, from_entries};
+ghost use Rattle.stable_store.specs.Held.{record_of, records_of};
+ghost use Rattle.sql_store.specs.Calls.{with_record};
+
 use stable_store::{Kept, Prepared};
 use std::alloc::{AllocError, Global};
 use std::collections::{BTreeMap, BTreeSet};
 use values::Content;
 
-/// Gives a top action the record that it had before.
+/// Gives a top action the record back that it had before, or none. This takes no memory.
 pub(crate) fn put_record_back(
     prepared: &mut BTreeMap<u32, Prepared>,
     top: u32,
     before: Option<Prepared>,
-) {
+)
+    requires { IsSome (get (from_entries {R = nat_cmp} (records_of prepared.old.entries)) top) }
+    ensures { from_entries {R = nat_cmp} (records_of prepared.new.entries)
+        ≡ with_record top (option_map record_of before) (from_entries (records_of prepared.old.entries)) }
+{
     match before {
         Some(record) => {
-            let _ = prepared.insert(top, record);
+            let replaced: Result<_, _> = prepared.insert(top, record);
+            drop(replaced.unwrap());
         }
-        None => {
-            prepared.remove(&top);
-        }
+        None => drop(prepared.remove(&top)),
     }
 }
 

@@ -1,11 +1,15 @@
 //! The statements that write, each call one transaction.
 
-ghost use Rattle.std.specs.Prelude.{◌≡◌, pos};
+ghost use Rattle.std.specs.Prelude.{◌≡◌, ◌≤◌, ℕ, pos, true, List, [], ◌∷◌, ◌++◌, None, string_bytes};
+ghost use Rattle.std.specs.Ordering.{nat_cmp};
+ghost use Rattle.std.specs.FinMap.{get, is_sorted};
 ghost use Rattle.sqlite_value.specs.Value.{owned};
-ghost use Rattle.sqlite.specs.declared.types.Value.TheVariants.{Int};
+ghost use Rattle.sqlite.specs.declared.types.Value.TheVariants.{Int, Text};
+ghost use Rattle.sqlite.specs.State.{Survives};
 ghost use Rattle.sqlite.specs.Held.{state};
-ghost use Rattle.stable_store.specs.Stored.{Stored, after_decide};
-ghost use Rattle.sql_store.specs.Calls.{Stands, Carries};
+ghost use Rattle.values.specs.declared.content.Content.{Content as Spec};
+ghost use Rattle.stable_store.specs.Stored.{Stored, laid, after_prepare, after_discard, after_decide, greatest_count};
+ghost use Rattle.sql_store.specs.Calls.{Stands, Carries, Sees, Stays, Steps, with_count, with_base, after_put};
 
 use sqlite::types::ValueRef;
 use sqlite::{Alter, Connection, Error, ErrorCode, Transaction};
@@ -25,6 +29,16 @@ const TABLES: [&str; 5] = [
 
 /// The error of a statement where another transaction is under way.
 const BUSY: Error = Error::SqliteFailure(ErrorCode::TransactionState);
+
+/// Want of memory.
+const WANT: Error = Error::SqliteFailure(ErrorCode::OutOfMemory);
+
+/// A text as a parameter.
+fn words(text: &String) -> ValueRef<'_>
+    ensures { owned result ≡ Text (string_bytes text.now) }
+{
+    ValueRef::Text(text.as_bytes())
+}
 
 /// A number as a parameter.
 fn number(n: u32) -> ValueRef<'static>
@@ -60,25 +74,42 @@ pub(crate) fn decide<A: Alter>(conn: &mut Connection<A>, top: u32) -> Result<(),
     }
 }
 
+/// The count as a parameter.
+fn stored_count(count: u64) -> ValueRef<'static>
+    requires { count ≤ greatest_count }
+    ensures { owned result ≡ Int (pos count) }
+{
+    ValueRef::Int(count as i64)
+}
+
 /// Writes the count.
-pub(crate) fn count<A: Alter>(conn: &mut Connection<A>, count: i64) -> Result<(), Error> {
+pub(crate) fn count<A: Alter>(conn: &mut Connection<A>, count: u64) -> Result<(), Error>
+    requires { count ≤ greatest_count }
+    ensures { (c : Stored) → Stands (state A.Store conn.old) c → Carries (state A.Store conn.old) (state A.Store conn.new) c (with_count count c) result }
+{
     if !conn.is_autocommit() {
         return Err(BUSY);
     }
-    conn.execute(
+    match conn.execute(
         "INSERT OR REPLACE INTO meta VALUES ('count', ?1)",
-        &[ValueRef::Int(count)],
-    )?;
-    Ok(())
+        &[stored_count(count)],
+    ) {
+        Ok(_) => Ok(()),
+        Err(error) => Err(error),
+    }
 }
 
 /// Deletes a record. The values go with it.
-pub(crate) fn discard<A: Alter>(conn: &mut Connection<A>, top: u32) -> Result<(), Error> {
+pub(crate) fn discard<A: Alter>(conn: &mut Connection<A>, top: u32) -> Result<(), Error>
+    ensures { (c : Stored) → Stands (state A.Store conn.old) c → Carries (state A.Store conn.old) (state A.Store conn.new) c (after_discard top c) result }
+{
     if !conn.is_autocommit() {
         return Err(BUSY);
     }
-    conn.execute("DELETE FROM prepared WHERE top = ?1", &[number(top)])?;
-    Ok(())
+    match conn.execute("DELETE FROM prepared WHERE top = ?1", &[number(top)]) {
+        Ok(_) => Ok(()),
+        Err(error) => Err(error),
+    }
 }
 
 /// Writes a record in place of the one that the top action had.
@@ -87,34 +118,21 @@ pub(crate) fn prepare<A: Alter>(
     alloc: Global,
     top: u32,
     record: &Prepared,
-) -> Result<(), Error> {
+) -> Result<(), Error>
+    ensures { (c : Stored) → Stands (state A.Store conn.old) c
+        → Carries (state A.Store conn.old) (state A.Store conn.new) c (after_prepare top record.now.home record.now.values.entries c) result }
+{
     if !conn.is_autocommit() {
         return Err(BUSY);
     }
     let mut tx = conn.transaction();
-    tx.execute(
-        "INSERT OR REPLACE INTO prepared VALUES (?1, ?2)",
-        &[number(top), number(record.home)],
-    )?;
-    put_values(&mut tx, alloc, top, &record.values)?;
-    tx.commit()
-}
-
-/// Writes the values of a record.
-fn put_values<A: Alter>(
-    tx: &mut Transaction<'_, A>,
-    alloc: Global,
-    top: u32,
-    values: &BTreeMap<u32, Content>,
-) -> Result<(), Error> {
-    for (&object, content) in values {
-        let text = content.text(alloc)?;
-        tx.execute(
-            "INSERT OR REPLACE INTO prepared_val VALUES (?1, ?2, ?3)",
-            &[number(top), number(object), ValueRef::Text(text.as_bytes())],
-        )?;
+    match put_record(&mut tx, alloc, top, record) {
+        Ok(()) => tx.commit(),
+        Err(error) => {
+            tx.rollback();
+            Err(error)
+        }
     }
-    Ok(())
 }
 
 /// Installs the values of a record, and deletes the record.
@@ -123,14 +141,147 @@ pub(crate) fn install<A: Alter>(
     alloc: Global,
     top: u32,
     values: &BTreeMap<u32, Content>,
-) -> Result<(), Error> {
+) -> Result<(), Error>
+    ensures { (c : Stored) → Stands (state A.Store conn.old) c
+        → Carries (state A.Store conn.old) (state A.Store conn.new) c (with_base (laid values.now.entries c.base) (after_discard top c)) result }
+{
     if !conn.is_autocommit() {
         return Err(BUSY);
     }
     let mut tx = conn.transaction();
-    put_base(&mut tx, alloc, values)?;
-    tx.execute("DELETE FROM prepared WHERE top = ?1", &[number(top)])?;
-    tx.commit()
+    match install_record(&mut tx, alloc, top, values) {
+        Ok(()) => tx.commit(),
+        Err(error) => {
+            tx.rollback();
+            Err(error)
+        }
+    }
+}
+
+// ---- the parts of a transaction
+
+fn put_record<A: Alter>(
+    tx: &mut Transaction<'_, A>,
+    alloc: Global,
+    top: u32,
+    record: &Prepared,
+) -> Result<(), Error>
+    ensures same { tx.new.conn.ghost_name ≡ tx.old.conn.ghost_name }
+    ensures survives { Survives (state A.Store tx.old.conn.now) (state A.Store tx.new.conn.now) (λ _. ⊥) }
+    ensures steps { (c : Stored) → Sees (state A.Store tx.old.conn.now) c
+        → Steps (state A.Store tx.old.conn.now) (state A.Store tx.new.conn.now) (after_prepare top record.now.home record.now.values.entries c) result }
+{
+    match put_home(tx, top, record.home) {
+        Ok(()) => put_values(tx, alloc, top, &record.values),
+        Err(error) => Err(error),
+    }
+}
+
+/// Writes a record with no values in place of the one that the top action had.
+fn put_home<A: Alter>(tx: &mut Transaction<'_, A>, top: u32, home: u32) -> Result<(), Error>
+    ensures same { tx.new.conn.ghost_name ≡ tx.old.conn.ghost_name }
+    ensures survives { Survives (state A.Store tx.old.conn.now) (state A.Store tx.new.conn.now) (λ _. ⊥) }
+    ensures steps { (c : Stored) → Sees (state A.Store tx.old.conn.now) c
+        → Steps (state A.Store tx.old.conn.now) (state A.Store tx.new.conn.now) (after_prepare top home [] c) result }
+{
+    match delete_record(tx, top) {
+        Ok(()) => add_record(tx, top, home),
+        Err(error) => Err(error),
+    }
+}
+
+/// Deletes a record. The values go with it.
+fn delete_record<A: Alter>(tx: &mut Transaction<'_, A>, top: u32) -> Result<(), Error>
+    ensures same { tx.new.conn.ghost_name ≡ tx.old.conn.ghost_name }
+    ensures survives { Survives (state A.Store tx.old.conn.now) (state A.Store tx.new.conn.now) (λ _. ⊥) }
+    ensures steps { (c : Stored) → Sees (state A.Store tx.old.conn.now) c
+        → Steps (state A.Store tx.old.conn.now) (state A.Store tx.new.conn.now) (after_discard top c) result }
+{
+    match tx.execute("DELETE FROM prepared WHERE top = ?1", &[number(top)]) {
+        Ok(_) => Ok(()),
+        Err(error) => Err(error),
+    }
+}
+
+/// Writes a record with no values for a top action that has none.
+fn add_record<A: Alter>(tx: &mut Transaction<'_, A>, top: u32, home: u32) -> Result<(), Error>
+    ensures same { tx.new.conn.ghost_name ≡ tx.old.conn.ghost_name }
+    ensures survives { Survives (state A.Store tx.old.conn.now) (state A.Store tx.new.conn.now) (λ _. ⊥) }
+    ensures steps { (c : Stored) → get c.prepared top ≡ None → Sees (state A.Store tx.old.conn.now) c
+        → Steps (state A.Store tx.old.conn.now) (state A.Store tx.new.conn.now) (after_prepare top home [] c) result }
+{
+    match tx.execute(
+        "INSERT INTO prepared VALUES (?1, ?2)",
+        &[number(top), number(home)],
+    ) {
+        Ok(_) => Ok(()),
+        Err(error) => Err(error),
+    }
+}
+
+/// Writes the values of a record that has none.
+fn put_values<A: Alter>(
+    tx: &mut Transaction<'_, A>,
+    alloc: Global,
+    top: u32,
+    values: &BTreeMap<u32, Content>,
+) -> Result<(), Error>
+    ensures same { tx.new.conn.ghost_name ≡ tx.old.conn.ghost_name }
+    ensures survives { Survives (state A.Store tx.old.conn.now) (state A.Store tx.new.conn.now) (λ _. ⊥) }
+    ensures steps { (home : ℕ) (c : Stored) → Stays (state A.Store tx.old.conn.now) (after_prepare top home [] c)
+        → Steps (state A.Store tx.old.conn.now) (state A.Store tx.new.conn.now) (after_prepare top home values.now.entries c) result }
+{
+    let _rising = values.len();
+    for (&object, content) in values {
+        match put_value(tx, alloc, top, object, content) {
+            Ok(()) => {}
+            Err(error) => return Err(error),
+        }
+    }
+    Ok(())
+}
+
+/// Writes one value more of a record.
+fn put_value<A: Alter>(
+    tx: &mut Transaction<'_, A>,
+    alloc: Global,
+    top: u32,
+    object: u32,
+    content: &Content,
+) -> Result<(), Error>
+    ensures same { tx.new.conn.ghost_name ≡ tx.old.conn.ghost_name }
+    ensures survives { Survives (state A.Store tx.old.conn.now) (state A.Store tx.new.conn.now) (λ _. ⊥) }
+    ensures steps { (home : ℕ) (before : List (ℕ × Spec)) (c : Stored) → is_sorted nat_cmp (before ++ (object, content.now) ∷ []) ≡ true
+        → Sees (state A.Store tx.old.conn.now) (after_prepare top home before c)
+        → Steps (state A.Store tx.old.conn.now) (state A.Store tx.new.conn.now) (after_prepare top home (before ++ (object, content.now) ∷ []) c) result }
+{
+    let Ok(text) = content.text(alloc) else {
+        return Err(WANT);
+    };
+    match tx.execute(
+        "INSERT INTO prepared_val VALUES (?1, ?2, ?3)",
+        &[number(top), number(object), words(&text)],
+    ) {
+        Ok(_) => Ok(()),
+        Err(error) => Err(error),
+    }
+}
+
+fn install_record<A: Alter>(
+    tx: &mut Transaction<'_, A>,
+    alloc: Global,
+    top: u32,
+    values: &BTreeMap<u32, Content>,
+) -> Result<(), Error>
+    ensures same { tx.new.conn.ghost_name ≡ tx.old.conn.ghost_name }
+    ensures survives { Survives (state A.Store tx.old.conn.now) (state A.Store tx.new.conn.now) (λ _. ⊥) }
+    ensures steps { (c : Stored) → Sees (state A.Store tx.old.conn.now) c
+        → Steps (state A.Store tx.old.conn.now) (state A.Store tx.new.conn.now) (with_base (laid values.now.entries c.base) (after_discard top c)) result }
+{
+    match delete_record(tx, top) {
+        Ok(()) => put_base(tx, alloc, values),
+        Err(error) => Err(error),
+    }
 }
 
 /// Writes values into the base.
@@ -138,13 +289,41 @@ fn put_base<A: Alter>(
     tx: &mut Transaction<'_, A>,
     alloc: Global,
     values: &BTreeMap<u32, Content>,
-) -> Result<(), Error> {
+) -> Result<(), Error>
+    ensures same { tx.new.conn.ghost_name ≡ tx.old.conn.ghost_name }
+    ensures survives { Survives (state A.Store tx.old.conn.now) (state A.Store tx.new.conn.now) (λ _. ⊥) }
+    ensures steps { (c : Stored) → Stays (state A.Store tx.old.conn.now) c
+        → Steps (state A.Store tx.old.conn.now) (state A.Store tx.new.conn.now) (with_base (laid values.now.entries c.base) c) result }
+{
     for (&object, content) in values {
-        let text = content.text(alloc)?;
-        tx.execute(
-            "INSERT OR REPLACE INTO base VALUES (?1, ?2)",
-            &[number(object), ValueRef::Text(text.as_bytes())],
-        )?;
+        match put_content(tx, alloc, object, content) {
+            Ok(()) => {}
+            Err(error) => return Err(error),
+        }
     }
     Ok(())
+}
+
+/// Writes one content into the base.
+fn put_content<A: Alter>(
+    tx: &mut Transaction<'_, A>,
+    alloc: Global,
+    object: u32,
+    content: &Content,
+) -> Result<(), Error>
+    ensures same { tx.new.conn.ghost_name ≡ tx.old.conn.ghost_name }
+    ensures survives { Survives (state A.Store tx.old.conn.now) (state A.Store tx.new.conn.now) (λ _. ⊥) }
+    ensures steps { (c : Stored) → Sees (state A.Store tx.old.conn.now) c
+        → Steps (state A.Store tx.old.conn.now) (state A.Store tx.new.conn.now) (after_put object content.now c) result }
+{
+    let Ok(text) = content.text(alloc) else {
+        return Err(WANT);
+    };
+    match tx.execute(
+        "INSERT OR REPLACE INTO base VALUES (?1, ?2)",
+        &[number(object), words(&text)],
+    ) {
+        Ok(_) => Ok(()),
+        Err(error) => Err(error),
+    }
 }

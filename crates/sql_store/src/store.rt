@@ -1,49 +1,50 @@
 //! A store in SQL tables.
 
-ghost use Rattle.std.specs.Prelude.{◌≡◌, ◌⊎◌, ℕ, ◌+◌, IfOk, IfErr, IsTrue, Some};
+ghost use Rattle.std.specs.Prelude.{◌≡◌, ◌⊎◌, ℕ, ◌+◌, IfOk, IfErr, IsTrue};
 ghost use Rattle.sqlite.specs.Held.{state};
 ghost use Rattle.sqlite.specs.State.{HasCleanDisk};
+ghost use Rattle.stable_store.specs.Calls.{IsExcused};
 ghost use Rattle.stable_store.specs.Held.{held};
-ghost use Rattle.sql_store.specs.Calls.{MayLeave, content_of};
+ghost use Rattle.sql_store.specs.Calls.{MayLeave};
 
 use crate::decoding::{Found, check_version, fault_of, find_tables, read_content};
-use crate::{laid, mirror, schema, statements};
-use sqlite::{Alter, Connection, Error};
-use stable_store::{GREATEST_COUNT, Kept, Prepared, Stable, StoreFault};
+use crate::{calls, schema, statements};
+use sqlite::{Alter, Connection};
+use stable_store::{Kept, Stable, StoreFault};
 use std::alloc::Global;
 use std::collections::BTreeMap;
 use std::marker::Model;
-use values::Content;
+use values::{Content, one_spelling};
 
 /// A store in the tables of a database, with the content that they stand for.
 #[derive(Drop)]
 pub struct SqlStable<A: Alter + Drop> {
     conn: Connection<A>,
-    /// The content; none where the tables held no content of a store when it was opened.
-    kept: Option<Kept>,
+    kept: Kept,
     failures: u64,
     /// Whether the database has the tables of a store and nothing else.
     is_known: bool,
-    alloc: Global,
+    /// Whether the tables held a content when the store was opened. Where they did not, each call is refused.
+    holds_content: bool,
 }
 
 impl<A: Alter + Drop> Model for SqlStable<A> {
-    ghost use Rattle.std.specs.Prelude.{IsTrue, IfSome, ℕ, Bool, Option};
-    ghost use Rattle.std.specs.Coded.{coded×, coded_ℕ, coded_bool, coded_option};
+    ghost use Rattle.std.specs.Prelude.{IsTrue, ℕ, Bool};
+    ghost use Rattle.std.specs.Coded.{coded×, coded_ℕ, coded_bool};
     ghost use Rattle.sqlite.specs.Held.{Held, held_code, state};
     ghost use Rattle.stable_store.specs.declared.kept.Kept.{Kept};
     ghost use Rattle.stable_store.specs.contracts.kept.Kept as kept_contract;
     ghost use Rattle.stable_store.specs.Held.{held};
     ghost use Rattle.sql_store.specs.Calls.{Stands};
 
-    // The content, the connection, the failures, and whether the schema is known.
-    ghost Value = { Option Kept × (Held A × (ℕ × Bool)) };
+    // The content, the connection, the failures, whether the schema is known, and whether the tables held a content.
+    ghost Value = { Kept × (Held A × (ℕ × (Bool × Bool))) };
 
-    ghost coded = { coded× (coded_option kept_contract.the_row.coded) (coded× (held_code A.code) (coded× coded_ℕ coded_bool)) };
+    ghost coded = { coded× kept_contract.the_row.coded (coded× (held_code A.code) (coded× coded_ℕ (coded× coded_bool coded_bool))) };
 
-    ghost view = { λ s. (s.kept, (s.conn, (s.failures, s.is_known))) };
+    ghost view = { λ s. (s.kept, (s.conn, (s.failures, (s.is_known, s.holds_content)))) };
 
-    ghost invariant = { λ s. IsTrue s.is_known → IfSome s.kept (λ kept. Stands (state A.Store s.conn) (held kept)) };
+    ghost invariant = { λ s. IsTrue s.is_known → IsTrue s.holds_content → Stands (state A.Store s.conn) (held s.kept) };
 }
 
 impl<A: Alter + Drop> SqlStable<A> {
@@ -52,21 +53,25 @@ impl<A: Alter + Drop> SqlStable<A> {
     /// where the device or the database refuses, or a transaction is under way; `Memory` for want of memory. With a
     /// fault the connection comes back, and the database is what it was.
     ///
-    /// Where the tables hold no content of a store, the store answers `NotOurs` to `load`, and refuses each other call.
+    /// Where the tables hold no content of a store, the store answers `NotOurs` to each call, and counts it.
     pub fn new(
         alloc: Global,
         conn: Connection<A>,
     ) -> Result<SqlStable<A>, (StoreFault, Connection<A>)> {
         let mut conn = conn;
         match open(alloc, &mut conn) {
-            Ok(kept) => {
+            Ok(found) => {
                 let is_known = schema::is_known(conn.schema());
+                let (kept, holds_content) = match found {
+                    Some(kept) => (kept, true),
+                    None => (Kept::new(alloc), false),
+                };
                 Ok(SqlStable {
                     conn,
                     kept,
                     failures: 0,
                     is_known,
-                    alloc,
+                    holds_content,
                 })
             }
             Err(fault) => Err((fault, conn)),
@@ -80,7 +85,7 @@ impl<A: Alter + Drop> SqlStable<A> {
             kept: _,
             failures: _,
             is_known: _,
-            alloc: _,
+            holds_content: _,
         } = self;
         conn
     }
@@ -105,7 +110,10 @@ fn open<A: Alter>(alloc: Global, conn: &mut Connection<A>) -> Result<Option<Kept
 }
 
 /// The fault of a call. All but want of memory are counted.
-fn counted(failures: &mut u64, fault: StoreFault) -> StoreFault {
+fn counted(failures: &mut u64, fault: StoreFault) -> StoreFault
+    ensures same { result ≡ fault }
+    ensures counts { IsExcused (Unit {0}) failures.old failures.new fault }
+{
     if fault != StoreFault::Memory {
         *failures = failures.saturating_add(1);
     }
@@ -113,9 +121,7 @@ fn counted(failures: &mut u64, fault: StoreFault) -> StoreFault {
 }
 
 impl<A: Alter + Drop> Stable for SqlStable<A> {
-    ghost use Rattle.std.specs.Prelude.{is_some};
-
-    ghost content = { λ s. content_of s.0 };
+    ghost content = { λ s. held s.0 };
 
     ghost failures = { λ s. s.1.1.0 };
 
@@ -123,9 +129,9 @@ impl<A: Alter + Drop> Stable for SqlStable<A> {
 
     // The one premise on the device and the database: what was written was returned, and the schema is the one that a
     // store makes in an empty database.
-    ghost is_honest = { λ s. HasCleanDisk (state A.Store s.1.0) × IsTrue s.1.1.1 };
+    ghost is_honest = { λ s. HasCleanDisk (state A.Store s.1.0) × IsTrue s.1.1.1.0 };
 
-    ghost is_up = { λ s. IsTrue (state A.Store s.1.0).is_open × IsTrue (is_some s.0) };
+    ghost is_up = { λ s. IsTrue (state A.Store s.1.0).is_open × IsTrue s.1.1.1.1 };
 
     ghost may_leave = { λ s. MayLeave (state A.Store s.1.0) };
 
@@ -136,102 +142,69 @@ impl<A: Alter + Drop> Stable for SqlStable<A> {
         home: u32,
         values: BTreeMap<u32, Content>,
     ) -> Result<(), StoreFault> {
-        let Some(kept) = &mut self.kept else {
+        if !self.holds_content {
             return Err(counted(&mut self.failures, StoreFault::NotOurs));
-        };
-        let before = kept.prepared.insert(top, Prepared { home, values })?;
-        let Some(record) = kept.prepared.get(&top) else {
-            unreachable!()
-        };
-        match statements::prepare(&mut self.conn, alloc, top, record) {
+        }
+        one_spelling();
+        match calls::prepare(&mut self.conn, &mut self.kept, alloc, top, home, values) {
             Ok(()) => Ok(()),
-            Err(error) => {
-                mirror::put_record_back(&mut kept.prepared, top, before);
-                Err(counted(&mut self.failures, fault_of(error)))
-            }
+            Err(fault) => Err(counted(&mut self.failures, fault)),
         }
     }
 
     fn install(&mut self, alloc: Global, top: u32) -> Result<(), StoreFault> {
-        let Some(kept) = &mut self.kept else {
+        if !self.holds_content {
             return Err(counted(&mut self.failures, StoreFault::NotOurs));
-        };
-        let Some(record) = kept.prepared.get(&top) else {
-            return self.discard(top);
-        };
-        let replaced = laid::lay(alloc, &mut kept.base, &record.values)?;
-        match statements::install(&mut self.conn, alloc, top, &record.values) {
-            Ok(()) => {
-                kept.prepared.remove(&top);
-                Ok(())
-            }
-            Err(error) => {
-                laid::undo(&mut kept.base, replaced);
-                Err(counted(&mut self.failures, fault_of(error)))
-            }
+        }
+        one_spelling();
+        match calls::install(&mut self.conn, &mut self.kept, alloc, top) {
+            Ok(()) => Ok(()),
+            Err(fault) => Err(counted(&mut self.failures, fault)),
         }
     }
 
     fn discard(&mut self, top: u32) -> Result<(), StoreFault> {
-        let Some(kept) = &mut self.kept else {
+        if !self.holds_content {
             return Err(counted(&mut self.failures, StoreFault::NotOurs));
-        };
-        match statements::discard(&mut self.conn, top) {
-            Ok(()) => {
-                kept.prepared.remove(&top);
-                Ok(())
-            }
-            Err(error) => Err(counted(&mut self.failures, fault_of(error))),
+        }
+        one_spelling();
+        match calls::discard(&mut self.conn, &mut self.kept, top) {
+            Ok(()) => Ok(()),
+            Err(fault) => Err(counted(&mut self.failures, fault)),
         }
     }
 
     fn decide(&mut self, top: u32) -> Result<(), StoreFault> {
-        let Some(kept) = &mut self.kept else {
+        if !self.holds_content {
             return Err(counted(&mut self.failures, StoreFault::NotOurs));
-        };
-        let added = kept.decided.insert(top)?;
-        match statements::decide(&mut self.conn, top) {
+        }
+        one_spelling();
+        match calls::decide(&mut self.conn, &mut self.kept, top) {
             Ok(()) => Ok(()),
-            Err(error) => {
-                if added {
-                    kept.decided.remove(&top);
-                }
-                Err(counted(&mut self.failures, fault_of(error)))
-            }
+            Err(fault) => Err(counted(&mut self.failures, fault)),
         }
     }
 
     fn bump(&mut self) -> Result<(), StoreFault> {
-        let Some(kept) = &mut self.kept else {
+        if !self.holds_content {
             return Err(counted(&mut self.failures, StoreFault::NotOurs));
-        };
-        let Some(count) = kept.count.checked_add(1) else {
-            return Err(counted(&mut self.failures, StoreFault::Failed));
-        };
-        let Ok(stored) = i64::try_from(count) else {
-            return Err(counted(&mut self.failures, StoreFault::Failed));
-        };
-        match statements::count(&mut self.conn, stored) {
-            Ok(()) => {
-                kept.count = count;
-                Ok(())
-            }
-            Err(error) => Err(counted(&mut self.failures, fault_of(error))),
+        }
+        one_spelling();
+        match calls::bump(&mut self.conn, &mut self.kept) {
+            Ok(()) => Ok(()),
+            Err(fault) => Err(counted(&mut self.failures, fault)),
         }
     }
 
     fn load(&mut self, alloc: Global) -> Result<Kept, StoreFault> {
-        let Some(kept) = &self.kept else {
+        if !self.holds_content {
             return Err(counted(&mut self.failures, StoreFault::NotOurs));
-        };
-        let found = match read_content(&mut self.conn, alloc) {
-            Ok(found) => found,
-            Err(fault) => return Err(counted(&mut self.failures, fault)),
-        };
-        if !mirror::are_same(alloc, &found, kept)? {
-            return Err(counted(&mut self.failures, StoreFault::Failed));
         }
-        Ok(kept.copy(alloc)?)
+        one_spelling();
+        match calls::load(&mut self.conn, &self.kept, alloc) {
+            Ok(kept) => Ok(kept),
+            Err(fault) => Err(counted(&mut self.failures, fault)),
+        }
     }
 
     fn failures(&self) -> u64 {

@@ -13,7 +13,7 @@ returns-in-Ok g c k stands =
     let old = state g.A.Store c.args.conn.now in
     let new = state g.A.Store c.execute.new.self in
     carried decide_text decide_command _ (after_decide c.args.top) _ (decide_means c.args.top) old new k stands tt
-    (not_true _ c.if-not-is_autocommit.ensures.value) (c.if-not-is_autocommit.ensures.settled refl) (λ up db may. g.met.A.Store.settled c.args.conn.now.store db up may)
+    (not_true _ c.if-not-is_autocommit.ensures.value) (λ up db may. g.met.A.Store.settled c.args.conn.now.store db up may)
     (subst (λ v. Survives old new (CommitsBy decide_text (bound_value v ∷ []) old)) c.number.ensures c.execute.ensures.survives) _ _
     (λ clean. subst₂ (λ v r. Executes decide_text (bound_value v ∷ []) old new r) c.number.ensures c.in-Ok.is (c.execute.ensures.runs clean))
 
@@ -22,6 +22,6 @@ returns-in-Err g c k stands =
     let old = state g.A.Store c.args.conn.now in
     let new = state g.A.Store c.execute.new.self in
     refused decide_text decide_command _ (after_decide c.args.top) _ (decide_means c.args.top) old new k stands tt
-    (not_true _ c.if-not-is_autocommit.ensures.value) (c.if-not-is_autocommit.ensures.settled refl) (λ up db may. g.met.A.Store.settled c.args.conn.now.store db up may)
+    (not_true _ c.if-not-is_autocommit.ensures.value) (λ up db may. g.met.A.Store.settled c.args.conn.now.store db up may)
     (subst (λ v. Survives old new (CommitsBy decide_text (bound_value v ∷ []) old)) c.number.ensures c.execute.ensures.survives) _
     (λ clean. subst₂ (λ v r. Executes decide_text (bound_value v ∷ []) old new r) c.number.ensures c.in-Err.is (c.execute.ensures.runs clean))
