@@ -24,3 +24,4 @@ mod Recorded
 mod Inside
 mod Loops
 mod Back
+mod Loads

@@ -1,6 +1,7 @@
 use Rattle.std.proofs.Common.{Ok, Err}
 use Rattle.std.proofs.lemmas.Result.{err_from_is_err_and}
 use Rattle.sqlite.specs.Held.{state}
+use Rattle.stable_store.specs.declared.kept.Kept.{Kept}
 use Rattle.stable_store.specs.Held.{held}
 use Rattle.sql_store.proofs.Readings.{all_parts}
 use Rattle.sql_store.proofs.Sequences.{then_reads, failed_reads, and_reads, quiet_after}
@@ -22,7 +23,7 @@ returns g c quiet =
     let three = and_reads s0 s2 s3 _ _ c.in_ok-prepared.prepared (Ok c.in_ok-decided.decided) both r3 in
     let q3 = quiet_after s2 s3 _ c.in_ok-decided.decided q2 r3 in
     let all = and_reads s0 s3 s4 _ _ c.in_ok-decided.decided (Ok c.in_ok-count.count) three (c.in_ok-count.ensures q3) in
-    let kept = record { base = c.in_ok-base.base; prepared = c.in_ok-prepared.prepared; decided = c.in_ok-decided.decided; count = c.in_ok-count.count } in
+    let kept : Kept = record { base = c.in_ok-base.base; prepared = c.in_ok-prepared.prepared; decided = c.in_ok-decided.decided; count = c.in_ok-count.count } in
     then_reads s0 s4 _ _ c.in_ok-count.count (Ok kept) quiet all (λ q h. all_parts s0.now.trees (held kept) h.1.0.1.0.1.0 h.1.0.1.0.1.1 h.1.0.1.1 h.1.1)
 
 pub returns-in_err-base : goal.returns-in_err-base

@@ -17,8 +17,8 @@ returns g c quiet =
     let second = c.in_ok-values.ensures values_query.plain (quiet_after old mid _ c.in_ok-homes.homes quiet first) in
     then_reads old new _ _ c.in_ok-values.values c.prepared_of.result quiet (and_reads old mid new _ _ c.in_ok-homes.homes (Ok c.in_ok-values.values) first second)
     (λ q both. ok_leads c.prepared_of.result _ _ (λ x is.
-        prepared_shown old mid new c.in_ok-homes.homes.items c.in_ok-values.values.items (from_entries (records_of x.entries)) q both.0 both.1.0 both.1.1
-        (subst₂ (λ l m. AreRecordsOf l m (from_entries (records_of x.entries))) c.deref.ensures.value c.deref-2.ensures.value is))
+    prepared_shown old mid new c.in_ok-homes.homes.items c.in_ok-values.values.items (from_entries (records_of x.entries)) q both.0 both.1.0 both.1.1
+    (subst₂ (λ l m. AreRecordsOf l m (from_entries (records_of x.entries))) c.deref.ensures.value c.deref-2.ensures.value is))
     c.prepared_of.ensures)
 
 pub returns-in_err-homes : goal.returns-in_err-homes
