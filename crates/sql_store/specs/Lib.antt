@@ -2,3 +2,4 @@ pub mod Tables
 pub mod Rows
 pub mod Calls
 pub mod Reading
+pub mod Known
