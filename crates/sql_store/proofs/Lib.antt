@@ -25,3 +25,4 @@ mod Inside
 mod Loops
 mod Back
 mod Loads
+mod Items
