@@ -26,3 +26,4 @@ mod Loops
 mod Back
 mod Loads
 mod Items
+mod Opens

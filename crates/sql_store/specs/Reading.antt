@@ -6,6 +6,10 @@ use Rattle.std.specs.FinSet as set
 use Rattle.sqlite.specs.declared.types.Value.TheVariants.{Int}
 use Rattle.sqlite.specs.Order.{Row, column}
 use Rattle.sqlite.specs.Tree.{Trees}
+use Rattle.std.specs.List.{AllByRecursion}
+use Rattle.sqlite_trees.specs.View.{IsShaped}
+use Rattle.sqlite_trees.specs.declared.store.Shape.TheVariants.{Table}
+use Rattle.sqlite.specs.Effect.{IsDatabase}
 use Rattle.sqlite.specs.State.{State, HasCleanDisk}
 use Rattle.sqlite_rules.specs.Lists.{Has}
 use Rattle.values.specs.declared.content.Content.{Content}
@@ -114,6 +118,12 @@ pub record IsQuiet (s : State) : Type 0 where
   pub schema : s.now.schema ≡ stable_schema
   pub mode : s.in_transaction ≡ false
   pub settled : s.now ≡ s.committed
+
+-- while the connection is open, it is quiet and sound, and the rows of each table come by rising integers
+pub record IsAlone (s : State) : Type 0 where
+  pub quiet : IsTrue s.is_open → IsQuiet s
+  pub sound : IsTrue s.is_open → IsDatabase s.now
+  pub placed : IsTrue s.is_open → AllByRecursion (λ t. IsShaped Table (s.now.trees t.tree)) stable_schema.tables
 
 -- so it is while the disk is clean and the connection open
 abbrev pub Quiets : State → Type 0
