@@ -27,3 +27,4 @@ mod Back
 mod Loads
 mod Items
 mod Opens
+mod Creating

@@ -1,5 +1,5 @@
 -- What a call that reads the tables answers, and what it leaves.
-use Rattle.std.specs.Prelude.{◌≡◌, ℕ, ◌+◌, pos, Bool, true, false, List, [], ◌∷◌, find, Option, Some, None, option_map, IfSome, is_some, Result, IfOk, OnErr, IsTrue}
+use Rattle.std.specs.Prelude.{◌≡◌, ℕ, ◌+◌, pos, Bool, true, false, List, [], ◌∷◌, find, Option, Some, None, option_map, IfSome, is_some, Result, IfOk, OnOk, OnErr, IsTrue}
 use Rattle.std.specs.Ordering.{nat_cmp}
 use Rattle.std.specs.FinMap as map
 use Rattle.std.specs.FinSet as set
@@ -10,7 +10,8 @@ use Rattle.std.specs.List.{AllByRecursion}
 use Rattle.sqlite_trees.specs.View.{IsShaped}
 use Rattle.sqlite_trees.specs.declared.store.Shape.TheVariants.{Table}
 use Rattle.sqlite.specs.Effect.{IsDatabase}
-use Rattle.sqlite.specs.State.{State, HasCleanDisk}
+use Rattle.sqlite.specs.State.{State, HasCleanDisk, KeepsCommit}
+use Rattle.sqlite.specs.declared.error.Error.{Error}
 use Rattle.sqlite_rules.specs.Lists.{Has}
 use Rattle.values.specs.declared.content.Content.{Content}
 use Rattle.values.specs.Contents.{IsStoredContent}
@@ -143,3 +144,8 @@ pub record Reads {T : Type 0} (old new : State) (Shows : Trees → T → Type 0)
   pub ok : HasCleanDisk new → IfOk result (λ x. ShowsTheSame old new × Shows old.now.trees x)
   pub err : HasCleanDisk new → OnErr result (IsTrue new.is_open → ShowsTheSame old new)
   pub leaves : HasCleanDisk new → IsTrue old.is_open → (db : Trees) → new.may_leave db → old.may_leave db
+
+-- Within a transaction nothing was committed, and after `Ok` the transaction is under way.
+pub record RunsInside {T : Type 0} (old new : State) (result : Result T Error) : Type 0 where
+  pub kept : KeepsCommit old new
+  pub within : OnOk result (new.in_transaction ≡ true)

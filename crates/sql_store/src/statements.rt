@@ -11,7 +11,7 @@ ghost use Rattle.values.specs.declared.content.Content.{Content as Spec};
 ghost use Rattle.stable_store.specs.Stored.{Stored, empty, laid, after_prepare, after_discard, after_decide, greatest_count};
 ghost use Rattle.sql_store.specs.Tables.{stable_schema};
 ghost use Rattle.sql_store.specs.Calls.{Stands, Carries, Sees, Stays, Steps, with_count, with_base, after_put};
-ghost use Rattle.sql_store.specs.Reading.{HoldsStored};
+ghost use Rattle.sql_store.specs.Reading.{HoldsStored, RunsInside};
 
 use sqlite::types::ValueRef;
 use sqlite::{Alter, Connection, Error, ErrorCode, Transaction};
@@ -61,12 +61,13 @@ pub(crate) fn create<A: Alter>(conn: &mut Connection<A>) -> Result<(), Error>
         return Err(BUSY);
     }
     let mut tx = conn.transaction();
-    for text in TABLES {
-        tx.execute(text, &[])?;
+    match make_tables(&mut tx) {
+        Ok(()) => tx.commit(),
+        Err(error) => {
+            tx.rollback();
+            Err(error)
+        }
     }
-    tx.execute("INSERT INTO meta VALUES ('version', 1)", &[])?;
-    tx.execute("INSERT INTO meta VALUES ('count', 0)", &[])?;
-    tx.commit()
 }
 
 /// Adds a number to the decided.
@@ -167,6 +168,33 @@ pub(crate) fn install<A: Alter>(
 }
 
 // ---- the parts of a transaction
+
+/// Makes the tables, and the rows of `meta`.
+fn make_tables<A: Alter>(tx: &mut Transaction<'_, A>) -> Result<(), Error>
+    ensures same { tx.new.conn.ghost_name ≡ tx.old.conn.ghost_name }
+    ensures survives { Survives (state A.Store tx.old.conn.now) (state A.Store tx.new.conn.now) (λ _. ⊥) }
+    ensures runs { HasCleanDisk (state A.Store tx.new.conn.now) → RunsInside (state A.Store tx.old.conn.now) (state A.Store tx.new.conn.now) result }
+    ensures made { HasCleanDisk (state A.Store tx.new.conn.now) → OnOk result ((state A.Store tx.new.conn.now).now.schema ≡ stable_schema
+        → HoldsStored (state A.Store tx.new.conn.now).now.trees empty) }
+{
+    for text in TABLES {
+        run(tx, text)?;
+    }
+    run(tx, "INSERT INTO meta VALUES ('version', 1)")?;
+    run(tx, "INSERT INTO meta VALUES ('count', 0)")
+}
+
+/// Runs a statement with no parameters.
+fn run<A: Alter>(tx: &mut Transaction<'_, A>, text: &str) -> Result<(), Error>
+    ensures same { tx.new.conn.ghost_name ≡ tx.old.conn.ghost_name }
+    ensures survives { Survives (state A.Store tx.old.conn.now) (state A.Store tx.new.conn.now) (λ _. ⊥) }
+    ensures runs { HasCleanDisk (state A.Store tx.new.conn.now) → RunsInside (state A.Store tx.old.conn.now) (state A.Store tx.new.conn.now) result }
+{
+    match tx.execute(text, &[]) {
+        Ok(_) => Ok(()),
+        Err(error) => Err(error),
+    }
+}
 
 fn put_record<A: Alter>(
     tx: &mut Transaction<'_, A>,

@@ -1,4 +1,5 @@
 //! Tests of the store over disks in memory.
+use crate::schema::is_known;
 use crate::store::SqlStable;
 use sqlite::{Alter, Connection, FileStore, Files, MemStore, Options};
 use sqlite_disk::{Crash, Disk, Fuse, Memory};
@@ -372,4 +373,15 @@ fn a_stop_in_a_smaller_change_leaves_before_or_after(rt: HostRuntime) -> Result<
     survives_each_stop(&rt, rt.alloc(), Change::Discard)?;
     survives_each_stop(&rt, rt.alloc(), Change::Decide)?;
     survives_each_stop(&rt, rt.alloc(), Change::Bump)
+}
+
+#[test]
+fn the_tables_are_known_where_they_stand_alone(rt: HostRuntime) -> Result<(), Fail> {
+    let alloc = rt.alloc();
+    let alone = opened(alloc, in_memory(alloc, "")?)?.into_connection();
+    assert!(rt; is_known(alone.schema()));
+    let notes = in_memory(alloc, "CREATE TABLE notes(text TEXT);")?;
+    let beside = opened(alloc, notes)?.into_connection();
+    assert!(rt; !is_known(beside.schema()));
+    Ok(())
 }
