@@ -9,7 +9,8 @@ ghost use Rattle.std.specs.Ordering.{nat_cmp};
 ghost use Rattle.values.specs.Contents.{IsStoredContent};
 ghost use Rattle.stable_store.specs.Held.{contents_in, records_of};
 ghost use Rattle.sql_store.specs.Rows.{written};
-ghost use Rattle.sql_store.specs.Reading.{IsMapOf, Adds, IsSetOf, ShowsContent, ShowsHome, AddsValue, AreValuesOf, HaveNoValues, AreRecordsOf};
+ghost use Rattle.sql_store.specs.Reading.{IsMapOf, Adds, IsSetOf, ShowsContent};
+ghost use Rattle.sql_store.specs.Reading.{ShowsHome, AddsValue, AreValuesOf, HaveNoValues, AreRecordsOf};
 
 use sqlite::{Error, ErrorCode, Row};
 use stable_store::{Prepared, StoreFault};
@@ -89,7 +90,8 @@ fn put_home(
     row: &Row,
     records: &mut BTreeMap<u32, Prepared>,
 ) -> Result<(), StoreFault>
-    ensures { OnOk result (Adds ShowsHome row.now (from_entries (records_of records.old.entries)) (from_entries (records_of records.new.entries))) }
+    ensures { OnOk result (Adds ShowsHome row.now (from_entries (records_of records.old.entries)) (from_entries
+        (records_of records.new.entries))) }
 {
     let top = number_in(row, 0)?;
     let record = Prepared {
@@ -120,7 +122,8 @@ fn put_value(
     row: &Row,
     records: &mut BTreeMap<u32, Prepared>,
 ) -> Result<(), StoreFault>
-    ensures { OnOk result (AddsValue row.now (from_entries (records_of records.old.entries)) (from_entries (records_of records.new.entries))) }
+    ensures { OnOk result (AddsValue row.now (from_entries (records_of records.old.entries)) (from_entries
+        (records_of records.new.entries))) }
 {
     let top = number_in(row, 0)?;
     match records.get_mut(&top) {
@@ -136,7 +139,8 @@ fn put_values(
     records: &mut BTreeMap<u32, Prepared>,
 ) -> Result<(), StoreFault>
     requires { HaveNoValues (from_entries (records_of records.old.entries)) }
-    ensures { OnOk result (AreValuesOf rows.now (from_entries (records_of records.old.entries)) (from_entries (records_of records.new.entries))) }
+    ensures { OnOk result (AreValuesOf rows.now (from_entries (records_of records.old.entries)) (from_entries
+        (records_of records.new.entries))) }
 {
     for row in rows {
         put_value(alloc, row, records)?;
