@@ -9,6 +9,11 @@ mod Decides
 mod Means
 mod Contents
 mod Runs
+mod Shown
+mod Valued
+mod Queries
+mod Readings
+mod Sequences
 mod Same
 mod Made
 mod Known
@@ -19,3 +24,7 @@ mod Recorded
 mod Inside
 mod Loops
 mod Back
+mod Loads
+mod Items
+mod Opens
+mod Creating

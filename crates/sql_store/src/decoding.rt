@@ -1,14 +1,28 @@
 //! Reading the tables.
 
+ghost use Rattle.std.specs.Prelude.{◌≡◌, ℕ, pos, [], IfOk};
+ghost use Rattle.std.specs.FinSet as set;
+ghost use Rattle.std.specs.FinMap.{from_entries};
+ghost use Rattle.sqlite.specs.Held.{state};
+ghost use Rattle.sqlite.specs.State.{Shown};
+ghost use Rattle.sqlite.specs.Given.{IsPlain};
+ghost use Rattle.sqlite.specs.Listing.{understood};
+ghost use Rattle.sqlite.specs.Order.{column};
+ghost use Rattle.sqlite.specs.declared.types.Value.TheVariants.{Int};
+ghost use Rattle.stable_store.specs.Held.{held, contents_in, records_of};
+ghost use Rattle.sql_store.specs.Tables.{stable_schema};
+ghost use Rattle.sql_store.specs.Reading.{Quiets, Reads, HoldsBase, HoldsPrepared, HoldsDecided, HoldsCount, HoldsStored, IsOnlyNumber};
+
+use crate::rows::{contents_of, numbers_of, prepared_of, unread};
 use sqlite::{Alter, Connection, Error, ErrorCode, Row};
 use sqlite_resolve::CompileError;
 use stable_store::{Kept, Prepared, StoreFault};
 use std::alloc::Global;
 use std::collections::{BTreeMap, BTreeSet};
-use values::{Content, ValueFault};
+use values::Content;
 
 /// The version of the tables.
-const VERSION: i64 = 1;
+const VERSION: u64 = 1;
 
 /// The queries of the columns that a store has.
 const QUERIES: [&str; 5] = [
@@ -61,118 +75,93 @@ pub(crate) fn find_tables<A: Alter>(conn: &mut Connection<A>) -> Result<Found, S
     Ok(Found::Others)
 }
 
-/// The number in a column of a row, or `NotOurs` where it is not from 1 to 4294967295.
-fn number_in(row: &Row, at: usize) -> Result<u32, StoreFault> {
-    match row.get::<u32>(at) {
-        Ok(n) if n > 0 => Ok(n),
-        Err(Error::SqliteFailure(ErrorCode::OutOfMemory)) => Err(StoreFault::Memory),
-        _ => Err(StoreFault::NotOurs),
-    }
-}
-
-/// The content in a column of a row, or `NotOurs` where it is none in its one spelling.
-fn content_in(alloc: Global, row: &Row, at: usize) -> Result<Content, StoreFault> {
-    let text = match row.get::<String>(at) {
-        Ok(text) => text,
-        Err(Error::SqliteFailure(ErrorCode::OutOfMemory)) => return Err(StoreFault::Memory),
-        Err(_) => return Err(StoreFault::NotOurs),
-    };
-    match Content::from_stored_spelling(alloc, text.as_str()) {
-        Ok(content) => Ok(content),
-        Err(ValueFault::Memory) => Err(StoreFault::Memory),
-        Err(ValueFault::Unfit) => Err(StoreFault::NotOurs),
-    }
-}
-
-/// The answer of a query with no parameters.
-fn answer<A: Alter>(conn: &mut Connection<A>, query: &str) -> Result<Vec<Row>, StoreFault> {
+/// The rows that a query with no parameters answers.
+fn answer<A: Alter>(conn: &mut Connection<A>, query: &str) -> Result<Vec<Row>, StoreFault>
+    ensures { IsPlain (understood stable_schema query.now) → Quiets (state A.Store conn.old)
+        → Reads (state A.Store conn.old) (state A.Store conn.new) (λ _ rows. Shown query.now [] (state A.Store conn.old) (state A.Store conn.new) rows.items) result }
+{
     match conn.query_all(query, &[]) {
         Ok(rows) => Ok(rows),
         Err(error) => Err(fault_of(error)),
     }
 }
 
-/// The one integer that a query answers, or `NotOurs` where it answers something else.
-fn only_integer<A: Alter>(conn: &mut Connection<A>, query: &str) -> Result<i64, StoreFault> {
-    let rows = answer(conn, query)?;
-    let [row] = rows.as_slice() else {
+/// The one number that rows of one column have, or `NotOurs` where they have something else.
+fn only_number(rows: &[Row]) -> Result<u64, StoreFault>
+    ensures { IfOk result (IsOnlyNumber rows.now) }
+{
+    let [row] = rows else {
         return Err(StoreFault::NotOurs);
     };
-    match row.get::<i64>(0) {
+    match row.get::<u64>(0) {
         Ok(n) => Ok(n),
-        Err(Error::SqliteFailure(ErrorCode::OutOfMemory)) => Err(StoreFault::Memory),
-        Err(_) => Err(StoreFault::NotOurs),
+        Err(error) => Err(unread(error)),
     }
 }
 
 /// `NotOurs` where the tables are of another version.
 pub(crate) fn check_version<A: Alter>(conn: &mut Connection<A>) -> Result<(), StoreFault> {
-    if only_integer(conn, "SELECT v FROM meta WHERE k = 'version'")? != VERSION {
+    let rows = answer(conn, "SELECT v FROM meta WHERE k = 'version'")?;
+    if only_number(&rows)? != VERSION {
         return Err(StoreFault::NotOurs);
     }
     Ok(())
 }
 
-fn read_count<A: Alter>(conn: &mut Connection<A>) -> Result<u64, StoreFault> {
-    let count = only_integer(conn, "SELECT v FROM meta WHERE k = 'count'")?;
-    u64::try_from(count).map_err(|_| StoreFault::NotOurs)
+fn read_count<A: Alter>(conn: &mut Connection<A>) -> Result<u64, StoreFault>
+    ensures { Quiets (state A.Store conn.old) → Reads (state A.Store conn.old) (state A.Store conn.new) HoldsCount result }
+{
+    let rows = answer(conn, "SELECT v FROM meta WHERE k = 'count'")?;
+    only_number(&rows)
 }
 
 fn read_base<A: Alter>(
     conn: &mut Connection<A>,
     alloc: Global,
-) -> Result<BTreeMap<u32, Content>, StoreFault> {
-    let mut base = BTreeMap::new(alloc);
-    for row in &answer(conn, "SELECT obj, val FROM base")? {
-        base.insert(number_in(row, 0)?, content_in(alloc, row, 1)?)?;
-    }
-    Ok(base)
+) -> Result<BTreeMap<u32, Content>, StoreFault>
+    ensures { Quiets (state A.Store conn.old) → Reads (state A.Store conn.old) (state A.Store conn.new) (λ db base. HoldsBase db (contents_in base)) result }
+{
+    let rows = answer(conn, "SELECT obj, val FROM base")?;
+    contents_of(alloc, &rows)
 }
 
 fn read_prepared<A: Alter>(
     conn: &mut Connection<A>,
     alloc: Global,
-) -> Result<BTreeMap<u32, Prepared>, StoreFault> {
-    let mut prepared = BTreeMap::new(alloc);
-    for row in &answer(conn, "SELECT top, home FROM prepared")? {
-        let record = Prepared {
-            home: number_in(row, 1)?,
-            values: BTreeMap::new(alloc),
-        };
-        prepared.insert(number_in(row, 0)?, record)?;
-    }
-    for row in &answer(conn, "SELECT top, obj, val FROM prepared_val")? {
-        let top = number_in(row, 0)?;
-        let object = number_in(row, 1)?;
-        let content = content_in(alloc, row, 2)?;
-        let Some(record) = prepared.get_mut(&top) else {
-            return Err(StoreFault::NotOurs);
-        };
-        record.values.insert(object, content)?;
-    }
-    Ok(prepared)
+) -> Result<BTreeMap<u32, Prepared>, StoreFault>
+    ensures { Quiets (state A.Store conn.old)
+        → Reads (state A.Store conn.old) (state A.Store conn.new) (λ db records. HoldsPrepared db (from_entries (records_of records.entries))) result }
+{
+    let homes = answer(conn, "SELECT top, home FROM prepared")?;
+    let values = answer(conn, "SELECT top, obj, val FROM prepared_val")?;
+    prepared_of(alloc, &homes, &values)
 }
 
 fn read_decided<A: Alter>(
     conn: &mut Connection<A>,
     alloc: Global,
-) -> Result<BTreeSet<u32>, StoreFault> {
-    let mut decided = BTreeSet::new(alloc);
-    for row in &answer(conn, "SELECT top FROM decided")? {
-        decided.insert(number_in(row, 0)?)?;
-    }
-    Ok(decided)
+) -> Result<BTreeSet<u32>, StoreFault>
+    ensures { Quiets (state A.Store conn.old) → Reads (state A.Store conn.old) (state A.Store conn.new) (λ db decided. HoldsDecided db (set.from_list decided.keys)) result }
+{
+    let rows = answer(conn, "SELECT top FROM decided")?;
+    numbers_of(alloc, &rows)
 }
 
-/// The content of the tables. `NotOurs` where they hold none.
+/// The content of the tables. `NotOurs` where they hold none. The database stays as it is.
 pub(crate) fn read_content<A: Alter>(
     conn: &mut Connection<A>,
     alloc: Global,
-) -> Result<Kept, StoreFault> {
+) -> Result<Kept, StoreFault>
+    ensures { Quiets (state A.Store conn.old) → Reads (state A.Store conn.old) (state A.Store conn.new) (λ db kept. HoldsStored db (held kept)) result }
+{
+    let base = read_base(conn, alloc)?;
+    let prepared = read_prepared(conn, alloc)?;
+    let decided = read_decided(conn, alloc)?;
+    let count = read_count(conn)?;
     Ok(Kept {
-        base: read_base(conn, alloc)?,
-        prepared: read_prepared(conn, alloc)?,
-        decided: read_decided(conn, alloc)?,
-        count: read_count(conn)?,
+        base,
+        prepared,
+        decided,
+        count,
     })
 }

@@ -5,6 +5,7 @@ mod calls;
 mod decoding;
 mod laid;
 mod mirror;
+mod rows;
 mod schema;
 mod statements;
 mod store;

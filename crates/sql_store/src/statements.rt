@@ -1,15 +1,17 @@
 //! The statements that write, each call one transaction.
 
-ghost use Rattle.std.specs.Prelude.{◌≡◌, ◌≤◌, ℕ, pos, true, List, [], ◌∷◌, ◌++◌, None, string_bytes};
+ghost use Rattle.std.specs.Prelude.{◌≡◌, ◌≤◌, ℕ, pos, true, List, [], ◌∷◌, ◌++◌, None, string_bytes, IsTrue, OnOk, OnErr};
 ghost use Rattle.std.specs.Ordering.{nat_cmp};
 ghost use Rattle.std.specs.FinMap.{get, is_sorted};
 ghost use Rattle.sqlite_value.specs.Value.{owned};
 ghost use Rattle.sqlite.specs.declared.types.Value.TheVariants.{Int, Text};
-ghost use Rattle.sqlite.specs.State.{Survives};
+ghost use Rattle.sqlite.specs.State.{Survives, HasCleanDisk};
 ghost use Rattle.sqlite.specs.Held.{state};
 ghost use Rattle.values.specs.declared.content.Content.{Content as Spec};
-ghost use Rattle.stable_store.specs.Stored.{Stored, laid, after_prepare, after_discard, after_decide, greatest_count};
+ghost use Rattle.stable_store.specs.Stored.{Stored, empty, laid, after_prepare, after_discard, after_decide, greatest_count};
+ghost use Rattle.sql_store.specs.Tables.{stable_schema};
 ghost use Rattle.sql_store.specs.Calls.{Stands, Carries, Sees, Stays, Steps, with_count, with_base, after_put};
+ghost use Rattle.sql_store.specs.Reading.{HoldsStored, RunsInside};
 
 use sqlite::types::ValueRef;
 use sqlite::{Alter, Connection, Error, ErrorCode, Transaction};
@@ -47,18 +49,25 @@ fn number(n: u32) -> ValueRef<'static>
     ValueRef::Int(i64::from(n))
 }
 
-/// Makes the tables, for a store that is empty.
-pub(crate) fn create<A: Alter>(conn: &mut Connection<A>) -> Result<(), Error> {
+/// Makes the tables, for a store that is empty. In a database with other objects they stand at other places than those
+/// that the definitions name.
+pub(crate) fn create<A: Alter>(conn: &mut Connection<A>) -> Result<(), Error>
+    ensures made { HasCleanDisk (state A.Store conn.new) → OnOk result ((state A.Store conn.new).now.schema ≡ stable_schema
+        → HoldsStored (state A.Store conn.new).now.trees empty) }
+    ensures refused { HasCleanDisk (state A.Store conn.new) → OnErr result (IsTrue (state A.Store conn.new).is_open
+        → (state A.Store conn.new).now ≡ (state A.Store conn.old).now) }
+{
     if !conn.is_autocommit() {
         return Err(BUSY);
     }
     let mut tx = conn.transaction();
-    for text in TABLES {
-        tx.execute(text, &[])?;
+    match make_tables(&mut tx) {
+        Ok(()) => tx.commit(),
+        Err(error) => {
+            tx.rollback();
+            Err(error)
+        }
     }
-    tx.execute("INSERT INTO meta VALUES ('version', 1)", &[])?;
-    tx.execute("INSERT INTO meta VALUES ('count', 0)", &[])?;
-    tx.commit()
 }
 
 /// Adds a number to the decided.
@@ -159,6 +168,33 @@ pub(crate) fn install<A: Alter>(
 }
 
 // ---- the parts of a transaction
+
+/// Makes the tables, and the rows of `meta`.
+fn make_tables<A: Alter>(tx: &mut Transaction<'_, A>) -> Result<(), Error>
+    ensures same { tx.new.conn.ghost_name ≡ tx.old.conn.ghost_name }
+    ensures survives { Survives (state A.Store tx.old.conn.now) (state A.Store tx.new.conn.now) (λ _. ⊥) }
+    ensures runs { HasCleanDisk (state A.Store tx.new.conn.now) → RunsInside (state A.Store tx.old.conn.now) (state A.Store tx.new.conn.now) result }
+    ensures made { HasCleanDisk (state A.Store tx.new.conn.now) → OnOk result ((state A.Store tx.new.conn.now).now.schema ≡ stable_schema
+        → HoldsStored (state A.Store tx.new.conn.now).now.trees empty) }
+{
+    for text in TABLES {
+        run(tx, text)?;
+    }
+    run(tx, "INSERT INTO meta VALUES ('version', 1)")?;
+    run(tx, "INSERT INTO meta VALUES ('count', 0)")
+}
+
+/// Runs a statement with no parameters.
+fn run<A: Alter>(tx: &mut Transaction<'_, A>, text: &str) -> Result<(), Error>
+    ensures same { tx.new.conn.ghost_name ≡ tx.old.conn.ghost_name }
+    ensures survives { Survives (state A.Store tx.old.conn.now) (state A.Store tx.new.conn.now) (λ _. ⊥) }
+    ensures runs { HasCleanDisk (state A.Store tx.new.conn.now) → RunsInside (state A.Store tx.old.conn.now) (state A.Store tx.new.conn.now) result }
+{
+    match tx.execute(text, &[]) {
+        Ok(_) => Ok(()),
+        Err(error) => Err(error),
+    }
+}
 
 fn put_record<A: Alter>(
     tx: &mut Transaction<'_, A>,

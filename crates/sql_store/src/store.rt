@@ -1,11 +1,13 @@
 //! A store in SQL tables.
 
-ghost use Rattle.std.specs.Prelude.{◌≡◌, ◌⊎◌, ℕ, ◌+◌, IfOk, IfErr, IsTrue};
+ghost use Rattle.std.specs.Prelude.{◌≡◌, ◌⊎◌, ℕ, ◌+◌, IfOk, IfErr, IfSome, IsTrue};
 ghost use Rattle.sqlite.specs.Held.{state};
 ghost use Rattle.sqlite.specs.State.{HasCleanDisk};
 ghost use Rattle.stable_store.specs.Calls.{IsExcused};
 ghost use Rattle.stable_store.specs.Held.{held};
-ghost use Rattle.sql_store.specs.Calls.{MayLeave};
+ghost use Rattle.stable_store.specs.Calls.{Rests};
+ghost use Rattle.sql_store.specs.Calls.{MayLeave, Stands};
+ghost use Rattle.sql_store.specs.Reading.{IsAlone};
 
 use crate::decoding::{Found, check_version, fault_of, find_tables, read_content};
 use crate::{calls, schema, statements};
@@ -57,24 +59,36 @@ impl<A: Alter + Drop> SqlStable<A> {
     pub fn new(
         alloc: Global,
         conn: Connection<A>,
-    ) -> Result<SqlStable<A>, (StoreFault, Connection<A>)> {
+    ) -> Result<SqlStable<A>, (StoreFault, Connection<A>)>
+        ensures failures { IfOk result (λ s. s.1.1.0 ≡ 0) }
+        ensures rests { IfOk result (λ s. Rests (λ t. held t.0) (λ t. HasCleanDisk (state A.Store t.1.0) × IsTrue t.1.1.1.0)
+            (λ t. IsTrue (state A.Store t.1.0).is_open × IsTrue t.1.1.1.1) (λ t. MayLeave (state A.Store t.1.0)) s) }
+    {
         let mut conn = conn;
+        one_spelling();
         match open(alloc, &mut conn) {
-            Ok(found) => {
-                let is_known = schema::is_known(conn.schema());
-                let (kept, holds_content) = match found {
-                    Some(kept) => (kept, true),
-                    None => (Kept::new(alloc), false),
-                };
-                Ok(SqlStable {
-                    conn,
-                    kept,
-                    failures: 0,
-                    is_known,
-                    holds_content,
-                })
-            }
+            Ok(opened) => Ok(SqlStable::over(alloc, conn, opened)),
             Err(fault) => Err((fault, conn)),
+        }
+    }
+
+    fn over(alloc: Global, conn: Connection<A>, opened: Opened) -> SqlStable<A>
+        requires { IsTrue opened.is_known → IfSome opened.kept (λ kept. Stands (state A.Store conn) (held kept)) }
+        ensures conn { result.1.0 ≡ conn }
+        ensures failures { result.1.1.0 ≡ 0 }
+        ensures known { IsTrue result.1.1.1.0 → IsTrue result.1.1.1.1 → Stands (state A.Store conn) (held result.0) }
+    {
+        let Opened { kept, is_known } = opened;
+        let (kept, holds_content) = match kept {
+            Some(kept) => (kept, true),
+            None => (Kept::new(alloc), false),
+        };
+        SqlStable {
+            conn,
+            kept,
+            failures: 0,
+            is_known,
+            holds_content,
         }
     }
 
@@ -91,22 +105,63 @@ impl<A: Alter + Drop> SqlStable<A> {
     }
 }
 
-/// Makes the tables or takes them, and answers their content, or none where they hold none.
-fn open<A: Alter>(alloc: Global, conn: &mut Connection<A>) -> Result<Option<Kept>, StoreFault> {
+/// What was found in the tables of a database.
+#[derive(Drop)]
+struct Opened {
+    /// Their content; none where they hold no content of a store.
+    kept: Option<Kept>,
+    /// Whether the database has the tables of a store and nothing else, and no transaction is under way.
+    is_known: bool,
+}
+
+/// Makes the tables or takes them. With a fault the database is what it was.
+fn open<A: Alter>(alloc: Global, conn: &mut Connection<A>) -> Result<Opened, StoreFault>
+    ensures { IfOk result (λ it. IsTrue it.is_known → IfSome it.kept (λ kept. Stands (state A.Store conn.new) (held kept))) }
+{
     match find_tables(conn)? {
-        Found::Nothing => {
-            if let Err(error) = statements::create(conn) {
-                return Err(fault_of(error));
-            }
-        }
-        Found::Tables => check_version(conn)?,
-        Found::Others => return Err(StoreFault::NotOurs),
+        Found::Nothing => make(alloc, conn),
+        Found::Tables => take(alloc, conn),
+        Found::Others => Err(StoreFault::NotOurs),
     }
+}
+
+/// Makes the tables.
+fn make<A: Alter>(alloc: Global, conn: &mut Connection<A>) -> Result<Opened, StoreFault>
+    ensures { IfOk result (λ it. IsTrue it.is_known → IfSome it.kept (λ kept. Stands (state A.Store conn.new) (held kept))) }
+{
+    if let Err(error) = statements::create(conn) {
+        return Err(fault_of(error));
+    }
+    Ok(Opened {
+        is_known: is_alone(conn),
+        kept: Some(Kept::new(alloc)),
+    })
+}
+
+/// Takes the tables that are there, and their content.
+fn take<A: Alter>(alloc: Global, conn: &mut Connection<A>) -> Result<Opened, StoreFault>
+    ensures { IfOk result (λ it. IsTrue it.is_known → IfSome it.kept (λ kept. Stands (state A.Store conn.new) (held kept))) }
+{
+    check_version(conn)?;
+    let is_known = is_alone(conn);
     match read_content(conn, alloc) {
-        Ok(kept) => Ok(Some(kept)),
-        Err(StoreFault::NotOurs) => Ok(None),
+        Ok(kept) => Ok(Opened {
+            kept: Some(kept),
+            is_known,
+        }),
+        Err(StoreFault::NotOurs) => Ok(Opened {
+            kept: None,
+            is_known,
+        }),
         Err(fault) => Err(fault),
     }
+}
+
+/// Whether the database has the tables of a store and nothing else, and no transaction is under way.
+fn is_alone<A: Alter>(conn: &Connection<A>) -> bool
+    ensures { IsTrue result → IsAlone (state A.Store conn.now) }
+{
+    conn.is_autocommit() && schema::is_known(conn.schema())
 }
 
 /// The fault of a call. All but want of memory are counted.

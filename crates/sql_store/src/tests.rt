@@ -407,3 +407,14 @@ fn a_stop_in_bump(rt: HostRuntime) -> Result<(), Fail> {
     survives_each_stop(&rt, rt.alloc(), Change::Bump, false)?;
     survives_each_stop(&rt, rt.alloc(), Change::Bump, true)
 }
+
+#[test]
+fn the_tables_are_known_where_they_stand_alone(rt: HostRuntime) -> Result<(), Fail> {
+    let alloc = rt.alloc();
+    let alone = opened(alloc, in_memory(alloc, "")?)?.into_connection();
+    assert!(rt; is_known(alone.schema()));
+    let notes = in_memory(alloc, "CREATE TABLE notes(text TEXT);")?;
+    let beside = opened(alloc, notes)?.into_connection();
+    assert!(rt; !is_known(beside.schema()));
+    Ok(())
+}
