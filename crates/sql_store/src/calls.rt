@@ -139,21 +139,8 @@ pub(crate) fn load<A: Alter>(
     ensures carries { Stands (state A.Store conn.old) (held kept.now)
         → Carries (state A.Store conn.old) (state A.Store conn.new) (held kept.now) (held kept.now) result }
 {
-    let found = match read_content(conn, alloc) {
-        Ok(found) => found,
-        Err(fault) => return Err(fault),
-    };
-    match compared(alloc, &found, kept) {
-        Ok(kept) => Ok(kept),
-        Err(fault) => Err(fault),
-    }
-}
-
-/// The content in maps again, if what was found is the same.
-fn compared(alloc: Global, found: &Kept, kept: &Kept) -> Result<Kept, StoreFault>
-    ensures { IfOk result (λ it. held it ≡ held kept.now) }
-{
-    if !mirror::are_same(alloc, found, kept)? {
+    let found = read_content(conn, alloc)?;
+    if !mirror::are_same(alloc, &found, kept)? {
         return Err(StoreFault::Failed);
     }
     Ok(kept.copy(alloc)?)
