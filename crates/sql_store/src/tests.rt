@@ -327,8 +327,12 @@ fn restarted(alloc: Global, store: FusedStore, device: Device) -> Result<FusedSt
     Ok(open_store(alloc, files, device).ok_or("opened again")?)
 }
 
-/// The files of a store that is filled. Its newest content is in the log.
-fn filled(alloc: Global, device: Device) -> Result<Files<Fuse<Memory>>, Fail> {
+/// The files of a store that is filled. Its newest content is in the log, which is short.
+fn filled(alloc: Global) -> Result<Files<Fuse<Memory>>, Fail> {
+    let device = Device {
+        fails_in_log: false,
+        log_frames: 1,
+    };
     let files = Files {
         log: disk(alloc, &[], u64::MAX)?,
         db: disk(alloc, &[], u64::MAX)?,
@@ -344,8 +348,8 @@ fn filled(alloc: Global, device: Device) -> Result<Files<Fuse<Memory>>, Fail> {
 
 /// The least number of calls with which the store opens.
 fn calls_to_open(alloc: Global, image: &Files<Fuse<Memory>>, device: Device) -> Result<u64, Fail> {
-    let (mut low, mut high) = (0, 1024);
-    for _ in 0..10 {
+    let (mut low, mut high) = (0, 128);
+    for _ in 0..7 {
         let middle = (low + high) / 2;
         if open_store(alloc, fused(alloc, image, device, middle)?, device).is_some() {
             high = middle;
@@ -388,68 +392,125 @@ fn survives(
 
 /// Lets a file fail after each number of calls, from the first of the change up to one that suffices.
 fn survives_each_stop(
-    rt: &(impl Abort + Eprint),
+    rt: &impl Abort,
     alloc: Global,
     change: Change,
     device: Device,
 ) -> Result<(), Fail> {
-    let image = filled(alloc, device)?;
+    let image = filled(alloc)?;
     let first = calls_to_open(alloc, &image, device)?;
     for calls in first..first + 200 {
         let files = fused(alloc, &image, device, calls)?;
         let store = open_store(alloc, files, device).ok_or("opened")?;
         if survives(rt, alloc, change, device, store)? {
-            let _ = eprintln!(rt; "{device:?} {change:?} first {first} last {calls}");
             return Ok(());
         }
     }
     Err("no number of calls suffices")?
 }
 
-/// Each stop in either file, where the log stays and where it is copied.
-fn survives_stops(rt: &(impl Abort + Eprint), alloc: Global, change: Change) -> Result<(), Fail> {
-    for fails_in_log in [false, true] {
-        for log_frames in [1, 1000] {
-            let device = Device {
-                fails_in_log,
-                log_frames,
-            };
-            survives_each_stop(rt, alloc, change, device)?;
-        }
+/// Whose log fails, and stays.
+const FAILING_LOG: Device = Device {
+    fails_in_log: true,
+    log_frames: 1000,
+};
+
+/// Whose log fails, and is copied at the commit.
+const COPIED_LOG: Device = Device {
+    fails_in_log: true,
+    log_frames: 1,
+};
+
+/// A database that fails, while the log is copied into it or stays.
+fn survives_stops_of_the_database(
+    rt: &impl Abort,
+    alloc: Global,
+    change: Change,
+) -> Result<(), Fail> {
+    for log_frames in [1, 1000] {
+        let device = Device {
+            fails_in_log: false,
+            log_frames,
+        };
+        survives_each_stop(rt, alloc, change, device)?;
     }
     Ok(())
 }
 
 #[test]
-fn a_stop_in_prepare(rt: HostRuntime) -> Result<(), Fail> {
-    survives_stops(&rt, rt.alloc(), Change::Prepare)
+fn a_stop_of_the_database_in_prepare(rt: HostRuntime) -> Result<(), Fail> {
+    survives_stops_of_the_database(&rt, rt.alloc(), Change::Prepare)
 }
 
 #[test]
-fn a_stop_in_install(rt: HostRuntime) -> Result<(), Fail> {
-    survives_stops(&rt, rt.alloc(), Change::Install)
+fn a_stop_of_the_log_in_prepare(rt: HostRuntime) -> Result<(), Fail> {
+    survives_each_stop(&rt, rt.alloc(), Change::Prepare, FAILING_LOG)
 }
 
 #[test]
-fn a_stop_in_discard(rt: HostRuntime) -> Result<(), Fail> {
-    survives_stops(&rt, rt.alloc(), Change::Discard)
+fn a_stop_of_a_copied_log_in_prepare(rt: HostRuntime) -> Result<(), Fail> {
+    survives_each_stop(&rt, rt.alloc(), Change::Prepare, COPIED_LOG)
 }
 
 #[test]
-fn a_stop_in_decide(rt: HostRuntime) -> Result<(), Fail> {
-    survives_stops(&rt, rt.alloc(), Change::Decide)
+fn a_stop_of_the_database_in_install(rt: HostRuntime) -> Result<(), Fail> {
+    survives_stops_of_the_database(&rt, rt.alloc(), Change::Install)
 }
 
 #[test]
-fn a_stop_in_bump(rt: HostRuntime) -> Result<(), Fail> {
-    survives_stops(&rt, rt.alloc(), Change::Bump)
+fn a_stop_of_the_log_in_install(rt: HostRuntime) -> Result<(), Fail> {
+    survives_each_stop(&rt, rt.alloc(), Change::Install, FAILING_LOG)
 }
 
-/// Whose log fails.
-const FAILING_LOG: Device = Device {
-    fails_in_log: true,
-    log_frames: 1000,
-};
+#[test]
+fn a_stop_of_a_copied_log_in_install(rt: HostRuntime) -> Result<(), Fail> {
+    survives_each_stop(&rt, rt.alloc(), Change::Install, COPIED_LOG)
+}
+
+#[test]
+fn a_stop_of_the_database_in_discard(rt: HostRuntime) -> Result<(), Fail> {
+    survives_stops_of_the_database(&rt, rt.alloc(), Change::Discard)
+}
+
+#[test]
+fn a_stop_of_the_log_in_discard(rt: HostRuntime) -> Result<(), Fail> {
+    survives_each_stop(&rt, rt.alloc(), Change::Discard, FAILING_LOG)
+}
+
+#[test]
+fn a_stop_of_a_copied_log_in_discard(rt: HostRuntime) -> Result<(), Fail> {
+    survives_each_stop(&rt, rt.alloc(), Change::Discard, COPIED_LOG)
+}
+
+#[test]
+fn a_stop_of_the_database_in_decide(rt: HostRuntime) -> Result<(), Fail> {
+    survives_stops_of_the_database(&rt, rt.alloc(), Change::Decide)
+}
+
+#[test]
+fn a_stop_of_the_log_in_decide(rt: HostRuntime) -> Result<(), Fail> {
+    survives_each_stop(&rt, rt.alloc(), Change::Decide, FAILING_LOG)
+}
+
+#[test]
+fn a_stop_of_a_copied_log_in_decide(rt: HostRuntime) -> Result<(), Fail> {
+    survives_each_stop(&rt, rt.alloc(), Change::Decide, COPIED_LOG)
+}
+
+#[test]
+fn a_stop_of_the_database_in_bump(rt: HostRuntime) -> Result<(), Fail> {
+    survives_stops_of_the_database(&rt, rt.alloc(), Change::Bump)
+}
+
+#[test]
+fn a_stop_of_the_log_in_bump(rt: HostRuntime) -> Result<(), Fail> {
+    survives_each_stop(&rt, rt.alloc(), Change::Bump, FAILING_LOG)
+}
+
+#[test]
+fn a_stop_of_a_copied_log_in_bump(rt: HostRuntime) -> Result<(), Fail> {
+    survives_each_stop(&rt, rt.alloc(), Change::Bump, COPIED_LOG)
+}
 
 /// Checks that each change fails, and that each failure is counted once.
 fn refuses_each_change(rt: &impl Abort, alloc: Global, store: &mut FusedStore) -> Result<(), Fail> {
@@ -474,7 +535,7 @@ fn refuses_each_change(rt: &impl Abort, alloc: Global, store: &mut FusedStore) -
 #[test]
 fn a_device_that_refuses_each_call(rt: HostRuntime) -> Result<(), Fail> {
     let alloc = rt.alloc();
-    let image = filled(alloc, FAILING_LOG)?;
+    let image = filled(alloc)?;
     let first = calls_to_open(alloc, &image, FAILING_LOG)?;
     let files = fused(alloc, &image, FAILING_LOG, first)?;
     let mut store = open_store(alloc, files, FAILING_LOG).ok_or("opened")?;
@@ -505,7 +566,7 @@ fn stopped(
 #[test]
 fn a_closed_database_refuses_each_call(rt: HostRuntime) -> Result<(), Fail> {
     let alloc = rt.alloc();
-    let image = filled(alloc, FAILING_LOG)?;
+    let image = filled(alloc)?;
     let first = calls_to_open(alloc, &image, FAILING_LOG)?;
     for calls in first..first + 200 {
         if files_of(stopped(&rt, alloc, &image, calls)?).may_be_used() {
