@@ -1,5 +1,6 @@
 -- How the opening contents of objects are read.
 use Rattle.std.specs.Prelude.{ℕ, ℤ, pos, ◌+ℤ◌, ◌-ℤ◌, int_le, List, [], ◌∷◌, Bool, true, ◌&&◌, ◌||◌, nat_le, codes, if◌then◌else◌, Option, Some, None}
+use Rattle.serde_json.specs.Events.{members_len, items_len}
 use Rattle.serde_json.specs.Data.{Data, number, string, array, object, Members, no_members, member}
 use Rattle.serde_json.specs.Find.{as_i64}
 use Rattle.values.specs.Words.{same_bytes}
@@ -17,7 +18,7 @@ use Rattle.values.specs.Items.{max_items, least_index, greatest_index}
 use Rattle.values.specs.Tags.{max_tags, tag_kind}
 use Rattle.script_model.specs.declared.fault.FaultKind.TheVariants as is
 use Rattle.script_model.specs.Reading.{Read, reads, fault, ask, need, at, each, ◌>>=◌, ◌>>◌}
-use Rattle.script_model.specs.Shapes.{the_object, the_string, the_int, the_list, the_three, are_named, count_members, count_items, kind_in}
+use Rattle.script_model.specs.Shapes.{the_object, the_string, the_int, the_list, the_three, are_named, kind_in}
 use Rattle.script_model.specs.ExpressionReading.{short_text}
 
 -- whether a value of this kind fits where that kind is wanted, or any
@@ -54,7 +55,7 @@ fields_in (member name d ms) = do
 abbrev pub ask_names : ℕ → Members → Read (Unit {0})
 ask_names most ms = do
   ask (are_named ms) is.Shape
-  ask (nat_le 1 (count_members ms) && nat_le (count_members ms) most) is.Limit
+  ask (nat_le 1 (members_len ms) && nat_le (members_len ms) most) is.Limit
 
 abbrev pub record_in : Data → Read Content
 record_in d = do
@@ -71,7 +72,7 @@ is_low low count =
     (int_le least_index low && int_le low greatest_index) && ((nat_le count 0) || int_le ((low +ℤ pos count) -ℤ pos 1) greatest_index)
 
 abbrev pub items_of : Data → ℕ
-items_of (array ds) = count_items ds
+items_of (array ds) = items_len ds
 items_of _ = 0
 
 abbrev pub array_in : Data → Read Content

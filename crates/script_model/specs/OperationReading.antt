@@ -1,5 +1,6 @@
 -- How operations are read.
 use Rattle.std.specs.Prelude.{ℕ, suc, List, [], ◌∷◌, ◌+◌, Bool, true, false, not, ◌==◌, codes, decimal, if◌then◌else◌, Option, Some, None, option_map, option_and_then, pos, slice_get, ℤ}
+use Rattle.serde_json.specs.Events.{items_len}
 use Rattle.serde_json.specs.Data.{Data, array, Items, item}
 use Rattle.serde_json.specs.Find.{get_item, as_str}
 use Rattle.values.specs.Words.{same_bytes}
@@ -18,7 +19,7 @@ use Rattle.script_model.specs.declared.names.Sort.TheVariants.{Int, Truth}
 use Rattle.script_model.specs.declared.statement.Operation.{Operation}
 use Rattle.script_model.specs.declared.statement.Operation.TheVariants as op
 use Rattle.script_model.specs.Reading.{Read, reads, fault, ask, need, at, ◌>>=◌, ◌>>◌}
-use Rattle.script_model.specs.Shapes.{count_items, the_int, the_string}
+use Rattle.script_model.specs.Shapes.{the_int, the_string}
 use Rattle.script_model.specs.Scopes.{Scope, sort_of_kind}
 use Rattle.script_model.specs.ExpressionReading.{int_expr, expr_of_kind}
 
@@ -150,7 +151,7 @@ op_in d = option_and_then op_named (as_str d)
 
 abbrev pub has_arity : Option OpName → Items → Bool
 has_arity None args = true
-has_arity (Some n) args = count_items args == arity n
+has_arity (Some n) args = items_len args == arity n
 
 -- a number from 1 on, as the index of what it numbers
 abbrev pub numbered : {A : Type 0} → List A → ℤ → Option (ℕ × A)

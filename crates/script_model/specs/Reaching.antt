@@ -1,5 +1,5 @@
 -- Which handlers can reach themselves by calls, and what a script is.
-use Rattle.std.specs.Prelude.{ℕ, map, ◌-◌, ◌<◌, ◌≡◌, List, [], ◌∷◌, ◌++◌, Option, Some, None, codes, decimal, slice_get, Contains, ◌⊎◌}
+use Rattle.std.specs.Prelude.{ℕ, map, ◌-◌, ◌<◌, ◌≡◌, List, [], ◌∷◌, ◌++◌, Option, Some, None, Ok, Err, codes, decimal, slice_get, Contains, ◌⊎◌}
 use Rattle.serde_json.specs.Data.{Data}
 use Rattle.script_model.specs.declared.fault.FaultKind.TheVariants as is
 use Rattle.script_model.specs.declared.fault.ScriptFault.{ScriptFault}
@@ -9,7 +9,7 @@ use Rattle.script_model.specs.declared.statement.Arm.TheOpen.{Statement-F, Arm-F
 use Rattle.script_model.specs.declared.statement.Arm.TheFolds.{fold-Statement}
 use Rattle.script_model.specs.declared.checked.Handler.{Handler}
 use Rattle.script_model.specs.declared.checked.Checked.{Checked}
-use Rattle.script_model.specs.Reading.{reads, refused, step}
+use Rattle.script_model.specs.Reading.{step}
 use Rattle.script_model.specs.ScriptReading.{script}
 use Rattle.script_model.specs.StatementReading.{Body}
 
@@ -56,17 +56,17 @@ pub data Reaches (hs : List Handler) : ℕ → ℕ → Type 0 where
 
 -- the document is this script, none of whose handlers can reach itself
 pub record Fits (d : Data) (c : Checked) : Type 0 where
-  pub read : script d ≡ reads c
+  pub read : script d [] ≡ Ok c
   pub ends : (n : ℕ) → Reaches c.handlers n n → ⊥
 
 -- where a handler stands in the document
 abbrev pub handler_place : Handler → List ℕ
-handler_place h = step (codes "guardians") (step (decimal (h.guardian - 1)) (step (codes "handlers") (step h.name [])))
+handler_place h = step (step (step (step [] (codes "guardians")) (decimal (h.guardian - 1))) (codes "handlers")) h.name
 
 -- the document is a script but for its first handler that can reach itself, which stands at this place
 pub record IsRecursiveAt (d : Data) (place : List ℕ) : Type 0 where
   pub checked : Checked
-  pub read : script d ≡ reads checked
+  pub read : script d [] ≡ Ok checked
   pub number : ℕ
   pub handler : Handler
   pub found : slice_get checked.handlers number ≡ Some handler
@@ -77,4 +77,4 @@ pub record IsRecursiveAt (d : Data) (place : List ℕ) : Type 0 where
 -- the fault of a document: the first that reading it meets, else the first recursion
 abbrev pub IsFirstFault : Data → ScriptFault → Type 0
 IsFirstFault d Memory = Unit {0}
-IsFirstFault d (Bad why place) = (script d ≡ refused why place) ⊎ ((why ≡ is.Recursion) × IsRecursiveAt d place)
+IsFirstFault d (Bad why place) = (script d [] ≡ Err (Bad why place)) ⊎ ((why ≡ is.Recursion) × IsRecursiveAt d place)

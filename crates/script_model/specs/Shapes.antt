@@ -1,7 +1,8 @@
 -- The shapes of a document's parts.
-use Rattle.std.specs.Prelude.{ℕ, suc, ℤ, List, [], ◌∷◌, Bool, true, false, ◌&&◌, ◌||◌, nat_le, if◌then◌else◌, Option, Some, None, option_and_then, option_map}
+use Rattle.std.specs.Prelude.{ℕ, ℤ, List, [], ◌∷◌, Bool, true, false, ◌&&◌, ◌||◌, nat_le, if◌then◌else◌, Option, Some, None, option_and_then, option_map}
 use Rattle.serde_json.specs.Data.{Data, Items, no_items, item, Members, no_members, member}
 use Rattle.serde_json.specs.Find.{get_member, as_number, as_str, as_array, as_object, as_i64}
+use Rattle.serde_json.specs.Events.{items_len}
 use Rattle.values.specs.Words.{same_bytes, is_identifier}
 use Rattle.values.specs.Values.{kind_name}
 use Rattle.values.specs.declared.value.Kind.{Kind}
@@ -41,10 +42,6 @@ abbrev pub are_named : Members → Bool
 are_named no_members = true
 are_named (member n d ms) = is_identifier n && are_named ms
 
-abbrev pub count_members : Members → ℕ
-count_members no_members = 0
-count_members (member n d ms) = suc (count_members ms)
-
 -- the members of these names, where an object has these and no other
 abbrev pub two_members : List ℕ → List ℕ → Members → Option (Data × Data)
 two_members m n ms = if has_only (m ∷ n ∷ []) ms then option_and_then (λ d. option_map (λ e. (d, e)) (get_member n ms)) (get_member m ms) else None
@@ -62,10 +59,6 @@ abbrev pub the_three : List ℕ → List ℕ → List ℕ → Data → Read (Dat
 the_three l m n d = need (option_and_then (three_members l m n) (as_object d)) Shape
 
 -- ---- arrays
-
-abbrev pub count_items : Items → ℕ
-count_items no_items = 0
-count_items (item d ds) = suc (count_items ds)
 
 abbrev pub two_items : Items → Option (Data × Data)
 two_items no_items = None
@@ -88,7 +81,7 @@ the_triple d = need (option_and_then three_items (as_array d)) Shape
 abbrev pub the_list : ℕ → ℕ → Data → Read Items
 the_list least most d = do
   ds ← the_array d
-  ask (nat_le least (count_items ds) && nat_le (count_items ds) most) Limit
+  ask (nat_le least (items_len ds) && nat_le (items_len ds) most) Limit
   reads ds
 
 -- ---- words

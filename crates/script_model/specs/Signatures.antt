@@ -1,5 +1,6 @@
 -- What calls have to know of handlers, however ill these are formed, and which one a name means.
 use Rattle.std.specs.Prelude.{ℕ, zero, suc, ◌+◌, min, List, Bool, true, codes, if◌then◌else◌, ◌==◌, Option, Some, None, option_map, option_and_then, unwrap_or}
+use Rattle.serde_json.specs.Events.{items_len, members_len}
 use Rattle.serde_json.specs.Data.{Data, Items, no_items, item, Members, no_members, member}
 use Rattle.serde_json.specs.Find.{get, get_item, get_member, as_array, as_object, as_str}
 use Rattle.values.specs.Words.{same_bytes}
@@ -8,7 +9,7 @@ use Rattle.script_model.specs.declared.names.Gives.{Gives}
 use Rattle.script_model.specs.declared.names.Gives.TheVariants.{Anything, Nothing, Value}
 use Rattle.script_model.specs.declared.names.Sort.{Sort}
 use Rattle.script_model.specs.declared.names.Sort.TheVariants.{Unknown}
-use Rattle.script_model.specs.Shapes.{two_items, kind_in, kind_named, count_items, count_members}
+use Rattle.script_model.specs.Shapes.{two_items, kind_in, kind_named}
 use Rattle.script_model.specs.Scopes.{sort_of_kind}
 
 -- how many handlers a script has at most
@@ -29,7 +30,7 @@ place_among (suc most) name (member n d ms) = if same_bytes n name then 0 else s
 abbrev pub handlers_before : ℕ → Items → ℕ
 handlers_before zero guardians = 0
 handlers_before (suc n) no_items = 0
-handlers_before (suc n) (item d ds) = min (count_members (handlers_in d)) max_handlers + handlers_before n ds
+handlers_before (suc n) (item d ds) = min (members_len (handlers_in d)) max_handlers + handlers_before n ds
 
 -- the number of a handler among those of the script; a script in which it is counted wrongly has too many handlers
 abbrev pub handler_number : Items → ℕ → List ℕ → ℕ
@@ -54,7 +55,7 @@ wanted_kind handler i = option_and_then (λ ds. option_and_then param_kind (get_
 
 -- whether a handler takes so many arguments, as far as it says
 abbrev pub takes_count : Data → ℕ → Bool
-takes_count handler n = unwrap_or (option_map (λ ds. count_items ds == n) (params_in handler)) true
+takes_count handler n = unwrap_or (option_map (λ ds. items_len ds == n) (params_in handler)) true
 
 abbrev pub gives_named : List ℕ → Option Gives
 gives_named name = if same_bytes name (codes "none") then Some Nothing else option_map Value (kind_named name)

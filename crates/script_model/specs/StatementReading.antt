@@ -1,5 +1,6 @@
 -- How statements and bodies are read.
 use Rattle.std.specs.Prelude.{ℕ, zero, suc, pos, negsuc, ℤ, List, [], ◌∷◌, Bool, true, false, not, ◌&&◌, nat_le, is_some, is_none, codes, decimal, if◌then◌else◌, Option, Some, None, option_and_then}
+use Rattle.serde_json.specs.Events.{items_len}
 use Rattle.serde_json.specs.Data.{Data, null, boolean, Items, no_items, item, Members}
 use Rattle.serde_json.specs.Find.{get_member, as_array, as_str}
 use Rattle.values.specs.Words.{same_bytes, is_identifier}
@@ -20,7 +21,7 @@ use Rattle.script_model.specs.declared.statement.Statement.TheVariants.{Op, Call
 use Rattle.script_model.specs.declared.statement.Arm.{Arm}
 use Rattle.script_model.specs.declared.statement.Arm.TheVariants as arm
 use Rattle.script_model.specs.Reading.{Read, reads, fault, ask, need, at, each, ◌>>=◌, ◌>>◌}
-use Rattle.script_model.specs.Shapes.{the_object, the_array, the_string, the_int, the_two, the_pair, the_triple, the_list, has_only, count_items, int_of, three_items}
+use Rattle.script_model.specs.Shapes.{the_object, the_array, the_string, the_int, the_two, the_pair, the_triple, the_list, has_only, int_of, three_items}
 use Rattle.script_model.specs.Scopes.{Scope, Variable, find, count_bound, agree, sort_of_kind, binding_of, binding_again}
 use Rattle.script_model.specs.ExpressionReading.{sort_of, expr_of_kind, value_expr, condition}
 use Rattle.script_model.specs.OperationReading.{operation, op_gives_nothing}
@@ -106,7 +107,7 @@ guardian_index count _ = None
 abbrev pub the_guardian : Items → Data → Read ℕ
 the_guardian guardians d = do
   z ← the_int d
-  need (guardian_index (count_items guardians) z) is.Guardian
+  need (guardian_index (items_len guardians) z) is.Guardian
 
 -- arguments by their kinds, each kind in order
 pub record Arguments : Type 0 where
@@ -131,7 +132,7 @@ arguments_from scope handler i (item d ds) = do
 abbrev pub arguments_in : Scope → Data → Data → Read Arguments
 arguments_in scope handler d = do
   ds ← the_array d
-  ask (takes_count handler (count_items ds)) is.Arguments
+  ask (takes_count handler (items_len ds)) is.Arguments
   arguments_from scope handler 0 ds
 
 -- a call: the number of the handler, its document, and the arguments
@@ -148,7 +149,7 @@ call_in guardians scope d = do
 abbrev pub callee : Items → Data → Option Data
 callee guardians d =
     option_and_then (λ parts. option_and_then (λ z. option_and_then (λ n. option_and_then (λ name. handler_found guardians n name)
-    (as_str parts.1)) (guardian_index (count_items guardians) z)) (int_of parts.0)) (option_and_then three_items (as_array d))
+    (as_str parts.1)) (guardian_index (items_len guardians) z)) (int_of parts.0)) (option_and_then three_items (as_array d))
 
 abbrev pub call_says_nothing : Option Data → Bool
 call_says_nothing None = false

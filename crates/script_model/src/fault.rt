@@ -1,6 +1,7 @@
-ghost use Rattle.std.specs.Prelude.{◌≡◌};
+ghost use Rattle.std.specs.Prelude.{◌≡◌, string_bytes};
 ghost use Rattle.script_model.specs.Faults.{fault_number};
 
+use std::alloc::{AllocError, AllocFailed};
 use std::fmt;
 use std::marker::Model;
 use thiserror::Error;
@@ -38,7 +39,7 @@ pub enum FaultKind {
 /// the empty text, and is printed as `/`.
 #[derive(Debug, Drop)]
 pub struct Pointer {
-    pub(crate) text: String,
+    text: String,
 }
 
 impl Model for Pointer {
@@ -47,6 +48,22 @@ impl Model for Pointer {
     ghost Value = { List ℕ };
 
     ghost view = { λ a. string_bytes a.text };
+}
+
+impl Pointer {
+    /// The place of this text.
+    pub fn new(text: String) -> Pointer
+        ensures { result ≡ string_bytes text }
+    {
+        Pointer { text }
+    }
+
+    /// Its text; the root's is empty.
+    pub fn as_str(&self) -> &str
+        ensures { result.now ≡ self.now }
+    {
+        self.text.as_str()
+    }
 }
 
 /// Why a script is not accepted.
@@ -103,5 +120,27 @@ impl fmt::Display for Pointer {
             return f.pad("/");
         }
         f.pad(self.text.as_str())
+    }
+}
+
+impl From<AllocError> for ScriptFault {
+    ghost use Rattle.std.specs.Prelude.{◌≡◌};
+    ghost use Rattle.script_model.specs.declared.fault.ScriptFault.TheVariants.{Memory};
+
+    ghost from_gives = { λ _ e. e ≡ Memory };
+
+    fn from(_refused: AllocError) -> ScriptFault {
+        ScriptFault::Memory
+    }
+}
+
+impl<T: Drop> From<AllocFailed<T>> for ScriptFault {
+    ghost use Rattle.std.specs.Prelude.{◌≡◌};
+    ghost use Rattle.script_model.specs.declared.fault.ScriptFault.TheVariants.{Memory};
+
+    ghost from_gives = { λ _ e. e ≡ Memory };
+
+    fn from(_refused: AllocFailed<T>) -> ScriptFault {
+        ScriptFault::Memory
     }
 }
