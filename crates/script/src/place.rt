@@ -6,6 +6,7 @@ use script_model::{FaultKind, Pointer, ScriptFault};
 use std::alloc::{AllocError, Global};
 
 /// Where a part stands in the document, from the root on.
+#[derive(Clone, Copy)]
 pub(crate) enum Place<'a> {
     Root,
     Member(&'a Place<'a>, &'a str),
@@ -75,7 +76,12 @@ impl<'a> Place<'a> {
     }
 
     /// What there is, or a fault of this kind here.
-    pub(crate) fn need<T: Drop>(&self, alloc: Global, found: Option<T>, kind: FaultKind) -> Result<T, ScriptFault>
+    pub(crate) fn need<T: Drop>(
+        &self,
+        alloc: Global,
+        found: Option<T>,
+        kind: FaultKind,
+    ) -> Result<T, ScriptFault>
         ensures { Answers (need found kind (pointer self.now)) result }
     {
         match found {

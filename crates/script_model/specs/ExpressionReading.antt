@@ -16,7 +16,7 @@ use Rattle.script_model.specs.declared.expression.Expr.{Expr}
 use Rattle.script_model.specs.declared.expression.Expr.TheVariants as expr
 use Rattle.script_model.specs.declared.expression.Condition.{Condition}
 use Rattle.script_model.specs.declared.expression.Condition.TheVariants as test
-use Rattle.script_model.specs.Reading.{Read, reads, fault, ask, need, at, ◌>>=◌, ◌>>◌}
+use Rattle.script_model.specs.Reading.{Read, reads, fault, ask, need, at, nth, ◌>>=◌, ◌>>◌}
 use Rattle.script_model.specs.Shapes.{two_items, the_string, the_pair}
 use Rattle.script_model.specs.Scopes.{Scope, Variable, find, agree, same_sort}
 
@@ -107,8 +107,8 @@ abbrev mutual
   two_operands make scope no_items = fault is.Shape
   two_operands make scope (item d no_items) = fault is.Shape
   two_operands make scope (item d (item e no_items)) = do
-    x ← at (codes "0") (int_expr scope d)
-    y ← at (codes "1") (int_expr scope e)
+    x ← nth 0 (int_expr scope d)
+    y ← nth 1 (int_expr scope e)
     reads (make x y)
   two_operands make scope (item d (item e (item f ds))) = fault is.Shape
 
@@ -143,14 +143,14 @@ value_expr scope d = expr_of_kind (kind_wanted (sort_of scope d)) scope d
 
 abbrev pub same_texts : Scope → Data × Data → Read Condition
 same_texts scope p = do
-  x ← at (codes "0") (text_expr scope p.0)
-  y ← at (codes "1") (text_expr scope p.1)
+  x ← nth 0 (text_expr scope p.0)
+  y ← nth 1 (text_expr scope p.1)
   reads (test.SameTexts x y)
 
 abbrev pub two_ints : (IntExpr → IntExpr → Condition) → Scope → Data × Data → Read Condition
 two_ints make scope p = do
-  x ← at (codes "0") (int_expr scope p.0)
-  y ← at (codes "1") (int_expr scope p.1)
+  x ← nth 0 (int_expr scope p.0)
+  y ← nth 1 (int_expr scope p.1)
   reads (make x y)
 
 -- both sides of an `eq` are of one kind, as far as it shows

@@ -1,5 +1,5 @@
 -- How operations are read.
-use Rattle.std.specs.Prelude.{ℕ, suc, List, [], ◌∷◌, ◌+◌, Bool, true, false, not, ◌==◌, codes, decimal, if◌then◌else◌, Option, Some, None, option_map, option_and_then, pos, slice_get, ℤ}
+use Rattle.std.specs.Prelude.{ℕ, suc, List, [], ◌∷◌, ◌+◌, Bool, true, false, not, ◌==◌, codes, if◌then◌else◌, Option, Some, None, option_map, option_and_then, pos, slice_get, ℤ}
 use Rattle.serde_json.specs.Events.{items_len}
 use Rattle.serde_json.specs.Data.{Data, array, Items, item}
 use Rattle.serde_json.specs.Find.{get_item, as_str}
@@ -18,7 +18,7 @@ use Rattle.script_model.specs.declared.names.Sort.{Sort}
 use Rattle.script_model.specs.declared.names.Sort.TheVariants.{Int, Truth}
 use Rattle.script_model.specs.declared.statement.Operation.{Operation}
 use Rattle.script_model.specs.declared.statement.Operation.TheVariants as op
-use Rattle.script_model.specs.Reading.{Read, reads, fault, ask, need, at, ◌>>=◌, ◌>>◌}
+use Rattle.script_model.specs.Reading.{Read, reads, fault, ask, need, nth, ◌>>=◌, ◌>>◌}
 use Rattle.script_model.specs.Shapes.{the_int, the_string}
 use Rattle.script_model.specs.Scopes.{Scope, sort_of_kind}
 use Rattle.script_model.specs.ExpressionReading.{int_expr, expr_of_kind}
@@ -75,11 +75,11 @@ Typed = Operation × Option Sort
 abbrev pub argument : {A : Type 0} → ℕ → (Data → Read A) → Items → Read A
 argument i read args = do
   d ← need (get_item i args) is.Arguments
-  at (decimal (i + 2)) (read d)
+  nth (i + 2) (read d)
 
 -- the object does not have the operation
 abbrev pub no_operation : Read Typed
-no_operation = at (codes "1") (fault is.Operation)
+no_operation = nth 1 (fault is.Operation)
 
 -- a field or a tag, and the kind of its value
 abbrev pub known : (List ℕ → Option Kind) → Data → Read (List ℕ × Kind)
@@ -173,8 +173,8 @@ abbrev pub operation : List Content → Scope → Data → Read (ℕ × Typed)
 operation objects scope d = do
   parts ← need (op_parts d) is.Shape
   ask (has_arity (op_in parts.1) parts.2) is.Arguments
-  object ← at (codes "0") (the_object_numbered objects parts.0)
-  n ← at (codes "1") (the_op_name parts.1)
+  object ← nth 0 (the_object_numbered objects parts.0)
+  n ← nth 1 (the_op_name parts.1)
   typed ← object_operation object.1 scope n parts.2
   reads (object.0, typed)
 

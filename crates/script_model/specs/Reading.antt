@@ -48,11 +48,14 @@ step place name = place ++ 47 ∷ name
 abbrev pub at : {A : Type 0} → List ℕ → Read A → Read A
 at name read = λ place. read (step place name)
 
+abbrev pub nth : {A : Type 0} → ℕ → Read A → Read A
+nth i read = at (decimal i) read
+
 -- each element of an array in turn, the first of which stands at this index
 abbrev pub each : {A : Type 0} → (Data → Read A) → ℕ → Items → Read (List A)
 each read i no_items = reads []
 each read i (item d ds) = do
-  x ← at (decimal i) (read d)
+  x ← nth i (read d)
   xs ← each read (suc i) ds
   reads (x ∷ xs)
 

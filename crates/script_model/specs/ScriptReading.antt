@@ -1,5 +1,5 @@
 -- How handlers, guardians, clients and whole scripts are read.
-use Rattle.std.specs.Prelude.{ℕ, suc, ◌+◌, List, [], ◌∷◌, ◌++◌, length, Bool, true, false, not, ◌&&◌, ◌||◌, nat_lt, is_some, codes, decimal, Option, Some, None, unwrap_or, slice_get}
+use Rattle.std.specs.Prelude.{ℕ, suc, ◌+◌, List, [], ◌∷◌, ◌++◌, length, Bool, true, false, not, ◌&&◌, ◌||◌, nat_lt, is_some, codes, Option, Some, None, unwrap_or, slice_get}
 use Rattle.serde_json.specs.Data.{Data, null, boolean, number, string, array, object, Items, no_items, item, Members, no_members, member}
 use Rattle.serde_json.specs.Find.{as_array, as_str}
 use Rattle.values.specs.Words.{same_bytes}
@@ -12,7 +12,7 @@ use Rattle.script_model.specs.declared.names.Sort.TheVariants.{Int, Text}
 use Rattle.script_model.specs.declared.checked.Handler.{Handler}
 use Rattle.script_model.specs.declared.checked.Client.{Client}
 use Rattle.script_model.specs.declared.checked.Checked.{Checked}
-use Rattle.script_model.specs.Reading.{Read, reads, ask, need, at, each, ◌>>=◌, ◌>>◌}
+use Rattle.script_model.specs.Reading.{Read, reads, ask, need, at, nth, each, ◌>>=◌, ◌>>◌}
 use Rattle.script_model.specs.Shapes.{the_object, the_two, the_three, the_pair, the_list, are_named, kind_in}
 use Rattle.script_model.specs.Scopes.{Scope, find, count_bound, sort_of_kind}
 use Rattle.script_model.specs.ContentReading.{content}
@@ -87,15 +87,15 @@ abbrev pub parameter : Scope → Data → Read Scope
 parameter scope d = do
   p ← the_pair d
   ask (not (is_repeated scope (as_str p.0))) is.Shape
-  name ← at (codes "0") (the_name p.0)
-  k ← at (codes "1") (need (kind_in p.1) is.Shape)
+  name ← nth 0 (the_name p.0)
+  k ← nth 1 (need (kind_in p.1) is.Shape)
   reads (record { name = name; sort = sort_of_kind k } ∷ scope)
 
 -- parameters, the first of which has this index
 abbrev pub parameters_from : ℕ → Scope → Items → Read Scope
 parameters_from i scope no_items = reads scope
 parameters_from i scope (item d ds) = do
-  after ← at (decimal i) (parameter scope d)
+  after ← nth i (parameter scope d)
   parameters_from (suc i) after ds
 
 abbrev pub parameters : Data → Read Scope
@@ -182,7 +182,7 @@ guardian guardians n first d = do
 abbrev pub guardians_from : Items → ℕ → ℕ → Items → Read Guardians
 guardians_from guardians i first no_items = reads (record { objects = []; handlers = [] })
 guardians_from guardians i first (item d ds) = do
-  g ← at (decimal i) (guardian guardians (suc i) first d)
+  g ← nth i (guardian guardians (suc i) first d)
   rest ← guardians_from guardians (suc i) (first + length g.1) ds
   reads (record { objects = g.0 ∷ rest.objects; handlers = g.1 ++ rest.handlers })
 

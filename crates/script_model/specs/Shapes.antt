@@ -1,5 +1,6 @@
 -- The shapes of a document's parts.
-use Rattle.std.specs.Prelude.{ℕ, ℤ, List, [], ◌∷◌, Bool, true, false, ◌&&◌, ◌||◌, nat_le, if◌then◌else◌, Option, Some, None, option_and_then, option_map}
+use Rattle.std.specs.Prelude.{ℕ, ℤ, List, [], ◌∷◌, Bool, true, ◌&&◌, nat_le, if◌then◌else◌, Option, Some, None, option_and_then, option_map}
+use Rattle.std.specs.List.{list_any}
 use Rattle.serde_json.specs.Data.{Data, Items, no_items, item, Members, no_members, member}
 use Rattle.serde_json.specs.Find.{get_member, as_number, as_str, as_array, as_object, as_i64}
 use Rattle.serde_json.specs.Events.{items_len}
@@ -29,8 +30,7 @@ the_int d = need (int_of d) Shape
 -- ---- objects
 
 abbrev pub is_among : List (List ℕ) → List ℕ → Bool
-is_among [] name = false
-is_among (n ∷ names) name = same_bytes n name || is_among names name
+is_among names name = list_any (λ n. same_bytes n name) names
 
 -- whether no member has another name than these
 abbrev pub has_only : List (List ℕ) → Members → Bool
@@ -57,6 +57,15 @@ the_two m n d = need (option_and_then (two_members m n) (as_object d)) Shape
 
 abbrev pub the_three : List ℕ → List ℕ → List ℕ → Data → Read (Data × Data × Data)
 the_three l m n d = need (option_and_then (three_members l m n) (as_object d)) Shape
+
+-- the one member of an object that has no other
+abbrev pub only_one : Members → Option (List ℕ × Data)
+only_one no_members = None
+only_one (member n d no_members) = Some (n, d)
+only_one (member n d (member m e ms)) = None
+
+abbrev pub only_member : Data → Option (List ℕ × Data)
+only_member d = option_and_then only_one (as_object d)
 
 -- ---- arrays
 

@@ -1,5 +1,5 @@
 -- How statements and bodies are read.
-use Rattle.std.specs.Prelude.{ℕ, zero, suc, pos, negsuc, ℤ, List, [], ◌∷◌, Bool, true, false, not, ◌&&◌, nat_le, is_some, is_none, codes, decimal, if◌then◌else◌, Option, Some, None, option_and_then}
+use Rattle.std.specs.Prelude.{ℕ, zero, suc, pos, negsuc, ℤ, List, [], ◌∷◌, Bool, true, false, not, ◌&&◌, nat_le, is_some, is_none, codes, if◌then◌else◌, Option, Some, None, option_and_then}
 use Rattle.serde_json.specs.Events.{items_len}
 use Rattle.serde_json.specs.Data.{Data, null, boolean, Items, no_items, item, Members}
 use Rattle.serde_json.specs.Find.{get_member, as_array, as_str}
@@ -20,7 +20,7 @@ use Rattle.script_model.specs.declared.statement.Statement.{Statement}
 use Rattle.script_model.specs.declared.statement.Statement.TheVariants.{Op, Call, Coenter, TopAction, If, Repeat, Abort, Return}
 use Rattle.script_model.specs.declared.statement.Arm.{Arm}
 use Rattle.script_model.specs.declared.statement.Arm.TheVariants as arm
-use Rattle.script_model.specs.Reading.{Read, reads, fault, ask, need, at, each, ◌>>=◌, ◌>>◌}
+use Rattle.script_model.specs.Reading.{Read, reads, fault, ask, need, at, nth, each, ◌>>=◌, ◌>>◌}
 use Rattle.script_model.specs.Shapes.{the_object, the_array, the_string, the_int, the_two, the_pair, the_triple, the_list, has_only, int_of, three_items}
 use Rattle.script_model.specs.Scopes.{Scope, Variable, find, count_bound, agree, sort_of_kind, binding_of, binding_again}
 use Rattle.script_model.specs.ExpressionReading.{sort_of, expr_of_kind, value_expr, condition}
@@ -94,7 +94,7 @@ op_statement inner cx scope ms d = do
   ask_value ms (op_gives_nothing d)
   o ← at (codes "op") (operation cx.objects scope d)
   b ← bind scope o.1.1 ms
-  s ← signals inner cx scope ms
+  s ← signals inner cx b.1 ms
   reads (Op (record { object = o.0; operation = o.1.0; binding = b.0 }) s, b.1)
 
 -- ---- calls
@@ -125,7 +125,7 @@ argument_in scope (Some k) d = expr_of_kind k scope d
 abbrev pub arguments_from : Scope → Data → ℕ → Items → Read Arguments
 arguments_from scope handler i no_items = reads (record { ints = []; texts = [] })
 arguments_from scope handler i (item d ds) = do
-  e ← at (decimal i) (argument_in scope (wanted_kind handler i) d)
+  e ← nth i (argument_in scope (wanted_kind handler i) d)
   rest ← arguments_from scope handler (suc i) ds
   reads (with_argument e rest)
 
@@ -139,10 +139,10 @@ arguments_in scope handler d = do
 abbrev pub call_in : Items → Scope → Data → Read (ℕ × Data × Arguments)
 call_in guardians scope d = do
   parts ← the_triple d
-  n ← at (codes "0") (the_guardian guardians parts.0)
-  name ← at (codes "1") (the_string parts.1)
-  handler ← at (codes "1") (need (handler_found guardians n name) is.Handler)
-  arguments ← at (codes "2") (arguments_in scope handler parts.2)
+  n ← nth 0 (the_guardian guardians parts.0)
+  name ← nth 1 (the_string parts.1)
+  handler ← nth 1 (need (handler_found guardians n name) is.Handler)
+  arguments ← nth 2 (arguments_in scope handler parts.2)
   reads (handler_number guardians n name, handler, arguments)
 
 -- the document of the handler that is called, where there is one
@@ -163,7 +163,7 @@ call_statement inner cx scope ms d = do
   ask_value ms (call_gives_nothing cx.guardians d)
   c ← at (codes "call") (call_in cx.guardians scope d)
   b ← bind scope (sort_given (handler_gives c.1)) ms
-  s ← signals inner cx scope ms
+  s ← signals inner cx b.1 ms
   reads (Call (record { handler = c.0; ints = c.2.ints; texts = c.2.texts; binding = b.0 }) s, b.1)
 
 -- ---- statements with bodies
@@ -205,9 +205,9 @@ top_action inner cx scope ms d = do
 abbrev pub if_in : BodyReading → Context → Scope → Data → Read Statement
 if_in inner cx scope d = do
   parts ← the_triple d
-  test ← at (codes "0") (condition scope parts.0)
-  first ← at (codes "1") (inner cx scope parts.1)
-  second ← at (codes "2") (inner cx scope parts.2)
+  test ← nth 0 (condition scope parts.0)
+  first ← nth 1 (inner cx scope parts.1)
+  second ← nth 2 (inner cx scope parts.2)
   reads (If test first second)
 
 -- how often a `repeat` turns at most
@@ -221,9 +221,9 @@ turns_of (negsuc n) = None
 abbrev pub repeat_in : BodyReading → Context → Scope → Data → Read Statement
 repeat_in inner cx scope d = do
   parts ← the_pair d
-  z ← at (codes "0") (the_int parts.0)
-  n ← at (codes "0") (need (turns_of z) is.Limit)
-  body ← at (codes "1") (inner cx scope parts.1)
+  z ← nth 0 (the_int parts.0)
+  n ← nth 0 (need (turns_of z) is.Limit)
+  body ← nth 1 (inner cx scope parts.1)
   reads (Repeat n body)
 
 -- ---- endings
@@ -298,7 +298,7 @@ statement inner cx scope d = the_object d >>= statement_of inner cx scope
 abbrev pub statements : BodyReading → Context → ℕ → Scope → Items → Read Body
 statements inner cx i scope no_items = reads []
 statements inner cx i scope (item d ds) = do
-  s ← at (decimal i) (statement inner cx scope d)
+  s ← nth i (statement inner cx scope d)
   rest ← statements inner cx (suc i) s.1 ds
   reads (s.0 ∷ rest)
 
