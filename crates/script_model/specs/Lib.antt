@@ -9,3 +9,4 @@ pub mod OperationReading
 pub mod StatementReading
 pub mod ScriptReading
 pub mod Reaching
+pub mod Resolved
