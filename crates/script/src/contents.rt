@@ -65,10 +65,10 @@ fn ask_names(
     place.ask(alloc, fits, FaultKind::Limit)
 }
 
-fn fields_in(
+fn fields_in<'x>(
     alloc: Global,
-    place: &Place<'_>,
-    members: &Map<String, Json>,
+    place: &'x Place<'x>,
+    members: &'x Map<String, Json>,
 ) -> Result<Vec<Field>, ScriptFault> {
     let mut fields = Vec::with_capacity(alloc, members.len())?;
     for (name, json) in members.iter() {
@@ -132,7 +132,7 @@ fn array_in(alloc: Global, place: &Place<'_>, json: &Json) -> Result<Content, Sc
     }
 }
 
-fn tags_in(alloc: Global, place: &Place<'_>, json: &Json) -> Result<Vec<Tag>, ScriptFault> {
+fn tags_in<'x>(alloc: Global, place: &'x Place<'x>, json: &'x Json) -> Result<Vec<Tag>, ScriptFault> {
     let members = object(alloc, place, json)?;
     ask_names(alloc, place, MAX_TAGS, members)?;
     let mut tags = Vec::with_capacity(alloc, members.len())?;

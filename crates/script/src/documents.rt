@@ -66,7 +66,7 @@ fn parameters<'j>(
     let documents = list(alloc, place, json, 0, MAX_PARAMS)?;
     let mut scope = Scope::new(alloc);
     for (i, document) in documents.iter().enumerate() {
-        add_parameter(alloc, &place.item(i), &mut scope, document)?;
+        add_parameter(alloc, &(&*place).item(i), &mut scope, document)?;
     }
     Ok(scope)
 }
@@ -126,7 +126,7 @@ impl<'a, 'j> Site<'a, 'j> {
     /// Adds this guardian's handlers to those of the guardians before it.
     fn add_handlers(
         self,
-        place: &Place<'_>,
+        place: &'j Place<'j>,
         json: &'j Json,
         handlers: &mut Items<Handler>,
     ) -> Result<(), ScriptFault> {
@@ -197,7 +197,7 @@ fn guardians_in<'j>(
     };
     let mut number = 0;
     for document in documents {
-        let place = place.item(number as usize);
+        let place = (&*place).item(number as usize);
         number += 1;
         guardians.add(alloc, &place, signatures, number, document)?;
     }

@@ -1,3 +1,11 @@
+ghost use Rattle.std.specs.Prelude.{◌≡◌, MatchOption};
+ghost use Rattle.serde_json.specs.View.{view};
+ghost use Rattle.script_model.specs.Reading.{Answers};
+ghost use Rattle.script_model.specs.Scopes.{find, agree};
+ghost use Rattle.script_model.specs.ExpressionReading as spec;
+ghost use Rattle.script.specs.Places.{pointer, AnswersBy};
+ghost use Rattle.script.specs.Scoping.{variable_of};
+
 use crate::place::Place;
 use crate::scope::{Scope, Variable};
 use crate::shapes::{array, only_member, pair, string};
@@ -8,11 +16,9 @@ use std::alloc::Global;
 use values::{Kind, Text, ValueFault};
 
 /// A text of at most 1,024 bytes.
-pub(crate) fn short_text(
-    alloc: Global,
-    place: &Place<'_>,
-    text: &str,
-) -> Result<Text, ScriptFault> {
+pub(crate) fn short_text(alloc: Global, place: &Place<'_>, text: &str) -> Result<Text, ScriptFault>
+    ensures { Answers (spec.short_text text.now (pointer place.now)) result }
+{
     match Text::new(alloc, text) {
         Ok(short) => Ok(short),
         Err(ValueFault::Unfit) => Err(place.fault(alloc, FaultKind::Limit)),
@@ -20,14 +26,18 @@ pub(crate) fn short_text(
     }
 }
 
-fn is_pair(json: &Json) -> bool {
+fn is_pair(json: &Json) -> bool
+    ensures { result ≡ spec.is_pair (view json.now) }
+{
     match json.as_array() {
         Some(items) => items.len() == 2,
         None => false,
     }
 }
 
-fn sort_of_variable(scope: &Scope<'_>, json: &Json) -> Sort {
+fn sort_of_variable(scope: &Scope<'_>, json: &Json) -> Sort
+    ensures { result ≡ spec.sort_of_variable scope.now (view json.now) }
+{
     match json.as_str() {
         Some(name) => match scope.find(name) {
             Some(variable) => variable.sort,
@@ -38,7 +48,9 @@ fn sort_of_variable(scope: &Scope<'_>, json: &Json) -> Sort {
 }
 
 /// The sort of an expression, as it shows before its parts are read.
-pub(crate) fn sort_of(scope: &Scope<'_>, json: &Json) -> Sort {
+pub(crate) fn sort_of(scope: &Scope<'_>, json: &Json) -> Sort
+    ensures { result ≡ spec.sort_of scope.now (view json.now) }
+{
     match json {
         Json::Number(number) => match number.as_i64() {
             Some(_) => Sort::Int,
@@ -59,7 +71,9 @@ fn variable(
     place: &Place<'_>,
     scope: &Scope<'_>,
     json: &Json,
-) -> Result<Variable, ScriptFault> {
+) -> Result<Variable, ScriptFault>
+    ensures { AnswersBy variable_of (spec.variable scope.now (view json.now) (pointer place.now)) result }
+{
     let name = string(alloc, &place.member("var"), json)?;
     match scope.find(name) {
         Some(variable) => Ok(variable),
@@ -72,7 +86,9 @@ fn int_variable(
     place: &Place<'_>,
     scope: &Scope<'_>,
     json: &Json,
-) -> Result<IntExpr, ScriptFault> {
+) -> Result<IntExpr, ScriptFault>
+    ensures { Answers (spec.int_variable scope.now (view json.now) (pointer place.now)) result }
+{
     let variable = variable(alloc, place, scope, json)?;
     match variable.sort {
         Sort::Int => Ok(IntExpr::Variable(variable.place)),
@@ -86,7 +102,9 @@ fn text_variable(
     place: &Place<'_>,
     scope: &Scope<'_>,
     json: &Json,
-) -> Result<TextExpr, ScriptFault> {
+) -> Result<TextExpr, ScriptFault>
+    ensures { Answers (spec.text_variable scope.now (view json.now) (pointer place.now)) result }
+{
     let variable = variable(alloc, place, scope, json)?;
     match variable.sort {
         Sort::Text => Ok(TextExpr::Variable(variable.place)),
@@ -100,7 +118,9 @@ fn truth_variable(
     place: &Place<'_>,
     scope: &Scope<'_>,
     json: &Json,
-) -> Result<Condition, ScriptFault> {
+) -> Result<Condition, ScriptFault>
+    ensures { Answers (spec.truth_variable scope.now (view json.now) (pointer place.now)) result }
+{
     let variable = variable(alloc, place, scope, json)?;
     match variable.sort {
         Sort::Truth => Ok(Condition::Truth(variable.place)),
@@ -116,7 +136,9 @@ pub(crate) fn int_expr(
     place: &Place<'_>,
     scope: &Scope<'_>,
     json: &Json,
-) -> Result<IntExpr, ScriptFault> {
+) -> Result<IntExpr, ScriptFault>
+    ensures { Answers (spec.int_expr scope.now (view json.now) (pointer place.now)) result }
+{
     match json {
         Json::Number(number) => match number.as_i64() {
             Some(number) => Ok(IntExpr::Literal(number)),
@@ -144,10 +166,12 @@ fn int_operands(
     place: &Place<'_>,
     scope: &Scope<'_>,
     json: &Json,
-) -> Result<(IntExpr, IntExpr), ScriptFault> {
+) -> Result<(IntExpr, IntExpr), ScriptFault>
+    ensures { Answers (spec.int_operands scope.now (view json.now) (pointer place.now)) result }
+{
     let (first, second) = pair(alloc, place, json)?;
-    let x = int_expr(alloc, &place.item(0), scope, first)?;
-    let y = int_expr(alloc, &place.item(1), scope, second)?;
+    let x = int_expr(alloc, &(&*place).item(0), scope, first)?;
+    let y = int_expr(alloc, &(&*place).item(1), scope, second)?;
     Ok((x, y))
 }
 
@@ -157,7 +181,9 @@ pub(crate) fn text_expr(
     place: &Place<'_>,
     scope: &Scope<'_>,
     json: &Json,
-) -> Result<TextExpr, ScriptFault> {
+) -> Result<TextExpr, ScriptFault>
+    ensures { Answers (spec.text_expr scope.now (view json.now) (pointer place.now)) result }
+{
     match json {
         Json::String(text) => Ok(TextExpr::Literal(short_text(alloc, place, text.as_str())?)),
         Json::Number(number) => match number.as_i64() {
@@ -185,7 +211,9 @@ pub(crate) fn expr_of_kind(
     scope: &Scope<'_>,
     kind: Kind,
     json: &Json,
-) -> Result<Expr, ScriptFault> {
+) -> Result<Expr, ScriptFault>
+    ensures { Answers (spec.expr_of_kind kind scope.now (view json.now) (pointer place.now)) result }
+{
     match kind {
         Kind::Int => Ok(Expr::Int(int_expr(alloc, place, scope, json)?)),
         Kind::Text => Ok(Expr::Text(text_expr(alloc, place, scope, json)?)),
@@ -198,7 +226,9 @@ pub(crate) fn value_expr(
     place: &Place<'_>,
     scope: &Scope<'_>,
     json: &Json,
-) -> Result<Expr, ScriptFault> {
+) -> Result<Expr, ScriptFault>
+    ensures { Answers (spec.value_expr scope.now (view json.now) (pointer place.now)) result }
+{
     match sort_of(scope, json) {
         Sort::Text => expr_of_kind(alloc, place, scope, Kind::Text, json),
         _ => expr_of_kind(alloc, place, scope, Kind::Int, json),
@@ -206,7 +236,9 @@ pub(crate) fn value_expr(
 }
 
 /// Whether what has one sort may stand where the other is wanted: also where one is unknown.
-pub(crate) fn agree(one: Sort, other: Sort) -> bool {
+pub(crate) fn agree(one: Sort, other: Sort) -> bool
+    ensures { result ≡ agree one other }
+{
     one == other || one == Sort::Unknown || other == Sort::Unknown
 }
 
@@ -215,7 +247,9 @@ fn equal(
     place: &Place<'_>,
     scope: &Scope<'_>,
     json: &Json,
-) -> Result<Condition, ScriptFault> {
+) -> Result<Condition, ScriptFault>
+    ensures { Answers (spec.equal scope.now (view json.now) (pointer place.now)) result }
+{
     let inside = place.member("eq");
     let (first, second) = pair(alloc, &inside, json)?;
     let one = sort_of(scope, first);
@@ -236,7 +270,9 @@ fn less(
     place: &Place<'_>,
     scope: &Scope<'_>,
     json: &Json,
-) -> Result<Condition, ScriptFault> {
+) -> Result<Condition, ScriptFault>
+    ensures { Answers (spec.less scope.now (view json.now) (pointer place.now)) result }
+{
     let (x, y) = int_operands(alloc, &place.member("lt"), scope, json)?;
     Ok(Condition::Less(x, y))
 }
@@ -247,7 +283,9 @@ pub(crate) fn condition(
     place: &Place<'_>,
     scope: &Scope<'_>,
     json: &Json,
-) -> Result<Condition, ScriptFault> {
+) -> Result<Condition, ScriptFault>
+    ensures { Answers (spec.condition scope.now (view json.now) (pointer place.now)) result }
+{
     match only_member(json) {
         Some(("var", name)) => truth_variable(alloc, place, scope, name),
         Some(("eq", operands)) => equal(alloc, place, scope, operands),

@@ -185,7 +185,7 @@ impl<'a, 'j> Context<'a, 'j> {
         let mut ints = Items::new(self.alloc);
         let mut texts = Items::new(self.alloc);
         for (i, document) in documents.iter().enumerate() {
-            match self.argument(&place.item(i), scope, handler, i, document)? {
+            match self.argument(&(&*place).item(i), scope, handler, i, document)? {
                 Expr::Int(expr) => ints.push(expr)?,
                 Expr::Text(expr) => texts.push(expr)?,
             }

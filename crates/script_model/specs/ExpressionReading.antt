@@ -71,7 +71,22 @@ truth_at Truth place = reads (test.Truth place)
 truth_at Unknown place = reads (test.Less (int.Literal (pos 0)) (int.Literal (pos 0)))
 truth_at _ place = fault is.Kind
 
+abbrev pub int_variable : Scope → Data → Read IntExpr
+int_variable scope d = variable scope d >>= λ v. int_at v.sort v.place
+
+abbrev pub text_variable : Scope → Data → Read TextExpr
+text_variable scope d = variable scope d >>= λ v. text_at v.sort v.place
+
+abbrev pub truth_variable : Scope → Data → Read Condition
+truth_variable scope d = variable scope d >>= λ v. truth_at v.sort v.place
+
 -- ---- expressions
+
+abbrev pub sum_of : IntExpr × IntExpr → Read IntExpr
+sum_of p = reads (int.Sum p.0 p.1)
+
+abbrev pub difference_of : IntExpr × IntExpr → Read IntExpr
+difference_of p = reads (int.Difference p.0 p.1)
 
 abbrev pub int_literal : Option ℤ → Read IntExpr
 int_literal None = fault is.Shape
@@ -90,27 +105,28 @@ abbrev mutual
   pub int_of_members : Scope → Members → Read IntExpr
   int_of_members scope no_members = fault is.Shape
   int_of_members scope (member name d no_members) =
-      if same_bytes name (codes "var") then (variable scope d >>= λ v. int_at v.sort v.place)
-      else (if same_bytes name (codes "add") then at name (operands int.Sum scope d)
-      else (if same_bytes name (codes "sub") then at name (operands int.Difference scope d) else fault is.Shape))
+      if same_bytes name (codes "var") then int_variable scope d
+      else (if same_bytes name (codes "add") then (at name (int_operands scope d) >>= sum_of)
+      else (if same_bytes name (codes "sub") then (at name (int_operands scope d) >>= difference_of) else fault is.Shape))
   int_of_members scope (member name d (member other e ms)) = fault is.Shape
 
-  pub operands : (IntExpr → IntExpr → IntExpr) → Scope → Data → Read IntExpr
-  operands make scope null = fault is.Shape
-  operands make scope (boolean b) = fault is.Shape
-  operands make scope (number n) = fault is.Shape
-  operands make scope (string s) = fault is.Shape
-  operands make scope (array ds) = two_operands make scope ds
-  operands make scope (object ms) = fault is.Shape
+  -- the two operands of a sum or a difference
+  pub int_operands : Scope → Data → Read (IntExpr × IntExpr)
+  int_operands scope null = fault is.Shape
+  int_operands scope (boolean b) = fault is.Shape
+  int_operands scope (number n) = fault is.Shape
+  int_operands scope (string s) = fault is.Shape
+  int_operands scope (array ds) = two_ints scope ds
+  int_operands scope (object ms) = fault is.Shape
 
-  pub two_operands : (IntExpr → IntExpr → IntExpr) → Scope → Items → Read IntExpr
-  two_operands make scope no_items = fault is.Shape
-  two_operands make scope (item d no_items) = fault is.Shape
-  two_operands make scope (item d (item e no_items)) = do
+  pub two_ints : Scope → Items → Read (IntExpr × IntExpr)
+  two_ints scope no_items = fault is.Shape
+  two_ints scope (item d no_items) = fault is.Shape
+  two_ints scope (item d (item e no_items)) = do
     x ← nth 0 (int_expr scope d)
     y ← nth 1 (int_expr scope e)
-    reads (make x y)
-  two_operands make scope (item d (item e (item f ds))) = fault is.Shape
+    reads (x, y)
+  two_ints scope (item d (item e (item f ds))) = fault is.Shape
 
 -- an expression that is to give a text
 abbrev pub text_expr : Scope → Data → Read TextExpr
@@ -119,7 +135,7 @@ text_expr scope (string s) = do
   reads (text.Literal short)
 text_expr scope (number n) = if is_some (as_i64 n) then fault is.Kind else fault is.Shape
 text_expr scope (object (member name d no_members)) =
-    if same_bytes name (codes "var") then (variable scope d >>= λ v. text_at v.sort v.place)
+    if same_bytes name (codes "var") then text_variable scope d
     else (if is_sum name then (if is_pair d then fault is.Kind else at name (fault is.Shape)) else fault is.Shape)
 text_expr scope _ = fault is.Shape
 
@@ -147,11 +163,11 @@ same_texts scope p = do
   y ← nth 1 (text_expr scope p.1)
   reads (test.SameTexts x y)
 
-abbrev pub two_ints : (IntExpr → IntExpr → Condition) → Scope → Data × Data → Read Condition
-two_ints make scope p = do
+abbrev pub same_ints : Scope → Data × Data → Read Condition
+same_ints scope p = do
   x ← nth 0 (int_expr scope p.0)
   y ← nth 1 (int_expr scope p.1)
-  reads (make x y)
+  reads (test.SameInts x y)
 
 -- both sides of an `eq` are of one kind, as far as it shows
 abbrev pub equal : Scope → Data → Read Condition
@@ -160,14 +176,16 @@ equal scope d = do
   let s = sort_of scope p.0
   let t = sort_of scope p.1
   ask (agree s t) is.Kind
-  at (codes "eq") (if same_sort s Text || same_sort t Text then same_texts scope p else two_ints test.SameInts scope p)
+  at (codes "eq") (if same_sort s Text || same_sort t Text then same_texts scope p else same_ints scope p)
 
 abbrev pub less : Scope → Data → Read Condition
-less scope d = at (codes "lt") (the_pair d >>= two_ints test.Less scope)
+less scope d = do
+  p ← at (codes "lt") (int_operands scope d)
+  reads (test.Less p.0 p.1)
 
 abbrev pub condition : Scope → Data → Read Condition
 condition scope (object (member name d no_members)) =
-    if same_bytes name (codes "var") then (variable scope d >>= λ v. truth_at v.sort v.place)
+    if same_bytes name (codes "var") then truth_variable scope d
     else (if same_bytes name (codes "eq") then equal scope d
     else (if same_bytes name (codes "lt") then less scope d else fault is.Shape))
 condition scope _ = fault is.Shape
