@@ -1,3 +1,8 @@
+ghost use Rattle.std.specs.Prelude.{◌≡◌, ◌≢◌, ℕ, List, ◌<◌, ◌≤◌, length, true, Contains, OnOk, IfOk, IsTrue, ◌↔◌};
+ghost use Rattle.script_model.specs.Reaching.{called, called_by, Reaches, handler_place};
+ghost use Rattle.script_model.specs.declared.checked.Handler.{Handler};
+ghost use Rattle.script.specs.Marks.{Marks, IsTable, called_if_any, called_in_arm, IsAsked};
+
 use crate::place::Place;
 use script_model::{Arm, Checked, FaultKind, Handler, ScriptFault, Statement};
 use sqlite_items::Items;
@@ -5,67 +10,80 @@ use std::alloc::{AllocError, Global};
 
 /// Marks each handler that the statements call.
 #[cycle(mark)]
-fn mark_calls(statements: &[Statement], called: &mut [bool]) {
+fn mark_calls(statements: &[Statement], marks: &mut [bool])
+    ensures { Marks (called statements.now) marks.old marks.new }
+{
     for statement in statements {
-        mark_statement(statement, called);
+        mark_statement(statement, marks);
     }
 }
 
 #[cycle(mark)]
-fn mark_if_any(statements: &Option<Items<Statement>>, called: &mut [bool]) {
+fn mark_if_any(statements: &Option<Items<Statement>>, marks: &mut [bool])
+    ensures { Marks (called_if_any statements.now) marks.old marks.new }
+{
     if let Some(statements) = statements {
-        mark_calls(statements.as_slice(), called);
+        mark_calls(statements.as_slice(), marks);
     }
 }
 
 #[cycle(mark)]
-fn mark_statement(statement: &Statement, called: &mut [bool]) {
+fn mark_statement(statement: &Statement, marks: &mut [bool])
+    ensures { Marks (called_by statement.now) marks.old marks.new }
+{
     match statement {
-        Statement::Op(_, signals) => mark_if_any(signals, called),
+        Statement::Op(_, signals) => mark_if_any(signals, marks),
         Statement::Call(call, signals) => {
-            if let Some(mark) = called.get_mut(call.handler as usize) {
+            if let Some(mark) = marks.get_mut(call.handler as usize) {
                 *mark = true;
             }
-            mark_if_any(signals, called);
+            mark_if_any(signals, marks);
         }
         Statement::Coenter(arms) => {
             for arm in arms.as_slice() {
-                mark_arm(arm, called);
+                mark_arm(arm, marks);
             }
         }
         Statement::TopAction(body, signals) => {
-            mark_calls(body.as_slice(), called);
-            mark_calls(signals.as_slice(), called);
+            mark_calls(body.as_slice(), marks);
+            mark_calls(signals.as_slice(), marks);
         }
         Statement::If(_, first, second) => {
-            mark_calls(first.as_slice(), called);
-            mark_calls(second.as_slice(), called);
+            mark_calls(first.as_slice(), marks);
+            mark_calls(second.as_slice(), marks);
         }
-        Statement::Repeat(_, body) => mark_calls(body.as_slice(), called),
+        Statement::Repeat(_, body) => mark_calls(body.as_slice(), marks),
         Statement::Abort | Statement::Return(_) => {}
     }
 }
 
 #[cycle(mark)]
-fn mark_arm(arm: &Arm, called: &mut [bool]) {
+fn mark_arm(arm: &Arm, marks: &mut [bool])
+    ensures { Marks (called_in_arm arm.now) marks.old marks.new }
+{
     match arm {
-        Arm::Sub(body) | Arm::Top(body) => mark_calls(body.as_slice(), called),
+        Arm::Sub(body) | Arm::Top(body) => mark_calls(body.as_slice(), marks),
     }
 }
 
 /// For each handler, which handlers it calls.
-fn call_table(alloc: Global, handlers: &[Handler]) -> Result<Vec<Vec<bool>>, AllocError> {
+fn call_table(alloc: Global, handlers: &[Handler]) -> Result<Vec<Vec<bool>>, AllocError>
+    ensures { IfOk result (λ table. IsTable handlers.now table.items) }
+{
     let mut table = Vec::with_capacity(alloc, handlers.len())?;
     for handler in handlers {
-        let mut called = vec![in alloc; false; handlers.len()]?;
-        mark_calls(handler.body.as_slice(), &mut called);
-        table.push(called)?;
+        let mut marks = vec![in alloc; false; handlers.len()]?;
+        mark_calls(handler.body.as_slice(), &mut marks);
+        table.push(marks)?;
     }
     Ok(table)
 }
 
 /// Whether the handler of this number can reach itself by calls.
-fn reaches_itself(alloc: Global, table: &[Vec<bool>], start: usize) -> Result<bool, AllocError> {
+fn reaches_itself(alloc: Global, table: &[Vec<bool>], start: usize) -> Result<bool, AllocError>
+    requires { start < length table.now }
+    ensures { (hs : List Handler) → IsTable hs table.now → IfOk result (λ yes. IsTrue yes ↔ Reaches hs start start) }
+{
     let mut reached = vec![in alloc; false; table.len()]?;
     let mut left = Vec::new(alloc);
     left.push(start)?;
@@ -81,7 +99,10 @@ fn reaches_itself(alloc: Global, table: &[Vec<bool>], start: usize) -> Result<bo
 }
 
 /// Where a handler stands in the document.
-fn fault_at(alloc: Global, handler: &Handler) -> ScriptFault {
+fn fault_at(alloc: Global, handler: &Handler) -> ScriptFault
+    requires { 1 ≤ handler.now.guardian }
+    ensures { result ≢ ScriptFault.Memory → result ≡ ScriptFault.Bad FaultKind.Recursion (handler_place handler.now) }
+{
     let root = Place::Root;
     let guardians = root.member("guardians");
     let guardian = guardians.item(handler.guardian as usize - 1);
@@ -91,7 +112,10 @@ fn fault_at(alloc: Global, handler: &Handler) -> ScriptFault {
 }
 
 /// Asks that no handler can reach itself by calls.
-pub(crate) fn ask_endings(alloc: Global, script: &Checked) -> Result<(), ScriptFault> {
+pub(crate) fn ask_endings(alloc: Global, script: &Checked) -> Result<(), ScriptFault>
+    requires { (h : Handler) → Contains script.now.handlers h → 1 ≤ h.guardian }
+    ensures { IsAsked script.now result }
+{
     let handlers = script.handlers.as_slice();
     let table = call_table(alloc, handlers)?;
     for (number, handler) in handlers.iter().enumerate() {
