@@ -13,10 +13,10 @@ is_among-refs : (names : List (Bor (List ℕ))) (name : List ℕ) → is_among (
 is_among-refs [] name = refl
 is_among-refs (n ∷ names) name = rw (is_among-refs names name)
 
-pub has_only-members : (names : List (Bor (List ℕ))) (es : List Entry)
-    → has_only (map (λ n. n.now) names) (members_view es) ≡ list_all (λ k. list_any (λ n. same_bytes n.now (string_bytes k)) names) (keys_of es)
-has_only-members names [] = refl
-has_only-members names (e ∷ es) = rw (is_among-refs names (string_bytes e.0), has_only-members names es)
+pub has_only-step : (names : List (Bor (List ℕ))) (e : Entry) (es : List Entry) (among : Bool) → among ≡ list_any (λ n. same_bytes n.now (string_bytes e.0)) names
+    → has_only (map (λ n. n.now) names) (members_view (e ∷ es)) ≡ (among && has_only (map (λ n. n.now) names) (members_view es))
+has_only-step names e es among tested =
+    ap (λ b. b && has_only (map (λ n. n.now) names) (members_view es)) (is_among-refs names (string_bytes e.0) ∙ sym tested)
 
 pub object_some : (d : Data) (ms : Members) → Some ms ≡ as_object d → d ≡ object ms
 object_some null ms e = cc
@@ -30,7 +30,3 @@ pub not_one : (es : List Entry) → (length es ≡ 1 → ⊥) → only_one (memb
 not_one [] h = refl
 not_one (e ∷ []) h = absurd (h refl)
 not_one (e ∷ f ∷ es) h = refl
-
-pub are_named-members : (es : List Entry) → are_named (members_view es) ≡ list_all (λ k. is_identifier (string_bytes k)) (keys_of es)
-are_named-members [] = refl
-are_named-members (e ∷ es) = rw (are_named-members es)

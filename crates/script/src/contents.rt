@@ -1,5 +1,6 @@
-ghost use Rattle.std.specs.Prelude.{◌≡◌, ◌<◌, ◌^◌, IfOk, IfErr};
+ghost use Rattle.std.specs.Prelude.{◌&&◌, nat_le, ◌≡◌, ◌<◌, ◌^◌, IfOk, IfErr};
 ghost use Rattle.serde_json.specs.View.{view, members_view, items_view};
+ghost use Rattle.serde_json.specs.Events.{members_len};
 ghost use Rattle.values.specs.Words.{IsIdentifier};
 ghost use Rattle.values.specs.Tags.{tag_kind};
 ghost use Rattle.script_model.specs.Reading.{Answers};
@@ -43,6 +44,18 @@ fn is_wanted(wanted: Option<Kind>, kind: Kind) -> bool
     }
 }
 
+fn text_in(
+    alloc: Global,
+    place: &Place<'_>,
+    wanted: Option<Kind>,
+    text: &str,
+) -> Result<Value, ScriptFault>
+    ensures { Answers (spec.text_value wanted text.now (pointer place.now)) result }
+{
+    place.ask(alloc, is_wanted(wanted, Kind::Text), FaultKind::Kind)?;
+    Ok(Value::Text(short_text(alloc, place, text)?))
+}
+
 /// A value of the kind that is wanted, or of either.
 fn value_in(
     alloc: Global,
@@ -60,12 +73,16 @@ fn value_in(
             place.ask(alloc, is_wanted(wanted, Kind::Int), FaultKind::Kind)?;
             Ok(Value::Int(number))
         }
-        Json::String(text) => {
-            place.ask(alloc, is_wanted(wanted, Kind::Text), FaultKind::Kind)?;
-            Ok(Value::Text(short_text(alloc, place, text.as_str())?))
-        }
+        Json::String(text) => text_in(alloc, place, wanted, text.as_str()),
         _ => Err(place.fault(alloc, FaultKind::Shape)),
     }
+}
+
+fn is_count(members: &Map<String, Json>, most: usize) -> bool
+    ensures { result ≡ (nat_le 1 (members_len (members_view members.now.entries)) && nat_le (members_len (members_view members.now.entries)) most) }
+{
+    let count = members.len();
+    1 <= count && count <= most
 }
 
 /// Asks that the members have names, and that they are 1 to so many.
@@ -78,8 +95,7 @@ fn ask_names(
     ensures { Answers (spec.ask_names most (members_view members.now.entries) (pointer place.now)) result }
 {
     place.ask(alloc, are_named(members), FaultKind::Shape)?;
-    let fits = 1 <= members.len() && members.len() <= most;
-    place.ask(alloc, fits, FaultKind::Limit)
+    place.ask(alloc, is_count(members, most), FaultKind::Limit)
 }
 
 fn fields_in<'x>(

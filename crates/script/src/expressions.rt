@@ -1,7 +1,7 @@
-ghost use Rattle.std.specs.Prelude.{◌≡◌, ◌≢◌};
+ghost use Rattle.std.specs.Prelude.{◌≡◌, ◌≢◌, ◌||◌};
 ghost use Rattle.serde_json.specs.View.{view};
 ghost use Rattle.script_model.specs.Reading.{Answers};
-ghost use Rattle.script_model.specs.Scopes.{find, agree};
+ghost use Rattle.script_model.specs.Scopes.{find, agree, same_sort};
 ghost use Rattle.script_model.specs.ExpressionReading as spec;
 ghost use Rattle.script_model.specs.ExpressionReading.{is_pair};
 ghost use Rattle.script.specs.Places.{pointer, AnswersBy};
@@ -300,6 +300,41 @@ pub(crate) fn agree(one: Sort, other: Sort) -> bool
     one == other || one == Sort::Unknown || other == Sort::Unknown
 }
 
+/// Whether one of both shows itself as a text.
+fn is_of_texts(one: Sort, other: Sort) -> bool
+    ensures { result ≡ (same_sort one Sort.Text || same_sort other Sort.Text) }
+{
+    one == Sort::Text || other == Sort::Text
+}
+
+fn same_texts(
+    alloc: Global,
+    place: &Place<'_>,
+    scope: &Scope<'_>,
+    first: &Json,
+    second: &Json,
+) -> Result<Condition, ScriptFault>
+    ensures { Answers (spec.same_texts scope.now (view first.now, view second.now) (pointer place.now)) result }
+{
+    let x = text_expr(alloc, &(&*place).item(0), scope, first)?;
+    let y = text_expr(alloc, &(&*place).item(1), scope, second)?;
+    Ok(Condition::SameTexts(x, y))
+}
+
+fn same_ints(
+    alloc: Global,
+    place: &Place<'_>,
+    scope: &Scope<'_>,
+    first: &Json,
+    second: &Json,
+) -> Result<Condition, ScriptFault>
+    ensures { Answers (spec.same_ints scope.now (view first.now, view second.now) (pointer place.now)) result }
+{
+    let x = int_expr(alloc, &(&*place).item(0), scope, first)?;
+    let y = int_expr(alloc, &(&*place).item(1), scope, second)?;
+    Ok(Condition::SameInts(x, y))
+}
+
 fn equal(
     alloc: Global,
     place: &Place<'_>,
@@ -313,14 +348,11 @@ fn equal(
     let one = sort_of(scope, first);
     let other = sort_of(scope, second);
     place.ask(alloc, agree(one, other), FaultKind::Kind)?;
-    if one == Sort::Text || other == Sort::Text {
-        let x = text_expr(alloc, &inside.item(0), scope, first)?;
-        let y = text_expr(alloc, &inside.item(1), scope, second)?;
-        return Ok(Condition::SameTexts(x, y));
+    if is_of_texts(one, other) {
+        same_texts(alloc, &inside, scope, first, second)
+    } else {
+        same_ints(alloc, &inside, scope, first, second)
     }
-    let x = int_expr(alloc, &inside.item(0), scope, first)?;
-    let y = int_expr(alloc, &inside.item(1), scope, second)?;
-    Ok(Condition::SameInts(x, y))
 }
 
 fn less(

@@ -121,18 +121,20 @@ impl<'j> Scope<'j> {
         ensures place { IfOk result (λ place. place ≡ count_bound sort self.old) }
     {
         let place = self.counts.of(sort);
-        let count = place.checked_add(1).ok_or(AllocError)?;
-        self.bound.push(Bound { name, sort })?;
-        if self
-            .variables
-            .insert(name, Variable { sort, place })
-            .is_err()
-        {
-            self.bound.pop();
+        let Some(count) = place.checked_add(1) else {
             return Err(AllocError);
+        };
+        self.bound.push(Bound { name, sort })?;
+        match self.variables.insert(name, Variable { sort, place }) {
+            Ok(_) => {
+                self.counts.set(sort, count);
+                Ok(place)
+            }
+            Err(_) => {
+                self.bound.pop();
+                Err(AllocError)
+            }
         }
-        self.counts.set(sort, count);
-        Ok(place)
     }
 
     /// Forgets the newest variable, where there is one.

@@ -30,16 +30,19 @@ abbrev pub int_value : Option ℤ → Read Value
 int_value None = fault is.Shape
 int_value (Some z) = reads (value.Int z)
 
+abbrev pub text_value : Option Kind → List ℕ → Read Value
+text_value wanted s = do
+  ask (is_wanted wanted kind.Text) is.Kind
+  short ← short_text s
+  reads (value.Text short)
+
 -- a value of a kind that is wanted
 abbrev pub value_in : Option Kind → Data → Read Value
 value_in wanted (number n) = do
   v ← int_value (as_i64 n)
   ask (is_wanted wanted kind.Int) is.Kind
   reads v
-value_in wanted (string s) = do
-  ask (is_wanted wanted kind.Text) is.Kind
-  short ← short_text s
-  reads (value.Text short)
+value_in wanted (string s) = text_value wanted s
 value_in wanted _ = fault is.Shape
 
 -- ---- records
