@@ -1,3 +1,11 @@
+ghost use Rattle.std.specs.Prelude.{◌≡◌, ◌<◌, ◌^◌, IfOk, IfErr};
+ghost use Rattle.serde_json.specs.View.{view, members_view, items_view};
+ghost use Rattle.values.specs.Words.{IsIdentifier};
+ghost use Rattle.values.specs.Tags.{tag_kind};
+ghost use Rattle.script_model.specs.Reading.{Answers};
+ghost use Rattle.script_model.specs.ContentReading as spec;
+ghost use Rattle.script.specs.Places.{pointer, AnswersBy};
+
 use crate::expressions::short_text;
 use crate::names::are_named;
 use crate::place::Place;
@@ -15,7 +23,10 @@ pub(crate) fn identifier(
     alloc: Global,
     place: &Place<'_>,
     text: &str,
-) -> Result<Identifier, ScriptFault> {
+) -> Result<Identifier, ScriptFault>
+    ensures read { IfOk result (λ name. name ≡ text.now) }
+    ensures refused { IfErr result (λ e. IsIdentifier text.now → e ≡ ScriptFault.Memory) }
+{
     match Identifier::parse(alloc, text) {
         Ok(identifier) => Ok(identifier),
         Err(ValueFault::Unfit) => Err(place.fault(alloc, FaultKind::Shape)),
@@ -23,7 +34,9 @@ pub(crate) fn identifier(
     }
 }
 
-fn is_wanted(wanted: Option<Kind>, kind: Kind) -> bool {
+fn is_wanted(wanted: Option<Kind>, kind: Kind) -> bool
+    ensures { result ≡ spec.is_wanted wanted kind }
+{
     match wanted {
         Some(wanted) => wanted == kind,
         None => true,
@@ -36,7 +49,9 @@ fn value_in(
     place: &Place<'_>,
     wanted: Option<Kind>,
     json: &Json,
-) -> Result<Value, ScriptFault> {
+) -> Result<Value, ScriptFault>
+    ensures { Answers (spec.value_in wanted (view json.now) (pointer place.now)) result }
+{
     match json {
         Json::Number(number) => {
             let Some(number) = number.as_i64() else {
@@ -59,7 +74,9 @@ fn ask_names(
     place: &Place<'_>,
     most: usize,
     members: &Map<String, Json>,
-) -> Result<(), ScriptFault> {
+) -> Result<(), ScriptFault>
+    ensures { Answers (spec.ask_names most (members_view members.now.entries) (pointer place.now)) result }
+{
     place.ask(alloc, are_named(members), FaultKind::Shape)?;
     let fits = 1 <= members.len() && members.len() <= most;
     place.ask(alloc, fits, FaultKind::Limit)
@@ -69,7 +86,9 @@ fn fields_in<'x>(
     alloc: Global,
     place: &'x Place<'x>,
     members: &'x Map<String, Json>,
-) -> Result<Vec<Field>, ScriptFault> {
+) -> Result<Vec<Field>, ScriptFault>
+    ensures { AnswersBy (λ v. v.items) (spec.fields_in (members_view members.now.entries) (pointer place.now)) result }
+{
     let mut fields = Vec::with_capacity(alloc, members.len())?;
     for (name, json) in members.iter() {
         let value = value_in(alloc, &place.member(name.as_str()), None, json)?;
@@ -79,7 +98,9 @@ fn fields_in<'x>(
     Ok(fields)
 }
 
-fn record_in(alloc: Global, place: &Place<'_>, json: &Json) -> Result<Content, ScriptFault> {
+fn record_in(alloc: Global, place: &Place<'_>, json: &Json) -> Result<Content, ScriptFault>
+    ensures { Answers (spec.record_in (view json.now) (pointer place.now)) result }
+{
     let members = object(alloc, place, json)?;
     ask_names(alloc, place, MAX_FIELDS, members)?;
     let fields = fields_in(alloc, place, members)?;
@@ -90,13 +111,18 @@ fn record_in(alloc: Global, place: &Place<'_>, json: &Json) -> Result<Content, S
 }
 
 /// Whether so many items from this index on lie within the bounds.
-fn is_low(low: i64, count: usize) -> bool {
+fn is_low(low: i64, count: usize) -> bool
+    requires { count < 2 ^ 63 }
+    ensures { result ≡ spec.is_low low count }
+{
     LEAST_INDEX <= low
         && low <= GREATEST_INDEX
         && (count == 0 || (count as u64) <= low.abs_diff(GREATEST_INDEX) + 1)
 }
 
-fn items_of(json: &Json) -> usize {
+fn items_of(json: &Json) -> usize
+    ensures { result ≡ spec.items_of (view json.now) }
+{
     match json.as_array() {
         Some(items) => items.len(),
         None => 0,
@@ -108,7 +134,9 @@ fn items_in(
     place: &Place<'_>,
     kind: Kind,
     json: &Json,
-) -> Result<Vec<Value>, ScriptFault> {
+) -> Result<Vec<Value>, ScriptFault>
+    ensures { AnswersBy (λ v. v.items) (spec.items_in kind (view json.now) (pointer place.now)) result }
+{
     let documents = list(alloc, place, json, 0, MAX_ITEMS)?;
     let mut items = Vec::with_capacity(alloc, documents.len())?;
     for (i, document) in documents.iter().enumerate() {
@@ -117,7 +145,9 @@ fn items_in(
     Ok(items)
 }
 
-fn array_in(alloc: Global, place: &Place<'_>, json: &Json) -> Result<Content, ScriptFault> {
+fn array_in(alloc: Global, place: &Place<'_>, json: &Json) -> Result<Content, ScriptFault>
+    ensures { Answers (spec.array_in (view json.now) (pointer place.now)) result }
+{
     let (documents, low, of) = three_members(alloc, place, json, ["items", "low", "of"])?;
     let kind = place
         .member("of")
@@ -132,7 +162,9 @@ fn array_in(alloc: Global, place: &Place<'_>, json: &Json) -> Result<Content, Sc
     }
 }
 
-fn tags_in<'x>(alloc: Global, place: &'x Place<'x>, json: &'x Json) -> Result<Vec<Tag>, ScriptFault> {
+fn tags_in<'x>(alloc: Global, place: &'x Place<'x>, json: &'x Json) -> Result<Vec<Tag>, ScriptFault>
+    ensures { AnswersBy (λ v. v.items) (spec.tag_list (view json.now) (pointer place.now)) result }
+{
     let members = object(alloc, place, json)?;
     ask_names(alloc, place, MAX_TAGS, members)?;
     let mut tags = Vec::with_capacity(alloc, members.len())?;
@@ -145,7 +177,9 @@ fn tags_in<'x>(alloc: Global, place: &'x Place<'x>, json: &'x Json) -> Result<Ve
     Ok(tags)
 }
 
-fn kind_under(tags: &[Tag], name: &str) -> Option<Kind> {
+fn kind_under(tags: &[Tag], name: &str) -> Option<Kind>
+    ensures { result ≡ tag_kind tags.now name.now }
+{
     for tag in tags {
         if tag.name.as_str() == name {
             return Some(tag.kind);
@@ -154,7 +188,9 @@ fn kind_under(tags: &[Tag], name: &str) -> Option<Kind> {
     None
 }
 
-fn variant_in(alloc: Global, place: &Place<'_>, json: &Json) -> Result<Content, ScriptFault> {
+fn variant_in(alloc: Global, place: &Place<'_>, json: &Json) -> Result<Content, ScriptFault>
+    ensures { Answers (spec.variant_in (view json.now) (pointer place.now)) result }
+{
     let (tag, kinds, held) = three_members(alloc, place, json, ["tag", "tags", "value"])?;
     let tags = tags_in(alloc, &place.member("tags"), kinds)?;
     let above = place.member("tag");
@@ -169,11 +205,9 @@ fn variant_in(alloc: Global, place: &Place<'_>, json: &Json) -> Result<Content, 
 }
 
 /// What an object holds at first.
-pub(crate) fn content(
-    alloc: Global,
-    place: &Place<'_>,
-    json: &Json,
-) -> Result<Content, ScriptFault> {
+pub(crate) fn content(alloc: Global, place: &Place<'_>, json: &Json) -> Result<Content, ScriptFault>
+    ensures { Answers (spec.content (view json.now) (pointer place.now)) result }
+{
     match only_member(json) {
         Some(("record", json)) => record_in(alloc, &place.member("record"), json),
         Some(("array", json)) => array_in(alloc, &place.member("array"), json),

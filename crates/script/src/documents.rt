@@ -1,3 +1,13 @@
+ghost use Rattle.std.specs.Prelude.{◌≡◌, ◌+◌, ◌++◌, ◌<◌, ◌^◌, [], ◌∷◌, length, OnOk};
+ghost use Rattle.serde_json.specs.View.{view, items_view, members_view};
+ghost use Rattle.values.specs.Words.{IsIdentifier};
+ghost use Rattle.script_model.specs.Reading.{Answers};
+ghost use Rattle.script_model.specs.StatementReading.{guardian_index};
+ghost use Rattle.script_model.specs.ScriptReading as spec;
+ghost use Rattle.script.specs.Places.{pointer, AnswersBy};
+ghost use Rattle.script.specs.Contexts.{context_of};
+ghost use Rattle.script.specs.Sites.{site_of, AnswersOnto, guardians_of};
+
 use crate::contents::{content, identifier};
 use crate::endings::may_lack_value;
 use crate::names::are_named;
@@ -35,7 +45,9 @@ struct Site<'a, 'j> {
     handlers: &'a Handlers<'j>,
 }
 
-fn is_repeated(scope: &Scope<'_>, json: &Json) -> bool {
+fn is_repeated(scope: &Scope<'_>, json: &Json) -> bool
+    ensures { result ≡ spec.is_repeated_in scope.now (view json.now) }
+{
     match json.as_str() {
         Some(name) => scope.find(name).is_some(),
         None => false,
@@ -47,7 +59,9 @@ fn add_parameter<'j>(
     place: &Place<'_>,
     scope: &mut Scope<'j>,
     json: &'j Json,
-) -> Result<(), ScriptFault> {
+) -> Result<(), ScriptFault>
+    ensures { AnswersBy (λ _. scope.new) (spec.parameter scope.old (view json.now) (pointer place.now)) result }
+{
     let (first, second) = pair(alloc, place, json)?;
     place.ask(alloc, !is_repeated(scope, first), FaultKind::Shape)?;
     let name = name(alloc, &place.item(0), first)?;
@@ -62,7 +76,9 @@ fn parameters<'j>(
     alloc: Global,
     place: &Place<'_>,
     json: &'j Json,
-) -> Result<Scope<'j>, ScriptFault> {
+) -> Result<Scope<'j>, ScriptFault>
+    ensures { Answers (spec.parameters (view json.now) (pointer place.now)) result }
+{
     let documents = list(alloc, place, json, 0, MAX_PARAMS)?;
     let mut scope = Scope::new(alloc);
     for (i, document) in documents.iter().enumerate() {
@@ -71,7 +87,9 @@ fn parameters<'j>(
     Ok(scope)
 }
 
-fn kind_given(gives: Gives) -> Option<Kind> {
+fn kind_given(gives: Gives) -> Option<Kind>
+    ensures { result ≡ spec.kind_given gives }
+{
     match gives {
         Gives::Value(kind) => Some(kind),
         Gives::Anything | Gives::Nothing => None,
@@ -79,7 +97,9 @@ fn kind_given(gives: Gives) -> Option<Kind> {
 }
 
 impl<'a, 'j> Site<'a, 'j> {
-    fn context(self, gives: Gives) -> Context<'a, 'j> {
+    fn context(self, gives: Gives) -> Context<'a, 'j>
+        ensures { context_of result ≡ spec.context_at (site_of self) gives }
+    {
         Context {
             alloc: self.alloc,
             objects: self.objects,
@@ -96,7 +116,9 @@ impl<'a, 'j> Site<'a, 'j> {
         place: &Place<'_>,
         name: &str,
         json: &'j Json,
-    ) -> Result<Handler, ScriptFault> {
+    ) -> Result<Handler, ScriptFault>
+        ensures { Answers (spec.handler (site_of self) number name.now (view json.now) (pointer place.now)) result }
+    {
         let (params, gives, body) = three_members(
             self.alloc,
             place,
@@ -129,7 +151,9 @@ impl<'a, 'j> Site<'a, 'j> {
         place: &'j Place<'j>,
         json: &'j Json,
         handlers: &mut Items<Handler>,
-    ) -> Result<(), ScriptFault> {
+    ) -> Result<(), ScriptFault>
+        ensures { AnswersOnto handlers.old handlers.new (spec.handlers (site_of self) (length handlers.old) (view json.now) (pointer place.now)) result }
+    {
         let members = object(self.alloc, place, json)?;
         place.ask(self.alloc, are_named(members), FaultKind::Shape)?;
         for (name, document) in members.iter() {
@@ -141,11 +165,9 @@ impl<'a, 'j> Site<'a, 'j> {
     }
 }
 
-fn objects_in(
-    alloc: Global,
-    place: &Place<'_>,
-    json: &Json,
-) -> Result<Items<Content>, ScriptFault> {
+fn objects_in(alloc: Global, place: &Place<'_>, json: &Json) -> Result<Items<Content>, ScriptFault>
+    ensures { Answers (spec.objects (view json.now) (pointer place.now)) result }
+{
     let documents = list(alloc, place, json, 0, MAX_OBJECTS)?;
     let mut contents = Items::new(alloc);
     for (i, document) in documents.iter().enumerate() {
@@ -170,7 +192,9 @@ impl Guardians {
         documents: &Handlers<'j>,
         number: u32,
         json: &'j Json,
-    ) -> Result<(), ScriptFault> {
+    ) -> Result<(), ScriptFault>
+        ensures { AnswersBy (λ _. guardians_of self.new) (spec.add_guardian documents.now number (guardians_of self.old) (view json.now) (pointer place.now)) result }
+    {
         let (contents, handlers) = two_members(alloc, place, json, "objects", "handlers")?;
         let contents = objects_in(alloc, &place.member("objects"), contents)?;
         let site = Site {
@@ -190,7 +214,9 @@ fn guardians_in<'j>(
     place: &Place<'_>,
     documents: &'j [Json],
     signatures: &Handlers<'j>,
-) -> Result<Guardians, ScriptFault> {
+) -> Result<Guardians, ScriptFault>
+    ensures { AnswersBy guardians_of (spec.guardians_in signatures.now (items_view documents.now) (pointer place.now)) result }
+{
     let mut guardians = Guardians {
         objects: Items::new(alloc),
         handlers: Items::new(alloc),
@@ -210,7 +236,9 @@ fn client_in<'j>(
     objects: &[Items<Content>],
     handlers: &Handlers<'j>,
     json: &'j Json,
-) -> Result<Client, ScriptFault> {
+) -> Result<Client, ScriptFault>
+    ensures { Answers (spec.client handlers.now objects.now (view json.now) (pointer place.now)) result }
+{
     let (home, body) = two_members(alloc, place, json, "home", "body")?;
     let index = guardian(alloc, &place.member("home"), handlers.guardians(), home)?;
     let objects = match objects.get(index) {
@@ -238,7 +266,9 @@ fn clients_in<'j>(
     objects: &[Items<Content>],
     handlers: &Handlers<'j>,
     json: &'j Json,
-) -> Result<Items<Client>, ScriptFault> {
+) -> Result<Items<Client>, ScriptFault>
+    ensures { Answers (spec.clients handlers.now objects.now (view json.now) (pointer place.now)) result }
+{
     let documents = list(alloc, place, json, 1, MAX_CLIENTS)?;
     let mut clients = Items::new(alloc);
     for (i, document) in documents.iter().enumerate() {
@@ -248,7 +278,9 @@ fn clients_in<'j>(
 }
 
 /// A script, but for handlers that can reach themselves.
-pub(crate) fn script(alloc: Global, json: &Json) -> Result<Checked, ScriptFault> {
+pub(crate) fn script(alloc: Global, json: &Json) -> Result<Checked, ScriptFault>
+    ensures { Answers (spec.script (view json.now) []) result }
+{
     let root = Place::Root;
     let (first, second) = two_members(alloc, &root, json, "guardians", "clients")?;
     let above = root.member("guardians");

@@ -1,10 +1,16 @@
+ghost use Rattle.std.specs.Prelude.{◌≡◌};
+ghost use Rattle.serde_json.specs.View.{view};
+ghost use Rattle.script_model.specs.ScriptReading as spec;
+
 use crate::shapes::member;
 use script_model::Gives;
 use serde_json::Value as Json;
 
 /// Whether a body cannot end but by its last statement: a `return`, an `abort`, or an `if` whose two bodies end so.
 #[cycle(ends)]
-pub(crate) fn ends(body: &Json) -> bool {
+pub(crate) fn ends(body: &Json) -> bool
+    ensures { result ≡ spec.ends (view body.now) }
+{
     let Some(statements) = body.as_array() else {
         return false;
     };
@@ -15,7 +21,9 @@ pub(crate) fn ends(body: &Json) -> bool {
 }
 
 #[cycle(ends)]
-fn is_end(statement: &Json) -> bool {
+fn is_end(statement: &Json) -> bool
+    ensures { result ≡ spec.is_end (view statement.now) }
+{
     let Some(members) = statement.as_object() else {
         return false;
     };
@@ -29,7 +37,9 @@ fn is_end(statement: &Json) -> bool {
 }
 
 #[cycle(ends)]
-fn branches_end(parts: &Json) -> bool {
+fn branches_end(parts: &Json) -> bool
+    ensures { result ≡ spec.branches_end (view parts.now) }
+{
     let Some(parts) = parts.as_array() else {
         return false;
     };
@@ -40,7 +50,9 @@ fn branches_end(parts: &Json) -> bool {
 }
 
 /// Whether a body that has to give a value can end without one.
-pub(crate) fn may_lack_value(gives: Option<Gives>, body: &Json) -> bool {
+pub(crate) fn may_lack_value(gives: Option<Gives>, body: &Json) -> bool
+    ensures { result ≡ spec.may_lack_value gives (view body.now) }
+{
     match gives {
         Some(Gives::Value(_)) => body.as_array().is_some() && !ends(body),
         _ => false,

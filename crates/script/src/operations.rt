@@ -1,3 +1,12 @@
+ghost use Rattle.std.specs.Prelude.{◌≡◌, option_map};
+ghost use Rattle.serde_json.specs.View.{view, items_view};
+ghost use Rattle.values.specs.Tags.{tag_kind};
+ghost use Rattle.script_model.specs.Reading.{Answers};
+ghost use Rattle.script_model.specs.Scopes.{sort_of_kind};
+ghost use Rattle.script_model.specs.ExpressionReading.{int_expr, expr_of_kind};
+ghost use Rattle.script_model.specs.OperationReading as spec;
+ghost use Rattle.script.specs.Places.{pointer, AnswersBy};
+
 use crate::contents::identifier;
 use crate::expressions::{expr_of_kind, int_expr};
 use crate::place::Place;
@@ -21,14 +30,18 @@ struct Arguments<'a, 'j> {
     documents: &'a [Json],
 }
 
-pub(crate) fn sort_of_kind(kind: Kind) -> Sort {
+pub(crate) fn sort_of_kind(kind: Kind) -> Sort
+    ensures { result ≡ sort_of_kind kind }
+{
     match kind {
         Kind::Int => Sort::Int,
         Kind::Text => Sort::Text,
     }
 }
 
-fn op_named(name: &str) -> Option<OpName> {
+fn op_named(name: &str) -> Option<OpName>
+    ensures { result ≡ spec.op_named name.now }
+{
     match name {
         "get" => Some(OpName::Get),
         "set" => Some(OpName::Set),
@@ -48,7 +61,9 @@ fn op_named(name: &str) -> Option<OpName> {
     }
 }
 
-fn arity(name: OpName) -> usize {
+fn arity(name: OpName) -> usize
+    ensures { result ≡ spec.arity name }
+{
     match name {
         OpName::Low | OpName::High | OpName::Size => 0,
         OpName::RemoveHigh | OpName::RemoveLow => 0,
@@ -58,31 +73,41 @@ fn arity(name: OpName) -> usize {
     }
 }
 
-fn gives_value(name: OpName) -> bool {
+fn gives_value(name: OpName) -> bool
+    ensures { result ≡ spec.gives_value name }
+{
     match name {
         OpName::Set | OpName::Store | OpName::AddHigh | OpName::AddLow | OpName::Change => false,
         _ => true,
     }
 }
 
-fn op_in(json: &Json) -> Option<OpName> {
+fn op_in(json: &Json) -> Option<OpName>
+    ensures { result ≡ spec.op_in (view json.now) }
+{
     op_named(json.as_str()?)
 }
 
 impl Arguments<'_, '_> {
-    fn document(&self, index: usize) -> Result<&Json, ScriptFault> {
+    fn document(&self, index: usize) -> Result<&Json, ScriptFault>
+        ensures { AnswersBy (λ d. view d.now) (spec.argument_at index (items_view self.now.documents.now) (pointer self.now.place.now)) result }
+    {
         match self.documents.get(index) {
             Some(json) => Ok(json),
             None => Err(self.place.fault(self.alloc, FaultKind::Arguments)),
         }
     }
 
-    fn int(&self, index: usize) -> Result<script_model::IntExpr, ScriptFault> {
+    fn int(&self, index: usize) -> Result<script_model::IntExpr, ScriptFault>
+        ensures { Answers (spec.argument index (int_expr self.now.scope.now) (items_view self.now.documents.now) (pointer self.now.place.now)) result }
+    {
         let json = self.document(index)?;
         int_expr(self.alloc, &self.place.item(index + 2), self.scope, json)
     }
 
-    fn value(&self, index: usize, kind: Kind) -> Result<script_model::Expr, ScriptFault> {
+    fn value(&self, index: usize, kind: Kind) -> Result<script_model::Expr, ScriptFault>
+        ensures { Answers (spec.argument index (expr_of_kind kind self.now.scope.now) (items_view self.now.documents.now) (pointer self.now.place.now)) result }
+    {
         let json = self.document(index)?;
         expr_of_kind(
             self.alloc,
@@ -94,11 +119,15 @@ impl Arguments<'_, '_> {
     }
 
     /// The object does not have the operation.
-    fn no_operation(&self) -> Result<Typed, ScriptFault> {
+    fn no_operation(&self) -> Result<Typed, ScriptFault>
+        ensures { Answers (spec.no_operation (pointer self.now.place.now)) result }
+    {
         Err(self.place.item(1).fault(self.alloc, FaultKind::Operation))
     }
 
-    fn field(&self, record: &Record) -> Result<(Identifier, Kind), ScriptFault> {
+    fn field(&self, record: &Record) -> Result<(Identifier, Kind), ScriptFault>
+        ensures { Answers (spec.argument 0 (spec.known (spec.field_kind record.now)) (items_view self.now.documents.now) (pointer self.now.place.now)) result }
+    {
         let json = self.document(0)?;
         let place = self.place.item(2);
         let name = string(self.alloc, &place, json)?;
@@ -110,7 +139,9 @@ impl Arguments<'_, '_> {
         Err(place.fault(self.alloc, FaultKind::Operation))
     }
 
-    fn tag(&self, variant: &Variant) -> Result<(Identifier, Kind), ScriptFault> {
+    fn tag(&self, variant: &Variant) -> Result<(Identifier, Kind), ScriptFault>
+        ensures { Answers (spec.argument 0 (spec.known (tag_kind variant.now.tags)) (items_view self.now.documents.now) (pointer self.now.place.now)) result }
+    {
         let json = self.document(0)?;
         let place = self.place.item(2);
         let name = string(self.alloc, &place, json)?;
@@ -122,7 +153,9 @@ impl Arguments<'_, '_> {
         Err(place.fault(self.alloc, FaultKind::Operation))
     }
 
-    fn of_record(&self, record: &Record, name: OpName) -> Result<Typed, ScriptFault> {
+    fn of_record(&self, record: &Record, name: OpName) -> Result<Typed, ScriptFault>
+        ensures { Answers (spec.record_operation record.now self.now.scope.now name (items_view self.now.documents.now) (pointer self.now.place.now)) result }
+    {
         match name {
             OpName::Get => {
                 let (field, kind) = self.field(record)?;
@@ -137,7 +170,9 @@ impl Arguments<'_, '_> {
         }
     }
 
-    fn of_array(&self, kind: Kind, name: OpName) -> Result<Typed, ScriptFault> {
+    fn of_array(&self, kind: Kind, name: OpName) -> Result<Typed, ScriptFault>
+        ensures { Answers (spec.array_operation kind self.now.scope.now name (items_view self.now.documents.now) (pointer self.now.place.now)) result }
+    {
         match name {
             OpName::Low => Ok((Operation::Low, Some(Sort::Int))),
             OpName::High => Ok((Operation::High, Some(Sort::Int))),
@@ -156,7 +191,9 @@ impl Arguments<'_, '_> {
         }
     }
 
-    fn of_variant(&self, variant: &Variant, name: OpName) -> Result<Typed, ScriptFault> {
+    fn of_variant(&self, variant: &Variant, name: OpName) -> Result<Typed, ScriptFault>
+        ensures { Answers (spec.variant_operation variant.now self.now.scope.now name (items_view self.now.documents.now) (pointer self.now.place.now)) result }
+    {
         match name {
             OpName::Is => {
                 let (tag, _) = self.tag(variant)?;
@@ -175,7 +212,9 @@ impl Arguments<'_, '_> {
         }
     }
 
-    fn of_object(&self, content: &Content, name: OpName) -> Result<Typed, ScriptFault> {
+    fn of_object(&self, content: &Content, name: OpName) -> Result<Typed, ScriptFault>
+        ensures { Answers (spec.object_operation content.now self.now.scope.now name (items_view self.now.documents.now) (pointer self.now.place.now)) result }
+    {
         match content {
             Content::Record(record) => self.of_record(record, name),
             Content::Array(array) => self.of_array(array.kind(), name),
@@ -190,7 +229,9 @@ fn object_numbered<'c>(
     place: &Place<'_>,
     objects: &'c [Content],
     json: &Json,
-) -> Result<(u32, &'c Content), ScriptFault> {
+) -> Result<(u32, &'c Content), ScriptFault>
+    ensures { AnswersBy (λ p. (p.0, p.1.now)) (spec.the_object_numbered objects.now (view json.now) (pointer place.now)) result }
+{
     let number = int(alloc, place, json)?;
     if 1 <= number && number <= u32::MAX as i64 {
         let number = number as u32;
@@ -201,12 +242,16 @@ fn object_numbered<'c>(
     Err(place.fault(alloc, FaultKind::Object))
 }
 
-fn op_name(alloc: Global, place: &Place<'_>, json: &Json) -> Result<OpName, ScriptFault> {
+fn op_name(alloc: Global, place: &Place<'_>, json: &Json) -> Result<OpName, ScriptFault>
+    ensures { Answers (spec.the_op_name (view json.now) (pointer place.now)) result }
+{
     let name = string(alloc, place, json)?;
     place.need(alloc, op_named(name), FaultKind::Operation)
 }
 
-fn has_arity(name: Option<OpName>, count: usize) -> bool {
+fn has_arity(name: Option<OpName>, count: usize) -> bool
+    ensures { result ≡ spec.has_arity name count }
+{
     match name {
         Some(name) => count == arity(name),
         None => true,
@@ -220,7 +265,9 @@ pub(crate) fn operation(
     objects: &[Content],
     scope: &Scope<'_>,
     json: &Json,
-) -> Result<(u32, Operation, Option<Sort>), ScriptFault> {
+) -> Result<(u32, Operation, Option<Sort>), ScriptFault>
+    ensures { AnswersBy (λ p. (p.0, (p.1, p.2))) (spec.operation objects.now scope.now (view json.now) (pointer place.now)) result }
+{
     let [object, name, documents @ ..] = array(alloc, place, json)? else {
         return Err(place.fault(alloc, FaultKind::Shape));
     };
@@ -239,7 +286,9 @@ pub(crate) fn operation(
 }
 
 /// Whether no value comes back from the operation that has this name.
-pub(crate) fn op_gives_nothing(json: &Json) -> bool {
+pub(crate) fn op_gives_nothing(json: &Json) -> bool
+    ensures { result ≡ spec.op_gives_nothing (view json.now) }
+{
     let Some(items) = json.as_array() else {
         return false;
     };

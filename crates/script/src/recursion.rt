@@ -1,3 +1,8 @@
+ghost use Rattle.std.specs.Prelude.{◌≡◌, ◌≢◌, ℕ, List, ◌<◌, ◌≤◌, length, true, Contains, OnOk, IfOk, IsTrue, ◌↔◌};
+ghost use Rattle.script_model.specs.Reaching.{called, called_by, Reaches, handler_place};
+ghost use Rattle.script_model.specs.declared.checked.Handler.{Handler};
+ghost use Rattle.script.specs.Marks.{Marks, IsTable, called_if_any, called_in_arm, IsAsked};
+
 use crate::place::Place;
 use script_model::{Arm, Checked, FaultKind, Handler, ScriptFault, Statement};
 use sqlite_items::Items;
@@ -5,21 +10,27 @@ use std::alloc::{AllocError, Global};
 
 /// Marks each handler that the statements call.
 #[cycle(mark)]
-fn mark_calls(statements: &[Statement], called: &mut [bool]) {
+fn mark_calls(statements: &[Statement], called: &mut [bool])
+    ensures { Marks (called statements.now) called.old called.new }
+{
     for statement in statements {
         mark_statement(statement, called);
     }
 }
 
 #[cycle(mark)]
-fn mark_if_any(statements: &Option<Items<Statement>>, called: &mut [bool]) {
+fn mark_if_any(statements: &Option<Items<Statement>>, called: &mut [bool])
+    ensures { Marks (called_if_any statements.now) called.old called.new }
+{
     if let Some(statements) = statements {
         mark_calls(statements.as_slice(), called);
     }
 }
 
 #[cycle(mark)]
-fn mark_statement(statement: &Statement, called: &mut [bool]) {
+fn mark_statement(statement: &Statement, called: &mut [bool])
+    ensures { Marks (called_by statement.now) called.old called.new }
+{
     match statement {
         Statement::Op(_, signals) => mark_if_any(signals, called),
         Statement::Call(call, signals) => {
@@ -47,14 +58,18 @@ fn mark_statement(statement: &Statement, called: &mut [bool]) {
 }
 
 #[cycle(mark)]
-fn mark_arm(arm: &Arm, called: &mut [bool]) {
+fn mark_arm(arm: &Arm, called: &mut [bool])
+    ensures { Marks (called_in_arm arm.now) called.old called.new }
+{
     match arm {
         Arm::Sub(body) | Arm::Top(body) => mark_calls(body.as_slice(), called),
     }
 }
 
 /// For each handler, which handlers it calls.
-fn call_table(alloc: Global, handlers: &[Handler]) -> Result<Vec<Vec<bool>>, AllocError> {
+fn call_table(alloc: Global, handlers: &[Handler]) -> Result<Vec<Vec<bool>>, AllocError>
+    ensures { IfOk result (λ table. IsTable handlers.now table.items) }
+{
     let mut table = Vec::with_capacity(alloc, handlers.len())?;
     for handler in handlers {
         let mut called = vec![in alloc; false; handlers.len()]?;
@@ -65,7 +80,10 @@ fn call_table(alloc: Global, handlers: &[Handler]) -> Result<Vec<Vec<bool>>, All
 }
 
 /// Whether the handler of this number can reach itself by calls.
-fn reaches_itself(alloc: Global, table: &[Vec<bool>], start: usize) -> Result<bool, AllocError> {
+fn reaches_itself(alloc: Global, table: &[Vec<bool>], start: usize) -> Result<bool, AllocError>
+    requires { start < length table.now }
+    ensures { (hs : List Handler) → IsTable hs table.now → IfOk result (λ yes. IsTrue yes ↔ Reaches hs start start) }
+{
     let mut reached = vec![in alloc; false; table.len()]?;
     let mut left = Vec::new(alloc);
     left.push(start)?;
@@ -81,7 +99,10 @@ fn reaches_itself(alloc: Global, table: &[Vec<bool>], start: usize) -> Result<bo
 }
 
 /// Where a handler stands in the document.
-fn fault_at(alloc: Global, handler: &Handler) -> ScriptFault {
+fn fault_at(alloc: Global, handler: &Handler) -> ScriptFault
+    requires { 1 ≤ handler.now.guardian }
+    ensures { result ≢ ScriptFault.Memory → result ≡ ScriptFault.Bad FaultKind.Recursion (handler_place handler.now) }
+{
     let root = Place::Root;
     let guardians = root.member("guardians");
     let guardian = guardians.item(handler.guardian as usize - 1);
@@ -91,7 +112,10 @@ fn fault_at(alloc: Global, handler: &Handler) -> ScriptFault {
 }
 
 /// Asks that no handler can reach itself by calls.
-pub(crate) fn ask_endings(alloc: Global, script: &Checked) -> Result<(), ScriptFault> {
+pub(crate) fn ask_endings(alloc: Global, script: &Checked) -> Result<(), ScriptFault>
+    requires { (h : Handler) → Contains script.now.handlers h → 1 ≤ h.guardian }
+    ensures { IsAsked script.now result }
+{
     let handlers = script.handlers.as_slice();
     let table = call_table(alloc, handlers)?;
     for (number, handler) in handlers.iter().enumerate() {

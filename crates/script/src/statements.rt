@@ -1,3 +1,17 @@
+ghost use Rattle.std.specs.Prelude.{◌≡◌, ℕ, map, List, ◌++◌, ◌<◌, ◌^◌, option_map, is_some, IfOk, OnOk, IfSome};
+ghost use Rattle.serde_json.specs.Find.{get_member};
+ghost use Rattle.serde_json.specs.View.{view, items_view, members_view};
+ghost use Rattle.serde_json.specs.Events.{items_len};
+ghost use Rattle.script_model.specs.Reading.{Answers, at, ask};
+ghost use Rattle.script_model.specs.Scopes as scopes;
+ghost use Rattle.script_model.specs.Signatures.{sort_given, wanted_kind};
+ghost use Rattle.script_model.specs.Shapes.{has_only};
+ghost use Rattle.script_model.specs.StatementReading as spec;
+ghost use Rattle.script_model.specs.StatementReading.{body_at};
+ghost use Rattle.script.specs.Places.{pointer, AnswersBy};
+ghost use Rattle.script.specs.Scoping.{variable_of};
+ghost use Rattle.script.specs.Contexts.{context_of, Extends, AnswersWith, call_of, arguments_of};
+
 use crate::expressions::{agree, condition, expr_of_kind, sort_of, value_expr};
 use crate::names::is_identifier;
 use crate::operations::{op_gives_nothing, operation, sort_of_kind};
@@ -38,7 +52,9 @@ pub(crate) struct Context<'a, 'j> {
     pub(crate) in_top: bool,
 }
 
-fn binding_of(sort: Sort, place: Option<u32>) -> Binding {
+fn binding_of(sort: Sort, place: Option<u32>) -> Binding
+    ensures { result ≡ scopes.binding_of sort place }
+{
     match sort {
         Sort::Int => Binding::Int(place),
         Sort::Text => Binding::Text(place),
@@ -47,7 +63,9 @@ fn binding_of(sort: Sort, place: Option<u32>) -> Binding {
     }
 }
 
-fn binding_again(sort: Sort, variable: Variable) -> Binding {
+fn binding_again(sort: Sort, variable: Variable) -> Binding
+    ensures { result ≡ scopes.binding_again sort (variable_of variable) }
+{
     if variable.sort == Sort::Unknown {
         binding_of(sort, None)
     } else {
@@ -61,7 +79,9 @@ pub(crate) fn guardian(
     place: &Place<'_>,
     count: usize,
     json: &Json,
-) -> Result<usize, ScriptFault> {
+) -> Result<usize, ScriptFault>
+    ensures { AnswersBy (λ n. n) (spec.guardian_numbered count (view json.now) (pointer place.now)) result }
+{
     let number = int(alloc, place, json)?;
     match guardian_index(count, number) {
         Some(index) => Ok(index),
@@ -69,7 +89,10 @@ pub(crate) fn guardian(
     }
 }
 
-fn guardian_index(count: usize, number: i64) -> Option<usize> {
+fn guardian_index(count: usize, number: i64) -> Option<usize>
+    ensures value { result ≡ spec.guardian_index count number }
+    ensures within { IfSome result (λ n. n < count) }
+{
     if number < 1 {
         return None;
     }
@@ -82,13 +105,17 @@ pub(crate) fn name<'j>(
     alloc: Global,
     place: &Place<'_>,
     json: &'j Json,
-) -> Result<&'j str, ScriptFault> {
+) -> Result<&'j str, ScriptFault>
+    ensures { AnswersBy (λ s. s.now) (spec.the_name (view json.now) (pointer place.now)) result }
+{
     let name = string(alloc, place, json)?;
     place.ask(alloc, is_identifier(name), FaultKind::Shape)?;
     Ok(name)
 }
 
-fn arm_named(name: &str) -> Option<bool> {
+fn arm_named(name: &str) -> Option<bool>
+    ensures { result ≡ spec.arm_named name.now }
+{
     match name {
         "sub" => Some(false),
         "top" => Some(true),
@@ -96,11 +123,15 @@ fn arm_named(name: &str) -> Option<bool> {
     }
 }
 
-fn is_top_arm(json: &Json) -> Option<bool> {
+fn is_top_arm(json: &Json) -> Option<bool>
+    ensures { result ≡ spec.is_top_arm (view json.now) }
+{
     arm_named(json.as_str()?)
 }
 
-fn may_return(gives: Gives, sort: Sort) -> bool {
+fn may_return(gives: Gives, sort: Sort) -> bool
+    ensures { result ≡ spec.may_return gives sort }
+{
     match gives {
         Gives::Anything => true,
         Gives::Nothing => false,
@@ -108,14 +139,18 @@ fn may_return(gives: Gives, sort: Sort) -> bool {
     }
 }
 
-fn may_return_nothing(gives: Gives) -> bool {
+fn may_return_nothing(gives: Gives) -> bool
+    ensures { result ≡ spec.may_return_nothing gives }
+{
     match gives {
         Gives::Value(_) => false,
         Gives::Anything | Gives::Nothing => true,
     }
 }
 
-fn turns_of(number: i64) -> Option<u32> {
+fn turns_of(number: i64) -> Option<u32>
+    ensures { result ≡ spec.turns_of number }
+{
     if 0 <= number && number <= MAX_TURNS {
         Some(number as u32)
     } else {
@@ -124,7 +159,9 @@ fn turns_of(number: i64) -> Option<u32> {
 }
 
 impl<'a, 'j> Context<'a, 'j> {
-    fn in_top_action(self) -> Context<'a, 'j> {
+    fn in_top_action(self) -> Context<'a, 'j>
+        ensures { context_of result ≡ spec.in_top_action (context_of self) }
+    {
         Context {
             in_top: true,
             ..self
@@ -137,7 +174,9 @@ impl<'a, 'j> Context<'a, 'j> {
         place: &Place<'_>,
         members: &Map<String, Json>,
         gives_nothing: bool,
-    ) -> Result<(), ScriptFault> {
+    ) -> Result<(), ScriptFault>
+        ensures { Answers (spec.ask_value (members_view members.now.entries) gives_nothing (pointer place.now)) result }
+    {
         let fits = !gives_nothing || member(members, "into").is_none();
         place.ask(self.alloc, fits, FaultKind::Flow)
     }
@@ -149,7 +188,10 @@ impl<'a, 'j> Context<'a, 'j> {
         scope: &mut Scope<'j>,
         sort: Option<Sort>,
         members: &'j Map<String, Json>,
-    ) -> Result<Binding, ScriptFault> {
+    ) -> Result<Binding, ScriptFault>
+        ensures read { AnswersWith scope.new (spec.bind scope.old sort (members_view members.now.entries) (pointer place.now)) result }
+        ensures extends { OnOk result (Extends scope.old scope.new) }
+    {
         let Some(sort) = sort else {
             return Ok(Binding::Nothing);
         };
@@ -178,7 +220,9 @@ impl<'a, 'j> Context<'a, 'j> {
         scope: &Scope<'_>,
         handler: &Json,
         json: &Json,
-    ) -> Result<(Items<IntExpr>, Items<TextExpr>), ScriptFault> {
+    ) -> Result<(Items<IntExpr>, Items<TextExpr>), ScriptFault>
+        ensures { AnswersBy arguments_of (spec.arguments_in scope.now (view handler.now) (view json.now) (pointer place.now)) result }
+    {
         let documents = array(self.alloc, place, json)?;
         let fits = takes_count(handler, documents.len());
         place.ask(self.alloc, fits, FaultKind::Arguments)?;
@@ -200,7 +244,9 @@ impl<'a, 'j> Context<'a, 'j> {
         handler: &Json,
         index: usize,
         json: &Json,
-    ) -> Result<Expr, ScriptFault> {
+    ) -> Result<Expr, ScriptFault>
+        ensures { Answers (spec.argument_in scope.now (wanted_kind (view handler.now) index) (view json.now) (pointer place.now)) result }
+    {
         match wanted_kind(handler, index) {
             Some(kind) => expr_of_kind(self.alloc, place, scope, kind, json),
             None => value_expr(self.alloc, place, scope, json),
@@ -208,7 +254,9 @@ impl<'a, 'j> Context<'a, 'j> {
     }
 
     /// The document of the handler that is called, where there is one.
-    fn callee(&self, json: &Json) -> Option<&'j Json> {
+    fn callee(&self, json: &Json) -> Option<&'j Json>
+        ensures { option_map (λ d. view d.now) result ≡ spec.callee (context_of self.now).guardians (view json.now) }
+    {
         match json.as_array()?.as_slice() {
             [number, name, _] => {
                 let index = guardian_index(self.handlers.guardians(), number.as_i64()?)?;
@@ -219,7 +267,9 @@ impl<'a, 'j> Context<'a, 'j> {
         }
     }
 
-    fn call_gives_nothing(&self, json: &Json) -> bool {
+    fn call_gives_nothing(&self, json: &Json) -> bool
+        ensures { result ≡ spec.call_gives_nothing (context_of self.now).guardians (view json.now) }
+    {
         match self.callee(json) {
             Some(handler) => sort_given(handler_gives(handler)).is_none(),
             None => false,
@@ -232,7 +282,9 @@ impl<'a, 'j> Context<'a, 'j> {
         place: &Place<'_>,
         scope: &Scope<'_>,
         json: &Json,
-    ) -> Result<(HandlerCall, Option<Sort>), ScriptFault> {
+    ) -> Result<(HandlerCall, Option<Sort>), ScriptFault>
+        ensures { AnswersBy call_of (spec.call_sorted (context_of self.now).guardians scope.now (view json.now) (pointer place.now)) result }
+    {
         let (number, name, arguments) = triple(self.alloc, place, json)?;
         let count = self.handlers.guardians();
         let index = guardian(self.alloc, &place.item(0), count, number)?;
@@ -251,7 +303,9 @@ impl<'a, 'j> Context<'a, 'j> {
         Ok((call, sort_given(handler_gives(document))))
     }
 
-    fn abort(&self, place: &Place<'_>, json: &Json) -> Result<Statement, ScriptFault> {
+    fn abort(&self, place: &Place<'_>, json: &Json) -> Result<Statement, ScriptFault>
+        ensures { Answers (spec.abort_in (view json.now) (pointer place.now)) result }
+    {
         match json {
             Json::Bool(true) => Ok(Statement::Abort),
             _ => Err(place.fault(self.alloc, FaultKind::Shape)),
@@ -263,7 +317,9 @@ impl<'a, 'j> Context<'a, 'j> {
         place: &Place<'_>,
         scope: &Scope<'_>,
         json: &Json,
-    ) -> Result<Statement, ScriptFault> {
+    ) -> Result<Statement, ScriptFault>
+        ensures { Answers (spec.return_in (context_of self.now) scope.now (view json.now) (pointer place.now)) result }
+    {
         if json.is_null() {
             let fits = !self.in_top && may_return_nothing(self.gives);
             place.ask(self.alloc, fits, FaultKind::Flow)?;
@@ -282,7 +338,10 @@ impl<'a, 'j> Context<'a, 'j> {
         place: &Place<'_>,
         scope: &mut Scope<'j>,
         members: &'j Map<String, Json>,
-    ) -> Result<Option<Items<Statement>>, ScriptFault> {
+    ) -> Result<Option<Items<Statement>>, ScriptFault>
+        ensures read { Answers (spec.signals (body_at levels) (context_of self.now) scope.old (members_view members.now.entries) (pointer place.now)) result }
+        ensures kept { OnOk result (scope.new ≡ scope.old) }
+    {
         match member(members, "signals") {
             Some(json) => Ok(Some(self.body_at(levels, &place.member("signals"), scope, json)?)),
             None => Ok(None),
@@ -297,7 +356,10 @@ impl<'a, 'j> Context<'a, 'j> {
         scope: &mut Scope<'j>,
         members: &'j Map<String, Json>,
         json: &'j Json,
-    ) -> Result<Statement, ScriptFault> {
+    ) -> Result<Statement, ScriptFault>
+        ensures read { AnswersWith scope.new (spec.op_statement (body_at levels) (context_of self.now) scope.old (members_view members.now.entries) (view json.now) (pointer place.now)) result }
+        ensures extends { OnOk result (Extends scope.old scope.new) }
+    {
         self.ask_value(place, members, op_gives_nothing(json))?;
         let inside = place.member("op");
         let (object, operation, sort) = operation(self.alloc, &inside, self.objects, scope, json)?;
@@ -319,7 +381,10 @@ impl<'a, 'j> Context<'a, 'j> {
         scope: &mut Scope<'j>,
         members: &'j Map<String, Json>,
         json: &'j Json,
-    ) -> Result<Statement, ScriptFault> {
+    ) -> Result<Statement, ScriptFault>
+        ensures read { AnswersWith scope.new (spec.call_statement (body_at levels) (context_of self.now) scope.old (members_view members.now.entries) (view json.now) (pointer place.now)) result }
+        ensures extends { OnOk result (Extends scope.old scope.new) }
+    {
         self.ask_value(place, members, self.call_gives_nothing(json))?;
         let (call, sort) = self.call(&place.member("call"), scope, json)?;
         let binding = self.bind(place, scope, sort, members)?;
@@ -334,7 +399,10 @@ impl<'a, 'j> Context<'a, 'j> {
         place: &Place<'_>,
         scope: &mut Scope<'j>,
         json: &'j Json,
-    ) -> Result<Arm, ScriptFault> {
+    ) -> Result<Arm, ScriptFault>
+        ensures read { Answers (spec.arm_in (body_at levels) (context_of self.now) scope.old (view json.now) (pointer place.now)) result }
+        ensures kept { OnOk result (scope.new ≡ scope.old) }
+    {
         let (arm, body) = two_members(self.alloc, place, json, "arm", "body")?;
         let inside = place.member("arm");
         let is_top = inside.need(self.alloc, is_top_arm(arm), FaultKind::Shape)?;
@@ -353,7 +421,10 @@ impl<'a, 'j> Context<'a, 'j> {
         place: &Place<'_>,
         scope: &mut Scope<'j>,
         json: &'j Json,
-    ) -> Result<Statement, ScriptFault> {
+    ) -> Result<Statement, ScriptFault>
+        ensures read { Answers (spec.coenter (body_at levels) (context_of self.now) scope.old (view json.now) (pointer place.now)) result }
+        ensures kept { OnOk result (scope.new ≡ scope.old) }
+    {
         let documents = list(self.alloc, place, json, 1, MAX_ARMS)?;
         let mut arms = Items::new(self.alloc);
         for (i, document) in documents.iter().enumerate() {
@@ -370,7 +441,10 @@ impl<'a, 'j> Context<'a, 'j> {
         scope: &mut Scope<'j>,
         members: &'j Map<String, Json>,
         json: &'j Json,
-    ) -> Result<Statement, ScriptFault> {
+    ) -> Result<Statement, ScriptFault>
+        ensures read { Answers (spec.top_action (body_at levels) (context_of self.now) scope.old (members_view members.now.entries) (view json.now) (pointer place.now)) result }
+        ensures kept { OnOk result (scope.new ≡ scope.old) }
+    {
         let inside = place.member("topaction");
         let body = self.in_top_action().body_at(levels, &inside, scope, json)?;
         let signals = match self.signals(levels, place, scope, members)? {
@@ -387,7 +461,10 @@ impl<'a, 'j> Context<'a, 'j> {
         place: &Place<'_>,
         scope: &mut Scope<'j>,
         json: &'j Json,
-    ) -> Result<Statement, ScriptFault> {
+    ) -> Result<Statement, ScriptFault>
+        ensures read { Answers (spec.if_in (body_at levels) (context_of self.now) scope.old (view json.now) (pointer place.now)) result }
+        ensures kept { OnOk result (scope.new ≡ scope.old) }
+    {
         let (test, first, second) = triple(self.alloc, place, json)?;
         let test = condition(self.alloc, &place.item(0), scope, test)?;
         let first = self.body_at(levels, &place.item(1), scope, first)?;
@@ -402,7 +479,10 @@ impl<'a, 'j> Context<'a, 'j> {
         place: &Place<'_>,
         scope: &mut Scope<'j>,
         json: &'j Json,
-    ) -> Result<Statement, ScriptFault> {
+    ) -> Result<Statement, ScriptFault>
+        ensures read { Answers (spec.repeat_in (body_at levels) (context_of self.now) scope.old (view json.now) (pointer place.now)) result }
+        ensures kept { OnOk result (scope.new ≡ scope.old) }
+    {
         let (number, body) = pair(self.alloc, place, json)?;
         let above = place.item(0);
         let number = int(self.alloc, &above, number)?;
@@ -416,7 +496,9 @@ impl<'a, 'j> Context<'a, 'j> {
         place: &Place<'_>,
         members: &Map<String, Json>,
         names: &[&str],
-    ) -> Result<(), ScriptFault> {
+    ) -> Result<(), ScriptFault>
+        ensures { Answers (ask (has_only (map (λ n. n.now) names.now) (members_view members.now.entries)) FaultKind.Shape (pointer place.now)) result }
+    {
         place.ask(self.alloc, has_only(members, names), FaultKind::Shape)
     }
 
@@ -427,7 +509,10 @@ impl<'a, 'j> Context<'a, 'j> {
         place: &Place<'_>,
         scope: &mut Scope<'j>,
         json: &'j Json,
-    ) -> Result<Statement, ScriptFault> {
+    ) -> Result<Statement, ScriptFault>
+        ensures read { AnswersWith scope.new (spec.statement (body_at levels) (context_of self.now) scope.old (view json.now) (pointer place.now)) result }
+        ensures extends { OnOk result (Extends scope.old scope.new) }
+    {
         let members = object(self.alloc, place, json)?;
         if let Some(json) = member(members, "op") {
             self.only(place, members, &["op", "into", "signals"])?;
@@ -455,7 +540,10 @@ impl<'a, 'j> Context<'a, 'j> {
         place: &Place<'_>,
         scope: &mut Scope<'j>,
         members: &'j Map<String, Json>,
-    ) -> Result<Statement, ScriptFault> {
+    ) -> Result<Statement, ScriptFault>
+        ensures read { AnswersWith scope.new (spec.plain_statement (body_at levels) (context_of self.now) scope.old (members_view members.now.entries) (pointer place.now)) result }
+        ensures extends { OnOk result (Extends scope.old scope.new) }
+    {
         if let Some(json) = member(members, "if") {
             self.only(place, members, &["if"])?;
             return self.branches(levels, &place.member("if"), scope, json);
@@ -482,7 +570,10 @@ impl<'a, 'j> Context<'a, 'j> {
         place: &Place<'_>,
         scope: &mut Scope<'j>,
         documents: &'j [Json],
-    ) -> Result<Items<Statement>, ScriptFault> {
+    ) -> Result<Items<Statement>, ScriptFault>
+        ensures read { Answers (spec.statements (body_at levels) (context_of self.now) 0 scope.old (items_view documents.now) (pointer place.now)) result }
+        ensures extends { OnOk result (Extends scope.old scope.new) }
+    {
         let mut body = Items::new(self.alloc);
         for (i, document) in documents.iter().enumerate() {
             body.push(self.statement(levels, &place.item(i), scope, document)?)?;
@@ -498,7 +589,10 @@ impl<'a, 'j> Context<'a, 'j> {
         place: &Place<'_>,
         scope: &mut Scope<'j>,
         json: &'j Json,
-    ) -> Result<Items<Statement>, ScriptFault> {
+    ) -> Result<Items<Statement>, ScriptFault>
+        ensures read { Answers (body_at levels (context_of self.now) scope.old (view json.now) (pointer place.now)) result }
+        ensures kept { OnOk result (scope.new ≡ scope.old) }
+    {
         let documents = array(self.alloc, place, json)?;
         if levels == 0 {
             return Err(place.fault(self.alloc, FaultKind::Limit));
@@ -515,7 +609,10 @@ impl<'a, 'j> Context<'a, 'j> {
         place: &Place<'_>,
         scope: &mut Scope<'j>,
         json: &'j Json,
-    ) -> Result<Items<Statement>, ScriptFault> {
+    ) -> Result<Items<Statement>, ScriptFault>
+        ensures read { Answers (spec.body_in (context_of self.now) scope.old (view json.now) (pointer place.now)) result }
+        ensures kept { OnOk result (scope.new ≡ scope.old) }
+    {
         self.body_at(MAX_NESTING, place, scope, json)
     }
 }

@@ -75,14 +75,18 @@ abbrev pub items_of : Data → ℕ
 items_of (array ds) = items_len ds
 items_of _ = 0
 
+abbrev pub items_in : Kind → Data → Read (List Value)
+items_in k d = do
+  ds ← the_list 0 max_items d
+  each (value_in (Some k)) 0 ds
+
 abbrev pub array_in : Data → Read Content
 array_in d = do
   (items, low, of) ← the_three (codes "items") (codes "low") (codes "of") d
   k ← at (codes "of") (need (kind_in of) is.Shape)
   first ← at (codes "low") (the_int low)
   at (codes "low") (ask (is_low first (items_of items)) is.Limit)
-  ds ← at (codes "items") (the_list 0 max_items items)
-  values ← at (codes "items") (each (value_in (Some k)) 0 ds)
+  values ← at (codes "items") (items_in k items)
   reads (Array (record { kind = k; low = first; items = values }))
 
 -- ---- variants

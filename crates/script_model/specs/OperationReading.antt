@@ -72,9 +72,12 @@ abbrev pub Typed : Type 0
 Typed = Operation × Option Sort
 
 -- the argument at this index; the name and the object stand before the arguments
+abbrev pub argument_at : ℕ → Items → Read Data
+argument_at i args = need (get_item i args) is.Arguments
+
 abbrev pub argument : {A : Type 0} → ℕ → (Data → Read A) → Items → Read A
 argument i read args = do
-  d ← need (get_item i args) is.Arguments
+  d ← argument_at i args
   nth (i + 2) (read d)
 
 -- the object does not have the operation
@@ -149,9 +152,9 @@ op_parts _ = None
 abbrev pub op_in : Data → Option OpName
 op_in d = option_and_then op_named (as_str d)
 
-abbrev pub has_arity : Option OpName → Items → Bool
-has_arity None args = true
-has_arity (Some n) args = items_len args == arity n
+abbrev pub has_arity : Option OpName → ℕ → Bool
+has_arity None count = true
+has_arity (Some n) count = count == arity n
 
 -- a number from 1 on, as the index of what it numbers
 abbrev pub numbered : {A : Type 0} → List A → ℤ → Option (ℕ × A)
@@ -172,7 +175,7 @@ the_op_name d = do
 abbrev pub operation : List Content → Scope → Data → Read (ℕ × Typed)
 operation objects scope d = do
   parts ← need (op_parts d) is.Shape
-  ask (has_arity (op_in parts.1) parts.2) is.Arguments
+  ask (has_arity (op_in parts.1) (items_len parts.2)) is.Arguments
   object ← nth 0 (the_object_numbered objects parts.0)
   n ← nth 1 (the_op_name parts.1)
   typed ← object_operation object.1 scope n parts.2

@@ -1,5 +1,5 @@
 -- How handlers, guardians, clients and whole scripts are read.
-use Rattle.std.specs.Prelude.{ℕ, suc, ◌+◌, List, [], ◌∷◌, ◌++◌, length, Bool, true, false, not, ◌&&◌, ◌||◌, nat_lt, is_some, codes, Option, Some, None, unwrap_or, slice_get}
+use Rattle.std.specs.Prelude.{ℕ, suc, List, [], ◌∷◌, ◌++◌, length, Bool, true, false, not, ◌&&◌, ◌||◌, nat_lt, is_some, codes, Option, Some, None, unwrap_or, slice_get}
 use Rattle.serde_json.specs.Data.{Data, null, boolean, number, string, array, object, Items, no_items, item, Members, no_members, member}
 use Rattle.serde_json.specs.Find.{as_array, as_str}
 use Rattle.values.specs.Words.{same_bytes}
@@ -69,8 +69,8 @@ abbrev pub is_value : Option Gives → Bool
 is_value (Some (Value k)) = true
 is_value _ = false
 
-abbrev pub may_lack_value : Data → Data → Bool
-may_lack_value gives body = (is_value (gives_in gives) && is_some (as_array body)) && not (ends body)
+abbrev pub may_lack_value : Option Gives → Data → Bool
+may_lack_value gives body = (is_value gives && is_some (as_array body)) && not (ends body)
 
 -- ---- handlers
 
@@ -83,10 +83,13 @@ abbrev pub is_repeated : Scope → Option (List ℕ) → Bool
 is_repeated scope None = false
 is_repeated scope (Some name) = is_some (find scope name)
 
+abbrev pub is_repeated_in : Scope → Data → Bool
+is_repeated_in scope d = is_repeated scope (as_str d)
+
 abbrev pub parameter : Scope → Data → Read Scope
 parameter scope d = do
   p ← the_pair d
-  ask (not (is_repeated scope (as_str p.0))) is.Shape
+  ask (not (is_repeated_in scope p.0)) is.Shape
   name ← nth 0 (the_name p.0)
   k ← nth 1 (need (kind_in p.1) is.Shape)
   reads (record { name = name; sort = sort_of_kind k } ∷ scope)
@@ -125,7 +128,7 @@ abbrev pub handler : Site → ℕ → List ℕ → Data → Read Handler
 handler site n name d = do
   parts ← the_three (codes "params") (codes "gives") (codes "body") d
   ask (nat_lt n max_handlers) is.Limit
-  ask (not (may_lack_value parts.1 parts.2)) is.Flow
+  ask (not (may_lack_value (gives_in parts.1) parts.2)) is.Flow
   scope ← at (codes "params") (parameters parts.0)
   gives ← at (codes "gives") (the_gives parts.1)
   body ← at (codes "body") (body_in (context_at site gives) scope parts.2)
@@ -178,19 +181,21 @@ guardian guardians n first d = do
   hs ← at (codes "handlers") (handlers (record { guardian = n; objects = contents; guardians = guardians }) first parts.1)
   reads (contents, hs)
 
--- guardians, the first of which has this index; its first handler has that number in the script
-abbrev pub guardians_from : Items → ℕ → ℕ → Items → Read Guardians
-guardians_from guardians i first no_items = reads (record { objects = []; handlers = [] })
-guardians_from guardians i first (item d ds) = do
-  g ← nth i (guardian guardians (suc i) first d)
-  rest ← guardians_from guardians (suc i) (first + length g.1) ds
-  reads (record { objects = g.0 ∷ rest.objects; handlers = g.1 ++ rest.handlers })
+-- those of a guardian of this number after those of the guardians before it
+abbrev pub add_guardian : Items → ℕ → Guardians → Data → Read Guardians
+add_guardian guardians n so_far d = do
+  g ← guardian guardians n (length so_far.handlers) d
+  reads (record { objects = so_far.objects ++ g.0 ∷ []; handlers = so_far.handlers ++ g.1 })
 
-abbrev pub the_guardians : Data → Read (Items × Guardians)
-the_guardians d = do
-  ds ← the_list 1 max_guardians d
-  gs ← guardians_from ds 0 0 ds
-  reads (ds, gs)
+-- guardians, the first of which has this index, after those that were read
+abbrev pub guardians_from : Items → ℕ → Guardians → Items → Read Guardians
+guardians_from guardians i so_far no_items = reads so_far
+guardians_from guardians i so_far (item d ds) = do
+  g ← nth i (add_guardian guardians (suc i) so_far d)
+  guardians_from guardians (suc i) g ds
+
+abbrev pub guardians_in : Items → Items → Read Guardians
+guardians_in guardians = guardians_from guardians 0 (record { objects = []; handlers = [] })
 
 -- ---- clients
 
@@ -219,6 +224,7 @@ clients guardians all d = do
 abbrev pub script : Data → Read Checked
 script d = do
   parts ← the_two (codes "guardians") (codes "clients") d
-  gs ← at (codes "guardians") (the_guardians parts.0)
-  cs ← at (codes "clients") (clients gs.0 gs.1.objects parts.1)
-  reads (record { guardians = gs.1.objects; handlers = gs.1.handlers; clients = cs })
+  ds ← at (codes "guardians") (the_list 1 max_guardians parts.0)
+  gs ← at (codes "guardians") (guardians_in ds ds)
+  cs ← at (codes "clients") (clients ds gs.objects parts.1)
+  reads (record { guardians = gs.objects; handlers = gs.handlers; clients = cs })

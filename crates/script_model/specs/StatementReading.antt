@@ -104,10 +104,13 @@ abbrev pub guardian_index : ℕ → ℤ → Option ℕ
 guardian_index count (pos (suc n)) = if nat_le (suc n) count then Some n else None
 guardian_index count _ = None
 
-abbrev pub the_guardian : Items → Data → Read ℕ
-the_guardian guardians d = do
+abbrev pub guardian_numbered : ℕ → Data → Read ℕ
+guardian_numbered count d = do
   z ← the_int d
-  need (guardian_index (items_len guardians) z) is.Guardian
+  need (guardian_index count z) is.Guardian
+
+abbrev pub the_guardian : Items → Data → Read ℕ
+the_guardian guardians = guardian_numbered (items_len guardians)
 
 -- arguments by their kinds, each kind in order
 pub record Arguments : Type 0 where
@@ -145,6 +148,17 @@ call_in guardians scope d = do
   arguments ← nth 2 (arguments_in scope handler parts.2)
   reads (handler_number guardians n name, handler, arguments)
 
+-- a call, and the sort of what comes back, where a value does
+pub record CallParts : Type 0 where
+  pub handler : ℕ
+  pub arguments : Arguments
+  pub sort : Option Sort
+
+abbrev pub call_sorted : Items → Scope → Data → Read CallParts
+call_sorted guardians scope d = do
+  c ← call_in guardians scope d
+  reads (record { handler = c.0; arguments = c.2; sort = sort_given (handler_gives c.1) })
+
 -- the document of the handler that is called, where there is one
 abbrev pub callee : Items → Data → Option Data
 callee guardians d =
@@ -161,10 +175,10 @@ call_gives_nothing guardians d = call_says_nothing (callee guardians d)
 abbrev pub call_statement : BodyReading → Context → Scope → Members → Data → Read (Statement × Scope)
 call_statement inner cx scope ms d = do
   ask_value ms (call_gives_nothing cx.guardians d)
-  c ← at (codes "call") (call_in cx.guardians scope d)
-  b ← bind scope (sort_given (handler_gives c.1)) ms
+  c ← at (codes "call") (call_sorted cx.guardians scope d)
+  b ← bind scope c.sort ms
   s ← signals inner cx b.1 ms
-  reads (Call (record { handler = c.0; ints = c.2.ints; texts = c.2.texts; binding = b.0 }) s, b.1)
+  reads (Call (record { handler = c.handler; ints = c.arguments.ints; texts = c.arguments.texts; binding = b.0 }) s, b.1)
 
 -- ---- statements with bodies
 
@@ -172,13 +186,16 @@ call_statement inner cx scope ms d = do
 abbrev pub arm_named : List ℕ → Option Bool
 arm_named name = if same_bytes name (codes "sub") then Some false else (if same_bytes name (codes "top") then Some true else None)
 
+abbrev pub is_top_arm : Data → Option Bool
+is_top_arm d = option_and_then arm_named (as_str d)
+
 abbrev pub arm_of : Bool → Body → Arm
 arm_of is_top body = if is_top then arm.Top body else arm.Sub body
 
 abbrev pub arm_in : BodyReading → Context → Scope → Data → Read Arm
 arm_in inner cx scope d = do
   parts ← the_two (codes "arm") (codes "body") d
-  is_top ← at (codes "arm") (need (option_and_then arm_named (as_str parts.0)) is.Shape)
+  is_top ← at (codes "arm") (need (is_top_arm parts.0) is.Shape)
   body ← at (codes "body") (inner (if is_top then in_top_action cx else cx) scope parts.1)
   reads (arm_of is_top body)
 
@@ -277,17 +294,21 @@ by_member names ms None read otherwise = otherwise
 by_member names ms (Some d) read otherwise = ask (has_only names ms) is.Shape >> read d
 
 -- an object is a statement by one of eight members
+abbrev pub plain_statement : BodyReading → Context → Scope → Members → Read (Statement × Scope)
+plain_statement inner cx scope ms =
+    by_member (codes "if" ∷ []) ms (get_member (codes "if") ms) (λ d. unbinding scope (at (codes "if") (if_in inner cx scope d)))
+    (by_member (codes "repeat" ∷ []) ms (get_member (codes "repeat") ms) (λ d. unbinding scope (at (codes "repeat") (repeat_in inner cx scope d)))
+    (by_member (codes "abort" ∷ []) ms (get_member (codes "abort") ms) (λ d. unbinding scope (at (codes "abort") (abort_in d)))
+    (by_member (codes "return" ∷ []) ms (get_member (codes "return") ms) (λ d. unbinding scope (return_in cx scope d))
+    (fault is.Shape))))
+
 abbrev pub statement_of : BodyReading → Context → Scope → Members → Read (Statement × Scope)
 statement_of inner cx scope ms =
     by_member (codes "op" ∷ codes "into" ∷ codes "signals" ∷ []) ms (get_member (codes "op") ms) (op_statement inner cx scope ms)
     (by_member (codes "call" ∷ codes "into" ∷ codes "signals" ∷ []) ms (get_member (codes "call") ms) (call_statement inner cx scope ms)
     (by_member (codes "coenter" ∷ []) ms (get_member (codes "coenter") ms) (λ d. unbinding scope (at (codes "coenter") (coenter inner cx scope d)))
     (by_member (codes "topaction" ∷ codes "signals" ∷ []) ms (get_member (codes "topaction") ms) (λ d. unbinding scope (top_action inner cx scope ms d))
-    (by_member (codes "if" ∷ []) ms (get_member (codes "if") ms) (λ d. unbinding scope (at (codes "if") (if_in inner cx scope d)))
-    (by_member (codes "repeat" ∷ []) ms (get_member (codes "repeat") ms) (λ d. unbinding scope (at (codes "repeat") (repeat_in inner cx scope d)))
-    (by_member (codes "abort" ∷ []) ms (get_member (codes "abort") ms) (λ d. unbinding scope (at (codes "abort") (abort_in d)))
-    (by_member (codes "return" ∷ []) ms (get_member (codes "return") ms) (λ d. unbinding scope (return_in cx scope d))
-    (fault is.Shape))))))))
+    (plain_statement inner cx scope ms))))
 
 abbrev pub statement : BodyReading → Context → Scope → Data → Read (Statement × Scope)
 statement inner cx scope d = the_object d >>= statement_of inner cx scope
