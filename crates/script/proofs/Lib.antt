@@ -1,1 +1,6 @@
 pub mod Members
+pub mod BodyEnds
+pub mod Texts
+pub mod Looked
+pub mod Numbered
+pub mod OpNames

@@ -125,13 +125,13 @@ impl Arguments<'_, '_> {
         Err(self.place.item(1).fault(self.alloc, FaultKind::Operation))
     }
 
-    fn field(&self, record: &Record) -> Result<(Identifier, Kind), ScriptFault>
-        ensures { Answers (spec.argument 0 (spec.known (spec.field_kind record.now)) (items_view self.now.documents.now) (pointer self.now.place.now)) result }
+    fn field(&self, object: &Record) -> Result<(Identifier, Kind), ScriptFault>
+        ensures { Answers (spec.argument 0 (spec.known (spec.field_kind object.now)) (items_view self.now.documents.now) (pointer self.now.place.now)) result }
     {
         let json = self.document(0)?;
         let place = self.place.item(2);
         let name = string(self.alloc, &place, json)?;
-        for field in record.fields() {
+        for field in object.fields() {
             if field.name.as_str() == name {
                 return Ok((field.name.copy()?, field.value.kind()));
             }
@@ -153,16 +153,16 @@ impl Arguments<'_, '_> {
         Err(place.fault(self.alloc, FaultKind::Operation))
     }
 
-    fn of_record(&self, record: &Record, name: OpName) -> Result<Typed, ScriptFault>
-        ensures { Answers (spec.record_operation record.now self.now.scope.now name (items_view self.now.documents.now) (pointer self.now.place.now)) result }
+    fn of_record(&self, object: &Record, name: OpName) -> Result<Typed, ScriptFault>
+        ensures { Answers (spec.record_operation object.now self.now.scope.now name (items_view self.now.documents.now) (pointer self.now.place.now)) result }
     {
         match name {
             OpName::Get => {
-                let (field, kind) = self.field(record)?;
+                let (field, kind) = self.field(object)?;
                 Ok((Operation::Get(field), Some(sort_of_kind(kind))))
             }
             OpName::Set => {
-                let (field, kind) = self.field(record)?;
+                let (field, kind) = self.field(object)?;
                 let value = self.value(1, kind)?;
                 Ok((Operation::Set(field, value), None))
             }

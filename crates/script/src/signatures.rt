@@ -2,7 +2,7 @@ ghost use Rattle.std.specs.Prelude.{◌≡◌, ◌+◌, ◌≤◌, ℕ, length, 
 ghost use Rattle.serde_json.specs.Data.{no_members};
 ghost use Rattle.serde_json.specs.View.{view, items_view, members_view};
 ghost use Rattle.script_model.specs.Signatures as spec;
-ghost use Rattle.serde_json.specs.Events.{items_len, members_len};
+ghost use Rattle.serde_json.specs.Events.{members_len};
 ghost use Rattle.script_model.specs.ScriptReading.{max_guardians};
 ghost use Rattle.script.specs.Found.{found_in};
 
@@ -26,13 +26,19 @@ pub(crate) struct Handlers<'j> {
 }
 
 impl<'j> Model for Handlers<'j> {
-    ghost use Rattle.serde_json.specs.Data.{Items};
+    ghost use Rattle.std.specs.Prelude.{List};
+    ghost use Rattle.std.specs.Coded.{codes};
+    ghost use Rattle.serde_json.specs.declared.value.Value as json;
+    ghost use Rattle.serde_json.specs.contracts.value.Value as of_json;
+
+    ghost Value = { List json.Value };
+
+    ghost coded = { Prim.hlevel (codes, of_json.the_row.coded) };
+
     ghost use Rattle.serde_json.specs.View.{items_view};
     ghost use Rattle.script.specs.Found.{AreBefore};
 
-    ghost Value = { Items };
-
-    ghost view = { λ h. items_view h.guardians.now };
+    ghost view = { λ h. h.guardians.now };
 
     ghost invariant = { λ h. AreBefore (items_view h.guardians.now) h.before.items };
 }
@@ -57,7 +63,10 @@ fn place_among(name: &str, handlers: &Map<String, Json>) -> u32
 {
     let mut place = 0;
     for other in handlers.keys() {
-        if place == MAX_HANDLERS || other.as_str() == name {
+        if place == MAX_HANDLERS {
+            return place;
+        }
+        if other.as_str() == name {
             return place;
         }
         place += 1;
@@ -69,7 +78,7 @@ impl<'j> Handlers<'j> {
     /// The handlers of these guardians, of which there are at most 1,024.
     pub(crate) fn new(alloc: Global, guardians: &'j [Json]) -> Result<Handlers<'j>, AllocError>
         requires { length guardians.now ≤ max_guardians }
-        ensures { IfOk result (λ h. h ≡ items_view guardians.now) }
+        ensures { IfOk result (λ h. h ≡ guardians.now) }
     {
         let mut before = Vec::with_capacity(alloc, guardians.len())?;
         let mut count = 0;
@@ -82,14 +91,14 @@ impl<'j> Handlers<'j> {
 
     /// How many guardians there are.
     pub(crate) fn guardians(&self) -> usize
-        ensures { result ≡ items_len self.now }
+        ensures { result ≡ length self.now }
     {
         self.guardians.len()
     }
 
     /// The number and the document of a guardian's handler.
     pub(crate) fn find(&self, guardian: usize, name: &str) -> Option<(u32, &'j Json)>
-        ensures { option_map (λ p. (p.0, view p.1.now)) result ≡ found_in self.now guardian name.now }
+        ensures { option_map (λ p. (p.0, view p.1.now)) result ≡ found_in (items_view self.now) guardian name.now }
     {
         let handlers = handlers_in(self.guardians.get(guardian)?)?;
         let handler = member(handlers, name)?;
