@@ -4,3 +4,5 @@ pub mod Texts
 pub mod Looked
 pub mod Numbered
 pub mod OpNames
+pub mod Held
+pub mod OpParts

@@ -58,28 +58,30 @@ place_among-most (suc most) name (member n d ms) = place_among-at (same_bytes n 
 
 -- ---- how many handlers stand before
 
-pub handlers_before-more : (gs : List Value) (n : ℕ) (g : Value) → n < length gs → g ≡ get_or gs n g
-    → handlers_before (n + 1) (items_view gs) ≡ handlers_before n (items_view gs) + min (members_len (handlers_in (view g))) max_handlers
+handlers_before-more : (gs : List Value) (n : ℕ) (g : Value) → n < length gs → g ≡ get_or gs n g
+    → handlers_before (suc n) (items_view gs) ≡ handlers_before n (items_view gs) + min (members_len (handlers_in (view g))) max_handlers
 handlers_before-more [] n g h is = absurd (omega arith)
 handlers_before-more (x ∷ gs) zero g h is = omega (arith, ap (λ v. min (members_len (handlers_in (view v))) max_handlers) is)
 handlers_before-more (x ∷ gs) (suc n) g h is = omega (arith, handlers_before-more gs n g (omega arith) is)
+
+pub handlers_before-next : (gs : List Value) (n : ℕ) (g : Value) → n < length gs → g ≡ get_or gs n g
+    → handlers_before (n + 1) (items_view gs) ≡ handlers_before n (items_view gs) + min (members_len (handlers_in (view g))) max_handlers
+handlers_before-next gs n g h is =
+    let next : n + 1 ≡ suc n = omega arith in
+    ap (λ k. handlers_before k (items_view gs)) next ∙ handlers_before-more gs n g h is
 
 pub handlers_before-most : (n : ℕ) (ds : Items) → handlers_before n ds ≤ 64 * n
 handlers_before-most zero ds = omega arith
 handlers_before-most (suc n) no_items = omega arith
 handlers_before-most (suc n) (item d ds) = omega (arith, handlers_before-most n ds)
 
--- one more at the end of a list
-pub slice_get-before : (xs : List ℕ) (x n : ℕ) → n < length xs → slice_get (xs ++ x ∷ []) n ≡ slice_get xs n
-slice_get-before [] x n h = absurd (omega arith)
-slice_get-before (y ∷ xs) x zero h = refl
-slice_get-before (y ∷ xs) x (suc n) h = slice_get-before xs x n (omega arith)
-
-pub slice_get-last : (xs : List ℕ) (x n : ℕ) → n ≡ length xs → slice_get (xs ++ x ∷ []) n ≡ Some x
-slice_get-last [] x zero is = refl
-slice_get-last [] x (suc n) is = absurd (omega arith)
-slice_get-last (y ∷ xs) x zero is = absurd (omega arith)
-slice_get-last (y ∷ xs) x (suc n) is = slice_get-last xs x n (omega arith)
+-- what holds of each element of a list, and of one more
+pub each-push : (xs : List ℕ) (x : ℕ) (f : ℕ → ℕ) → x ≡ f (length xs) → ((n : ℕ) → n < length xs → slice_get xs n ≡ Some (f n))
+    → (n : ℕ) → n < length (xs ++ x ∷ []) → slice_get (xs ++ x ∷ []) n ≡ Some (f n)
+each-push [] x f last each zero h = ap Some last
+each-push [] x f last each (suc n) h = absurd (omega arith)
+each-push (y ∷ xs) x f last each zero h = each zero (omega arith)
+each-push (y ∷ xs) x f last each (suc n) h = each-push xs x (λ k. f (suc k)) last (λ k below. each (suc k) (omega arith)) n (omega arith)
 
 -- ---- handlers by their names
 
