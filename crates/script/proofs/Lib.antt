@@ -6,3 +6,5 @@ pub mod Numbered
 pub mod OpNames
 pub mod Held
 pub mod OpParts
+pub mod Marking
+pub mod Adding
