@@ -4,3 +4,12 @@ pub mod Pairs
 pub mod Depths
 pub mod ScopeLemmas
 pub mod ExpressionShapes
+pub mod BodyEnds
+pub mod Texts
+pub mod Looked
+pub mod Numbered
+pub mod OpNames
+pub mod Held
+pub mod OpParts
+pub mod Marking
+pub mod Adding

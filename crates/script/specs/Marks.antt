@@ -1,37 +1,63 @@
 -- Marks of the handlers that are called, and the question whether one can reach itself.
-use Rattle.std.specs.Prelude.{◌≡◌, ◌≢◌, ℕ, ◌<◌, List, [], length, Bool, true, Contains, Option, Some, None, Ok, Err, Vec, slice_get, ◌⊎◌, ◌↔◌, Result}
+use Rattle.std.specs.Prelude.{◌≡◌, ℕ, suc, ◌<◌, List, [], ◌∷◌, length, map, replicate, slice_set, get_or, Bool, true, false, ◌||◌, IsTrue, Option, Some, None, Ok, Err, Vec, slice_get, Result}
 use Rattle.script_model.specs.declared.fault.FaultKind.TheVariants.{Recursion}
 use Rattle.script_model.specs.declared.fault.ScriptFault.{ScriptFault}
 use Rattle.script_model.specs.declared.fault.ScriptFault.TheVariants.{Memory, Bad}
 use Rattle.script_model.specs.declared.statement.Statement.{Statement}
-use Rattle.script_model.specs.declared.statement.Arm.{Arm, out-Arm}
-use Rattle.script_model.specs.declared.statement.Arm.TheOpen.{Arm-F}
+use Rattle.script_model.specs.declared.statement.Arm.{Arm}
+use Rattle.script_model.specs.declared.statement.Arm.TheFolds.{fold-Arm}
 use Rattle.script_model.specs.declared.checked.Handler.{Handler}
 use Rattle.script_model.specs.declared.checked.Checked.{Checked}
-use Rattle.script_model.specs.Reaching.{called, Calls, Reaches, handler_place}
+use Rattle.script_model.specs.Reaching.{called, called_arm, called_step, joined, Reaches, handler_place}
 use Rattle.std.specs.declared.alloc.Global.{Global}
 
 abbrev pub called_if_any : Option (List Statement) → List ℕ
 called_if_any None = []
 called_if_any (Some body) = called body
 
-abbrev pub called_layer : Arm-F Arm Statement → List ℕ
-called_layer (Arm-F.Sub body) = called body
-called_layer (Arm-F.Top body) = called body
-
 abbrev pub called_in_arm : Arm → List ℕ
-called_in_arm arm = called_layer (out-Arm arm)
+called_in_arm = fold-Arm (List ℕ) (List ℕ) called_arm called_step
 
--- the marks of these numbers are set, and the others stay
-pub record Marks (numbers : List ℕ) (old new : List Bool) : Type 0 where
-  pub length_is : length new ≡ length old
-  pub set : (n : ℕ) → slice_get new n ≡ Some true ↔ (slice_get old n ≡ Some true) ⊎ ((n < length old) × Contains numbers n)
+abbrev pub called_in_arms : List Arm → List ℕ
+called_in_arms arms = joined (map called_in_arm arms)
 
--- each row of the table marks the handlers that the handler of its number calls
-pub record IsTable (hs : List Handler) (table : List (Vec Bool Global)) : Type 0 where
-  pub rows : length table ≡ length hs
-  pub row : (n : ℕ) (row : Vec Bool Global) → slice_get table n ≡ Some row
-      → (length row.items ≡ length hs) × ((m : ℕ) → slice_get row.items m ≡ Some true ↔ (m < length hs) × Calls hs n m)
+-- whether this number is marked
+abbrev pub marked : List Bool → ℕ → Bool
+marked marks n = get_or marks n false
+
+-- the marks with these numbers marked as well
+abbrev pub marked_all : List ℕ → List Bool → List Bool
+marked_all [] marks = marks
+marked_all (n ∷ ns) marks = marked_all ns (slice_set marks n true)
+
+-- for each handler, marks of those that it calls
+abbrev pub call_rows : List Handler → List (List Bool)
+call_rows hs = map (λ h. marked_all (called h.body) (replicate (length hs) false)) hs
+
+abbrev pub rows_of : List (Vec Bool Global) → List (List Bool)
+rows_of table = map (λ row. row.items) table
+
+-- how many are not marked
+abbrev pub unmarked : List Bool → ℕ
+unmarked [] = 0
+unmarked (true ∷ marks) = unmarked marks
+unmarked (false ∷ marks) = suc (unmarked marks)
+
+-- the new marks are the old ones and those of the row, and whether these were more
+pub record AddsRow (row old new : List Bool) (grew : Bool) : Type 0 where
+  pub same_length : length new ≡ length old
+  pub union : (n : ℕ) → marked new n ≡ (marked old n || marked row n)
+  pub more : grew ≡ true → unmarked new < unmarked old
+  pub same : grew ≡ false → new ≡ old
+
+-- The old marks stay, and what is new is called by what is marked. Where nothing is new, the marks hold all that their own rows mark.
+pub record Spreads (rows : List (List Bool)) (old new : List Bool) (grew : Bool) : Type 0 where
+  pub same_length : length new ≡ length old
+  pub kept : (n : ℕ) → IsTrue (marked old n) → IsTrue (marked new n)
+  pub sound : (hs : List Handler) (start : ℕ) → rows ≡ call_rows hs → ((n : ℕ) → IsTrue (marked old n) → Reaches hs start n)
+      → (n : ℕ) → IsTrue (marked new n) → Reaches hs start n
+  pub more : grew ≡ true → unmarked new < unmarked old
+  pub closed : grew ≡ false → (a b : ℕ) → IsTrue (marked new a) → IsTrue (marked (get_or rows a []) b) → IsTrue (marked new b)
 
 -- no handler can reach itself, or the first that can is told
 abbrev pub IsAsked : Checked → Result (Unit {0}) ScriptFault → Type 0

@@ -10,7 +10,7 @@ ghost use Rattle.script.specs.Places.{pointer, AnswersBy};
 use crate::expressions::short_text;
 use crate::names::are_named;
 use crate::place::Place;
-use crate::shapes::{int, kind_in, list, object, only_member, string, three_members};
+use crate::shapes::{int, is_within, kind_in, list, object, only_member, string, three_members};
 use script_model::{FaultKind, ScriptFault};
 use serde_json::{Map, Value as Json};
 use std::alloc::Global;
@@ -81,8 +81,7 @@ fn value_in(
 fn is_count(members: &Map<String, Json>, most: usize) -> bool
     ensures { result ≡ (nat_le 1 (members_len (members_view members.now.entries)) && nat_le (members_len (members_view members.now.entries)) most) }
 {
-    let count = members.len();
-    1 <= count && count <= most
+    is_within(members.len(), 1, most)
 }
 
 /// Asks that the members have names, and that they are 1 to so many.

@@ -1,8 +1,8 @@
 ghost use Rattle.std.specs.Prelude.{◌≡◌};
+ghost use Rattle.serde_json.specs.Data.{member, no_members};
 ghost use Rattle.serde_json.specs.View.{view};
 ghost use Rattle.script_model.specs.ScriptReading as spec;
 
-use crate::shapes::member;
 use script_model::Gives;
 use serde_json::Value as Json;
 
@@ -11,12 +11,12 @@ use serde_json::Value as Json;
 pub(crate) fn ends(body: &Json) -> bool
     ensures { result ≡ spec.ends (view body.now) }
 {
-    let Some(statements) = body.as_array() else {
-        return false;
-    };
-    match statements.last() {
-        Some(last) => is_end(last),
-        None => false,
+    match body {
+        Json::Array(statements) => match statements.as_slice() {
+            [.., last] => is_end(last),
+            [] => false,
+        },
+        _ => false,
     }
 }
 
@@ -24,15 +24,26 @@ pub(crate) fn ends(body: &Json) -> bool
 fn is_end(statement: &Json) -> bool
     ensures { result ≡ spec.is_end (view statement.now) }
 {
-    let Some(members) = statement.as_object() else {
+    let Json::Object(members) = statement else {
         return false;
     };
-    if member(members, "return").is_some() || member(members, "abort").is_some() {
-        return true;
+    for (name, part) in members.iter() {
+        if is_end_by(name.as_str(), part) {
+            return true;
+        }
     }
-    match member(members, "if") {
-        Some(parts) => branches_end(parts),
-        None => false,
+    false
+}
+
+/// Whether a statement is an end by this member.
+#[cycle(ends)]
+fn is_end_by(name: &str, part: &Json) -> bool
+    ensures { result ≡ spec.has_end (member name.now (view part.now) no_members) }
+{
+    match name {
+        "return" | "abort" => true,
+        "if" => branches_end(part),
+        _ => false,
     }
 }
 
@@ -40,7 +51,7 @@ fn is_end(statement: &Json) -> bool
 fn branches_end(parts: &Json) -> bool
     ensures { result ≡ spec.branches_end (view parts.now) }
 {
-    let Some(parts) = parts.as_array() else {
+    let Json::Array(parts) = parts else {
         return false;
     };
     match parts.as_slice() {

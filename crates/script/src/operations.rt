@@ -1,4 +1,5 @@
-ghost use Rattle.std.specs.Prelude.{◌≡◌, option_map};
+ghost use Rattle.std.specs.Prelude.{◌≡◌, Some, None, MatchOption, option_map};
+ghost use Rattle.values.specs.Fields.{field_value};
 ghost use Rattle.serde_json.specs.View.{view, items_view};
 ghost use Rattle.values.specs.Tags.{tag_kind};
 ghost use Rattle.script_model.specs.Reading.{Answers};
@@ -15,7 +16,7 @@ use crate::shapes::{array, int, string};
 use script_model::{FaultKind, OpName, Operation, ScriptFault, Sort};
 use serde_json::Value as Json;
 use std::alloc::Global;
-use values::{Content, Identifier, Kind, Record, Variant};
+use values::{Content, Field, Identifier, Kind, Record, Tag, Variant};
 
 /// An operation, and the sort of its reply where that is a value.
 type Typed = (Operation, Option<Sort>);
@@ -88,6 +89,30 @@ fn op_in(json: &Json) -> Option<OpName>
     op_named(json.as_str()?)
 }
 
+fn field_named<'r>(fields: &'r [Field], name: &str) -> Option<&'r Field>
+    ensures { MatchOption result (field_value fields.now name.now ≡ None)
+        (λ f. (f.now.name ≡ name.now) × (field_value fields.now name.now ≡ Some f.now.value)) }
+{
+    for field in fields {
+        if field.name.as_str() == name {
+            return Some(field);
+        }
+    }
+    None
+}
+
+fn tag_named<'v>(tags: &'v [Tag], name: &str) -> Option<&'v Tag>
+    ensures { MatchOption result (tag_kind tags.now name.now ≡ None)
+        (λ t. (t.now.name ≡ name.now) × (tag_kind tags.now name.now ≡ Some t.now.kind)) }
+{
+    for tag in tags {
+        if tag.name.as_str() == name {
+            return Some(tag);
+        }
+    }
+    None
+}
+
 impl Arguments<'_, '_> {
     fn document(&self, index: usize) -> Result<&Json, ScriptFault>
         ensures { AnswersBy (λ d. view d.now) (spec.argument_at index (items_view self.now.documents.now) (pointer self.now.place.now)) result }
@@ -125,18 +150,16 @@ impl Arguments<'_, '_> {
         Err(self.place.item(1).fault(self.alloc, FaultKind::Operation))
     }
 
-    fn field(&self, record: &Record) -> Result<(Identifier, Kind), ScriptFault>
-        ensures { Answers (spec.argument 0 (spec.known (spec.field_kind record.now)) (items_view self.now.documents.now) (pointer self.now.place.now)) result }
+    fn field(&self, object: &Record) -> Result<(Identifier, Kind), ScriptFault>
+        ensures { Answers (spec.argument 0 (spec.known (spec.field_kind object.now)) (items_view self.now.documents.now) (pointer self.now.place.now)) result }
     {
         let json = self.document(0)?;
         let place = self.place.item(2);
         let name = string(self.alloc, &place, json)?;
-        for field in record.fields() {
-            if field.name.as_str() == name {
-                return Ok((field.name.copy()?, field.value.kind()));
-            }
+        match field_named(object.fields(), name) {
+            Some(field) => Ok((field.name.copy()?, field.value.kind())),
+            None => Err(place.fault(self.alloc, FaultKind::Operation)),
         }
-        Err(place.fault(self.alloc, FaultKind::Operation))
     }
 
     fn tag(&self, variant: &Variant) -> Result<(Identifier, Kind), ScriptFault>
@@ -145,24 +168,22 @@ impl Arguments<'_, '_> {
         let json = self.document(0)?;
         let place = self.place.item(2);
         let name = string(self.alloc, &place, json)?;
-        for tag in variant.tags() {
-            if tag.name.as_str() == name {
-                return Ok((tag.name.copy()?, tag.kind));
-            }
+        match tag_named(variant.tags(), name) {
+            Some(tag) => Ok((tag.name.copy()?, tag.kind)),
+            None => Err(place.fault(self.alloc, FaultKind::Operation)),
         }
-        Err(place.fault(self.alloc, FaultKind::Operation))
     }
 
-    fn of_record(&self, record: &Record, name: OpName) -> Result<Typed, ScriptFault>
-        ensures { Answers (spec.record_operation record.now self.now.scope.now name (items_view self.now.documents.now) (pointer self.now.place.now)) result }
+    fn of_record(&self, object: &Record, name: OpName) -> Result<Typed, ScriptFault>
+        ensures { Answers (spec.record_operation object.now self.now.scope.now name (items_view self.now.documents.now) (pointer self.now.place.now)) result }
     {
         match name {
             OpName::Get => {
-                let (field, kind) = self.field(record)?;
+                let (field, kind) = self.field(object)?;
                 Ok((Operation::Get(field), Some(sort_of_kind(kind))))
             }
             OpName::Set => {
-                let (field, kind) = self.field(record)?;
+                let (field, kind) = self.field(object)?;
                 let value = self.value(1, kind)?;
                 Ok((Operation::Set(field, value), None))
             }
@@ -233,10 +254,12 @@ fn object_numbered<'c>(
     ensures { AnswersBy (λ p. (p.0, p.1.now)) (spec.the_object_numbered objects.now (view json.now) (pointer place.now)) result }
 {
     let number = int(alloc, place, json)?;
-    if 1 <= number && number <= u32::MAX as i64 {
-        let number = number as u32;
+    if 1 <= number {
         if let Some(content) = objects.get(number as usize - 1) {
-            return Ok((number, content));
+            return match u32::try_from(number) {
+                Ok(number) => Ok((number, content)),
+                Err(_) => Err(ScriptFault::Memory),
+            };
         }
     }
     Err(place.fault(alloc, FaultKind::Object))

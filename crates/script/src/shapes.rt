@@ -176,7 +176,7 @@ pub(crate) fn list<'j>(
     }
 }
 
-fn is_within(count: usize, least: usize, most: usize) -> bool
+pub(crate) fn is_within(count: usize, least: usize, most: usize) -> bool
     ensures { result ≡ (nat_le least count && nat_le count most) }
 {
     least <= count && count <= most

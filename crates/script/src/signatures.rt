@@ -2,15 +2,16 @@ ghost use Rattle.std.specs.Prelude.{◌≡◌, ◌+◌, ◌≤◌, ℕ, length, 
 ghost use Rattle.serde_json.specs.Data.{no_members};
 ghost use Rattle.serde_json.specs.View.{view, items_view, members_view};
 ghost use Rattle.script_model.specs.Signatures as spec;
-ghost use Rattle.serde_json.specs.Events.{items_len, members_len};
+ghost use Rattle.serde_json.specs.Events.{members_len};
 ghost use Rattle.script_model.specs.ScriptReading.{max_guardians};
-ghost use Rattle.script.specs.Found.{found_in, AreBefore};
+ghost use Rattle.script.specs.Found.{found_in};
 
 use crate::operations::sort_of_kind;
 use crate::shapes::{kind_in, kind_named, member};
 use script_model::{Gives, Sort};
 use serde_json::{Map, Value as Json};
 use std::alloc::{AllocError, Global};
+use std::marker::Model;
 use values::Kind;
 
 /// How many handlers a script has at most.
@@ -22,7 +23,24 @@ pub(crate) struct Handlers<'j> {
     guardians: &'j [Json],
     /// How many handlers stand before those of each guardian.
     before: Vec<u32>,
-    ghost counted: { AreBefore (items_view guardians.now) before.items },
+}
+
+impl<'j> Model for Handlers<'j> {
+    ghost use Rattle.std.specs.Prelude.{List};
+    ghost use Rattle.std.specs.Coded.{codes};
+    ghost use Rattle.serde_json.specs.declared.value.Value as json;
+    ghost use Rattle.serde_json.specs.contracts.value.Value as of_json;
+
+    ghost Value = { List json.Value };
+
+    ghost coded = { Prim.hlevel (codes, of_json.the_row.coded) };
+
+    ghost use Rattle.serde_json.specs.View.{items_view};
+    ghost use Rattle.script.specs.Found.{AreBefore};
+
+    ghost view = { λ h. h.guardians.now };
+
+    ghost invariant = { λ h. AreBefore (items_view h.guardians.now) h.before.items };
 }
 
 fn handlers_in(guardian: &Json) -> Option<&Map<String, Json>>
@@ -45,7 +63,10 @@ fn place_among(name: &str, handlers: &Map<String, Json>) -> u32
 {
     let mut place = 0;
     for other in handlers.keys() {
-        if place == MAX_HANDLERS || other.as_str() == name {
+        if place == MAX_HANDLERS {
+            return place;
+        }
+        if other.as_str() == name {
             return place;
         }
         place += 1;
@@ -57,7 +78,7 @@ impl<'j> Handlers<'j> {
     /// The handlers of these guardians, of which there are at most 1,024.
     pub(crate) fn new(alloc: Global, guardians: &'j [Json]) -> Result<Handlers<'j>, AllocError>
         requires { length guardians.now ≤ max_guardians }
-        ensures { IfOk result (λ h. items_view h.guardians.now ≡ items_view guardians.now) }
+        ensures { IfOk result (λ h. h ≡ guardians.now) }
     {
         let mut before = Vec::with_capacity(alloc, guardians.len())?;
         let mut count = 0;
@@ -70,14 +91,14 @@ impl<'j> Handlers<'j> {
 
     /// How many guardians there are.
     pub(crate) fn guardians(&self) -> usize
-        ensures { result ≡ items_len (items_view self.now.guardians.now) }
+        ensures { result ≡ length self.now }
     {
         self.guardians.len()
     }
 
     /// The number and the document of a guardian's handler.
     pub(crate) fn find(&self, guardian: usize, name: &str) -> Option<(u32, &'j Json)>
-        ensures { option_map (λ p. (p.0, view p.1.now)) result ≡ found_in (items_view self.now.guardians.now) guardian name.now }
+        ensures { option_map (λ p. (p.0, view p.1.now)) result ≡ found_in (items_view self.now) guardian name.now }
     {
         let handlers = handlers_in(self.guardians.get(guardian)?)?;
         let handler = member(handlers, name)?;
