@@ -13,3 +13,5 @@ pub mod Held
 pub mod OpParts
 pub mod Marking
 pub mod Adding
+pub mod Asked
+pub mod Reads

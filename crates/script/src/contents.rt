@@ -1,7 +1,6 @@
 ghost use Rattle.std.specs.Prelude.{◌&&◌, nat_le, ◌≡◌, ◌<◌, ◌^◌, IfOk, IfErr};
 ghost use Rattle.serde_json.specs.View.{view, members_view, items_view};
 ghost use Rattle.serde_json.specs.Events.{members_len};
-ghost use Rattle.values.specs.Words.{IsIdentifier};
 ghost use Rattle.values.specs.Tags.{tag_kind};
 ghost use Rattle.script_model.specs.Reading.{Answers};
 ghost use Rattle.script_model.specs.ContentReading as spec;
@@ -9,6 +8,7 @@ ghost use Rattle.script.specs.Places.{pointer, AnswersBy};
 
 use crate::expressions::short_text;
 use crate::names::are_named;
+use crate::operations::tag_named;
 use crate::place::Place;
 use crate::shapes::{int, is_within, kind_in, list, object, only_member, string, three_members};
 use script_model::{FaultKind, ScriptFault};
@@ -19,19 +19,14 @@ use values::{
     MAX_TAGS, Record, Tag, Value, ValueFault, Variant,
 };
 
-/// The identifier of these characters, which are one.
-pub(crate) fn identifier(
-    alloc: Global,
-    place: &Place<'_>,
-    text: &str,
-) -> Result<Identifier, ScriptFault>
+/// The identifier of these characters, which were asked to be one: so only memory can be wanting.
+pub(crate) fn identifier(alloc: Global, text: &str) -> Result<Identifier, ScriptFault>
     ensures read { IfOk result (λ name. name ≡ text.now) }
-    ensures refused { IfErr result (λ e. IsIdentifier text.now → e ≡ ScriptFault.Memory) }
+    ensures refused { IfErr result (λ e. e ≡ ScriptFault.Memory) }
 {
     match Identifier::parse(alloc, text) {
         Ok(identifier) => Ok(identifier),
-        Err(ValueFault::Unfit) => Err(place.fault(alloc, FaultKind::Shape)),
-        Err(ValueFault::Memory) => Err(ScriptFault::Memory),
+        Err(_) => Err(ScriptFault::Memory),
     }
 }
 
@@ -107,7 +102,7 @@ fn fields_in<'x>(
     let mut fields = Vec::with_capacity(alloc, members.len())?;
     for (name, json) in members.iter() {
         let value = value_in(alloc, &place.member(name.as_str()), None, json)?;
-        let name = identifier(alloc, place, name.as_str())?;
+        let name = identifier(alloc, name.as_str())?;
         fields.push(Field { name, value })?;
     }
     Ok(fields)
@@ -186,7 +181,7 @@ fn tags_in<'x>(alloc: Global, place: &'x Place<'x>, json: &'x Json) -> Result<Ve
     for (name, json) in members.iter() {
         let inside = place.member(name.as_str());
         let kind = inside.need(alloc, kind_in(json), FaultKind::Shape)?;
-        let name = identifier(alloc, place, name.as_str())?;
+        let name = identifier(alloc, name.as_str())?;
         tags.push(Tag { name, kind })?;
     }
     Ok(tags)
@@ -195,12 +190,10 @@ fn tags_in<'x>(alloc: Global, place: &'x Place<'x>, json: &'x Json) -> Result<Ve
 fn kind_under(tags: &[Tag], name: &str) -> Option<Kind>
     ensures { result ≡ tag_kind tags.now name.now }
 {
-    for tag in tags {
-        if tag.name.as_str() == name {
-            return Some(tag.kind);
-        }
+    match tag_named(tags, name) {
+        Some(tag) => Some(tag.kind),
+        None => None,
     }
-    None
 }
 
 fn variant_in(alloc: Global, place: &Place<'_>, json: &Json) -> Result<Content, ScriptFault>
@@ -212,7 +205,7 @@ fn variant_in(alloc: Global, place: &Place<'_>, json: &Json) -> Result<Content, 
     let name = string(alloc, &above, tag)?;
     let kind = above.need(alloc, kind_under(&tags, name), FaultKind::Operation)?;
     let value = value_in(alloc, &place.member("value"), Some(kind), held)?;
-    let tag = identifier(alloc, &above, name)?;
+    let tag = identifier(alloc, name)?;
     match Variant::from_parts(tags, tag, value) {
         Some(variant) => Ok(Content::Variant(variant)),
         None => Err(place.fault(alloc, FaultKind::Shape)),

@@ -136,7 +136,7 @@ impl<'a, 'j> Site<'a, 'j> {
         let context = self.context(gives);
         let body = context.body(&place.member("body"), &mut scope, body)?;
         Ok(Handler {
-            name: identifier(self.alloc, place, name)?,
+            name: identifier(self.alloc, name)?,
             guardian: self.guardian,
             ints,
             texts,

@@ -101,7 +101,7 @@ fn field_named<'r>(fields: &'r [Field], name: &str) -> Option<&'r Field>
     None
 }
 
-fn tag_named<'v>(tags: &'v [Tag], name: &str) -> Option<&'v Tag>
+pub(crate) fn tag_named<'v>(tags: &'v [Tag], name: &str) -> Option<&'v Tag>
     ensures { MatchOption result (tag_kind tags.now name.now ≡ None)
         (λ t. (t.now.name ≡ name.now) × (tag_kind tags.now name.now ≡ Some t.now.kind)) }
 {
