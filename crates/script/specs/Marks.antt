@@ -11,10 +11,6 @@ use Rattle.script_model.specs.declared.checked.Checked.{Checked}
 use Rattle.script_model.specs.Reaching.{called, called_arm, called_step, joined, Reaches, handler_place}
 use Rattle.std.specs.declared.alloc.Global.{Global}
 
-abbrev pub called_if_any : Option (List Statement) → List ℕ
-called_if_any None = []
-called_if_any (Some body) = called body
-
 abbrev pub called_in_arm : Arm → List ℕ
 called_in_arm = fold-Arm (List ℕ) (List ℕ) called_arm called_step
 
