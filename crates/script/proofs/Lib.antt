@@ -1,4 +1,9 @@
 pub mod Members
+pub mod Items
+pub mod Pairs
+pub mod Depths
+pub mod ScopeLemmas
+pub mod ExpressionShapes
 pub mod BodyEnds
 pub mod Texts
 pub mod Looked

@@ -7,13 +7,13 @@ use Rattle.script_model.specs.declared.expression.TextExpr.{TextExpr}
 use Rattle.script_model.specs.declared.statement.HandlerCall.{HandlerCall}
 use Rattle.script_model.specs.Reading.{Outcome}
 use Rattle.script_model.specs.Scopes.{Bound, Scope}
-use Rattle.serde_json.specs.View.{items_view}
 use Rattle.script_model.specs.StatementReading as spec
 use Rattle.script_model.specs.StatementReading.{Arguments, CallParts}
+use Rattle.script.specs.Handling.{documents_of}
 use Rattle.script.specs.declared.statements.Context.{Context}
 
 abbrev pub context_of : Context → spec.Context
-context_of cx = record { objects = cx.objects.now; guardians = items_view cx.handlers.now; gives = cx.gives; in_top = cx.in_top }
+context_of cx = record { objects = cx.objects.now; guardians = documents_of cx.handlers.now; gives = cx.gives; in_top = cx.in_top }
 
 -- the second scope is the first with variables bound after it
 abbrev pub Extends : Scope → Scope → Type 0

@@ -2,13 +2,13 @@
 use Rattle.std.specs.Prelude.{◌≡◌, ◌≢◌, List, ◌++◌, Result, Ok, Err}
 use Rattle.script_model.specs.declared.fault.ScriptFault.TheVariants.{Memory}
 use Rattle.script_model.specs.Reading.{Outcome}
-use Rattle.serde_json.specs.View.{items_view}
 use Rattle.script_model.specs.ScriptReading as spec
+use Rattle.script.specs.Handling.{documents_of}
 use Rattle.script.specs.declared.documents.Site.{Site}
 use Rattle.script.specs.declared.documents.Guardians.{Guardians}
 
 abbrev pub site_of : Site → spec.Site
-site_of site = record { guardian = site.guardian; objects = site.objects.now; guardians = items_view site.handlers.now }
+site_of site = record { guardian = site.guardian; objects = site.objects.now; guardians = documents_of site.handlers.now }
 
 abbrev pub guardians_of : Guardians → spec.Guardians
 guardians_of gs = record { objects = gs.objects; handlers = gs.handlers }

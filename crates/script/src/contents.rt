@@ -204,14 +204,31 @@ fn variant_in(alloc: Global, place: &Place<'_>, json: &Json) -> Result<Content, 
     }
 }
 
+fn content_member(
+    alloc: Global,
+    place: &Place<'_>,
+    name: &str,
+    json: &Json,
+) -> Result<Content, ScriptFault>
+    ensures { Answers (spec.content_member name.now (view json.now) (pointer place.now)) result }
+{
+    if name == "record" {
+        record_in(alloc, &(&*place).member("record"), json)
+    } else if name == "array" {
+        array_in(alloc, &(&*place).member("array"), json)
+    } else if name == "variant" {
+        variant_in(alloc, &(&*place).member("variant"), json)
+    } else {
+        Err(place.fault(alloc, FaultKind::Shape))
+    }
+}
+
 /// What an object holds at first.
 pub(crate) fn content(alloc: Global, place: &Place<'_>, json: &Json) -> Result<Content, ScriptFault>
     ensures { Answers (spec.content (view json.now) (pointer place.now)) result }
 {
     match only_member(json) {
-        Some(("record", json)) => record_in(alloc, &place.member("record"), json),
-        Some(("array", json)) => array_in(alloc, &place.member("array"), json),
-        Some(("variant", json)) => variant_in(alloc, &place.member("variant"), json),
-        _ => Err(place.fault(alloc, FaultKind::Shape)),
+        Some((name, inner)) => content_member(alloc, place, name, inner),
+        None => Err(place.fault(alloc, FaultKind::Shape)),
     }
 }

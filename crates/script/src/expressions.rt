@@ -1,8 +1,9 @@
-ghost use Rattle.std.specs.Prelude.{◌≡◌, MatchOption};
+ghost use Rattle.std.specs.Prelude.{◌≡◌, ◌≢◌};
 ghost use Rattle.serde_json.specs.View.{view};
 ghost use Rattle.script_model.specs.Reading.{Answers};
 ghost use Rattle.script_model.specs.Scopes.{find, agree};
 ghost use Rattle.script_model.specs.ExpressionReading as spec;
+ghost use Rattle.script_model.specs.ExpressionReading.{is_pair};
 ghost use Rattle.script.specs.Places.{pointer, AnswersBy};
 ghost use Rattle.script.specs.Scoping.{variable_of};
 
@@ -47,6 +48,25 @@ fn sort_of_variable(scope: &Scope<'_>, json: &Json) -> Sort
     }
 }
 
+/// Whether it names a sum or a difference.
+fn is_sum(name: &str) -> bool
+    ensures { result ≡ spec.is_sum name.now }
+{
+    name == "add" || name == "sub"
+}
+
+fn sort_of_member(scope: &Scope<'_>, name: &str, json: &Json) -> Sort
+    ensures { result ≡ spec.sort_of_member scope.now name.now (view json.now) }
+{
+    if name == "var" {
+        sort_of_variable(scope, json)
+    } else if is_sum(name) && is_pair(json) {
+        Sort::Int
+    } else {
+        Sort::Unknown
+    }
+}
+
 /// The sort of an expression, as it shows before its parts are read.
 pub(crate) fn sort_of(scope: &Scope<'_>, json: &Json) -> Sort
     ensures { result ≡ spec.sort_of scope.now (view json.now) }
@@ -58,9 +78,8 @@ pub(crate) fn sort_of(scope: &Scope<'_>, json: &Json) -> Sort
         },
         Json::String(_) => Sort::Text,
         _ => match only_member(json) {
-            Some(("var", name)) => sort_of_variable(scope, name),
-            Some(("add" | "sub", operands)) if is_pair(operands) => Sort::Int,
-            _ => Sort::Unknown,
+            Some((name, inner)) => sort_of_member(scope, name, inner),
+            None => Sort::Unknown,
         },
     }
 }
@@ -146,17 +165,32 @@ pub(crate) fn int_expr(
         },
         Json::String(_) => Err(place.fault(alloc, FaultKind::Kind)),
         _ => match only_member(json) {
-            Some(("var", name)) => int_variable(alloc, place, scope, name),
-            Some(("add", operands)) => {
-                let (x, y) = int_operands(alloc, &place.member("add"), scope, operands)?;
-                Ok(IntExpr::Sum(Boxed::new(alloc, x)?, Boxed::new(alloc, y)?))
-            }
-            Some(("sub", operands)) => {
-                let (x, y) = int_operands(alloc, &place.member("sub"), scope, operands)?;
-                Ok(IntExpr::Difference(Boxed::new(alloc, x)?, Boxed::new(alloc, y)?))
-            }
-            _ => Err(place.fault(alloc, FaultKind::Shape)),
+            Some((name, inner)) => int_member(alloc, place, scope, name, inner),
+            None => Err(place.fault(alloc, FaultKind::Shape)),
         },
+    }
+}
+
+#[cycle(int_expr)]
+fn int_member(
+    alloc: Global,
+    place: &Place<'_>,
+    scope: &Scope<'_>,
+    name: &str,
+    json: &Json,
+) -> Result<IntExpr, ScriptFault>
+    ensures { Answers (spec.int_member scope.now name.now (view json.now) (pointer place.now)) result }
+{
+    if name == "var" {
+        int_variable(alloc, place, scope, json)
+    } else if name == "add" {
+        let (x, y) = int_operands(alloc, &(&*place).member("add"), scope, json)?;
+        Ok(IntExpr::Sum(Boxed::new(alloc, x)?, Boxed::new(alloc, y)?))
+    } else if name == "sub" {
+        let (x, y) = int_operands(alloc, &(&*place).member("sub"), scope, json)?;
+        Ok(IntExpr::Difference(Boxed::new(alloc, x)?, Boxed::new(alloc, y)?))
+    } else {
+        Err(place.fault(alloc, FaultKind::Shape))
     }
 }
 
@@ -191,16 +225,40 @@ pub(crate) fn text_expr(
             None => Err(place.fault(alloc, FaultKind::Shape)),
         },
         _ => match only_member(json) {
-            Some(("var", name)) => text_variable(alloc, place, scope, name),
-            Some((name @ ("add" | "sub"), operands)) => {
-                if is_pair(operands) {
-                    Err(place.fault(alloc, FaultKind::Kind))
-                } else {
-                    Err(place.member(name).fault(alloc, FaultKind::Shape))
-                }
-            }
-            _ => Err(place.fault(alloc, FaultKind::Shape)),
+            Some((name, inner)) => text_member(alloc, place, scope, name, inner),
+            None => Err(place.fault(alloc, FaultKind::Shape)),
         },
+    }
+}
+
+fn text_member(
+    alloc: Global,
+    place: &Place<'_>,
+    scope: &Scope<'_>,
+    name: &str,
+    json: &Json,
+) -> Result<TextExpr, ScriptFault>
+    ensures { Answers (spec.text_member scope.now name.now (view json.now) (pointer place.now)) result }
+{
+    if name == "var" {
+        text_variable(alloc, place, scope, json)
+    } else if name == "add" {
+        Err(no_text(alloc, place, &(&*place).member("add"), json))
+    } else if name == "sub" {
+        Err(no_text(alloc, place, &(&*place).member("sub"), json))
+    } else {
+        Err(place.fault(alloc, FaultKind::Shape))
+    }
+}
+
+/// A sum stands where a text is wanted, or something that is no sum either.
+fn no_text(alloc: Global, place: &Place<'_>, inside: &Place<'_>, operands: &Json) -> ScriptFault
+    ensures { result ≢ ScriptFault.Memory → result ≡ spec.no_text (is_pair (view operands.now)) (pointer place.now) (pointer inside.now) }
+{
+    if is_pair(operands) {
+        place.fault(alloc, FaultKind::Kind)
+    } else {
+        inside.fault(alloc, FaultKind::Shape)
     }
 }
 
@@ -277,6 +335,26 @@ fn less(
     Ok(Condition::Less(x, y))
 }
 
+fn condition_member(
+    alloc: Global,
+    place: &Place<'_>,
+    scope: &Scope<'_>,
+    name: &str,
+    json: &Json,
+) -> Result<Condition, ScriptFault>
+    ensures { Answers (spec.condition_member scope.now name.now (view json.now) (pointer place.now)) result }
+{
+    if name == "var" {
+        truth_variable(alloc, place, scope, json)
+    } else if name == "eq" {
+        equal(alloc, place, scope, json)
+    } else if name == "lt" {
+        less(alloc, place, scope, json)
+    } else {
+        Err(place.fault(alloc, FaultKind::Shape))
+    }
+}
+
 /// What an `if` asks.
 pub(crate) fn condition(
     alloc: Global,
@@ -287,9 +365,7 @@ pub(crate) fn condition(
     ensures { Answers (spec.condition scope.now (view json.now) (pointer place.now)) result }
 {
     match only_member(json) {
-        Some(("var", name)) => truth_variable(alloc, place, scope, name),
-        Some(("eq", operands)) => equal(alloc, place, scope, operands),
-        Some(("lt", operands)) => less(alloc, place, scope, operands),
-        _ => Err(place.fault(alloc, FaultKind::Shape)),
+        Some((name, inner)) => condition_member(alloc, place, scope, name, inner),
+        None => Err(place.fault(alloc, FaultKind::Shape)),
     }
 }

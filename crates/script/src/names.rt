@@ -41,5 +41,10 @@ fn is_word_character(c: u8) -> bool
 pub(crate) fn are_named(members: &Map<String, Json>) -> bool
     ensures { result ≡ are_named (members_view members.now.entries) }
 {
-    members.keys().all(|name| is_identifier(name.as_str()))
+    for (name, _) in members.iter() {
+        if !is_identifier(name.as_str()) {
+            return false;
+        }
+    }
+    true
 }

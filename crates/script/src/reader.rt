@@ -1,6 +1,6 @@
 ghost use Rattle.std.specs.Prelude.{◌≡◌, ◌≢◌, [], Some, None, IfOk, IfErr, IsErrOf};
 ghost use Rattle.serde_json.specs.Read.{read};
-ghost use Rattle.serde_json.specs.View.{view};
+ghost use Rattle.script.specs.Documented.{document_of};
 ghost use Rattle.script_model.specs.Reaching.{Fits, IsFirstFault};
 ghost use Rattle.script_model.specs.Resolved.{IsResolved};
 
@@ -10,7 +10,6 @@ use crate::recursion::ask_endings;
 use script_model::{Checked, FaultKind, ScriptFault};
 use serde_json::Value as Json;
 use std::alloc::Global;
-use std::marker::Model;
 
 /// A JSON document that may be a script.
 #[derive(Drop)]
@@ -18,18 +17,9 @@ pub struct Script {
     document: Json,
 }
 
-impl Model for Script {
-    ghost use Rattle.serde_json.specs.Data.{Data};
-    ghost use Rattle.serde_json.specs.View.{view};
-
-    ghost Value = { Data };
-
-    ghost view = { λ s. view s.document };
-}
-
 /// The document that these bytes are. Fails where they are no JSON, or nest 128 levels deep or more.
 pub fn read(alloc: Global, bytes: &[u8]) -> Result<Script, ScriptFault>
-    ensures found { IfOk result (λ d. read bytes.now ≡ Some d) }
+    ensures found { IfOk result (λ s. read bytes.now ≡ Some (document_of s)) }
     ensures refused { IfErr result (λ e. e ≢ ScriptFault.Memory → (read bytes.now ≡ None) × (e ≡ ScriptFault.Bad FaultKind.Shape [])) }
 {
     match Json::from_slice(alloc, bytes) {
@@ -41,9 +31,9 @@ pub fn read(alloc: Global, bytes: &[u8]) -> Result<Script, ScriptFault>
 
 /// The script that the document is, or its first fault.
 pub fn check(alloc: Global, document: Script) -> Result<Checked, ScriptFault>
-    ensures fits { IfOk result (λ c. Fits document c) }
+    ensures fits { IfOk result (λ c. Fits (document_of document) c) }
     ensures resolved { IfOk result (λ c. IsResolved c) }
-    ensures refused { IfErr result (λ e. IsFirstFault document e) }
+    ensures refused { IfErr result (λ e. IsFirstFault (document_of document) e) }
 {
     let checked = script(alloc, &document.document)?;
     ask_endings(alloc, &checked)?;

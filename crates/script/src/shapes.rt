@@ -78,7 +78,12 @@ fn is_among(names: &[&str], name: &str) -> bool
 pub(crate) fn has_only(members: &Map<String, Json>, names: &[&str]) -> bool
     ensures { result ≡ has_only (map (λ n. n.now) names.now) (members_view members.now.entries) }
 {
-    members.keys().all(|name| is_among(names, name.as_str()))
+    for (name, _) in members.iter() {
+        if !is_among(names, name.as_str()) {
+            return false;
+        }
+    }
+    true
 }
 
 /// The two members of an object that has these and no other.
@@ -193,10 +198,12 @@ pub(crate) fn only_member(json: &Json) -> Option<(&str, &Json)>
 pub(crate) fn kind_named(name: &str) -> Option<Kind>
     ensures { result ≡ kind_named name.now }
 {
-    match name {
-        "int" => Some(Kind::Int),
-        "text" => Some(Kind::Text),
-        _ => None,
+    if name == "int" {
+        Some(Kind::Int)
+    } else if name == "text" {
+        Some(Kind::Text)
+    } else {
+        None
     }
 }
 

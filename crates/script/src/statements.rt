@@ -116,10 +116,12 @@ pub(crate) fn name<'j>(
 fn arm_named(name: &str) -> Option<bool>
     ensures { result ≡ spec.arm_named name.now }
 {
-    match name {
-        "sub" => Some(false),
-        "top" => Some(true),
-        _ => None,
+    if name == "sub" {
+        Some(false)
+    } else if name == "top" {
+        Some(true)
+    } else {
+        None
     }
 }
 

@@ -1,7 +1,7 @@
 -- How the opening contents of objects are read.
 use Rattle.std.specs.Prelude.{ℕ, ℤ, pos, ◌+ℤ◌, ◌-ℤ◌, int_le, List, [], ◌∷◌, Bool, true, ◌&&◌, ◌||◌, nat_le, codes, if◌then◌else◌, Option, Some, None}
 use Rattle.serde_json.specs.Events.{members_len, items_len}
-use Rattle.serde_json.specs.Data.{Data, number, string, array, object, Members, no_members, member}
+use Rattle.serde_json.specs.Data.{Data, number, string, array, Members, no_members, member}
 use Rattle.serde_json.specs.Find.{as_i64}
 use Rattle.values.specs.Words.{same_bytes}
 use Rattle.values.specs.declared.value.Kind.{Kind}
@@ -18,7 +18,7 @@ use Rattle.values.specs.Items.{max_items, least_index, greatest_index}
 use Rattle.values.specs.Tags.{max_tags, tag_kind}
 use Rattle.script_model.specs.declared.fault.FaultKind.TheVariants as is
 use Rattle.script_model.specs.Reading.{Read, reads, fault, ask, need, at, each, ◌>>=◌, ◌>>◌}
-use Rattle.script_model.specs.Shapes.{the_object, the_string, the_int, the_list, the_three, are_named, kind_in}
+use Rattle.script_model.specs.Shapes.{only_member, the_object, the_string, the_int, the_list, the_three, are_named, kind_in}
 use Rattle.script_model.specs.ExpressionReading.{short_text}
 
 -- whether a value of this kind fits where that kind is wanted, or any
@@ -115,9 +115,15 @@ variant_in d = do
 
 -- ---- any content
 
+abbrev pub content_member : List ℕ → Data → Read Content
+content_member name d =
+    if same_bytes name (codes "record") then at (codes "record") (record_in d)
+    else (if same_bytes name (codes "array") then at (codes "array") (array_in d)
+    else (if same_bytes name (codes "variant") then at (codes "variant") (variant_in d) else fault is.Shape))
+
+abbrev pub content_of : Option (List ℕ × Data) → Read Content
+content_of None = fault is.Shape
+content_of (Some p) = content_member p.0 p.1
+
 abbrev pub content : Data → Read Content
-content (object (member name d no_members)) =
-    if same_bytes name (codes "record") then at name (record_in d)
-    else (if same_bytes name (codes "array") then at name (array_in d)
-    else (if same_bytes name (codes "variant") then at name (variant_in d) else fault is.Shape))
-content _ = fault is.Shape
+content d = content_of (only_member d)

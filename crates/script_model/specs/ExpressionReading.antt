@@ -1,11 +1,13 @@
 -- How expressions and conditions are read.
-use Rattle.std.specs.Prelude.{ℕ, ℤ, pos, List, [], length, Bool, ◌&&◌, ◌||◌, nat_le, is_some, codes, if◌then◌else◌, Option, Some, None, option_and_then}
+use Rattle.std.specs.Prelude.{Err, ℕ, ℤ, pos, List, [], length, Bool, ◌&&◌, ◌||◌, nat_le, is_some, codes, if◌then◌else◌, Option, Some, None, option_and_then}
 use Rattle.serde_json.specs.Data.{Data, null, boolean, number, string, array, object, Items, no_items, item, Members, no_members, member}
 use Rattle.serde_json.specs.Find.{as_i64, as_array}
 use Rattle.values.specs.Words.{same_bytes, max_text}
 use Rattle.values.specs.declared.value.Kind.{Kind}
 use Rattle.values.specs.declared.value.Kind.TheVariants as kind
 use Rattle.script_model.specs.declared.fault.FaultKind.TheVariants as is
+use Rattle.script_model.specs.declared.fault.ScriptFault.{ScriptFault}
+use Rattle.script_model.specs.declared.fault.ScriptFault.TheVariants.{Bad}
 use Rattle.script_model.specs.declared.names.Sort.{Sort}
 use Rattle.script_model.specs.declared.names.Sort.TheVariants.{Int, Text, Truth, Unknown}
 use Rattle.script_model.specs.declared.expression.IntExpr.{IntExpr}
@@ -16,8 +18,8 @@ use Rattle.script_model.specs.declared.expression.Expr.{Expr}
 use Rattle.script_model.specs.declared.expression.Expr.TheVariants as expr
 use Rattle.script_model.specs.declared.expression.Condition.{Condition}
 use Rattle.script_model.specs.declared.expression.Condition.TheVariants as test
-use Rattle.script_model.specs.Reading.{Read, reads, fault, ask, need, at, nth, ◌>>=◌, ◌>>◌}
-use Rattle.script_model.specs.Shapes.{two_items, the_string, the_pair}
+use Rattle.script_model.specs.Reading.{Read, step, reads, fault, ask, need, at, nth, ◌>>=◌, ◌>>◌}
+use Rattle.script_model.specs.Shapes.{only_member, two_items, the_string, the_pair}
 use Rattle.script_model.specs.Scopes.{Scope, Variable, find, agree, same_sort}
 
 abbrev pub is_pair : Data → Bool
@@ -40,12 +42,18 @@ abbrev pub sort_of_variable : Scope → Data → Sort
 sort_of_variable scope (string name) = sort_found (find scope name)
 sort_of_variable scope _ = Unknown
 
+abbrev pub sort_of_member : Scope → List ℕ → Data → Sort
+sort_of_member scope name d =
+    if same_bytes name (codes "var") then sort_of_variable scope d else (if is_sum name && is_pair d then Int else Unknown)
+
+abbrev pub sort_of_only : Scope → Option (List ℕ × Data) → Sort
+sort_of_only scope None = Unknown
+sort_of_only scope (Some p) = sort_of_member scope p.0 p.1
+
 abbrev pub sort_of : Scope → Data → Sort
 sort_of scope (number n) = if is_some (as_i64 n) then Int else Unknown
 sort_of scope (string s) = Text
-sort_of scope (object (member name d no_members)) =
-    if same_bytes name (codes "var") then sort_of_variable scope d else (if is_sum name && is_pair d then Int else Unknown)
-sort_of scope _ = Unknown
+sort_of scope d = sort_of_only scope (only_member d)
 
 -- ---- variables
 
@@ -92,6 +100,13 @@ abbrev pub int_literal : Option ℤ → Read IntExpr
 int_literal None = fault is.Shape
 int_literal (Some z) = reads (int.Literal z)
 
+-- by the name of the one member: a variable, a sum or a difference
+abbrev pub int_by_name : List ℕ → Read IntExpr → Read (IntExpr × IntExpr) → Read IntExpr
+int_by_name name bound operands =
+    if same_bytes name (codes "var") then bound
+    else (if same_bytes name (codes "add") then (at (codes "add") operands >>= sum_of)
+    else (if same_bytes name (codes "sub") then (at (codes "sub") operands >>= difference_of) else fault is.Shape))
+
 -- an expression that is to give an int
 abbrev mutual
   pub int_expr : Scope → Data → Read IntExpr
@@ -104,10 +119,7 @@ abbrev mutual
 
   pub int_of_members : Scope → Members → Read IntExpr
   int_of_members scope no_members = fault is.Shape
-  int_of_members scope (member name d no_members) =
-      if same_bytes name (codes "var") then int_variable scope d
-      else (if same_bytes name (codes "add") then (at name (int_operands scope d) >>= sum_of)
-      else (if same_bytes name (codes "sub") then (at name (int_operands scope d) >>= difference_of) else fault is.Shape))
+  int_of_members scope (member name d no_members) = int_by_name name (int_variable scope d) (int_operands scope d)
   int_of_members scope (member name d (member other e ms)) = fault is.Shape
 
   -- the two operands of a sum or a difference
@@ -129,15 +141,28 @@ abbrev mutual
   two_ints scope (item d (item e (item f ds))) = fault is.Shape
 
 -- an expression that is to give a text
+abbrev pub int_member : Scope → List ℕ → Data → Read IntExpr
+int_member scope name d = int_by_name name (int_variable scope d) (int_operands scope d)
+
+abbrev pub no_text : Bool → List ℕ → List ℕ → ScriptFault
+no_text is_sum place inside = if is_sum then Bad is.Kind place else Bad is.Shape inside
+
+abbrev pub text_member : Scope → List ℕ → Data → Read TextExpr
+text_member scope name d =
+    if same_bytes name (codes "var") then text_variable scope d
+    else (if same_bytes name (codes "add") then (λ place. Err (no_text (is_pair d) place (step place (codes "add"))))
+    else (if same_bytes name (codes "sub") then (λ place. Err (no_text (is_pair d) place (step place (codes "sub")))) else fault is.Shape))
+
+abbrev pub text_of_only : Scope → Option (List ℕ × Data) → Read TextExpr
+text_of_only scope None = fault is.Shape
+text_of_only scope (Some p) = text_member scope p.0 p.1
+
 abbrev pub text_expr : Scope → Data → Read TextExpr
 text_expr scope (string s) = do
   short ← short_text s
   reads (text.Literal short)
 text_expr scope (number n) = if is_some (as_i64 n) then fault is.Kind else fault is.Shape
-text_expr scope (object (member name d no_members)) =
-    if same_bytes name (codes "var") then text_variable scope d
-    else (if is_sum name then (if is_pair d then fault is.Kind else at name (fault is.Shape)) else fault is.Shape)
-text_expr scope _ = fault is.Shape
+text_expr scope d = text_of_only scope (only_member d)
 
 abbrev pub expr_of_kind : Kind → Scope → Data → Read Expr
 expr_of_kind kind.Int scope d = do
@@ -183,9 +208,15 @@ less scope d = do
   p ← at (codes "lt") (int_operands scope d)
   reads (test.Less p.0 p.1)
 
-abbrev pub condition : Scope → Data → Read Condition
-condition scope (object (member name d no_members)) =
+abbrev pub condition_member : Scope → List ℕ → Data → Read Condition
+condition_member scope name d =
     if same_bytes name (codes "var") then truth_variable scope d
     else (if same_bytes name (codes "eq") then equal scope d
     else (if same_bytes name (codes "lt") then less scope d else fault is.Shape))
-condition scope _ = fault is.Shape
+
+abbrev pub condition_of_only : Scope → Option (List ℕ × Data) → Read Condition
+condition_of_only scope None = fault is.Shape
+condition_of_only scope (Some p) = condition_member scope p.0 p.1
+
+abbrev pub condition : Scope → Data → Read Condition
+condition scope d = condition_of_only scope (only_member d)

@@ -1,6 +1,8 @@
-use Rattle.std.proofs.Common.{sym, ◌∙◌}
-use Rattle.script.proofs.Members.{has_only-members}
+use Rattle.std.proofs.Common.{◌≡◌, sym, ap, ◌∙◌, rules}
 use Rattle.script.proofs.shapes.has_only.Goals as goal
 
-pub returns : goal.returns
-returns c = ?
+pub returns-then-not-is_among : goal.returns-then-not-is_among
+returns-then-not-is_among c = ?
+
+pub loop-name-preserved : goal.loop-name-preserved
+loop-name-preserved c = ?
