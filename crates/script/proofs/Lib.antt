@@ -13,3 +13,6 @@ pub mod Held
 pub mod OpParts
 pub mod Marking
 pub mod Adding
+pub mod Reach
+pub mod Spreading
+pub mod Asking
