@@ -1,5 +1,5 @@
 -- Marks of the handlers that are called, and the question whether one can reach itself.
-use Rattle.std.specs.Prelude.{◌≡◌, ℕ, suc, ◌<◌, List, [], ◌∷◌, length, map, replicate, slice_set, get_or, Bool, true, false, ◌||◌, IsTrue, Option, Some, None, Ok, Err, Vec, slice_get, Result}
+use Rattle.std.specs.Prelude.{◌≡◌, ℕ, suc, ◌<◌, List, [], ◌∷◌, length, map, replicate, slice_set, get_or, Bool, true, false, ◌||◌, Some, Ok, Err, Vec, slice_get, Result}
 use Rattle.script_model.specs.declared.fault.FaultKind.TheVariants.{Recursion}
 use Rattle.script_model.specs.declared.fault.ScriptFault.{ScriptFault}
 use Rattle.script_model.specs.declared.fault.ScriptFault.TheVariants.{Memory, Bad}
@@ -10,10 +10,6 @@ use Rattle.script_model.specs.declared.checked.Handler.{Handler}
 use Rattle.script_model.specs.declared.checked.Checked.{Checked}
 use Rattle.script_model.specs.Reaching.{called, called_arm, called_step, joined, Reaches, handler_place}
 use Rattle.std.specs.declared.alloc.Global.{Global}
-
-abbrev pub called_if_any : Option (List Statement) → List ℕ
-called_if_any None = []
-called_if_any (Some body) = called body
 
 abbrev pub called_in_arm : Arm → List ℕ
 called_in_arm = fold-Arm (List ℕ) (List ℕ) called_arm called_step
@@ -53,11 +49,11 @@ pub record AddsRow (row old new : List Bool) (grew : Bool) : Type 0 where
 -- The old marks stay, and what is new is called by what is marked. Where nothing is new, the marks hold all that their own rows mark.
 pub record Spreads (rows : List (List Bool)) (old new : List Bool) (grew : Bool) : Type 0 where
   pub same_length : length new ≡ length old
-  pub kept : (n : ℕ) → IsTrue (marked old n) → IsTrue (marked new n)
-  pub sound : (hs : List Handler) (start : ℕ) → rows ≡ call_rows hs → ((n : ℕ) → IsTrue (marked old n) → Reaches hs start n)
-      → (n : ℕ) → IsTrue (marked new n) → Reaches hs start n
+  pub kept : (n : ℕ) → marked old n ≡ true → marked new n ≡ true
+  pub sound : (hs : List Handler) (start : ℕ) → rows ≡ call_rows hs → ((n : ℕ) → marked old n ≡ true → Reaches hs start n)
+      → (n : ℕ) → marked new n ≡ true → Reaches hs start n
   pub more : grew ≡ true → unmarked new < unmarked old
-  pub closed : grew ≡ false → (a b : ℕ) → IsTrue (marked new a) → IsTrue (marked (get_or rows a []) b) → IsTrue (marked new b)
+  pub closed : grew ≡ false → (a b : ℕ) → marked new a ≡ true → marked (get_or rows a []) b ≡ true → marked new b ≡ true
 
 -- no handler can reach itself, or the first that can is told
 abbrev pub IsAsked : Checked → Result (Unit {0}) ScriptFault → Type 0

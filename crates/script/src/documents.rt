@@ -6,6 +6,7 @@ ghost use Rattle.script_model.specs.StatementReading.{guardian_index};
 ghost use Rattle.script_model.specs.ScriptReading as spec;
 ghost use Rattle.script.specs.Places.{pointer, AnswersBy};
 ghost use Rattle.script.specs.Contexts.{context_of};
+ghost use Rattle.script.specs.Handling.{documents_of};
 ghost use Rattle.script.specs.Sites.{site_of, AnswersOnto, guardians_of};
 
 use crate::contents::{content, identifier};
@@ -193,7 +194,7 @@ impl Guardians {
         number: u32,
         json: &'j Json,
     ) -> Result<(), ScriptFault>
-        ensures { AnswersBy (λ _. guardians_of self.new) (spec.add_guardian (items_view documents.now) number (guardians_of self.old) (view json.now) (pointer place.now)) result }
+        ensures { AnswersBy (λ _. guardians_of self.new) (spec.add_guardian (documents_of documents.now) number (guardians_of self.old) (view json.now) (pointer place.now)) result }
     {
         let (contents, handlers) = two_members(alloc, place, json, "objects", "handlers")?;
         let contents = objects_in(alloc, &place.member("objects"), contents)?;
@@ -215,7 +216,7 @@ fn guardians_in<'j>(
     documents: &'j [Json],
     signatures: &Handlers<'j>,
 ) -> Result<Guardians, ScriptFault>
-    ensures { AnswersBy guardians_of (spec.guardians_in (items_view signatures.now) (items_view documents.now) (pointer place.now)) result }
+    ensures { AnswersBy guardians_of (spec.guardians_in (documents_of signatures.now) (items_view documents.now) (pointer place.now)) result }
 {
     let mut guardians = Guardians {
         objects: Items::new(alloc),
@@ -237,7 +238,7 @@ fn client_in<'j>(
     handlers: &Handlers<'j>,
     json: &'j Json,
 ) -> Result<Client, ScriptFault>
-    ensures { Answers (spec.client (items_view handlers.now) objects.now (view json.now) (pointer place.now)) result }
+    ensures { Answers (spec.client (documents_of handlers.now) objects.now (view json.now) (pointer place.now)) result }
 {
     let (home, body) = two_members(alloc, place, json, "home", "body")?;
     let index = guardian(alloc, &place.member("home"), handlers.guardians(), home)?;
@@ -267,7 +268,7 @@ fn clients_in<'j>(
     handlers: &Handlers<'j>,
     json: &'j Json,
 ) -> Result<Items<Client>, ScriptFault>
-    ensures { Answers (spec.clients (items_view handlers.now) objects.now (view json.now) (pointer place.now)) result }
+    ensures { Answers (spec.clients (documents_of handlers.now) objects.now (view json.now) (pointer place.now)) result }
 {
     let documents = list(alloc, place, json, 1, MAX_CLIENTS)?;
     let mut clients = Items::new(alloc);

@@ -114,29 +114,29 @@ pub(crate) fn tag_named<'v>(tags: &'v [Tag], name: &str) -> Option<&'v Tag>
 }
 
 impl Arguments<'_, '_> {
-    fn document(&self, index: usize) -> Result<&Json, ScriptFault>
+    fn document(&self, index: u8) -> Result<&Json, ScriptFault>
         ensures { AnswersBy (λ d. view d.now) (spec.argument_at index (items_view self.now.documents.now) (pointer self.now.place.now)) result }
     {
-        match self.documents.get(index) {
+        match self.documents.get(index as usize) {
             Some(json) => Ok(json),
             None => Err(self.place.fault(self.alloc, FaultKind::Arguments)),
         }
     }
 
-    fn int(&self, index: usize) -> Result<script_model::IntExpr, ScriptFault>
+    fn int(&self, index: u8) -> Result<script_model::IntExpr, ScriptFault>
         ensures { Answers (spec.argument index (int_expr self.now.scope.now) (items_view self.now.documents.now) (pointer self.now.place.now)) result }
     {
         let json = self.document(index)?;
-        int_expr(self.alloc, &self.place.item(index + 2), self.scope, json)
+        int_expr(self.alloc, &self.place.item(index as usize + 2), self.scope, json)
     }
 
-    fn value(&self, index: usize, kind: Kind) -> Result<script_model::Expr, ScriptFault>
+    fn value(&self, index: u8, kind: Kind) -> Result<script_model::Expr, ScriptFault>
         ensures { Answers (spec.argument index (expr_of_kind kind self.now.scope.now) (items_view self.now.documents.now) (pointer self.now.place.now)) result }
     {
         let json = self.document(index)?;
         expr_of_kind(
             self.alloc,
-            &self.place.item(index + 2),
+            &self.place.item(index as usize + 2),
             self.scope,
             kind,
             json,

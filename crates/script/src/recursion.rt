@@ -2,11 +2,10 @@ ghost use Rattle.std.specs.Prelude.{◌≡◌, ◌≢◌, List, ◌<◌, ◌≤�
 ghost use Rattle.std.specs.declared.alloc.Global.{Global};
 ghost use Rattle.script_model.specs.Reaching.{called, called_by, Reaches, handler_place};
 ghost use Rattle.script_model.specs.declared.checked.Handler.{Handler};
-ghost use Rattle.script.specs.Marks.{marked_all, called_if_any, called_in_arm, called_in_arms, call_rows, rows_of, AddsRow, Spreads, IsAsked};
+ghost use Rattle.script.specs.Marks.{marked_all, called_in_arm, called_in_arms, call_rows, rows_of, AddsRow, Spreads, IsAsked};
 
 use crate::place::Place;
 use script_model::{Arm, Checked, FaultKind, Handler, ScriptFault, Statement};
-use sqlite_items::Items;
 use std::alloc::{AllocError, Global};
 
 /// Marks the handler of this number.
@@ -29,23 +28,20 @@ fn mark_calls(statements: &[Statement], marks: &mut [bool])
 }
 
 #[cycle(mark)]
-fn mark_if_any(statements: &Option<Items<Statement>>, marks: &mut [bool])
-    ensures { marks.new ≡ marked_all (called_if_any statements.now) marks.old }
-{
-    if let Some(statements) = statements {
-        mark_calls(statements.as_slice(), marks);
-    }
-}
-
-#[cycle(mark)]
 fn mark_statement(statement: &Statement, marks: &mut [bool])
     ensures { marks.new ≡ marked_all (called_by statement.now) marks.old }
 {
     match statement {
-        Statement::Op(_, signals) => mark_if_any(signals, marks),
+        Statement::Op(_, signals) => {
+            if let Some(signals) = signals {
+                mark_calls(signals.as_slice(), marks);
+            }
+        }
         Statement::Call(call, signals) => {
             mark(call.handler as usize, marks);
-            mark_if_any(signals, marks);
+            if let Some(signals) = signals {
+                mark_calls(signals.as_slice(), marks);
+            }
         }
         Statement::Coenter(arms) => mark_arms(arms.as_slice(), marks),
         Statement::TopAction(body, signals) => {
