@@ -1,5 +1,5 @@
 -- What asking gives, one question after another.
-use Rattle.std.proofs.Common.{◌≡◌, ℕ, List, [], ◌∷◌, ◌++◌, Bool, true, false, ◌||◌, codes, Ok, Err, Result, String, Global, string_bytes, refl, sym, ap, ◌∙◌, append_assoc, append-nil, rules}
+use Rattle.std.proofs.Common.{◌≡◌, ℕ, List, [], ◌∷◌, ◌++◌, Bool, true, false, ◌||◌, codes, Option, Some, None, Ok, Err, Result, String, Global, string_bytes, refl, sym, ap, ◌∙◌, append_assoc, append-nil, rules}
 use Rattle.serde_json.specs.Data.{Data, string}
 use Rattle.serde_json.specs.View.{view}
 use Rattle.serde_json.specs.declared.value.Value.{the_lemmas}
@@ -9,7 +9,7 @@ use Rattle.script_model.specs.declared.fault.FaultKind.TheVariants as is
 use Rattle.script_model.specs.declared.names.Sort.{Sort}
 use Rattle.script_model.specs.declared.names.Sort.TheVariants.{Text}
 use Rattle.script_model.specs.declared.expression.Condition.{Condition}
-use Rattle.script_model.specs.Reading.{Outcome, Answers, and_then, ask, step}
+use Rattle.script_model.specs.Reading.{Outcome, Answers, and_then, ask, need, step}
 use Rattle.script_model.specs.Scopes.{Scope, agree, same_sort}
 use Rattle.script_model.specs.Shapes.{the_pair}
 use Rattle.script_model.specs.ExpressionReading.{sort_of, equal, same_texts, same_ints}
@@ -20,6 +20,10 @@ view-String s = search (rules, the_lemmas)
 pub ask_true : (b : Bool) (why : FaultKind) (place : List ℕ) → ask b why place ≡ Ok tt → b ≡ true
 ask_true true why place e = refl
 ask_true false why place e = cc
+
+pub need_some : {A : Type 0} (o : Option A) (why : FaultKind) (place : List ℕ) (a : A) → need o why place ≡ Ok a → o ≡ Some a
+need_some None why place a e = cc
+need_some (Some b) why place a e = cc
 
 pub asks : (a b : Bool) (k l : FaultKind) (place : List ℕ) (r : Outcome (Unit {0})) → ask a k place ≡ Ok tt → Answers (ask b l place) r
     → Answers (and_then (ask a k place) (λ _. ask b l place)) r

@@ -14,7 +14,7 @@ pub mod OpNames
 pub mod OpParts
 pub mod Pairs
 pub mod Reach
-pub mod Reads
+pub mod Listed
 pub mod ScopeLemmas
 pub mod Spreading
 pub mod Texts

@@ -99,7 +99,7 @@ fn kind_given(gives: Gives) -> Option<Kind>
 
 impl<'a, 'j> Site<'a, 'j> {
     fn context(self, gives: Gives) -> Context<'a, 'j>
-        ensures { context_of result ≡ spec.context_at (site_of self) gives }
+        ensures { context_of result ≡ spec.context_at (site_of self.entry) gives }
     {
         Context {
             alloc: self.alloc,
@@ -118,7 +118,7 @@ impl<'a, 'j> Site<'a, 'j> {
         name: &str,
         json: &'j Json,
     ) -> Result<Handler, ScriptFault>
-        ensures { Answers (spec.handler (site_of self) number name.now (view json.now) (pointer place.now)) result }
+        ensures { Answers (spec.handler (site_of self.entry) number name.now (view json.now) (pointer place.now)) result }
     {
         let (params, gives, body) = three_members(
             self.alloc,
@@ -153,7 +153,7 @@ impl<'a, 'j> Site<'a, 'j> {
         json: &'j Json,
         handlers: &mut Items<Handler>,
     ) -> Result<(), ScriptFault>
-        ensures { AnswersOnto handlers.old handlers.new (spec.handlers (site_of self) (length handlers.old) (view json.now) (pointer place.now)) result }
+        ensures { AnswersOnto handlers.old handlers.new (spec.handlers (site_of self.entry) (length handlers.old) (view json.now) (pointer place.now)) result }
     {
         let members = object(self.alloc, place, json)?;
         place.ask(self.alloc, are_named(members), FaultKind::Shape)?;

@@ -127,7 +127,12 @@ impl Arguments<'_, '_> {
         ensures { Answers (spec.argument index (int_expr self.now.scope.now) (items_view self.now.documents.now) (pointer self.now.place.now)) result }
     {
         let json = self.document(index)?;
-        int_expr(self.alloc, &self.place.item(index as usize + 2), self.scope, json)
+        int_expr(
+            self.alloc,
+            &self.place.item(index as usize + 2),
+            self.scope,
+            json,
+        )
     }
 
     fn value(&self, index: u8, kind: Kind) -> Result<script_model::Expr, ScriptFault>

@@ -162,7 +162,7 @@ fn turns_of(number: i64) -> Option<u32>
 
 impl<'a, 'j> Context<'a, 'j> {
     fn in_top_action(self) -> Context<'a, 'j>
-        ensures { context_of result ≡ spec.in_top_action (context_of self) }
+        ensures { context_of result ≡ spec.in_top_action (context_of self.entry) }
     {
         Context {
             in_top: true,
@@ -200,7 +200,7 @@ impl<'a, 'j> Context<'a, 'j> {
         let Some(into) = member(members, "into") else {
             return Ok(binding_of(sort, None));
         };
-        let place = place.member("into");
+        let place = (&*place).member("into");
         let name = name(self.alloc, &place, into)?;
         match scope.find(name) {
             Some(variable) => {
@@ -289,13 +289,13 @@ impl<'a, 'j> Context<'a, 'j> {
     {
         let (number, name, arguments) = triple(self.alloc, place, json)?;
         let count = self.handlers.guardians();
-        let index = guardian(self.alloc, &place.item(0), count, number)?;
-        let place_of_name = place.item(1);
+        let index = guardian(self.alloc, &(&*place).item(0), count, number)?;
+        let place_of_name = (&*place).item(1);
         let name = string(self.alloc, &place_of_name, name)?;
         let Some((handler, document)) = self.handlers.find(index, name) else {
             return Err(place_of_name.fault(self.alloc, FaultKind::Handler));
         };
-        let (ints, texts) = self.arguments(&place.item(2), scope, document, arguments)?;
+        let (ints, texts) = self.arguments(&(&*place).item(2), scope, document, arguments)?;
         let call = HandlerCall {
             handler,
             ints,
@@ -329,7 +329,7 @@ impl<'a, 'j> Context<'a, 'j> {
         }
         let fits = !self.in_top && may_return(self.gives, sort_of(scope, json));
         place.ask(self.alloc, fits, FaultKind::Flow)?;
-        let value = value_expr(self.alloc, &place.member("return"), scope, json)?;
+        let value = value_expr(self.alloc, &(&*place).member("return"), scope, json)?;
         Ok(Statement::Return(Some(value)))
     }
 
@@ -345,7 +345,12 @@ impl<'a, 'j> Context<'a, 'j> {
         ensures kept { OnOk result (scope.new ≡ scope.old) }
     {
         match member(members, "signals") {
-            Some(json) => Ok(Some(self.body_at(levels, &place.member("signals"), scope, json)?)),
+            Some(json) => Ok(Some(self.body_at(
+                levels,
+                &(&*place).member("signals"),
+                scope,
+                json,
+            )?)),
             None => Ok(None),
         }
     }
@@ -363,7 +368,7 @@ impl<'a, 'j> Context<'a, 'j> {
         ensures extends { OnOk result (Extends scope.old scope.new) }
     {
         self.ask_value(place, members, op_gives_nothing(json))?;
-        let inside = place.member("op");
+        let inside = (&*place).member("op");
         let (object, operation, sort) = operation(self.alloc, &inside, self.objects, scope, json)?;
         let binding = self.bind(place, scope, sort, members)?;
         let signals = self.signals(levels, place, scope, members)?;
@@ -388,7 +393,7 @@ impl<'a, 'j> Context<'a, 'j> {
         ensures extends { OnOk result (Extends scope.old scope.new) }
     {
         self.ask_value(place, members, self.call_gives_nothing(json))?;
-        let (call, sort) = self.call(&place.member("call"), scope, json)?;
+        let (call, sort) = self.call(&(&*place).member("call"), scope, json)?;
         let binding = self.bind(place, scope, sort, members)?;
         let signals = self.signals(levels, place, scope, members)?;
         Ok(Statement::Call(HandlerCall { binding, ..call }, signals))
@@ -406,9 +411,9 @@ impl<'a, 'j> Context<'a, 'j> {
         ensures kept { OnOk result (scope.new ≡ scope.old) }
     {
         let (arm, body) = two_members(self.alloc, place, json, "arm", "body")?;
-        let inside = place.member("arm");
+        let inside = (&*place).member("arm");
         let is_top = inside.need(self.alloc, is_top_arm(arm), FaultKind::Shape)?;
-        let below = place.member("body");
+        let below = (&*place).member("body");
         if is_top {
             let body = self.in_top_action().body_at(levels, &below, scope, body)?;
             return Ok(Arm::Top(body));
@@ -430,7 +435,7 @@ impl<'a, 'j> Context<'a, 'j> {
         let documents = list(self.alloc, place, json, 1, MAX_ARMS)?;
         let mut arms = Items::new(self.alloc);
         for (i, document) in documents.iter().enumerate() {
-            arms.push(self.arm(levels, &place.item(i), scope, document)?)?;
+            arms.push(self.arm(levels, &(&*place).item(i), scope, document)?)?;
         }
         Ok(Statement::Coenter(arms))
     }
@@ -447,7 +452,7 @@ impl<'a, 'j> Context<'a, 'j> {
         ensures read { Answers (spec.top_action (body_at levels) (context_of self.now) scope.old (members_view members.now.entries) (view json.now) (pointer place.now)) result }
         ensures kept { OnOk result (scope.new ≡ scope.old) }
     {
-        let inside = place.member("topaction");
+        let inside = (&*place).member("topaction");
         let body = self.in_top_action().body_at(levels, &inside, scope, json)?;
         let signals = match self.signals(levels, place, scope, members)? {
             Some(signals) => signals,
@@ -468,9 +473,9 @@ impl<'a, 'j> Context<'a, 'j> {
         ensures kept { OnOk result (scope.new ≡ scope.old) }
     {
         let (test, first, second) = triple(self.alloc, place, json)?;
-        let test = condition(self.alloc, &place.item(0), scope, test)?;
-        let first = self.body_at(levels, &place.item(1), scope, first)?;
-        let second = self.body_at(levels, &place.item(2), scope, second)?;
+        let test = condition(self.alloc, &(&*place).item(0), scope, test)?;
+        let first = self.body_at(levels, &(&*place).item(1), scope, first)?;
+        let second = self.body_at(levels, &(&*place).item(2), scope, second)?;
         Ok(Statement::If(test, first, second))
     }
 
@@ -486,10 +491,10 @@ impl<'a, 'j> Context<'a, 'j> {
         ensures kept { OnOk result (scope.new ≡ scope.old) }
     {
         let (number, body) = pair(self.alloc, place, json)?;
-        let above = place.item(0);
+        let above = (&*place).item(0);
         let number = int(self.alloc, &above, number)?;
         let turns = above.need(self.alloc, turns_of(number), FaultKind::Limit)?;
-        let body = self.body_at(levels, &place.item(1), scope, body)?;
+        let body = self.body_at(levels, &(&*place).item(1), scope, body)?;
         Ok(Statement::Repeat(turns, body))
     }
 
@@ -526,7 +531,7 @@ impl<'a, 'j> Context<'a, 'j> {
         }
         if let Some(json) = member(members, "coenter") {
             self.only(place, members, &["coenter"])?;
-            return self.coenter(levels, &place.member("coenter"), scope, json);
+            return self.coenter(levels, &(&*place).member("coenter"), scope, json);
         }
         if let Some(json) = member(members, "topaction") {
             self.only(place, members, &["topaction", "signals"])?;
@@ -548,15 +553,15 @@ impl<'a, 'j> Context<'a, 'j> {
     {
         if let Some(json) = member(members, "if") {
             self.only(place, members, &["if"])?;
-            return self.branches(levels, &place.member("if"), scope, json);
+            return self.branches(levels, &(&*place).member("if"), scope, json);
         }
         if let Some(json) = member(members, "repeat") {
             self.only(place, members, &["repeat"])?;
-            return self.turns(levels, &place.member("repeat"), scope, json);
+            return self.turns(levels, &(&*place).member("repeat"), scope, json);
         }
         if let Some(json) = member(members, "abort") {
             self.only(place, members, &["abort"])?;
-            return self.abort(&place.member("abort"), json);
+            return self.abort(&(&*place).member("abort"), json);
         }
         if let Some(json) = member(members, "return") {
             self.only(place, members, &["return"])?;
@@ -578,7 +583,7 @@ impl<'a, 'j> Context<'a, 'j> {
     {
         let mut body = Items::new(self.alloc);
         for (i, document) in documents.iter().enumerate() {
-            body.push(self.statement(levels, &place.item(i), scope, document)?)?;
+            body.push(self.statement(levels, &(&*place).item(i), scope, document)?)?;
         }
         Ok(body)
     }

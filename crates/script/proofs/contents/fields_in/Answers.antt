@@ -5,7 +5,7 @@ use Rattle.values.specs.declared.record.Field.{Field}
 use Rattle.script_model.specs.Reading.{and_then, step}
 use Rattle.script_model.specs.ContentReading.{fields_in, value_in}
 use Rattle.script.specs.Places.{pointer}
-use Rattle.script.proofs.Reads.{fields_more}
+use Rattle.script.proofs.Listed.{fields_more}
 use Rattle.script.proofs.contents.fields_in.Goals as goal
 
 pub loop-name-preserved : goal.loop-name-preserved
