@@ -16,3 +16,6 @@ pub mod Adding
 pub mod Reach
 pub mod Spreading
 pub mod Asking
+pub mod Rows
+pub mod Beginning
+pub mod OpSteps

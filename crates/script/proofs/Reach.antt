@@ -50,7 +50,7 @@ marked_all-from (k ∷ ns) marks n e =
     ⊎_elim (λ (m : marked marks n ≡ true). inl m) (λ (same : n ≡ k). inr (contains_here k n ns same)) (set-from marks k n h (same_or_other n k)))
     (λ (c : Contains ns n). inr (contains_later k n ns c)) (marked_all-from ns (set marks k true) n e)
 
-marked-replicate : (count n : ℕ) → marked (replicate count false) n ≡ false
+pub marked-replicate : (count n : ℕ) → marked (replicate count false) n ≡ false
 marked-replicate zero n = refl
 marked-replicate (suc count) zero = refl
 marked-replicate (suc count) (suc n) = marked-replicate count n

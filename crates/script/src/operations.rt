@@ -8,11 +8,10 @@ ghost use Rattle.script_model.specs.ExpressionReading.{int_expr, expr_of_kind};
 ghost use Rattle.script_model.specs.OperationReading as spec;
 ghost use Rattle.script.specs.Places.{pointer, AnswersBy};
 
-use crate::contents::identifier;
 use crate::expressions::{expr_of_kind, int_expr};
 use crate::place::Place;
 use crate::scope::Scope;
-use crate::shapes::{array, int, string};
+use crate::shapes::{int, string};
 use script_model::{FaultKind, OpName, Operation, ScriptFault, Sort};
 use serde_json::Value as Json;
 use std::alloc::Global;
@@ -281,6 +280,16 @@ fn has_arity(name: Option<OpName>, count: usize) -> bool
     }
 }
 
+/// The object, the name and the arguments, as they stand in an operation's list.
+fn op_parts(json: &Json) -> Option<(&Json, &Json, &[Json])>
+    ensures { option_map (λ p. (view p.0.now, view p.1.now, items_view p.2.now)) result ≡ spec.op_parts (view json.now) }
+{
+    match json.as_array()?.as_slice() {
+        [object, name, documents @ ..] => Some((object, name, documents)),
+        _ => None,
+    }
+}
+
 /// An operation on an object, with the object's number.
 pub(crate) fn operation(
     alloc: Global,
@@ -291,7 +300,7 @@ pub(crate) fn operation(
 ) -> Result<(u32, Operation, Option<Sort>), ScriptFault>
     ensures { AnswersBy (λ p. (p.0, (p.1, p.2))) (spec.operation objects.now scope.now (view json.now) (pointer place.now)) result }
 {
-    let [object, name, documents @ ..] = array(alloc, place, json)? else {
+    let Some((object, name, documents)) = op_parts(json) else {
         return Err(place.fault(alloc, FaultKind::Shape));
     };
     let fits = has_arity(op_in(name), documents.len());
@@ -312,13 +321,16 @@ pub(crate) fn operation(
 pub(crate) fn op_gives_nothing(json: &Json) -> bool
     ensures { result ≡ spec.op_gives_nothing (view json.now) }
 {
-    let Some(items) = json.as_array() else {
-        return false;
-    };
-    let [_, name, ..] = items.as_slice() else {
-        return false;
-    };
-    match op_in(name) {
+    match op_parts(json) {
+        Some((_, name, _)) => says_nothing(op_in(name)),
+        None => false,
+    }
+}
+
+fn says_nothing(name: Option<OpName>) -> bool
+    ensures { result ≡ spec.says_nothing name }
+{
+    match name {
         Some(name) => !gives_value(name),
         None => false,
     }
