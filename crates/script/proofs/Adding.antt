@@ -61,8 +61,8 @@ pub adds_one : (i : ℕ) (row old now : List Bool) (grew : Bool) → AddsUpTo i 
 adds_one i row old now grew before h on off = record {
   same_length = length-set now i true ∙ before.same_length;
   below = below_more (λ n. marked (set now i true) n ≡ (marked old n || marked row n)) i
-  (λ n less. let other : n ≢ i = omega arith in get_or-set_other now i n true false other ∙ before.below n less)
-  (get_or-set_same now i true false h ∙ or_true (marked old i) ∙ ap (λ b. marked old i || b) (sym on));
+      (λ n less. let other : n ≢ i = omega arith in get_or-set_other now i n true false other ∙ before.below n less)
+      (get_or-set_same now i true false h ∙ or_true (marked old i) ∙ ap (λ b. marked old i || b) (sym on));
   above = λ n least. let other : n ≢ i = omega arith in get_or-set_other now i n true false other ∙ before.above n (omega arith);
   most = omega (arith, unmarked-set now i h off, before.most);
   more = λ e. omega (arith, unmarked-set now i h off, before.most);

@@ -40,5 +40,5 @@ pub square_rows : (hs : List Handler) (table : List (Vec Bool Global)) → rows_
 square_rows hs table same row held =
     let count = sym (length-rows_of table) ∙ ap length same ∙ length-call_rows hs in
     let long = length-row (λ h. marked_all (called h.body) (replicate (length hs) false)) (length hs)
-        (λ h. length-marked_all (called h.body) (replicate (length hs) false) ∙ length-replicate (length hs) false) hs held.0 (omega (arith, count, held.1)) in
+    (λ h. length-marked_all (called h.body) (replicate (length hs) false) ∙ length-replicate (length hs) false) hs held.0 (omega (arith, count, held.1)) in
     ap length (row_of table held.0 row held.1 (sym held.2)) ∙ ap (λ rows. length (get_or rows held.0 [])) same ∙ long ∙ sym count

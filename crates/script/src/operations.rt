@@ -114,7 +114,8 @@ fn tag_named<'v>(tags: &'v [Tag], name: &str) -> Option<&'v Tag>
 
 impl Arguments<'_, '_> {
     fn document(&self, index: u8) -> Result<&Json, ScriptFault>
-        ensures { AnswersBy (λ d. view d.now) (spec.argument_at index (items_view self.now.documents.now) (pointer self.now.place.now)) result }
+        ensures { AnswersBy (λ d. view d.now) (spec.argument_at index
+            (items_view self.now.documents.now) (pointer self.now.place.now)) result }
     {
         match self.documents.get(index as usize) {
             Some(json) => Ok(json),
@@ -123,14 +124,21 @@ impl Arguments<'_, '_> {
     }
 
     fn int(&self, index: u8) -> Result<script_model::IntExpr, ScriptFault>
-        ensures { Answers (spec.argument index (int_expr self.now.scope.now) (items_view self.now.documents.now) (pointer self.now.place.now)) result }
+        ensures { Answers (spec.argument index (int_expr self.now.scope.now)
+            (items_view self.now.documents.now) (pointer self.now.place.now)) result }
     {
         let json = self.document(index)?;
-        int_expr(self.alloc, &self.place.item(index as usize + 2), self.scope, json)
+        int_expr(
+            self.alloc,
+            &self.place.item(index as usize + 2),
+            self.scope,
+            json,
+        )
     }
 
     fn value(&self, index: u8, kind: Kind) -> Result<script_model::Expr, ScriptFault>
-        ensures { Answers (spec.argument index (expr_of_kind kind self.now.scope.now) (items_view self.now.documents.now) (pointer self.now.place.now)) result }
+        ensures { Answers (spec.argument index (expr_of_kind kind self.now.scope.now)
+            (items_view self.now.documents.now) (pointer self.now.place.now)) result }
     {
         let json = self.document(index)?;
         expr_of_kind(
@@ -150,7 +158,8 @@ impl Arguments<'_, '_> {
     }
 
     fn field(&self, object: &Record) -> Result<(Identifier, Kind), ScriptFault>
-        ensures { Answers (spec.argument 0 (spec.known (spec.field_kind object.now)) (items_view self.now.documents.now) (pointer self.now.place.now)) result }
+        ensures { Answers (spec.argument 0 (spec.known (spec.field_kind object.now))
+            (items_view self.now.documents.now) (pointer self.now.place.now)) result }
     {
         let json = self.document(0)?;
         let place = self.place.item(2);
@@ -162,7 +171,8 @@ impl Arguments<'_, '_> {
     }
 
     fn tag(&self, variant: &Variant) -> Result<(Identifier, Kind), ScriptFault>
-        ensures { Answers (spec.argument 0 (spec.known (tag_kind variant.now.tags)) (items_view self.now.documents.now) (pointer self.now.place.now)) result }
+        ensures { Answers (spec.argument 0 (spec.known (tag_kind variant.now.tags))
+            (items_view self.now.documents.now) (pointer self.now.place.now)) result }
     {
         let json = self.document(0)?;
         let place = self.place.item(2);
@@ -174,7 +184,8 @@ impl Arguments<'_, '_> {
     }
 
     fn of_record(&self, object: &Record, name: OpName) -> Result<Typed, ScriptFault>
-        ensures { Answers (spec.record_operation object.now self.now.scope.now name (items_view self.now.documents.now) (pointer self.now.place.now)) result }
+        ensures { Answers (spec.record_operation object.now self.now.scope.now name
+            (items_view self.now.documents.now) (pointer self.now.place.now)) result }
     {
         match name {
             OpName::Get => {
@@ -191,7 +202,8 @@ impl Arguments<'_, '_> {
     }
 
     fn of_array(&self, kind: Kind, name: OpName) -> Result<Typed, ScriptFault>
-        ensures { Answers (spec.array_operation kind self.now.scope.now name (items_view self.now.documents.now) (pointer self.now.place.now)) result }
+        ensures { Answers (spec.array_operation kind self.now.scope.now name
+            (items_view self.now.documents.now) (pointer self.now.place.now)) result }
     {
         match name {
             OpName::Low => Ok((Operation::Low, Some(Sort::Int))),
@@ -212,7 +224,8 @@ impl Arguments<'_, '_> {
     }
 
     fn of_variant(&self, variant: &Variant, name: OpName) -> Result<Typed, ScriptFault>
-        ensures { Answers (spec.variant_operation variant.now self.now.scope.now name (items_view self.now.documents.now) (pointer self.now.place.now)) result }
+        ensures { Answers (spec.variant_operation variant.now self.now.scope.now name
+            (items_view self.now.documents.now) (pointer self.now.place.now)) result }
     {
         match name {
             OpName::Is => {
@@ -233,7 +246,8 @@ impl Arguments<'_, '_> {
     }
 
     fn of_object(&self, content: &Content, name: OpName) -> Result<Typed, ScriptFault>
-        ensures { Answers (spec.object_operation content.now self.now.scope.now name (items_view self.now.documents.now) (pointer self.now.place.now)) result }
+        ensures { Answers (spec.object_operation content.now self.now.scope.now name
+            (items_view self.now.documents.now) (pointer self.now.place.now)) result }
     {
         match content {
             Content::Record(record) => self.of_record(record, name),

@@ -47,8 +47,14 @@ overflow_add-result c =
     let read = slice_get_read c.deref.result.now _ n c.in_ok-before.field-0.now refl c.in_ok-before.ensures.lookup.3.0 c.in_ok-before.ensures.lookup.1 in
     let kept = c.self.invariant.counts n (omega (arith, c.in_ok-get.ensures.lookup.3.0, c.self.invariant.for_each)) in
     let same : c.in_ok-before.field-0.now ≡ handlers_before n (items_view gs) = cc (c.deref.ensures.value) in
-    omega (arith, same, handlers_before-most n (items_view gs), place_among-most 64 c.args.name.now (members_view c.in_ok-handlers.handlers.now.entries), c.self.invariant.few,
-    c.in_ok-get.ensures.lookup.3.0)
+    omega (
+      arith,
+      same,
+      handlers_before-most n (items_view gs),
+      place_among-most 64 c.args.name.now (members_view c.in_ok-handlers.handlers.now.entries),
+      c.self.invariant.few,
+      c.in_ok-get.ensures.lookup.3.0,
+    )
 
 pub returns : goal.returns
 returns c =

@@ -22,7 +22,7 @@ loop-guardian-preserved c =
       for_each = omega (arith, ap length pushed, length-append l.before.items (l.count ∷ []));
       count = omega (arith, next);
       counts = subst (λ (bs : List ℕ). (n : ℕ) → n < length bs → slice_get bs n ≡ Some (handlers_before n (items_view gs))) (sym pushed)
-      (each-push l.before.items l.count (λ n. handlers_before n (items_view gs)) last l.invariant.counts);
+          (each-push l.before.items l.count (λ n. handlers_before n (items_view gs)) last l.invariant.counts);
     }
 
 pub invariant_of-result : goal.invariant_of-result
