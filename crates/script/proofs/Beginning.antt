@@ -2,7 +2,7 @@
 use Rattle.std.proofs.Common.{◌≡◌, ◌<◌, ⊎_elim, ℕ, zero, suc, List, [], ◌∷◌, length, map, get_or, set, replicate, Bool, true, false, Vec, Global, Contains, refl, sym, ap, ◌∙◌, subst, arith, length-set, true≢false}
 use Rattle.std.proofs.lemmas.List.{length-replicate}
 use Rattle.script_model.specs.declared.checked.Handler.{Handler}
-use Rattle.script_model.specs.Reaching.{called, Reaches, directly}
+use Rattle.script_model.specs.Reaching.{called, directly}
 use Rattle.script.specs.Marks.{marked, marked_all, call_rows, rows_of, AddsRow}
 use Rattle.script.proofs.Reach.{calls_from_row, marked-replicate}
 use Rattle.script.proofs.Rows.{length-rows_of, row_of}

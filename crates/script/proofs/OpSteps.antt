@@ -1,5 +1,5 @@
 -- How an operation is read, step by step.
-use Rattle.std.proofs.Common.{◌≡◌, ℕ, List, Bool, Some, Ok, decimal, refl, sym, ap, ◌∙◌}
+use Rattle.std.proofs.Common.{◌≡◌, ℕ, List, Bool, Some, Ok, decimal, refl}
 use Rattle.serde_json.specs.Data.{Data, Items}
 use Rattle.serde_json.specs.Events.{items_len}
 use Rattle.values.specs.declared.content.Content.{Content}

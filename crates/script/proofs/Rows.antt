@@ -1,5 +1,5 @@
 -- Rows of marks, beside the table that keeps them.
-use Rattle.std.proofs.Common.{◌≡◌, ◌<◌, ℕ, zero, suc, List, [], ◌∷◌, length, get_or, Bool, Vec, Global, refl, sym, ap, ◌∙◌, subst, arith}
+use Rattle.std.proofs.Common.{◌≡◌, ◌<◌, ℕ, zero, suc, List, [], ◌∷◌, length, get_or, Bool, Vec, Global, refl, sym, ap, subst, arith}
 use Rattle.script.specs.Marks.{rows_of, AddsRow}
 use Rattle.script.proofs.Spreading.{SpreadsUpTo}
 

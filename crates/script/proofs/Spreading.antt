@@ -1,10 +1,10 @@
 -- Marks spread from marked handlers to those that they call, one row after another.
-use Rattle.std.proofs.Common.{◌≡◌, ◌≢◌, ◌<◌, ◌≤◌, ◌⊎◌, inl, inr, ⊎_elim, ℕ, zero, suc, ◌+◌, List, [], ◌∷◌, length, get_or, Bool, true, false, ◌||◌, refl, sym, ap, ◌∙◌, subst, arith, below_more, true≢false}
+use Rattle.std.proofs.Common.{◌≡◌, ◌<◌, ◌≤◌, ◌⊎◌, inl, inr, ⊎_elim, ℕ, zero, suc, ◌+◌, List, [], ◌∷◌, length, get_or, Bool, true, false, ◌||◌, refl, sym, ap, ◌∙◌, subst, arith, below_more, true≢false}
 use Rattle.std.proofs.Common.{◌↔◌, Some}
 use Rattle.std.proofs.lemmas.Option.{slice_get_within}
 use Rattle.std.specs.List.{slice_get}
 use Rattle.script_model.specs.declared.checked.Handler.{Handler}
-use Rattle.script_model.specs.Reaching.{Calls, Reaches, directly, further}
+use Rattle.script_model.specs.Reaching.{Reaches, directly, further}
 use Rattle.script.specs.Marks.{marked, unmarked, call_rows, AddsRow, Spreads}
 use Rattle.script.proofs.Reach.{calls_from_row, row_from_calls, reaches_more}
 

@@ -4,7 +4,6 @@ use Rattle.std.specs.Prelude.{Bool, true, false, ◌||◌, Some, Ok, Err, Vec, R
 use Rattle.script_model.specs.declared.fault.FaultKind.TheVariants.{Recursion}
 use Rattle.script_model.specs.declared.fault.ScriptFault.{ScriptFault}
 use Rattle.script_model.specs.declared.fault.ScriptFault.TheVariants.{Memory, Bad}
-use Rattle.script_model.specs.declared.statement.Statement.{Statement}
 use Rattle.script_model.specs.declared.statement.Arm.{Arm}
 use Rattle.script_model.specs.declared.statement.Arm.TheFolds.{fold-Arm}
 use Rattle.script_model.specs.declared.checked.Handler.{Handler}

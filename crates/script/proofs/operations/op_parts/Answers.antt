@@ -1,4 +1,4 @@
-use Rattle.std.proofs.Common.{◌≡◌, Some, refl, sym, ap, ◌∙◌, arith}
+use Rattle.std.proofs.Common.{Some, ap, ◌∙◌, arith}
 use Rattle.std.proofs.lemmas.List.{take_rest}
 use Rattle.serde_json.specs.View.{view, items_view}
 use Rattle.script.proofs.OpParts.{op_parts-few, op_parts-many}

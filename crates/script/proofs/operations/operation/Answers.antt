@@ -1,4 +1,4 @@
-use Rattle.std.proofs.Common.{◌≡◌, sym, ap, ap₂, ◌∙◌, rules}
+use Rattle.std.proofs.Common.{sym, ap₂, ◌∙◌, rules}
 use Rattle.serde_json.specs.View.{view, items_view}
 use Rattle.serde_json.proofs.Views.{items_len-items_view}
 use Rattle.script_model.specs.OperationReading.{has_arity}

@@ -1,7 +1,7 @@
-use Rattle.std.proofs.Common.{◌≡◌, length, sym, ◌∙◌, arith}
+use Rattle.std.proofs.Common.{sym, ◌∙◌, arith}
 use Rattle.script.specs.Marks.{rows_of}
 use Rattle.script.proofs.Rows.{length-rows_of, row_of, adds_at, spreads_is}
-use Rattle.script.proofs.Spreading.{SpreadsUpTo, spreads_none, spreads_unmarked, spreads_grown, spreads_same, spreads_all}
+use Rattle.script.proofs.Spreading.{spreads_none, spreads_unmarked, spreads_grown, spreads_same, spreads_all}
 use Rattle.script.proofs.recursion.spread.Goals as goal
 use Rattle.script.proofs.recursion.spread.Goals.{then-marks-number+then-add_row, else-marks-number, else-marks-number-via-then-marks-number+else-add_row, else-marks-number-via-else-marks-number}
 
