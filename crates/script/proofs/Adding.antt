@@ -1,5 +1,5 @@
 -- The marks of a row are added to others, one after another.
-use Rattle.std.proofs.Common.{◌≡◌, ◌≢◌, ◌<◌, ◌≤◌, ◌⊎◌, inl, inr, ⊎_elim, ℕ, zero, suc, ◌+◌, List, [], ◌∷◌, length, get_or, set, Bool, true, false, ◌||◌, refl, sym, ap, ◌∙◌, arith, below_more, get_or-set_same, get_or-set_other, length-set, true≢false}
+use Rattle.std.proofs.Common.{◌≡◌, ◌≢◌, ◌<◌, ◌≤◌, ◌⊎◌, inl, inr, ⊎_elim, ℕ, zero, suc, ◌+◌, List, [], ◌∷◌, length, set, Bool, true, false, ◌||◌, refl, sym, ap, ◌∙◌, arith, below_more, get_or-set_same, get_or-set_other, length-set, true≢false}
 use Rattle.std.proofs.lemmas.List.{get_or_past}
 use Rattle.script.specs.Marks.{marked, unmarked, AddsRow}
 

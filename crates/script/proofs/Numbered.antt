@@ -1,15 +1,15 @@
 -- The numbers of handlers, beside maps and counts as they are kept.
-use Rattle.std.proofs.Common.{◌≡◌, ◌<◌, ◌≤◌, ℕ, zero, suc, ◌+◌, ◌-◌, ◌*◌, min, List, [], ◌∷◌, ◌++◌, length, get_or, Bool, true, false, String, Global, string_bytes, cond, Option, Some, None, option_map, option_and_then, unwrap_or, refl, sym, ap, ap₂, ◌∙◌, arith}
+use Rattle.std.proofs.Common.{◌≡◌, ◌<◌, ◌≤◌, ℕ, zero, suc, ◌+◌, ◌-◌, ◌*◌, min, List, [], ◌∷◌, ◌++◌, length, get_or, Bool, true, false, String, Global, string_bytes, cond, Option, Some, None, option_map, option_and_then, unwrap_or, refl, ap, ◌∙◌, arith}
 use Rattle.std.specs.List.{slice_get}
 use Rattle.std.specs.Map.{keys_of}
 use Rattle.serde_json.specs.declared.value.Value.{Value}
 use Rattle.serde_json.specs.View.{view, items_view, members_view}
 use Rattle.serde_json.specs.Data.{Data, Items, no_items, item, Members, no_members, member}
 use Rattle.serde_json.specs.Find.{get_item, get_member}
-use Rattle.serde_json.specs.Events.{items_len, members_len}
+use Rattle.serde_json.specs.Events.{members_len}
 use Rattle.serde_json.proofs.Views.{Entry}
 use Rattle.values.specs.Words.{same_bytes}
-use Rattle.script_model.specs.Signatures.{handlers_in, place_among, handlers_before, handler_found, handler_number, max_handlers}
+use Rattle.script_model.specs.Signatures.{handlers_in, place_among, handlers_before, max_handlers}
 use Rattle.script.specs.Found.{found_in}
 use Rattle.script.proofs.Looked.{get_item-found, get_item-lost}
 

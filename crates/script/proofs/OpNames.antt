@@ -1,5 +1,5 @@
 -- Names of operations.
-use Rattle.std.proofs.Common.{◌≡◌, ℕ, List, Option, None, codes, refl}
+use Rattle.std.proofs.Common.{◌≡◌, ℕ, List, None, codes}
 use Rattle.script_model.specs.OperationReading.{op_named}
 use Rattle.script.proofs.Texts.{differ_from_bytes}
 

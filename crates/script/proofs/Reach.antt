@@ -1,5 +1,5 @@
 -- Which handlers call which, by rows of marks, and how far calls reach.
-use Rattle.std.proofs.Common.{◌≡◌, ◌≢◌, ◌<◌, ◌≤◌, ◌⊎◌, inl, inr, ⊎_elim, ℕ, zero, suc, ◌+◌, List, [], ◌∷◌, length, map, get_or, set, replicate, Bool, true, false, Option, Some, None, Contains, refl, sym, ap, ◌∙◌, subst, arith, get_or-set_same, get_or-set_other, length-set, true≢false}
+use Rattle.std.proofs.Common.{◌≡◌, ◌≢◌, ◌<◌, ◌⊎◌, inl, inr, ⊎_elim, ℕ, zero, suc, List, [], ◌∷◌, length, map, get_or, set, replicate, Bool, true, false, Option, Some, None, Contains, refl, sym, ap, ◌∙◌, subst, arith, get_or-set_same, get_or-set_other, length-set, true≢false}
 use Rattle.std.proofs.lemmas.List.{length-replicate}
 use Rattle.std.specs.List.{slice_get}
 use Rattle.script_model.specs.declared.checked.Handler.{Handler}
@@ -50,7 +50,7 @@ marked_all-from (k ∷ ns) marks n e =
     ⊎_elim (λ (m : marked marks n ≡ true). inl m) (λ (same : n ≡ k). inr (contains_here k n ns same)) (set-from marks k n h (same_or_other n k)))
     (λ (c : Contains ns n). inr (contains_later k n ns c)) (marked_all-from ns (set marks k true) n e)
 
-marked-replicate : (count n : ℕ) → marked (replicate count false) n ≡ false
+pub marked-replicate : (count n : ℕ) → marked (replicate count false) n ≡ false
 marked-replicate zero n = refl
 marked-replicate (suc count) zero = refl
 marked-replicate (suc count) (suc n) = marked-replicate count n

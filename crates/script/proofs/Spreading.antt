@@ -1,10 +1,10 @@
 -- Marks spread from marked handlers to those that they call, one row after another.
-use Rattle.std.proofs.Common.{◌≡◌, ◌≢◌, ◌<◌, ◌≤◌, ◌⊎◌, inl, inr, ⊎_elim, ℕ, zero, suc, ◌+◌, List, [], ◌∷◌, length, get_or, Bool, true, false, ◌||◌, refl, sym, ap, ◌∙◌, subst, arith, below_more, true≢false}
+use Rattle.std.proofs.Common.{◌≡◌, ◌<◌, ◌≤◌, ◌⊎◌, inl, inr, ⊎_elim, ℕ, zero, suc, ◌+◌, List, [], ◌∷◌, length, get_or, Bool, true, false, ◌||◌, refl, sym, ap, ◌∙◌, subst, arith, below_more, true≢false}
 use Rattle.std.proofs.Common.{◌↔◌, Some}
 use Rattle.std.proofs.lemmas.Option.{slice_get_within}
 use Rattle.std.specs.List.{slice_get}
 use Rattle.script_model.specs.declared.checked.Handler.{Handler}
-use Rattle.script_model.specs.Reaching.{Calls, Reaches, directly, further}
+use Rattle.script_model.specs.Reaching.{Reaches, directly, further}
 use Rattle.script.specs.Marks.{marked, unmarked, call_rows, AddsRow, Spreads}
 use Rattle.script.proofs.Reach.{calls_from_row, row_from_calls, reaches_more}
 
@@ -44,11 +44,11 @@ spreads_unmarked i rows old now grew before off = record {
 or_left : (a b : Bool) → a ≡ true → (a || b) ≡ true
 or_left a b e = ap (λ c. c || b) e
 
-or_right : (a b : Bool) → b ≡ true → (a || b) ≡ true
+pub or_right : (a b : Bool) → b ≡ true → (a || b) ≡ true
 or_right true b e = refl
 or_right false b e = e
 
-or_either : (a b : Bool) → (a || b) ≡ true → (a ≡ true) ⊎ (b ≡ true)
+pub or_either : (a b : Bool) → (a || b) ≡ true → (a ≡ true) ⊎ (b ≡ true)
 or_either true b e = inl refl
 or_either false b e = inr e
 

@@ -1,9 +1,9 @@
 -- Marks of the handlers that are called, and the question whether one can reach itself.
-use Rattle.std.specs.Prelude.{◌≡◌, ℕ, suc, ◌<◌, List, [], ◌∷◌, length, map, replicate, slice_set, get_or, Bool, true, false, ◌||◌, Some, Ok, Err, Vec, slice_get, Result}
+use Rattle.std.specs.Prelude.{◌≡◌, ℕ, suc, ◌<◌, List, [], ◌∷◌, length, map, replicate, slice_set, get_or, slice_get}
+use Rattle.std.specs.Prelude.{Bool, true, false, ◌||◌, Some, Ok, Err, Vec, Result}
 use Rattle.script_model.specs.declared.fault.FaultKind.TheVariants.{Recursion}
 use Rattle.script_model.specs.declared.fault.ScriptFault.{ScriptFault}
 use Rattle.script_model.specs.declared.fault.ScriptFault.TheVariants.{Memory, Bad}
-use Rattle.script_model.specs.declared.statement.Statement.{Statement}
 use Rattle.script_model.specs.declared.statement.Arm.{Arm}
 use Rattle.script_model.specs.declared.statement.Arm.TheFolds.{fold-Arm}
 use Rattle.script_model.specs.declared.checked.Handler.{Handler}

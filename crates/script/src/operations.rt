@@ -8,11 +8,10 @@ ghost use Rattle.script_model.specs.ExpressionReading.{int_expr, expr_of_kind};
 ghost use Rattle.script_model.specs.OperationReading as spec;
 ghost use Rattle.script.specs.Places.{pointer, AnswersBy};
 
-use crate::contents::identifier;
 use crate::expressions::{expr_of_kind, int_expr};
 use crate::place::Place;
 use crate::scope::Scope;
-use crate::shapes::{array, int, string};
+use crate::shapes::{int, string};
 use script_model::{FaultKind, OpName, Operation, ScriptFault, Sort};
 use serde_json::Value as Json;
 use std::alloc::Global;
@@ -115,7 +114,8 @@ pub(crate) fn tag_named<'v>(tags: &'v [Tag], name: &str) -> Option<&'v Tag>
 
 impl Arguments<'_, '_> {
     fn document(&self, index: u8) -> Result<&Json, ScriptFault>
-        ensures { AnswersBy (λ d. view d.now) (spec.argument_at index (items_view self.now.documents.now) (pointer self.now.place.now)) result }
+        ensures { AnswersBy (λ d. view d.now) (spec.argument_at index
+            (items_view self.now.documents.now) (pointer self.now.place.now)) result }
     {
         match self.documents.get(index as usize) {
             Some(json) => Ok(json),
@@ -124,7 +124,8 @@ impl Arguments<'_, '_> {
     }
 
     fn int(&self, index: u8) -> Result<script_model::IntExpr, ScriptFault>
-        ensures { Answers (spec.argument index (int_expr self.now.scope.now) (items_view self.now.documents.now) (pointer self.now.place.now)) result }
+        ensures { Answers (spec.argument index (int_expr self.now.scope.now)
+            (items_view self.now.documents.now) (pointer self.now.place.now)) result }
     {
         let json = self.document(index)?;
         int_expr(
@@ -136,7 +137,8 @@ impl Arguments<'_, '_> {
     }
 
     fn value(&self, index: u8, kind: Kind) -> Result<script_model::Expr, ScriptFault>
-        ensures { Answers (spec.argument index (expr_of_kind kind self.now.scope.now) (items_view self.now.documents.now) (pointer self.now.place.now)) result }
+        ensures { Answers (spec.argument index (expr_of_kind kind self.now.scope.now)
+            (items_view self.now.documents.now) (pointer self.now.place.now)) result }
     {
         let json = self.document(index)?;
         expr_of_kind(
@@ -156,7 +158,8 @@ impl Arguments<'_, '_> {
     }
 
     fn field(&self, object: &Record) -> Result<(Identifier, Kind), ScriptFault>
-        ensures { Answers (spec.argument 0 (spec.known (spec.field_kind object.now)) (items_view self.now.documents.now) (pointer self.now.place.now)) result }
+        ensures { Answers (spec.argument 0 (spec.known (spec.field_kind object.now))
+            (items_view self.now.documents.now) (pointer self.now.place.now)) result }
     {
         let json = self.document(0)?;
         let place = self.place.item(2);
@@ -168,7 +171,8 @@ impl Arguments<'_, '_> {
     }
 
     fn tag(&self, variant: &Variant) -> Result<(Identifier, Kind), ScriptFault>
-        ensures { Answers (spec.argument 0 (spec.known (tag_kind variant.now.tags)) (items_view self.now.documents.now) (pointer self.now.place.now)) result }
+        ensures { Answers (spec.argument 0 (spec.known (tag_kind variant.now.tags))
+            (items_view self.now.documents.now) (pointer self.now.place.now)) result }
     {
         let json = self.document(0)?;
         let place = self.place.item(2);
@@ -180,7 +184,8 @@ impl Arguments<'_, '_> {
     }
 
     fn of_record(&self, object: &Record, name: OpName) -> Result<Typed, ScriptFault>
-        ensures { Answers (spec.record_operation object.now self.now.scope.now name (items_view self.now.documents.now) (pointer self.now.place.now)) result }
+        ensures { Answers (spec.record_operation object.now self.now.scope.now name
+            (items_view self.now.documents.now) (pointer self.now.place.now)) result }
     {
         match name {
             OpName::Get => {
@@ -197,7 +202,8 @@ impl Arguments<'_, '_> {
     }
 
     fn of_array(&self, kind: Kind, name: OpName) -> Result<Typed, ScriptFault>
-        ensures { Answers (spec.array_operation kind self.now.scope.now name (items_view self.now.documents.now) (pointer self.now.place.now)) result }
+        ensures { Answers (spec.array_operation kind self.now.scope.now name
+            (items_view self.now.documents.now) (pointer self.now.place.now)) result }
     {
         match name {
             OpName::Low => Ok((Operation::Low, Some(Sort::Int))),
@@ -218,7 +224,8 @@ impl Arguments<'_, '_> {
     }
 
     fn of_variant(&self, variant: &Variant, name: OpName) -> Result<Typed, ScriptFault>
-        ensures { Answers (spec.variant_operation variant.now self.now.scope.now name (items_view self.now.documents.now) (pointer self.now.place.now)) result }
+        ensures { Answers (spec.variant_operation variant.now self.now.scope.now name
+            (items_view self.now.documents.now) (pointer self.now.place.now)) result }
     {
         match name {
             OpName::Is => {
@@ -239,7 +246,8 @@ impl Arguments<'_, '_> {
     }
 
     fn of_object(&self, content: &Content, name: OpName) -> Result<Typed, ScriptFault>
-        ensures { Answers (spec.object_operation content.now self.now.scope.now name (items_view self.now.documents.now) (pointer self.now.place.now)) result }
+        ensures { Answers (spec.object_operation content.now self.now.scope.now name
+            (items_view self.now.documents.now) (pointer self.now.place.now)) result }
     {
         match content {
             Content::Record(record) => self.of_record(record, name),
@@ -286,6 +294,16 @@ fn has_arity(name: Option<OpName>, count: usize) -> bool
     }
 }
 
+/// The object, the name and the arguments, as they stand in an operation's list.
+fn op_parts(json: &Json) -> Option<(&Json, &Json, &[Json])>
+    ensures { option_map (λ p. (view p.0.now, view p.1.now, items_view p.2.now)) result ≡ spec.op_parts (view json.now) }
+{
+    match json.as_array()?.as_slice() {
+        [object, name, documents @ ..] => Some((object, name, documents)),
+        _ => None,
+    }
+}
+
 /// An operation on an object, with the object's number.
 pub(crate) fn operation(
     alloc: Global,
@@ -296,7 +314,7 @@ pub(crate) fn operation(
 ) -> Result<(u32, Operation, Option<Sort>), ScriptFault>
     ensures { AnswersBy (λ p. (p.0, (p.1, p.2))) (spec.operation objects.now scope.now (view json.now) (pointer place.now)) result }
 {
-    let [object, name, documents @ ..] = array(alloc, place, json)? else {
+    let Some((object, name, documents)) = op_parts(json) else {
         return Err(place.fault(alloc, FaultKind::Shape));
     };
     let fits = has_arity(op_in(name), documents.len());
@@ -317,13 +335,16 @@ pub(crate) fn operation(
 pub(crate) fn op_gives_nothing(json: &Json) -> bool
     ensures { result ≡ spec.op_gives_nothing (view json.now) }
 {
-    let Some(items) = json.as_array() else {
-        return false;
-    };
-    let [_, name, ..] = items.as_slice() else {
-        return false;
-    };
-    match op_in(name) {
+    match op_parts(json) {
+        Some((_, name, _)) => says_nothing(op_in(name)),
+        None => false,
+    }
+}
+
+fn says_nothing(name: Option<OpName>) -> bool
+    ensures { result ≡ spec.says_nothing name }
+{
+    match name {
         Some(name) => !gives_value(name),
         None => false,
     }

@@ -1,6 +1,5 @@
-use Rattle.std.proofs.Common.{◌≡◌, true, false, sym, ap, ◌∙◌, arith}
+use Rattle.std.proofs.Common.{true, false, sym, ap, ◌∙◌, arith}
 use Rattle.values.specs.Words.{same_bytes}
-use Rattle.values.specs.Fields.{field_value}
 use Rattle.script.proofs.Held.{same_text, field_value-at, field_value-none}
 use Rattle.script.proofs.operations.field_named.Goals as goal
 

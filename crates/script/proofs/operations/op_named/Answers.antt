@@ -1,4 +1,3 @@
-use Rattle.std.proofs.Common.{◌≡◌}
 use Rattle.script.proofs.OpNames.{op_named-none}
 use Rattle.script.proofs.operations.op_named.Goals as goal
 

@@ -1,6 +1,5 @@
-use Rattle.std.proofs.Common.{◌≡◌, true, false, sym, ap, ◌∙◌, arith}
+use Rattle.std.proofs.Common.{true, false, sym, ap, ◌∙◌, arith}
 use Rattle.values.specs.Words.{same_bytes}
-use Rattle.values.specs.Tags.{tag_kind}
 use Rattle.script.proofs.Held.{same_text, tag_kind-at, tag_kind-none}
 use Rattle.script.proofs.operations.tag_named.Goals as goal
 

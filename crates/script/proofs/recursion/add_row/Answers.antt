@@ -1,5 +1,5 @@
-use Rattle.std.proofs.Common.{◌≡◌, arith}
-use Rattle.script.proofs.Adding.{AddsUpTo, adds_none, adds_unmarked, adds_marked, adds_one, adds_row}
+use Rattle.std.proofs.Common.{arith}
+use Rattle.script.proofs.Adding.{adds_none, adds_unmarked, adds_marked, adds_one, adds_row}
 use Rattle.script.proofs.recursion.add_row.Goals as goal
 use Rattle.script.proofs.recursion.add_row.Goals.{then-called+then-not-marks-number, else-called, else-called-via-then-called+else-not-marks-number, else-called-via-else-called}
 

@@ -1,4 +1,4 @@
-use Rattle.std.proofs.Common.{◌≡◌, ap, arith}
+use Rattle.std.proofs.Common.{ap, arith}
 use Rattle.serde_json.specs.Events.{members_len}
 use Rattle.serde_json.proofs.Views.{members_len-members_view}
 use Rattle.script.proofs.signatures.count_handlers.Goals as goal

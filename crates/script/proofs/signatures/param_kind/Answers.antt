@@ -1,5 +1,5 @@
-use Rattle.std.proofs.Common.{◌≡◌, sym, ap, ◌∙◌, option_and_then, arith}
-use Rattle.serde_json.specs.View.{view, items_view}
+use Rattle.std.proofs.Common.{ap, ◌∙◌, option_and_then, arith}
+use Rattle.serde_json.specs.View.{items_view}
 use Rattle.script_model.specs.Shapes.{two_items, kind_in}
 use Rattle.script.proofs.Looked.{two_items-few, two_items-many}
 use Rattle.script.proofs.signatures.param_kind.Goals as goal

@@ -1,4 +1,4 @@
-use Rattle.std.proofs.Common.{◌≡◌, ◌≤◌, ◌+◌, ◌-◌, true, false, string_bytes, refl, sym, ap, ◌∙◌, arith}
+use Rattle.std.proofs.Common.{◌-◌, sym, ap, ◌∙◌, arith}
 use Rattle.values.specs.Words.{same_bytes}
 use Rattle.script.proofs.Numbered.{place_in, place_among-keys, place_in-full, place_in-here, place_in-later, place_in-end}
 use Rattle.script.proofs.signatures.place_among.Goals as goal

@@ -1,4 +1,3 @@
-use Rattle.std.proofs.Common.{◌≡◌, ◌==◌, ap, ◌∙◌}
 use Rattle.serde_json.specs.View.{view}
 use Rattle.script.proofs.Looked.{takes_count-params}
 use Rattle.script.proofs.signatures.takes_count.Goals as goal
