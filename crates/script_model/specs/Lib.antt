@@ -1,0 +1,12 @@
+pub mod Faults
+pub mod Reading
+pub mod Shapes
+pub mod Scopes
+pub mod ExpressionReading
+pub mod ContentReading
+pub mod Signatures
+pub mod OperationReading
+pub mod StatementReading
+pub mod ScriptReading
+pub mod Reaching
+pub mod Resolved

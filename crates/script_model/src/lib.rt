@@ -1,0 +1,17 @@
+//! What a script is once it was checked, and the definitions of how a document is read as one.
+//!
+//! In a checked script no name is left: handlers, objects and variables are numbers, and what an expression gives is
+//! known from its type. The definitions stand in `specs/`.
+#![tactic(auto)]
+
+mod checked;
+mod expression;
+mod fault;
+mod names;
+mod statement;
+
+pub use checked::{Checked, Client, Handler};
+pub use expression::{Condition, Expr, IntExpr, TextExpr};
+pub use fault::{FaultKind, Pointer, ScriptFault};
+pub use names::{Gives, OpName, Sort};
+pub use statement::{Arm, Binding, HandlerCall, ObjectCall, Operation, Statement};
