@@ -1,3 +1,11 @@
+ghost use Rattle.std.specs.Prelude.{◌≡◌, ◌+◌, ◌≤◌, [], false, length, IsTrue, IfOk, IfSome, OnOk};
+ghost use Rattle.script_model.specs.Resolved.{IsResolved, asked, binding_is_bound, frames_after};
+ghost use Rattle.run_model.specs.Actions.{is_begun, is_committed};
+ghost use Rattle.run_model.specs.Runs.{IsRun};
+ghost use Rattle.activities.specs.Bodies.{AreArms, IsBody, IsCall, IsOp, IsPerformed, IsStatement, SignalsHold, WhereEnded, Within, sizes};
+ghost use Rattle.activities.specs.Continuing.{AreFresh, GoesOn, CommitsNone, CommitsOnly};
+ghost use Rattle.activities.specs.Ends.{commits, has_committed};
+
 use crate::flow::{Flow, Reach};
 use crate::frames::Frames;
 use crate::open_action::{Called, OpenAction, Reached};
@@ -31,7 +39,9 @@ enum Performed {
 }
 
 impl<'s> Activity<'s> {
-    pub(crate) fn new(alloc: Global, script: &'s Checked) -> Activity<'s> {
+    pub(crate) fn new(alloc: Global, script: &'s Checked) -> Activity<'s>
+        ensures { result.script.now ≡ script.now }
+    {
         Activity {
             alloc,
             script,
@@ -40,7 +50,11 @@ impl<'s> Activity<'s> {
     }
 
     /// Takes a statement or a turn from the budget; false where nothing is left.
-    fn begin(&mut self) -> bool {
+    fn begin(&mut self) -> bool
+        ensures left { IsTrue result → self.old.left ≡ self.new.left + 1 }
+        ensures most { self.new.left ≤ self.old.left }
+        ensures script { self.new.script.now ≡ self.old.script.now }
+    {
         if self.left == 0 {
             return false;
         }
@@ -56,7 +70,20 @@ impl<'s> Activity<'s> {
         action: &mut OpenAction,
         frames: &mut Frames,
         body: &[Statement],
-    ) -> Result<Flow, AllocError> {
+    ) -> Result<Flow, AllocError>
+        requires script { IsResolved self.old.script.now }
+        requires body { IsBody self.old.script.now (sizes frames.old) body.now }
+        requires run { IsRun world.old.setup world.old.past }
+        requires begun { IsTrue (is_begun action.old.name world.old.past) }
+        requires open { is_committed action.old.name world.old.past ≡ false }
+        ensures goes_on { GoesOn world.old world.new [] }
+        ensures others { CommitsOnly action.old.name world.old world.new }
+        ensures told { IfOk result (λ flow. commits flow ≡ is_committed action.old.name world.new.past) }
+        ensures left { self.new.left ≤ self.old.left }
+        ensures script { self.new.script.now ≡ self.old.script.now }
+        ensures name { action.new.name ≡ action.old.name }
+        ensures home { action.new.home ≡ action.old.home }
+    {
         match self.body(world, action, frames, body) {
             Ok(flow) => action.end(world, flow),
             Err(fault) => {
@@ -73,7 +100,18 @@ impl<'s> Activity<'s> {
         action: &mut OpenAction,
         frames: &mut Frames,
         body: &[Statement],
-    ) -> Result<Flow, AllocError> {
+    ) -> Result<Flow, AllocError>
+        requires script { IsResolved self.old.script.now }
+        requires body { IsBody self.old.script.now (sizes frames.old) body.now }
+        requires run { IsRun world.old.setup world.old.past }
+        ensures goes_on { GoesOn world.old world.new [] }
+        ensures commits { CommitsNone world.old world.new }
+        ensures frames { IfOk result (λ flow. WhereEnded flow (Within (sizes frames.old) (sizes frames.new))) }
+        ensures left { self.new.left ≤ self.old.left }
+        ensures script { self.new.script.now ≡ self.old.script.now }
+        ensures name { action.new.name ≡ action.old.name }
+        ensures home { action.new.home ≡ action.old.home }
+    {
         for statement in body {
             if !self.begin() {
                 return Ok(Flow::Outwards(Reach::Client));
@@ -94,7 +132,18 @@ impl<'s> Activity<'s> {
         action: &mut OpenAction,
         frames: &mut Frames,
         body: &[Statement],
-    ) -> Result<Flow, AllocError> {
+    ) -> Result<Flow, AllocError>
+        requires script { IsResolved self.old.script.now }
+        requires body { IsBody self.old.script.now (sizes frames.old) body.now }
+        requires run { IsRun world.old.setup world.old.past }
+        ensures goes_on { GoesOn world.old world.new [] }
+        ensures commits { CommitsNone world.old world.new }
+        ensures frames { IfOk result (λ flow. WhereEnded flow (sizes frames.new ≡ sizes frames.old)) }
+        ensures left { self.new.left ≤ self.old.left }
+        ensures script { self.new.script.now ≡ self.old.script.now }
+        ensures name { action.new.name ≡ action.old.name }
+        ensures home { action.new.home ≡ action.old.home }
+    {
         let sizes = frames.sizes();
         let flow = self.body(world, action, frames, body)?;
         frames.cut_to(sizes);
@@ -108,7 +157,18 @@ impl<'s> Activity<'s> {
         action: &mut OpenAction,
         frames: &mut Frames,
         statement: &Statement,
-    ) -> Result<Flow, AllocError> {
+    ) -> Result<Flow, AllocError>
+        requires script { IsResolved self.old.script.now }
+        requires statement { IsStatement self.old.script.now (sizes frames.old) statement.now }
+        requires run { IsRun world.old.setup world.old.past }
+        ensures goes_on { GoesOn world.old world.new [] }
+        ensures commits { CommitsNone world.old world.new }
+        ensures frames { IfOk result (λ flow. WhereEnded flow (sizes frames.new ≡ (asked statement.now).after (sizes frames.old))) }
+        ensures left { self.new.left ≤ self.old.left }
+        ensures script { self.new.script.now ≡ self.old.script.now }
+        ensures name { action.new.name ≡ action.old.name }
+        ensures home { action.new.home ≡ action.old.home }
+    {
         match statement {
             Statement::Op(call, signals) => match perform(world, action, frames, call)? {
                 Performed::Granted => Ok(Flow::Ended),
@@ -146,7 +206,18 @@ impl<'s> Activity<'s> {
         action: &mut OpenAction,
         frames: &mut Frames,
         signals: &Option<Items<Statement>>,
-    ) -> Result<Flow, AllocError> {
+    ) -> Result<Flow, AllocError>
+        requires script { IsResolved self.old.script.now }
+        requires signals { SignalsHold self.old.script.now (sizes frames.old) signals.now }
+        requires run { IsRun world.old.setup world.old.past }
+        ensures goes_on { GoesOn world.old world.new [] }
+        ensures commits { CommitsNone world.old world.new }
+        ensures frames { IfOk result (λ flow. WhereEnded flow (sizes frames.new ≡ sizes frames.old)) }
+        ensures left { self.new.left ≤ self.old.left }
+        ensures script { self.new.script.now ≡ self.old.script.now }
+        ensures name { action.new.name ≡ action.old.name }
+        ensures home { action.new.home ≡ action.old.home }
+    {
         match signals {
             Some(body) => self.inner(world, action, frames, body.as_slice()),
             None => Ok(Flow::Aborted),
@@ -161,7 +232,18 @@ impl<'s> Activity<'s> {
         frames: &mut Frames,
         turns: u32,
         body: &[Statement],
-    ) -> Result<Flow, AllocError> {
+    ) -> Result<Flow, AllocError>
+        requires script { IsResolved self.old.script.now }
+        requires body { IsBody self.old.script.now (sizes frames.old) body.now }
+        requires run { IsRun world.old.setup world.old.past }
+        ensures goes_on { GoesOn world.old world.new [] }
+        ensures commits { CommitsNone world.old world.new }
+        ensures frames { IfOk result (λ flow. WhereEnded flow (sizes frames.new ≡ sizes frames.old)) }
+        ensures left { self.new.left ≤ self.old.left }
+        ensures script { self.new.script.now ≡ self.old.script.now }
+        ensures name { action.new.name ≡ action.old.name }
+        ensures home { action.new.home ≡ action.old.home }
+    {
         for _ in 0..turns {
             if !self.begin() {
                 return Ok(Flow::Outwards(Reach::Client));
@@ -183,7 +265,19 @@ impl<'s> Activity<'s> {
         frames: &mut Frames,
         call: &HandlerCall,
         signals: &Option<Items<Statement>>,
-    ) -> Result<Flow, AllocError> {
+    ) -> Result<Flow, AllocError>
+        requires script { IsResolved self.old.script.now }
+        requires call { IsCall self.old.script.now (sizes frames.old) call.now }
+        requires signals { SignalsHold self.old.script.now (frames_after (sizes frames.old) call.now.binding) signals.now }
+        requires run { IsRun world.old.setup world.old.past }
+        ensures goes_on { GoesOn world.old world.new [] }
+        ensures commits { CommitsNone world.old world.new }
+        ensures frames { IfOk result (λ flow. WhereEnded flow (sizes frames.new ≡ frames_after (sizes frames.old) call.now.binding)) }
+        ensures left { self.new.left ≤ self.old.left }
+        ensures script { self.new.script.now ≡ self.old.script.now }
+        ensures name { action.new.name ≡ action.old.name }
+        ensures home { action.new.home ≡ action.old.home }
+    {
         let script = self.script;
         let handler = &script.handlers.as_slice()[call.handler as usize];
         let Some(mut inside) = frames.arguments(self.alloc, call)? else {
@@ -222,7 +316,19 @@ impl<'s> Activity<'s> {
         frames: &mut Frames,
         body: &[Statement],
         signals: &[Statement],
-    ) -> Result<Flow, AllocError> {
+    ) -> Result<Flow, AllocError>
+        requires script { IsResolved self.old.script.now }
+        requires body { IsBody self.old.script.now (sizes frames.old) body.now }
+        requires signals { IsBody self.old.script.now (sizes frames.old) signals.now }
+        requires run { IsRun world.old.setup world.old.past }
+        ensures goes_on { GoesOn world.old world.new [] }
+        ensures commits { CommitsNone world.old world.new }
+        ensures frames { IfOk result (λ flow. WhereEnded flow (sizes frames.new ≡ sizes frames.old)) }
+        ensures left { self.new.left ≤ self.old.left }
+        ensures script { self.new.script.now ≡ self.old.script.now }
+        ensures name { action.new.name ≡ action.old.name }
+        ensures home { action.new.home ≡ action.old.home }
+    {
         let mut inside = frames.copy()?;
         let reached = Reached::new(self.alloc, action.home)?;
         let Some(name) = action.begin_nested(world)? else {
@@ -243,7 +349,18 @@ impl<'s> Activity<'s> {
         action: &mut OpenAction,
         frames: &mut Frames,
         arms: &[Arm],
-    ) -> Result<Flow, AllocError> {
+    ) -> Result<Flow, AllocError>
+        requires script { IsResolved self.old.script.now }
+        requires arms { AreArms self.old.script.now (sizes frames.old) arms.now }
+        requires run { IsRun world.old.setup world.old.past }
+        ensures goes_on { GoesOn world.old world.new [] }
+        ensures commits { CommitsNone world.old world.new }
+        ensures frames { IfOk result (λ flow. WhereEnded flow (sizes frames.new ≡ sizes frames.old)) }
+        ensures left { self.new.left ≤ self.old.left }
+        ensures script { self.new.script.now ≡ self.old.script.now }
+        ensures name { action.new.name ≡ action.old.name }
+        ensures home { action.new.home ≡ action.old.home }
+    {
         let Some(mut waiting) = begin_arms(self.alloc, world, action, arms)? else {
             return Ok(Flow::Aborted);
         };
@@ -264,7 +381,19 @@ impl<'s> Activity<'s> {
         frames: &mut Frames,
         arms: &[Arm],
         waiting: &mut Vec<Name>,
-    ) -> Result<Flow, AllocError> {
+    ) -> Result<Flow, AllocError>
+        requires script { IsResolved self.old.script.now }
+        requires arms { AreArms self.old.script.now (sizes frames.old) arms.now }
+        requires each { length waiting.old.items ≡ length arms.now }
+        requires run { IsRun world.old.setup world.old.past }
+        ensures goes_on { GoesOn world.old world.new [] }
+        ensures commits { CommitsNone world.old world.new }
+        ensures frames { sizes frames.new ≡ sizes frames.old }
+        ensures left { self.new.left ≤ self.old.left }
+        ensures script { self.new.script.now ≡ self.old.script.now }
+        ensures name { action.new.name ≡ action.old.name }
+        ensures home { action.new.home ≡ action.old.home }
+    {
         for arm in arms {
             let mut inside = frames.copy()?;
             let reached = Reached::new(self.alloc, action.home)?;
@@ -290,7 +419,13 @@ fn perform(
     action: &OpenAction,
     frames: &mut Frames,
     call: &ObjectCall,
-) -> Result<Performed, AllocError> {
+) -> Result<Performed, AllocError>
+    requires run { IsRun world.old.setup world.old.past }
+    requires call { IsOp (sizes frames.old) call.now }
+    ensures goes_on { GoesOn world.old world.new [] }
+    ensures commits { CommitsNone world.old world.new }
+    ensures frames { IfOk result (λ done. IsPerformed done call.now.binding (sizes frames.old) (sizes frames.new)) }
+{
     let Some(operation) = frames.operation(&call.operation)? else {
         return Ok(Performed::Refused);
     };
@@ -301,7 +436,10 @@ fn perform(
     }
 }
 
-fn bind(frames: &mut Frames, binding: Binding, reply: Reply) -> Result<Performed, AllocError> {
+fn bind(frames: &mut Frames, binding: Binding, reply: Reply) -> Result<Performed, AllocError>
+    requires { IsTrue (binding_is_bound (sizes frames.old) binding) }
+    ensures { IfOk result (λ done. IsPerformed done binding (sizes frames.old) (sizes frames.new)) }
+{
     if matches!(reply, Reply::Signals(_)) {
         return Ok(Performed::Signalled);
     }
@@ -323,7 +461,13 @@ fn begin_arms(
     world: &mut World,
     action: &OpenAction,
     arms: &[Arm],
-) -> Result<Option<Vec<Name>>, AllocError> {
+) -> Result<Option<Vec<Name>>, AllocError>
+    requires { IsRun world.old.setup world.old.past }
+    ensures goes_on { GoesOn world.old world.new [] }
+    ensures commits { CommitsNone world.old world.new }
+    ensures each { IfOk result (λ found. IfSome found (λ names. length names.items ≡ length arms.now)) }
+    ensures began { IfOk result (λ found. IfSome found (λ names. AreFresh names.items world.old world.new)) }
+{
     let mut kinds = ArmKinds::new(alloc);
     for arm in arms {
         kinds.push(arm_kind(arm))?;
@@ -353,6 +497,8 @@ fn arm_body(arm: &Arm) -> &[Statement] {
 }
 
 /// Whether an action that came to this end committed.
-pub(crate) fn has_committed(ended: &Result<Flow, AllocError>) -> bool {
+pub(crate) fn has_committed(ended: &Result<Flow, AllocError>) -> bool
+    ensures { result ≡ has_committed ended.now }
+{
     matches!(ended, Ok(Flow::Ended) | Ok(Flow::Returned(_)))
 }

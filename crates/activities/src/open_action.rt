@@ -1,3 +1,10 @@
+ghost use Rattle.std.specs.Prelude.{◌≡◌, [], ◌∷◌, false, length, IsTrue, IfOk, IfSome, OnOk};
+ghost use Rattle.run_model.specs.Actions.{is_begun, is_committed};
+ghost use Rattle.run_model.specs.Answers.{answer_of};
+ghost use Rattle.run_model.specs.Runs.{IsRun};
+ghost use Rattle.activities.specs.Continuing.{GoesOn, CommitsBy, CommitsNone, CommitsOnly, EndsAll, IsFresh, IsNoTop};
+ghost use Rattle.activities.specs.Ends.{BeganBy, commits};
+
 use crate::flow::{Flow, Reach};
 use action_names::{Name, Names};
 use atomic_types::Op;
@@ -47,7 +54,10 @@ pub(crate) enum Called {
 }
 
 impl OpenAction {
-    pub(crate) fn new(name: Name, home: u32, reached: Reached) -> OpenAction {
+    pub(crate) fn new(name: Name, home: u32, reached: Reached) -> OpenAction
+        ensures name { result.name ≡ name }
+        ensures home { result.home ≡ home }
+    {
         OpenAction {
             name,
             home,
@@ -56,12 +66,13 @@ impl OpenAction {
     }
 
     /// Begins a subaction of it at a guardian.
-    pub(crate) fn begin_call(
-        &self,
-        world: &mut World,
-        guardian: u32,
-    ) -> Result<Called, AllocError> {
-        match world.step(&Step::Call(self.name.copy()?, guardian))? {
+    pub(crate) fn begin_call(&self, world: &mut World, guardian: u32) -> Result<Called, AllocError>
+        requires { IsRun world.old.setup world.old.past }
+        ensures goes_on { GoesOn world.old world.new [] }
+        ensures commits { CommitsNone world.old world.new }
+        ensures began { IfOk result (λ called. BeganBy called world.old world.new) }
+    {
+        match make(world, &Step::Call(self.name.copy()?, guardian))? {
             Answer::Began(names) => Ok(Called::Began(only(names))),
             Answer::Refused(Refusal::Down) => Ok(Called::Signalled),
             Answer::Refused(Refusal::TooDeep) => Ok(Called::Signalled),
@@ -70,8 +81,13 @@ impl OpenAction {
     }
 
     /// Begins a nested top action that it starts; none where that is refused.
-    pub(crate) fn begin_nested(&self, world: &mut World) -> Result<Option<Name>, AllocError> {
-        match world.step(&Step::NestedTop(self.name.copy()?))? {
+    pub(crate) fn begin_nested(&self, world: &mut World) -> Result<Option<Name>, AllocError>
+        requires { IsRun world.old.setup world.old.past }
+        ensures goes_on { GoesOn world.old world.new [] }
+        ensures commits { CommitsNone world.old world.new }
+        ensures began { IfOk result (λ found. IfSome found (λ name. IsFresh name world.old world.new)) }
+    {
+        match make(world, &Step::NestedTop(self.name.copy()?))? {
             Answer::Began(names) => Ok(Some(only(names))),
             _ => Ok(None),
         }
@@ -83,20 +99,23 @@ impl OpenAction {
         world: &mut World,
         object: u32,
         operation: Op,
-    ) -> Result<Answer, AllocError> {
+    ) -> Result<Answer, AllocError>
+        requires { IsRun world.old.setup world.old.past }
+        ensures goes_on { GoesOn world.old world.new [] }
+        ensures commits { CommitsNone world.old world.new }
+    {
         let object = ObjectId {
             guardian: self.home,
             number: object,
         };
-        world.step(&Step::Op(self.name.copy()?, object, operation))
+        make(world, &Step::Op(self.name.copy()?, object, operation))
     }
 
     /// Learns where a subaction of it, which has ended, and the descendants of that had their homes, and where it committed from.
-    pub(crate) fn take_in(
-        &mut self,
-        child: &OpenAction,
-        committed: bool,
-    ) -> Result<(), AllocError> {
+    pub(crate) fn take_in(&mut self, child: &OpenAction, committed: bool) -> Result<(), AllocError>
+        ensures name { self.new.name ≡ self.old.name }
+        ensures home { self.new.home ≡ self.old.home }
+    {
         for home in &child.reached.homes {
             self.reached.homes.insert(*home)?;
         }
@@ -110,7 +129,13 @@ impl OpenAction {
 
     /// Ends it as its body ended, and says how: where it cannot commit it aborts. After an error it has ended, or its abort
     /// wanted memory too.
-    pub(crate) fn end(&self, world: &mut World, flow: Flow) -> Result<Flow, AllocError> {
+    pub(crate) fn end(&self, world: &mut World, flow: Flow) -> Result<Flow, AllocError>
+        requires run { IsRun world.old.setup world.old.past }
+        requires open { is_committed self.now.name world.old.past ≡ false }
+        ensures goes_on { GoesOn world.old world.new [] }
+        ensures others { CommitsOnly self.now.name world.old world.new }
+        ensures told { IfOk result (λ end. commits end ≡ is_committed self.now.name world.new.past) }
+    {
         let ended = self.try_end(world, flow);
         if ended.is_err() {
             let _ = self.abort(world);
@@ -118,7 +143,13 @@ impl OpenAction {
         ended
     }
 
-    fn try_end(&self, world: &mut World, flow: Flow) -> Result<Flow, AllocError> {
+    fn try_end(&self, world: &mut World, flow: Flow) -> Result<Flow, AllocError>
+        requires run { IsRun world.old.setup world.old.past }
+        requires open { is_committed self.now.name world.old.past ≡ false }
+        ensures goes_on { GoesOn world.old world.new [] }
+        ensures others { CommitsOnly self.now.name world.old world.new }
+        ensures told { IfOk result (λ end. commits end ≡ is_committed self.now.name world.new.past) }
+    {
         match flow {
             Flow::Ended | Flow::Returned(_) => {
                 if self.commit(world)? {
@@ -142,11 +173,17 @@ impl OpenAction {
     }
 
     /// Commits it, and tells so; whether that succeeded.
-    fn commit(&self, world: &mut World) -> Result<bool, AllocError> {
+    fn commit(&self, world: &mut World) -> Result<bool, AllocError>
+        requires run { IsRun world.old.setup world.old.past }
+        requires open { is_committed self.now.name world.old.past ≡ false }
+        ensures goes_on { GoesOn world.old world.new [] }
+        ensures others { CommitsOnly self.now.name world.old world.new }
+        ensures told { IfOk result (λ done. done ≡ is_committed self.now.name world.new.past) }
+    {
         let committed = if self.name.is_top() {
             self.commit_top(world)?
         } else {
-            is_done(world.step(&Step::Commit(self.name.copy()?))?)
+            is_done(make(world, &Step::Commit(self.name.copy()?))?)
         };
         if committed {
             tell(world, &self.name, &self.reached.homes)?;
@@ -155,28 +192,42 @@ impl OpenAction {
     }
 
     /// Commits it by two phases; false at the first participant that does not vote yes.
-    fn commit_top(&self, world: &mut World) -> Result<bool, AllocError> {
-        if !is_done(world.step(&Step::Close(self.name.copy()?))?) {
+    fn commit_top(&self, world: &mut World) -> Result<bool, AllocError>
+        requires run { IsRun world.old.setup world.old.past }
+        requires open { is_committed self.now.name world.old.past ≡ false }
+        ensures goes_on { GoesOn world.old world.new [] }
+        ensures others { CommitsOnly self.now.name world.old world.new }
+        ensures told { IfOk result (λ done. done ≡ is_committed self.now.name world.new.past) }
+    {
+        if !is_done(make(world, &Step::Close(self.name.copy()?))?) {
             return Ok(false);
         }
         for guardian in &self.reached.participants {
-            let vote = world.step(&Step::Prepare(*guardian, self.name.copy()?))?;
+            let vote = make(world, &Step::Prepare(*guardian, self.name.copy()?))?;
             if !matches!(vote, Answer::VoteYes) {
                 return Ok(false);
             }
         }
-        Ok(is_done(world.step(&Step::Decide(self.name.copy()?))?))
+        Ok(is_done(make(world, &Step::Decide(self.name.copy()?))?))
     }
 
     /// Aborts it, and tells so.
-    pub(crate) fn abort(&self, world: &mut World) -> Result<(), AllocError> {
-        world.step(&Step::Abort(self.name.copy()?))?;
+    pub(crate) fn abort(&self, world: &mut World) -> Result<(), AllocError>
+        requires { IsRun world.old.setup world.old.past }
+        ensures goes_on { GoesOn world.old world.new [] }
+        ensures commits { CommitsNone world.old world.new }
+    {
+        make(world, &Step::Abort(self.name.copy()?))?;
         tell(world, &self.name, &self.reached.homes)
     }
 
     /// Aborts arms of it that have not run, of which the last is the first to be aborted, and tells so. Also after an error the others are
     /// aborted.
-    pub(crate) fn abort_arms(&self, world: &mut World, arms: &[Name]) -> Result<(), AllocError> {
+    pub(crate) fn abort_arms(&self, world: &mut World, arms: &[Name]) -> Result<(), AllocError>
+        requires { IsRun world.old.setup world.old.past }
+        ensures goes_on { GoesOn world.old world.new [] }
+        ensures commits { CommitsNone world.old world.new }
+    {
         let mut fault = Ok(());
         for arm in arms.iter().rev() {
             let aborted = abort_at_home(world, arm, self.home);
@@ -189,16 +240,24 @@ impl OpenAction {
 }
 
 /// Aborts an action that has done nothing yet, and tells its home.
-fn abort_at_home(world: &mut World, action: &Name, home: u32) -> Result<(), AllocError> {
-    world.step(&Step::Abort(action.copy()?))?;
-    world.step(&Step::Tell(home, action.copy()?))?;
+fn abort_at_home(world: &mut World, action: &Name, home: u32) -> Result<(), AllocError>
+    requires { IsRun world.old.setup world.old.past }
+    ensures goes_on { GoesOn world.old world.new [] }
+    ensures commits { CommitsNone world.old world.new }
+{
+    make(world, &Step::Abort(action.copy()?))?;
+    make(world, &Step::Tell(home, action.copy()?))?;
     Ok(())
 }
 
 /// Tells the outcome of an action to guardians, in rising number. Those that are down refuse it.
-fn tell(world: &mut World, action: &Name, guardians: &BTreeSet<u32>) -> Result<(), AllocError> {
+fn tell(world: &mut World, action: &Name, guardians: &BTreeSet<u32>) -> Result<(), AllocError>
+    requires { IsRun world.old.setup world.old.past }
+    ensures goes_on { GoesOn world.old world.new [] }
+    ensures commits { CommitsNone world.old world.new }
+{
     for guardian in guardians {
-        world.step(&Step::Tell(*guardian, action.copy()?))?;
+        make(world, &Step::Tell(*guardian, action.copy()?))?;
     }
     Ok(())
 }
@@ -208,6 +267,21 @@ fn is_done(answer: Answer) -> bool {
 }
 
 /// The name, of which there is one.
-pub(crate) fn only(names: Names) -> Name {
+pub(crate) fn only(names: Names) -> Name
+    requires { length names ≡ 1 }
+    ensures { names ≡ result ∷ [] }
+{
     names.into_vec().pop().unwrap()
+}
+
+/// Makes a step that begins no top action of its own accord.
+fn make(world: &mut World, step: &Step) -> Result<Answer, AllocError>
+    requires run { IsRun world.old.setup world.old.past }
+    requires step { IsNoTop step.now }
+    ensures goes_on { GoesOn world.old world.new [] }
+    ensures commits { CommitsBy step.now world.old world.new }
+    ensures answer { IfOk result (λ answer. answer ≡ answer_of world.old.setup step.now world.old.past) }
+    ensures after { IfOk result (λ answer. world.new ≡ world_after world.old step.now answer) }
+{
+    world.step(step)
 }

@@ -1,3 +1,10 @@
+ghost use Rattle.std.specs.Prelude.{List, length, IfOk, IsTrue, OnErr};
+ghost use Rattle.script_model.specs.Resolved.{IsResolved, is_resolved_client};
+ghost use Rattle.action_names.specs.Names.{Name};
+ghost use Rattle.run_model.specs.Runs.{IsRun};
+ghost use Rattle.activities.specs.Continuing.{GoesOn, CommitsNone};
+ghost use Rattle.activities.specs.Ends.{AreRun, ClientRan};
+
 use crate::activity::{Activity, has_committed};
 use crate::client::ClientEnd;
 use crate::flow::Flow;
@@ -17,7 +24,11 @@ pub fn run_serial(
     alloc: Global,
     world: &mut World,
     script: &Checked,
-) -> Result<Vec<ClientEnd>, AllocError> {
+) -> Result<Vec<ClientEnd>, AllocError>
+    requires { IsResolved script.now }
+    ensures ok { IfOk result (λ ends. AreRun (length script.now.clients) world.old world.new ends.items) }
+    ensures err { OnErr result ((tops : List Name) × GoesOn world.old world.new tops) }
+{
     let clients = script.clients.as_slice();
     let mut ends = Vec::with_capacity(alloc, clients.len())?;
     let mut fault = Ok(());
@@ -36,7 +47,14 @@ fn run_client(
     world: &mut World,
     script: &Checked,
     client: &Client,
-) -> Result<ClientEnd, AllocError> {
+) -> Result<ClientEnd, AllocError>
+    requires script { IsResolved script.now }
+    requires client { IsTrue (is_resolved_client script.now client.now) }
+    requires run { IsRun world.old.setup world.old.past }
+    ensures ok { IfOk result (λ end. ClientRan world.old world.new end) }
+    ensures commits { CommitsNone world.old world.new }
+    ensures err { OnErr result ((tops : List Name) × GoesOn world.old world.new tops) }
+{
     let reached = Reached::new(alloc, client.home)?;
     let Answer::Began(names) = world.step(&Step::Top(client.home))? else {
         return Ok(ClientEnd {
