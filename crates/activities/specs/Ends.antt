@@ -30,7 +30,7 @@ pub record IsEnd (past : List Event) (end : ClientEnd) : Type 0 where
 pub record AreRun (count : ℕ) (old new : World) (ends : List ClientEnd) : Type 0 where
   pub each : length ends ≡ count
   pub goes_on : GoesOn old new (named ends)
-  pub ends : AllByRecursion (IsEnd new.past) ends
+  pub told : AllByRecursion (IsEnd new.past) ends
   pub ended : EndsAll old new
 
 -- an action that ended so has committed

@@ -1,7 +1,7 @@
 ghost use Rattle.std.specs.Prelude.{◌≡◌, [], ◌∷◌, false, length, IsTrue, IfOk, IfSome, OnOk};
 ghost use Rattle.run_model.specs.Actions.{is_begun, is_committed};
 ghost use Rattle.run_model.specs.Answers.{answer_of};
-ghost use Rattle.run_model.specs.Runs.{IsRun};
+ghost use Rattle.run_model.specs.Runs.{IsRun, world_after};
 ghost use Rattle.activities.specs.Continuing.{GoesOn, CommitsBy, CommitsNone, CommitsOnly, EndsAll, IsFresh, IsNoTop};
 ghost use Rattle.activities.specs.Ends.{BeganBy, commits};
 
