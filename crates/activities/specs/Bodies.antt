@@ -1,0 +1,62 @@
+-- What is known of a body that an interpreter goes through, and what it leaves of the variables.
+use Rattle.std.specs.Prelude.{◌≡◌, ◌≤◌, Bool, ◌&&◌, IsTrue, List, length, Option, Some, None}
+use Rattle.script_model.specs.declared.statement.Arm.{Arm}
+use Rattle.script_model.specs.declared.statement.Binding.{Binding}
+use Rattle.script_model.specs.declared.statement.HandlerCall.{HandlerCall}
+use Rattle.script_model.specs.declared.statement.ObjectCall.{ObjectCall}
+use Rattle.script_model.specs.declared.statement.Statement.{Statement}
+use Rattle.script_model.specs.declared.statement.Statement.TheVariants.{Coenter}
+use Rattle.script_model.specs.declared.checked.Checked.{Checked}
+use Rattle.script_model.specs.Resolved as resolved
+use Rattle.activities.specs.declared.activity.Performed.{Performed}
+use Rattle.activities.specs.declared.activity.Performed.TheVariants.{Granted}
+use Rattle.activities.specs.declared.flow.Flow.{Flow}
+use Rattle.activities.specs.declared.flow.Flow.TheVariants.{Ended}
+use Rattle.activities.specs.declared.frames.Frames.{Frames}
+
+-- how many variables of each kind are bound
+abbrev pub sizes : Frames → resolved.Frames
+sizes f = record { ints = length f.ints.items; texts = length f.texts.items; truths = length f.truths.items }
+
+-- where a body runs, in a script with these handlers, something is resolved
+pub record Somewhere (script : Checked) (holds : resolved.Surroundings → Bool) : Type 0 where
+  pub at : resolved.Surroundings
+  pub handlers : at.handlers ≡ script.handlers
+  pub holds_there : IsTrue (holds at)
+
+-- whatever a body names is there, where so many variables are bound
+abbrev pub IsBody : Checked → resolved.Frames → List Statement → Type 0
+IsBody script frames body = Somewhere script (λ at. resolved.is_resolved_body at frames body)
+
+abbrev pub IsStatement : Checked → resolved.Frames → Statement → Type 0
+IsStatement script frames statement = Somewhere script (λ at. (resolved.asked statement).holds at frames)
+
+abbrev pub IsCall : Checked → resolved.Frames → HandlerCall → Type 0
+IsCall script frames call = Somewhere script (λ at. resolved.call_is_resolved at frames call)
+
+abbrev pub IsOp : resolved.Frames → ObjectCall → Type 0
+IsOp frames call = IsTrue (resolved.operation_is_bound frames call.operation && resolved.binding_is_bound frames call.binding)
+
+-- the arms of a `coenter`
+abbrev pub AreArms : Checked → resolved.Frames → List Arm → Type 0
+AreArms script frames arms = IsStatement script frames (Coenter arms)
+
+abbrev pub SignalsHold : Checked → resolved.Frames → Option (List Statement) → Type 0
+SignalsHold script frames None = Unit {0}
+SignalsHold script frames (Some body) = IsBody script frames body
+
+-- what is so where a body ended well
+abbrev pub WhereEnded : Flow → Type 0 → Type 0
+WhereEnded Ended so = so
+WhereEnded _ so = Unit {0}
+
+-- at least as many variables are bound
+pub record Within (old new : resolved.Frames) : Type 0 where
+  pub ints : old.ints ≤ new.ints
+  pub texts : old.texts ≤ new.texts
+  pub truths : old.truths ≤ new.truths
+
+-- a granted operation has bound its reply; else nothing was bound
+abbrev pub IsPerformed : Performed → Binding → resolved.Frames → resolved.Frames → Type 0
+IsPerformed Granted binding old new = new ≡ resolved.frames_after old binding
+IsPerformed _ binding old new = new ≡ old
