@@ -1,3 +1,0 @@
-pub mod Continuing
-pub mod Ends
-pub mod Bodies

@@ -1,5 +1,0 @@
-pub mod Tables
-pub mod Rows
-pub mod Calls
-pub mod Reading
-pub mod Known
