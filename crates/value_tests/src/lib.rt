@@ -1,5 +1,5 @@
-//! Tests of the calls of `action_names`, `values`, `atomic_types` and `stable_store`, a module a crate, and nothing else: a crate with tests is proved twice, and what
-//! stands here alone is quick to prove.
+//! Tests of the calls of `action_names`, `values`, `atomic_types` and `stable_store`, a module a crate. They stand apart from what they
+//! test, since a crate with tests is proved twice.
 #![tactic(auto)]
 
 #[cfg(test)]
