@@ -1,0 +1,52 @@
+use Rattle.std.proofs.Common.{◌≡◌, Some, None, option_map, Ok, Err, sym, ap, subst, ◌∙◌}
+use Rattle.std.specs.FinMap.{get, remove}
+use Rattle.sqlite.specs.Held.{state}
+use Rattle.sqlite.specs.declared.error.Error.{Error}
+use Rattle.stable_store.specs.Stored.{installed}
+use Rattle.stable_store.specs.Held.{held, record_of, contents_in}
+use Rattle.stable_store.specs.Calls.{Changes}
+use Rattle.sql_store.specs.Calls.{Carries}
+use Rattle.stable_store.proofs.Maps.{taken_seen}
+use Rattle.sql_store.proofs.Back.{record_found}
+use Rattle.sql_store.proofs.Made.{as_ok, as_err}
+use Rattle.sql_store.proofs.calls.install.Goals as goal
+
+pub returns-in_default-clause-changes : goal.returns-in_default-clause-changes
+returns-in_default-clause-changes g c =
+    let s = held c.args.kept.now in
+    let none : get s.prepared c.args.top ≡ None =
+    record_found c.args.kept.now.prepared.entries c.args.top ∙ ap (option_map record_of) (sym c.in_default.ensures.value) in
+    subst (λ a. Changes s a (held c.discard.new.kept) c.discard.result) (ap (λ r. record s { base = installed r s.base; prepared = remove s.prepared c.args.top }) (sym none)) c.discard.ensures.changes
+
+pub returns-in_default-clause-carries : goal.returns-in_default-clause-carries
+returns-in_default-clause-carries g c stands =
+    let s = held c.args.kept.now in
+    let none : get s.prepared c.args.top ≡ None =
+    record_found c.args.kept.now.prepared.entries c.args.top ∙ ap (option_map record_of) (sym c.in_default.ensures.value) in
+    subst (λ a. Carries (state g.A.Store c.args.conn.now) (state g.A.Store c.discard.new.conn) s a c.discard.result) (ap (λ r. record s { base = installed r s.base; prepared = remove s.prepared c.args.top }) (sym none)) (c.discard.ensures.carries stands)
+
+pub returns-in-Ok-install-clause-changes : goal.returns-in-Ok-install-clause-changes
+returns-in-Ok-install-clause-changes g c =
+    let s = held c.args.kept.now in
+    let found : get s.prepared c.args.top ≡ Some (record_of c.in-Some.record.now) =
+    record_found c.args.kept.now.prepared.entries c.args.top ∙ ap (option_map record_of) (sym c.in-Some.ensures.value) in
+    let base : contents_in c.lay.new.base ≡ installed (get s.prepared c.args.top) s.base =
+    c.in-Ok.ensures.ok ∙ sym (ap (λ r. installed r s.base) found) in
+    let prepared = taken_seen record_of _ _ c.args.top c.remove.ensures.updates.0 in
+    λ i. record s { base = base i; prepared = prepared i }
+
+pub returns-in-Ok-install-clause-carries : goal.returns-in-Ok-install-clause-carries
+returns-in-Ok-install-clause-carries g c stands =
+    let s = held c.args.kept.now in
+    let found : get s.prepared c.args.top ≡ Some (record_of c.in-Some.record.now) =
+    record_found c.args.kept.now.prepared.entries c.args.top ∙ ap (option_map record_of) (sym c.in-Some.ensures.value) in
+    as_ok (subst (λ a. Carries {T = Unit {0}} {E = Error} (state g.A.Store c.args.conn.now) (state g.A.Store c.install.new.conn) s a (Ok c.in-Ok-install.field-0))
+    (ap (λ r. record s { base = installed r s.base; prepared = remove s.prepared c.args.top }) (sym found)) (c.in-Ok-install.ensures s stands))
+
+pub returns-in-Err-clause-carries : goal.returns-in-Err-clause-carries
+returns-in-Err-clause-carries g c stands =
+    let s = held c.args.kept.now in
+    let found : get s.prepared c.args.top ≡ Some (record_of c.in-Some.record.now) =
+    record_found c.args.kept.now.prepared.entries c.args.top ∙ ap (option_map record_of) (sym c.in-Some.ensures.value) in
+    as_err (subst (λ a. Carries {T = Unit {0}} {E = Error} (state g.A.Store c.args.conn.now) (state g.A.Store c.install.new.conn) s a (Err c.in-Err.error))
+    (ap (λ r. record s { base = installed r s.base; prepared = remove s.prepared c.args.top }) (sym found)) (c.in-Err.ensures s stands))

@@ -1,0 +1,30 @@
+use Rattle.std.proofs.Common.{[], ◌∷◌, IsTrue, ap, subst, subst₂, ◌∙◌, arith}
+use Rattle.sqlite.specs.declared.types.Value.TheVariants.{Text}
+use Rattle.sqlite.specs.Values.{bound_value}
+use Rattle.sqlite.specs.State.{HasCleanDisk, ExecutesInside}
+use Rattle.sqlite.specs.Held.{state}
+use Rattle.sql_store.specs.Calls.{Steps, after_put}
+use Rattle.sql_store.proofs.Texts.{base_text, base_command}
+use Rattle.sql_store.proofs.Runs.{base_means}
+use Rattle.sql_store.proofs.Inside.{steps, step_ok, step_err}
+use Rattle.sql_store.proofs.statements.put_content.Goals as goal
+
+pub returns-in-Ok-execute-clause-steps : goal.returns-in-Ok-execute-clause-steps
+returns-in-Ok-execute-clause-steps g c k sees =
+    let s = c.args.tx.now.conn.now in
+    let t = c.execute.new.self.conn.now in
+    let it : Steps (state g.A.Store s) (state g.A.Store t) (after_put c.args.object c.args.content.now k) c.execute.result =
+    steps g.A.Store base_text base_command _ (after_put c.args.object c.args.content.now) _ (base_means c.args.object c.args.content.now c.in-Ok.ensures.fits) s t k tt sees
+    (λ h. omega (arith, c.execute.ensures.survives.clean)) c.execute.result c.execute.ensures.ended
+    (subst₂ (λ v0 v1. HasCleanDisk (state g.A.Store t) → IsTrue (state g.A.Store s).in_transaction → ExecutesInside 0 base_text (bound_value v0 ∷ bound_value v1 ∷ []) (state g.A.Store s) (state g.A.Store t) c.execute.result) c.number.ensures (c.words.ensures ∙ ap Text c.in-Ok.ensures.text) c.execute.ensures.runs) in
+    step_ok (subst (Steps (state g.A.Store s) (state g.A.Store t) (after_put c.args.object c.args.content.now k)) c.in-Ok-execute.is it)
+
+pub returns-clause-steps : goal.returns-clause-steps
+returns-clause-steps g c k sees =
+    let s = c.args.tx.now.conn.now in
+    let t = c.execute.new.self.conn.now in
+    let it : Steps (state g.A.Store s) (state g.A.Store t) (after_put c.args.object c.args.content.now k) c.execute.result =
+    steps g.A.Store base_text base_command _ (after_put c.args.object c.args.content.now) _ (base_means c.args.object c.args.content.now c.in-Ok.ensures.fits) s t k tt sees
+    (λ h. omega (arith, c.execute.ensures.survives.clean)) c.execute.result c.execute.ensures.ended
+    (subst₂ (λ v0 v1. HasCleanDisk (state g.A.Store t) → IsTrue (state g.A.Store s).in_transaction → ExecutesInside 0 base_text (bound_value v0 ∷ bound_value v1 ∷ []) (state g.A.Store s) (state g.A.Store t) c.execute.result) c.number.ensures (c.words.ensures ∙ ap Text c.in-Ok.ensures.text) c.execute.ensures.runs) in
+    step_err (subst (Steps (state g.A.Store s) (state g.A.Store t) (after_put c.args.object c.args.content.now k)) c.in-Err.is it)
