@@ -10,3 +10,4 @@ pub mod StatementReading
 pub mod ScriptReading
 pub mod Reaching
 pub mod Resolved
+pub mod Documents

@@ -1,7 +1,7 @@
 -- How handlers, guardians, clients and whole scripts are read.
-use Rattle.std.specs.Prelude.{ℕ, suc, List, [], ◌∷◌, ◌++◌, length, Bool, true, false, not, ◌&&◌, ◌||◌, nat_lt, is_some, codes, Option, Some, None, unwrap_or, slice_get}
+use Rattle.std.specs.Prelude.{ℕ, suc, List, [], ◌∷◌, ◌++◌, length, Bool, true, false, not, ◌&&◌, ◌||◌, if◌then◌else◌, nat_lt, is_some, codes, Option, Some, None, unwrap_or, slice_get}
 use Rattle.serde_json.specs.Data.{Data, null, boolean, number, string, array, object, Items, no_items, item, Members, no_members, member}
-use Rattle.serde_json.specs.Find.{as_array, as_str}
+use Rattle.serde_json.specs.Find.{as_array, as_str, get_member}
 use Rattle.values.specs.Words.{same_bytes}
 use Rattle.values.specs.declared.value.Kind.{Kind}
 use Rattle.values.specs.declared.content.Content.{Content}
@@ -42,12 +42,12 @@ abbrev mutual
   is_end (number n) = false
   is_end (string s) = false
   is_end (array ds) = false
-  is_end (object ms) = has_end ms
+  is_end (object ms) = (is_some (get_member (codes "return") ms) || is_some (get_member (codes "abort") ms)) || first_if_ends ms
 
-  pub has_end : Members → Bool
-  has_end no_members = false
-  has_end (member name d ms) =
-      (same_bytes name (codes "return") || same_bytes name (codes "abort")) || ((same_bytes name (codes "if") && branches_end d) || has_end ms)
+  -- of members of one name the first counts, as for the reading
+  pub first_if_ends : Members → Bool
+  first_if_ends no_members = false
+  first_if_ends (member name d ms) = if same_bytes name (codes "if") then branches_end d else first_if_ends ms
 
   pub branches_end : Data → Bool
   branches_end null = false
