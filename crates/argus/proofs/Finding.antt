@@ -12,8 +12,9 @@ use Rattle.clap.specs.declared.parser.matches.Found.{Found}
 use Rattle.clap.proofs.WalkLemmas.{first_value-rows}
 use Rattle.clap.proofs.OnLiterals.{clap_on_literals}
 use Rattle.argus.specs.declared.request.Command.{Command}
+use Rattle.argus.specs.declared.request.Check.{Check}
 use Rattle.argus.specs.declared.request.Steps.{Steps}
-use Rattle.argus.specs.Words.{argus_app, AreGiven, IsFound, IsCommand}
+use Rattle.argus.specs.Words.{argus_app, AreGiven, IsFound, IsGiven, IsCommand}
 
 pub argus_is_simple : is_simple argus_app ≡ true
 unfolding clap_on_literals
@@ -46,6 +47,9 @@ no_setup rows e given h = let p = h.setup in absurd cc
 
 pub no_file : (rows : List Row) → first_of (codes "FILE") rows ≡ None → (given : Steps) → AreGiven rows given → ⊥
 no_file rows e given h = let p = h.file in absurd cc
+
+pub no_script : (rows : List Row) → first_of (codes "SCRIPT") rows ≡ None → (given : Check) → IsGiven rows given → ⊥
+no_script rows e given h = let p = h.script in absurd cc
 
 -- the subcommand that was used, with its rows
 found_in : {Z : Type 0} (b : Option (Box SubCommand Z)) (name : Text) (rows : List Row) → Some name ≡ option_map (λ x. (out-SubCommand (box_value x)).name.now) b

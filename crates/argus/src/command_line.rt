@@ -3,8 +3,9 @@
 ghost use Rattle.std.specs.Prelude.{◌≡◌, false, codes, map, IfOk, IfErr, IfSome, IsNone};
 ghost use Rattle.clap.specs.Words.{app_of, found_of, rows_of, rule_of, subcommand_rows_of};
 ghost use Rattle.argus.specs.declared.request.Command.{Command};
+ghost use Rattle.argus.specs.declared.request.Check.{Check};
 ghost use Rattle.argus.specs.declared.request.Steps.{Steps};
-ghost use Rattle.argus.specs.Words.{AreGiven, IsCommand, IsFault, IsFound, argus_app, needed, optional, steps_app};
+ghost use Rattle.argus.specs.Words.{AreGiven, IsCommand, IsFault, IsFound, IsGiven, argus_app, check_app, needed, optional, steps_app};
 
 use crate::request::{self, CommandFault};
 use clap::{Arg, ArgMatches};
@@ -36,6 +37,7 @@ fn taken<'a>(matches: &ArgMatches<'a>) -> Option<request::Command<'a>>
 {
     match matches.subcommand() {
         Some(("steps", found)) => Some(request::Command::Steps(steps_given(found)?)),
+        Some(("check", found)) => Some(request::Command::Check(check_given(found)?)),
         _ => None,
     }
 }
@@ -52,6 +54,16 @@ fn steps_given<'a>(found: &ArgMatches<'a>) -> Option<request::Steps<'a>>
     })
 }
 
+#[tactic(auto, using(crate::proofs::Finding::word_is, crate::proofs::Finding::no_word, crate::proofs::Finding::no_script))]
+fn check_given<'a>(found: &ArgMatches<'a>) -> Option<request::Check<'a>>
+    ensures found { IfSome result (IsGiven (rows_of (found_of found.now))) }
+    ensures none { IsNone result → (given : Check) → IsGiven (rows_of (found_of found.now)) given → ⊥ }
+{
+    Some(request::Check {
+        script: found.get_str("SCRIPT")?,
+    })
+}
+
 /// The command line of the program, for clap.
 fn definition<'a>(alloc: Global) -> Result<clap::Command<'a>, AllocError>
     ensures { IfOk result (λ argus. app_of argus ≡ argus_app) }
@@ -61,7 +73,7 @@ fn definition<'a>(alloc: Global) -> Result<clap::Command<'a>, AllocError>
         .no_binary_name(true)
         .arg_required_else_help(true)
         .subcommand_required(true);
-    argus.subcommand(steps(alloc)?)
+    argus.subcommand(steps(alloc)?)?.subcommand(check(alloc)?)
 }
 
 fn steps<'a>(alloc: Global) -> Result<clap::Command<'a>, AllocError>
@@ -76,6 +88,18 @@ fn steps<'a>(alloc: Global) -> Result<clap::Command<'a>, AllocError>
         ))?
         .arg(needed(alloc, "FILE", "The steps, one a line; - is standard input"))?
         .arg(explain_option(alloc))
+}
+
+fn check<'a>(alloc: Global) -> Result<clap::Command<'a>, AllocError>
+    ensures { IfOk result (λ check. app_of check ≡ check_app) }
+{
+    clap::Command::new(alloc, "check")
+        .about("Says whether a file is a script, or which fault is its first")
+        .arg(needed(
+            alloc,
+            "SCRIPT",
+            "The JSON document of guardians, handlers and clients",
+        ))
 }
 
 /// An argument that has to be there.

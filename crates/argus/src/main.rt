@@ -40,6 +40,7 @@ fn obey(rt: &HostRuntime) -> Result<ExitCode, Fault> {
     }
     match command_line::command(rt.alloc(), words.as_slice()) {
         Ok(Command::Steps(given)) => run::steps(rt, &given),
+        Ok(Command::Check(given)) => run::check(rt, &given),
         Err(fault) => explain(rt, &fault),
     }
 }

@@ -5,6 +5,8 @@
 pub enum Command<'a> {
     /// Answers the steps of a file at a setup.
     Steps(Steps<'a>),
+    /// Says whether a file is a script.
+    Check(Check<'a>),
 }
 
 /// What the answering of steps is given.
@@ -16,6 +18,13 @@ pub struct Steps<'a> {
     pub file: &'a str,
     /// The action to explain after the answers.
     pub explain: Option<&'a str>,
+}
+
+/// What the checking of a script is given.
+#[derive(Clone, Copy, Drop)]
+pub struct Check<'a> {
+    /// The path of the script.
+    pub script: &'a str,
 }
 
 /// Why words are no command.

@@ -1,7 +1,7 @@
 //! Running a command on files.
 
-use crate::request::Steps;
-use argus_engine::{Ended, Fault, explain_text, steps as answer_steps};
+use crate::request::{Check, Steps};
+use argus_engine::{Ended, Fault, check_script, explain_text, steps as answer_steps};
 use run_model::{Setup, SetupFault};
 use std::process::ExitCode;
 use std::{fs, io};
@@ -30,6 +30,15 @@ pub fn steps(rt: &HostRuntime, given: &Steps<'_>) -> Result<ExitCode, Fault> {
     }
 }
 
+/// Writes whether a file is a script, or its first fault, to standard output. The status is 1 where it is none.
+pub fn check(rt: &HostRuntime, given: &Check<'_>) -> Result<ExitCode, Fault> {
+    let bytes = read_file(rt, given.script)?;
+    match check_script(rt.alloc(), bytes.as_slice(), &mut io::writer(rt))? {
+        Ended::Stopped => Ok(ExitCode::FAILURE),
+        Ended::Done => Ok(ExitCode::SUCCESS),
+    }
+}
+
 /// Makes the steps of a file in the world, and writes their answers.
 fn answer_file(rt: &HostRuntime, world: &mut World, file: &str) -> Result<Ended, Fault> {
     if file == STANDARD_INPUT {
@@ -44,14 +53,18 @@ fn answer_file(rt: &HostRuntime, world: &mut World, file: &str) -> Result<Ended,
 
 /// The setup in a file; `None` where the file holds none.
 fn read_setup(rt: &HostRuntime, path: &str) -> Result<Option<Setup>, Fault> {
-    let bytes = match fs::read(rt, path) {
-        Ok(bytes) => bytes,
-        Err(error) => return Err(read_fault(&error)),
-    };
+    let bytes = read_file(rt, path)?;
     match Setup::read(rt.alloc(), bytes.as_slice()) {
         Ok(setup) => Ok(Some(setup)),
         Err(SetupFault::Bad) => Ok(None),
         Err(SetupFault::Memory) => Err(Fault::Memory),
+    }
+}
+
+fn read_file(rt: &HostRuntime, path: &str) -> Result<Vec<u8>, Fault> {
+    match fs::read(rt, path) {
+        Ok(bytes) => Ok(bytes),
+        Err(error) => Err(read_fault(&error)),
     }
 }
 

@@ -1,12 +1,11 @@
 -- Lines at the front of what a reader gives.
-use Rattle.std.proofs.Common.{◌≡◌, ◌≢◌, ℕ, zero, suc, ◌+◌, ◌-◌, ◌<◌, ◌≤◌, List, [], ◌∷◌, ◌++◌, length, take, drop, slice_index, Option, Some, None, refl, sym, ap, subst, ◌∙◌, append_assoc, append-nil, arith, length-append}
+use Rattle.std.proofs.Common.{◌≡◌, ◌≢◌, ℕ, zero, suc, ◌+◌, ◌-◌, ◌<◌, ◌≤◌, List, [], ◌∷◌, ◌++◌, length, take, drop, slice_index, Option, Some, None, refl, sym, ap, subst, ◌∙◌, append_assoc, append-nil, arith}
 use Rattle.std.proofs.Math.Seq.{take-add}
 use Rattle.std.proofs.lemmas.List.{take_all, take_rest, length-drop}
-use Rattle.std.specs.Io.KnownBytes.{Consumes, Appends, Keeps, IsAtEnd, ReadConsumes}
-use Rattle.std.proofs.KnownBytes.{Consumes-trans, Appends-trans, Appends-nil, Appends-kept, Consumes-nil}
+use Rattle.std.specs.Io.KnownBytes.{Consumes, Appends, Keeps, IsAtEnd}
+use Rattle.std.proofs.KnownBytes.{Consumes-trans, Appends-trans, Appends-nil, Appends-kept}
 use Rattle.run_model.specs.declared.step.Step.{Step}
-use Rattle.run_model.specs.Texts.{IsStep, step_text, max_line, Spells}
-use Rattle.run_model.specs.Transcripts.{BeginsWithStep}
+use Rattle.run_model.specs.Texts.{step_text, max_line, Spells}
 use Rattle.run_model.specs.Reading.{Lacks}
 use Rattle.run_model.specs.Spaces.{Lacks-nil, Lacks-cons, Lacks-append}
 use Rattle.run_model.proofs.Cutting.{same_cut, no_cut}

@@ -1,5 +1,5 @@
 -- Writing the lines of what is explained, or a beginning of them.
-use Rattle.std.proofs.Common.{◌≡◌, ◌≢◌, ℕ, List, [], ◌++◌, Option, take, drop, refl, sym, ap, ◌∙◌, take-append-drop}
+use Rattle.std.proofs.Common.{◌≡◌, ◌≢◌, ℕ, List, [], Option, take, drop, refl, sym, ap, ◌∙◌, take-append-drop}
 use Rattle.std.proofs.KnownBytes.{Appends-nil}
 use Rattle.action_names.specs.Names.{Name, IsName, name_text}
 use Rattle.run_model.specs.declared.history.Event.{Event}

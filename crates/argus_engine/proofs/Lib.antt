@@ -3,3 +3,4 @@ pub mod OneAnswer
 pub mod Progressed
 pub mod Bytes
 pub mod Explanations
+pub mod Judgements

@@ -1,17 +1,16 @@
 -- A text has one answer text, and what was answered so far begins it.
-use Rattle.std.proofs.Common.{◌≡◌, ◌≢◌, ℕ, suc, ◌+◌, ◌<◌, ◌≤◌, List, [], ◌∷◌, ◌++◌, length, refl, sym, ap, subst, ◌∙◌, append_assoc, arith, inl, inr, ◌⊎◌}
+use Rattle.std.proofs.Common.{◌≡◌, ◌≢◌, ℕ, suc, ◌+◌, List, [], ◌∷◌, ◌++◌, length, refl, sym, ap, subst, ◌∙◌, append_assoc, arith, inl, inr, ◌⊎◌}
 use Rattle.std.specs.List.{AllByRecursion}
 use Rattle.run_model.specs.declared.step.Step.{Step}
 use Rattle.run_model.specs.declared.history.Event.{Event}
 use Rattle.run_model.specs.Replay.{Setup}
 use Rattle.run_model.specs.Answers.{answer_of}
 use Rattle.run_model.specs.Runs.{history_after, history_from}
-use Rattle.run_model.specs.Texts.{IsStep, step_text, answer_text, Spells}
+use Rattle.run_model.specs.Texts.{IsStep, step_text, answer_text}
 use Rattle.run_model.specs.Transcripts.{IsAnswered, at_end, step, no_step, BeginsWithStep, error_text}
-use Rattle.run_model.specs.Reading.{Lacks}
 use Rattle.run_model.proofs.Cutting.{same_cut}
 use Rattle.run_model.proofs.OneSpelling.{one_step}
-use Rattle.argus_engine.specs.Serving.{Begins, step_lines}
+use Rattle.argus_engine.specs.Serving.{step_lines}
 use Rattle.argus_engine.specs.Reading.{answer_lines}
 use Rattle.argus_engine.proofs.NoLineFeed.{step_lacks_line_feed}
 

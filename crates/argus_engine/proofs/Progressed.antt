@@ -1,10 +1,10 @@
 -- How far the engine has come, and what that gives at its end.
-use Rattle.std.proofs.Common.{◌≡◌, ◌≢◌, ℕ, suc, ◌+◌, ◌<◌, ◌≤◌, List, [], ◌∷◌, ◌++◌, length, take, drop, Option, Some, None, refl, sym, ap, subst, ◌∙◌, append_assoc, append-nil, arith, length-append, take-append-drop}
+use Rattle.std.proofs.Common.{◌≡◌, ℕ, ◌+◌, List, [], ◌∷◌, ◌++◌, take, drop, Option, Some, None, refl, sym, ap, subst, ◌∙◌, append_assoc, append-nil, arith, length-append, take-append-drop}
 use Rattle.std.specs.List.{AllByRecursion}
 use Rattle.std.specs.Prelude.{if◌then◌else◌, ◌==◌}
 use Rattle.std.specs.declared.io.buffered.BufReader.{BufReader}
 use Rattle.std.specs.Io.Buffered.{reader_remaining, reader_inner, reader_buffer, reader_capacity}
-use Rattle.std.specs.Io.KnownBytes.{Consumes, Appends, IsAtEnd, prepend_known}
+use Rattle.std.specs.Io.KnownBytes.{Consumes, Appends, prepend_known}
 use Rattle.std.proofs.KnownBytes.{Consumes-trans, Consumes-nil, Appends-trans, Appends-nil}
 use Rattle.run_model.specs.declared.step.Step.{Step}
 use Rattle.run_model.specs.declared.history.Event.{Event}
@@ -12,12 +12,12 @@ use Rattle.run_model.specs.Replay.{Setup}
 use Rattle.run_model.specs.Answers.{answer_of}
 use Rattle.run_model.specs.Runs.{World, history_after, history_from, world_after}
 use Rattle.run_model.specs.Texts.{IsStep, step_text, answer_text}
-use Rattle.run_model.specs.Transcripts.{IsAnswered, at_end, no_step, error_text, BeginsWithStep}
+use Rattle.run_model.specs.Transcripts.{IsAnswered, at_end, no_step, error_text}
 use Rattle.argus_engine.specs.declared.engine.Next.{Next}
 use Rattle.argus_engine.specs.declared.engine.Next.TheVariants as found
 use Rattle.argus_engine.specs.declared.engine.Ended.{Ended}
 use Rattle.argus_engine.specs.declared.engine.Ended.TheVariants.{Done, Stopped}
-use Rattle.argus_engine.specs.Serving.{Gives, Begins, step_lines, Made, Answers, BeginsAnswers, HasEnded, Writes}
+use Rattle.argus_engine.specs.Serving.{Gives, Begins, step_lines, Made, Answers, BeginsAnswers, Writes}
 use Rattle.argus_engine.specs.Reading.{FacesNoStep, ReadsStep, answer_lines, Progress, TakesFront, Running, GoesOn, Moves}
 use Rattle.argus_engine.proofs.Bytes.{left_text, gives_more}
 use Rattle.argus_engine.proofs.OneAnswer.{back, forth, one_answer}

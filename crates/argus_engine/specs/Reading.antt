@@ -7,7 +7,7 @@ use Rattle.run_model.specs.declared.history.Event.{Event}
 use Rattle.run_model.specs.Replay.{Setup}
 use Rattle.run_model.specs.Answers.{answer_of}
 use Rattle.run_model.specs.Runs.{World, history_after, history_from, world_after}
-use Rattle.run_model.specs.Texts.{IsStep, step_text, answer_text, max_line, Spells}
+use Rattle.run_model.specs.Texts.{IsStep, step_text, answer_text}
 use Rattle.run_model.specs.Transcripts.{BeginsWithStep, line_feed}
 use Rattle.run_model.specs.Reading.{Lacks}
 use Rattle.argus_engine.specs.declared.reading.Line.{Line}

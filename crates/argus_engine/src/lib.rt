@@ -1,13 +1,16 @@
-//! The engine of the program: it reads steps, a line each, makes them in a world, and writes the line of each answer.
+//! The engine of the program: it reads steps, a line each, makes them in a world, and writes the line of each answer; and it says of a script
+//! whether it is one.
 //!
-//! What it writes is the answer text that belongs to what it reads. It keeps one line and one buffer of answers at a
+//! What it writes is the answer text that belongs to what it reads. Of steps it keeps one line and one buffer of answers at a
 //! time, so its memory grows with the history alone.
 #![tactic(auto)]
 
+mod checking;
 mod engine;
 mod explaining;
 mod reading;
 mod writing;
 
+pub use checking::check_script;
 pub use engine::{Ended, Fault, steps};
 pub use explaining::explain_text;

@@ -5,4 +5,6 @@
 #[cfg(test)]
 mod of_argus_engine;
 #[cfg(test)]
+mod of_check_script;
+#[cfg(test)]
 mod of_plain_tables;

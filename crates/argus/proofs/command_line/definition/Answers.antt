@@ -17,5 +17,8 @@ returns c =
     let top = ap app_of_fields c.subcommand_required-argus.ensures ∙ ap (on_top (λ (s : Shape). record s { subcommand_required = true })) helped in
     let plain = ap (λ (a : App). a.top.is_plain) c.in_ok-steps.ensures in
     let local = untrue _ (and_parts _ _ (and_parts _ _ (and_parts _ _ plain).1).1).0 in
-    IfOk-weaker c.subcommand.result _ _
-    (λ new h. h.shape local ∙ ap₂ with_subcommand top (ap (λ (a : App). a.top) c.in_ok-steps.ensures)) c.subcommand.ensures
+    let with_steps = c.in_ok-subcommand.ensures.shape local ∙ ap₂ with_subcommand top (ap (λ (a : App). a.top) c.in_ok-steps.ensures) in
+    let plain_check = ap (λ (a : App). a.top.is_plain) c.in_ok-check.ensures in
+    let local_check = untrue _ (and_parts _ _ (and_parts _ _ (and_parts _ _ plain_check).1).1).0 in
+    IfOk-weaker c.subcommand-2.result _ _
+    (λ new h. h.shape local_check ∙ ap₂ with_subcommand with_steps (ap (λ (a : App). a.top) c.in_ok-check.ensures)) c.subcommand-2.ensures

@@ -1,7 +1,7 @@
 use Rattle.std.proofs.Common.{string_bytes, refl, ◌≢◌, rules}
 use Rattle.std.proofs.lemmas.Result.{IfOk-weaker}
 use Rattle.action_names.specs.Names.{Name, IsName, name_text}
-use Rattle.run_model.specs.Explaining.{explanation, not_begun}
+use Rattle.run_model.specs.Explaining.{not_begun}
 use Rattle.argus_engine.proofs.Explanations.{name_explained, no_name_explained, no_name_explained_once}
 use Rattle.argus_engine.proofs.explaining.explained_lines.Goals as goal
 

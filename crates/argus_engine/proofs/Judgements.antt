@@ -1,0 +1,15 @@
+-- What is said of a script is written, or a beginning of it.
+use Rattle.std.proofs.Common.{ℕ, List, [], Option, take, drop, sym, take-append-drop, append-nil, inr}
+use Rattle.std.specs.Io.KnownBytes.{Appends}
+use Rattle.argus_engine.specs.declared.engine.Ended.{Ended}
+use Rattle.argus_engine.specs.Judging.{BeginsJudgement, IsJudged}
+use Rattle.argus_engine.specs.Reading.{TakesFront}
+use Rattle.argus_engine.specs.Serving.{Writes}
+
+pub front_said : (before after : Option (List ℕ)) (bytes line : List ℕ) (ended : Ended) → IsJudged bytes ended line → TakesFront before after line
+    → Writes before after (BeginsJudgement bytes)
+front_said before after bytes line ended judged took = (take took.0 line, took.2, inr (ended, line, judged, (drop took.0 line, sym (take-append-drop took.0 line))))
+
+pub whole_said : (before after : Option (List ℕ)) (bytes line : List ℕ) (ended : Ended) → IsJudged bytes ended line → Appends before after line
+    → Writes before after (BeginsJudgement bytes)
+whole_said before after bytes line ended judged wrote = (line, wrote, inr (ended, line, judged, ([], sym (append-nil line))))
