@@ -239,7 +239,7 @@ fn a_failed_write_is_told_and_a_beginning_is_there(rt: HostRuntime) {
             room,
         };
         let mut ended = check_script(rt.alloc(), b"[", &mut writer);
-        if writer.taken.len() < room {
+        if ended == Err(Fault::Memory) || writer.taken.len() < room {
             note_refusal(&rt);
             writer.taken.clear();
             writer.room = room;
