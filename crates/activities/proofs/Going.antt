@@ -1,0 +1,108 @@
+-- Worlds that go on, step by step.
+use Rattle.std.proofs.Common.{Bool, Err, IfOk, IsTrue, List, Ok, OnErr, Result, [], ap, append-nil, append_assoc, cond, false, refl, subst, sym, true, ◌++◌, ◌∙◌, ◌∷◌, ◌≡◌}
+use Rattle.action_names.specs.Names.{Name}
+use Rattle.run_model.specs.declared.answer.Answer.{Answer}
+use Rattle.run_model.specs.declared.answer.Answer.TheVariants.{Began, Done, Granted, Refused, VoteNo, VoteYes, Waits}
+use Rattle.run_model.specs.declared.history.Event.{Event}
+use Rattle.run_model.specs.declared.step.Step.{Step}
+use Rattle.run_model.specs.declared.step.Step.TheVariants.{Top}
+use Rattle.run_model.specs.Actions.{is_begun, is_committed, names_begun, step_commits}
+use Rattle.run_model.specs.Answers.{answer_of}
+use Rattle.run_model.specs.Replay.{Setup}
+use Rattle.run_model.specs.Runs.{IsRun, World, history_after, is_accepted, world_after}
+use Rattle.run_laws.proofs.Growth.{begun_stays, followed}
+use Rattle.run_laws.proofs.Runs.{run_more}
+use Rattle.activities.specs.Continuing.{CommitsBy, CommitsNone, GoesOn, IsNoTop, tops_begun, tops_by}
+
+-- where nothing has happened
+pub goes_nowhere : (w : World) → IsRun w.setup w.past → GoesOn w w []
+goes_nowhere w r = record { is_run = r; same_setup = refl; later = []; past = refl; began = refl }
+
+-- one list of events after another
+pub tops_append : (later before : List Event) → tops_begun (later ++ before) ≡ tops_begun before ++ tops_begun later
+tops_append [] before = sym (append-nil (tops_begun before))
+tops_append (e ∷ later) before =
+    ap (λ l. l ++ tops_by e.step e.answer) (tops_append later before)
+    ∙ append_assoc (tops_begun before) (tops_begun later) (tops_by e.step e.answer)
+
+-- on, and on again
+pub goes_through : (x y z : World) (s t : List Name) → GoesOn x y s → GoesOn y z t → GoesOn x z (s ++ t)
+goes_through x y z s t a b = record {
+  is_run = b.is_run;
+  same_setup = b.same_setup ∙ a.same_setup;
+  later = b.later ++ a.later;
+  past = b.past ∙ ap (λ l. b.later ++ l) a.past ∙ sym (append_assoc b.later a.later x.past);
+  began = tops_append b.later a.later ∙ ap (λ l. l ++ tops_begun b.later) a.began ∙ ap (λ l. s ++ l) b.began;
+}
+
+-- what was begun stays so
+pub still_begun : (x y : World) (s : List Name) (a : Name) → GoesOn x y s → IsTrue (is_begun a x.past) → IsTrue (is_begun a y.past)
+still_begun x y s a g h = subst (λ l. is_begun a l ≡ true) (sym g.past) (begun_stays a (followed g.later x.past) h)
+
+pub commits_nowhere : (w : World) → CommitsNone w w
+commits_nowhere w a h = refl
+
+pub commits_through : (x y z : World) (s : List Name) → GoesOn x y s → CommitsNone x y → CommitsNone y z → CommitsNone x z
+commits_through x y z s g c d a h = d a (still_begun x y s a g h) ∙ c a h
+
+-- ---- one step
+
+nothing_begun : (step : Step) (answer : Answer) → names_begun answer ≡ [] → [] ≡ tops_by step answer
+nothing_begun (Top g) answer h = sym h
+nothing_begun _ answer h = refl
+
+no_tops : (step : Step) (answer : Answer) → IsNoTop step → tops_by step answer ≡ []
+no_tops (Top g) answer h = absurd h
+no_tops _ answer h = refl
+
+-- the event of a step, if it was accepted
+event_of : Step → Answer → List Event
+event_of step answer = cond (is_accepted answer) (record { step = step; answer = answer } ∷ []) []
+
+event_past : (step : Step) (answer : Answer) (past : List Event) → history_after step answer past ≡ event_of step answer ++ past
+unfolding event_of
+event_past step answer past = go (is_accepted answer)
+  where
+    go : (t : Bool) → cond t (record { step = step; answer = answer } ∷ past) past ≡ cond t (record { step = step; answer = answer } ∷ []) [] ++ past
+    go true = refl
+    go false = refl
+
+event_tops : (step : Step) (answer : Answer) → tops_begun (event_of step answer) ≡ tops_by step answer
+unfolding event_of
+event_tops step (Waits names) = nothing_begun step (Waits names) refl
+event_tops step (Refused why) = nothing_begun step (Refused why) refl
+event_tops step (Began names) = refl
+event_tops step (Granted reply) = refl
+event_tops step VoteYes = refl
+event_tops step VoteNo = refl
+event_tops step (Done n) = refl
+
+pub one_step : (old : World) (step : Step) (answer : Answer) → IsRun old.setup old.past → answer ≡ answer_of old.setup step old.past
+    → GoesOn old (world_after old step answer) (tops_by step answer)
+one_step old step answer r a = record {
+  is_run = subst (λ b. IsRun old.setup (history_after step b old.past)) (sym a) (run_more old.setup step old.past r);
+  same_setup = refl;
+  later = event_of step answer;
+  past = event_past step answer old.past;
+  began = event_tops step answer;
+}
+
+-- a step that is no `top`, also where memory ran out
+pub step_goes : {E : Type 0} (old new : World) (step : Step) (result : Result Answer E) → IsRun old.setup old.past → IsNoTop step
+    → IfOk result (λ answer. answer ≡ answer_of old.setup step old.past) → IfOk result (λ answer. new ≡ world_after old step answer)
+    → OnErr result (new ≡ old) → GoesOn old new []
+step_goes old new step (Ok answer) r n a w e =
+    subst (λ v. GoesOn old v []) (sym w) (subst (λ l. GoesOn old (world_after old step answer) l) (no_tops step answer n) (one_step old step answer r a))
+step_goes old new step (Err fault) r n a w e = subst (λ v. GoesOn old v []) (sym e) (goes_nowhere old r)
+
+step_keeps : (old : World) (step : Step) (answer : Answer) → CommitsBy step old (world_after old step answer)
+step_keeps old step answer a h k = go (is_accepted answer)
+  where
+    go : (t : Bool) → is_committed a (cond t (record { step = step; answer = answer } ∷ old.past) old.past) ≡ is_committed a old.past
+    go true = rw k refl
+    go false = refl
+
+pub step_commits_by : {E : Type 0} (old new : World) (step : Step) (result : Result Answer E)
+    → IfOk result (λ answer. new ≡ world_after old step answer) → OnErr result (new ≡ old) → CommitsBy step old new
+step_commits_by old new step (Ok answer) w e = subst (λ v. CommitsBy step old v) (sym w) (step_keeps old step answer)
+step_commits_by old new step (Err fault) w e = subst (λ v. CommitsBy step old v) (sym e) (λ a h k. refl)

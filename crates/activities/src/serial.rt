@@ -1,0 +1,80 @@
+ghost use Rattle.std.specs.Prelude.{List, length, IfOk, IsTrue, OnErr};
+ghost use Rattle.script_model.specs.Resolved.{IsResolved, is_resolved_client};
+ghost use Rattle.action_names.specs.Names.{Name};
+ghost use Rattle.run_model.specs.Runs.{IsRun};
+ghost use Rattle.activities.specs.Continuing.{CommitsNone, EndsAll, GoesOn};
+ghost use Rattle.activities.specs.Ends.{AreRun, ClientRan};
+
+use crate::activity::{Activity, has_committed};
+use crate::client::ClientEnd;
+use crate::flow::Flow;
+use crate::frames::Frames;
+use crate::open_action::{OpenAction, Reached, only};
+use run_model::{Answer, Step};
+use script_model::{Checked, Client};
+use std::alloc::{AllocError, Global};
+use world::World;
+
+/// Runs the clients of a script one after another, each to its end, and gives how they ended, in their order. The arms of a `coenter` are
+/// begun together and run in order. An operation that would wait aborts the enclosing top action.
+///
+/// `Err` comes for want of memory alone. A client that lacks memory aborts its open actions, outwards, as far as there is memory for that,
+/// and the others are run all the same.
+pub fn run_serial(
+    alloc: Global,
+    world: &mut World,
+    script: &Checked,
+) -> Result<Vec<ClientEnd>, AllocError>
+    requires { IsResolved script.now }
+    ensures ok { IfOk result (λ ends. AreRun (length script.now.clients) world.old world.new ends.items) }
+    ensures err { OnErr result ((tops : List Name) × GoesOn world.old world.new tops) }
+{
+    let clients = script.clients.as_slice();
+    let mut ends = Vec::with_capacity(alloc, clients.len())?;
+    let mut fault = Ok(());
+    for client in clients {
+        match run_client(alloc, world, script, client) {
+            Ok(end) => ends.push(end)?,
+            Err(error) => fault = fault.and(Err(error)),
+        }
+    }
+    fault?;
+    Ok(ends)
+}
+
+fn run_client(
+    alloc: Global,
+    world: &mut World,
+    script: &Checked,
+    client: &Client,
+) -> Result<ClientEnd, AllocError>
+    requires script { IsResolved script.now }
+    requires client { IsTrue (is_resolved_client script.now client.now) }
+    requires run { IsRun world.old.setup world.old.past }
+    ensures ok { IfOk result (λ end. ClientRan world.old world.new end) }
+    ensures commits { CommitsNone world.old world.new }
+    ensures err { OnErr result ((tops : List Name) × GoesOn world.old world.new tops) }
+{
+    let reached = Reached::new(alloc, client.home)?;
+    let Answer::Began(names) = world.step(&Step::Top(client.home))? else {
+        return Ok(ClientEnd {
+            top: None,
+            committed: false,
+            value: None,
+        });
+    };
+    let mut top = OpenAction::new(only(names), client.home, reached);
+    let mut frames = Frames::new(alloc);
+    let body = client.body.as_slice();
+    let ended = Activity::new(alloc, script).run(world, &mut top, &mut frames, body);
+    let committed = has_committed(&ended);
+    let value = match ended? {
+        Flow::Returned(value) => value,
+        _ => None,
+    };
+    Ok(ClientEnd {
+        top: Some(top.name),
+        committed,
+        value,
+    })
+}
