@@ -52,7 +52,7 @@ pub record IsOpen (a : Name) (w : World) : Type 0 where
 
 -- these actions have just begun, and no others
 pub record HaveBegun (names : List Name) (old new : World) : Type 0 where
-  pub open : (a : Name) → IsTrue (has_name names a) → IsOpen a new
+  pub are_open : (a : Name) → IsTrue (has_name names a) → IsOpen a new
   pub before : (a : Name) → IsTrue (has_name names a) → is_begun a old.past ≡ false
   pub only : (a : Name) → IsTrue (is_begun a new.past) → is_begun a old.past ≡ false → IsTrue (has_name names a)
 
@@ -62,7 +62,7 @@ AreDistinct names = (before after : List Name) (a : Name) → names ≡ before +
 
 -- actions that wait for their turn, each named once
 pub record AreWaiting (names : List Name) (w : World) : Type 0 where
-  pub open : (a : Name) → IsTrue (has_name names a) → IsOpen a w
+  pub are_open : (a : Name) → IsTrue (has_name names a) → IsOpen a w
   pub distinct : AreDistinct names
 
 -- each of the actions that waited has ended, or waits still
