@@ -1,7 +1,8 @@
-ghost use Rattle.std.specs.Prelude.{◌≡◌, [], ◌∷◌, length, IsTrue, IfOk, OnOk, OnErr};
-ghost use Rattle.run_model.specs.Actions.{is_begun, is_committed, is_ended};
+ghost use Rattle.std.specs.Prelude.{◌≡◌, ◌≢◌, ℕ, [], ◌∷◌, false, length, IsTrue, IfOk, None, OnOk, OnErr};
+ghost use Rattle.run_model.specs.declared.answer.Answer.TheVariants.{Done};
+ghost use Rattle.run_model.specs.Actions.{is_begun, is_committed, is_ended, maker_in, names_begun};
 ghost use Rattle.run_model.specs.Answers.{answer_of};
-ghost use Rattle.run_model.specs.Runs.{IsRun, world_after};
+ghost use Rattle.run_model.specs.Runs.{IsRun, is_accepted, world_after};
 ghost use Rattle.activities.specs.Continuing.{GoesOn, CommitsAmong, CommitsBy, CommitsNone, EndsAll, EndsThese, HaveBegun, IsNoTop, IsOpen};
 ghost use Rattle.activities.specs.Ends.{called, commits, named_by};
 
@@ -276,7 +277,10 @@ fn tell(world: &mut World, action: &Name, guardians: &BTreeSet<u32>) -> Result<(
     Ok(())
 }
 
-fn is_done(answer: Answer) -> bool {
+fn is_done(answer: Answer) -> bool
+    ensures done { IsTrue result → IsTrue (is_accepted answer) }
+    ensures not_done { result ≡ false → (n : ℕ) → answer ≢ Done n }
+{
     matches!(answer, Answer::Done(_))
 }
 
@@ -297,6 +301,8 @@ fn make(world: &mut World, step: &Step) -> Result<Answer, AllocError>
     ensures answer { IfOk result (λ answer. answer ≡ answer_of world.old.setup step.now world.old.past) }
     ensures after { IfOk result (λ answer. world.new ≡ world_after world.old step.now answer) }
     ensures err { OnErr result (world.new ≡ world.old) }
+    ensures began { IfOk result (λ answer. HaveBegun (names_begun answer) world.old world.new) }
+    ensures ends { maker_in step.now ≡ None → EndsAll world.old world.new }
 {
     world.step(step)
 }
