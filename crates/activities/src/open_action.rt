@@ -1,5 +1,6 @@
-ghost use Rattle.std.specs.Prelude.{◌≡◌, ◌≢◌, ℕ, [], ◌∷◌, false, length, IsTrue, IfOk, None, OnOk, OnErr};
-ghost use Rattle.run_model.specs.declared.answer.Answer.TheVariants.{Done};
+ghost use Rattle.std.specs.Prelude.{◌≡◌, ◌≢◌, ℕ, [], ◌∷◌, List, false, length, IsTrue, IfOk, None, OnOk, OnErr};
+ghost use Rattle.action_names.specs.Names.{Name};
+ghost use Rattle.run_model.specs.declared.answer.Answer.TheVariants.{Began, Done};
 ghost use Rattle.run_model.specs.Actions.{is_begun, is_committed, is_ended, maker_in, names_begun};
 ghost use Rattle.run_model.specs.Answers.{answer_of};
 ghost use Rattle.run_model.specs.Runs.{IsRun, is_accepted, world_after};
@@ -73,12 +74,8 @@ impl OpenAction {
         ensures commits { CommitsNone world.old world.new }
         ensures began { IfOk result (λ c. HaveBegun (called c) world.old world.new) }
     {
-        match make(world, &Step::Call(self.name.copy()?, guardian))? {
-            Answer::Began(names) => Ok(Called::Began(only(names))),
-            Answer::Refused(Refusal::Down) => Ok(Called::Signalled),
-            Answer::Refused(Refusal::TooDeep) => Ok(Called::Signalled),
-            _ => Ok(Called::Refused),
-        }
+        let answer = make(world, Step::Call(self.name.copy()?, guardian))?;
+        Ok(what_came(answer))
     }
 
     /// Begins a nested top action that it starts; none where that is refused.
@@ -88,10 +85,8 @@ impl OpenAction {
         ensures commits { CommitsNone world.old world.new }
         ensures began { IfOk result (λ found. HaveBegun (named_by found) world.old world.new) }
     {
-        match make(world, &Step::NestedTop(self.name.copy()?))? {
-            Answer::Began(names) => Ok(Some(only(names))),
-            _ => Ok(None),
-        }
+        let answer = make(world, Step::NestedTop(self.name.copy()?))?;
+        Ok(started(answer))
     }
 
     /// Makes an operation on an object of its home.
@@ -110,7 +105,7 @@ impl OpenAction {
             guardian: self.home,
             number: object,
         };
-        make(world, &Step::Op(self.name.copy()?, object, operation))
+        make(world, Step::Op(self.name.copy()?, object, operation))
     }
 
     /// Learns where a subaction of it, which has ended, and the descendants of that had their homes, and where it committed from.
@@ -190,7 +185,7 @@ impl OpenAction {
         let committed = if self.name.is_top() {
             self.commit_top(world)?
         } else {
-            is_done(make(world, &Step::Commit(self.name.copy()?))?)
+            is_done(make(world, Step::Commit(self.name.copy()?))?)
         };
         if committed {
             tell(world, &self.name, &self.reached.homes)?;
@@ -207,16 +202,16 @@ impl OpenAction {
         ensures told { IfOk result (λ done. done ≡ is_committed self.now.name world.new.past) }
         ensures ends { EndsAll world.old world.new }
     {
-        if !is_done(make(world, &Step::Close(self.name.copy()?))?) {
+        if !is_done(make(world, Step::Close(self.name.copy()?))?) {
             return Ok(false);
         }
         for guardian in &self.reached.participants {
-            let vote = make(world, &Step::Prepare(*guardian, self.name.copy()?))?;
+            let vote = make(world, Step::Prepare(*guardian, self.name.copy()?))?;
             if !matches!(vote, Answer::VoteYes) {
                 return Ok(false);
             }
         }
-        Ok(is_done(make(world, &Step::Decide(self.name.copy()?))?))
+        Ok(is_done(make(world, Step::Decide(self.name.copy()?))?))
     }
 
     /// Aborts it, and tells so.
@@ -227,7 +222,7 @@ impl OpenAction {
         ensures ended { OnOk result (EndsThese (self.now.name ∷ []) world.old world.new) }
         ensures ends { EndsAll world.old world.new }
     {
-        make(world, &Step::Abort(self.name.copy()?))?;
+        make(world, Step::Abort(self.name.copy()?))?;
         tell(world, &self.name, &self.reached.homes)
     }
 
@@ -259,8 +254,8 @@ fn abort_at_home(world: &mut World, action: &Name, home: u32) -> Result<(), Allo
     ensures ended { OnOk result (EndsThese (action.now ∷ []) world.old world.new) }
     ensures ends { EndsAll world.old world.new }
 {
-    make(world, &Step::Abort(action.copy()?))?;
-    make(world, &Step::Tell(home, action.copy()?))?;
+    make(world, Step::Abort(action.copy()?))?;
+    make(world, Step::Tell(home, action.copy()?))?;
     Ok(())
 }
 
@@ -272,9 +267,32 @@ fn tell(world: &mut World, action: &Name, guardians: &BTreeSet<u32>) -> Result<(
     ensures ends { EndsAll world.old world.new }
 {
     for guardian in guardians {
-        make(world, &Step::Tell(*guardian, action.copy()?))?;
+        make(world, Step::Tell(*guardian, action.copy()?))?;
     }
     Ok(())
+}
+
+/// What came of a call that was answered so.
+fn what_came(answer: Answer) -> Called
+    requires { (names : List Name) → answer ≡ Began names → length names ≡ 1 }
+    ensures { called result ≡ names_begun answer }
+{
+    match answer {
+        Answer::Began(names) => Called::Began(only(names)),
+        Answer::Refused(Refusal::Down | Refusal::TooDeep) => Called::Signalled,
+        _ => Called::Refused,
+    }
+}
+
+/// The action that an answer began, of which there is one at most.
+fn started(answer: Answer) -> Option<Name>
+    requires { (names : List Name) → answer ≡ Began names → length names ≡ 1 }
+    ensures { named_by result ≡ names_begun answer }
+{
+    match answer {
+        Answer::Began(names) => Some(only(names)),
+        _ => None,
+    }
 }
 
 fn is_done(answer: Answer) -> bool
@@ -293,16 +311,16 @@ pub(crate) fn only(names: Names) -> Name
 }
 
 /// Makes a step that begins no top action of its own accord.
-fn make(world: &mut World, step: &Step) -> Result<Answer, AllocError>
+fn make(world: &mut World, step: Step) -> Result<Answer, AllocError>
     requires run { IsRun world.old.setup world.old.past }
-    requires step { IsNoTop step.now }
+    requires step { IsNoTop step }
     ensures goes_on { GoesOn world.old world.new [] }
-    ensures commits { CommitsBy step.now world.old world.new }
-    ensures answer { IfOk result (λ answer. answer ≡ answer_of world.old.setup step.now world.old.past) }
-    ensures after { IfOk result (λ answer. world.new ≡ world_after world.old step.now answer) }
+    ensures commits { CommitsBy step world.old world.new }
+    ensures answer { IfOk result (λ answer. answer ≡ answer_of world.old.setup step world.old.past) }
+    ensures after { IfOk result (λ answer. world.new ≡ world_after world.old step answer) }
     ensures err { OnErr result (world.new ≡ world.old) }
     ensures began { IfOk result (λ answer. HaveBegun (names_begun answer) world.old world.new) }
-    ensures ends { maker_in step.now ≡ None → EndsAll world.old world.new }
+    ensures ends { maker_in step ≡ None → EndsAll world.old world.new }
 {
-    world.step(step)
+    world.step(&step)
 }
