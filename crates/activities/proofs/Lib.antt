@@ -1,2 +1,4 @@
 pub mod Going
 pub mod Steps
+pub mod Telling
+pub mod Unions

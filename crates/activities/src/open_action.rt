@@ -1,10 +1,12 @@
-ghost use Rattle.std.specs.Prelude.{◌≡◌, ◌≢◌, ℕ, [], ◌∷◌, List, false, length, IsTrue, IfOk, None, OnOk, OnErr};
+ghost use Rattle.std.specs.Prelude.{◌≡◌, [], ◌∷◌, List, false, length, IsTrue, IfOk, None, OnOk, OnErr};
 ghost use Rattle.action_names.specs.Names.{Name};
-ghost use Rattle.run_model.specs.declared.answer.Answer.TheVariants.{Began, Done};
+ghost use Rattle.run_model.specs.declared.answer.Answer.TheVariants.{Began};
+ghost use Rattle.run_model.specs.declared.step.Step.TheVariants.{Abort, Prepare};
 ghost use Rattle.run_model.specs.Actions.{is_begun, is_committed, is_ended, maker_in, names_begun};
 ghost use Rattle.run_model.specs.Answers.{answer_of};
-ghost use Rattle.run_model.specs.Runs.{IsRun, is_accepted, world_after};
-ghost use Rattle.activities.specs.Continuing.{GoesOn, CommitsAmong, CommitsBy, CommitsNone, EndsAll, EndsThese, HaveBegun, IsNoTop, IsOpen};
+ghost use Rattle.run_model.specs.Runs.{IsRun, world_after};
+ghost use Rattle.activities.specs.Continuing.{GoesOn, CommitsAmong, CommitsBy, CommitsNone, EndsAll, EndsThese, HaveBegun, IsAfter, IsNoTop, IsOpen};
+ghost use Rattle.activities.specs.Reaching.{AreTold, IsUnion, is_made, is_yes};
 ghost use Rattle.activities.specs.Ends.{called, commits, named_by};
 
 use crate::flow::{Flow, Reach};
@@ -112,14 +114,13 @@ impl OpenAction {
     pub(crate) fn take_in(&mut self, child: &OpenAction, committed: bool) -> Result<(), AllocError>
         ensures name { self.new.name ≡ self.old.name }
         ensures home { self.new.home ≡ self.old.home }
+        ensures homes { OnOk result (IsUnion self.old.reached.homes child.now.reached.homes self.new.reached.homes) }
+        ensures joined { OnOk result (IsTrue committed → IsUnion self.old.reached.participants child.now.reached.participants self.new.reached.participants) }
+        ensures kept { committed ≡ false → self.new.reached.participants ≡ self.old.reached.participants }
     {
-        for home in &child.reached.homes {
-            self.reached.homes.insert(*home)?;
-        }
+        add_all(&mut self.reached.homes, &child.reached.homes)?;
         if committed {
-            for guardian in &child.reached.participants {
-                self.reached.participants.insert(*guardian)?;
-            }
+            add_all(&mut self.reached.participants, &child.reached.participants)?;
         }
         Ok(())
     }
@@ -135,41 +136,62 @@ impl OpenAction {
         ensures ended { OnOk result (IsTrue (is_ended self.now.name world.new.past)) }
         ensures ends { EndsAll world.old world.new }
     {
-        let ended = self.try_end(world, flow);
-        if ended.is_err() {
-            let _ = self.abort(world);
+        match self.try_end(world, wants_commit(&flow)) {
+            Ok(true) => Ok(flow),
+            Ok(false) => Ok(self.aborted(flow)),
+            Err(fault) => {
+                let _ = self.abort(world);
+                Err(fault)
+            }
         }
-        ended
     }
 
-    fn try_end(&self, world: &mut World, flow: Flow) -> Result<Flow, AllocError>
+    /// Commits it where that is wanted; where it cannot, and else, aborts it. Whether it has committed.
+    fn try_end(&self, world: &mut World, wanted: bool) -> Result<bool, AllocError>
         requires run { IsRun world.old.setup world.old.past }
         requires open { IsOpen self.now.name world.old }
         ensures goes_on { GoesOn world.old world.new [] }
         ensures others { CommitsAmong (self.now.name ∷ []) world.old world.new }
-        ensures told { IfOk result (λ end. commits end ≡ is_committed self.now.name world.new.past) }
+        ensures told { IfOk result (λ done. done ≡ is_committed self.now.name world.new.past) }
+        ensures wanted { IfOk result (λ done. IsTrue done → IsTrue wanted) }
         ensures ended { OnOk result (IsTrue (is_ended self.now.name world.new.past)) }
         ensures ends { EndsAll world.old world.new }
     {
-        match flow {
-            Flow::Ended | Flow::Returned(_) => {
-                if self.commit(world)? {
-                    return Ok(flow);
-                }
-                self.abort(world)?;
-                Ok(Flow::Aborted)
-            }
-            Flow::Aborted => {
-                self.abort(world)?;
-                Ok(Flow::Aborted)
-            }
-            Flow::Outwards(reach) => {
-                self.abort(world)?;
-                if self.name.is_top() && reach == Reach::TopAction {
-                    return Ok(Flow::Aborted);
-                }
-                Ok(Flow::Outwards(reach))
-            }
+        if wanted {
+            self.commit_or_abort(world)
+        } else {
+            self.abort(world)?;
+            Ok(false)
+        }
+    }
+
+    fn commit_or_abort(&self, world: &mut World) -> Result<bool, AllocError>
+        requires run { IsRun world.old.setup world.old.past }
+        requires open { IsOpen self.now.name world.old }
+        ensures goes_on { GoesOn world.old world.new [] }
+        ensures others { CommitsAmong (self.now.name ∷ []) world.old world.new }
+        ensures told { IfOk result (λ done. done ≡ is_committed self.now.name world.new.past) }
+        ensures ended { OnOk result (IsTrue (is_ended self.now.name world.new.past)) }
+        ensures ends { EndsAll world.old world.new }
+    {
+        if self.commit(world)? {
+            return Ok(true);
+        }
+        self.abort(world)?;
+        Ok(false)
+    }
+
+    /// How it ended where it has aborted and its body ended so.
+    fn aborted(&self, flow: Flow) -> Flow
+        ensures { commits result ≡ false }
+    {
+        let Flow::Outwards(reach) = flow else {
+            return Flow::Aborted;
+        };
+        if self.name.is_top() && reach == Reach::TopAction {
+            Flow::Aborted
+        } else {
+            Flow::Outwards(reach)
         }
     }
 
@@ -180,17 +202,30 @@ impl OpenAction {
         ensures goes_on { GoesOn world.old world.new [] }
         ensures others { CommitsAmong (self.now.name ∷ []) world.old world.new }
         ensures told { IfOk result (λ done. done ≡ is_committed self.now.name world.new.past) }
+        ensures homes { IfOk result (λ done. IsTrue done → AreTold self.now.reached.homes self.now.name world.new) }
         ensures ends { EndsAll world.old world.new }
     {
-        let committed = if self.name.is_top() {
-            self.commit_top(world)?
-        } else {
-            is_done(make(world, Step::Commit(self.name.copy()?))?)
-        };
-        if committed {
-            tell(world, &self.name, &self.reached.homes)?;
+        if !self.try_commit(world)? {
+            return Ok(false);
         }
-        Ok(committed)
+        tell(world, &self.name, &self.reached.homes)?;
+        Ok(true)
+    }
+
+    /// Commits it; whether that succeeded.
+    fn try_commit(&self, world: &mut World) -> Result<bool, AllocError>
+        requires run { IsRun world.old.setup world.old.past }
+        requires open { IsOpen self.now.name world.old }
+        ensures goes_on { GoesOn world.old world.new [] }
+        ensures others { CommitsAmong (self.now.name ∷ []) world.old world.new }
+        ensures told { IfOk result (λ done. done ≡ is_committed self.now.name world.new.past) }
+        ensures ends { EndsAll world.old world.new }
+    {
+        if self.name.is_top() {
+            self.commit_top(world)
+        } else {
+            try_step(world, Step::Commit(self.name.copy()?))
+        }
     }
 
     /// Commits it by two phases; false at the first participant that does not vote yes.
@@ -202,16 +237,15 @@ impl OpenAction {
         ensures told { IfOk result (λ done. done ≡ is_committed self.now.name world.new.past) }
         ensures ends { EndsAll world.old world.new }
     {
-        if !is_done(make(world, Step::Close(self.name.copy()?))?) {
+        if !try_step(world, Step::Close(self.name.copy()?))? {
             return Ok(false);
         }
         for guardian in &self.reached.participants {
-            let vote = make(world, Step::Prepare(*guardian, self.name.copy()?))?;
-            if !matches!(vote, Answer::VoteYes) {
+            if !prepare(world, *guardian, &self.name)? {
                 return Ok(false);
             }
         }
-        Ok(is_done(make(world, Step::Decide(self.name.copy()?))?))
+        try_step(world, Step::Decide(self.name.copy()?))
     }
 
     /// Aborts it, and tells so.
@@ -220,9 +254,10 @@ impl OpenAction {
         ensures goes_on { GoesOn world.old world.new [] }
         ensures commits { CommitsNone world.old world.new }
         ensures ended { OnOk result (EndsThese (self.now.name ∷ []) world.old world.new) }
+        ensures told { OnOk result (AreTold self.now.reached.homes self.now.name world.new) }
         ensures ends { EndsAll world.old world.new }
     {
-        make(world, Step::Abort(self.name.copy()?))?;
+        try_step(world, Step::Abort(self.name.copy()?))?;
         tell(world, &self.name, &self.reached.homes)
     }
 
@@ -254,8 +289,8 @@ fn abort_at_home(world: &mut World, action: &Name, home: u32) -> Result<(), Allo
     ensures ended { OnOk result (EndsThese (action.now ∷ []) world.old world.new) }
     ensures ends { EndsAll world.old world.new }
 {
-    make(world, Step::Abort(action.copy()?))?;
-    make(world, Step::Tell(home, action.copy()?))?;
+    try_step(world, Step::Abort(action.copy()?))?;
+    try_step(world, Step::Tell(home, action.copy()?))?;
     Ok(())
 }
 
@@ -264,10 +299,11 @@ fn tell(world: &mut World, action: &Name, guardians: &BTreeSet<u32>) -> Result<(
     requires { IsRun world.old.setup world.old.past }
     ensures goes_on { GoesOn world.old world.new [] }
     ensures commits { CommitsNone world.old world.new }
+    ensures told { OnOk result (AreTold guardians.now action.now world.new) }
     ensures ends { EndsAll world.old world.new }
 {
     for guardian in guardians {
-        make(world, Step::Tell(*guardian, action.copy()?))?;
+        try_step(world, Step::Tell(*guardian, action.copy()?))?;
     }
     Ok(())
 }
@@ -295,11 +331,61 @@ fn started(answer: Answer) -> Option<Name>
     }
 }
 
+/// Asks a guardian for its vote on a top action; whether that is yes.
+fn prepare(world: &mut World, guardian: u32, top: &Name) -> Result<bool, AllocError>
+    requires { IsRun world.old.setup world.old.past }
+    ensures goes_on { GoesOn world.old world.new [] }
+    ensures commits { CommitsNone world.old world.new }
+    ensures after { OnOk result (IsAfter (Prepare guardian top.now) world.old world.new) }
+    ensures yes { IfOk result (λ yes. yes ≡ is_yes (answer_of world.old.setup (Prepare guardian top.now) world.old.past)) }
+    ensures ends { EndsAll world.old world.new }
+{
+    let vote = make(world, Step::Prepare(guardian, top.copy()?))?;
+    Ok(is_yes(vote))
+}
+
+fn is_yes(answer: Answer) -> bool
+    ensures { result ≡ is_yes answer }
+{
+    matches!(answer, Answer::VoteYes)
+}
+
+/// Makes a step; whether it was done.
+fn try_step(world: &mut World, step: Step) -> Result<bool, AllocError>
+    requires run { IsRun world.old.setup world.old.past }
+    requires step { IsNoTop step }
+    ensures goes_on { GoesOn world.old world.new [] }
+    ensures commits { CommitsBy step world.old world.new }
+    ensures after { OnOk result (IsAfter step world.old world.new) }
+    ensures done { IfOk result (λ done. done ≡ is_made (answer_of world.old.setup step world.old.past)) }
+    ensures aborts { OnOk result ((a : Name) → step ≡ Abort a → IsTrue (is_begun a world.old.past) → IsTrue (is_ended a world.new.past)) }
+    ensures ends { maker_in step ≡ None → EndsAll world.old world.new }
+{
+    let answer = make(world, step)?;
+    Ok(is_done(answer))
+}
+
 fn is_done(answer: Answer) -> bool
-    ensures done { IsTrue result → IsTrue (is_accepted answer) }
-    ensures not_done { result ≡ false → (n : ℕ) → answer ≢ Done n }
+    ensures { result ≡ is_made answer }
 {
     matches!(answer, Answer::Done(_))
+}
+
+/// Whether an action whose body ended so is to commit.
+fn wants_commit(flow: &Flow) -> bool
+    ensures { result ≡ commits flow.now }
+{
+    matches!(flow, Flow::Ended | Flow::Returned(_))
+}
+
+/// Adds the guardians of a set to another.
+fn add_all(to: &mut BTreeSet<u32>, guardians: &BTreeSet<u32>) -> Result<(), AllocError>
+    ensures { OnOk result (IsUnion to.old guardians.now to.new) }
+{
+    for guardian in guardians {
+        to.insert(*guardian)?;
+    }
+    Ok(())
 }
 
 /// The name, of which there is one.
@@ -320,6 +406,7 @@ fn make(world: &mut World, step: Step) -> Result<Answer, AllocError>
     ensures after { IfOk result (λ answer. world.new ≡ world_after world.old step answer) }
     ensures err { OnErr result (world.new ≡ world.old) }
     ensures began { IfOk result (λ answer. HaveBegun (names_begun answer) world.old world.new) }
+    ensures aborts { OnOk result ((a : Name) → step ≡ Abort a → IsTrue (is_begun a world.old.past) → IsTrue (is_ended a world.new.past)) }
     ensures ends { maker_in step ≡ None → EndsAll world.old world.new }
 {
     world.step(&step)

@@ -1,5 +1,5 @@
 use Rattle.activities.proofs.Going.{step_commits_by, step_goes}
-use Rattle.activities.proofs.Steps.{result_begins, step_ends}
+use Rattle.activities.proofs.Steps.{abort_result_ends, result_begins, step_ends}
 use Rattle.activities.proofs.open_action.make.Goals as goal
 
 pub returns-clause-goes_on : goal.returns-clause-goes_on
@@ -17,3 +17,7 @@ returns-clause-began c =
 pub returns-clause-ends : goal.returns-clause-ends
 returns-clause-ends c =
     step_ends c.args.world.now c.step.new.self c.args.step c.step.result c.requires.step c.step.ensures.answer c.step.ensures.after c.step.ensures.err
+
+pub returns-clause-aborts : goal.returns-clause-aborts
+returns-clause-aborts c =
+    abort_result_ends c.args.world.now c.step.new.self c.args.step c.step.result c.step.ensures.answer c.step.ensures.after
