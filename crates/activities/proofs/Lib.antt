@@ -2,3 +2,4 @@ pub mod Going
 pub mod Steps
 pub mod Telling
 pub mod Unions
+pub mod Voting

@@ -6,7 +6,7 @@ ghost use Rattle.run_model.specs.Actions.{is_begun, is_committed, is_ended, make
 ghost use Rattle.run_model.specs.Answers.{answer_of};
 ghost use Rattle.run_model.specs.Runs.{IsRun, world_after};
 ghost use Rattle.activities.specs.Continuing.{GoesOn, CommitsAmong, CommitsBy, CommitsNone, EndsAll, EndsThese, HaveBegun, IsAfter, IsNoTop, IsOpen};
-ghost use Rattle.activities.specs.Reaching.{AreTold, IsUnion, is_made, is_yes};
+ghost use Rattle.activities.specs.Reaching.{AreTold, IsHeld, IsUnion, is_made, is_yes};
 ghost use Rattle.activities.specs.Ends.{called, commits, named_by};
 
 use crate::flow::{Flow, Reach};
@@ -235,6 +235,7 @@ impl OpenAction {
         ensures goes_on { GoesOn world.old world.new [] }
         ensures others { CommitsAmong (self.now.name ∷ []) world.old world.new }
         ensures told { IfOk result (λ done. done ≡ is_committed self.now.name world.new.past) }
+        ensures held { IfOk result (λ done. done ≡ false → IsHeld self.now.reached.participants self.now.name world.old world.new) }
         ensures ends { EndsAll world.old world.new }
     {
         if !try_step(world, Step::Close(self.name.copy()?))? {
