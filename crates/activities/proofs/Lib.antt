@@ -3,3 +3,4 @@ pub mod Steps
 pub mod Telling
 pub mod Unions
 pub mod Voting
+pub mod Ending

@@ -1,5 +1,5 @@
 -- Votes on a top action, asked of guardians one after another.
-use Rattle.std.proofs.Common.{ℕ, AllByRecursion, Bool, Err, IfOk, IsTrue, List, None, Ok, OnOk, Option, Result, Some, [], ap, arith, cond, eqb-true, false, inl, inr, is_some, refl, subst, sym, true, ◌==◌, ◌&&◌, ◌∙◌, ◌∷◌, ◌≡◌, ◌||◌, ◌⊎◌}
+use Rattle.std.proofs.Common.{ℕ, Bool, Err, IfOk, IsTrue, List, None, Ok, OnOk, Option, Result, Some, [], ap, arith, cond, eqb-true, false, inl, inr, is_some, refl, subst, sym, true, ◌++◌, ◌==◌, ◌&&◌, ◌∙◌, ◌∷◌, ◌≡◌, ◌||◌, ◌⊎◌}
 use Rattle.std.proofs.lemmas.Bool.{and_from, false_from_ne_true, false≢true, or_cases, or_from, or_left, or_parts, or_right}
 use Rattle.std.proofs.lemmas.Cmp.{ranked}
 use Rattle.std.proofs.lemmas.Map.Lookups.{exact_unsigned}
@@ -7,7 +7,7 @@ use Rattle.std.proofs.lemmas.Map.Views.{tells_apart}
 use Rattle.std.specs.declared.cmp.Ordering.{Ordering}
 use Rattle.std.specs.declared.cmp.Ordering.TheVariants.{Equal, Greater, Less}
 use Rattle.std.specs.BTreeSet.{BTreeSet}
-use Rattle.std.specs.List.{list_any}
+use Rattle.std.specs.List.{AllByRecursion}
 use Rattle.std.specs.List.Sorted.{IsStrictlySortedBy}
 use Rattle.std.specs.Ordering.{eq_by_cmp, is_eq, nat_cmp}
 use Rattle.action_names.specs.Names.{Name, same_name}
@@ -19,27 +19,27 @@ use Rattle.run_model.specs.declared.step.Step.{Step}
 use Rattle.run_model.specs.declared.step.Step.TheVariants.{Close, Decide, Prepare}
 use Rattle.run_model.specs.Actions.{step_closes}
 use Rattle.run_model.specs.Answers.{answer_of, outcome, refused_or}
-use Rattle.run_model.specs.Refusals.{Check, checks, first_refusal}
+use Rattle.run_model.specs.Refusals.{Check, checks, down, ended, first_refusal, gone, no_action, no_guardian, no_participant, not_closed, not_top, voted_already}
 use Rattle.run_model.specs.Replay.{Setup}
 use Rattle.run_model.specs.Runs.{IsRun, World, history_after, world_after}
 use Rattle.run_model.specs.Visibility.{has_prepared}
 use Rattle.run_model.specs.Votes.{has_voted}
 use Rattle.run_laws.proofs.Accepted.{closes_facts}
-use Rattle.run_laws.proofs.Ended.{not_closed}
+use Rattle.run_laws.proofs.Ended as ends
 use Rattle.run_laws.proofs.Kept.{prepared_closed}
 use Rattle.run_laws.proofs.Names.{clash, eqb_self, same_name_self}
 use Rattle.run_laws.proofs.Runs.{run_more}
 use Rattle.activities.specs.Reaching.{IsHeld, has, is_made, is_refused, is_yes, would_refuse}
 use Rattle.activities.proofs.Telling.{listed}
 
--- where a check applies, there is a refusal
-any_applies : (cs : List Check) → list_any (λ c. c.1) cs ≡ true → is_some (first_refusal cs) ≡ true
-any_applies [] h = absurd (false≢true h)
-any_applies (c ∷ cs) h = go c.1 refl
+-- where the last of the checks applies, there is a refusal
+last_applies : (before : List Check) (c : Check) → c.1 ≡ true → is_some (first_refusal (before ++ (c ∷ []))) ≡ true
+last_applies [] c h = ap (λ t. is_some (cond t (Some c.0) None)) h
+last_applies (b ∷ before) c h = front b.1 b.0 (first_refusal (before ++ (c ∷ []))) (last_applies before c h)
   where
-    go : (t : Bool) → c.1 ≡ t → is_some (cond t (Some c.0) (first_refusal cs)) ≡ true
-    go true e = refl
-    go false e = any_applies cs (sym (ap (λ t. t || list_any (λ d. d.1) cs) e) ∙ h)
+    front : (x : Bool) (n : Refusal) (o : Option Refusal) → is_some o ≡ true → is_some (cond x (Some n) o) ≡ true
+    front true n o k = refl
+    front false n o k = k
 
 -- who has voted does not vote yes again
 asked_twice : (setup : Setup) (g : ℕ) (t : Name) (past : List Event) → has_voted g t past ≡ true
@@ -47,8 +47,10 @@ asked_twice : (setup : Setup) (g : ℕ) (t : Name) (past : List Event) → has_v
 unfolding answer_of
 asked_twice setup g t past v =
     go (first_refusal (checks setup (Prepare g t) past))
-    (any_applies (checks setup (Prepare g t) past)
-    (or_right _ _ (or_right _ _ (or_right _ _ (or_right _ _ (or_right _ _ (or_right _ _ (or_right _ _ (or_right _ _ (or_left _ _ v))))))))))
+    (last_applies
+    (no_guardian setup g ∷ no_action t past ∷ ended t past ∷ gone t past ∷ down g past ∷ no_participant g t past ∷ not_top t
+    ∷ not_closed t past ∷ [])
+    (voted_already g t past) v)
   where
     go : (o : Option Refusal) → is_some o ≡ true → is_yes (refused_or o (outcome setup (Prepare g t) past)) ≡ false
     go (Some r) h = refl
@@ -98,9 +100,9 @@ equal_self : (x : ℕ) → eq_by_cmp nat_cmp x x ≡ true
 equal_self x = go (nat_cmp x x) refl
   where
     go : (o : Ordering) → nat_cmp x x ≡ o → is_eq o ≡ true
-    go Less e = let less = ranked x x Less (sym e) in omega arith
+    go Less e = let less = ranked x x Less (sym e) in absurd (omega arith)
     go Equal e = refl
-    go Greater e = let less = ranked x x Greater (sym e) in omega arith
+    go Greater e = let less = ranked x x Greater (sym e) in absurd (omega arith)
 
 -- what is below all of a list is none of it
 below_all : (g : ℕ) (rest : List ℕ) (k : ℕ) → AllByRecursion (λ y. nat_cmp g y ≡ Less) rest → listed rest k ≡ true → (g == k) ≡ false
@@ -153,7 +155,8 @@ pub ask_failed : (guardians : ℕ → Bool) (t : Name) (w v : World) (g : ℕ) (
     → (h : ℕ) × (guardians h ≡ true) × (has_prepared h t v.past ≡ false) × (is_yes (answer_of v.setup (Prepare h t) v.past) ≡ false)
 ask_failed guardians t w v g left rest l e y a =
     let self : listed left g ≡ true = ap (λ gs. listed gs g) l ∙ or_left _ _ (equal_self g) in
-    (g, a.within g self, vote_failed w v g t e y (a.unasked g self))
+    let f = vote_failed w v g t e y (a.unasked g self) in
+    (g, a.within g self, f.0, f.1)
 
 -- none is left, so each has
 pub all_asked : (guardians : ℕ → Bool) (t : Name) (w : World) (left : List ℕ) → left ≡ [] → AreAsked guardians t w left
@@ -168,7 +171,7 @@ close_unasked : (setup : Setup) (e : Event) (past : List Event) (g : ℕ) (t : N
     → has_prepared g t past ≡ false
 close_unasked setup e past g t r s =
     let f = closes_facts setup e past t r (ap (λ x. step_closes x t) s ∙ same_name_self t) in
-    false_from_ne_true _ (λ p. clash (prepared_closed setup past g t r.2 p) (not_closed t past f.undone))
+    false_from_ne_true _ (λ p. clash (prepared_closed setup past g t r.2 p) (ends.not_closed t past f.undone))
 
 pub ask_first : (guardians : BTreeSet ℕ) (t : Name) (old new : World) (left : List ℕ) → IsRun old.setup old.past → left ≡ guardians.keys
     → new ≡ world_after old (Close t) (answer_of old.setup (Close t) old.past) → is_made (answer_of old.setup (Close t) old.past) ≡ true

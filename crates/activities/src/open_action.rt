@@ -28,7 +28,10 @@ pub(crate) struct Reached {
 
 impl Reached {
     /// What an action has to do with when it begins at this home.
-    pub(crate) fn new(alloc: Global, home: u32) -> Result<Reached, AllocError> {
+    pub(crate) fn new(alloc: Global, home: u32) -> Result<Reached, AllocError>
+        ensures homes { IfOk result (λ reached. reached.homes.keys ≡ home ∷ []) }
+        ensures participants { IfOk result (λ reached. reached.participants.keys ≡ home ∷ []) }
+    {
         let mut homes = BTreeSet::new(alloc);
         homes.insert(home)?;
         let mut participants = BTreeSet::new(alloc);
@@ -61,6 +64,7 @@ impl OpenAction {
     pub(crate) fn new(name: Name, home: u32, reached: Reached) -> OpenAction
         ensures name { result.name ≡ name }
         ensures home { result.home ≡ home }
+        ensures reached { result.reached ≡ reached }
     {
         OpenAction {
             name,
@@ -273,10 +277,7 @@ impl OpenAction {
     {
         let mut fault = Ok(());
         for arm in arms.iter().rev() {
-            let aborted = abort_at_home(world, arm, self.home);
-            if fault.is_ok() {
-                fault = aborted;
-            }
+            fault = fault.and(abort_at_home(world, arm, self.home));
         }
         fault
     }

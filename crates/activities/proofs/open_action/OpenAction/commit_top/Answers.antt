@@ -1,5 +1,4 @@
 use Rattle.std.proofs.Common.{IfOk, OnOk, [], ap, inl, inr, refl, subst, sym, ◌∙◌, ◌∷◌, ◌≡◌}
-use Rattle.std.proofs.lemmas.Bool.{not-false, not-true}
 use Rattle.std.proofs.lemmas.Map.Iter.{rest_all, rest_more}
 use Rattle.std.specs.Map.Iter.{deref}
 use Rattle.run_model.specs.declared.step.Step.TheVariants.{Close, Decide}
@@ -17,7 +16,7 @@ returns-then-not-branch-clause-held c = λ h.
     inl (close_refused c.args.world.now c.args.self.now.name
     (sym (c.in_ok-try_step.ensures.done
     ∙ ap (λ a. is_made (answer_of c.args.world.now.setup (Close a) c.args.world.now.past)) c.in_ok-copy.ensures.ok.1)
-    ∙ not-true _ c.if-not-branch.true))
+    ∙ c.if-not-branch.true))
 
 pub loop-guardian-init : goal.loop-guardian-init
 loop-guardian-init c = record {
@@ -30,7 +29,7 @@ loop-guardian-init c = record {
       (subst (λ a. IsAfter (Close a) c.args.world.now c.try_step.new.world) c.in_ok-copy.ensures.ok.1 c.in_ok-try_step.ensures.after)
       (sym (c.in_ok-try_step.ensures.done
       ∙ ap (λ a. is_made (answer_of c.args.world.now.setup (Close a) c.args.world.now.past)) c.in_ok-copy.ensures.ok.1)
-      ∙ not-false _ c.if-not-branch.false)
+      ∙ c.if-not-branch.false)
       c.into_iter-guardian-iterator.ensures.into_iter_gives.4;
 }
 
@@ -52,7 +51,7 @@ pub returns-then-not-branch-2-clause-held : goal.returns-then-not-branch-2-claus
 returns-then-not-branch-2-clause-held c = λ h.
     inr (inl (ask_failed (has c.args.self.now.reached.participants) c.args.self.now.name c.loop-guardian.world c.prepare.new.world
     c.in-Some.guardian.now _ _ (rest_more deref _ _ _ c.in-Some.guardian c.in-Some.is c.next.ensures.steps) c.in_ok-prepare.ensures.after
-    (sym c.in_ok-prepare.ensures.yes ∙ not-true _ c.if-not-branch-2.true) c.loop-guardian.invariant.asked))
+    (sym c.in_ok-prepare.ensures.yes ∙ c.if-not-branch-2.true) c.loop-guardian.invariant.asked))
 
 pub loop-guardian-preserved : goal.loop-guardian-preserved
 loop-guardian-preserved c = record {
@@ -66,7 +65,7 @@ loop-guardian-preserved c = record {
   asked =
       ask_next (has c.args.self.now.reached.participants) c.args.self.now.name c.loop-guardian.world c.prepare.new.world
       c.in-Some.guardian.now _ _ (rest_more deref _ _ _ c.in-Some.guardian c.in-Some.is c.next.ensures.steps) c.in_ok-prepare.ensures.after
-      (sym c.in_ok-prepare.ensures.yes ∙ not-false _ c.if-not-branch-2.false) c.loop-guardian.invariant.asked;
+      (sym c.in_ok-prepare.ensures.yes ∙ c.if-not-branch-2.false) c.loop-guardian.invariant.asked;
 }
 
 pub returns-clause-goes_on : goal.returns-clause-goes_on
