@@ -1,9 +1,9 @@
 -- Actions that end, one after another.
-use Rattle.std.proofs.Common.{Err, IsTrue, List, Ok, OnOk, Result, [], ap, false, inl, inr, reverse, sym, true, ◌++◌, ◌∙◌, ◌∷◌, ◌≡◌}
+use Rattle.std.proofs.Common.{Bor, Err, IsTrue, List, Ok, OnOk, Result, [], ap, false, inl, inr, map, reverse, subst, sym, true, ◌++◌, ◌∙◌, ◌∷◌, ◌≡◌}
 use Rattle.std.proofs.lemmas.Bool.{false≢true, or_cases, or_left, or_right}
-use Rattle.std.proofs.lemmas.List.{reverse-append}
+use Rattle.std.proofs.lemmas.List.{map-append, reverse-append}
 use Rattle.std.specs.Result.{result_and}
-use Rattle.action_names.specs.Names.{Name, has_name}
+use Rattle.action_names.specs.Names.{Name, has_name, same_name}
 use Rattle.run_model.specs.Runs.{World}
 use Rattle.run_laws.proofs.Names.{has_name_append}
 use Rattle.activities.specs.Continuing.{EndsThese, GoesOn}
@@ -17,14 +17,21 @@ these_then names more x y z s t g h e f a k b = elim (or_cases _ _ (sym (has_nam
   | inr n ↦ f a n (still_begun x y s a g b)
 ]
 
+-- these of a list, and then the next
+pub these_more : (arms : List (Bor Name)) (arm : Bor Name) (x y z : World) (s t : List Name) → GoesOn x y s → GoesOn y z t
+    → EndsThese (map (λ b. b.now) arms) x y → EndsThese (arm.now ∷ []) y z → EndsThese (map (λ b. b.now) (arms ++ (arm ∷ []))) x z
+these_more arms arm x y z s t g h e f =
+    subst (λ names. EndsThese names x z) (sym (map-append (λ b. b.now) arms (arm ∷ [])))
+    (these_then (map (λ b. b.now) arms) (arm.now ∷ []) x y z s t g h e f)
+
 -- a list has what it has backwards
 pub has_reversed : (names : List Name) (a : Name) → has_name names a ≡ true → has_name (reverse names) a ≡ true
 has_reversed [] a h = absurd (false≢true h)
 has_reversed (x ∷ names) a h =
     ap (λ l. has_name l a) (reverse-append (x ∷ []) names) ∙ has_name_append (reverse names) (reverse (x ∷ [])) a
-    ∙ elim (or_cases _ _ h) [
-      | inl s ↦ or_right _ _ (or_left _ _ s)
-      | inr n ↦ or_left _ _ (has_reversed names a n)
+    ∙ elim (or_cases (same_name x a) (has_name names a) h) [
+      | inl s ↦ or_right (has_name (reverse names) a) (has_name (reverse (x ∷ [])) a) (or_left (same_name x a) false s)
+      | inr n ↦ or_left (has_name (reverse names) a) (has_name (reverse (x ∷ [])) a) (has_reversed names a n)
     ]
 
 -- what is so where both succeed
