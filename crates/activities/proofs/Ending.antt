@@ -1,5 +1,5 @@
 -- Actions that end, one after another.
-use Rattle.std.proofs.Common.{Bor, Err, IsTrue, List, Ok, OnOk, Result, [], ap, false, inl, inr, map, reverse, subst, sym, true, ◌++◌, ◌∙◌, ◌∷◌, ◌≡◌}
+use Rattle.std.proofs.Common.{Bor, Err, List, Ok, OnOk, Result, [], ap, false, inl, inr, map, reverse, subst, sym, true, ◌++◌, ◌∙◌, ◌∷◌, ◌≡◌}
 use Rattle.std.proofs.lemmas.Bool.{false≢true, or_cases, or_left, or_right}
 use Rattle.std.proofs.lemmas.List.{map-append, reverse-append}
 use Rattle.std.specs.Result.{result_and}

@@ -1,5 +1,5 @@
 -- What single steps leave of a world: what they begin, what they end, and what they commit.
-use Rattle.std.proofs.Common.{ℕ, ◌⊎◌, ◌≢◌, Bool, Err, IfOk, IsTrue, List, None, Ok, OnErr, OnOk, Option, Result, Some, [], ap, cond, false, inl, inr, length, not, refl, subst, sym, true, ◌++◌, ◌∙◌, ◌∷◌, ◌≡◌}
+use Rattle.std.proofs.Common.{ℕ, ◌⊎◌, Bool, Err, IfOk, IsTrue, List, None, Ok, OnErr, OnOk, Option, Result, Some, [], ap, cond, false, inl, inr, length, not, refl, subst, sym, true, ◌++◌, ◌∙◌, ◌∷◌, ◌≡◌}
 use Rattle.std.proofs.lemmas.Bool.{false_from_ne_true, false≢true, or_cases, or_left, or_right}
 use Rattle.action_names.specs.Names.{Name, has_name}
 use Rattle.atomic_types.specs.declared.op.Op as op
@@ -18,11 +18,11 @@ use Rattle.run_model.specs.Refusals.{checks, first_refusal}
 use Rattle.run_model.specs.Replay.{Setup}
 use Rattle.run_model.specs.Runs.{IsRun, World, history_after, is_accepted, world_after}
 use Rattle.run_model.specs.Votes.{may_prepare}
-use Rattle.run_laws.proofs.Begun.{begun_cases, begun_more, begun_once}
+use Rattle.run_laws.proofs.Begun.{begun_cases, begun_once}
 use Rattle.run_laws.proofs.Ended.{commits_begun, committed_begun}
 use Rattle.run_laws.proofs.Names.{clash, has_name_append, same_name_self}
 use Rattle.run_laws.proofs.Runs.{run_more}
-use Rattle.activities.specs.Continuing.{EndsAll, HaveBegun, IsNoTop, IsOpen}
+use Rattle.activities.specs.Continuing.{EndsAll, HaveBegun, IsNoTop}
 use Rattle.activities.specs.Reaching.{is_made}
 
 -- ---- what a step begins

@@ -1,14 +1,13 @@
 -- Tellings, one after another: who was told an outcome, or cannot be told it, is not told it again.
 use Rattle.std.proofs.Common.{ℕ, Bool, IsTrue, List, None, Option, Some, [], ap, cond, inl, inr, false, refl, sym, true, ◌==◌, ◌&&◌, ◌∙◌, ◌∷◌, ◌≡◌, ◌||◌, ◌⊎◌, is_some}
-use Rattle.std.proofs.lemmas.Bool.{and_from, false≢true, or_cases, or_left, or_right}
+use Rattle.std.proofs.lemmas.Bool.{and_from, false≢true, or_cases, or_right}
 use Rattle.std.proofs.lemmas.Map.Lookups.{exact_unsigned}
 use Rattle.std.proofs.lemmas.Map.Views.{tells_apart}
 use Rattle.std.specs.BTreeMap.{is_at}
 use Rattle.std.specs.List.{list_any}
 use Rattle.std.specs.Ordering.{nat_cmp}
 use Rattle.action_names.specs.Names.{Name, same_name}
-use Rattle.run_model.specs.declared.answer.Answer.{Answer}
-use Rattle.run_model.specs.declared.answer.Answer.TheVariants.{Done, Refused}
+use Rattle.run_model.specs.declared.answer.Answer.TheVariants.{Done}
 use Rattle.run_model.specs.declared.answer.Refusal.{Refusal}
 use Rattle.run_model.specs.declared.answer.Refusal.TheVariants as why
 use Rattle.run_model.specs.declared.history.Event.{Event}
@@ -16,7 +15,7 @@ use Rattle.run_model.specs.declared.step.Step.TheVariants.{Tell}
 use Rattle.run_model.specs.Answers.{answer_of, refused_or, told_count}
 use Rattle.run_model.specs.Refusals.{checks, down, first_refusal, no_action, no_guardian, not_so}
 use Rattle.run_model.specs.Replay.{Setup}
-use Rattle.run_model.specs.Runs.{World, history_after, world_after}
+use Rattle.run_model.specs.Runs.{World, world_after}
 use Rattle.run_model.specs.Telling.{told_since_crash}
 use Rattle.run_laws.proofs.Names.{eqb_self, same_name_self}
 use Rattle.activities.specs.Reaching.{is_refused, would_refuse}

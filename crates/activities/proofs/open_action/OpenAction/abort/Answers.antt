@@ -1,4 +1,4 @@
-use Rattle.std.proofs.Common.{[], ap, refl, ◌∙◌}
+use Rattle.std.proofs.Common.{[], ap, refl}
 use Rattle.run_model.specs.declared.step.Step.TheVariants.{Abort}
 use Rattle.activities.proofs.Going.{commits_through, ends_one, ends_through, goes_through, on_ok, still_ended}
 use Rattle.activities.proofs.open_action.OpenAction.abort.Goals as goal
