@@ -112,8 +112,9 @@ pub tell_next : (w v : World) (guardians : ℕ → Bool) (g : ℕ) (left rest : 
 tell_next w v guardians g left rest a l e f k h = elim (f k h) [
   | inl r ↦ inl (ap (λ u. would_refuse u (Tell k a)) e ∙ tell_still w k g a r)
   | inr t ↦ elim (or_cases _ _ (sym (ap (λ gs. listed gs k) l) ∙ t)) [
-    | inl s ↦ inl (ap (λ u. would_refuse u (Tell k a)) e ∙ ap (λ x. would_refuse (world_after w (Tell g a) (answer_of w.setup (Tell g a) w.past)) (Tell x a))
-        (tells_apart exact_unsigned k g s) ∙ tell_then w g a)
+    | inl s ↦ inl (ap (λ u. would_refuse u (Tell k a)) e
+        ∙ ap (λ x. would_refuse (world_after w (Tell g a) (answer_of w.setup (Tell g a) w.past)) (Tell x a)) (tells_apart exact_unsigned k g s)
+        ∙ tell_then w g a)
     | inr u ↦ inr u
   ]
 ]

@@ -119,7 +119,8 @@ impl OpenAction {
         ensures name { self.new.name ≡ self.old.name }
         ensures home { self.new.home ≡ self.old.home }
         ensures homes { OnOk result (IsUnion self.old.reached.homes child.now.reached.homes self.new.reached.homes) }
-        ensures joined { OnOk result (IsTrue committed → IsUnion self.old.reached.participants child.now.reached.participants self.new.reached.participants) }
+        ensures joined { OnOk result
+            (IsTrue committed → IsUnion self.old.reached.participants child.now.reached.participants self.new.reached.participants) }
         ensures kept { committed ≡ false → self.new.reached.participants ≡ self.old.reached.participants }
     {
         add_all(&mut self.reached.homes, &child.reached.homes)?;

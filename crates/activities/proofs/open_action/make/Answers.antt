@@ -4,7 +4,8 @@ use Rattle.activities.proofs.open_action.make.Goals as goal
 
 pub returns-clause-goes_on : goal.returns-clause-goes_on
 returns-clause-goes_on c =
-    step_goes c.args.world.now c.step.new.self c.args.step c.step.result c.requires.run c.requires.step c.step.ensures.answer c.step.ensures.after c.step.ensures.err
+    step_goes c.args.world.now c.step.new.self c.args.step c.step.result c.requires.run c.requires.step c.step.ensures.answer
+    c.step.ensures.after c.step.ensures.err
 
 pub returns-clause-commits : goal.returns-clause-commits
 returns-clause-commits c =
@@ -16,7 +17,8 @@ returns-clause-began c =
 
 pub returns-clause-ends : goal.returns-clause-ends
 returns-clause-ends c =
-    step_ends c.args.world.now c.step.new.self c.args.step c.step.result c.requires.step c.step.ensures.answer c.step.ensures.after c.step.ensures.err
+    step_ends c.args.world.now c.step.new.self c.args.step c.step.result c.requires.step c.step.ensures.answer c.step.ensures.after
+    c.step.ensures.err
 
 pub returns-clause-aborts : goal.returns-clause-aborts
 returns-clause-aborts c =

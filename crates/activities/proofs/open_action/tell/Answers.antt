@@ -37,7 +37,9 @@ returns-in_err-try_step-clause-ends c =
 
 pub loop-guardian-preserved : goal.loop-guardian-preserved
 loop-guardian-preserved c = record {
-  goes_on = goes_through c.args.world.now c.loop-guardian.world c.try_step.new.world [] [] c.loop-guardian.invariant.goes_on c.try_step.ensures.goes_on;
+  goes_on =
+      goes_through c.args.world.now c.loop-guardian.world c.try_step.new.world [] [] c.loop-guardian.invariant.goes_on
+      c.try_step.ensures.goes_on;
   commits =
       commits_through c.args.world.now c.loop-guardian.world c.try_step.new.world [] c.loop-guardian.invariant.goes_on
       c.loop-guardian.invariant.commits (λ a h. c.try_step.ensures.commits a h refl);
@@ -46,6 +48,8 @@ loop-guardian-preserved c = record {
       (c.try_step.ensures.ends refl);
   told =
       tell_next c.loop-guardian.world c.try_step.new.world (has c.args.guardians.now) c.in-Some.guardian.now _ _ c.args.action.now
-      (rest_more deref _ _ _ c.in-Some.guardian c.in-Some.is c.next.ensures.steps) (subst (λ a. IsAfter (Tell c.in-Some.guardian.now a) c.loop-guardian.world c.try_step.new.world) c.in_ok-copy.ensures.ok.1 c.in_ok-try_step.ensures.after)
+      (rest_more deref _ _ _ c.in-Some.guardian c.in-Some.is c.next.ensures.steps)
+      (subst (λ a. IsAfter (Tell c.in-Some.guardian.now a) c.loop-guardian.world c.try_step.new.world) c.in_ok-copy.ensures.ok.1
+      c.in_ok-try_step.ensures.after)
       c.loop-guardian.invariant.told;
 }

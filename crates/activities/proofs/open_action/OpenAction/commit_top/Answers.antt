@@ -55,7 +55,8 @@ returns-then-not-branch-2-clause-held c = λ h.
 
 pub loop-guardian-preserved : goal.loop-guardian-preserved
 loop-guardian-preserved c = record {
-  goes_on = goes_through c.args.world.now c.loop-guardian.world c.prepare.new.world [] [] c.loop-guardian.invariant.goes_on c.prepare.ensures.goes_on;
+  goes_on =
+      goes_through c.args.world.now c.loop-guardian.world c.prepare.new.world [] [] c.loop-guardian.invariant.goes_on c.prepare.ensures.goes_on;
   commits =
       commits_through c.args.world.now c.loop-guardian.world c.prepare.new.world [] c.loop-guardian.invariant.goes_on
       c.loop-guardian.invariant.commits c.prepare.ensures.commits;
