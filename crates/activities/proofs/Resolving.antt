@@ -1,5 +1,5 @@
 -- What is known of a statement gives of its parts.
-use Rattle.std.proofs.Common.{Bool, IfOk, min, ap₂, IsTrue, List, None, Option, Result, Ok, Err, Some, [], ap, arith, cond, drop, false, get_or, length, map, nat_lt, not, option_map, refl, slice_get, subst, suc, sym, true, ℕ, ◌&&◌, ◌+◌, ◌<◌, ◌≤◌, ◌==◌, ◌∙◌, ◌∷◌, ◌≡◌, eqb-true}
+use Rattle.std.proofs.Common.{Bool, IfOk, min, ap₂, IsTrue, List, None, Option, Result, Ok, Err, Some, [], ap, arith, cond, drop, false, get_or, length, map, nat_lt, not, option_map, refl, slice_get, subst, suc, sym, true, zero, ℕ, ◌&&◌, ◌+◌, ◌<◌, ◌≤◌, ◌==◌, ◌∙◌, ◌∷◌, ◌≡◌, eqb-true}
 use Rattle.std.proofs.lemmas.Bool.{and_parts, false≢true, not-true}
 use Rattle.std.proofs.lemmas.Option.{slice_get_within}
 use Rattle.std.specs.List.{list_all}
@@ -29,7 +29,7 @@ use Rattle.activities.specs.Bodies.{AreArms, IsBody, IsCall, IsOp, IsStatement, 
 abbrev Held : Type 0
 Held = Surroundings → Frames → Bool
 
-arm_asked : Arm → Held
+abbrev arm_asked : Arm → Held
 arm_asked = fold-Arm Held Asked asked_arm asked_step
 
 op_asks : (o : ObjectCall) (s : Option (List Statement)) → asked (stat.Op o s) ≡ asked_step (Statement-F.Op o (option_map (map asked) s))
@@ -262,7 +262,10 @@ pub call_texts : (script : Checked) (frames : Frames) (c : HandlerCall) → IsCa
 call_texts script frames c k = (and_parts _ _ (and_parts _ _ (and_parts _ _ k.holds_there).1).1).0
 
 pub call_binding : (script : Checked) (frames : Frames) (c : HandlerCall) → IsCall script frames c → IsTrue (binding_is_bound frames c.binding)
-call_binding script frames c k = (and_parts _ _ (and_parts _ _ (and_parts _ _ k.holds_there).1).1).1
+call_binding script frames c k =
+    (and_parts (list_all (text_is_bound frames.texts) c.texts) (binding_is_bound frames c.binding)
+    (and_parts (list_all (int_is_bound frames.ints) c.ints) _
+    (and_parts (handler_takes (slice_get k.at.handlers c.handler) c) _ k.holds_there).1).1).1
 
 -- the frames with which a handler begins
 abbrev handed : ℕ → ℕ → Frames
@@ -332,4 +335,6 @@ cut_back f g h w a b c =
     same_frames h f (omega (arith, a, w.ints)) (omega (arith, b, w.texts)) (omega (arith, c, w.truths))
   where
     same_frames : (f g : Frames) → f.ints ≡ g.ints → f.texts ≡ g.texts → f.truths ≡ g.truths → f ≡ g
-    same_frames f g x y z = cc
+    same_frames f g x y z =
+        ap (λ n. record f { ints = n }) x ∙ ap (λ n. record { ints = g.ints; texts = n; truths = f.truths }) y
+        ∙ ap (λ n. record { ints = g.ints; texts = g.texts; truths = n }) z
