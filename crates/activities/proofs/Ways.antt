@@ -6,7 +6,7 @@ use Rattle.run_model.specs.Actions.{is_begun, is_committed, is_ended}
 use Rattle.run_model.specs.Runs.{IsRun, World}
 use Rattle.run_laws.proofs.Names.{clash, has_name_append, same_name_self, same_name_true}
 use Rattle.activities.specs.Continuing.{AreDistinct, AreWaiting, CommitsAmong, CommitsNone, EndsAll, EndsThese, GoesOn, HaveBegun, HaveRun, IsOpen}
-use Rattle.activities.proofs.Going.{among_more, among_through, commits_through, ends_through, fresh_commits, fresh_ends, goes_through, none_is_among, open_among, still_begun, still_ended}
+use Rattle.activities.proofs.Going.{among_more, among_through, commits_through, ends_through, fresh_commits, fresh_ends, goes_nowhere, goes_through, commits_nowhere, ends_nowhere, none_is_among, open_among, still_open, still_begun, still_ended}
 
 pub then_goes : (x y z : World) → GoesOn x y [] → GoesOn y z [] → GoesOn x z []
 then_goes x y z = goes_through x y z [] []
@@ -19,6 +19,14 @@ then_ends x y z = ends_through x y z []
 
 pub then_among : (names : List Name) (x y z : World) → GoesOn x y [] → CommitsNone x y → CommitsAmong names y z → CommitsAmong names x z
 then_among names x y z g c d = among_through names x y z [] g (none_is_among names x y c) d
+
+-- the action is open still after its body, and what it commits then is itself
+pub open_then : (a b : Name) (x y : World) → IsOpen a x → b ≡ a → GoesOn x y [] → CommitsNone x y → IsOpen b y
+open_then a b x y o e g c = subst (λ n. IsOpen n y) (sym e) (still_open x y [] a o g c)
+
+pub among_then : (a b : Name) (x y z : World) → GoesOn x y [] → CommitsNone x y → b ≡ a → CommitsAmong (b ∷ []) y z → CommitsAmong (a ∷ []) x z
+among_then a b x y z g c e d =
+    then_among (a ∷ []) x y z g c (subst (λ n. CommitsAmong (n ∷ []) y z) e d)
 
 -- ---- one action
 
@@ -106,3 +114,9 @@ module _ (names rest : List Name) (a : Name) (is : names ≡ rest ++ (a ∷ []))
   others_commit all x y z g c among d =
       among_through all x y z [] g c
       (among_more (a ∷ []) all y z (λ b h. among b (subst (λ n. IsTrue (has_name names n)) (alone a b h) last_waits)) d)
+
+pub ruleset steps = (then_goes, then_commits, then_ends)
+
+pub ruleset turns = (then_goes, then_commits, then_ends, goes_nowhere, commits_nowhere, ends_nowhere)
+
+pub ruleset children = (then_goes, then_commits, then_ends, none_begun, child_open, child_commits, child_ends)

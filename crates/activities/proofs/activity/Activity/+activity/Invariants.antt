@@ -60,7 +60,7 @@ invariant-repeat-loop l = record {
   resolved : IsResolved l.self.script.now;
   body : IsBody l.self.script.now (sizes l.frames) l.body;
   frames : sizes l.frames ≡ sizes l.fn.frames;
-  left : l.self.left + l.index ≤ l.fn.self.left;
+  left : l.self.left + l.counter ≤ l.fn.self.left;
   script : l.self.script.now ≡ l.fn.self.script.now;
   name : l.action.name ≡ l.fn.action.name;
   home : l.action.home ≡ l.fn.action.home;
