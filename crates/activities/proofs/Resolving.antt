@@ -338,3 +338,8 @@ cut_back f g h w a b c =
     same_frames f g x y z =
         ap (λ n. record f { ints = n }) x ∙ ap (λ n. record { ints = g.ints; texts = n; truths = f.truths }) y
         ∙ ap (λ n. record { ints = g.ints; texts = g.texts; truths = n }) z
+
+pub ruleset statements = (op_of, op_signals, op_after, call_of, call_signals, call_after, top_body, top_signals, top_after, if_condition, if_first, if_second,
+    if_after, repeat_body, repeat_after, return_of, coenter_after, signals_hold_there, signalled_after)
+
+pub ruleset calls = (called_within, call_ints, call_texts, call_binding, called_body, signals_hold_there, signalled_after)

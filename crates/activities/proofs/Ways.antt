@@ -64,6 +64,13 @@ arms_end names rest x y z w b g h e f ran ends =
       | inr left ↦ ends a left (still_begun y z [] a g (b.are_open a k).begun)
     ])
 
+-- arms that have just begun wait
+pub arms_wait : (names : List Name) (x y : World) → HaveBegun names x y → AreDistinct names → AreWaiting names y
+arms_wait names x y b d = record { are_open = b.are_open; distinct = d }
+
+pub same_ends : (x y : World) → y ≡ x → EndsAll x y
+same_ends x y e = subst (λ w. EndsAll x w) (sym e) (ends_nowhere x)
+
 has_last : (rest : List Name) (a : Name) → IsTrue (has_name (rest ++ (a ∷ [])) a)
 has_last rest a = has_name_append rest (a ∷ []) a ∙ or_right (has_name rest a) _ (or_left _ _ (same_name_self a))
 
@@ -120,3 +127,7 @@ pub ruleset steps = (then_goes, then_commits, then_ends)
 pub ruleset turns = (then_goes, then_commits, then_ends, goes_nowhere, commits_nowhere, ends_nowhere)
 
 pub ruleset children = (then_goes, then_commits, then_ends, none_begun, child_open, child_commits, child_ends)
+
+pub ruleset together = (then_goes, then_commits, then_ends, arms_wait, arms_commit, arms_end, same_ends)
+
+pub ruleset arms = (then_goes, then_commits, then_ends, goes_nowhere, ends_nowhere)

@@ -151,7 +151,7 @@ impl<'s> Activity<'s> {
     }
 
     #[cycle(activity)]
-    #[tactic(none)]
+    #[tactic(auto, using(crate::proofs::Ways::steps, crate::proofs::Resolving::statements))]
     fn statement(
         &mut self,
         world: &mut World,
@@ -266,7 +266,7 @@ impl<'s> Activity<'s> {
 
     /// A handler call: the handler's body as a subaction at its guardian.
     #[cycle(activity)]
-    #[tactic(none)]
+    #[tactic(auto, using(crate::proofs::Ways::children))]
     fn call(
         &mut self,
         world: &mut World,
@@ -355,7 +355,7 @@ impl<'s> Activity<'s> {
 
     /// Arms are begun together; where one returns or is left, those that have not run are aborted.
     #[cycle(activity)]
-    #[tactic(none)]
+    #[tactic(auto, using(crate::proofs::Ways::together))]
     fn coenter(
         &mut self,
         world: &mut World,
@@ -388,7 +388,7 @@ impl<'s> Activity<'s> {
     /// Runs the arms in order, to the first that returns or is left. Each is over a copy of the variables. Of the names that are waiting the
     /// last is that of the next arm.
     #[cycle(activity)]
-    #[tactic(none)]
+    #[tactic(auto, using(crate::proofs::Ways::arms))]
     fn run_arms(
         &mut self,
         world: &mut World,
