@@ -1,3 +1,4 @@
 pub mod Going
 pub mod Ways
 pub mod Resolving
+pub mod Following
