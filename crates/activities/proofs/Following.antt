@@ -1,6 +1,7 @@
 -- What a turn of a loop or one more call leaves, by what it found.
-use Rattle.std.proofs.Common.{Err, IsTrue, List, Ok, OnOk, Result, [], ap, arith, drop, get_or, length, refl, subst, suc, sym, ℕ, ◌+◌, ◌<◌, ◌∙◌, ◌∷◌, ◌≡◌}
+use Rattle.std.proofs.Common.{Err, IfSome, IsTrue, List, Ok, OnOk, Option, Result, Some, [], ap, arith, drop, get_or, length, refl, subst, suc, sym, ℕ, ◌++◌, ◌+◌, ◌<◌, ◌∙◌, ◌∷◌, ◌≡◌}
 use Rattle.std.proofs.Math.Seq.{drop-cons}
+use Rattle.std.specs.Prelude.{option_to_list}
 use Rattle.action_names.specs.Names.{Name}
 use Rattle.script_model.specs.declared.checked.Checked.{Checked}
 use Rattle.script_model.specs.declared.statement.Statement.{Statement}
@@ -8,7 +9,11 @@ use Rattle.script_model.specs.Resolved.{Frames, asked}
 use Rattle.run_model.specs.Runs.{World}
 use Rattle.activities.specs.declared.flow.Flow.{Flow}
 use Rattle.activities.specs.declared.flow.Flow.TheVariants.{Aborted, Ended, Outwards, Returned}
-use Rattle.activities.specs.Bodies.{IsBody, WhereEnded, Within}
+use Rattle.activities.specs.declared.frames.Frames.{Frames as Variables}
+use Rattle.activities.specs.declared.open_action.Called.{Called}
+use Rattle.activities.specs.declared.open_action.Called.TheVariants.{Began}
+use Rattle.activities.specs.Bodies.{IsBody, WhereEnded, Within, sizes}
+use Rattle.activities.specs.Ends.{called}
 use Rattle.activities.specs.Continuing.{CommitsAmong, CommitsNone, EndsAll, GoesOn, HaveBegun}
 use Rattle.activities.proofs.Resolving.{rest_of, statement_grows, within_through}
 use Rattle.activities.proofs.Ways.{then_ends}
@@ -41,3 +46,36 @@ next_rest script new f g body i s lt at e k h =
 
 pub next_within : (old f g : Frames) (s : Statement) → Within old f → g ≡ (asked s).after f → Within old g
 next_within old f g s w k = subst (Within old) (sym k) (within_through old f ((asked s).after f) w (statement_grows s f))
+
+-- ---- what a value that was found is
+
+some_so : {A : Type 0} (o : Option A) (x : A) (P : A → Type 0) → o ≡ Some x → IfSome o P → P x
+some_so o x P e h = subst (λ p. IfSome p P) e h
+
+pub handed_sizes : (found : Option Variables) (inside : Variables) (f : Frames) → found ≡ Some inside → IfSome found (λ v. sizes v ≡ f) → sizes inside ≡ f
+handed_sizes found inside f = some_so found inside (λ v. sizes v ≡ f)
+
+pub ok_so : {A E : Type 0} (r : Result A E) (x : A) (P : Type 0) → r ≡ Ok x → OnOk r P → P
+ok_so r x P e h = subst (λ p. OnOk p P) e h
+
+pub copied_sizes : (f g : Variables) → g.ints.items ≡ f.ints.items → g.texts.items ≡ f.texts.items → g.truths.items ≡ f.truths.items
+    → sizes g ≡ sizes f
+copied_sizes f g a b c =
+    ap (λ l. record { ints = length l; texts = length g.texts.items; truths = length g.truths.items }) a
+    ∙ ap (λ l. record { ints = length f.ints.items; texts = length l; truths = length g.truths.items }) b
+    ∙ ap (λ l. record { ints = length f.ints.items; texts = length f.texts.items; truths = length l }) c
+
+-- a call that began its action
+pub called_began : (k : Called) (a n : Name) (x y : World) → k ≡ Began a → n ≡ a → HaveBegun (called k) x y → HaveBegun (n ∷ []) x y
+called_began k a n x y e m h = subst (λ b. HaveBegun (b ∷ []) x y) (sym m) (subst (λ o. HaveBegun (called o) x y) e h)
+
+-- the last of the names was taken
+pub popped : (names rest : List Name) (o : Option Name) (b a : Name) → names ≡ rest ++ option_to_list o → o ≡ Some b → a ≡ b → names ≡ rest ++ (a ∷ [])
+popped names rest o b a h e k = h ∙ ap (λ p. rest ++ option_to_list p) (e ∙ ap Some (sym k))
+
+one_longer : (rest : List Name) (a : Name) → length (rest ++ (a ∷ [])) ≡ length rest + 1
+one_longer [] a = refl
+one_longer (b ∷ rest) a = omega (arith, one_longer rest a)
+
+pub popped_length : (names rest : List Name) (a : Name) → names ≡ rest ++ (a ∷ []) → length names ≡ length rest + 1
+popped_length names rest a e = ap length e ∙ one_longer rest a

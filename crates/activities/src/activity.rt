@@ -5,7 +5,8 @@ ghost use Rattle.run_model.specs.Runs.{IsRun};
 ghost use Rattle.activities.specs.Bodies.{AreArms, IsBody, IsCall, IsStatement, SignalsFollow, SignalsHold, WhereEnded, Within, sizes};
 ghost use Rattle.activities.specs.Continuing.{AreWaiting, CommitsAmong, CommitsNone, EndsAll, GoesOn, HaveRun, IsOpen};
 ghost use Rattle.activities.specs.Ends.{commits, has_committed};
-ghost use Rattle.activities.specs.declared.flow.Flow.TheVariants.{Aborted};
+ghost use Rattle.activities.specs.declared.flow.Flow.TheVariants.{Aborted, Outwards};
+ghost use Rattle.activities.specs.declared.flow.Reach.TheVariants.{TopAction};
 
 use crate::arms::{arm_body, begin_arms};
 use crate::flow::{Flow, Reach};
@@ -432,7 +433,9 @@ impl<'s> Activity<'s> {
 }
 
 /// What comes of an operation that has to wait: nothing else runs meanwhile, so the enclosing top action aborts.
-fn wait() -> Flow {
+fn wait() -> Flow
+    ensures { result ≡ Outwards TopAction }
+{
     Flow::Outwards(Reach::TopAction)
 }
 
