@@ -152,7 +152,7 @@ call-run-ended-requires t c =
     let body = subst (λ (l : List Statement). IsBody script (sizes c.in-Some.inside) l) (sym c.as_slice-2.ensures)
         (subst (λ f. IsBody script f h.body) (sym begins) (called_body script frames call h c.requires.script c.requires.call there)) in
     let began = called_began c.in_ok-name.field-0 c.in-Began.name n x y c.in-Began.is c.new-child.ensures.name c.in_ok-name.ensures.began in
-    (omega arith, c.requires.script, body, c.begin_call.ensures.goes_on.is_run, child_open n x y began)
+    (omega arith, (c.requires.script, (body, (c.begin_call.ensures.goes_on.is_run, child_open n x y began))))
 
 pub call-returns-in-Aborted-clause-goes_on : goal.call-returns-in-Aborted-clause-goes_on
 call-returns-in-Aborted-clause-goes_on t c =
@@ -198,8 +198,8 @@ run_arms-run-ended-requires t c =
     let body = subst (λ (b : List Statement). IsBody script (sizes c.in_ok-inside.inside) b) (sym c.arm_body.ensures)
         (subst (λ f. IsBody script f (body_of arm)) (sym copied)
         (arm_of script (sizes c.args.frames.now) arms l.arm-index arm l.invariant.arms there)) in
-    (omega arith, l.invariant.resolved, body, l.invariant.goes_on.is_run,
-        last_open l.waiting.items c.pop.new.self.items a is l.world l.invariant.waiting)
+    (omega arith, (l.invariant.resolved, (body, (l.invariant.goes_on.is_run,
+        last_open l.waiting.items c.pop.new.self.items a is l.world l.invariant.waiting))))
 
 pub run_arms-loop-arm-preserved : goal.run_arms-loop-arm-preserved
 run_arms-loop-arm-preserved t c =
@@ -279,7 +279,7 @@ statement-signalled-requires t c =
     let same = subst (λ p. IsPerformed p binding frames (sizes c.perform.new.frames)) c.in-Signalled.is c.in_ok-perform-in-Op.ensures.frames in
     let signals = subst (λ f. SignalsHold script f c.in-Op.signals) (sym same)
         (signals_hold_there script frames binding c.in-Op.signals (op_signals script frames c.in-Op.call c.in-Op.signals asks)) in
-    (omega arith, c.requires.script, signals, c.perform.ensures.goes_on.is_run)
+    (omega arith, (c.requires.script, (signals, c.perform.ensures.goes_on.is_run)))
 
 pub statement-returns-in-Signalled-clause-frames : goal.statement-returns-in-Signalled-clause-frames
 statement-returns-in-Signalled-clause-frames t c =
