@@ -115,10 +115,11 @@ module _ (script : Checked) (frames : Frames) where
   signals_of : (b : Binding) (s : Option (List Statement)) → Somewhere script (λ at. signals_hold b (option_map (map asked) s) at frames)
       → SignalsFollow script frames b s
   signals_of b None h = tt
-  signals_of b (Some ss) h =
-      (part script (λ at. signals_hold b (Some (map asked ss)) at frames) (λ at. is_resolved_body at frames ss)
-          (λ at k. sym (body_asks ss at frames) ∙ (and_parts _ _ k).1) h,
-       binds_nothing frames b (not-true _ (and_parts _ _ h.holds_there).0))
+  signals_of b (Some ss) h = (
+    part script (λ at. signals_hold b (Some (map asked ss)) at frames) (λ at. is_resolved_body at frames ss)
+        (λ at k. sym (body_asks ss at frames) ∙ (and_parts _ _ k).1) h,
+    binds_nothing frames b (not-true _ (and_parts _ _ h.holds_there).0),
+  )
 
   -- an operation
   pub op_of : (o : ObjectCall) (s : Option (List Statement)) → IsStatement script frames (stat.Op o s) → IsOp frames o
@@ -219,14 +220,14 @@ module _ (script : Checked) (frames : Frames) where
   opened_arm (Arm-F.Top b) h =
       part_in_top script _ (λ at. is_resolved_body at frames b)
       (λ at k. sym (ap (λ (w : Held). w at frames) (fold-roll-Arm Held Asked asked_arm asked_step (Arm-F.Top b))
-          ∙ body_asks b (in_top_surroundings at) frames) ∙ k) h
+      ∙ body_asks b (in_top_surroundings at) frames) ∙ k) h
 
   -- the body of each arm
   pub arm_of : (arms : List Arm) (i : ℕ) (arm : Arm) → AreArms script frames arms → slice_get arms i ≡ Some arm → IsBody script frames (body_of arm)
   arm_of arms i arm h there =
       opened_arm (out-Arm arm) (subst (λ (a : Arm). Somewhere script (λ at. arm_asked a at frames)) (sym (roll-out-Arm arm))
       (part script _ (λ at. arm_asked arm at frames) (λ at k. all_hold_at arms i arm at frames k there)
-          (asked_as script frames (stat.Coenter arms) _ (coenter_asks arms) h)))
+      (asked_as script frames (stat.Coenter arms) _ (coenter_asks arms) h)))
 
 -- ---- a handler that is called
 
@@ -339,7 +340,26 @@ cut_back f g h w a b c =
         ap (λ n. record f { ints = n }) x ∙ ap (λ n. record { ints = g.ints; texts = n; truths = f.truths }) y
         ∙ ap (λ n. record { ints = g.ints; texts = g.texts; truths = n }) z
 
-pub ruleset statements = (op_of, op_signals, op_after, call_of, call_signals, call_after, top_body, top_signals, top_after, if_condition, if_first, if_second,
-    if_after, repeat_body, repeat_after, return_of, coenter_after, signals_hold_there, signalled_after)
+pub ruleset statements = (
+  op_of,
+  op_signals,
+  op_after,
+  call_of,
+  call_signals,
+  call_after,
+  top_body,
+  top_signals,
+  top_after,
+  if_condition,
+  if_first,
+  if_second,
+  if_after,
+  repeat_body,
+  repeat_after,
+  return_of,
+  coenter_after,
+  signals_hold_there,
+  signalled_after,
+)
 
 pub ruleset calls = (called_within, call_ints, call_texts, call_binding, called_body, signals_hold_there, signalled_after)

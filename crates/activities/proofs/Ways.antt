@@ -96,9 +96,9 @@ module _ (names rest : List Name) (a : Name) (is : names ≡ rest ++ (a ∷ []))
   earlier_distinct : AreDistinct names → AreDistinct rest
   earlier_distinct d before after c e =
       let whole : names ≡ before ++ (c ∷ (after ++ (a ∷ []))) =
-          is ∙ ap (λ l. l ++ (a ∷ [])) e ∙ append_assoc before (c ∷ after) (a ∷ []) in
+      is ∙ ap (λ l. l ++ (a ∷ [])) e ∙ append_assoc before (c ∷ after) (a ∷ []) in
       (or_parts _ _ (sym (has_name_append (before ++ after) (a ∷ []) c)
-          ∙ ap (λ l. has_name l c) (append_assoc before after (a ∷ [])) ∙ d before (after ++ (a ∷ [])) c whole)).0
+      ∙ ap (λ l. has_name l c) (append_assoc before after (a ∷ [])) ∙ d before (after ++ (a ∷ [])) c whole)).0
 
   -- once it has run, the others wait still
   pub others_wait : (x y : World) → AreWaiting names x → GoesOn x y [] → CommitsAmong (a ∷ []) x y → AreWaiting rest y

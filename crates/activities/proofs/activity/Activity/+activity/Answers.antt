@@ -147,10 +147,10 @@ call-run-ended-requires t c =
     let n = c.new-child.result.name in
     let within = subst (λ (l : List Handler). call.handler < length l) (sym c.as_slice.ensures) (called_within script frames call c.requires.call) in
     let there = subst (λ (l : List Handler). slice_get l call.handler ≡ Some h) c.as_slice.ensures
-        (slice_get_read hs (length hs) call.handler h refl within c.index-as_slice-call.is) in
+    (slice_get_read hs (length hs) call.handler h refl within c.index-as_slice-call.is) in
     let begins = handed_sizes c.in_ok-inside.field-0 c.in-Some.inside _ c.in-Some.is c.in_ok-inside.ensures in
     let body = subst (λ (l : List Statement). IsBody script (sizes c.in-Some.inside) l) (sym c.as_slice-2.ensures)
-        (subst (λ f. IsBody script f h.body) (sym begins) (called_body script frames call h c.requires.script c.requires.call there)) in
+    (subst (λ f. IsBody script f h.body) (sym begins) (called_body script frames call h c.requires.script c.requires.call there)) in
     let began = called_began c.in_ok-name.field-0 c.in-Began.name n x y c.in-Began.is c.new-child.ensures.name c.in_ok-name.ensures.began in
     (omega arith, (c.requires.script, (body, (c.begin_call.ensures.goes_on.is_run, child_open n x y began))))
 
@@ -194,12 +194,22 @@ run_arms-run-ended-requires t c =
     let is = popped l.waiting.items c.pop.new.self.items c.pop.result c.unwrap.result a c.pop.ensures.items c.unwrap.ensures c.new-child.ensures.name in
     let there = slice_get_read arms (length arms) l.arm-index arm refl (omega arith) c.arm-item.is in
     let copied = copied_sizes c.args.frames.now c.in_ok-inside.inside c.in_ok-inside.ensures.ints c.in_ok-inside.ensures.texts
-        c.in_ok-inside.ensures.truths in
+    c.in_ok-inside.ensures.truths in
     let body = subst (λ (b : List Statement). IsBody script (sizes c.in_ok-inside.inside) b) (sym c.arm_body.ensures)
-        (subst (λ f. IsBody script f (body_of arm)) (sym copied)
-        (arm_of script (sizes c.args.frames.now) arms l.arm-index arm l.invariant.arms there)) in
-    (omega arith, (l.invariant.resolved, (body, (l.invariant.goes_on.is_run,
-        last_open l.waiting.items c.pop.new.self.items a is l.world l.invariant.waiting))))
+    (subst (λ f. IsBody script f (body_of arm)) (sym copied)
+    (arm_of script (sizes c.args.frames.now) arms l.arm-index arm l.invariant.arms there)) in (
+      omega arith,
+      (
+        l.invariant.resolved,
+        (
+          body,
+          (
+            l.invariant.goes_on.is_run,
+            last_open l.waiting.items c.pop.new.self.items a is l.world l.invariant.waiting,
+          ),
+        ),
+      ),
+    )
 
 pub run_arms-loop-arm-preserved : goal.run_arms-loop-arm-preserved
 run_arms-loop-arm-preserved t c =
@@ -278,7 +288,7 @@ statement-signalled-requires t c =
     let asks = subst (λ (s : Statement). IsStatement script frames s) c.in-Op.is c.requires.statement in
     let same = subst (λ p. IsPerformed p binding frames (sizes c.perform.new.frames)) c.in-Signalled.is c.in_ok-perform-in-Op.ensures.frames in
     let signals = subst (λ f. SignalsHold script f c.in-Op.signals) (sym same)
-        (signals_hold_there script frames binding c.in-Op.signals (op_signals script frames c.in-Op.call c.in-Op.signals asks)) in
+    (signals_hold_there script frames binding c.in-Op.signals (op_signals script frames c.in-Op.call c.in-Op.signals asks)) in
     (omega arith, (c.requires.script, (signals, c.perform.ensures.goes_on.is_run)))
 
 pub statement-returns-in-Signalled-clause-frames : goal.statement-returns-in-Signalled-clause-frames
