@@ -1,5 +1,5 @@
 -- What a turn of a loop or one more call leaves, by what it found.
-use Rattle.std.proofs.Common.{Err, IfSome, IsTrue, List, Ok, OnOk, Option, Result, Some, [], ap, arith, drop, get_or, length, refl, subst, suc, sym, ℕ, ◌++◌, ◌+◌, ◌<◌, ◌∙◌, ◌∷◌, ◌≡◌}
+use Rattle.std.proofs.Common.{Err, IfSome, List, Ok, OnOk, Option, Result, Some, [], ap, arith, drop, get_or, length, refl, subst, suc, sym, ℕ, ◌++◌, ◌+◌, ◌<◌, ◌∙◌, ◌∷◌, ◌≡◌}
 use Rattle.std.proofs.Math.Seq.{drop-cons}
 use Rattle.std.specs.Prelude.{option_to_list}
 use Rattle.action_names.specs.Names.{Name}
@@ -14,9 +14,8 @@ use Rattle.activities.specs.declared.open_action.Called.{Called}
 use Rattle.activities.specs.declared.open_action.Called.TheVariants.{Began}
 use Rattle.activities.specs.Bodies.{IsBody, WhereEnded, Within, sizes}
 use Rattle.activities.specs.Ends.{called}
-use Rattle.activities.specs.Continuing.{CommitsAmong, CommitsNone, EndsAll, GoesOn, HaveBegun}
+use Rattle.activities.specs.Continuing.{HaveBegun}
 use Rattle.activities.proofs.Resolving.{rest_of, statement_grows, within_through}
-use Rattle.activities.proofs.Ways.{then_ends}
 
 -- what is so after an error that did not come
 pub on_ok : {A E : Type 0} (r : Result A E) (P Q : Type 0) → (P → Q) → OnOk r P → OnOk r Q

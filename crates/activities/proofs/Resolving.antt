@@ -1,5 +1,5 @@
 -- What is known of a statement gives of its parts.
-use Rattle.std.proofs.Common.{Bool, IfOk, min, ap₂, IsTrue, List, None, Option, Result, Ok, Err, Some, [], ap, arith, cond, drop, false, get_or, length, map, nat_lt, not, option_map, refl, slice_get, subst, suc, sym, true, zero, ℕ, ◌&&◌, ◌+◌, ◌<◌, ◌≤◌, ◌==◌, ◌∙◌, ◌∷◌, ◌≡◌, eqb-true}
+use Rattle.std.proofs.Common.{Bool, IfOk, min, ap₂, IsTrue, List, None, Option, Result, Ok, Err, Some, [], ap, arith, cond, false, length, map, option_map, refl, slice_get, subst, suc, sym, true, zero, ℕ, ◌&&◌, ◌<◌, ◌≤◌, ◌==◌, ◌∙◌, ◌∷◌, ◌≡◌, eqb-true}
 use Rattle.std.proofs.lemmas.Bool.{and_parts, false≢true, not-true}
 use Rattle.std.proofs.lemmas.Option.{slice_get_within}
 use Rattle.std.specs.List.{list_all}
@@ -19,9 +19,9 @@ use Rattle.script_model.specs.declared.statement.Arm.TheOpen.{Statement-F, Arm-F
 use Rattle.script_model.specs.declared.statement.Arm.TheFolds.{fold-Arm, fold-roll-Arm, fold-roll-Statement, map-Statement}
 use Rattle.script_model.specs.declared.checked.Checked.{Checked}
 use Rattle.script_model.specs.declared.checked.Handler.{Handler}
-use Rattle.script_model.specs.Resolved.{Asked, Frames, IsResolved, Surroundings, all_hold, asked, asked_arm, asked_step, binding_is_bound, binds_newly, body_holds, call_is_resolved, condition_is_bound, expr_is_bound, frames_after, grown, handler_takes, in_top_surroundings, is_new, int_is_bound, is_resolved_at, is_resolved_body, is_resolved_handler, objects_at, op_is_resolved, returned_is_bound, signals_hold, text_is_bound, what_gives}
+use Rattle.script_model.specs.Resolved.{Asked, Frames, IsResolved, Surroundings, all_hold, asked, asked_arm, asked_step, binds_newly, body_holds, call_is_resolved, condition_is_bound, expr_is_bound, frames_after, grown, handler_takes, in_top_surroundings, is_new, is_resolved_at, is_resolved_body, is_resolved_handler, objects_at, signals_hold, what_gives}
 use Rattle.activities.specs.declared.flow.Flow.{Flow}
-use Rattle.activities.specs.declared.flow.Flow.TheVariants.{Aborted, Ended}
+use Rattle.activities.specs.declared.flow.Flow.TheVariants.{Aborted}
 use Rattle.activities.specs.Bodies.{AreArms, IsBody, IsCall, IsOp, IsStatement, SignalsFollow, SignalsHold, Somewhere, WhereEnded, Within, body_of, opened_body}
 
 -- ---- what is asked of a statement, by what is asked of its parts
@@ -254,20 +254,6 @@ pub called_within : (script : Checked) (frames : Frames) (c : HandlerCall) → I
 called_within script frames c k =
     let (h, there, ints, texts) = called_takes script frames c k in slice_get_within script.handlers c.handler h there
 
-pub call_ints : (script : Checked) (frames : Frames) (c : HandlerCall) → IsCall script frames c
-    → IsTrue (list_all (int_is_bound frames.ints) c.ints)
-call_ints script frames c k = (and_parts _ _ (and_parts _ _ k.holds_there).1).0
-
-pub call_texts : (script : Checked) (frames : Frames) (c : HandlerCall) → IsCall script frames c
-    → IsTrue (list_all (text_is_bound frames.texts) c.texts)
-call_texts script frames c k = (and_parts _ _ (and_parts _ _ (and_parts _ _ k.holds_there).1).1).0
-
-pub call_binding : (script : Checked) (frames : Frames) (c : HandlerCall) → IsCall script frames c → IsTrue (binding_is_bound frames c.binding)
-call_binding script frames c k =
-    (and_parts (list_all (text_is_bound frames.texts) c.texts) (binding_is_bound frames c.binding)
-    (and_parts (list_all (int_is_bound frames.ints) c.ints) _
-    (and_parts (handler_takes (slice_get k.at.handlers c.handler) c) _ k.holds_there).1).1).1
-
 -- the frames with which a handler begins
 abbrev handed : ℕ → ℕ → Frames
 handed ints texts = record { ints = ints; texts = texts; truths = 0 }
@@ -361,5 +347,3 @@ pub ruleset statements = (
   signals_hold_there,
   signalled_after,
 )
-
-pub ruleset calls = (called_within, call_ints, call_texts, call_binding, called_body, signals_hold_there, signalled_after)

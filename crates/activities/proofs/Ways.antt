@@ -1,9 +1,9 @@
 -- What an activity leaves of a world, by what each of its steps does.
-use Rattle.std.proofs.Common.{Bool, IsTrue, List, Option, [], ap, append-nil, append_assoc, false, inl, inr, refl, subst, sym, true, ◌++◌, ◌∙◌, ◌∷◌, ◌≡◌, ◌⊎◌, ◌||◌}
-use Rattle.std.proofs.lemmas.Bool.{false_from_ne_true, false≢true, or_cases, or_from, or_left, or_parts, or_right, true≢false}
+use Rattle.std.proofs.Common.{IsTrue, List, [], ap, append-nil, append_assoc, false, inl, inr, subst, sym, true, ◌++◌, ◌∙◌, ◌∷◌, ◌≡◌}
+use Rattle.std.proofs.lemmas.Bool.{false_from_ne_true, false≢true, or_cases, or_left, or_parts, or_right}
 use Rattle.action_names.specs.Names.{Name, has_name, same_name}
-use Rattle.run_model.specs.Actions.{is_begun, is_committed, is_ended}
-use Rattle.run_model.specs.Runs.{IsRun, World}
+use Rattle.run_model.specs.Actions.{is_ended}
+use Rattle.run_model.specs.Runs.{World}
 use Rattle.run_laws.proofs.Names.{clash, has_name_append, same_name_self, same_name_true}
 use Rattle.activities.specs.Continuing.{AreDistinct, AreWaiting, CommitsAmong, CommitsNone, EndsAll, EndsThese, GoesOn, HaveBegun, HaveRun, IsOpen}
 use Rattle.activities.proofs.Going.{among_more, among_through, commits_through, ends_through, fresh_commits, fresh_ends, goes_nowhere, goes_through, commits_nowhere, ends_nowhere, none_is_among, open_among, still_open, still_begun, still_ended}
