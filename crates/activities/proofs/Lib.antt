@@ -1,6 +1,9 @@
+pub mod Ending
+pub mod Following
 pub mod Going
+pub mod Resolving
 pub mod Steps
 pub mod Telling
 pub mod Unions
 pub mod Voting
-pub mod Ending
+pub mod Ways

@@ -1,10 +1,12 @@
-ghost use Rattle.std.specs.Prelude.{◌≡◌, ◌+◌, ◌≤◌, [], ◌∷◌, length, IsTrue, IfOk, OnOk};
+ghost use Rattle.std.specs.Prelude.{◌≡◌, ◌+◌, ◌≤◌, [], ◌∷◌, length, IsTrue, IfOk, None, OnOk};
 ghost use Rattle.script_model.specs.Resolved.{IsResolved, asked, frames_after};
 ghost use Rattle.run_model.specs.Actions.{is_committed, is_ended};
 ghost use Rattle.run_model.specs.Runs.{IsRun};
 ghost use Rattle.activities.specs.Bodies.{AreArms, IsBody, IsCall, IsStatement, SignalsFollow, SignalsHold, WhereEnded, Within, sizes};
 ghost use Rattle.activities.specs.Continuing.{AreWaiting, CommitsAmong, CommitsNone, EndsAll, GoesOn, HaveRun, IsOpen};
 ghost use Rattle.activities.specs.Ends.{commits, has_committed};
+ghost use Rattle.activities.specs.declared.flow.Flow.TheVariants.{Aborted, Outwards};
+ghost use Rattle.activities.specs.declared.flow.Reach.TheVariants.{TopAction};
 
 use crate::arms::{arm_body, begin_arms};
 use crate::flow::{Flow, Reach};
@@ -56,6 +58,7 @@ impl<'s> Activity<'s> {
 
     /// Runs a body as the action and ends the action. After an error the action has ended, or its abort wanted memory too.
     #[cycle(activity)]
+    #[tactic(auto, using(crate::proofs::Ways::steps))]
     pub(crate) fn run(
         &mut self,
         world: &mut World,
@@ -87,6 +90,7 @@ impl<'s> Activity<'s> {
     }
 
     #[cycle(activity)]
+    #[tactic(auto, using(crate::proofs::Ways::turns))]
     fn body(
         &mut self,
         world: &mut World,
@@ -121,6 +125,7 @@ impl<'s> Activity<'s> {
 
     /// A body within another: what it binds newly is forgotten at its end.
     #[cycle(activity)]
+    #[tactic(auto, using(crate::proofs::Ways::steps))]
     fn inner(
         &mut self,
         world: &mut World,
@@ -147,6 +152,7 @@ impl<'s> Activity<'s> {
     }
 
     #[cycle(activity)]
+    #[tactic(auto, using(crate::proofs::Ways::steps, crate::proofs::Resolving::statements))]
     fn statement(
         &mut self,
         world: &mut World,
@@ -197,6 +203,7 @@ impl<'s> Activity<'s> {
 
     /// What a statement does where it signals: its body for that, without which the innermost action aborts.
     #[cycle(activity)]
+    #[tactic(auto, using(crate::proofs::Ways::turns))]
     fn signalled(
         &mut self,
         world: &mut World,
@@ -211,6 +218,7 @@ impl<'s> Activity<'s> {
         ensures commits { CommitsNone world.old world.new }
         ensures ends { OnOk result (EndsAll world.old world.new) }
         ensures frames { IfOk result (λ flow. WhereEnded flow (sizes frames.new ≡ sizes frames.old)) }
+        ensures unheard { signals.now ≡ None → IfOk result (λ flow. flow ≡ Aborted) }
         ensures left { self.new.left ≤ self.old.left }
         ensures script { self.new.script.now ≡ self.old.script.now }
         ensures name { action.new.name ≡ action.old.name }
@@ -223,6 +231,7 @@ impl<'s> Activity<'s> {
     }
 
     #[cycle(activity)]
+    #[tactic(auto, using(crate::proofs::Ways::turns))]
     fn repeat(
         &mut self,
         world: &mut World,
@@ -258,6 +267,7 @@ impl<'s> Activity<'s> {
 
     /// A handler call: the handler's body as a subaction at its guardian.
     #[cycle(activity)]
+    #[tactic(auto, using(crate::proofs::Ways::children))]
     fn call(
         &mut self,
         world: &mut World,
@@ -310,6 +320,7 @@ impl<'s> Activity<'s> {
 
     /// A nested top action, over a copy of the variables; where it aborts, the statement's body for that runs.
     #[cycle(activity)]
+    #[tactic(auto, using(crate::proofs::Ways::children))]
     fn top_action(
         &mut self,
         world: &mut World,
@@ -345,6 +356,7 @@ impl<'s> Activity<'s> {
 
     /// Arms are begun together; where one returns or is left, those that have not run are aborted.
     #[cycle(activity)]
+    #[tactic(auto, using(crate::proofs::Ways::together))]
     fn coenter(
         &mut self,
         world: &mut World,
@@ -377,6 +389,7 @@ impl<'s> Activity<'s> {
     /// Runs the arms in order, to the first that returns or is left. Each is over a copy of the variables. Of the names that are waiting the
     /// last is that of the next arm.
     #[cycle(activity)]
+    #[tactic(auto, using(crate::proofs::Ways::arms))]
     fn run_arms(
         &mut self,
         world: &mut World,
@@ -420,7 +433,9 @@ impl<'s> Activity<'s> {
 }
 
 /// What comes of an operation that has to wait: nothing else runs meanwhile, so the enclosing top action aborts.
-fn wait() -> Flow {
+fn wait() -> Flow
+    ensures { result ≡ Outwards TopAction }
+{
     Flow::Outwards(Reach::TopAction)
 }
 
