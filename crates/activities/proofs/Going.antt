@@ -1,18 +1,19 @@
 -- Worlds that go on, step by step.
-use Rattle.std.proofs.Common.{Bool, Err, IfOk, IsTrue, List, Ok, OnErr, Result, [], ap, append-nil, append_assoc, cond, false, refl, subst, sym, true, ◌++◌, ◌∙◌, ◌∷◌, ◌≡◌}
-use Rattle.action_names.specs.Names.{Name}
+use Rattle.std.proofs.Common.{inl, inr, Bool, Err, IfOk, IsTrue, List, Ok, OnErr, Result, [], ap, append-nil, append_assoc, cond, false, refl, subst, sym, true, ◌++◌, ◌∙◌, ◌∷◌, ◌≡◌}
+use Rattle.std.proofs.lemmas.Bool.{false_from_ne_true, or_cases, or_left, or_right}
+use Rattle.action_names.specs.Names.{Name, has_name}
 use Rattle.run_model.specs.declared.answer.Answer.{Answer}
 use Rattle.run_model.specs.declared.answer.Answer.TheVariants.{Began, Done, Granted, Refused, VoteNo, VoteYes, Waits}
 use Rattle.run_model.specs.declared.history.Event.{Event}
 use Rattle.run_model.specs.declared.step.Step.{Step}
 use Rattle.run_model.specs.declared.step.Step.TheVariants.{Top}
-use Rattle.run_model.specs.Actions.{is_begun, is_committed, names_begun, step_commits}
+use Rattle.run_model.specs.Actions.{is_begun, is_committed, is_ended, names_begun}
 use Rattle.run_model.specs.Answers.{answer_of}
-use Rattle.run_model.specs.Replay.{Setup}
 use Rattle.run_model.specs.Runs.{IsRun, World, history_after, is_accepted, world_after}
-use Rattle.run_laws.proofs.Growth.{begun_stays, followed}
+use Rattle.run_laws.proofs.Growth.{aborted_stays, begun_stays, committed_stays, followed}
+use Rattle.run_laws.proofs.Names.{clash}
 use Rattle.run_laws.proofs.Runs.{run_more}
-use Rattle.activities.specs.Continuing.{CommitsBy, CommitsNone, GoesOn, IsNoTop, tops_begun, tops_by}
+use Rattle.activities.specs.Continuing.{CommitsAmong, CommitsBy, CommitsNone, EndsAll, GoesOn, HaveBegun, IsNoTop, IsOpen, tops_begun, tops_by}
 
 -- where nothing has happened
 pub goes_nowhere : (w : World) → IsRun w.setup w.past → GoesOn w w []
@@ -39,11 +40,69 @@ goes_through x y z s t a b = record {
 pub still_begun : (x y : World) (s : List Name) (a : Name) → GoesOn x y s → IsTrue (is_begun a x.past) → IsTrue (is_begun a y.past)
 still_begun x y s a g h = subst (λ l. is_begun a l ≡ true) (sym g.past) (begun_stays a (followed g.later x.past) h)
 
+-- what has ended stays so
+pub still_ended : (x y : World) (s : List Name) (a : Name) → GoesOn x y s → IsTrue (is_ended a x.past) → IsTrue (is_ended a y.past)
+still_ended x y s a g h =
+    let f = followed g.later x.past in
+    subst (λ l. is_ended a l ≡ true) (sym g.past) (elim (or_cases _ _ h) [
+      | inl c ↦ or_left _ _ (committed_stays a f c)
+      | inr k ↦ or_right _ _ (aborted_stays a f k)
+    ])
+
 pub commits_nowhere : (w : World) → CommitsNone w w
 commits_nowhere w a h = refl
 
 pub commits_through : (x y z : World) (s : List Name) → GoesOn x y s → CommitsNone x y → CommitsNone y z → CommitsNone x z
 commits_through x y z s g c d a h = d a (still_begun x y s a g h) ∙ c a h
+
+-- none is among any
+pub none_is_among : (names : List Name) (x y : World) → CommitsNone x y → CommitsAmong names x y
+none_is_among names x y c a h k = c a h
+
+-- among some is among more
+pub among_more : (names more : List Name) (x y : World) → ((a : Name) → IsTrue (has_name names a) → IsTrue (has_name more a))
+    → CommitsAmong names x y → CommitsAmong more x y
+among_more names more x y m c a h k = c a h (false_from_ne_true _ (λ t. clash (m a t) k))
+
+pub among_through : (names : List Name) (x y z : World) (s : List Name) → GoesOn x y s → CommitsAmong names x y → CommitsAmong names y z
+    → CommitsAmong names x z
+among_through names x y z s g c d a h k = d a (still_begun x y s a g h) k ∙ c a h k
+
+-- what has just begun had not committed before, so its commit counts for nothing
+pub fresh_commits : (names : List Name) (x y z : World) (s : List Name) → HaveBegun names x y → GoesOn x y s → CommitsNone x y
+    → CommitsAmong names y z → CommitsNone x z
+fresh_commits names x y z s b g c d a h =
+    d a (still_begun x y s a g h) (false_from_ne_true _ (λ t. clash h (b.before a t))) ∙ c a h
+
+pub ends_nowhere : (w : World) → EndsAll w w
+ends_nowhere w a h k = absurd (clash h k)
+
+pub ends_through : (x y z : World) (s : List Name) → GoesOn y z s → EndsAll x y → EndsAll y z → EndsAll x z
+ends_through x y z s g e f a h k = go (is_begun a y.past) refl
+  where
+    go : (t : Bool) → is_begun a y.past ≡ t → IsTrue (is_ended a z.past)
+    go true b = still_ended y z s a g (e a b k)
+    go false b = f a h b
+
+-- what has just begun has ended, and so has all that began since
+pub fresh_ends : (names : List Name) (x y z : World) (s : List Name) → HaveBegun names x y → GoesOn y z s → EndsAll y z
+    → ((a : Name) → IsTrue (has_name names a) → IsTrue (is_ended a z.past)) → EndsAll x z
+fresh_ends names x y z s b g f n a h k = go (is_begun a y.past) refl
+  where
+    go : (t : Bool) → is_begun a y.past ≡ t → IsTrue (is_ended a z.past)
+    go true e = n a (b.only a e k)
+    go false e = f a h e
+
+-- an action that none of the commits was of may still go on
+pub open_among : (names : List Name) (x y : World) (s : List Name) (a : Name) → IsOpen a x → GoesOn x y s → CommitsAmong names x y
+    → has_name names a ≡ false → IsOpen a y
+open_among names x y s a o g c k = record {
+  begun = still_begun x y s a g o.begun;
+  uncommitted = c a o.begun k ∙ o.uncommitted;
+}
+
+pub still_open : (x y : World) (s : List Name) (a : Name) → IsOpen a x → GoesOn x y s → CommitsNone x y → IsOpen a y
+still_open x y s a o g c = open_among [] x y s a o g (none_is_among [] x y c) refl
 
 -- ---- one step
 

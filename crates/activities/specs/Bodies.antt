@@ -2,8 +2,8 @@
 use Rattle.std.specs.Prelude.{◌≡◌, ◌≤◌, Bool, ◌&&◌, IsTrue, List, length, map, Option, Some, None}
 use Rattle.run_model.specs.declared.step.ArmKind.{ArmKind}
 use Rattle.run_model.specs.declared.step.ArmKind.TheVariants as kind
-use Rattle.script_model.specs.declared.statement.Arm.{Arm}
-use Rattle.script_model.specs.declared.statement.Arm.TheVariants.{Sub, Top}
+use Rattle.script_model.specs.declared.statement.Arm.{Arm, out-Arm}
+use Rattle.script_model.specs.declared.statement.Arm.TheOpen.{Arm-F}
 use Rattle.script_model.specs.declared.statement.Binding.{Binding}
 use Rattle.script_model.specs.declared.statement.HandlerCall.{HandlerCall}
 use Rattle.script_model.specs.declared.statement.ObjectCall.{ObjectCall}
@@ -45,13 +45,19 @@ abbrev pub AreArms : Checked → resolved.Frames → List Arm → Type 0
 AreArms script frames arms = IsStatement script frames (Coenter arms)
 
 -- the arm's kind and its body
+abbrev pub opened_kind : Arm-F Arm Statement → ArmKind
+opened_kind (Arm-F.Sub body) = kind.Sub
+opened_kind (Arm-F.Top body) = kind.Top
+
+abbrev pub opened_body : Arm-F Arm Statement → List Statement
+opened_body (Arm-F.Sub body) = body
+opened_body (Arm-F.Top body) = body
+
 abbrev pub kind_of : Arm → ArmKind
-kind_of (Sub body) = kind.Sub
-kind_of (Top body) = kind.Top
+kind_of arm = opened_kind (out-Arm arm)
 
 abbrev pub body_of : Arm → List Statement
-body_of (Sub body) = body
-body_of (Top body) = body
+body_of arm = opened_body (out-Arm arm)
 
 abbrev pub kinds : List Arm → List ArmKind
 kinds arms = map kind_of arms
