@@ -1,5 +1,5 @@
 -- The arms of a `coenter`: the names with which they begin, of which no two are one.
-use Rattle.std.proofs.Common.{Bool, List, [], Option, None, Some, ap, append_assoc, arith, false, length, refl, reverse, subst, suc, sym, true, ℕ, ◌++◌, ◌<◌, ◌||◌, ◌∙◌, ◌∷◌, ◌≡◌, ◌≢◌}
+use Rattle.std.proofs.Common.{Bool, List, [], Option, None, Some, ap, ap₂, append_assoc, arith, false, length, refl, reverse, subst, suc, sym, true, ℕ, ◌++◌, ◌<◌, ◌||◌, ◌∙◌, ◌∷◌, ◌≡◌, ◌≢◌}
 use Rattle.std.proofs.lemmas.Bool.{false_from_ne_true, or_from, or_parts}
 use Rattle.std.proofs.lemmas.List.{reverse-append, reverse-reverse}
 use Rattle.action_names.specs.Names.{Name, child_of, has_name, last_of, parent_of, same_name}
@@ -18,7 +18,8 @@ use Rattle.run_model.specs.Runs.{IsRun, World, world_after}
 use Rattle.run_laws.proofs.Accepted.{makes_facts}
 use Rattle.run_laws.proofs.Begun.{nameless}
 use Rattle.run_laws.proofs.Names.{has_name_append, last_child, parent_child, same_name_self, same_name_true}
-use Rattle.activities.specs.Continuing.{AreDistinct, HaveBegun}
+use Rattle.activities.specs.Continuing.{AreDistinct, HaveBegun, IsAfter}
+use Rattle.activities.proofs.Steps.{step_begins}
 
 -- ---- the names of arms differ
 
@@ -164,3 +165,19 @@ arms_refused w a kinds answer h refused = go (first_refusal (checks w.setup (Arm
         → world_after w (Arms a kinds) answer ≡ w
     go None e = absurd (refused _ e)
     go (Some why) e = ap (λ b. world_after w (Arms a kinds) b) e
+
+-- the step that was made is the one of these arms
+pub together : (old new : World) (a b : Name) (ks all : List ArmKind) (answer : Answer) → answer ≡ answer_of old.setup (Arms a ks) old.past
+    → new ≡ world_after old (Arms a ks) answer → a ≡ b → ks ≡ all → IsAfter (Arms b all) old new
+together old new a b ks all answer h w e f =
+    w ∙ ap (λ x. world_after old (Arms a ks) x) h
+    ∙ ap₂ (λ x y. world_after old (Arms x y) (answer_of old.setup (Arms x y) old.past)) e f
+
+-- the arms' names, that of the first arm last, have just begun
+pub arms_begun : (old new : World) (a : Name) (ks : List ArmKind) (answer : Answer) (names turned : List Name) → IsRun old.setup old.past
+    → answer ≡ answer_of old.setup (Arms a ks) old.past → new ≡ world_after old (Arms a ks) answer → answer ≡ Began names
+    → turned ≡ reverse names → HaveBegun turned old new
+arms_begun old new a ks answer names turned r h w b t =
+    subst (λ l. HaveBegun l old new) (sym t) (begun_reverse names old new
+    (subst (λ v. HaveBegun names old v) (sym (w ∙ ap (λ x. world_after old (Arms a ks) x) b))
+    (step_begins old (Arms a ks) (Began names) r (sym b ∙ h))))
