@@ -9,9 +9,10 @@ use Rattle.run_model.specs.declared.answer.Refusal.{Refusal}
 use Rattle.run_model.specs.declared.history.Event.{Event}
 use Rattle.run_model.specs.declared.step.ArmKind.{ArmKind}
 use Rattle.run_model.specs.declared.step.ArmKind.TheVariants as arm
+use Rattle.run_model.specs.declared.step.Step.{Step}
 use Rattle.run_model.specs.declared.step.Step.TheVariants.{Arms}
 use Rattle.run_model.specs.Actions.{next_number}
-use Rattle.run_model.specs.Answers.{answer_of, refused_or}
+use Rattle.run_model.specs.Answers.{answer_of, outcome, refused_or}
 use Rattle.run_model.specs.Refusals.{arm_names, checks, first_refusal}
 use Rattle.run_model.specs.Replay.{Setup}
 use Rattle.run_model.specs.Runs.{IsRun, World, world_after}
@@ -120,6 +121,16 @@ begun_reverse names old new b = record {
 
 -- ---- the step that begins arms
 
+-- a step of which the outcome begins actions: where it begins none it was refused, and the world is as it was
+pub unless_begun : (w : World) (step : Step) (answer : Answer) (all : List Name) → outcome w.setup step w.past ≡ Began all
+    → answer ≡ answer_of w.setup step w.past → ((names : List Name) → answer ≢ Began names) → world_after w step answer ≡ w
+unfolding answer_of
+unless_begun w step answer all o h refused = go (first_refusal (checks w.setup step w.past)) h
+  where
+    go : (r : Option Refusal) → answer ≡ refused_or r (outcome w.setup step w.past) → world_after w step answer ≡ w
+    go None e = absurd (refused all (e ∙ o))
+    go (Some why) e = ap (λ b. world_after w step b) e
+
 arms_length : (a : Name) (child top : ℕ) (kinds : List ArmKind) → length (arm_names a child top kinds) ≡ length kinds
 arms_length a child top [] = refl
 arms_length a child top (arm.Sub ∷ kinds) = ap suc (arms_length a (suc child) top kinds)
@@ -158,13 +169,8 @@ arms_distinct setup a kinds past names r h =
 -- where it begins nothing it was refused, and the world is as it was
 pub arms_refused : (w : World) (a : Name) (kinds : List ArmKind) (answer : Answer) → answer ≡ answer_of w.setup (Arms a kinds) w.past
     → ((names : List Name) → answer ≢ Began names) → world_after w (Arms a kinds) answer ≡ w
-unfolding answer_of
-arms_refused w a kinds answer h refused = go (first_refusal (checks w.setup (Arms a kinds) w.past)) h
-  where
-    go : (o : Option Refusal) → answer ≡ refused_or o (Began (arm_names a (next_number a w.past) (next_number [] w.past) kinds))
-        → world_after w (Arms a kinds) answer ≡ w
-    go None e = absurd (refused _ e)
-    go (Some why) e = ap (λ b. world_after w (Arms a kinds) b) e
+arms_refused w a kinds answer h refused =
+    unless_begun w (Arms a kinds) answer (arm_names a (next_number a w.past) (next_number [] w.past) kinds) refl h refused
 
 -- the step that was made is the one of these arms
 pub together : (old new : World) (a b : Name) (ks all : List ArmKind) (answer : Answer) → answer ≡ answer_of old.setup (Arms a ks) old.past

@@ -1,3 +1,4 @@
 pub mod Going
 pub mod Steps
 pub mod ArmNames
+pub mod Clients
