@@ -17,12 +17,15 @@ use Rattle.run_model.specs.Refusals.{checks, first_refusal}
 use Rattle.run_model.specs.Replay.{Setup}
 use Rattle.run_model.specs.Runs.{IsRun, World, world_after}
 use Rattle.run_laws.proofs.Begun.{begun_more}
-use Rattle.run_laws.proofs.Names.{has_name_append, same_name_self}
+use Rattle.run_laws.proofs.Names.{has_name_append, same_name_self, same_name_true}
 use Rattle.script_model.specs.declared.checked.Checked.{Checked}
 use Rattle.script_model.specs.declared.checked.Client.{Client}
+use Rattle.script_model.specs.declared.names.Gives.TheVariants as gives
+use Rattle.script_model.specs.declared.statement.Statement.{Statement}
 use Rattle.script_model.specs.Resolved as resolved
 use Rattle.activities.specs.declared.client.ClientEnd.{ClientEnd}
-use Rattle.activities.specs.Bodies.{IsBody}
+use Rattle.activities.specs.declared.frames.Frames.{Frames}
+use Rattle.activities.specs.Bodies.{IsBody, sizes}
 use Rattle.activities.specs.Continuing.{CommitsAmong, CommitsNone, EndsAll, GoesOn, HaveBegun, IsOpen, tops_begun, tops_by}
 use Rattle.activities.specs.Ends.{AreRun, ClientRan, IsEnd, is_told, named, named_by}
 use Rattle.activities.proofs.ArmNames.{unless_begun}
@@ -37,14 +40,27 @@ pub client_body : (script : Checked) (client : Client) → IsTrue (resolved.is_r
 client_body script client h = go (resolved.objects_at script client.home) h
   where
     go : (objects : Option _)
-        → resolved.is_resolved_at objects script resolved.gives.Anything (record { ints = 0; texts = 0; truths = 0 }) client.body ≡ true
+        → resolved.is_resolved_at objects script gives.Anything (record { ints = 0; texts = 0; truths = 0 }) client.body ≡ true
         → IsBody script (record { ints = 0; texts = 0; truths = 0 }) client.body
     go None k = absurd (false≢true k)
     go (Some objects) k = record {
-      at = record { objects = objects; handlers = script.handlers; gives = resolved.gives.Anything; in_top = false };
+      at = record { objects = objects; handlers = script.handlers; gives = gives.Anything; in_top = false };
       handlers = refl;
       holds_there = k;
     }
+
+-- frames in which nothing is bound
+nothing_bound : (f : Frames) → f.ints.items ≡ [] → f.texts.items ≡ [] → f.truths.items ≡ []
+    → sizes f ≡ record { ints = 0; texts = 0; truths = 0 }
+nothing_bound f i t u = rw (i, t, u) refl
+
+pub body_given : (script same : Checked) (client : Client) (f : Frames) (body : List Statement)
+    → IsTrue (resolved.is_resolved_client script client) → same ≡ script → f.ints.items ≡ [] → f.texts.items ≡ [] → f.truths.items ≡ []
+    → body ≡ client.body → IsBody same (sizes f) body
+body_given script same client f body h e i t u b =
+    subst (λ x. IsBody x (sizes f) body) (sym e)
+    (subst (λ x. IsBody script (sizes f) x) (sym b)
+    (subst (λ x. IsBody script x client.body) (sym (nothing_bound f i t u)) (client_body script client h)))
 
 -- ---- its top action
 
@@ -75,16 +91,19 @@ not_ran old new end r e t c v = subst (λ w. ClientRan old w end) (sym e) (recor
 -- the top action has begun, and nothing else
 pub record Opened (old new : World) (a : Name) : Type 0 where
   pub goes_on : GoesOn old new (a ∷ [])
+  pub commits : CommitsNone old new
   pub began : HaveBegun (a ∷ []) old new
 
-pub top_opens : (old new : World) (g : ℕ) (answer : Answer) (names : List Name) (a : Name) → IsRun old.setup old.past
-    → answer ≡ answer_of old.setup (Top g) old.past → new ≡ world_after old (Top g) answer → answer ≡ Began names → names ≡ a ∷ []
-    → Opened old new a
-top_opens old new g answer names a r h w b n =
+pub top_opens : (old new : World) (g : ℕ) (answer : Answer) (names : List Name) (only a : Name) → IsRun old.setup old.past
+    → answer ≡ answer_of old.setup (Top g) old.past → new ≡ world_after old (Top g) answer → answer ≡ Began names → names ≡ only ∷ []
+    → a ≡ only → Opened old new a
+top_opens old new g answer names only a r h w b k e =
+    let n : names ≡ a ∷ [] = k ∙ ap (λ x. x ∷ []) (sym e) in
     let left : new ≡ world_after old (Top g) (Began (a ∷ [])) = w ∙ ap (λ x. world_after old (Top g) x) (b ∙ ap Began n) in
     let given : Began (a ∷ []) ≡ answer_of old.setup (Top g) old.past = sym (b ∙ ap Began n) ∙ h in
     subst (λ v. Opened old v a) (sym left) (record {
       goes_on = one_step old (Top g) (Began (a ∷ [])) r given;
+      commits = λ b k. refl;
       began = step_begins old (Top g) (Began (a ∷ [])) r given;
     })
 
@@ -97,7 +116,7 @@ opened_goes old mid new a o g = goes_through old mid new (a ∷ []) [] o.goes_on
 
 pub opened_commits : (old mid new : World) (a : Name) → Opened old mid a → GoesOn mid new [] → CommitsAmong (a ∷ []) mid new
     → CommitsNone old new
-opened_commits old mid new a o g c = fresh_commits (a ∷ []) old mid new (a ∷ []) o.began o.goes_on (λ b h. refl) c
+opened_commits old mid new a o g c = fresh_commits (a ∷ []) old mid new (a ∷ []) o.began o.goes_on o.commits c
 
 pub opened_ran : (old mid new : World) (a : Name) (end : ClientEnd) → Opened old mid a → GoesOn mid new [] → EndsAll mid new
     → IsTrue (is_ended a new.past) → end.top ≡ Some a → end.committed ≡ is_committed a new.past
@@ -105,8 +124,14 @@ pub opened_ran : (old mid new : World) (a : Name) (end : ClientEnd) → Opened o
 opened_ran old mid new a end o g e f t c v = record {
   goes_on = subst (λ x. GoesOn old new (named_by x)) (sym t) (opened_goes old mid new a o g);
   is_end = record { told = subst (λ x. is_told x end.committed new.past) (sym t) c; value = v };
-  ended = fresh_ends (a ∷ []) old mid new [] o.began g e ?;
+  ended = fresh_ends (a ∷ []) old mid new [] o.began g e alone;
 }
+  where
+    alone : (b : Name) → has_name (a ∷ []) b ≡ true → is_ended b new.past ≡ true
+    alone b h = elim (or_cases _ _ h) [
+      | inl k ↦ subst (λ x. is_ended x new.past ≡ true) (same_name_true a b k) f
+      | inr k ↦ absurd (false≢true k)
+    ]
 
 -- ---- one client after another
 
@@ -127,21 +152,25 @@ tops_known old new tops a g h =
     ap (λ l. is_begun a l) g.past ∙ tops_are_begun g.later old.past a (ap (λ l. has_name l a) g.began ∙ h)
 
 -- what ends say stays so while none of the actions that they name commits
-ends_stay : (old new : List Event) (ends : List ClientEnd)
-    → ((a : Name) → has_name (named ends) a ≡ true → is_committed a new ≡ is_committed a old)
-    → AllByRecursion (IsEnd old) ends → AllByRecursion (IsEnd new) ends
-ends_stay old new [] same each = tt
-ends_stay old new (end ∷ ends) same each = (record { told = first end.top same each.0.told; value = each.0.value }, rest end.top same)
-  where
-    first : (top : Option Name) → ((a : Name) → has_name (cons_option top (named ends)) a ≡ true → is_committed a new ≡ is_committed a old)
-        → is_told top end.committed old → is_told top end.committed new
-    first None s t = t
-    first (Some a) s t = t ∙ sym (s a (or_left _ _ (same_name_self a)))
+abbrev Unchanged : List Event → List Event → List Name → Type 0
+Unchanged old new names = (a : Name) → has_name names a ≡ true → is_committed a new ≡ is_committed a old
 
-    rest : (top : Option Name) → ((a : Name) → has_name (cons_option top (named ends)) a ≡ true → is_committed a new ≡ is_committed a old)
-        → AllByRecursion (IsEnd new) ends
-    rest None s = ends_stay old new ends s each.1
-    rest (Some b) s = ends_stay old new ends (λ a h. s a (or_right _ _ h)) each.1
+unchanged_rest : (old new : List Event) (top : Option Name) (names : List Name) → Unchanged old new (cons_option top names)
+    → Unchanged old new names
+unchanged_rest old new None names same a h = same a h
+unchanged_rest old new (Some b) names same a h = same a (or_right _ _ h)
+
+told_stays : (old new : List Event) (top : Option Name) (names : List Name) (committed : Bool) → Unchanged old new (cons_option top names)
+    → is_told top committed old → is_told top committed new
+told_stays old new None names committed same t = t
+told_stays old new (Some a) names committed same t = t ∙ sym (same a (or_left _ _ (same_name_self a)))
+
+ends_stay : (old new : List Event) (ends : List ClientEnd) → Unchanged old new (named ends) → AllByRecursion (IsEnd old) ends
+    → AllByRecursion (IsEnd new) ends
+ends_stay old new [] same each = tt
+ends_stay old new (end ∷ ends) same each =
+    (record { told = told_stays old new end.top (named ends) end.committed same each.0.told; value = each.0.value },
+    ends_stay old new ends (unchanged_rest old new end.top (named ends) same) each.1)
 
 each_push : {X : Type 0} (P : X → Type 0) (xs : List X) (x : X) → AllByRecursion P xs → P x → AllByRecursion P (xs ++ (x ∷ []))
 each_push P [] x each p = (p, tt)

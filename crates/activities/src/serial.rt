@@ -29,6 +29,8 @@ pub fn run_serial(
     ensures ok { IfOk result (λ ends. AreRun (length script.now.clients) world.old world.new ends.items) }
     ensures err { OnErr result ((tops : List Name) × GoesOn world.old world.new tops) }
 {
+    // so that what happened before is known to be a run
+    let _ = world.history();
     let clients = script.clients.as_slice();
     let mut ends = Vec::with_capacity(alloc, clients.len())?;
     let mut fault = Ok(());
