@@ -1,5 +1,5 @@
 -- Clients that run one after another: each as a top action of its own, which ends before the next begins.
-use Rattle.std.proofs.Common.{Bool, IsTrue, List, None, Option, Some, [], ap, append-nil, false, inl, inr, length, refl, subst, sym, true, ℕ, ◌&&◌, ◌+◌, ◌++◌, ◌∙◌, ◌∷◌, ◌≡◌, ◌≢◌}
+use Rattle.std.proofs.Common.{Bool, Err, IfOk, IsTrue, List, None, Ok, OnErr, OnOk, Option, Result, Some, [], ap, append-nil, false, inl, inr, length, refl, subst, sym, true, ℕ, ◌&&◌, ◌+◌, ◌++◌, ◌∙◌, ◌∷◌, ◌≡◌, ◌≢◌}
 use Rattle.std.proofs.lemmas.Bool.{false≢true, or_cases, or_left, or_right}
 use Rattle.std.proofs.lemmas.List.{length_push}
 use Rattle.std.proofs.lemmas.List.Elements.{filter_map-append}
@@ -24,10 +24,11 @@ use Rattle.script_model.specs.declared.names.Gives.TheVariants as gives
 use Rattle.script_model.specs.declared.statement.Statement.{Statement}
 use Rattle.script_model.specs.Resolved as resolved
 use Rattle.activities.specs.declared.client.ClientEnd.{ClientEnd}
+use Rattle.activities.specs.declared.flow.Flow.{Flow}
 use Rattle.activities.specs.declared.frames.Frames.{Frames}
 use Rattle.activities.specs.Bodies.{IsBody, sizes}
 use Rattle.activities.specs.Continuing.{CommitsAmong, CommitsNone, EndsAll, GoesOn, HaveBegun, IsOpen, tops_begun, tops_by}
-use Rattle.activities.specs.Ends.{AreRun, ClientRan, IsEnd, is_told, named, named_by}
+use Rattle.activities.specs.Ends.{AreRun, ClientRan, IsEnd, commits, has_committed, is_told, named, named_by}
 use Rattle.activities.proofs.ArmNames.{unless_begun}
 use Rattle.activities.proofs.Going.{ends_nowhere, ends_through, fresh_commits, fresh_ends, goes_nowhere, goes_through, one_step}
 use Rattle.activities.proofs.Steps.{step_begins}
@@ -133,6 +134,22 @@ opened_ran old mid new a end o g e f t c v = record {
       | inr k ↦ absurd (false≢true k)
     ]
 
+-- where memory sufficed, its body came to an end that says whether it has committed
+pub client_ran : {E : Type 0} (old mid new : World) (a b : Name) (result : Result Flow E) (flow : Flow) (end : ClientEnd)
+    → Opened old mid a → GoesOn mid new [] → OnOk result (EndsAll mid new) → OnOk result (IsTrue (is_ended a new.past))
+    → IfOk result (λ f. commits f ≡ is_committed a new.past) → result ≡ Ok flow → b ≡ a → end.top ≡ Some b
+    → end.committed ≡ has_committed result → (commits flow ≡ false → end.value ≡ None) → ClientRan old new end
+client_ran old mid new a b result flow end o g e d t r n p c v =
+    let same : end.committed ≡ commits flow = c ∙ ap has_committed r in
+    opened_ran old mid new a end o g (subst (λ x. OnOk x (EndsAll mid new)) r e) (subst (λ x. OnOk x (IsTrue (is_ended a new.past))) r d)
+    (p ∙ ap Some n) (same ∙ subst (λ x. IfOk x (λ f. commits f ≡ is_committed a new.past)) r t) (λ f. v (sym same ∙ f))
+
+-- also after an error the world has gone on
+pub goes_on_err : {X E : Type 0} (result : Result X E) (old new : World) (tops : List Name) → GoesOn old new tops
+    → OnErr result ((t : List Name) × GoesOn old new t)
+goes_on_err (Ok x) old new tops g = tt
+goes_on_err (Err e) old new tops g = (tops, g)
+
 -- ---- one client after another
 
 -- what a `top` step began was begun
@@ -168,9 +185,10 @@ told_stays old new (Some a) names committed same t = t ∙ sym (same a (or_left 
 ends_stay : (old new : List Event) (ends : List ClientEnd) → Unchanged old new (named ends) → AllByRecursion (IsEnd old) ends
     → AllByRecursion (IsEnd new) ends
 ends_stay old new [] same each = tt
-ends_stay old new (end ∷ ends) same each =
-    (record { told = told_stays old new end.top (named ends) end.committed same each.0.told; value = each.0.value },
-    ends_stay old new ends (unchanged_rest old new end.top (named ends) same) each.1)
+ends_stay old new (end ∷ ends) same each = (
+  record { told = told_stays old new end.top (named ends) end.committed same each.0.told; value = each.0.value },
+  ends_stay old new ends (unchanged_rest old new end.top (named ends) same) each.1,
+)
 
 each_push : {X : Type 0} (P : X → Type 0) (xs : List X) (x : X) → AllByRecursion P xs → P x → AllByRecursion P (xs ++ (x ∷ []))
 each_push P [] x each p = (p, tt)
@@ -201,3 +219,22 @@ one_more_run count old mid new ends end a c n = record {
       (ends_stay mid.past new.past ends (λ b h. n b (tops_known old mid (named ends) b a.goes_on h)) a.told) c.is_end;
   ended = ends_through old mid new (named_by end.top) c.goes_on a.ended c.ended;
 }
+
+-- one client more, where none has wanted memory so far
+pub more_ran : {X E : Type 0} (fault now : Result X E) (count : ℕ) (old mid new : World) (ends all : List ClientEnd) (end : ClientEnd)
+    → now ≡ fault → all ≡ ends ++ (end ∷ []) → IfOk fault (λ u. AreRun count old mid ends) → ClientRan mid new end → CommitsNone mid new
+    → IfOk now (λ u. AreRun (count + 1) old new all)
+more_ran (Ok u) now count old mid new ends all end n e a c k =
+    subst (λ r. IfOk r (λ u. AreRun (count + 1) old new all)) (sym n)
+    (subst (λ l. AreRun (count + 1) old new l) (sym e) (one_more_run count old mid new ends end a c k))
+more_ran (Err f) now count old mid new ends all end n e a c k = subst (λ r. IfOk r (λ u. AreRun (count + 1) old new all)) (sym n) tt
+
+-- nothing is said of what wanted memory
+pub if_err : {X E : Type 0} (result : Result X E) (fault : E) (P : X → Type 0) → result ≡ Err fault → IfOk result P
+if_err result fault P e = subst (λ r. IfOk r P) (sym e) tt
+
+-- all clients
+pub all_ran : {X E : Type 0} (fault : Result X E) (u : X) (count total : ℕ) (old new : World) (ends : List ClientEnd)
+    → IfOk fault (λ u. AreRun count old new ends) → fault ≡ Ok u → count ≡ total → AreRun total old new ends
+all_ran fault u count total old new ends a f e =
+    subst (λ n. AreRun n old new ends) e (subst (λ r. IfOk r (λ u. AreRun count old new ends)) f a)

@@ -1,6 +1,6 @@
 use Rattle.std.proofs.Common.{[], refl, sym, ◌∙◌, ◌∷◌}
 use Rattle.run_model.specs.declared.step.Step.TheVariants.{Top}
-use Rattle.activities.proofs.Clients.{body_given, not_ran, opened_commits, opened_goes, opened_is_open, opened_ran, top_begins_one, top_opens, top_refused}
+use Rattle.activities.proofs.Clients.{body_given, client_ran, goes_on_err, not_ran, opened_commits, opened_goes, opened_is_open, top_begins_one, top_opens, top_refused}
 use Rattle.activities.proofs.Going.{step_commits_by}
 use Rattle.activities.proofs.serial.run_client.Goals as goal
 
@@ -15,7 +15,7 @@ returns-in_default c = record {
       not_ran c.args.world.now c.step.new.self _ c.requires.run
       (c.in_ok-names.ensures.after
       ∙ top_refused c.args.world.now c.args.client.now.home c.in_ok-names.field-0 c.in_ok-names.ensures.answer
-        (λ names. c.in_default.not-Began names))
+      (λ names. c.in_default.not-Began names))
       refl refl refl;
   commits = λ a h.
       step_commits_by c.args.world.now c.step.new.self (Top c.args.client.now.home) c.step.result c.step.ensures.after c.step.ensures.err a h
@@ -35,18 +35,18 @@ run-ended-requires-clause-open c =
     c.new-top.result.name c.requires.run c.in_ok-names.ensures.answer c.in_ok-names.ensures.after c.in-Began.is c.only.ensures
     c.new-top.ensures.name)
 
-pub returns-in_err-value-clause-commits : goal.returns-in_err-value-clause-commits
-returns-in_err-value-clause-commits c =
+pub returns-in_err-flow-clause-commits : goal.returns-in_err-flow-clause-commits
+returns-in_err-flow-clause-commits c =
     opened_commits c.args.world.now c.step.new.self c.run-ended.new.world c.new-top.result.name
     (top_opens c.args.world.now c.step.new.self c.args.client.now.home c.in_ok-names.field-0 c.in-Began.names c.only.result
     c.new-top.result.name c.requires.run c.in_ok-names.ensures.answer c.in_ok-names.ensures.after c.in-Began.is c.only.ensures
     c.new-top.ensures.name)
     c.run-ended.ensures.goes_on c.run-ended.ensures.others
 
-pub returns-in_err-value-clause-err : goal.returns-in_err-value-clause-err
-returns-in_err-value-clause-err c =
-    (c.new-top.result.name ∷ [],
-    opened_goes c.args.world.now c.step.new.self c.run-ended.new.world c.new-top.result.name
+pub returns-in_err-flow-clause-err : goal.returns-in_err-flow-clause-err
+returns-in_err-flow-clause-err c =
+    goes_on_err _ c.args.world.now c.run-ended.new.world (c.new-top.result.name ∷ [])
+    (opened_goes c.args.world.now c.step.new.self c.run-ended.new.world c.new-top.result.name
     (top_opens c.args.world.now c.step.new.self c.args.client.now.home c.in_ok-names.field-0 c.in-Began.names c.only.result
     c.new-top.result.name c.requires.run c.in_ok-names.ensures.answer c.in_ok-names.ensures.after c.in-Began.is c.only.ensures
     c.new-top.ensures.name)
@@ -62,4 +62,10 @@ returns-clause-commits c =
 
 pub returns-clause-ok : goal.returns-clause-ok
 returns-clause-ok c =
-    let t = c.run-ended.ensures in let n = c.has_committed-committed.ensures in let m = c.in_ok-value.ensures in let w = c.in_ok-value.was in ?
+    client_ran c.args.world.now c.step.new.self c.run-ended.new.world c.new-top.result.name c.run-ended.new.action.name c.run-ended.result
+    c.in_ok-flow.flow _
+    (top_opens c.args.world.now c.step.new.self c.args.client.now.home c.in_ok-names.field-0 c.in-Began.names c.only.result
+    c.new-top.result.name c.requires.run c.in_ok-names.ensures.answer c.in_ok-names.ensures.after c.in-Began.is c.only.ensures
+    c.new-top.ensures.name)
+    c.run-ended.ensures.goes_on c.run-ended.ensures.ends c.run-ended.ensures.ended c.run-ended.ensures.told c.in_ok-flow.was
+    c.run-ended.ensures.name refl c.has_committed-committed.ensures c.returned.ensures
