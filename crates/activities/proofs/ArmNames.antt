@@ -4,7 +4,7 @@ use Rattle.std.proofs.lemmas.Bool.{false_from_ne_true, or_from, or_parts}
 use Rattle.std.proofs.lemmas.List.{reverse-append, reverse-reverse}
 use Rattle.action_names.specs.Names.{Name, child_of, has_name, last_of, parent_of, same_name}
 use Rattle.run_model.specs.declared.answer.Answer.{Answer}
-use Rattle.run_model.specs.declared.answer.Answer.TheVariants.{Began, Refused}
+use Rattle.run_model.specs.declared.answer.Answer.TheVariants.{Began}
 use Rattle.run_model.specs.declared.answer.Refusal.{Refusal}
 use Rattle.run_model.specs.declared.history.Event.{Event}
 use Rattle.run_model.specs.declared.step.ArmKind.{ArmKind}
