@@ -1,3 +1,5 @@
+pub mod ArmNames
+pub mod Clients
 pub mod Ending
 pub mod Following
 pub mod Going

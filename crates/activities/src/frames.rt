@@ -1,4 +1,4 @@
-ghost use Rattle.std.specs.Prelude.{◌≡◌, [], length, take, IsTrue, IfOk, IfSome, OnOk};
+ghost use Rattle.std.specs.Prelude.{◌≡◌, [], false, length, take, IsTrue, IfOk, IfSome, OnOk};
 ghost use Rattle.std.specs.List.{list_all};
 ghost use Rattle.script_model.specs.Resolved.{int_is_bound, text_is_bound, expr_is_bound, condition_is_bound, operation_is_bound, binding_is_bound, is_place, grown, frames_after};
 ghost use Rattle.activities.specs.Bodies.{sizes};
@@ -186,6 +186,7 @@ impl Frames {
     pub(crate) fn bind(&mut self, binding: Binding, reply: Reply) -> Result<bool, AllocError>
         requires { IsTrue (binding_is_bound (sizes self.old) binding) }
         ensures bound { IfOk result (λ fits. IsTrue fits → sizes self.new ≡ frames_after (sizes self.old) binding) }
+        ensures kept { IfOk result (λ fits. fits ≡ false → sizes self.new ≡ sizes self.old) }
     {
         match (binding, reply) {
             (Binding::Nothing, Reply::Done) => (),

@@ -1,9 +1,9 @@
-ghost use Rattle.std.specs.Prelude.{List, length, IfOk, IsTrue, OnErr};
+ghost use Rattle.std.specs.Prelude.{◌≡◌, false, None, List, length, IfOk, IsTrue, OnErr};
 ghost use Rattle.script_model.specs.Resolved.{IsResolved, is_resolved_client};
 ghost use Rattle.action_names.specs.Names.{Name};
 ghost use Rattle.run_model.specs.Runs.{IsRun};
 ghost use Rattle.activities.specs.Continuing.{CommitsNone, EndsAll, GoesOn};
-ghost use Rattle.activities.specs.Ends.{AreRun, ClientRan};
+ghost use Rattle.activities.specs.Ends.{AreRun, ClientRan, commits};
 
 use crate::activity::{Activity, has_committed};
 use crate::client::ClientEnd;
@@ -13,6 +13,7 @@ use crate::open_action::{OpenAction, Reached, only};
 use run_model::{Answer, Step};
 use script_model::{Checked, Client};
 use std::alloc::{AllocError, Global};
+use values::Value;
 use world::World;
 
 /// Runs the clients of a script one after another, each to its end, and gives how they ended, in their order. The arms of a `coenter` are
@@ -29,13 +30,15 @@ pub fn run_serial(
     ensures ok { IfOk result (λ ends. AreRun (length script.now.clients) world.old world.new ends.items) }
     ensures err { OnErr result ((tops : List Name) × GoesOn world.old world.new tops) }
 {
+    // so that what happened before is known to be a run
+    let _ = world.history();
     let clients = script.clients.as_slice();
     let mut ends = Vec::with_capacity(alloc, clients.len())?;
     let mut fault = Ok(());
     for client in clients {
         match run_client(alloc, world, script, client) {
             Ok(end) => ends.push(end)?,
-            Err(error) => fault = fault.and(Err(error)),
+            Err(error) => fault = Err(error),
         }
     }
     fault?;
@@ -68,13 +71,20 @@ fn run_client(
     let body = client.body.as_slice();
     let ended = Activity::new(alloc, script).run(world, &mut top, &mut frames, body);
     let committed = has_committed(&ended);
-    let value = match ended? {
-        Flow::Returned(value) => value,
-        _ => None,
-    };
+    let flow = ended?;
     Ok(ClientEnd {
         top: Some(top.name),
         committed,
-        value,
+        value: returned(flow),
     })
+}
+
+/// The value that a body returned, if it returned one.
+fn returned(flow: Flow) -> Option<Value>
+    ensures { commits flow ≡ false → result ≡ None }
+{
+    match flow {
+        Flow::Returned(value) => value,
+        _ => None,
+    }
 }
