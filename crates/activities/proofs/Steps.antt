@@ -1,5 +1,5 @@
 -- What single steps leave of a world: what they begin, what they end, and what they commit.
-use Rattle.std.proofs.Common.{ℕ, ◌⊎◌, ◌≢◌, Bool, Err, IfOk, IsTrue, List, None, Ok, OnErr, OnOk, Option, Result, Some, [], ap, cond, false, inl, inr, length, not, refl, subst, sym, true, ◌++◌, ◌∙◌, ◌∷◌, ◌≡◌}
+use Rattle.std.proofs.Common.{ℕ, ◌⊎◌, Bool, Err, IfOk, IsTrue, List, None, Ok, OnErr, OnOk, Option, Result, Some, [], ap, cond, false, inl, inr, length, not, refl, subst, sym, true, ◌++◌, ◌∙◌, ◌∷◌, ◌≡◌}
 use Rattle.std.proofs.lemmas.Bool.{false_from_ne_true, false≢true, or_cases, or_left, or_right}
 use Rattle.action_names.specs.Names.{Name, has_name}
 use Rattle.atomic_types.specs.declared.op.Op as op
@@ -18,11 +18,12 @@ use Rattle.run_model.specs.Refusals.{checks, first_refusal}
 use Rattle.run_model.specs.Replay.{Setup}
 use Rattle.run_model.specs.Runs.{IsRun, World, history_after, is_accepted, world_after}
 use Rattle.run_model.specs.Votes.{may_prepare}
-use Rattle.run_laws.proofs.Begun.{begun_cases, begun_more, begun_once}
+use Rattle.run_laws.proofs.Begun.{begun_cases, begun_once}
 use Rattle.run_laws.proofs.Ended.{commits_begun, committed_begun}
 use Rattle.run_laws.proofs.Names.{clash, has_name_append, same_name_self}
 use Rattle.run_laws.proofs.Runs.{run_more}
-use Rattle.activities.specs.Continuing.{EndsAll, HaveBegun, IsNoTop, IsOpen}
+use Rattle.activities.specs.Continuing.{EndsAll, HaveBegun, IsNoTop}
+use Rattle.activities.specs.Reaching.{is_made}
 
 -- ---- what a step begins
 
@@ -148,6 +149,15 @@ abort_ends old a b = go (is_begun a old.past) (is_ended a old.past) b refl
     go true false p q = or_right _ _ (or_left _ _ (same_name_self a))
     go false y p q = absurd (false≢true p)
 
+-- the same of a result
+pub abort_result_ends : {E : Type 0} (old new : World) (step : Step) (result : Result Answer E)
+    → IfOk result (λ answer. answer ≡ answer_of old.setup step old.past) → IfOk result (λ answer. new ≡ world_after old step answer)
+    → OnOk result ((a : Name) → step ≡ Abort a → IsTrue (is_begun a old.past) → IsTrue (is_ended a new.past))
+abort_result_ends old new step (Ok answer) e w = λ a s b.
+    ap (λ v. is_ended a v.past) (w ∙ ap (λ x. world_after old step x) e ∙ ap (λ x. world_after old x (answer_of old.setup x old.past)) s)
+    ∙ abort_ends old a b
+abort_result_ends old new step (Err fault) e w = tt
+
 -- ---- what a step commits
 
 -- a step that commits is answered `Done` or refused
@@ -166,17 +176,25 @@ commit_answers setup step past a h = go (first_refusal (checks setup step past))
     go None = inl (of step h)
 
 -- whether it was done is whether the action has committed then
-pub commit_told : (old : World) (step : Step) (answer : Answer) (a : Name) (done : Bool) → answer ≡ answer_of old.setup step old.past
-    → step_commits step a ≡ true → is_committed a old.past ≡ false → (done ≡ true → is_accepted answer ≡ true)
-    → (done ≡ false → (n : ℕ) → answer ≢ Done n) → done ≡ is_committed a (world_after old step answer).past
-commit_told old step answer a done e h u y n = go done (is_accepted answer) refl refl
+pub commit_told : (old new : World) (step : Step) (a : Name) (done : Bool) → new ≡ world_after old step (answer_of old.setup step old.past)
+    → done ≡ is_made (answer_of old.setup step old.past) → step_commits step a ≡ true → is_committed a old.past ≡ false
+    → done ≡ is_committed a new.past
+commit_told old new step a done w d h u =
+    d ∙ go (answer_of old.setup step old.past) (commit_answers old.setup step old.past a h) ∙ ap (λ v. is_committed a v.past) (sym w)
   where
-    go : (d t : Bool) → done ≡ d → is_accepted answer ≡ t
-        → d ≡ is_committed a (cond t (record { step = step; answer = answer } ∷ old.past) old.past)
-    go true true p q = sym (or_left _ _ h)
-    go true false p q = absurd (clash (y p) q)
-    go false false p q = sym u
-    go false true p q = elim (commit_answers old.setup step old.past a h) [
-      | inl d ↦ absurd (n p 0 (e ∙ d))
-      | inr r ↦ absurd (clash q (ap is_accepted e ∙ r))
-    ]
+    go : (answer : Answer) → (answer ≡ Done 0) ⊎ (is_accepted answer ≡ false) → is_made answer ≡ is_committed a (world_after old step answer).past
+    go (Done n) r = sym (or_left _ _ h)
+    go (Refused n) r = sym u
+    go (Waits names) r = sym u
+    go (Began names) r = elim r [ inl e ↦ cc | inr e ↦ cc ]
+    go (Granted reply) r = elim r [ inl e ↦ cc | inr e ↦ cc ]
+    go VoteYes r = elim r [ inl e ↦ cc | inr e ↦ cc ]
+    go VoteNo r = elim r [ inl e ↦ cc | inr e ↦ cc ]
+
+-- the same where memory may have run out
+pub commit_result_told : {E : Type 0} (old new : World) (step : Step) (a : Name) (result : Result Bool E)
+    → OnOk result (new ≡ world_after old step (answer_of old.setup step old.past))
+    → IfOk result (λ done. done ≡ is_made (answer_of old.setup step old.past)) → step_commits step a ≡ true → is_committed a old.past ≡ false
+    → IfOk result (λ done. done ≡ is_committed a new.past)
+commit_result_told old new step a (Ok done) w d h u = commit_told old new step a done w d h u
+commit_result_told old new step a (Err fault) w d h u = tt
