@@ -1,16 +1,21 @@
 -- How clients end, and what their actions leave of a world.
-use Rattle.std.specs.Prelude.{◌≡◌, ℕ, Bool, true, false, List, [], ◌∷◌, length, Option, Some, None, Result, Ok, Err, filter_map}
+use Rattle.std.specs.Prelude.{◌≡◌, ℕ, Bool, true, false, List, [], ◌∷◌, Option, Some, None, Result, Ok, Err, filter_map}
 use Rattle.std.specs.List.{AllByRecursion}
 use Rattle.action_names.specs.Names.{Name}
+use Rattle.run_model.specs.declared.answer.Answer.TheVariants as answer
+use Rattle.run_model.specs.declared.answer.Refusal.{Refusal}
 use Rattle.run_model.specs.declared.history.Event.{Event}
+use Rattle.run_model.specs.declared.step.Step.TheVariants.{Top}
 use Rattle.run_model.specs.Actions.{is_committed}
+use Rattle.run_model.specs.Answers.{answer_of}
 use Rattle.run_model.specs.Runs.{World}
+use Rattle.script_model.specs.declared.checked.Client.{Client}
 use Rattle.activities.specs.declared.client.ClientEnd.{ClientEnd}
 use Rattle.activities.specs.declared.flow.Flow.{Flow}
 use Rattle.activities.specs.declared.flow.Flow.TheVariants.{Ended, Returned}
 use Rattle.activities.specs.declared.open_action.Called.{Called}
 use Rattle.activities.specs.declared.open_action.Called.TheVariants.{Began}
-use Rattle.activities.specs.Continuing.{GoesOn, EndsAll}
+use Rattle.activities.specs.Continuing.{CommitsNone, GoesOn, EndsAll, HaveBegun}
 
 -- the top actions that ends name
 abbrev pub named : List ClientEnd → List Name
@@ -25,13 +30,6 @@ is_told (Some a) committed past = committed ≡ is_committed a past
 pub record IsEnd (past : List Event) (end : ClientEnd) : Type 0 where
   pub told : is_told end.top end.committed past
   pub value : end.committed ≡ false → end.value ≡ None
-
--- clients, so many, were run: their ends name, in order, exactly the actions that `top` steps began
-pub record AreRun (count : ℕ) (old new : World) (ends : List ClientEnd) : Type 0 where
-  pub each : length ends ≡ count
-  pub goes_on : GoesOn old new (named ends)
-  pub told : AllByRecursion (IsEnd new.past) ends
-  pub ended : EndsAll old new
 
 -- an action that ended so has committed
 abbrev pub commits : Flow → Bool
@@ -54,8 +52,35 @@ abbrev pub named_by : Option Name → List Name
 named_by None = []
 named_by (Some a) = a ∷ []
 
--- a client was run: its end names exactly the action that a `top` step began
-pub record ClientRan (old new : World) (end : ClientEnd) : Type 0 where
+-- the `top` step at this guardian began the action, or was refused
+abbrev pub IsTopAt : ℕ → World → Option Name → Type 0
+IsTopAt home w None = (why : Refusal) × (answer_of w.setup (Top home) w.past ≡ answer.Refused why)
+IsTopAt home w (Some a) = answer_of w.setup (Top home) w.past ≡ answer.Began (a ∷ [])
+
+-- that step was made, and nothing else
+pub record TopMade (home : ℕ) (old new : World) (found : Option Name) : Type 0 where
+  pub top : IsTopAt home old found
+  pub goes_on : GoesOn old new (named_by found)
+  pub commits : CommitsNone old new
+  pub began : HaveBegun (named_by found) old new
+
+-- a client of this home was run: its end names exactly the action that a `top` step began
+pub record ClientRan (home : ℕ) (old new : World) (end : ClientEnd) : Type 0 where
+  pub began : IsTopAt home old end.top
   pub goes_on : GoesOn old new (named_by end.top)
   pub is_end : IsEnd new.past end
+  pub ended : EndsAll old new
+
+-- clients were run one after another, each from where the one before it had ended
+abbrev pub RanInTurn : List Client → World → World → List ClientEnd → Type 0
+RanInTurn [] old new ends = (ends ≡ []) × (new ≡ old)
+RanInTurn (client ∷ clients) old new [] = ⊥
+RanInTurn (client ∷ clients) old new (end ∷ ends) =
+    (next : World) × ClientRan client.home old next end × RanInTurn clients next new ends
+
+-- these clients were run: their ends name, in order, exactly the actions that `top` steps began
+pub record AreRun (clients : List Client) (old new : World) (ends : List ClientEnd) : Type 0 where
+  pub in_turn : RanInTurn clients old new ends
+  pub goes_on : GoesOn old new (named ends)
+  pub told : AllByRecursion (IsEnd new.past) ends
   pub ended : EndsAll old new

@@ -1,15 +1,16 @@
 ghost use Rattle.std.specs.Prelude.{◌≡◌, false, None, List, length, IfOk, IsTrue, OnErr};
 ghost use Rattle.script_model.specs.Resolved.{IsResolved, is_resolved_client};
-ghost use Rattle.action_names.specs.Names.{Name};
+ghost use Rattle.action_names.specs.Names as names;
 ghost use Rattle.run_model.specs.Runs.{IsRun};
 ghost use Rattle.activities.specs.Continuing.{CommitsNone, EndsAll, GoesOn};
-ghost use Rattle.activities.specs.Ends.{AreRun, ClientRan, commits};
+ghost use Rattle.activities.specs.Ends.{AreRun, ClientRan, TopMade, commits};
 
 use crate::activity::{Activity, has_committed};
 use crate::client::ClientEnd;
 use crate::flow::Flow;
 use crate::frames::Frames;
 use crate::open_action::{OpenAction, Reached, only};
+use action_names::Name;
 use run_model::{Answer, Step};
 use script_model::{Checked, Client};
 use std::alloc::{AllocError, Global};
@@ -27,8 +28,8 @@ pub fn run_serial(
     script: &Checked,
 ) -> Result<Vec<ClientEnd>, AllocError>
     requires { IsResolved script.now }
-    ensures ok { IfOk result (λ ends. AreRun (length script.now.clients) world.old world.new ends.items) }
-    ensures err { OnErr result ((tops : List Name) × GoesOn world.old world.new tops) }
+    ensures ok { IfOk result (λ ends. AreRun script.now.clients world.old world.new ends.items) }
+    ensures err { OnErr result ((tops : List names.Name) × GoesOn world.old world.new tops) }
 {
     // so that what happened before is known to be a run
     let _ = world.history();
@@ -54,19 +55,19 @@ fn run_client(
     requires script { IsResolved script.now }
     requires client { IsTrue (is_resolved_client script.now client.now) }
     requires run { IsRun world.old.setup world.old.past }
-    ensures ok { IfOk result (λ end. ClientRan world.old world.new end) }
+    ensures ok { IfOk result (λ end. ClientRan client.now.home world.old world.new end) }
     ensures commits { CommitsNone world.old world.new }
-    ensures err { OnErr result ((tops : List Name) × GoesOn world.old world.new tops) }
+    ensures err { OnErr result ((tops : List names.Name) × GoesOn world.old world.new tops) }
 {
     let reached = Reached::new(alloc, client.home)?;
-    let Answer::Began(names) = world.step(&Step::Top(client.home))? else {
+    let Some(name) = begin_top(world, client.home)? else {
         return Ok(ClientEnd {
             top: None,
             committed: false,
             value: None,
         });
     };
-    let mut top = OpenAction::new(only(names), client.home, reached);
+    let mut top = OpenAction::new(name, client.home, reached);
     let mut frames = Frames::new(alloc);
     let body = client.body.as_slice();
     let ended = Activity::new(alloc, script).run(world, &mut top, &mut frames, body);
@@ -77,6 +78,18 @@ fn run_client(
         committed,
         value: returned(flow),
     })
+}
+
+/// Begins a top action at a guardian; none where that is refused.
+fn begin_top(world: &mut World, home: u32) -> Result<Option<Name>, AllocError>
+    requires { IsRun world.old.setup world.old.past }
+    ensures made { IfOk result (λ found. TopMade home world.old world.new found) }
+    ensures err { OnErr result (world.new ≡ world.old) }
+{
+    match world.step(&Step::Top(home))? {
+        Answer::Began(names) => Ok(Some(only(names))),
+        _ => Ok(None),
+    }
 }
 
 /// The value that a body returned, if it returned one.

@@ -1,4 +1,4 @@
-use Rattle.std.proofs.Common.{IfOk, List}
+use Rattle.std.proofs.Common.{IfOk, List, take}
 use Rattle.action_names.specs.Names.{Name}
 use Rattle.activities.specs.Continuing.{GoesOn}
 use Rattle.activities.specs.Ends.{AreRun}
@@ -7,5 +7,5 @@ use Rattle.activities.proofs.serial.run_serial.Given as goal
 abbrev pub invariant-loop-client : goal.invariant-loop-client
 invariant-loop-client l = record {
   goes_on : (tops : List Name) × GoesOn l.fn.world l.world tops;
-  ran : IfOk l.fault (λ u. AreRun l.client-index l.fn.world l.world l.ends.items);
+  ran : IfOk l.fault (λ u. AreRun (take l.client-index l.clients) l.fn.world l.world l.ends.items);
 }
