@@ -206,6 +206,21 @@ fn disk(alloc: Global, bytes: &[u8]) -> io::Result<Memory> {
     Ok(disk)
 }
 
+/// The error with which these files are refused, and what is left of them.
+fn refusal(
+    alloc: Global,
+    files: Files<Memory>,
+    options: Options,
+) -> Result<(Error, Files<Memory>), Fail> {
+    if !files.may_be_used() {
+        Err("a disk in memory may be used")?
+    }
+    let (error, left) = Connection::open_files(alloc, files, options)
+        .err()
+        .ok_or("opened")?;
+    Ok((error, left.into_files()))
+}
+
 #[test]
 fn a_file_that_is_no_database_is_refused_when_it_is_opened(rt: HostRuntime) -> Result<(), Fail> {
     let alloc = rt.alloc();
@@ -221,17 +236,13 @@ fn a_file_that_is_no_database_is_refused_when_it_is_opened(rt: HostRuntime) -> R
         checkpoint_frames: 1,
         seed: 1,
     };
-    let mut refused = Connection::open_files(alloc, files, options)
-        .err()
-        .ok_or("opened")?;
+    let mut refused = refusal(alloc, files, options)?;
     if let (Error::SqliteFailure(ErrorCode::OutOfMemory), left) = refused {
         note_refusal(&rt);
-        refused = Connection::open_files(alloc, left.into_files(), options)
-            .err()
-            .ok_or("opened")?;
+        refused = refusal(alloc, left, options)?;
     }
     let (error, left) = refused;
     assert!(&rt; matches!(error, Error::SqliteFailure(ErrorCode::NotADatabase)));
-    assert!(&rt; left.into_files().db.bytes() == text.as_slice());
+    assert!(&rt; left.db.bytes() == text.as_slice());
     Ok(())
 }
