@@ -95,11 +95,7 @@ impl<A: Alter + Drop> SqlStable<A> {
     /// Makes these contents those of their objects, and leaves nothing decided, in one transaction. The prepared actions
     /// and the count stay, and objects with no content here keep theirs. Errors come and are counted as with the calls
     /// of `Stable`, and then the content is what it was.
-    pub fn save(
-        &mut self,
-        alloc: Global,
-        base: BTreeMap<u32, Content>,
-    ) -> Result<(), StoreFault>
+    pub fn save(&mut self, alloc: Global, base: BTreeMap<u32, Content>) -> Result<(), StoreFault>
         ensures { Makes (view.content A.Store) (view.failures A.Store) (view.is_honest A.Store) (view.is_up A.Store) (view.may_leave A.Store)
             self.old self.new (Unit {0}) (after_save base.entries (view.content A.Store self.old)) result }
     {
