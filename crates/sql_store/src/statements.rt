@@ -12,7 +12,8 @@ ghost use Rattle.sqlite.specs.Held.{state};
 ghost use Rattle.values.specs.declared.content.Content.{Content as Spec};
 ghost use Rattle.stable_store.specs.Stored.{Stored, laid, after_prepare, after_discard, after_decide, greatest_count};
 ghost use Rattle.sql_store.specs.Tables.{stable_schema};
-ghost use Rattle.sql_store.specs.Calls.{Stands, Carries, Sees, Stays, Steps, with_count, with_base, with_none_decided, after_put, after_save};
+ghost use Rattle.sql_store.specs.Calls.{Stands, Carries, Sees, Stays, Steps};
+ghost use Rattle.sql_store.specs.Calls.{with_count, with_base, with_none_decided, after_put, after_save};
 ghost use Rattle.sql_store.specs.Rows.{HasRowids};
 ghost use Rattle.sql_store.specs.Reading.{HoldsCount, IsEmptyStore, Looks, RunsInside};
 

@@ -2,10 +2,9 @@
 
 ghost use Rattle.std.specs.Prelude.{◌≡◌, ◌⊎◌, ℕ, ◌+◌, IfOk, IfErr, IfSome, IsTrue};
 ghost use Rattle.sqlite.specs.Held.{state};
-ghost use Rattle.sqlite.specs.State.{HasCleanDisk};
 ghost use Rattle.stable_store.specs.Calls.{IsExcused, Makes, Rests};
 ghost use Rattle.stable_store.specs.Held.{held};
-ghost use Rattle.sql_store.specs.Calls.{MayLeave, Stands, after_save};
+ghost use Rattle.sql_store.specs.Calls.{Stands, after_save};
 ghost use Rattle.sql_store.specs.Views as view;
 ghost use Rattle.sql_store.specs.Reading.{IsAlone};
 
@@ -60,9 +59,8 @@ impl<A: Alter + Drop> SqlStable<A> {
         alloc: Global,
         conn: Connection<A>,
     ) -> Result<SqlStable<A>, (StoreFault, Connection<A>)>
-        ensures failures { IfOk result (λ s. s.1.1.0 ≡ 0) }
-        ensures rests { IfOk result (λ s. Rests (λ t. held t.0) (λ t. HasCleanDisk (state A.Store t.1.0) × IsTrue t.1.1.1.0)
-            (λ t. IsTrue (state A.Store t.1.0).is_open × IsTrue t.1.1.1.1) (λ t. MayLeave (state A.Store t.1.0)) s) }
+        ensures failures { IfOk result (λ s. view.failures A.Store s ≡ 0) }
+        ensures rests { IfOk result (λ s. Rests (view.content A.Store) (view.is_honest A.Store) (view.is_up A.Store) (view.may_leave A.Store) s) }
     {
         let mut conn = conn;
         one_spelling();
@@ -95,13 +93,9 @@ impl<A: Alter + Drop> SqlStable<A> {
     /// Makes these contents those of their objects, and leaves nothing decided, in one transaction. The prepared actions
     /// and the count stay, and objects with no content here keep theirs. Errors come and are counted as with the calls
     /// of `Stable`, and then the content is what it was.
-    pub fn save(
-        &mut self,
-        alloc: Global,
-        base: BTreeMap<u32, Content>,
-    ) -> Result<(), StoreFault>
-        ensures { Makes (view.content A.Store) (view.failures A.Store) (view.is_honest A.Store) (view.is_up A.Store) (view.may_leave A.Store)
-            self.old self.new (Unit {0}) (after_save base.entries (view.content A.Store self.old)) result }
+    pub fn save(&mut self, alloc: Global, base: BTreeMap<u32, Content>) -> Result<(), StoreFault>
+        ensures { Makes (view.content A.Store) (view.failures A.Store) (view.is_honest A.Store) (view.is_up A.Store)
+            (view.may_leave A.Store) self.old self.new (Unit {0}) (after_save base.entries (view.content A.Store self.old)) result }
     {
         if !self.holds_content {
             return Err(counted(&mut self.failures, StoreFault::NotOurs));
