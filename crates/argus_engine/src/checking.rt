@@ -29,20 +29,16 @@ fn judgement(alloc: Global, bytes: &[u8]) -> Result<(Ended, String), AllocError>
 {
     match checked(alloc, bytes) {
         Ok(_) => Ok((Ended::Done, String::from_str(alloc, "ok\n")?)),
-        Err(fault) => Ok((Ended::Stopped, fault_line(alloc, fault)?)),
-    }
-}
-
-/// The line of a fault.
-pub(crate) fn fault_line(alloc: Global, fault: ScriptFault) -> Result<String, AllocError> {
-    match fault {
-        ScriptFault::Bad(why, place) => format!(in alloc; "fault {why} {place}\n"),
-        ScriptFault::Memory => Err(AllocError),
+        Err(ScriptFault::Bad(why, place)) => {
+            let line = format!(in alloc; "fault {why} {place}\n")?;
+            Ok((Ended::Stopped, line))
+        }
+        Err(ScriptFault::Memory) => Err(AllocError),
     }
 }
 
 /// The script that the bytes are, or their first fault.
-pub(crate) fn checked(alloc: Global, bytes: &[u8]) -> Result<Checked, ScriptFault>
+fn checked(alloc: Global, bytes: &[u8]) -> Result<Checked, ScriptFault>
     ensures script { IfOk result (λ _. IsScript bytes.now) }
     ensures fault { IfErr result (IsFaultOf bytes.now) }
 {

@@ -9,10 +9,8 @@ mod checking;
 mod engine;
 mod explaining;
 mod reading;
-mod running;
 mod writing;
 
 pub use checking::check_script;
 pub use engine::{Ended, Fault, steps};
 pub use explaining::explain_text;
-pub use running::run_script;

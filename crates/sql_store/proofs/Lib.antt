@@ -17,7 +17,6 @@ mod Made
 mod Known
 mod Cascade
 mod Discards
-mod Forgets
 mod Removed
 mod Recorded
 mod Inside

@@ -13,10 +13,7 @@ pub(crate) const B: &str = r#"{"record":{"b":"two"}}"#;
 pub(crate) const C: &str = r#"{"array":{"items":[3],"low":0,"of":"int"}}"#;
 
 /// Contents by object number, from their spellings.
-pub(crate) fn contents(
-    alloc: Global,
-    spelled: &[(u32, &str)],
-) -> Result<BTreeMap<u32, Content>, ValueFault> {
+fn contents(alloc: Global, spelled: &[(u32, &str)]) -> Result<BTreeMap<u32, Content>, ValueFault> {
     let mut contents = BTreeMap::new(alloc);
     for (object, spelling) in spelled {
         let content = Content::from_stored_spelling(alloc, spelling)?;

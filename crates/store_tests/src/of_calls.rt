@@ -1,5 +1,5 @@
 //! Tests of the calls of a store in SQL tables. Where memory is refused a test says so, and asks again.
-use crate::contents::{A, B, C, contents, loaded, prepare};
+use crate::contents::{A, B, C, loaded, prepare};
 use refusals::{again, note_refusal};
 use sql_store::SqlStable;
 use sqlite::{Alter, Connection, Error, ErrorCode, Files, MemStore, Options};
@@ -245,34 +245,4 @@ fn a_file_that_is_no_database_is_refused_when_it_is_opened(rt: HostRuntime) -> R
     assert!(&rt; matches!(error, Error::SqliteFailure(ErrorCode::NotADatabase)));
     assert!(&rt; left.db.bytes() == text.as_slice());
     Ok(())
-}
-
-/// Saves contents of these spellings. `Memory` also where that is wanted for making them.
-fn save<A: Alter + Drop>(
-    alloc: Global,
-    store: &mut SqlStable<A>,
-    spelled: &[(u32, &str)],
-) -> Result<(), StoreFault> {
-    match contents(alloc, spelled) {
-        Ok(contents) => store.save(alloc, contents),
-        Err(_) => Err(StoreFault::Memory),
-    }
-}
-
-#[test]
-fn a_save_lays_contents_and_leaves_nothing_decided(rt: HostRuntime) -> Result<(), Fail> {
-    let alloc = rt.alloc();
-    let mut store = opened(&rt, again!(&rt; in_memory(alloc, ""))?)?;
-    again!(&rt; prepare(alloc, &mut store, 7, 4, &[(3, B), (2, A)]))?;
-    again!(&rt; prepare(alloc, &mut store, 8, 1, &[(1, C)]))?;
-    again!(&rt; store.decide(7))?;
-    again!(&rt; store.decide(9))?;
-    again!(&rt; store.install(alloc, 7))?;
-    again!(&rt; store.bump())?;
-    again!(&rt; save(alloc, &mut store, &[(3, A), (5, B)]))?;
-    let after =
-        r#"count 1 2={"record":{"a":1}} 3={"record":{"a":1}} 5={"record":{"b":"two"}} [8@1: 1={"array":{"items":[3],"low":0,"of":"int"}}]"#;
-    contains(&rt, &mut store, after, 0)?;
-    let mut store = opened(&rt, store.into_connection())?;
-    contains(&rt, &mut store, after, 0)
 }

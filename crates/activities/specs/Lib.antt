@@ -1,4 +1,0 @@
-pub mod Continuing
-pub mod Ends
-pub mod Bodies
-pub mod Reaching
