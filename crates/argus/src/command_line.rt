@@ -1,14 +1,15 @@
 //! The command line, as clap reads it.
 
-ghost use Rattle.std.specs.Prelude.{◌≡◌, false, codes, map, IfOk, IfErr, IfSome, IsNone};
+ghost use Rattle.std.specs.Prelude.{◌≡◌, false, map, IfOk, IfErr, IfSome, IsNone};
 ghost use Rattle.clap.specs.Words.{app_of, found_of, rows_of, rule_of, subcommand_rows_of};
 ghost use Rattle.argus.specs.declared.request.Command.{Command};
 ghost use Rattle.argus.specs.declared.request.Check.{Check};
+ghost use Rattle.argus.specs.declared.request.Run.{Run};
 ghost use Rattle.argus.specs.declared.request.Steps.{Steps};
-ghost use Rattle.argus.specs.Words.{AreGiven, IsCommand, IsFault, IsFound, IsGiven, argus_app, check_app, needed, optional, steps_app};
+ghost use Rattle.argus.specs.Words.{IsCheckGiven, IsCommand, IsFault, IsFlag, IsFound, IsRunGiven, IsStepsGiven, argus_app, check_app, flag, needed, optional, run_app, steps_app};
 
 use crate::request::{self, CommandFault};
-use clap::{Arg, ArgMatches};
+use clap::{Arg, ArgAction, ArgMatches};
 use std::alloc::{AllocError, Global};
 
 /// The command that the words are, without the program's own name. `Said` comes where clap refuses the words, shows help or
@@ -38,14 +39,15 @@ fn taken<'a>(matches: &ArgMatches<'a>) -> Option<request::Command<'a>>
     match matches.subcommand() {
         Some(("steps", found)) => Some(request::Command::Steps(steps_given(found)?)),
         Some(("check", found)) => Some(request::Command::Check(check_given(found)?)),
+        Some(("run", found)) => Some(request::Command::Run(run_given(found)?)),
         _ => None,
     }
 }
 
 #[tactic(auto, using(crate::proofs::Finding::word_is, crate::proofs::Finding::no_word, crate::proofs::Finding::no_setup, crate::proofs::Finding::no_file))]
 fn steps_given<'a>(found: &ArgMatches<'a>) -> Option<request::Steps<'a>>
-    ensures found { IfSome result (AreGiven (rows_of (found_of found.now))) }
-    ensures none { IsNone result → (given : Steps) → AreGiven (rows_of (found_of found.now)) given → ⊥ }
+    ensures found { IfSome result (IsStepsGiven (rows_of (found_of found.now))) }
+    ensures none { IsNone result → (given : Steps) → IsStepsGiven (rows_of (found_of found.now)) given → ⊥ }
 {
     Some(request::Steps {
         setup: found.get_str("SETUP")?,
@@ -54,14 +56,33 @@ fn steps_given<'a>(found: &ArgMatches<'a>) -> Option<request::Steps<'a>>
     })
 }
 
-#[tactic(auto, using(crate::proofs::Finding::word_is, crate::proofs::Finding::no_word, crate::proofs::Finding::no_script))]
+#[tactic(auto, using(crate::proofs::Finding::word_is, crate::proofs::Finding::no_word, crate::proofs::Finding::no_script_to_check))]
 fn check_given<'a>(found: &ArgMatches<'a>) -> Option<request::Check<'a>>
-    ensures found { IfSome result (IsGiven (rows_of (found_of found.now))) }
-    ensures none { IsNone result → (given : Check) → IsGiven (rows_of (found_of found.now)) given → ⊥ }
+    ensures found { IfSome result (IsCheckGiven (rows_of (found_of found.now))) }
+    ensures none { IsNone result → (given : Check) → IsCheckGiven (rows_of (found_of found.now)) given → ⊥ }
 {
     Some(request::Check {
         script: found.get_str("SCRIPT")?,
     })
+}
+
+#[tactic(auto, using(crate::proofs::Finding::word_is, crate::proofs::Finding::no_word, crate::proofs::Finding::no_script_to_run))]
+fn run_given<'a>(found: &ArgMatches<'a>) -> Option<request::Run<'a>>
+    ensures found { IfSome result (IsRunGiven (rows_of (found_of found.now))) }
+    ensures none { IsNone result → (given : Run) → IsRunGiven (rows_of (found_of found.now)) given → ⊥ }
+{
+    Some(request::Run {
+        script: found.get_str("SCRIPT")?,
+        store: found.get_str("store"),
+        serial: is_set(found, "serial"),
+    })
+}
+
+/// Whether a flag is set, as `get_flag` gives it, whose contract says nothing of a value that is no `bool`.
+fn is_set(found: &ArgMatches<'_>, id: &str) -> bool
+    ensures { IsFlag id.now (rows_of (found_of found.now)) result }
+{
+    found.get_one(id).unwrap_or(false)
 }
 
 /// The command line of the program, for clap.
@@ -69,11 +90,14 @@ fn definition<'a>(alloc: Global) -> Result<clap::Command<'a>, AllocError>
     ensures { IfOk result (λ argus. app_of argus ≡ argus_app) }
 {
     let argus = clap::Command::new(alloc, "argus")
-        .about("Runs nested transactions of guardians, a step at a time")
+        .about("Runs nested transactions of guardians, and scripts of them")
         .no_binary_name(true)
         .arg_required_else_help(true)
         .subcommand_required(true);
-    argus.subcommand(steps(alloc)?)?.subcommand(check(alloc)?)
+    argus
+        .subcommand(steps(alloc)?)?
+        .subcommand(check(alloc)?)?
+        .subcommand(run(alloc)?)
 }
 
 fn steps<'a>(alloc: Global) -> Result<clap::Command<'a>, AllocError>
@@ -87,7 +111,12 @@ fn steps<'a>(alloc: Global) -> Result<clap::Command<'a>, AllocError>
             "The JSON document of the guardians and their objects",
         ))?
         .arg(needed(alloc, "FILE", "The steps, one a line; - is standard input"))?
-        .arg(explain_option(alloc))
+        .arg(optional(
+            alloc,
+            "explain",
+            "ACTION",
+            "Writes, after the answers, what the action sees, by place in the serial order",
+        ))
 }
 
 fn check<'a>(alloc: Global) -> Result<clap::Command<'a>, AllocError>
@@ -102,6 +131,31 @@ fn check<'a>(alloc: Global) -> Result<clap::Command<'a>, AllocError>
         ))
 }
 
+fn run<'a>(alloc: Global) -> Result<clap::Command<'a>, AllocError>
+    ensures { IfOk result (λ run. app_of run ≡ run_app) }
+{
+    clap::Command::new(alloc, "run")
+        .about(
+            "Runs the clients of a script and writes how they ended, and then the base of each object",
+        )
+        .arg(needed(
+            alloc,
+            "SCRIPT",
+            "The JSON document of guardians, handlers and clients",
+        ))?
+        .arg(flag(
+            alloc,
+            "serial",
+            "Runs clients and arms one after another; until there are threads, they run so without it too",
+        ))?
+        .arg(optional(
+            alloc,
+            "store",
+            "DIR",
+            "Keeps the objects of guardian N in DIR/gN.db: takes what is there in place of the script's contents, and saves the bases at the end",
+        ))
+}
+
 /// An argument that has to be there.
 fn needed<'a>(alloc: Global, id: &'a str, help: &'a str) -> Arg<'a>
     ensures rule { rule_of result ≡ needed id.now }
@@ -110,12 +164,21 @@ fn needed<'a>(alloc: Global, id: &'a str, help: &'a str) -> Arg<'a>
     Arg::new(alloc, id).help(help).required(true)
 }
 
-fn explain_option<'a>(alloc: Global) -> Arg<'a>
-    ensures rule { rule_of result ≡ optional (codes "explain") }
+/// An option with a value.
+fn optional<'a>(alloc: Global, id: &'a str, value: &'a str, help: &'a str) -> Arg<'a>
+    ensures rule { rule_of result ≡ optional id.now }
     ensures local { result.global ≡ false }
 {
-    Arg::new(alloc, "explain")
-        .long("explain")
-        .value_name("ACTION")
-        .help("Writes, after the answers, what the action sees, by place in the serial order")
+    Arg::new(alloc, id).long(id).value_name(value).help(help)
+}
+
+/// An option that is there or not.
+fn flag<'a>(alloc: Global, id: &'a str, help: &'a str) -> Arg<'a>
+    ensures rule { rule_of result ≡ flag id.now }
+    ensures local { result.global ≡ false }
+{
+    Arg::new(alloc, id)
+        .long(id)
+        .action(ArgAction::SetTrue)
+        .help(help)
 }

@@ -5,6 +5,7 @@
 mod command_line;
 mod request;
 mod run;
+mod stores;
 
 use argus_engine::Fault;
 use request::{Command, CommandFault};
@@ -41,6 +42,7 @@ fn obey(rt: &HostRuntime) -> Result<ExitCode, Fault> {
     match command_line::command(rt.alloc(), words.as_slice()) {
         Ok(Command::Steps(given)) => run::steps(rt, &given),
         Ok(Command::Check(given)) => run::check(rt, &given),
+        Ok(Command::Run(given)) => run::run(rt, &given),
         Err(fault) => explain(rt, &fault),
     }
 }

@@ -7,6 +7,8 @@ pub enum Command<'a> {
     Steps(Steps<'a>),
     /// Says whether a file is a script.
     Check(Check<'a>),
+    /// Runs the clients of a script.
+    Run(Run<'a>),
 }
 
 /// What the answering of steps is given.
@@ -25,6 +27,17 @@ pub struct Steps<'a> {
 pub struct Check<'a> {
     /// The path of the script.
     pub script: &'a str,
+}
+
+/// What the running of a script is given.
+#[derive(Clone, Copy, Drop)]
+pub struct Run<'a> {
+    /// The path of the script.
+    pub script: &'a str,
+    /// The folder that keeps the guardians' objects between runs; with none they last as long as the run.
+    pub store: Option<&'a str>,
+    /// Whether clients and arms run one after another; until there are threads, they do so without it too.
+    pub serial: bool,
 }
 
 /// Why words are no command.

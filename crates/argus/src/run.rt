@@ -1,7 +1,11 @@
 //! Running a command on files.
 
-use crate::request::{Check, Steps};
-use argus_engine::{Ended, Fault, check_script, explain_text, steps as answer_steps};
+use crate::request::{Check, Run, Steps};
+use crate::stores::open_stores;
+use argus_engine::{
+    Ended, Fault, check_script, explain_text, read_script, run_script, run_stored,
+    steps as answer_steps,
+};
 use run_model::{Setup, SetupFault};
 use std::process::ExitCode;
 use std::{fs, io};
@@ -14,10 +18,7 @@ const STANDARD_INPUT: &str = "-";
 /// explained. The status is 1 where the setup is none, or a line is no step; then nothing is explained.
 pub fn steps(rt: &HostRuntime, given: &Steps<'_>) -> Result<ExitCode, Fault> {
     let Some(setup) = read_setup(rt, given.setup)? else {
-        return match println!(rt; "error setup") {
-            Ok(()) => Ok(ExitCode::FAILURE),
-            Err(_) => Err(Fault::Output),
-        };
+        return refuse(rt, "error setup");
     };
     let mut world = World::new(rt.alloc(), setup)?;
     match (answer_file(rt, &mut world, given.file)?, given.explain) {
@@ -36,6 +37,39 @@ pub fn check(rt: &HostRuntime, given: &Check<'_>) -> Result<ExitCode, Fault> {
     match check_script(rt.alloc(), bytes.as_slice(), &mut io::writer(rt))? {
         Ended::Stopped => Ok(ExitCode::FAILURE),
         Ended::Done => Ok(ExitCode::SUCCESS),
+    }
+}
+
+/// Runs the script in a file and writes how its clients ended, and the bases of its objects, to standard output. The status is 1 where the file
+/// is no script, or where a store is not its own.
+pub fn run(rt: &HostRuntime, given: &Run<'_>) -> Result<ExitCode, Fault> {
+    let bytes = read_file(rt, given.script)?;
+    let Some(script) = read_script(rt.alloc(), bytes.as_slice(), &mut io::writer(rt))? else {
+        return Ok(ExitCode::FAILURE);
+    };
+    let Some(folder) = given.store else {
+        run_script(rt.alloc(), &script, &mut io::writer(rt))?;
+        return Ok(ExitCode::SUCCESS);
+    };
+    let Some(mut stores) = open_stores(rt, folder, &script)? else {
+        return refuse(rt, "error store");
+    };
+    match run_stored(
+        rt.alloc(),
+        &script,
+        stores.as_mut_slice(),
+        &mut io::writer(rt),
+    )? {
+        Ended::Stopped => Ok(ExitCode::FAILURE),
+        Ended::Done => Ok(ExitCode::SUCCESS),
+    }
+}
+
+/// Writes why nothing was run, to standard output.
+fn refuse(rt: &HostRuntime, why: &str) -> Result<ExitCode, Fault> {
+    match println!(rt; "{why}") {
+        Ok(()) => Ok(ExitCode::FAILURE),
+        Err(_) => Err(Fault::Output),
     }
 }
 

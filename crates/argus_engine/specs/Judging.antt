@@ -1,5 +1,6 @@
 -- What is said of bytes that may be a script.
-use Rattle.std.specs.Prelude.{ℕ, ◌≡◌, List, [], ◌∷◌, ◌++◌, ◌⊎◌, codes, decimal}
+use Rattle.std.specs.Prelude.{ℕ, ◌≡◌, List, [], ◌∷◌, ◌++◌, ◌⊎◌, Option, Some, None, codes, decimal}
+use Rattle.std.specs.Io.KnownBytes.{Keeps}
 use Rattle.serde_json.specs.Data.{Data}
 use Rattle.script_model.specs.declared.checked.Checked.{Checked}
 use Rattle.script_model.specs.declared.fault.FaultKind.{FaultKind}
@@ -12,11 +13,15 @@ use Rattle.script_model.specs.Reaching.{Fits, IsFirstFault}
 use Rattle.run_model.specs.Transcripts.{line_feed}
 use Rattle.argus_engine.specs.declared.engine.Ended.{Ended}
 use Rattle.argus_engine.specs.declared.engine.Ended.TheVariants.{Done, Stopped}
-use Rattle.argus_engine.specs.Serving.{Begins}
+use Rattle.argus_engine.specs.Serving.{Begins, Writes}
 
--- they are JSON, and its document is a script
+-- they are JSON, and its document is this script
+abbrev pub IsScriptIn : List ℕ → Checked → Type 0
+IsScriptIn bytes checked = (document : Data) × IsDocument bytes document × Fits document checked
+
+-- they are a script
 abbrev pub IsScript : List ℕ → Type 0
-IsScript bytes = (document : Data) × (checked : Checked) × IsDocument bytes document × Fits document checked
+IsScript bytes = (checked : Checked) × IsScriptIn bytes checked
 
 -- their first fault, and its place: the whole of what is no JSON has the wrong shape
 abbrev pub HasFirstFault : List ℕ → FaultKind → List ℕ → Type 0
@@ -42,3 +47,8 @@ IsJudged bytes Stopped line = (why : FaultKind) × (place : List ℕ) × HasFirs
 -- nothing was said, or a beginning of what is to be said
 abbrev pub BeginsJudgement : List ℕ → List ℕ → Type 0
 BeginsJudgement bytes written = (written ≡ []) ⊎ ((ended : Ended) × (line : List ℕ) × IsJudged bytes ended line × Begins written line)
+
+-- what was read is the script, and nothing was said; or the first fault was said
+abbrev pub IsRead : List ℕ → Option (List ℕ) → Option (List ℕ) → Option Checked → Type 0
+IsRead bytes before after (Some checked) = IsScriptIn bytes checked × Keeps before after
+IsRead bytes before after None = Writes before after (IsJudged bytes Stopped)

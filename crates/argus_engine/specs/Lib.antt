@@ -1,3 +1,5 @@
 pub mod Serving
 pub mod Reading
 pub mod Judging
+pub mod Running
+pub mod Storing

@@ -1,7 +1,8 @@
 //! What the program says of a script.
 
-ghost use Rattle.std.specs.Prelude.{◌≡◌, IfOk, IfErr, string_bytes};
-ghost use Rattle.argus_engine.specs.Judging.{BeginsJudgement, IsFaultOf, IsJudged, IsScript};
+ghost use Rattle.std.specs.Prelude.{◌≡◌, ℕ, List, IfOk, IfErr, OnErr, string_bytes};
+ghost use Rattle.argus_engine.specs.declared.engine.Ended.TheVariants.{Stopped};
+ghost use Rattle.argus_engine.specs.Judging.{BeginsJudgement, IsFaultOf, IsJudged, IsRead, IsScriptIn};
 ghost use Rattle.argus_engine.specs.Serving.{Writes};
 
 use crate::engine::{Ended, Fault};
@@ -23,23 +24,50 @@ pub fn check_script<W: Write>(alloc: Global, bytes: &[u8], writer: &mut W) -> Re
     Ok(ended)
 }
 
+/// The script that the bytes are. Where they are none, it writes `fault`, the number of the first fault, from 1 to 12, and the JSON pointer
+/// of its place, which is `/` for the whole document; then it gives `None`. After a fault of memory or of the writer a beginning of that line
+/// was written.
+pub fn read_script<W: Write>(
+    alloc: Global,
+    bytes: &[u8],
+    writer: &mut W,
+) -> Result<Option<Checked>, Fault>
+    ensures read { IfOk result (IsRead bytes.now (W.contents writer.old) (W.contents writer.new)) }
+    ensures begun { OnErr result (Writes (W.contents writer.old) (W.contents writer.new) (BeginsJudgement bytes.now)) }
+{
+    match checked(alloc, bytes) {
+        Ok(script) => Ok(Some(script)),
+        Err(fault) => {
+            let line = fault_line(alloc, fault)?;
+            finish(writer, line.as_str())?;
+            Ok(None)
+        }
+    }
+}
+
 /// What is to be said of the bytes, and how that ends.
 fn judgement(alloc: Global, bytes: &[u8]) -> Result<(Ended, String), AllocError>
     ensures { IfOk result (λ said. IsJudged bytes.now said.0 (string_bytes said.1)) }
 {
     match checked(alloc, bytes) {
         Ok(_) => Ok((Ended::Done, String::from_str(alloc, "ok\n")?)),
-        Err(ScriptFault::Bad(why, place)) => {
-            let line = format!(in alloc; "fault {why} {place}\n")?;
-            Ok((Ended::Stopped, line))
-        }
-        Err(ScriptFault::Memory) => Err(AllocError),
+        Err(fault) => Ok((Ended::Stopped, fault_line(alloc, fault)?)),
+    }
+}
+
+/// The line of a fault.
+fn fault_line(alloc: Global, fault: ScriptFault) -> Result<String, AllocError>
+    ensures { IfOk result (λ line. (bytes : List ℕ) → IsFaultOf bytes fault → IsJudged bytes Stopped (string_bytes line)) }
+{
+    match fault {
+        ScriptFault::Bad(why, place) => format!(in alloc; "fault {why} {place}\n"),
+        ScriptFault::Memory => Err(AllocError),
     }
 }
 
 /// The script that the bytes are, or their first fault.
 fn checked(alloc: Global, bytes: &[u8]) -> Result<Checked, ScriptFault>
-    ensures script { IfOk result (λ _. IsScript bytes.now) }
+    ensures script { IfOk result (IsScriptIn bytes.now) }
     ensures fault { IfErr result (IsFaultOf bytes.now) }
 {
     check(alloc, read(alloc, bytes)?)

@@ -30,7 +30,7 @@ pub enum Fault {
     /// Memory ran out.
     #[error("fault memory")]
     Memory,
-    /// The store failed. No store stands below the engine yet, so this does not come.
+    /// A store failed.
     #[error("fault store")]
     Store,
     /// A read failed.

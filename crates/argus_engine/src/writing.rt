@@ -1,7 +1,8 @@
 //! Writing answers whole, or a beginning of them where the writer fails.
 
-ghost use Rattle.std.specs.Prelude.{◌≡◌, ◌≤◌, [], length, take, IfOk, OnOk, OnErr, string_bytes};
+ghost use Rattle.std.specs.Prelude.{◌≡◌, ◌≤◌, [], length, take, IfErr, IfOk, OnOk, OnErr, string_bytes};
 ghost use Rattle.std.specs.Io.KnownBytes.{Appends, Keeps};
+ghost use Rattle.argus_engine.specs.declared.engine.Fault.TheVariants.{Output};
 ghost use Rattle.argus_engine.specs.Reading.{Moves, TakesFront};
 
 use crate::engine::Fault;
@@ -29,6 +30,7 @@ pub(crate) fn send_if_full<W: Write>(writer: &mut W, text: &mut String) -> Resul
 pub(crate) fn finish<W: Write>(writer: &mut W, text: &str) -> Result<(), Fault>
     ensures ok { OnOk result (Appends (W.contents writer.old) (W.contents writer.new) text.now) }
     ensures front { TakesFront (W.contents writer.old) (W.contents writer.new) text.now }
+    ensures fault { IfErr result (λ fault. fault ≡ Output) }
 {
     write_bytes(writer, text.as_bytes())?;
     match writer.flush() {
@@ -41,6 +43,7 @@ pub(crate) fn finish<W: Write>(writer: &mut W, text: &str) -> Result<(), Fault>
 fn write_bytes<W: Write>(writer: &mut W, bytes: &[u8]) -> Result<(), Fault>
     ensures ok { OnOk result (Appends (W.contents writer.old) (W.contents writer.new) bytes.now) }
     ensures err { OnErr result (TakesFront (W.contents writer.old) (W.contents writer.new) bytes.now) }
+    ensures fault { IfErr result (λ fault. fault ≡ Output) }
 {
     let mut count = 0;
     for _ in 0..u64::MAX {
@@ -58,6 +61,7 @@ fn write_some<W: Write>(writer: &mut W, bytes: &[u8]) -> Result<usize, Fault>
     ensures within { IfOk result (λ count. count ≤ length bytes.now) }
     ensures ok { IfOk result (λ count. Appends (W.contents writer.old) (W.contents writer.new) (take count bytes.now)) }
     ensures err { OnErr result (Keeps (W.contents writer.old) (W.contents writer.new)) }
+    ensures fault { IfErr result (λ fault. fault ≡ Output) }
 {
     match writer.write(bytes) {
         Ok(0) => Err(Fault::Output),

@@ -5,7 +5,7 @@ use Rattle.std.proofs.lemmas.List.{reverse-append, reverse-reverse, take-append-
 use Rattle.std.proofs.lemmas.List.Elements.{filter-append}
 use Rattle.std.proofs.lemmas.List.Folds.{list_all-append, list_any-append}
 use Rattle.std.specs.List.{cons_option, list_all, list_any}
-use Rattle.std.specs.Prelude.{drop}
+use Rattle.std.specs.Prelude.{drop, is_none}
 use Rattle.action_names.specs.Names.{Name, insert_name, is_ancestor, rising_names}
 use Rattle.values.specs.declared.content.Content.{Content}
 use Rattle.atomic_types.specs.Objects.{knows}
@@ -25,7 +25,7 @@ use Rattle.run_laws.proofs.Accepted.{AllFalse, checked}
 use Rattle.run_laws.proofs.Each.{Each}
 use Rattle.run_laws.proofs.Exchanged.{same_object_true}
 use Rattle.run_laws.proofs.Granted.{grant_cases, grant_parts}
-use Rattle.plain_world.specs.Kept.{all_known, any_on, holders, those_on, with_holder, with_other}
+use Rattle.plain_world.specs.Kept.{all_known, any_on, holders, those_on, unheld_on, with_holder, with_other}
 
 -- a filter of a filter
 filter_twice : {X : Type 0} (p q : X → Bool) (xs : List X) → filter p (filter q xs) ≡ filter (λ x. p x && q x) xs
@@ -144,6 +144,40 @@ next_known x c content os i o all lt is same left =
     let more = those_more x os i o lt is ∙ ap (λ t. cond t (o ∷ those_on x (take i os)) (those_on x (take i os))) same in
     let q = and_parts _ _ (ap (λ ps. list_all (λ p. knows c p.operation) ps) (sym more) ∙ front_known x c os (i + 1) all) in
     ap (λ k. knows k o.operation) left ∙ left_knows c (those_on x (take i os)) o.operation q.1 ∙ q.0
+
+-- some of known operations are known
+some_known : (p : Performed → Bool) (c : Content) (os : List Performed) → list_all (λ o. knows c o.operation) os ≡ true
+    → list_all (λ o. knows c o.operation) (filter p os) ≡ true
+some_known p c [] h = refl
+some_known p c (o ∷ os) h =
+    let q = and_parts _ _ h in
+    let rest = some_known p c os q.1 in
+    elim (p o) as (λ t. list_all (λ a. knows c a.operation) (cond t (o ∷ filter p os) (filter p os)) ≡ true) [
+      | true ↦ ap (λ t. t && list_all (λ a. knows c a.operation) (filter p os)) q.0 ∙ rest
+      | false ↦ rest
+    ]
+
+-- one operation more, where nobody may hold it
+pub unheld_more : (x : ObjectId) (past : List Event) (os : List Performed) (i : ℕ) (o : Performed) → i < length os → o ≡ get_or os i o
+    → unheld_on x past (take (i + 1) os)
+    ≡ cond (same_object o.object x && is_none (holder_of x.guardian o.action past)) (o ∷ unheld_on x past (take i os)) (unheld_on x past (take i os))
+unheld_more x past os i o lt is =
+    let p : Performed → Bool = λ a. is_none (holder_of x.guardian a.action past) in
+    let before = those_on x (take i os) in
+    ap (λ ps. filter p ps) (those_more x os i o lt is)
+    ∙ elim (same_object o.object x) as (λ t. filter p (cond t (o ∷ before) before) ≡ cond (t && p o) (o ∷ filter p before) (filter p before))
+    [ true ↦ refl | false ↦ refl ]
+
+-- so the next one is known where nobody holds those before it
+pub next_unheld_known : (x : ObjectId) (past : List Event) (c content : Content) (os : List Performed) (i : ℕ) (o : Performed)
+    → all_known x c os ≡ true → i < length os → o ≡ get_or os i o → same_object o.object x ≡ true
+    → content ≡ left_of c (unheld_on x past (take i os)) → knows content o.operation ≡ true
+next_unheld_known x past c content os i o all lt is same left =
+    let p : Performed → Bool = λ a. is_none (holder_of x.guardian a.action past) in
+    let before = those_on x (take i os) in
+    let more = those_more x os i o lt is ∙ ap (λ t. cond t (o ∷ before) before) same in
+    let q = and_parts _ _ (ap (λ ps. list_all (λ a. knows c a.operation) ps) (sym more) ∙ front_known x c os (i + 1) all) in
+    ap (λ k. knows k o.operation) left ∙ left_knows c (filter p before) o.operation (some_known p c before q.1) ∙ q.0
 
 -- what was granted in a run is known
 granted_known : (setup : Setup) (past : List Event) → IsRun setup past

@@ -1,5 +1,5 @@
 -- Operations on one object among those of a list, which stands with the oldest first.
-use Rattle.std.specs.Prelude.{ℕ, Bool, not, ◌&&◌, List, filter, filter_map, reverse, if◌then◌else◌, Option, Some, None}
+use Rattle.std.specs.Prelude.{ℕ, Bool, not, ◌&&◌, List, filter, filter_map, reverse, if◌then◌else◌, Option, Some, None, is_none}
 use Rattle.std.specs.List.{list_all, list_any}
 use Rattle.action_names.specs.Names.{Name, is_ancestor, insert_name, rising_names}
 use Rattle.values.specs.declared.content.Content.{Content}
@@ -23,6 +23,10 @@ any_on x test os = list_any (λ o. same_object o.object x && test o) os
 -- the content knows all those on x
 abbrev pub all_known : ObjectId → Content → List Performed → Bool
 all_known x c os = list_all (λ o. knows c o.operation) (those_on x os)
+
+-- those on x that nobody holds: they belong to the base
+abbrev pub unheld_on : ObjectId → List Event → List Performed → List Performed
+unheld_on x past os = filter (λ o. is_none (holder_of x.guardian o.action past)) (those_on x os)
 
 -- the holders of those, the newest first, that conflict with the wanted operation of a on x, as far as they are no ancestors of a
 abbrev pub holders : Name → ObjectId → op.Op → List Event → List Performed → List Name

@@ -6,7 +6,8 @@ ghost use Rattle.atomic_types.specs.Operations.{conflicts};
 ghost use Rattle.run_model.specs.Keeping.{blockers, kept_on, same_object};
 ghost use Rattle.run_model.specs.Replay.{opening, objects_at, left_of};
 ghost use Rattle.run_model.specs.Answers.{is_concerned};
-ghost use Rattle.plain_world.specs.Kept.{those_on, any_on, all_known, holders, with_holder};
+ghost use Rattle.run_model.specs.Versions.{base_of};
+ghost use Rattle.plain_world.specs.Kept.{those_on, any_on, all_known, holders, unheld_on, with_holder};
 ghost use Rattle.plain_world.specs.Plain.{IsPlain};
 
 use crate::refusals::opening;
@@ -134,6 +135,47 @@ fn replay(opening: &Content, kept: &[Performed], object: ObjectId) -> Result<Con
     let mut content = opening.copy()?;
     for performed in kept {
         if performed.object() == object {
+            content.apply(performed.operation())?;
+        }
+    }
+    Ok(content)
+}
+
+/// The base of the object: what the kept operations on it that nobody holds leave.
+pub fn base(view: &View<'_>, object: ObjectId) -> Result<Content, AllocError>
+    requires plain { IsPlain view.now.setup.now view.now.tables.now view.now.history.now }
+    requires guardian { 1 ≤ object.guardian }
+    requires number { 1 ≤ object.number }
+    requires there { object.number ≤ length (objects_at view.now.setup.now object.guardian) }
+    ensures { IfOk result (λ content. content ≡ base_of view.now.setup.now object view.now.history.now) }
+{
+    let Some(content) = opening(view.setup, object) else {
+        unreachable!()
+    };
+    replay_unheld(
+        content,
+        view.history,
+        view.tables.kept(view.setup, view.history),
+        object,
+    )
+}
+
+/// What the operations on the object that nobody holds, one after another, leave of its opening content.
+#[tactic(auto, using(crate::proofs::Kept::unheld_more))]
+fn replay_unheld(
+    opening: &Content,
+    history: &History,
+    kept: &[Performed],
+    object: ObjectId,
+) -> Result<Content, AllocError>
+    requires { IsTrue (all_known object opening.now kept.now) }
+    ensures { IfOk result (λ content. content ≡ left_of opening.now (unheld_on object history.now kept.now)) }
+{
+    let mut content = opening.copy()?;
+    for performed in kept {
+        if performed.object() == object
+            && holder_of(history, object.guardian, performed.action())?.is_none()
+        {
             content.apply(performed.operation())?;
         }
     }

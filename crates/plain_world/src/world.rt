@@ -1,12 +1,14 @@
-ghost use Rattle.std.specs.Prelude.{◌≡◌, [], IfOk, OnErr};
+ghost use Rattle.std.specs.Prelude.{◌≡◌, ◌≤◌, [], length, IfOk, OnErr};
+ghost use Rattle.run_model.specs.Replay.{objects_at};
+ghost use Rattle.run_model.specs.Versions.{base_of};
 ghost use Rattle.run_model.specs.Answers.{answer_of};
 ghost use Rattle.run_model.specs.Runs.{World, IsRun, is_accepted, world_after};
 ghost use Rattle.plain_world.specs.Plain.{IsPlain};
 
 use crate::view::View;
-use crate::{outcomes, refusals};
+use crate::{objects, outcomes, refusals};
 use plain_tables::Tables;
-use run_model::{Answer, Event, History, Setup, Step};
+use run_model::{Answer, Content, Event, History, ObjectId, Setup, Step};
 use std::alloc::{AllocError, Global};
 use std::marker::Model;
 
@@ -51,13 +53,7 @@ impl PlainWorld {
         ensures after { IfOk result (λ answer. self.new ≡ world_after self.old step.now answer) }
         ensures err { OnErr result (self.new ≡ self.old) }
     {
-        let view = View {
-            alloc: self.alloc,
-            setup: &self.setup,
-            history: &self.history,
-            tables: &self.tables,
-        };
-        let answer = answer_to(&view, step)?;
+        let answer = answer_to(&self.view(), step)?;
         if !is_accepted(&answer) {
             return Ok(answer);
         }
@@ -71,12 +67,35 @@ impl PlainWorld {
         Ok(answer)
     }
 
+    fn view(&self) -> View<'_>
+        ensures setup { result.setup.now ≡ self.now.setup }
+        ensures history { result.history.now ≡ self.now.past }
+        ensures plain { IsPlain result.setup.now result.tables.now result.history.now }
+    {
+        View {
+            alloc: self.alloc,
+            setup: &self.setup,
+            history: &self.history,
+            tables: &self.tables,
+        }
+    }
+
     /// What has happened: the accepted steps with their answers. This takes no memory.
     pub fn history(&self) -> &History
         ensures past { result.now ≡ self.now.past }
         ensures run { IsRun self.now.setup self.now.past }
     {
         &self.history
+    }
+
+    /// The base of an object: its content without what an action holds of it.
+    pub fn base(&self, object: ObjectId) -> Result<Content, AllocError>
+        requires guardian { 1 ≤ object.guardian }
+        requires number { 1 ≤ object.number }
+        requires there { object.number ≤ length (objects_at self.now.setup object.guardian) }
+        ensures { IfOk result (λ content. content ≡ base_of self.now.setup object self.now.past) }
+    {
+        objects::base(&self.view(), object)
     }
 
     /// The setup from which it began.

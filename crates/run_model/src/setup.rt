@@ -1,4 +1,4 @@
-ghost use Rattle.std.specs.Prelude.{◌≡◌, ◌≢◌, List, ℕ, [], length, ◌≤◌, IfOk, IsErrOf, MatchOption};
+ghost use Rattle.std.specs.Prelude.{◌≡◌, ◌≢◌, ◌⊎◌, List, ℕ, [], ◌∷◌, ◌++◌, length, ◌<◌, ◌≤◌, IfOk, IsErrOf, MatchOption, OnErr, OnOk};
 ghost use Rattle.std.specs.List.{AllByRecursion};
 ghost use Rattle.serde_json.specs.Data.{Data, Items, array, object, no_members, member};
 ghost use Rattle.serde_json.specs.View.{view, items_view};
@@ -136,6 +136,29 @@ impl Setup {
             guardians.push(Objects::from_json(alloc, item)?)?;
         }
         Ok(Setup { guardians })
+    }
+
+    /// A setup of no guardians yet.
+    pub fn new(alloc: Global) -> Setup
+        ensures { result ≡ [] }
+    {
+        Setup {
+            guardians: Vec::new(alloc),
+        }
+    }
+
+    /// Adds a guardian with these objects, whose number follows those of the others. `Bad` comes where there are 1,024 guardians
+    /// already, or more objects than 1,024, and nowhere else; after an error the setup is as it was.
+    pub fn add_guardian(&mut self, contents: Vec<Content>) -> Result<(), SetupFault>
+        ensures added { OnOk result (self.new ≡ self.old ++ (contents.items ∷ [])) }
+        ensures refused { IsErrOf result SetupFault.Bad → (max_guardians ≤ length self.old) ⊎ (max_objects < length contents.items) }
+        ensures err { OnErr result (self.new ≡ self.old) }
+    {
+        if self.guardians.len() >= MAX_GUARDIANS || contents.len() > MAX_OBJECTS {
+            return Err(SetupFault::Bad);
+        }
+        self.guardians.push(Objects { contents })?;
+        Ok(())
     }
 
     /// How many guardians there are: at most 1,024.

@@ -11,3 +11,4 @@ pub mod Members
 pub mod Endings
 pub mod Handlers
 pub mod Scripts
+pub mod Limits

@@ -121,7 +121,7 @@ pub record Goes (so_far gs : Guardians) (n : ℕ) : Type 0 where
   pub handlers : gs.handlers ≡ so_far.handlers ++ more_handlers
   pub count : length more_objects ≡ n
 
-goes_on : (guardians : Items) (i : ℕ) (so_far : Guardians) (ds : Items) (place : List ℕ) (gs : Guardians)
+pub goes_on : (guardians : Items) (i : ℕ) (so_far : Guardians) (ds : Items) (place : List ℕ) (gs : Guardians)
     → guardians_from guardians i so_far ds place ≡ Ok gs → Goes so_far gs (items_len ds)
 goes_on guardians i so_far no_items place gs h =
     let same = same_ok so_far gs h in

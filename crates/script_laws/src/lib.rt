@@ -1,9 +1,14 @@
-//! The law of the reading of scripts: a theorem over the definitions of `script_model`, with no word of a body.
+//! The laws of the reading of scripts: theorems over the definitions of `script_model`, with no word of a body.
 #![tactic(auto)]
 
-ghost use Rattle.script_laws.specs.Laws.{ReadingResolves};
+ghost use Rattle.script_laws.specs.Laws.{ReadingKeepsLimits, ReadingResolves};
 
 /// Whatever a checked script names is there, and of the kind that is wanted.
 pub fn reading_resolves()
     ensures { ReadingResolves }
+{}
+
+/// A checked script has at most 1,024 guardians, each with at most 1,024 objects.
+pub fn reading_keeps_limits()
+    ensures { ReadingKeepsLimits }
 {}

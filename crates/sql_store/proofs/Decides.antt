@@ -39,7 +39,7 @@ cast_null = either _ Null
 abbrev pub decided_table : Table
 decided_table = record decided { tree = 6 }
 
-decided_quiet : (olds : List Row) → works stable_schema Enforced 0 6 olds [] ≡ []
+pub decided_quiet : (olds : List Row) → works stable_schema Enforced 0 6 olds [] ≡ []
 unfolding same_name joined
 decided_quiet olds = refl
 

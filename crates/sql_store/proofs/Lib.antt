@@ -17,6 +17,7 @@ mod Made
 mod Known
 mod Cascade
 mod Discards
+mod Forgets
 mod Removed
 mod Recorded
 mod Inside

@@ -14,27 +14,8 @@ use Rattle.stable_store.specs.Held.{held}
 use Rattle.stable_store.specs.Calls.{Makes, IsExcused}
 use Rattle.sql_store.specs.Rows.{Holds}
 use Rattle.sql_store.specs.Calls.{IsAtRest, Stands, MayLeave, Carries}
+use Rattle.sql_store.specs.Views.{View, content, failures, is_honest, is_up, may_leave}
 use Rattle.sql_store.proofs.Same.{OneSpelling, one_content}
-
-module _ {A : Type 0} (g : Ghosts A) where
-  -- a store, as its model is
-  abbrev pub View : Type 0
-  View = Kept × (Held A × (ℕ × (Bool × Bool)))
-
-  abbrev pub content : View → Stored
-  content s = held s.0
-
-  abbrev pub failures : View → ℕ
-  failures s = s.1.1.0
-
-  abbrev pub is_honest : View → Type 0
-  is_honest s = HasCleanDisk (state g s.1.0) × IsTrue s.1.1.1.0
-
-  abbrev pub is_up : View → Type 0
-  is_up s = IsTrue (state g s.1.0).is_open × IsTrue s.1.1.1.1
-
-  abbrev pub may_leave : View → Stored → Type 0
-  may_leave s = MayLeave (state g s.1.0)
 
 module _ {A : Type 0} (g : Ghosts A) (spelling : OneSpelling) (law : (s : Held A) → IsTrue (state g s).is_open → (db : Trees) → (state g s).may_leave db → db ≡ (state g s).committed.trees) where
   at_rest : (s : Held A) (c d : Stored) → IsTrue (state g s).is_open → IsAtRest (state g s) c → MayLeave (state g s) d → d ≡ c

@@ -22,10 +22,12 @@ use Rattle.sqlite.proofs.Callers.{IsPlain, command_of, statement_of, runs_as}
 use Rattle.stable_store.specs.Stored.{Stored, after_decide, after_discard, after_prepare}
 use Rattle.sql_store.specs.Tables.{stable_schema}
 use Rattle.sql_store.specs.Rows.{Holds, IsStorable}
-use Rattle.sql_store.specs.Calls.{IsStore, IsAtRest, Stands, Carries, with_count, after_put}
+use Rattle.sql_store.specs.Calls.{IsStore, IsAtRest, Stands, Carries, with_count, with_none_decided, after_put}
 use Rattle.sql_store.proofs.Texts.{record_text, record_command, record_is, record_plain, value_text, value_command, value_is, value_plain}
 use Rattle.sql_store.proofs.Texts.{decide_text, decide_command, decide_is, decide_plain, count_text, count_command, count_is, count_plain}
 use Rattle.sql_store.proofs.Texts.{base_text, base_command, base_is, base_plain, discard_text, discard_command, discard_is, discard_plain}
+use Rattle.sql_store.proofs.Texts.{forget_text, forget_command, forget_is, forget_plain}
+use Rattle.sql_store.proofs.Forgets.{forgets, after_forgets}
 use Rattle.sql_store.proofs.Discards.{discards}
 use Rattle.sql_store.proofs.Removed.{after_discards}
 use Rattle.values.specs.declared.content.Content.{Content}
@@ -313,4 +315,15 @@ value_means n home o v before c sorted fits = record {
   does = λ limit db after tally d store same sound h.
       let made = puts_value limit n o (content_text v) db tally after (statement_of value_text (understood stable_schema value_text)) store.schema h in
       after_puts_value n home o v before c sorted fits db after (subst (IsStore db) same store) made.1 made.0 sound;
+}
+
+-- nothing is decided any more
+pub forget_means : Means forget_text forget_command [] with_none_decided (λ _. Unit {0})
+forget_means = record {
+  is = forget_is;
+  plain = forget_plain;
+  rows = tt;
+  does = λ limit db after tally c store _ sound h.
+      let made = forgets limit db tally after (statement_of forget_text (understood stable_schema forget_text)) store.schema h in
+      after_forgets db after c store made.0 sound made.1;
 }

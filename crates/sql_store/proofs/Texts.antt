@@ -77,6 +77,26 @@ discard_query = record {
 abbrev pub discard_command : Command
 discard_command = Delete 2 (record { lets = []; body = discard_query })
 
+abbrev pub forget_text : List ℕ
+forget_text = codes "DELETE FROM decided"
+
+-- all rows of `decided`
+abbrev pub forget_query : Query
+forget_query = record {
+  from = inner 6 end;
+  filter = [];
+  group = None;
+  project = col 1 0 ∷ [];
+  distinct = false;
+  collations = [];
+  order = [];
+  limit = lit (Int (negsuc 0));
+  offset = lit (Int (pos 0));
+}
+
+abbrev pub forget_command : Command
+forget_command = Delete 4 (record { lets = []; body = forget_query })
+
 pub decide_is : command_of (understood stable_schema decide_text) ≡ decide_command
 unfolding understood everything
 decide_is = refl
@@ -124,3 +144,11 @@ value_is = refl
 pub value_plain : IsPlain (understood stable_schema value_text)
 unfolding understood everything
 value_plain = (refl, refl)
+
+pub forget_is : command_of (understood stable_schema forget_text) ≡ forget_command
+unfolding understood everything
+forget_is = refl
+
+pub forget_plain : IsPlain (understood stable_schema forget_text)
+unfolding understood everything
+forget_plain = (refl, refl)

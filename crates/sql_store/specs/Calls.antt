@@ -1,12 +1,13 @@
 -- What a call makes of a database that has a store's tables.
-use Rattle.std.specs.Prelude.{◌≡◌, ◌⊎◌, ℕ, true, false, Option, Some, None, Result, OnOk, OnErr, IsTrue}
+use Rattle.std.specs.Prelude.{◌≡◌, ◌⊎◌, ℕ, true, false, List, Option, Some, None, Result, OnOk, OnErr, IsTrue}
 use Rattle.sqlite.specs.Tree.{Trees}
 use Rattle.sqlite.specs.Effect.{Database, IsDatabase}
 use Rattle.sqlite.specs.State.{State, HasCleanDisk, KeepsCommit}
 use Rattle.std.specs.Ordering.{nat_cmp}
 use Rattle.std.specs.FinMap.{FinMap, insert, remove}
+use Rattle.std.specs.FinSet as set
 use Rattle.values.specs.declared.content.Content.{Content}
-use Rattle.stable_store.specs.Stored.{Stored, Record}
+use Rattle.stable_store.specs.Stored.{Stored, Record, laid}
 use Rattle.sql_store.specs.Tables.{stable_schema}
 use Rattle.sql_store.specs.Rows.{HaveRowids, Holds, IsStorable}
 
@@ -52,6 +53,14 @@ with_record top (Some r) records = insert records top r
 -- another base
 abbrev pub with_base : FinMap nat_cmp Content → Stored → Stored
 with_base base c = record c { base = base }
+
+-- nothing decided
+abbrev pub with_none_decided : Stored → Stored
+with_none_decided c = record c { decided = set.empty }
+
+-- these contents laid over the base, and nothing decided
+abbrev pub after_save : List (ℕ × Content) → Stored → Stored
+after_save values s = record s { base = laid values s.base; decided = set.empty }
 
 -- another content of an object
 abbrev pub after_put : ℕ → Content → Stored → Stored

@@ -5,7 +5,7 @@ ghost use Rattle.sqlite.specs.Held.{state};
 ghost use Rattle.stable_store.specs.Stored.{after_prepare, after_install, after_discard, after_decide, after_bump, greatest_count};
 ghost use Rattle.stable_store.specs.Calls.{Changes, IsRefused};
 ghost use Rattle.stable_store.specs.Held.{held};
-ghost use Rattle.sql_store.specs.Calls.{Stands, Carries};
+ghost use Rattle.sql_store.specs.Calls.{Stands, Carries, after_save};
 
 use crate::decoding::{fault_of, read_content};
 use crate::{laid, mirror, statements};
@@ -61,6 +61,31 @@ pub(crate) fn install<A: Alter>(
     match statements::install(conn, alloc, top, &record.values) {
         Ok(()) => {
             kept.prepared.remove(&top);
+            Ok(())
+        }
+        Err(error) => {
+            laid::undo(&mut kept.base, replaced);
+            Err(fault_of(error))
+        }
+    }
+}
+
+pub(crate) fn save<A: Alter>(
+    conn: &mut Connection<A>,
+    kept: &mut Kept,
+    alloc: Global,
+    base: &BTreeMap<u32, Content>,
+) -> Result<(), StoreFault>
+    ensures changes { Changes (held kept.old) (after_save base.now.entries (held kept.old)) (held kept.new) result }
+    ensures carries { Stands (state A.Store conn.old) (held kept.old)
+        → Carries (state A.Store conn.old) (state A.Store conn.new) (held kept.old) (after_save base.now.entries (held kept.old)) result }
+{
+    let Ok(replaced) = laid::lay(alloc, &mut kept.base, base) else {
+        return Err(StoreFault::Memory);
+    };
+    match statements::save(conn, alloc, base) {
+        Ok(()) => {
+            kept.decided.clear();
             Ok(())
         }
         Err(error) => {

@@ -12,7 +12,8 @@ ghost use Rattle.sqlite.specs.Held.{state};
 ghost use Rattle.values.specs.declared.content.Content.{Content as Spec};
 ghost use Rattle.stable_store.specs.Stored.{Stored, laid, after_prepare, after_discard, after_decide, greatest_count};
 ghost use Rattle.sql_store.specs.Tables.{stable_schema};
-ghost use Rattle.sql_store.specs.Calls.{Stands, Carries, Sees, Stays, Steps, with_count, with_base, after_put};
+ghost use Rattle.sql_store.specs.Calls.{Stands, Carries, Sees, Stays, Steps};
+ghost use Rattle.sql_store.specs.Calls.{with_count, with_base, with_none_decided, after_put, after_save};
 ghost use Rattle.sql_store.specs.Rows.{HasRowids};
 ghost use Rattle.sql_store.specs.Reading.{HoldsCount, IsEmptyStore, Looks, RunsInside};
 
@@ -167,6 +168,28 @@ pub(crate) fn install<A: Alter>(
     }
     let mut tx = conn.transaction();
     match install_record(&mut tx, alloc, top, values) {
+        Ok(()) => tx.commit(),
+        Err(error) => {
+            tx.rollback();
+            Err(error)
+        }
+    }
+}
+
+/// Writes contents into the base, and deletes all that is decided.
+pub(crate) fn save<A: Alter>(
+    conn: &mut Connection<A>,
+    alloc: Global,
+    base: &BTreeMap<u32, Content>,
+) -> Result<(), Error>
+    ensures { (c : Stored) → Stands (state A.Store conn.old) c
+        → Carries (state A.Store conn.old) (state A.Store conn.new) c (after_save base.now.entries c) result }
+{
+    if !conn.is_autocommit() {
+        return Err(BUSY);
+    }
+    let mut tx = conn.transaction();
+    match save_contents(&mut tx, alloc, base) {
         Ok(()) => tx.commit(),
         Err(error) => {
             tx.rollback();
@@ -408,6 +431,35 @@ fn install_record<A: Alter>(
 {
     match delete_record(tx, top) {
         Ok(()) => put_base(tx, alloc, values),
+        Err(error) => Err(error),
+    }
+}
+
+fn save_contents<A: Alter>(
+    tx: &mut Transaction<'_, A>,
+    alloc: Global,
+    base: &BTreeMap<u32, Content>,
+) -> Result<(), Error>
+    ensures same { tx.new.conn.ghost_name ≡ tx.old.conn.ghost_name }
+    ensures survives { Survives (state A.Store tx.old.conn.now) (state A.Store tx.new.conn.now) (λ _. ⊥) }
+    ensures steps { (c : Stored) → Sees (state A.Store tx.old.conn.now) c
+        → Steps (state A.Store tx.old.conn.now) (state A.Store tx.new.conn.now) (after_save base.now.entries c) result }
+{
+    match delete_decided(tx) {
+        Ok(()) => put_base(tx, alloc, base),
+        Err(error) => Err(error),
+    }
+}
+
+/// Deletes all that is decided.
+fn delete_decided<A: Alter>(tx: &mut Transaction<'_, A>) -> Result<(), Error>
+    ensures same { tx.new.conn.ghost_name ≡ tx.old.conn.ghost_name }
+    ensures survives { Survives (state A.Store tx.old.conn.now) (state A.Store tx.new.conn.now) (λ _. ⊥) }
+    ensures steps { (c : Stored) → Sees (state A.Store tx.old.conn.now) c
+        → Steps (state A.Store tx.old.conn.now) (state A.Store tx.new.conn.now) (with_none_decided c) result }
+{
+    match tx.execute("DELETE FROM decided", &[]) {
+        Ok(_) => Ok(()),
         Err(error) => Err(error),
     }
 }

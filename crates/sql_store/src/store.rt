@@ -1,12 +1,11 @@
 //! A store in SQL tables.
 
-ghost use Rattle.std.specs.Prelude.{◌≡◌, ◌⊎◌, ℕ, ◌+◌, IfOk, IfErr, IfSome, IsTrue};
+ghost use Rattle.std.specs.Prelude.{◌≡◌, ◌⊎◌, ℕ, ◌+◌, IfOk, IfErr, IfSome, IsTrue, MatchOption, Some, None};
 ghost use Rattle.sqlite.specs.Held.{state};
-ghost use Rattle.sqlite.specs.State.{HasCleanDisk};
-ghost use Rattle.stable_store.specs.Calls.{IsExcused};
+ghost use Rattle.stable_store.specs.Calls.{IsExcused, Makes, Rests};
 ghost use Rattle.stable_store.specs.Held.{held};
-ghost use Rattle.stable_store.specs.Calls.{Rests};
-ghost use Rattle.sql_store.specs.Calls.{MayLeave, Stands};
+ghost use Rattle.sql_store.specs.Calls.{Stands, after_save};
+ghost use Rattle.sql_store.specs.Views as view;
 ghost use Rattle.sql_store.specs.Reading.{IsAlone};
 
 use crate::decoding::{Found, check_version, fault_of, find_tables, read_store};
@@ -60,9 +59,8 @@ impl<A: Alter + Drop> SqlStable<A> {
         alloc: Global,
         conn: Connection<A>,
     ) -> Result<SqlStable<A>, (StoreFault, Connection<A>)>
-        ensures failures { IfOk result (λ s. s.1.1.0 ≡ 0) }
-        ensures rests { IfOk result (λ s. Rests (λ t. held t.0) (λ t. HasCleanDisk (state A.Store t.1.0) × IsTrue t.1.1.1.0)
-            (λ t. IsTrue (state A.Store t.1.0).is_open × IsTrue t.1.1.1.1) (λ t. MayLeave (state A.Store t.1.0)) s) }
+        ensures failures { IfOk result (λ s. view.failures A.Store s ≡ 0) }
+        ensures rests { IfOk result (λ s. Rests (view.content A.Store) (view.is_honest A.Store) (view.is_up A.Store) (view.may_leave A.Store) s) }
     {
         let mut conn = conn;
         one_spelling();
@@ -89,6 +87,35 @@ impl<A: Alter + Drop> SqlStable<A> {
             failures: 0,
             is_known,
             holds_content,
+        }
+    }
+
+    /// Makes these contents those of their objects, and leaves nothing decided, in one transaction. The prepared actions
+    /// and the count stay, and objects with no content here keep theirs. Errors come and are counted as with the calls
+    /// of `Stable`, and then the content is what it was. Objects are numbered from 1: one of number 0 is saved, but its row
+    /// is `NotOurs` when it is read.
+    pub fn save(&mut self, alloc: Global, base: &BTreeMap<u32, Content>) -> Result<(), StoreFault>
+        ensures { Makes (view.content A.Store) (view.failures A.Store) (view.is_honest A.Store) (view.is_up A.Store)
+            (view.may_leave A.Store) self.old self.new (Unit {0}) (after_save base.now.entries (view.content A.Store self.old)) result }
+    {
+        if !self.holds_content {
+            return Err(counted(&mut self.failures, StoreFault::NotOurs));
+        }
+        one_spelling();
+        match calls::save(&mut self.conn, &mut self.kept, alloc, base) {
+            Ok(()) => Ok(()),
+            Err(fault) => Err(counted(&mut self.failures, fault)),
+        }
+    }
+
+    /// What the tables hold; none where they held no content of a store when it was opened.
+    pub fn kept(&self) -> Option<&Kept>
+        ensures { MatchOption result (view.found A.Store self.now ≡ None)
+            (λ kept. view.found A.Store self.now ≡ Some (held kept.now)) }
+    {
+        match self.holds_content {
+            true => Some(&self.kept),
+            false => None,
         }
     }
 
@@ -176,19 +203,17 @@ fn counted(failures: &mut u64, fault: StoreFault) -> StoreFault
 }
 
 impl<A: Alter + Drop> Stable for SqlStable<A> {
-    ghost content = { λ s. held s.0 };
+    ghost content = { view.content A.Store };
 
-    ghost failures = { λ s. s.1.1.0 };
+    ghost failures = { view.failures A.Store };
 
     ghost may_fail = { λ _. Unit {0} };
 
-    // The one premise on the device and the database: what was written was returned, and the schema is the one that a
-    // store makes in an empty database.
-    ghost is_honest = { λ s. HasCleanDisk (state A.Store s.1.0) × IsTrue s.1.1.1.0 };
+    ghost is_honest = { view.is_honest A.Store };
 
-    ghost is_up = { λ s. IsTrue (state A.Store s.1.0).is_open × IsTrue s.1.1.1.1 };
+    ghost is_up = { view.is_up A.Store };
 
-    ghost may_leave = { λ s. MayLeave (state A.Store s.1.0) };
+    ghost may_leave = { view.may_leave A.Store };
 
     fn prepare(
         &mut self,

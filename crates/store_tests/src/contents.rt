@@ -1,4 +1,6 @@
 //! Contents of stores, as tests write and show them.
+use sql_store::SqlStable;
+use sqlite::Alter;
 use stable_store::{Kept, Stable, StoreFault};
 use std::alloc::{AllocError, Global};
 use std::collections::BTreeMap;
@@ -32,6 +34,18 @@ pub(crate) fn prepare(
 ) -> Result<(), StoreFault> {
     match contents(alloc, spelled) {
         Ok(contents) => store.prepare(alloc, top, home, contents),
+        Err(_) => Err(StoreFault::Memory),
+    }
+}
+
+/// Saves contents of these spellings. `Memory` also where that is wanted for making them.
+pub(crate) fn save<D: Alter + Drop>(
+    alloc: Global,
+    store: &mut SqlStable<D>,
+    spelled: &[(u32, &str)],
+) -> Result<(), StoreFault> {
+    match contents(alloc, spelled) {
+        Ok(contents) => store.save(alloc, &contents),
         Err(_) => Err(StoreFault::Memory),
     }
 }

@@ -1,5 +1,5 @@
 //! Tests of the calls of a store in SQL tables. Where memory is refused a test says so, and asks again.
-use crate::contents::{A, B, C, loaded, prepare};
+use crate::contents::{A, B, C, loaded, prepare, save};
 use refusals::{again, note_refusal};
 use sql_store::SqlStable;
 use sqlite::{Alter, Connection, Error, ErrorCode, Files, MemStore, Options};
@@ -151,10 +151,16 @@ fn holds_none(rt: &(impl Abort + Eprint + AllocGlobal), rows: &str) -> Result<()
     assert_eq!(rt; store.load(alloc).err(), Some(StoreFault::NotOurs));
     assert_eq!(rt; store.decide(1).err(), Some(StoreFault::NotOurs));
     assert_eq!(rt; store.install(alloc, 1).err(), Some(StoreFault::NotOurs));
-    assert_eq!(rt; store.failures(), 3);
+    let saved = again!(rt; save(alloc, &mut store, &[(9, A)]), Err(StoreFault::Memory));
+    assert_eq!(rt; saved.err(), Some(StoreFault::NotOurs));
+    assert_eq!(rt; store.failures(), 4);
     let mut conn = store.into_connection();
     assert_eq!(rt;
         again!(rt; count(&mut conn, "SELECT count(*) FROM decided WHERE top = 1"))?,
+        0
+    );
+    assert_eq!(rt;
+        again!(rt; count(&mut conn, "SELECT count(*) FROM base WHERE obj = 9"))?,
         0
     );
     Ok(())
@@ -245,4 +251,77 @@ fn a_file_that_is_no_database_is_refused_when_it_is_opened(rt: HostRuntime) -> R
     assert!(&rt; matches!(error, Error::SqliteFailure(ErrorCode::NotADatabase)));
     assert!(&rt; left.db.bytes() == text.as_slice());
     Ok(())
+}
+
+#[test]
+fn a_save_lays_contents_and_leaves_nothing_decided(rt: HostRuntime) -> Result<(), Fail> {
+    let alloc = rt.alloc();
+    let mut store = opened(&rt, again!(&rt; in_memory(alloc, ""))?)?;
+    again!(&rt; prepare(alloc, &mut store, 7, 4, &[(3, B), (2, A)]))?;
+    again!(&rt; prepare(alloc, &mut store, 8, 1, &[(1, C)]))?;
+    again!(&rt; store.decide(7))?;
+    again!(&rt; store.decide(9))?;
+    again!(&rt; store.install(alloc, 7))?;
+    again!(&rt; store.bump())?;
+    again!(&rt; save(alloc, &mut store, &[(3, A), (5, B)]))?;
+    let after =
+        r#"count 1 2={"record":{"a":1}} 3={"record":{"a":1}} 5={"record":{"b":"two"}} [8@1: 1={"array":{"items":[3],"low":0,"of":"int"}}]"#;
+    contains(&rt, &mut store, after, 0)?;
+    let mut store = opened(&rt, store.into_connection())?;
+    contains(&rt, &mut store, after, 0)
+}
+
+#[test]
+fn a_save_keeps_the_prepared_and_the_count(rt: HostRuntime) -> Result<(), Fail> {
+    let alloc = rt.alloc();
+    let mut store = opened(&rt, again!(&rt; in_memory(alloc, ""))?)?;
+    again!(&rt; prepare(alloc, &mut store, 7, 4, &[(3, B), (2, A)]))?;
+    again!(&rt; prepare(alloc, &mut store, 8, 1, &[(1, C)]))?;
+    again!(&rt; store.bump())?;
+    again!(&rt; store.bump())?;
+    again!(&rt; save(alloc, &mut store, &[(1, B), (3, C)]))?;
+    let after =
+        r#"count 2 1={"record":{"b":"two"}} 3={"array":{"items":[3],"low":0,"of":"int"}} [7@4: 2={"record":{"a":1}} 3={"record":{"b":"two"}}] [8@1: 1={"array":{"items":[3],"low":0,"of":"int"}}]"#;
+    contains(&rt, &mut store, after, 0)?;
+    let mut store = opened(&rt, store.into_connection())?;
+    contains(&rt, &mut store, after, 0)?;
+    again!(&rt; store.install(alloc, 7))?;
+    contains(
+        &rt,
+        &mut store,
+        r#"count 2 1={"record":{"b":"two"}} 2={"record":{"a":1}} 3={"record":{"b":"two"}} [8@1: 1={"array":{"items":[3],"low":0,"of":"int"}}]"#,
+        0,
+    )
+}
+
+#[test]
+fn a_save_of_objects_that_have_no_content_yet(rt: HostRuntime) -> Result<(), Fail> {
+    let alloc = rt.alloc();
+    let mut store = opened(&rt, again!(&rt; in_memory(alloc, ""))?)?;
+    again!(&rt; save(alloc, &mut store, &[(5, B)]))?;
+    contains(&rt, &mut store, r#"count 0 5={"record":{"b":"two"}}"#, 0)?;
+    again!(&rt; save(alloc, &mut store, &[(4, A), (4294967295, C)]))?;
+    let after =
+        r#"count 0 4={"record":{"a":1}} 5={"record":{"b":"two"}} 4294967295={"array":{"items":[3],"low":0,"of":"int"}}"#;
+    contains(&rt, &mut store, after, 0)?;
+    let mut store = opened(&rt, store.into_connection())?;
+    contains(&rt, &mut store, after, 0)
+}
+
+#[test]
+fn a_save_of_no_contents_only_leaves_nothing_decided(rt: HostRuntime) -> Result<(), Fail> {
+    let alloc = rt.alloc();
+    let mut store = opened(&rt, again!(&rt; in_memory(alloc, ""))?)?;
+    again!(&rt; save(alloc, &mut store, &[]))?;
+    contains(&rt, &mut store, "count 0", 0)?;
+    again!(&rt; save(alloc, &mut store, &[(2, C), (3, B)]))?;
+    again!(&rt; prepare(alloc, &mut store, 8, 1, &[(2, A)]))?;
+    again!(&rt; store.decide(7))?;
+    again!(&rt; store.decide(8))?;
+    again!(&rt; save(alloc, &mut store, &[]))?;
+    let after =
+        r#"count 0 2={"array":{"items":[3],"low":0,"of":"int"}} 3={"record":{"b":"two"}} [8@1: 2={"record":{"a":1}}]"#;
+    contains(&rt, &mut store, after, 0)?;
+    let mut store = opened(&rt, store.into_connection())?;
+    contains(&rt, &mut store, after, 0)
 }

@@ -1,6 +1,6 @@
 //! Tests of what a stop of the device leaves: one of its two files fails from some call on, for each number of calls up to one that
 //! suffices.
-use crate::contents::{A, B, C, loaded, prepare};
+use crate::contents::{A, B, C, loaded, prepare, save};
 use sql_store::SqlStable;
 use sqlite::{Connection, FileStore, Files, Options};
 use sqlite_disk::{Crash, Disk, Fuse, Memory};
@@ -17,15 +17,17 @@ enum Change {
     Discard,
     Decide,
     Bump,
+    Save,
 }
 
-fn make(alloc: Global, store: &mut impl Stable, change: Change) -> Option<StoreFault> {
+fn make(alloc: Global, store: &mut FusedStore, change: Change) -> Option<StoreFault> {
     match change {
         Change::Prepare => prepare(alloc, store, 7, 3, &[(2, A), (5, C)]).err(),
         Change::Install => store.install(alloc, 7).err(),
         Change::Discard => store.discard(7).err(),
         Change::Decide => store.decide(7).err(),
         Change::Bump => store.bump().err(),
+        Change::Save => save(alloc, store, &[(1, B), (5, C)]).err(),
     }
 }
 
@@ -41,6 +43,8 @@ fn wanted(change: Change) -> &'static str {
             r#"count 1 1={"record":{"a":1}} [7@2: 1={"record":{"b":"two"}} 2={"array":{"items":[3],"low":0,"of":"int"}}] !4 !7"#,
         Change::Bump =>
             r#"count 2 1={"record":{"a":1}} [7@2: 1={"record":{"b":"two"}} 2={"array":{"items":[3],"low":0,"of":"int"}}] !4"#,
+        Change::Save =>
+            r#"count 1 1={"record":{"b":"two"}} 5={"array":{"items":[3],"low":0,"of":"int"}} [7@2: 1={"record":{"b":"two"}} 2={"array":{"items":[3],"low":0,"of":"int"}}]"#,
     }
 }
 
@@ -299,6 +303,21 @@ fn a_stop_of_a_copied_log_in_bump(rt: HostRuntime) -> Result<(), Fail> {
     survives_each_stop(&rt, rt.alloc(), Change::Bump, COPIED_LOG)
 }
 
+#[test]
+fn a_stop_of_the_database_in_save(rt: HostRuntime) -> Result<(), Fail> {
+    survives_stops_of_the_database(&rt, rt.alloc(), Change::Save)
+}
+
+#[test]
+fn a_stop_of_the_log_in_save(rt: HostRuntime) -> Result<(), Fail> {
+    survives_each_stop(&rt, rt.alloc(), Change::Save, FAILING_LOG)
+}
+
+#[test]
+fn a_stop_of_a_copied_log_in_save(rt: HostRuntime) -> Result<(), Fail> {
+    survives_each_stop(&rt, rt.alloc(), Change::Save, COPIED_LOG)
+}
+
 /// Checks that each change fails, and that each failure is counted once.
 fn refuses_each_change(rt: &impl Abort, alloc: Global, store: &mut FusedStore) -> Result<(), Fail> {
     let before = store.failures();
@@ -308,6 +327,7 @@ fn refuses_each_change(rt: &impl Abort, alloc: Global, store: &mut FusedStore) -
         Change::Discard,
         Change::Decide,
         Change::Bump,
+        Change::Save,
     ] {
         assert_eq!(rt;
             make(alloc, store, change),
@@ -315,7 +335,7 @@ fn refuses_each_change(rt: &impl Abort, alloc: Global, store: &mut FusedStore) -
             "{change:?}"
         );
     }
-    assert_eq!(rt; store.failures().checked_sub(before), Some(5));
+    assert_eq!(rt; store.failures().checked_sub(before), Some(6));
     Ok(())
 }
 
@@ -362,7 +382,7 @@ fn a_closed_database_refuses_each_call(rt: HostRuntime) -> Result<(), Fail> {
         let mut store = stopped(&rt, alloc, &image, calls)?;
         refuses_each_change(&rt, alloc, &mut store)?;
         assert_eq!(rt; store.load(alloc).err(), Some(StoreFault::Failed));
-        assert_eq!(rt; store.failures(), 7);
+        assert_eq!(rt; store.failures(), 8);
         let mut store = restarted(alloc, store, FAILING_LOG)?;
         let found = loaded(alloc, &mut store)?;
         assert!(rt; found.as_str() == BEFORE || found.as_str() == wanted(Change::Bump));

@@ -1,12 +1,14 @@
-ghost use Rattle.std.specs.Prelude.{◌≡◌, [], IfOk, OnOk, OnErr};
+ghost use Rattle.std.specs.Prelude.{◌≡◌, ◌≤◌, [], length, IfOk, OnOk, OnErr};
 ghost use Rattle.run_model.specs.Answers.{answer_of};
+ghost use Rattle.run_model.specs.Replay.{objects_at};
 ghost use Rattle.run_model.specs.Runs.{World, world_after};
+ghost use Rattle.run_model.specs.Versions.{base_of};
 ghost use Rattle.run_laws.specs.Laws.{OrphanWhereRefused};
 ghost use Rattle.run_laws.specs.Serving.{IsServed};
 ghost use Rattle.world.specs.Running.{Ran, RanBefore};
 
 use plain_world::PlainWorld;
-use run_model::{Answer, History, Setup, Step};
+use run_model::{Answer, Content, History, ObjectId, Setup, Step};
 use std::alloc::{AllocError, Global};
 use std::marker::Model;
 
@@ -71,6 +73,16 @@ impl World {
         ensures served { IsServed self.now.setup self.now.past }
     {
         self.plain.history()
+    }
+
+    /// The base of an object: its content without what an action holds of it.
+    pub fn base(&self, object: ObjectId) -> Result<Content, AllocError>
+        requires guardian { 1 ≤ object.guardian }
+        requires number { 1 ≤ object.number }
+        requires there { object.number ≤ length (objects_at self.now.setup object.guardian) }
+        ensures { IfOk result (λ content. content ≡ base_of self.now.setup object self.now.past) }
+    {
+        self.plain.base(object)
     }
 
     /// The setup from which it began.

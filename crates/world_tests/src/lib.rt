@@ -3,8 +3,14 @@
 #![tactic(auto)]
 
 #[cfg(test)]
+mod narrow;
+#[cfg(test)]
 mod of_argus_engine;
 #[cfg(test)]
 mod of_check_script;
 #[cfg(test)]
 mod of_plain_tables;
+#[cfg(test)]
+mod of_run_script;
+#[cfg(test)]
+mod of_run_stored;

@@ -1,10 +1,10 @@
 //! Tests of what `check_script` says: of scripts that fit, of each fault with its place, and to a writer that fails. Where memory is
 //! refused a test says so, and asks again.
+use crate::narrow::Narrow;
 use argus_engine::{Ended, Fault, check_script};
 use refusals::note_refusal;
 use script_model::{FaultKind, Pointer};
 use std::alloc::{AllocError, Global};
-use std::io::{self, ErrorKind, Write};
 use std::process::Abort;
 use std::test::Fail;
 
@@ -151,29 +151,6 @@ const OF_HANDLERS: [(&str, &str); 9] = [
     ),
     ("{\"A\":{}}", "fault 1 /guardians/0/handlers"),
 ];
-
-/// A writer that takes so many bytes, one a call, and then fails.
-#[derive(Drop)]
-struct Narrow {
-    taken: Vec<u8>,
-    room: usize,
-}
-
-impl Write for Narrow {
-    fn write(&mut self, buf: &[u8]) -> io::Result<usize> {
-        if self.room == 0 {
-            return Err(io::Error::from(ErrorKind::Other));
-        }
-        self.room -= 1;
-        let n = buf.len().min(1);
-        self.taken.extend_from_slice(&buf[..n])?;
-        Ok(n)
-    }
-
-    fn flush(&mut self) -> io::Result<()> {
-        Ok(())
-    }
-}
 
 /// Where memory is refused it is asked once more, with nothing left of what was written.
 fn said(alloc: Global, text: &str, taken: &mut Vec<u8>) -> Result<Ended, Fault> {

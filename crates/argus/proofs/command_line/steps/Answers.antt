@@ -9,4 +9,4 @@ returns c =
     let named : app_of c.about.result ≡ new_app (codes "steps") = ap app_of_fields c.about.ensures ∙ c.new.ensures.app in
     let first = c.in_ok-arg.ensures.shape c.needed.ensures.local ∙ ap₂ with_rule named c.needed.ensures.rule in
     let second = c.in_ok-arg-2.ensures.shape c.needed-2.ensures.local ∙ ap₂ with_rule first c.needed-2.ensures.rule in
-    IfOk-weaker c.arg-3.result _ _ (λ new h. h.shape c.explain_option.ensures.local ∙ ap₂ with_rule second c.explain_option.ensures.rule) c.arg-3.ensures
+    IfOk-weaker c.arg-3.result _ _ (λ new h. h.shape c.optional.ensures.local ∙ ap₂ with_rule second c.optional.ensures.rule) c.arg-3.ensures

@@ -4,7 +4,8 @@ use Rattle.stable_store.specs.Stored.{after_decide}
 use Rattle.stable_store.specs.Held.{held}
 use Rattle.stable_store.specs.Calls.{Makes, IsExcused}
 use Rattle.sql_store.specs.Calls.{IsAtRest}
-use Rattle.sql_store.proofs.Made.{View, content, failures, is_honest, is_up, may_leave, made_ok, made_err}
+use Rattle.sql_store.specs.Views.{View, content, failures, is_honest, is_up, may_leave}
+use Rattle.sql_store.proofs.Made.{made_ok, made_err}
 use Rattle.sql_store.proofs.store.SqlStableStable.decide.Goals as goal
 
 pub invariant_of-self-in-Ok : goal.invariant_of-self-in-Ok

@@ -2,7 +2,8 @@ use Rattle.std.proofs.Common.{Ok, Err, refl, sym, ap, subst, ◌∙◌}
 use Rattle.stable_store.specs.declared.kept.Kept.{Kept}
 use Rattle.stable_store.specs.Held.{held}
 use Rattle.stable_store.specs.Calls.{Makes, IsExcused}
-use Rattle.sql_store.proofs.Made.{View, content, failures, is_honest, is_up, may_leave, made_ok, made_err}
+use Rattle.sql_store.specs.Views.{View, content, failures, is_honest, is_up, may_leave}
+use Rattle.sql_store.proofs.Made.{made_ok, made_err}
 use Rattle.sql_store.proofs.store.SqlStableStable.load.Goals as goal
 
 pub invariant_of-self-in-Ok : goal.invariant_of-self-in-Ok

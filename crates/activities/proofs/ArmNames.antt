@@ -1,0 +1,189 @@
+-- The arms of a `coenter`: the names with which they begin, of which no two are one.
+use Rattle.std.proofs.Common.{Bool, List, [], Option, None, Some, ap, ap₂, append_assoc, arith, false, length, refl, reverse, subst, suc, sym, true, ℕ, ◌++◌, ◌<◌, ◌||◌, ◌∙◌, ◌∷◌, ◌≡◌, ◌≢◌}
+use Rattle.std.proofs.lemmas.Bool.{false_from_ne_true, or_from, or_parts}
+use Rattle.std.proofs.lemmas.List.{reverse-append, reverse-reverse}
+use Rattle.action_names.specs.Names.{Name, child_of, has_name, last_of, parent_of, same_name}
+use Rattle.run_model.specs.declared.answer.Answer.{Answer}
+use Rattle.run_model.specs.declared.answer.Answer.TheVariants.{Began}
+use Rattle.run_model.specs.declared.answer.Refusal.{Refusal}
+use Rattle.run_model.specs.declared.history.Event.{Event}
+use Rattle.run_model.specs.declared.step.ArmKind.{ArmKind}
+use Rattle.run_model.specs.declared.step.ArmKind.TheVariants as arm
+use Rattle.run_model.specs.declared.step.Step.{Step}
+use Rattle.run_model.specs.declared.step.Step.TheVariants.{Arms}
+use Rattle.run_model.specs.Actions.{next_number}
+use Rattle.run_model.specs.Answers.{answer_of, outcome, refused_or}
+use Rattle.run_model.specs.Refusals.{arm_names, checks, first_refusal}
+use Rattle.run_model.specs.Replay.{Setup}
+use Rattle.run_model.specs.Runs.{IsRun, World, world_after}
+use Rattle.run_laws.proofs.Accepted.{makes_facts}
+use Rattle.run_laws.proofs.Begun.{nameless}
+use Rattle.run_laws.proofs.Names.{has_name_append, last_child, parent_child, same_name_self, same_name_true}
+use Rattle.activities.specs.Continuing.{AreDistinct, HaveBegun, IsAfter}
+use Rattle.activities.proofs.Steps.{step_begins}
+
+-- ---- the names of arms differ
+
+-- what has a parent is no top action
+child_no_top : (a : Name) (m n : ℕ) → (a ≡ [] → ⊥) → child_of a m ≡ n ∷ [] → ⊥
+child_no_top a m n named e = named (sym (parent_child a m) ∙ ap parent_of e)
+
+-- children with different numbers
+child_other : (a : Name) (m n : ℕ) → n < m → child_of a m ≡ child_of a n → ⊥
+child_other a m n less e = omega (arith, last_child a m, last_child a n, ap last_of e)
+
+-- a child with a lower number is none of the arms
+child_absent : (a : Name) (child top : ℕ) (kinds : List ArmKind) (n : ℕ) → (a ≡ [] → ⊥) → n < child
+    → has_name (arm_names a child top kinds) (child_of a n) ≡ false
+child_absent a child top [] n named less = refl
+child_absent a child top (arm.Sub ∷ kinds) n named less =
+    or_from _ _ (false_from_ne_true _ (λ h. child_other a child n less (same_name_true _ _ h)))
+    (child_absent a (suc child) top kinds n named (omega arith))
+child_absent a child top (arm.Top ∷ kinds) n named less =
+    or_from _ _ (false_from_ne_true _ (λ h. child_no_top a n top named (sym (same_name_true _ _ h))))
+    (child_absent a child (suc top) kinds n named less)
+
+-- a top action with a lower number is none of the arms
+top_absent : (a : Name) (child top : ℕ) (kinds : List ArmKind) (n : ℕ) → (a ≡ [] → ⊥) → n < top
+    → has_name (arm_names a child top kinds) (n ∷ []) ≡ false
+top_absent a child top [] n named less = refl
+top_absent a child top (arm.Sub ∷ kinds) n named less =
+    or_from _ _ (false_from_ne_true _ (λ h. child_no_top a child n named (same_name_true _ _ h)))
+    (top_absent a (suc child) top kinds n named less)
+top_absent a child top (arm.Top ∷ kinds) n named less =
+    or_from _ _ (false_from_ne_true _ (λ h. other (same_name_true _ _ h))) (top_absent a child (suc top) kinds n named (omega arith))
+  where
+    other : (top ∷ []) ≡ (n ∷ []) → ⊥
+    other e = omega (arith, ap last_of e)
+
+-- no two names are one: the first is not among the others, and so on
+data Differ : List Name → Type 0 where
+  none : Differ []
+  one_more : (a : Name) (names : List Name) → has_name names a ≡ false → Differ names → Differ (a ∷ names)
+
+arms_differ : (a : Name) (child top : ℕ) (kinds : List ArmKind) → (a ≡ [] → ⊥) → Differ (arm_names a child top kinds)
+arms_differ a child top [] named = none
+arms_differ a child top (arm.Sub ∷ kinds) named =
+    one_more _ _ (child_absent a (suc child) top kinds child named (omega arith)) (arms_differ a (suc child) top kinds named)
+arms_differ a child top (arm.Top ∷ kinds) named =
+    one_more _ _ (top_absent a child (suc top) kinds top named (omega arith)) (arms_differ a child (suc top) kinds named)
+
+-- what is not the first of two, and not the second, is neither
+absent_append : (xs ys : List Name) (a : Name) → has_name xs a ≡ false → has_name ys a ≡ false → has_name (xs ++ ys) a ≡ false
+absent_append xs ys a h k = has_name_append xs ys a ∙ or_from _ _ h k
+
+absent_parts : (xs ys : List Name) (a : Name) → has_name (xs ++ ys) a ≡ false → (has_name xs a ≡ false) × (has_name ys a ≡ false)
+absent_parts xs ys a h = or_parts _ _ (sym (has_name_append xs ys a) ∙ h)
+
+distinct_from : (names : List Name) → Differ names → AreDistinct names
+distinct_from names d before after a e = go before (subst Differ e d)
+  where
+    flipped : (b c : Name) → same_name b c ≡ false → same_name c b ≡ false
+    flipped b c h = false_from_ne_true _ (λ k. same b c h (same_name_true c b k))
+      where
+        same : (b c : Name) → same_name b c ≡ false → c ≡ b → ⊥
+        same b c h e = let k = same_name_self b in let f = subst (λ d. same_name b d ≡ false) e h in cc
+
+    go : (before : List Name) → Differ (before ++ (a ∷ after)) → has_name (before ++ after) a ≡ false
+    go [] (one_more b names h d) = h
+    go (c ∷ before) (one_more b names h d) =
+        let p = absent_parts before (a ∷ after) c h in
+        or_from _ _ (flipped a c (or_parts _ _ p.1).0) (go before d)
+
+-- ---- a list turned round
+
+has_reverse : (names : List Name) (a : Name) → has_name (reverse names) a ≡ has_name names a
+has_reverse [] a = refl
+has_reverse (b ∷ names) a =
+    ap (λ l. has_name l a) (reverse-append (b ∷ []) names) ∙ has_name_append (reverse names) (b ∷ []) a
+    ∙ ap (λ t. t || (same_name b a || false)) (has_reverse names a) ∙ turned (same_name b a) (has_name names a)
+  where
+    turned : (s t : Bool) → (t || (s || false)) ≡ (s || t)
+    turned true true = refl
+    turned true false = refl
+    turned false true = refl
+    turned false false = refl
+
+distinct_reverse : (names : List Name) → AreDistinct names → AreDistinct (reverse names)
+distinct_reverse names d before after a e =
+    let turned : names ≡ reverse after ++ (a ∷ reverse before) =
+    sym (reverse-reverse names) ∙ ap reverse e ∙ reverse-append before (a ∷ after)
+    ∙ ap (λ l. l ++ reverse before) (reverse-append (a ∷ []) after) ∙ append_assoc (reverse after) (a ∷ []) (reverse before) in
+    let h = absent_parts (reverse after) (reverse before) a (d (reverse after) (reverse before) a turned) in
+    absent_append before after a (sym (has_reverse before a) ∙ h.1) (sym (has_reverse after a) ∙ h.0)
+
+pub begun_reverse : (names : List Name) (old new : World) → HaveBegun names old new → HaveBegun (reverse names) old new
+begun_reverse names old new b = record {
+  are_open = λ a h. b.are_open a (sym (has_reverse names a) ∙ h);
+  before = λ a h. b.before a (sym (has_reverse names a) ∙ h);
+  only = λ a h k. has_reverse names a ∙ b.only a h k;
+}
+
+-- ---- the step that begins arms
+
+-- a step of which the outcome begins actions: where it begins none it was refused, and the world is as it was
+pub unless_begun : (w : World) (step : Step) (answer : Answer) (all : List Name) → outcome w.setup step w.past ≡ Began all
+    → answer ≡ answer_of w.setup step w.past → ((names : List Name) → answer ≢ Began names) → world_after w step answer ≡ w
+unfolding answer_of
+unless_begun w step answer all o h refused = go (first_refusal (checks w.setup step w.past)) h
+  where
+    go : (r : Option Refusal) → answer ≡ refused_or r (outcome w.setup step w.past) → world_after w step answer ≡ w
+    go None e = absurd (refused all (e ∙ o))
+    go (Some why) e = ap (λ b. world_after w step b) e
+
+arms_length : (a : Name) (child top : ℕ) (kinds : List ArmKind) → length (arm_names a child top kinds) ≡ length kinds
+arms_length a child top [] = refl
+arms_length a child top (arm.Sub ∷ kinds) = ap suc (arms_length a (suc child) top kinds)
+arms_length a child top (arm.Top ∷ kinds) = ap suc (arms_length a child (suc top) kinds)
+
+-- what it answers that it began
+arms_began : (setup : Setup) (a : Name) (kinds : List ArmKind) (past : List Event) (names : List Name)
+    → Began names ≡ answer_of setup (Arms a kinds) past → names ≡ arm_names a (next_number a past) (next_number [] past) kinds
+unfolding answer_of
+arms_began setup a kinds past names h = go (first_refusal (checks setup (Arms a kinds) past)) h
+  where
+    go : (o : Option Refusal) → Began names ≡ refused_or o (Began (arm_names a (next_number a past) (next_number [] past) kinds))
+        → names ≡ arm_names a (next_number a past) (next_number [] past) kinds
+    go None e = cc
+    go (Some why) e = cc
+
+-- as many as there are arms
+pub arms_begin_each : (setup : Setup) (a : Name) (kinds : List ArmKind) (past : List Event) (names : List Name)
+    → Began names ≡ answer_of setup (Arms a kinds) past → length names ≡ length kinds
+arms_begin_each setup a kinds past names h =
+    ap length (arms_began setup a kinds past names h) ∙ arms_length a (next_number a past) (next_number [] past) kinds
+
+-- no two of them are one, in either order
+pub arms_distinct : (setup : Setup) (a : Name) (kinds : List ArmKind) (past : List Event) (names : List Name) → IsRun setup past
+    → Began names ≡ answer_of setup (Arms a kinds) past → AreDistinct (reverse names)
+arms_distinct setup a kinds past names r h =
+    distinct_reverse names (subst AreDistinct (sym (arms_began setup a kinds past names h))
+    (distinct_from _ (arms_differ a (next_number a past) (next_number [] past) kinds named)))
+  where
+    e : Event
+    e = record { step = Arms a kinds; answer = Began names }
+
+    named : a ≡ [] → ⊥
+    named = nameless setup past a r (makes_facts setup e past a (h, refl, r) (same_name_self a)).0
+
+-- where it begins nothing it was refused, and the world is as it was
+pub arms_refused : (w : World) (a : Name) (kinds : List ArmKind) (answer : Answer) → answer ≡ answer_of w.setup (Arms a kinds) w.past
+    → ((names : List Name) → answer ≢ Began names) → world_after w (Arms a kinds) answer ≡ w
+arms_refused w a kinds answer h refused =
+    unless_begun w (Arms a kinds) answer (arm_names a (next_number a w.past) (next_number [] w.past) kinds) refl h refused
+
+-- the step that was made is the one of these arms
+pub together : (old new : World) (a b : Name) (ks all : List ArmKind) (answer : Answer) → answer ≡ answer_of old.setup (Arms a ks) old.past
+    → new ≡ world_after old (Arms a ks) answer → a ≡ b → ks ≡ all → IsAfter (Arms b all) old new
+together old new a b ks all answer h w e f =
+    w ∙ ap (λ x. world_after old (Arms a ks) x) h
+    ∙ ap₂ (λ x y. world_after old (Arms x y) (answer_of old.setup (Arms x y) old.past)) e f
+
+-- the arms' names, that of the first arm last, have just begun
+pub arms_begun : (old new : World) (a : Name) (ks : List ArmKind) (answer : Answer) (names turned : List Name) → IsRun old.setup old.past
+    → answer ≡ answer_of old.setup (Arms a ks) old.past → new ≡ world_after old (Arms a ks) answer → answer ≡ Began names
+    → turned ≡ reverse names → HaveBegun turned old new
+arms_begun old new a ks answer names turned r h w b t =
+    subst (λ l. HaveBegun l old new) (sym t) (begun_reverse names old new
+    (subst (λ v. HaveBegun names old v) (sym (w ∙ ap (λ x. world_after old (Arms a ks) x) b))
+    (step_begins old (Arms a ks) (Began names) r (sym b ∙ h))))

@@ -1,0 +1,80 @@
+-- What a turn of a loop or one more call leaves, by what it found.
+use Rattle.std.proofs.Common.{Err, IfSome, List, Ok, OnOk, Option, Result, Some, [], ap, arith, drop, get_or, length, refl, subst, suc, sym, ℕ, ◌++◌, ◌+◌, ◌<◌, ◌∙◌, ◌∷◌, ◌≡◌}
+use Rattle.std.proofs.Math.Seq.{drop-cons}
+use Rattle.std.specs.Prelude.{option_to_list}
+use Rattle.action_names.specs.Names.{Name}
+use Rattle.script_model.specs.declared.checked.Checked.{Checked}
+use Rattle.script_model.specs.declared.statement.Statement.{Statement}
+use Rattle.script_model.specs.Resolved.{Frames, asked}
+use Rattle.run_model.specs.Runs.{World}
+use Rattle.activities.specs.declared.flow.Flow.{Flow}
+use Rattle.activities.specs.declared.flow.Flow.TheVariants.{Aborted, Ended, Outwards, Returned}
+use Rattle.activities.specs.declared.frames.Frames.{Frames as Variables}
+use Rattle.activities.specs.declared.open_action.Called.{Called}
+use Rattle.activities.specs.declared.open_action.Called.TheVariants.{Began}
+use Rattle.activities.specs.Bodies.{IsBody, WhereEnded, Within, sizes}
+use Rattle.activities.specs.Ends.{called}
+use Rattle.activities.specs.Continuing.{HaveBegun}
+use Rattle.activities.proofs.Resolving.{rest_of, statement_grows, within_through}
+
+-- what is so after an error that did not come
+pub on_ok : {A E : Type 0} (r : Result A E) (P Q : Type 0) → (P → Q) → OnOk r P → OnOk r Q
+on_ok (Ok x) P Q f h = f h
+on_ok (Err e) P Q f h = tt
+
+-- where nothing was bound, however it ended
+pub nothing_bound : (flow : Flow) (f : Frames) → WhereEnded flow (f ≡ f)
+nothing_bound Ended f = refl
+nothing_bound (Returned v) f = tt
+nothing_bound Aborted f = tt
+nothing_bound (Outwards r) f = tt
+
+-- the same body, with as many variables
+pub same_body : (script new : Checked) (f g : Frames) (body : List Statement) → new ≡ script → g ≡ f → IsBody script f body → IsBody new g body
+same_body script new f g body e k h = subst (λ s. IsBody s g body) (sym e) (subst (λ x. IsBody script x body) (sym k) h)
+
+-- the statements after one of a body
+pub next_rest : (script new : Checked) (f g : Frames) (body : List Statement) (i : ℕ) (s : Statement) → i < length body → s ≡ get_or body i s
+    → new ≡ script → g ≡ (asked s).after f → IsBody script f (drop i body) → IsBody new g (drop (i + 1) body)
+next_rest script new f g body i s lt at e k h =
+    let cons : drop i body ≡ s ∷ drop (suc i) body = drop-cons body i s lt ∙ ap (λ x. x ∷ drop (suc i) body) (sym at) in
+    let one : suc i ≡ i + 1 = omega arith in
+    same_body script new ((asked s).after f) g (drop (i + 1) body) e k
+    (subst (λ n. IsBody script ((asked s).after f) (drop n body)) one
+    (rest_of script f s (drop (suc i) body) (subst (IsBody script f) cons h)))
+
+pub next_within : (old f g : Frames) (s : Statement) → Within old f → g ≡ (asked s).after f → Within old g
+next_within old f g s w k = subst (Within old) (sym k) (within_through old f ((asked s).after f) w (statement_grows s f))
+
+-- ---- what a value that was found is
+
+some_so : {A : Type 0} (o : Option A) (x : A) (P : A → Type 0) → o ≡ Some x → IfSome o P → P x
+some_so o x P e h = subst (λ p. IfSome p P) e h
+
+pub handed_sizes : (found : Option Variables) (inside : Variables) (f : Frames) → found ≡ Some inside → IfSome found (λ v. sizes v ≡ f) → sizes inside ≡ f
+handed_sizes found inside f = some_so found inside (λ v. sizes v ≡ f)
+
+pub ok_so : {A E : Type 0} (r : Result A E) (x : A) (P : Type 0) → r ≡ Ok x → OnOk r P → P
+ok_so r x P e h = subst (λ p. OnOk p P) e h
+
+pub copied_sizes : (f g : Variables) → g.ints.items ≡ f.ints.items → g.texts.items ≡ f.texts.items → g.truths.items ≡ f.truths.items
+    → sizes g ≡ sizes f
+copied_sizes f g a b c =
+    ap (λ l. record { ints = length l; texts = length g.texts.items; truths = length g.truths.items }) a
+    ∙ ap (λ l. record { ints = length f.ints.items; texts = length l; truths = length g.truths.items }) b
+    ∙ ap (λ l. record { ints = length f.ints.items; texts = length f.texts.items; truths = length l }) c
+
+-- a call that began its action
+pub called_began : (k : Called) (a n : Name) (x y : World) → k ≡ Began a → n ≡ a → HaveBegun (called k) x y → HaveBegun (n ∷ []) x y
+called_began k a n x y e m h = subst (λ b. HaveBegun (b ∷ []) x y) (sym m) (subst (λ o. HaveBegun (called o) x y) e h)
+
+-- the last of the names was taken
+pub popped : (names rest : List Name) (o : Option Name) (b a : Name) → names ≡ rest ++ option_to_list o → o ≡ Some b → a ≡ b → names ≡ rest ++ (a ∷ [])
+popped names rest o b a h e k = h ∙ ap (λ p. rest ++ option_to_list p) (e ∙ ap Some (sym k))
+
+one_longer : (rest : List Name) (a : Name) → length (rest ++ (a ∷ [])) ≡ length rest + 1
+one_longer [] a = refl
+one_longer (b ∷ rest) a = omega (arith, one_longer rest a)
+
+pub popped_length : (names rest : List Name) (a : Name) → names ≡ rest ++ (a ∷ []) → length names ≡ length rest + 1
+popped_length names rest a e = ap length e ∙ one_longer rest a

@@ -1,0 +1,11 @@
+pub mod ArmNames
+pub mod Clients
+pub mod Ending
+pub mod Following
+pub mod Going
+pub mod Resolving
+pub mod Steps
+pub mod Telling
+pub mod Unions
+pub mod Voting
+pub mod Ways

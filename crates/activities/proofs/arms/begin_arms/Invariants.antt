@@ -1,0 +1,6 @@
+use Rattle.std.proofs.Common.{take, ◌≡◌}
+use Rattle.activities.specs.Bodies.{kinds}
+use Rattle.activities.proofs.arms.begin_arms.Given as goal
+
+abbrev pub invariant-loop-arm : goal.invariant-loop-arm
+invariant-loop-arm l = l.kinds ≡ kinds (take l.arm-index l.arms)

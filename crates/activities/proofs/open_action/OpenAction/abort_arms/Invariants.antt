@@ -1,0 +1,12 @@
+use Rattle.std.proofs.Common.{OnOk, [], map}
+use Rattle.activities.specs.Continuing.{CommitsNone, EndsAll, EndsThese, GoesOn}
+use Rattle.activities.proofs.open_action.OpenAction.abort_arms.Given as goal
+
+abbrev pub invariant-loop-arm : goal.invariant-loop-arm
+invariant-loop-arm l = record {
+  goes_on : GoesOn l.fn.world l.world [];
+  commits : CommitsNone l.fn.world l.world;
+  ends : EndsAll l.fn.world l.world;
+  -- those so far
+  ended : OnOk l.fault (EndsThese (map (λ arm. arm.now) l.yielded) l.fn.world l.world);
+}

@@ -1,0 +1,86 @@
+-- How clients end, and what their actions leave of a world.
+use Rattle.std.specs.Prelude.{◌≡◌, ℕ, Bool, true, false, List, [], ◌∷◌, Option, Some, None, Result, Ok, Err, filter_map}
+use Rattle.std.specs.List.{AllByRecursion}
+use Rattle.action_names.specs.Names.{Name}
+use Rattle.run_model.specs.declared.answer.Answer.TheVariants as answer
+use Rattle.run_model.specs.declared.answer.Refusal.{Refusal}
+use Rattle.run_model.specs.declared.history.Event.{Event}
+use Rattle.run_model.specs.declared.step.Step.TheVariants.{Top}
+use Rattle.run_model.specs.Actions.{is_committed}
+use Rattle.run_model.specs.Answers.{answer_of}
+use Rattle.run_model.specs.Runs.{World}
+use Rattle.script_model.specs.declared.checked.Client.{Client}
+use Rattle.activities.specs.declared.client.ClientEnd.{ClientEnd}
+use Rattle.activities.specs.declared.flow.Flow.{Flow}
+use Rattle.activities.specs.declared.flow.Flow.TheVariants.{Ended, Returned}
+use Rattle.activities.specs.declared.open_action.Called.{Called}
+use Rattle.activities.specs.declared.open_action.Called.TheVariants.{Began}
+use Rattle.activities.specs.Continuing.{CommitsNone, GoesOn, EndsAll, HaveBegun}
+
+-- the top actions that ends name
+abbrev pub named : List ClientEnd → List Name
+named ends = filter_map (λ e. e.top) ends
+
+-- it is said to have committed exactly where it has
+abbrev pub is_told : Option Name → Bool → List Event → Type 0
+is_told None committed past = committed ≡ false
+is_told (Some a) committed past = committed ≡ is_committed a past
+
+-- what a client's end says is so, and a value comes only where it committed
+pub record IsEnd (past : List Event) (end : ClientEnd) : Type 0 where
+  pub told : is_told end.top end.committed past
+  pub value : end.committed ≡ false → end.value ≡ None
+
+-- an action that ended so has committed
+abbrev pub commits : Flow → Bool
+commits Ended = true
+commits (Returned value) = true
+commits _ = false
+
+-- whether it says so of what an action came to
+abbrev pub has_committed : {E : Type 0} → Result Flow E → Bool
+has_committed (Ok flow) = commits flow
+has_committed (Err fault) = false
+
+-- what a call began
+abbrev pub called : Called → List Name
+called (Began name) = name ∷ []
+called _ = []
+
+-- the action that is named, if one is
+abbrev pub named_by : Option Name → List Name
+named_by None = []
+named_by (Some a) = a ∷ []
+
+-- the `top` step at this guardian began the action, or was refused
+abbrev pub IsTopAt : ℕ → World → Option Name → Type 0
+IsTopAt home w None = (why : Refusal) × (answer_of w.setup (Top home) w.past ≡ answer.Refused why)
+IsTopAt home w (Some a) = answer_of w.setup (Top home) w.past ≡ answer.Began (a ∷ [])
+
+-- that step was made, and nothing else
+pub record TopMade (home : ℕ) (old new : World) (found : Option Name) : Type 0 where
+  pub top : IsTopAt home old found
+  pub goes_on : GoesOn old new (named_by found)
+  pub commits : CommitsNone old new
+  pub began : HaveBegun (named_by found) old new
+
+-- a client of this home was run: its end names exactly the action that a `top` step began
+pub record ClientRan (home : ℕ) (old new : World) (end : ClientEnd) : Type 0 where
+  pub began : IsTopAt home old end.top
+  pub goes_on : GoesOn old new (named_by end.top)
+  pub is_end : IsEnd new.past end
+  pub ended : EndsAll old new
+
+-- clients were run one after another, each from where the one before it had ended
+abbrev pub RanInTurn : List Client → World → World → List ClientEnd → Type 0
+RanInTurn [] old new ends = (ends ≡ []) × (new ≡ old)
+RanInTurn (client ∷ clients) old new [] = ⊥
+RanInTurn (client ∷ clients) old new (end ∷ ends) =
+    (next : World) × ClientRan client.home old next end × RanInTurn clients next new ends
+
+-- these clients were run: their ends name, in order, exactly the actions that `top` steps began
+pub record AreRun (clients : List Client) (old new : World) (ends : List ClientEnd) : Type 0 where
+  pub in_turn : RanInTurn clients old new ends
+  pub goes_on : GoesOn old new (named ends)
+  pub told : AllByRecursion (IsEnd new.past) ends
+  pub ended : EndsAll old new

@@ -1,0 +1,4 @@
+pub mod Continuing
+pub mod Ends
+pub mod Bodies
+pub mod Reaching

@@ -1,0 +1,447 @@
+ghost use Rattle.std.specs.Prelude.{◌≡◌, ◌+◌, ◌≤◌, [], ◌∷◌, length, IsTrue, IfOk, None, OnOk};
+ghost use Rattle.script_model.specs.Resolved.{IsResolved, asked, frames_after};
+ghost use Rattle.run_model.specs.Actions.{is_committed, is_ended};
+ghost use Rattle.run_model.specs.Runs.{IsRun};
+ghost use Rattle.activities.specs.Bodies.{AreArms, IsBody, IsCall, IsStatement, SignalsFollow, SignalsHold, WhereEnded, Within, sizes};
+ghost use Rattle.activities.specs.Continuing.{AreWaiting, CommitsAmong, CommitsNone, EndsAll, GoesOn, HaveRun, IsOpen};
+ghost use Rattle.activities.specs.Ends.{commits, has_committed};
+ghost use Rattle.activities.specs.declared.flow.Flow.TheVariants.{Aborted, Outwards};
+ghost use Rattle.activities.specs.declared.flow.Reach.TheVariants.{TopAction};
+
+use crate::arms::{arm_body, begin_arms};
+use crate::flow::{Flow, Reach};
+use crate::frames::Frames;
+use crate::open_action::{Called, OpenAction, Reached};
+use crate::operations::{Performed, perform};
+use action_names::Name;
+use atomic_types::Reply;
+use script_model::{Arm, Checked, HandlerCall, Statement};
+use sqlite_items::Items;
+use std::alloc::{AllocError, Global};
+use world::World;
+
+/// How many statements and turns of `repeat` an activity may begin.
+pub(crate) const BUDGET: u32 = 100_000;
+
+/// A client under way.
+#[derive(Drop)]
+pub(crate) struct Activity<'s> {
+    alloc: Global,
+    script: &'s Checked,
+    // statements and turns that it may still begin
+    left: u32,
+}
+
+impl<'s> Activity<'s> {
+    pub(crate) fn new(alloc: Global, script: &'s Checked) -> Activity<'s>
+        ensures { result.script.now ≡ script.now }
+    {
+        Activity {
+            alloc,
+            script,
+            left: BUDGET,
+        }
+    }
+
+    /// Takes a statement or a turn from the budget; false where nothing is left.
+    fn begin(&mut self) -> bool
+        ensures left { IsTrue result → self.old.left ≡ self.new.left + 1 }
+        ensures most { self.new.left ≤ self.old.left }
+        ensures script { self.new.script.now ≡ self.old.script.now }
+    {
+        if self.left == 0 {
+            return false;
+        }
+        self.left -= 1;
+        true
+    }
+
+    /// Runs a body as the action and ends the action. After an error the action has ended, or its abort wanted memory too.
+    #[cycle(activity)]
+    #[tactic(auto, using(crate::proofs::Ways::steps))]
+    pub(crate) fn run(
+        &mut self,
+        world: &mut World,
+        action: &mut OpenAction,
+        frames: &mut Frames,
+        body: &[Statement],
+    ) -> Result<Flow, AllocError>
+        requires script { IsResolved self.old.script.now }
+        requires body { IsBody self.old.script.now (sizes frames.old) body.now }
+        requires run { IsRun world.old.setup world.old.past }
+        requires open { IsOpen action.old.name world.old }
+        ensures goes_on { GoesOn world.old world.new [] }
+        ensures others { CommitsAmong (action.old.name ∷ []) world.old world.new }
+        ensures told { IfOk result (λ flow. commits flow ≡ is_committed action.old.name world.new.past) }
+        ensures ended { OnOk result (IsTrue (is_ended action.old.name world.new.past)) }
+        ensures ends { OnOk result (EndsAll world.old world.new) }
+        ensures left { self.new.left ≤ self.old.left }
+        ensures script { self.new.script.now ≡ self.old.script.now }
+        ensures name { action.new.name ≡ action.old.name }
+        ensures home { action.new.home ≡ action.old.home }
+    {
+        match self.body(world, action, frames, body) {
+            Ok(flow) => action.end(world, flow),
+            Err(fault) => {
+                let _ = action.abort(world);
+                Err(fault)
+            }
+        }
+    }
+
+    #[cycle(activity)]
+    #[tactic(auto, using(crate::proofs::Ways::turns))]
+    fn body(
+        &mut self,
+        world: &mut World,
+        action: &mut OpenAction,
+        frames: &mut Frames,
+        body: &[Statement],
+    ) -> Result<Flow, AllocError>
+        requires script { IsResolved self.old.script.now }
+        requires body { IsBody self.old.script.now (sizes frames.old) body.now }
+        requires run { IsRun world.old.setup world.old.past }
+        ensures goes_on { GoesOn world.old world.new [] }
+        ensures commits { CommitsNone world.old world.new }
+        ensures ends { OnOk result (EndsAll world.old world.new) }
+        ensures frames { IfOk result (λ flow. WhereEnded flow (Within (sizes frames.old) (sizes frames.new))) }
+        ensures left { self.new.left ≤ self.old.left }
+        ensures each { IfOk result (λ flow. WhereEnded flow (self.new.left + length body.now ≤ self.old.left)) }
+        ensures script { self.new.script.now ≡ self.old.script.now }
+        ensures name { action.new.name ≡ action.old.name }
+        ensures home { action.new.home ≡ action.old.home }
+    {
+        for statement in body {
+            if !self.begin() {
+                return Ok(Flow::Outwards(Reach::Client));
+            }
+            let flow = self.statement(world, action, frames, statement)?;
+            if !matches!(flow, Flow::Ended) {
+                return Ok(flow);
+            }
+        }
+        Ok(Flow::Ended)
+    }
+
+    /// A body within another: what it binds newly is forgotten at its end.
+    #[cycle(activity)]
+    #[tactic(auto, using(crate::proofs::Ways::steps))]
+    fn inner(
+        &mut self,
+        world: &mut World,
+        action: &mut OpenAction,
+        frames: &mut Frames,
+        body: &[Statement],
+    ) -> Result<Flow, AllocError>
+        requires script { IsResolved self.old.script.now }
+        requires body { IsBody self.old.script.now (sizes frames.old) body.now }
+        requires run { IsRun world.old.setup world.old.past }
+        ensures goes_on { GoesOn world.old world.new [] }
+        ensures commits { CommitsNone world.old world.new }
+        ensures ends { OnOk result (EndsAll world.old world.new) }
+        ensures frames { IfOk result (λ flow. WhereEnded flow (sizes frames.new ≡ sizes frames.old)) }
+        ensures left { self.new.left ≤ self.old.left }
+        ensures script { self.new.script.now ≡ self.old.script.now }
+        ensures name { action.new.name ≡ action.old.name }
+        ensures home { action.new.home ≡ action.old.home }
+    {
+        let sizes = frames.sizes();
+        let flow = self.body(world, action, frames, body)?;
+        frames.cut_to(sizes);
+        Ok(flow)
+    }
+
+    #[cycle(activity)]
+    #[tactic(auto, using(crate::proofs::Ways::steps, crate::proofs::Resolving::statements))]
+    fn statement(
+        &mut self,
+        world: &mut World,
+        action: &mut OpenAction,
+        frames: &mut Frames,
+        statement: &Statement,
+    ) -> Result<Flow, AllocError>
+        requires script { IsResolved self.old.script.now }
+        requires statement { IsStatement self.old.script.now (sizes frames.old) statement.now }
+        requires run { IsRun world.old.setup world.old.past }
+        ensures goes_on { GoesOn world.old world.new [] }
+        ensures commits { CommitsNone world.old world.new }
+        ensures ends { OnOk result (EndsAll world.old world.new) }
+        ensures frames { IfOk result (λ flow. WhereEnded flow (sizes frames.new ≡ (asked statement.now).after (sizes frames.old))) }
+        ensures left { self.new.left ≤ self.old.left }
+        ensures script { self.new.script.now ≡ self.old.script.now }
+        ensures name { action.new.name ≡ action.old.name }
+        ensures home { action.new.home ≡ action.old.home }
+    {
+        match statement {
+            Statement::Op(call, signals) => match perform(world, action, frames, call)? {
+                Performed::Granted => Ok(Flow::Ended),
+                Performed::Signalled => self.signalled(world, action, frames, signals),
+                Performed::Refused => Ok(Flow::Aborted),
+                Performed::Waits => Ok(wait()),
+            },
+            Statement::Call(call, signals) => self.call(world, action, frames, call, signals),
+            Statement::Coenter(arms) => self.coenter(world, action, frames, arms.as_slice()),
+            Statement::TopAction(body, signals) => {
+                self.top_action(world, action, frames, body.as_slice(), signals.as_slice())
+            }
+            Statement::If(condition, first, second) => match frames.holds(condition) {
+                Some(true) => self.inner(world, action, frames, first.as_slice()),
+                Some(false) => self.inner(world, action, frames, second.as_slice()),
+                None => Ok(Flow::Aborted),
+            },
+            Statement::Repeat(turns, body) => {
+                self.repeat(world, action, frames, *turns, body.as_slice())
+            }
+            Statement::Abort => Ok(Flow::Aborted),
+            Statement::Return(None) => Ok(Flow::Returned(None)),
+            Statement::Return(Some(expr)) => match frames.value(expr)? {
+                Some(value) => Ok(Flow::Returned(Some(value))),
+                None => Ok(Flow::Aborted),
+            },
+        }
+    }
+
+    /// What a statement does where it signals: its body for that, without which the innermost action aborts.
+    #[cycle(activity)]
+    #[tactic(auto, using(crate::proofs::Ways::turns))]
+    fn signalled(
+        &mut self,
+        world: &mut World,
+        action: &mut OpenAction,
+        frames: &mut Frames,
+        signals: &Option<Items<Statement>>,
+    ) -> Result<Flow, AllocError>
+        requires script { IsResolved self.old.script.now }
+        requires signals { SignalsHold self.old.script.now (sizes frames.old) signals.now }
+        requires run { IsRun world.old.setup world.old.past }
+        ensures goes_on { GoesOn world.old world.new [] }
+        ensures commits { CommitsNone world.old world.new }
+        ensures ends { OnOk result (EndsAll world.old world.new) }
+        ensures frames { IfOk result (λ flow. WhereEnded flow (sizes frames.new ≡ sizes frames.old)) }
+        ensures unheard { signals.now ≡ None → IfOk result (λ flow. flow ≡ Aborted) }
+        ensures left { self.new.left ≤ self.old.left }
+        ensures script { self.new.script.now ≡ self.old.script.now }
+        ensures name { action.new.name ≡ action.old.name }
+        ensures home { action.new.home ≡ action.old.home }
+    {
+        match signals {
+            Some(body) => self.inner(world, action, frames, body.as_slice()),
+            None => Ok(Flow::Aborted),
+        }
+    }
+
+    #[cycle(activity)]
+    #[tactic(auto, using(crate::proofs::Ways::turns))]
+    fn repeat(
+        &mut self,
+        world: &mut World,
+        action: &mut OpenAction,
+        frames: &mut Frames,
+        turns: u32,
+        body: &[Statement],
+    ) -> Result<Flow, AllocError>
+        requires script { IsResolved self.old.script.now }
+        requires body { IsBody self.old.script.now (sizes frames.old) body.now }
+        requires run { IsRun world.old.setup world.old.past }
+        ensures goes_on { GoesOn world.old world.new [] }
+        ensures commits { CommitsNone world.old world.new }
+        ensures ends { OnOk result (EndsAll world.old world.new) }
+        ensures frames { IfOk result (λ flow. WhereEnded flow (sizes frames.new ≡ sizes frames.old)) }
+        ensures left { self.new.left ≤ self.old.left }
+        ensures turns { IfOk result (λ flow. WhereEnded flow (self.new.left + turns ≤ self.old.left)) }
+        ensures script { self.new.script.now ≡ self.old.script.now }
+        ensures name { action.new.name ≡ action.old.name }
+        ensures home { action.new.home ≡ action.old.home }
+    {
+        for _ in 0..turns {
+            if !self.begin() {
+                return Ok(Flow::Outwards(Reach::Client));
+            }
+            let flow = self.inner(world, action, frames, body)?;
+            if !matches!(flow, Flow::Ended) {
+                return Ok(flow);
+            }
+        }
+        Ok(Flow::Ended)
+    }
+
+    /// A handler call: the handler's body as a subaction at its guardian.
+    #[cycle(activity)]
+    #[tactic(auto, using(crate::proofs::Ways::children))]
+    fn call(
+        &mut self,
+        world: &mut World,
+        action: &mut OpenAction,
+        frames: &mut Frames,
+        call: &HandlerCall,
+        signals: &Option<Items<Statement>>,
+    ) -> Result<Flow, AllocError>
+        requires script { IsResolved self.old.script.now }
+        requires call { IsCall self.old.script.now (sizes frames.old) call.now }
+        requires signals { SignalsFollow self.old.script.now (sizes frames.old) call.now.binding signals.now }
+        requires run { IsRun world.old.setup world.old.past }
+        ensures goes_on { GoesOn world.old world.new [] }
+        ensures commits { CommitsNone world.old world.new }
+        ensures ends { OnOk result (EndsAll world.old world.new) }
+        ensures frames { IfOk result (λ flow. WhereEnded flow (sizes frames.new ≡ frames_after (sizes frames.old) call.now.binding)) }
+        ensures left { self.new.left ≤ self.old.left }
+        ensures script { self.new.script.now ≡ self.old.script.now }
+        ensures name { action.new.name ≡ action.old.name }
+        ensures home { action.new.home ≡ action.old.home }
+    {
+        let script = self.script;
+        let handler = &script.handlers.as_slice()[call.handler as usize];
+        let Some(mut inside) = frames.arguments(self.alloc, call)? else {
+            return Ok(Flow::Aborted);
+        };
+        let reached = Reached::new(self.alloc, handler.guardian)?;
+        let name = match action.begin_call(world, handler.guardian)? {
+            Called::Began(name) => name,
+            Called::Signalled => return self.signalled(world, action, frames, signals),
+            Called::Refused => return Ok(Flow::Aborted),
+        };
+        let mut child = OpenAction::new(name, handler.guardian, reached);
+        let ended = self.run(world, &mut child, &mut inside, handler.body.as_slice());
+        let taken = action.take_in(&child, has_committed(&ended));
+        let flow = ended?;
+        taken?;
+        let reply = match flow {
+            Flow::Ended | Flow::Returned(None) => Reply::Done,
+            Flow::Returned(Some(value)) => Reply::Gives(value),
+            Flow::Aborted => return self.signalled(world, action, frames, signals),
+            Flow::Outwards(reach) => return Ok(Flow::Outwards(reach)),
+        };
+        if frames.bind(call.binding, reply)? {
+            Ok(Flow::Ended)
+        } else {
+            Ok(Flow::Aborted)
+        }
+    }
+
+    /// A nested top action, over a copy of the variables; where it aborts, the statement's body for that runs.
+    #[cycle(activity)]
+    #[tactic(auto, using(crate::proofs::Ways::children))]
+    fn top_action(
+        &mut self,
+        world: &mut World,
+        action: &mut OpenAction,
+        frames: &mut Frames,
+        body: &[Statement],
+        signals: &[Statement],
+    ) -> Result<Flow, AllocError>
+        requires script { IsResolved self.old.script.now }
+        requires body { IsBody self.old.script.now (sizes frames.old) body.now }
+        requires signals { IsBody self.old.script.now (sizes frames.old) signals.now }
+        requires run { IsRun world.old.setup world.old.past }
+        ensures goes_on { GoesOn world.old world.new [] }
+        ensures commits { CommitsNone world.old world.new }
+        ensures ends { OnOk result (EndsAll world.old world.new) }
+        ensures frames { IfOk result (λ flow. WhereEnded flow (sizes frames.new ≡ sizes frames.old)) }
+        ensures left { self.new.left ≤ self.old.left }
+        ensures script { self.new.script.now ≡ self.old.script.now }
+        ensures name { action.new.name ≡ action.old.name }
+        ensures home { action.new.home ≡ action.old.home }
+    {
+        let mut inside = frames.copy()?;
+        let reached = Reached::new(self.alloc, action.home)?;
+        let Some(name) = action.begin_nested(world)? else {
+            return Ok(Flow::Aborted);
+        };
+        let mut nested = OpenAction::new(name, action.home, reached);
+        match self.run(world, &mut nested, &mut inside, body)? {
+            Flow::Aborted => self.inner(world, action, frames, signals),
+            flow => Ok(flow),
+        }
+    }
+
+    /// Arms are begun together; where one returns or is left, those that have not run are aborted.
+    #[cycle(activity)]
+    #[tactic(auto, using(crate::proofs::Ways::together))]
+    fn coenter(
+        &mut self,
+        world: &mut World,
+        action: &mut OpenAction,
+        frames: &mut Frames,
+        arms: &[Arm],
+    ) -> Result<Flow, AllocError>
+        requires script { IsResolved self.old.script.now }
+        requires arms { AreArms self.old.script.now (sizes frames.old) arms.now }
+        requires run { IsRun world.old.setup world.old.past }
+        ensures goes_on { GoesOn world.old world.new [] }
+        ensures commits { CommitsNone world.old world.new }
+        ensures ends { OnOk result (EndsAll world.old world.new) }
+        ensures frames { IfOk result (λ flow. WhereEnded flow (sizes frames.new ≡ sizes frames.old)) }
+        ensures left { self.new.left ≤ self.old.left }
+        ensures script { self.new.script.now ≡ self.old.script.now }
+        ensures name { action.new.name ≡ action.old.name }
+        ensures home { action.new.home ≡ action.old.home }
+    {
+        let Some(mut waiting) = begin_arms(self.alloc, world, action, arms)? else {
+            return Ok(Flow::Aborted);
+        };
+        let ran = self.run_arms(world, action, frames, arms, &mut waiting);
+        let aborted = action.abort_arms(world, waiting.as_slice());
+        let flow = ran?;
+        aborted?;
+        Ok(flow)
+    }
+
+    /// Runs the arms in order, to the first that returns or is left. Each is over a copy of the variables. Of the names that are waiting the
+    /// last is that of the next arm.
+    #[cycle(activity)]
+    #[tactic(auto, using(crate::proofs::Ways::arms))]
+    fn run_arms(
+        &mut self,
+        world: &mut World,
+        action: &mut OpenAction,
+        frames: &mut Frames,
+        arms: &[Arm],
+        waiting: &mut Vec<Name>,
+    ) -> Result<Flow, AllocError>
+        requires script { IsResolved self.old.script.now }
+        requires arms { AreArms self.old.script.now (sizes frames.old) arms.now }
+        requires each { length waiting.old.items ≡ length arms.now }
+        requires run { IsRun world.old.setup world.old.past }
+        requires waiting { AreWaiting waiting.old.items world.old }
+        ensures goes_on { GoesOn world.old world.new [] }
+        ensures others { CommitsAmong waiting.old.items world.old world.new }
+        ensures ran { OnOk result (HaveRun waiting.old.items waiting.new.items world.new) }
+        ensures ends { OnOk result (EndsAll world.old world.new) }
+        ensures frames { sizes frames.new ≡ sizes frames.old }
+        ensures left { self.new.left ≤ self.old.left }
+        ensures script { self.new.script.now ≡ self.old.script.now }
+        ensures name { action.new.name ≡ action.old.name }
+        ensures home { action.new.home ≡ action.old.home }
+    {
+        for arm in arms {
+            let mut inside = frames.copy()?;
+            let reached = Reached::new(self.alloc, action.home)?;
+            let mut child = OpenAction::new(waiting.pop().unwrap(), action.home, reached);
+            let ended = self.run(world, &mut child, &mut inside, arm_body(arm));
+            let taken = match arm {
+                Arm::Sub(_) => action.take_in(&child, has_committed(&ended)),
+                Arm::Top(_) => Ok(()),
+            };
+            let flow = ended?;
+            taken?;
+            if !matches!(flow, Flow::Ended | Flow::Aborted) {
+                return Ok(flow);
+            }
+        }
+        Ok(Flow::Ended)
+    }
+}
+
+/// What comes of an operation that has to wait: nothing else runs meanwhile, so the enclosing top action aborts.
+fn wait() -> Flow
+    ensures { result ≡ Outwards TopAction }
+{
+    Flow::Outwards(Reach::TopAction)
+}
+
+/// Whether an action that came to this end committed.
+pub(crate) fn has_committed(ended: &Result<Flow, AllocError>) -> bool
+    ensures { result ≡ has_committed ended.now }
+{
+    matches!(ended, Ok(Flow::Ended) | Ok(Flow::Returned(_)))
+}

@@ -1,0 +1,60 @@
+ghost use Rattle.std.specs.Prelude.{◌≡◌, [], length, IfOk, IfSome, None};
+ghost use Rattle.run_model.specs.declared.step.Step.TheVariants.{Arms};
+ghost use Rattle.run_model.specs.Runs.{IsRun};
+ghost use Rattle.activities.specs.Bodies.{body_of, kind_of, kinds};
+ghost use Rattle.activities.specs.Continuing.{AreDistinct, CommitsNone, GoesOn, HaveBegun, IsAfter};
+
+use crate::open_action::OpenAction;
+use action_names::Name;
+use run_model::{Answer, ArmKind, ArmKinds, Step};
+use script_model::{Arm, Statement};
+use std::alloc::{AllocError, Global};
+use world::World;
+
+/// Begins the arms together, and gives their names, that of the first arm last; none where that is refused.
+pub(crate) fn begin_arms(
+    alloc: Global,
+    world: &mut World,
+    action: &OpenAction,
+    arms: &[Arm],
+) -> Result<Option<Vec<Name>>, AllocError>
+    requires { IsRun world.old.setup world.old.past }
+    ensures goes_on { GoesOn world.old world.new [] }
+    ensures commits { CommitsNone world.old world.new }
+    ensures together { IfOk result (λ found. IsAfter (Arms action.now.name (kinds arms.now)) world.old world.new) }
+    ensures each { IfOk result (λ found. IfSome found (λ names. length names.items ≡ length arms.now)) }
+    ensures began { IfOk result (λ found. IfSome found (λ names. HaveBegun names.items world.old world.new)) }
+    ensures distinct { IfOk result (λ found. IfSome found (λ names. AreDistinct names.items)) }
+    ensures refused { IfOk result (λ found. found ≡ None → world.new ≡ world.old) }
+{
+    let mut kinds = ArmKinds::new(alloc);
+    for arm in arms {
+        kinds.push(arm_kind(arm))?;
+    }
+    match world.step(&Step::Arms(action.name.copy()?, kinds))? {
+        Answer::Began(names) => {
+            let mut names = names.into_vec();
+            names.reverse();
+            Ok(Some(names))
+        }
+        _ => Ok(None),
+    }
+}
+
+fn arm_kind(arm: &Arm) -> ArmKind
+    ensures { result ≡ kind_of arm.now }
+{
+    match arm {
+        Arm::Sub(_) => ArmKind::Sub,
+        Arm::Top(_) => ArmKind::Top,
+    }
+}
+
+pub(crate) fn arm_body(arm: &Arm) -> &[Statement]
+    ensures { result.now ≡ body_of arm.now }
+{
+    match arm {
+        Arm::Sub(body) => body.as_slice(),
+        Arm::Top(body) => body.as_slice(),
+    }
+}

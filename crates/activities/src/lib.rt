@@ -1,0 +1,18 @@
+//! Runs the clients of a checked script as actions of a world.
+//!
+//! A client is an activity: one top action, whose body is gone through statement by statement. The world is changed by its
+//! steps alone. Here the clients run one after another, and the arms of a `coenter` too.
+#![tactic(auto)]
+
+mod activity;
+mod arms;
+mod client;
+mod flow;
+mod frames;
+mod open_action;
+mod operations;
+mod serial;
+
+pub use client::ClientEnd;
+pub use script_model::Checked;
+pub use serial::run_serial;

@@ -1,0 +1,416 @@
+ghost use Rattle.std.specs.Prelude.{◌≡◌, [], ◌∷◌, List, false, length, IsTrue, IfOk, None, OnOk, OnErr};
+ghost use Rattle.action_names.specs.Names.{Name};
+ghost use Rattle.run_model.specs.declared.answer.Answer.TheVariants.{Began};
+ghost use Rattle.run_model.specs.declared.step.Step.TheVariants.{Abort, Prepare};
+ghost use Rattle.run_model.specs.Actions.{is_begun, is_committed, is_ended, maker_in, names_begun};
+ghost use Rattle.run_model.specs.Answers.{answer_of};
+ghost use Rattle.run_model.specs.Runs.{IsRun, world_after};
+ghost use Rattle.activities.specs.Continuing.{GoesOn, CommitsAmong, CommitsBy, CommitsNone, EndsAll, EndsThese, HaveBegun, IsAfter, IsNoTop, IsOpen};
+ghost use Rattle.activities.specs.Reaching.{AreTold, IsHeld, IsUnion, is_made, is_yes};
+ghost use Rattle.activities.specs.Ends.{called, commits, named_by};
+
+use crate::flow::{Flow, Reach};
+use action_names::{Name, Names};
+use atomic_types::Op;
+use run_model::{Answer, ObjectId, Refusal, Step};
+use std::alloc::{AllocError, Global};
+use std::collections::BTreeSet;
+use world::World;
+
+/// Guardians that an action has to do with, in rising number.
+#[derive(Drop)]
+pub(crate) struct Reached {
+    /// Those that are home to it or a descendant.
+    homes: BTreeSet<u32>,
+    /// Its home and those of what was committed into it.
+    participants: BTreeSet<u32>,
+}
+
+impl Reached {
+    /// What an action has to do with when it begins at this home.
+    pub(crate) fn new(alloc: Global, home: u32) -> Result<Reached, AllocError>
+        ensures homes { IfOk result (λ reached. reached.homes.keys ≡ home ∷ []) }
+        ensures participants { IfOk result (λ reached. reached.participants.keys ≡ home ∷ []) }
+    {
+        let mut homes = BTreeSet::new(alloc);
+        homes.insert(home)?;
+        let mut participants = BTreeSet::new(alloc);
+        participants.insert(home)?;
+        Ok(Reached {
+            homes,
+            participants,
+        })
+    }
+}
+
+/// An action that is running.
+#[derive(Drop)]
+pub(crate) struct OpenAction {
+    pub(crate) name: Name,
+    pub(crate) home: u32,
+    reached: Reached,
+}
+
+/// What came of a call.
+#[derive(Drop)]
+pub(crate) enum Called {
+    Began(Name),
+    /// The guardian is down, or the action would be nested too deeply.
+    Signalled,
+    Refused,
+}
+
+impl OpenAction {
+    pub(crate) fn new(name: Name, home: u32, reached: Reached) -> OpenAction
+        ensures name { result.name ≡ name }
+        ensures home { result.home ≡ home }
+        ensures reached { result.reached ≡ reached }
+    {
+        OpenAction {
+            name,
+            home,
+            reached,
+        }
+    }
+
+    /// Begins a subaction of it at a guardian.
+    pub(crate) fn begin_call(&self, world: &mut World, guardian: u32) -> Result<Called, AllocError>
+        requires { IsRun world.old.setup world.old.past }
+        ensures goes_on { GoesOn world.old world.new [] }
+        ensures commits { CommitsNone world.old world.new }
+        ensures began { IfOk result (λ c. HaveBegun (called c) world.old world.new) }
+    {
+        let answer = make(world, Step::Call(self.name.copy()?, guardian))?;
+        Ok(what_came(answer))
+    }
+
+    /// Begins a nested top action that it starts; none where that is refused.
+    pub(crate) fn begin_nested(&self, world: &mut World) -> Result<Option<Name>, AllocError>
+        requires { IsRun world.old.setup world.old.past }
+        ensures goes_on { GoesOn world.old world.new [] }
+        ensures commits { CommitsNone world.old world.new }
+        ensures began { IfOk result (λ found. HaveBegun (named_by found) world.old world.new) }
+    {
+        let answer = make(world, Step::NestedTop(self.name.copy()?))?;
+        Ok(started(answer))
+    }
+
+    /// Makes an operation on an object of its home.
+    pub(crate) fn perform(
+        &self,
+        world: &mut World,
+        object: u32,
+        operation: Op,
+    ) -> Result<Answer, AllocError>
+        requires { IsRun world.old.setup world.old.past }
+        ensures goes_on { GoesOn world.old world.new [] }
+        ensures commits { CommitsNone world.old world.new }
+        ensures ends { EndsAll world.old world.new }
+    {
+        let object = ObjectId {
+            guardian: self.home,
+            number: object,
+        };
+        make(world, Step::Op(self.name.copy()?, object, operation))
+    }
+
+    /// Learns where a subaction of it, which has ended, and the descendants of that had their homes, and where it committed from.
+    pub(crate) fn take_in(&mut self, child: &OpenAction, committed: bool) -> Result<(), AllocError>
+        ensures name { self.new.name ≡ self.old.name }
+        ensures home { self.new.home ≡ self.old.home }
+        ensures homes { OnOk result (IsUnion self.old.reached.homes child.now.reached.homes self.new.reached.homes) }
+        ensures joined { OnOk result
+            (IsTrue committed → IsUnion self.old.reached.participants child.now.reached.participants self.new.reached.participants) }
+        ensures kept { committed ≡ false → self.new.reached.participants ≡ self.old.reached.participants }
+    {
+        add_all(&mut self.reached.homes, &child.reached.homes)?;
+        if committed {
+            add_all(&mut self.reached.participants, &child.reached.participants)?;
+        }
+        Ok(())
+    }
+
+    /// Ends it as its body ended, and says how: where it cannot commit it aborts. After an error it has ended, or its abort
+    /// wanted memory too.
+    pub(crate) fn end(&self, world: &mut World, flow: Flow) -> Result<Flow, AllocError>
+        requires run { IsRun world.old.setup world.old.past }
+        requires open { IsOpen self.now.name world.old }
+        ensures goes_on { GoesOn world.old world.new [] }
+        ensures others { CommitsAmong (self.now.name ∷ []) world.old world.new }
+        ensures told { IfOk result (λ end. commits end ≡ is_committed self.now.name world.new.past) }
+        ensures ended { OnOk result (IsTrue (is_ended self.now.name world.new.past)) }
+        ensures ends { EndsAll world.old world.new }
+    {
+        match self.try_end(world, wants_commit(&flow)) {
+            Ok(true) => Ok(flow),
+            Ok(false) => Ok(self.aborted(flow)),
+            Err(fault) => {
+                let _ = self.abort(world);
+                Err(fault)
+            }
+        }
+    }
+
+    /// Commits it where that is wanted; where it cannot, and else, aborts it. Whether it has committed.
+    fn try_end(&self, world: &mut World, wanted: bool) -> Result<bool, AllocError>
+        requires run { IsRun world.old.setup world.old.past }
+        requires open { IsOpen self.now.name world.old }
+        ensures goes_on { GoesOn world.old world.new [] }
+        ensures others { CommitsAmong (self.now.name ∷ []) world.old world.new }
+        ensures told { IfOk result (λ done. done ≡ is_committed self.now.name world.new.past) }
+        ensures wanted { IfOk result (λ done. IsTrue done → IsTrue wanted) }
+        ensures ended { OnOk result (IsTrue (is_ended self.now.name world.new.past)) }
+        ensures ends { EndsAll world.old world.new }
+    {
+        if wanted {
+            self.commit_or_abort(world)
+        } else {
+            self.abort(world)?;
+            Ok(false)
+        }
+    }
+
+    fn commit_or_abort(&self, world: &mut World) -> Result<bool, AllocError>
+        requires run { IsRun world.old.setup world.old.past }
+        requires open { IsOpen self.now.name world.old }
+        ensures goes_on { GoesOn world.old world.new [] }
+        ensures others { CommitsAmong (self.now.name ∷ []) world.old world.new }
+        ensures told { IfOk result (λ done. done ≡ is_committed self.now.name world.new.past) }
+        ensures ended { OnOk result (IsTrue (is_ended self.now.name world.new.past)) }
+        ensures ends { EndsAll world.old world.new }
+    {
+        if self.commit(world)? {
+            return Ok(true);
+        }
+        self.abort(world)?;
+        Ok(false)
+    }
+
+    /// How it ended where it has aborted and its body ended so.
+    fn aborted(&self, flow: Flow) -> Flow
+        ensures { commits result ≡ false }
+    {
+        let Flow::Outwards(reach) = flow else {
+            return Flow::Aborted;
+        };
+        if self.name.is_top() && reach == Reach::TopAction {
+            Flow::Aborted
+        } else {
+            Flow::Outwards(reach)
+        }
+    }
+
+    /// Commits it, and tells so; whether that succeeded.
+    fn commit(&self, world: &mut World) -> Result<bool, AllocError>
+        requires run { IsRun world.old.setup world.old.past }
+        requires open { IsOpen self.now.name world.old }
+        ensures goes_on { GoesOn world.old world.new [] }
+        ensures others { CommitsAmong (self.now.name ∷ []) world.old world.new }
+        ensures told { IfOk result (λ done. done ≡ is_committed self.now.name world.new.past) }
+        ensures homes { IfOk result (λ done. IsTrue done → AreTold self.now.reached.homes self.now.name world.new) }
+        ensures ends { EndsAll world.old world.new }
+    {
+        if !self.try_commit(world)? {
+            return Ok(false);
+        }
+        tell(world, &self.name, &self.reached.homes)?;
+        Ok(true)
+    }
+
+    /// Commits it; whether that succeeded.
+    fn try_commit(&self, world: &mut World) -> Result<bool, AllocError>
+        requires run { IsRun world.old.setup world.old.past }
+        requires open { IsOpen self.now.name world.old }
+        ensures goes_on { GoesOn world.old world.new [] }
+        ensures others { CommitsAmong (self.now.name ∷ []) world.old world.new }
+        ensures told { IfOk result (λ done. done ≡ is_committed self.now.name world.new.past) }
+        ensures ends { EndsAll world.old world.new }
+    {
+        if self.name.is_top() {
+            self.commit_top(world)
+        } else {
+            try_step(world, Step::Commit(self.name.copy()?))
+        }
+    }
+
+    /// Commits it by two phases; false at the first participant that does not vote yes.
+    fn commit_top(&self, world: &mut World) -> Result<bool, AllocError>
+        requires run { IsRun world.old.setup world.old.past }
+        requires open { IsOpen self.now.name world.old }
+        ensures goes_on { GoesOn world.old world.new [] }
+        ensures others { CommitsAmong (self.now.name ∷ []) world.old world.new }
+        ensures told { IfOk result (λ done. done ≡ is_committed self.now.name world.new.past) }
+        ensures held { IfOk result (λ done. done ≡ false → IsHeld self.now.reached.participants self.now.name world.old world.new) }
+        ensures ends { EndsAll world.old world.new }
+    {
+        if !try_step(world, Step::Close(self.name.copy()?))? {
+            return Ok(false);
+        }
+        for guardian in &self.reached.participants {
+            if !prepare(world, *guardian, &self.name)? {
+                return Ok(false);
+            }
+        }
+        try_step(world, Step::Decide(self.name.copy()?))
+    }
+
+    /// Aborts it, and tells so.
+    pub(crate) fn abort(&self, world: &mut World) -> Result<(), AllocError>
+        requires { IsRun world.old.setup world.old.past }
+        ensures goes_on { GoesOn world.old world.new [] }
+        ensures commits { CommitsNone world.old world.new }
+        ensures ended { OnOk result (EndsThese (self.now.name ∷ []) world.old world.new) }
+        ensures told { OnOk result (AreTold self.now.reached.homes self.now.name world.new) }
+        ensures ends { EndsAll world.old world.new }
+    {
+        try_step(world, Step::Abort(self.name.copy()?))?;
+        tell(world, &self.name, &self.reached.homes)
+    }
+
+    /// Aborts arms of it that have not run, of which the last is the first to be aborted, and tells so. Also after an error the others are
+    /// aborted.
+    pub(crate) fn abort_arms(&self, world: &mut World, arms: &[Name]) -> Result<(), AllocError>
+        requires { IsRun world.old.setup world.old.past }
+        ensures goes_on { GoesOn world.old world.new [] }
+        ensures commits { CommitsNone world.old world.new }
+        ensures ended { OnOk result (EndsThese arms.now world.old world.new) }
+        ensures ends { EndsAll world.old world.new }
+    {
+        let mut fault = Ok(());
+        for arm in arms.iter().rev() {
+            fault = fault.and(abort_at_home(world, arm, self.home));
+        }
+        fault
+    }
+}
+
+/// Aborts an action that has done nothing yet, and tells its home.
+fn abort_at_home(world: &mut World, action: &Name, home: u32) -> Result<(), AllocError>
+    requires { IsRun world.old.setup world.old.past }
+    ensures goes_on { GoesOn world.old world.new [] }
+    ensures commits { CommitsNone world.old world.new }
+    ensures ended { OnOk result (EndsThese (action.now ∷ []) world.old world.new) }
+    ensures ends { EndsAll world.old world.new }
+{
+    try_step(world, Step::Abort(action.copy()?))?;
+    try_step(world, Step::Tell(home, action.copy()?))?;
+    Ok(())
+}
+
+/// Tells the outcome of an action to guardians, in rising number. Those that are down refuse it.
+fn tell(world: &mut World, action: &Name, guardians: &BTreeSet<u32>) -> Result<(), AllocError>
+    requires { IsRun world.old.setup world.old.past }
+    ensures goes_on { GoesOn world.old world.new [] }
+    ensures commits { CommitsNone world.old world.new }
+    ensures told { OnOk result (AreTold guardians.now action.now world.new) }
+    ensures ends { EndsAll world.old world.new }
+{
+    for guardian in guardians {
+        try_step(world, Step::Tell(*guardian, action.copy()?))?;
+    }
+    Ok(())
+}
+
+/// What came of a call that was answered so.
+fn what_came(answer: Answer) -> Called
+    requires { (names : List Name) → answer ≡ Began names → length names ≡ 1 }
+    ensures { called result ≡ names_begun answer }
+{
+    match answer {
+        Answer::Began(names) => Called::Began(only(names)),
+        Answer::Refused(Refusal::Down | Refusal::TooDeep) => Called::Signalled,
+        _ => Called::Refused,
+    }
+}
+
+/// The action that an answer began, of which there is one at most.
+fn started(answer: Answer) -> Option<Name>
+    requires { (names : List Name) → answer ≡ Began names → length names ≡ 1 }
+    ensures { named_by result ≡ names_begun answer }
+{
+    match answer {
+        Answer::Began(names) => Some(only(names)),
+        _ => None,
+    }
+}
+
+/// Asks a guardian for its vote on a top action; whether that is yes.
+fn prepare(world: &mut World, guardian: u32, top: &Name) -> Result<bool, AllocError>
+    requires { IsRun world.old.setup world.old.past }
+    ensures goes_on { GoesOn world.old world.new [] }
+    ensures commits { CommitsNone world.old world.new }
+    ensures after { OnOk result (IsAfter (Prepare guardian top.now) world.old world.new) }
+    ensures yes { IfOk result (λ yes. yes ≡ is_yes (answer_of world.old.setup (Prepare guardian top.now) world.old.past)) }
+    ensures ends { EndsAll world.old world.new }
+{
+    let vote = make(world, Step::Prepare(guardian, top.copy()?))?;
+    Ok(is_yes(vote))
+}
+
+fn is_yes(answer: Answer) -> bool
+    ensures { result ≡ is_yes answer }
+{
+    matches!(answer, Answer::VoteYes)
+}
+
+/// Makes a step; whether it was done.
+fn try_step(world: &mut World, step: Step) -> Result<bool, AllocError>
+    requires run { IsRun world.old.setup world.old.past }
+    requires step { IsNoTop step }
+    ensures goes_on { GoesOn world.old world.new [] }
+    ensures commits { CommitsBy step world.old world.new }
+    ensures after { OnOk result (IsAfter step world.old world.new) }
+    ensures done { IfOk result (λ done. done ≡ is_made (answer_of world.old.setup step world.old.past)) }
+    ensures aborts { OnOk result ((a : Name) → step ≡ Abort a → IsTrue (is_begun a world.old.past) → IsTrue (is_ended a world.new.past)) }
+    ensures ends { maker_in step ≡ None → EndsAll world.old world.new }
+{
+    let answer = make(world, step)?;
+    Ok(is_done(answer))
+}
+
+fn is_done(answer: Answer) -> bool
+    ensures { result ≡ is_made answer }
+{
+    matches!(answer, Answer::Done(_))
+}
+
+/// Whether an action whose body ended so is to commit.
+fn wants_commit(flow: &Flow) -> bool
+    ensures { result ≡ commits flow.now }
+{
+    matches!(flow, Flow::Ended | Flow::Returned(_))
+}
+
+/// Adds the guardians of a set to another.
+fn add_all(to: &mut BTreeSet<u32>, guardians: &BTreeSet<u32>) -> Result<(), AllocError>
+    ensures { OnOk result (IsUnion to.old guardians.now to.new) }
+{
+    for guardian in guardians {
+        to.insert(*guardian)?;
+    }
+    Ok(())
+}
+
+/// The name, of which there is one.
+pub(crate) fn only(names: Names) -> Name
+    requires { length names ≡ 1 }
+    ensures { names ≡ result ∷ [] }
+{
+    names.into_vec().pop().unwrap()
+}
+
+/// Makes a step that begins no top action of its own accord.
+fn make(world: &mut World, step: Step) -> Result<Answer, AllocError>
+    requires run { IsRun world.old.setup world.old.past }
+    requires step { IsNoTop step }
+    ensures goes_on { GoesOn world.old world.new [] }
+    ensures commits { CommitsBy step world.old world.new }
+    ensures answer { IfOk result (λ answer. answer ≡ answer_of world.old.setup step world.old.past) }
+    ensures after { IfOk result (λ answer. world.new ≡ world_after world.old step answer) }
+    ensures err { OnErr result (world.new ≡ world.old) }
+    ensures began { IfOk result (λ answer. HaveBegun (names_begun answer) world.old world.new) }
+    ensures aborts { OnOk result ((a : Name) → step ≡ Abort a → IsTrue (is_begun a world.old.past) → IsTrue (is_ended a world.new.past)) }
+    ensures ends { maker_in step ≡ None → EndsAll world.old world.new }
+{
+    world.step(&step)
+}

@@ -1,0 +1,60 @@
+ghost use Rattle.std.specs.Prelude.{◌≡◌, [], IsTrue, IfOk};
+ghost use Rattle.script_model.specs.Resolved.{binding_is_bound};
+ghost use Rattle.run_model.specs.Runs.{IsRun};
+ghost use Rattle.activities.specs.Bodies.{IsOp, IsPerformed, sizes};
+ghost use Rattle.activities.specs.Continuing.{CommitsNone, EndsAll, GoesOn};
+
+use crate::frames::Frames;
+use crate::open_action::OpenAction;
+use atomic_types::Reply;
+use run_model::Answer;
+use script_model::{Binding, ObjectCall};
+use std::alloc::AllocError;
+use world::World;
+
+/// What came of an operation.
+#[derive(Drop)]
+pub(crate) enum Performed {
+    Granted,
+    Signalled,
+    Refused,
+    Waits,
+}
+
+/// Makes an operation, and binds what it replies.
+pub(crate) fn perform(
+    world: &mut World,
+    action: &OpenAction,
+    frames: &mut Frames,
+    call: &ObjectCall,
+) -> Result<Performed, AllocError>
+    requires run { IsRun world.old.setup world.old.past }
+    requires call { IsOp (sizes frames.old) call.now }
+    ensures goes_on { GoesOn world.old world.new [] }
+    ensures commits { CommitsNone world.old world.new }
+    ensures ends { EndsAll world.old world.new }
+    ensures frames { IfOk result (λ done. IsPerformed done call.now.binding (sizes frames.old) (sizes frames.new)) }
+{
+    let Some(operation) = frames.operation(&call.operation)? else {
+        return Ok(Performed::Refused);
+    };
+    match action.perform(world, call.object, operation)? {
+        Answer::Granted(reply) => bind(frames, call.binding, reply),
+        Answer::Waits(_) => Ok(Performed::Waits),
+        _ => Ok(Performed::Refused),
+    }
+}
+
+fn bind(frames: &mut Frames, binding: Binding, reply: Reply) -> Result<Performed, AllocError>
+    requires { IsTrue (binding_is_bound (sizes frames.old) binding) }
+    ensures { IfOk result (λ done. IsPerformed done binding (sizes frames.old) (sizes frames.new)) }
+{
+    if matches!(reply, Reply::Signals(_)) {
+        return Ok(Performed::Signalled);
+    }
+    if frames.bind(binding, reply)? {
+        Ok(Performed::Granted)
+    } else {
+        Ok(Performed::Refused)
+    }
+}

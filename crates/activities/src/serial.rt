@@ -1,0 +1,103 @@
+ghost use Rattle.std.specs.Prelude.{◌≡◌, false, None, List, length, IfOk, IsTrue, OnErr};
+ghost use Rattle.script_model.specs.Resolved.{IsResolved, is_resolved_client};
+ghost use Rattle.action_names.specs.Names as names;
+ghost use Rattle.run_model.specs.Runs.{IsRun};
+ghost use Rattle.activities.specs.Continuing.{CommitsNone, EndsAll, GoesOn};
+ghost use Rattle.activities.specs.Ends.{AreRun, ClientRan, TopMade, commits};
+
+use crate::activity::{Activity, has_committed};
+use crate::client::ClientEnd;
+use crate::flow::Flow;
+use crate::frames::Frames;
+use crate::open_action::{OpenAction, Reached, only};
+use action_names::Name;
+use run_model::{Answer, Step};
+use script_model::{Checked, Client};
+use std::alloc::{AllocError, Global};
+use values::Value;
+use world::World;
+
+/// Runs the clients of a script one after another, each to its end, and gives how they ended, in their order. The arms of a `coenter` are
+/// begun together and run in order. An operation that would wait aborts the enclosing top action.
+///
+/// `Err` comes for want of memory alone. A client that lacks memory aborts its open actions, outwards, as far as there is memory for that,
+/// and the others are run all the same.
+pub fn run_serial(
+    alloc: Global,
+    world: &mut World,
+    script: &Checked,
+) -> Result<Vec<ClientEnd>, AllocError>
+    requires { IsResolved script.now }
+    ensures ok { IfOk result (λ ends. AreRun script.now.clients world.old world.new ends.items) }
+    ensures err { OnErr result ((tops : List names.Name) × GoesOn world.old world.new tops) }
+{
+    // so that what happened before is known to be a run
+    let _ = world.history();
+    let clients = script.clients.as_slice();
+    let mut ends = Vec::with_capacity(alloc, clients.len())?;
+    let mut fault = Ok(());
+    for client in clients {
+        match run_client(alloc, world, script, client) {
+            Ok(end) => ends.push(end)?,
+            Err(error) => fault = Err(error),
+        }
+    }
+    fault?;
+    Ok(ends)
+}
+
+fn run_client(
+    alloc: Global,
+    world: &mut World,
+    script: &Checked,
+    client: &Client,
+) -> Result<ClientEnd, AllocError>
+    requires script { IsResolved script.now }
+    requires client { IsTrue (is_resolved_client script.now client.now) }
+    requires run { IsRun world.old.setup world.old.past }
+    ensures ok { IfOk result (λ end. ClientRan client.now.home world.old world.new end) }
+    ensures commits { CommitsNone world.old world.new }
+    ensures err { OnErr result ((tops : List names.Name) × GoesOn world.old world.new tops) }
+{
+    let reached = Reached::new(alloc, client.home)?;
+    let Some(name) = begin_top(world, client.home)? else {
+        return Ok(ClientEnd {
+            top: None,
+            committed: false,
+            value: None,
+        });
+    };
+    let mut top = OpenAction::new(name, client.home, reached);
+    let mut frames = Frames::new(alloc);
+    let body = client.body.as_slice();
+    let ended = Activity::new(alloc, script).run(world, &mut top, &mut frames, body);
+    let committed = has_committed(&ended);
+    let flow = ended?;
+    Ok(ClientEnd {
+        top: Some(top.name),
+        committed,
+        value: returned(flow),
+    })
+}
+
+/// Begins a top action at a guardian; none where that is refused.
+fn begin_top(world: &mut World, home: u32) -> Result<Option<Name>, AllocError>
+    requires { IsRun world.old.setup world.old.past }
+    ensures made { IfOk result (λ found. TopMade home world.old world.new found) }
+    ensures err { OnErr result (world.new ≡ world.old) }
+{
+    match world.step(&Step::Top(home))? {
+        Answer::Began(names) => Ok(Some(only(names))),
+        _ => Ok(None),
+    }
+}
+
+/// The value that a body returned, if it returned one.
+fn returned(flow: Flow) -> Option<Value>
+    ensures { commits flow ≡ false → result ≡ None }
+{
+    match flow {
+        Flow::Returned(value) => value,
+        _ => None,
+    }
+}

@@ -1,0 +1,90 @@
+-- What is said of a script that is run: how its clients ended, and then the bases of its objects.
+use Rattle.std.specs.Prelude.{ℕ, zero, suc, ◌≡◌, ◌⊎◌, List, [], ◌∷◌, ◌++◌, length, if◌then◌else◌, Option, Some, None, codes, decimal}
+use Rattle.serde_json.specs.Data.{Data}
+use Rattle.values.specs.declared.content.Content.{Content}
+use Rattle.values.specs.declared.value.Value.{Value}
+use Rattle.values.specs.Values.{value_text}
+use Rattle.values.specs.Contents.{content_text}
+use Rattle.script_model.specs.declared.checked.Checked.{Checked}
+use Rattle.script_model.specs.Reaching.{Fits}
+use Rattle.run_model.specs.Replay.{Setup, objects_at}
+use Rattle.run_model.specs.Runs.{World}
+use Rattle.run_model.specs.Transcripts.{line_feed}
+use Rattle.run_model.specs.Versions.{base_of}
+use Rattle.activities.specs.declared.client.ClientEnd.{ClientEnd}
+use Rattle.activities.specs.Ends.{AreRun}
+use Rattle.argus_engine.specs.Serving.{Begins}
+
+-- some document fits the script
+abbrev pub IsFit : Checked → Type 0
+IsFit script = (document : Data) × Fits document script
+
+-- the world of a setup, to which nothing has happened
+abbrev pub opening_world : Setup → World
+opening_world setup = record { setup = setup; past = [] }
+
+-- ---- bases
+
+-- the bases of the first so many objects at g, each by its number
+abbrev pub first_bases : World → ℕ → ℕ → List (ℕ × Content)
+first_bases w g zero = []
+first_bases w g (suc n) = first_bases w g n ++ (suc n, base_of w.setup (record { guardian = g; number = suc n }) w.past) ∷ []
+
+-- those of all objects at g
+abbrev pub bases_at : World → ℕ → List (ℕ × Content)
+bases_at w g = first_bases w g (length (objects_at w.setup g))
+
+-- those of the first so many guardians
+abbrev pub bases_of_first : World → ℕ → List (List (ℕ × Content))
+bases_of_first w zero = []
+bases_of_first w (suc n) = bases_of_first w n ++ bases_at w (suc n) ∷ []
+
+abbrev pub all_bases : World → List (List (ℕ × Content))
+all_bases w = bases_of_first w (length w.setup)
+
+-- ---- lines
+
+-- a value behind a blank, if there is one
+abbrev pub value_part : Option Value → List ℕ
+value_part None = []
+value_part (Some value) = codes " " ++ value_text value
+
+abbrev pub end_line : ℕ → ClientEnd → List ℕ
+end_line n end =
+    codes "client " ++ (decimal n ++ (codes " " ++ ((if end.committed then codes "committed" else codes "aborted") ++ (value_part end.value ++ line_feed ∷ []))))
+
+-- an object at g, and its base
+abbrev pub base_line : ℕ → ℕ × Content → List ℕ
+base_line g base = decimal g ++ (codes "/" ++ (decimal base.0 ++ (codes " " ++ (content_text base.1 ++ line_feed ∷ []))))
+
+abbrev pub base_lines : ℕ → List (ℕ × Content) → List ℕ
+base_lines g [] = []
+base_lines g (base ∷ bases) = base_line g base ++ base_lines g bases
+
+-- what is said of each, by its number; the first has this one
+abbrev pub numbered : {X : Type 0} → (ℕ → X → List ℕ) → ℕ → List X → List ℕ
+numbered say n [] = []
+numbered say n (x ∷ xs) = say n x ++ numbered say (suc n) xs
+
+-- a line for each client, and then one for each object
+abbrev pub run_text : List ClientEnd → List (List (ℕ × Content)) → List ℕ
+run_text ends bases = numbered end_line 1 ends ++ numbered base_lines 1 bases
+
+-- ---- runs
+
+-- the script's clients were run in a new world of this setup: so they ended, and these bases they left
+pub record WasRun (script : Checked) (setup : Setup) (ends : List ClientEnd) (bases : List (List (ℕ × Content))) : Type 0 where
+  pub world : World
+  pub are_run : AreRun script.clients (opening_world setup) world ends
+  pub left : bases ≡ all_bases world
+
+-- the text says how
+pub record TellsRun (script : Checked) (setup : Setup) (text : List ℕ) : Type 0 where
+  pub ends : List ClientEnd
+  pub bases : List (List (ℕ × Content))
+  pub was_run : WasRun script setup ends bases
+  pub says : text ≡ run_text ends bases
+
+-- nothing was said, or a beginning of that
+abbrev pub BeginsRun : Checked → Setup → List ℕ → Type 0
+BeginsRun script setup written = (written ≡ []) ⊎ ((text : List ℕ) × TellsRun script setup text × Begins written text)

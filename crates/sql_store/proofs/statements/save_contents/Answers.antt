@@ -1,0 +1,15 @@
+use Rattle.std.proofs.Common.{arith}
+use Rattle.sqlite.specs.Held.{state}
+use Rattle.sql_store.specs.Calls.{with_none_decided}
+use Rattle.sql_store.proofs.Inside.{steps_then, step_err}
+use Rattle.sql_store.proofs.statements.save_contents.Goals as goal
+
+pub returns-in-Ok-clause-steps : goal.returns-in-Ok-clause-steps
+returns-in-Ok-clause-steps g c k sees =
+    let mid = state g.A.Store c.delete_decided.new.tx.conn.now in
+    let last = state g.A.Store c.put_base.new.tx.conn.now in
+    steps_then _ mid last (with_none_decided k) _ _ c.put_base.result (λ h. omega (arith, c.put_base.ensures.survives.clean)) (c.in-Ok.ensures.steps k sees)
+    (λ stays. c.put_base.ensures.steps (with_none_decided k) stays)
+
+pub returns-in-Err-clause-steps : goal.returns-in-Err-clause-steps
+returns-in-Err-clause-steps g c k sees = step_err (c.in-Err.ensures.steps k sees)
