@@ -12,7 +12,7 @@ use argus_engine::{Fault, run_script, setup_of, steps};
 use run_model::History;
 use script::{Checked, ScriptFault, check, read};
 use std::alloc::{AllocError, Global};
-use std::io;
+use std::io::{self, Read};
 use world::World;
 
 /// The steps of a run and their answers, a line each.
