@@ -1,5 +1,5 @@
 -- Words for the clauses of private functions: one line, and how far the engine has come.
-use Rattle.std.specs.Prelude.{ℕ, ◌≡◌, ◌≢◌, ◌≤◌, suc, List, [], ◌∷◌, ◌++◌, Option, length, take}
+use Rattle.std.specs.Prelude.{ℕ, ◌≡◌, ◌≢◌, ◌≤◌, suc, List, [], ◌∷◌, ◌++◌, Option, length, take, ◌⊎◌}
 use Rattle.std.specs.List.{AllByRecursion}
 use Rattle.std.specs.Io.KnownBytes.{Appends, Consumes}
 use Rattle.run_model.specs.declared.step.Step.{Step}
@@ -12,6 +12,8 @@ use Rattle.run_model.specs.Transcripts.{BeginsWithStep, line_feed}
 use Rattle.run_model.specs.Reading.{Lacks}
 use Rattle.argus_engine.specs.declared.reading.Line.{Line}
 use Rattle.argus_engine.specs.declared.reading.Line.TheVariants as line
+use Rattle.argus_engine.specs.declared.engine.Fault.{Fault}
+use Rattle.argus_engine.specs.declared.engine.Fault.TheVariants.{Memory, Input}
 use Rattle.argus_engine.specs.declared.engine.Next.{Next}
 use Rattle.argus_engine.specs.declared.engine.Next.TheVariants.{Answered, NoStep, End}
 use Rattle.argus_engine.specs.Serving.{Gives, step_lines}
@@ -19,6 +21,10 @@ use Rattle.argus_engine.specs.Serving.{Gives, step_lines}
 -- what the reader goes on with is the line of no step
 abbrev pub FacesNoStep : Option (List ℕ) → Type 0
 FacesNoStep input = (text : List ℕ) × Gives input text × (text ≢ []) × (BeginsWithStep text → ⊥)
+
+-- want of memory, or a fault of the reader
+abbrev pub IsOfReader : Fault → Type 0
+IsOfReader fault = (fault ≡ Memory) ⊎ (fault ≡ Input)
 
 -- what was read: a line with its line feed, or the front of something else, or nothing
 abbrev pub ReadsLine : Option (List ℕ) → Option (List ℕ) → List ℕ → Line → Type 0

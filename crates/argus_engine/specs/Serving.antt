@@ -1,5 +1,5 @@
 -- What the engine makes of the bytes of a reader, and what it leaves with a writer.
-use Rattle.std.specs.Prelude.{ℕ, ◌≡◌, ◌≢◌, List, [], ◌∷◌, ◌++◌, Option, None, Some, ⊤}
+use Rattle.std.specs.Prelude.{ℕ, ◌≡◌, ◌≢◌, List, [], ◌∷◌, ◌++◌, Option, None, Some, ⊤, ◌⊎◌}
 use Rattle.std.specs.List.{AllByRecursion}
 use Rattle.std.specs.Io.KnownBytes.{Appends}
 use Rattle.run_model.specs.declared.step.Step.{Step}
@@ -8,6 +8,8 @@ use Rattle.run_model.specs.Runs.{World, history_from}
 use Rattle.run_model.specs.Transcripts.{IsAnswered, BeginsWithStep, line_feed}
 use Rattle.argus_engine.specs.declared.engine.Ended.{Ended}
 use Rattle.argus_engine.specs.declared.engine.Ended.TheVariants.{Done, Stopped}
+use Rattle.argus_engine.specs.declared.engine.Fault.{Fault}
+use Rattle.argus_engine.specs.declared.engine.Fault.TheVariants.{Memory, Output}
 
 -- the bytes of a reader, where they are known, are this text
 abbrev pub Gives : Option (List ℕ) → List ℕ → Type 0
@@ -48,6 +50,10 @@ pub record Answers (input : Option (List ℕ)) (old new : World) (written : List
 -- the writer took these bytes, of which the fact holds
 abbrev pub Writes : Option (List ℕ) → Option (List ℕ) → (List ℕ → Type 0) → Type 0
 Writes before after fact = (written : List ℕ) × Appends before after written × fact written
+
+-- want of memory, or a fault of the writer
+abbrev pub IsOfWriter : Fault → Type 0
+IsOfWriter fault = (fault ≡ Memory) ⊎ (fault ≡ Output)
 
 -- What was written is a beginning of what belongs to all that the reader gives; and it is a beginning of what belongs to some
 -- beginning of it.

@@ -12,6 +12,10 @@ use Rattle.run_model.specs.Transcripts.{line_feed}
 use Rattle.activities.specs.declared.client.ClientEnd.{ClientEnd}
 use Rattle.argus_engine.specs.declared.engine.Ended.{Ended}
 use Rattle.argus_engine.specs.declared.engine.Ended.TheVariants.{Done, Stopped}
+use Rattle.argus_engine.specs.declared.engine.Fault.{Fault}
+use Rattle.argus_engine.specs.declared.engine.Fault.TheVariants.{Memory, Store}
+use Rattle.stable_store.specs.declared.fault.StoreFault.{StoreFault}
+use Rattle.stable_store.specs.declared.fault.StoreFault.TheVariants as store
 use Rattle.argus_engine.specs.Serving.{Begins}
 use Rattle.argus_engine.specs.Running.{WasRun, run_text}
 
@@ -66,6 +70,10 @@ abbrev pub IsStoredRun : Checked → List (Option Stored) → List Stored → Li
 IsStoredRun script found old new ended text =
     (bases : List (List (ℕ × Content))) × TellsStoredRun script found ended bases text × (new ≡ saved bases old)
 
+-- the stores are left as by a run of which less was said
+abbrev pub LeavesStoredRun : Checked → List (Option Stored) → List Stored → List Stored → Type 0
+LeavesStoredRun script found old new = (ended : Ended) × (text : List ℕ) × IsStoredRun script found old new ended text
+
 -- nothing was said, or a beginning of what is to be said
 abbrev pub BeginsStoredRun : Checked → List (Option Stored) → List ℕ → Type 0
 BeginsStoredRun script found written =
@@ -77,3 +85,13 @@ abbrev pub ArePartlySaved : Checked → List (Option Stored) → List Stored →
 ArePartlySaved script found old new =
     (new ≡ old) ⊎ ((bases : List (List (ℕ × Content))) × (text : List ℕ) × TellsStoredRun script found Done bases text
     × (count : ℕ) × (new ≡ saved (take count bases) old))
+
+-- what a store's fault is to who runs a script
+abbrev pub fault_of : StoreFault → Fault
+fault_of store.Memory = Memory
+fault_of store.Failed = Store
+fault_of store.NotOurs = Store
+
+-- a fault of a store, or want of memory
+abbrev pub IsOfStore : Fault → Type 0
+IsOfStore fault = (fault ≡ Memory) ⊎ (fault ≡ Store)

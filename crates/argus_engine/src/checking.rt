@@ -3,7 +3,7 @@
 ghost use Rattle.std.specs.Prelude.{◌≡◌, ℕ, List, IfOk, IfErr, OnErr, string_bytes};
 ghost use Rattle.argus_engine.specs.declared.engine.Ended.TheVariants.{Stopped};
 ghost use Rattle.argus_engine.specs.Judging.{BeginsJudgement, IsFaultOf, IsJudged, IsRead, IsScriptIn};
-ghost use Rattle.argus_engine.specs.Serving.{Writes};
+ghost use Rattle.argus_engine.specs.Serving.{IsOfWriter, Writes};
 
 use crate::engine::{Ended, Fault};
 use crate::writing::finish;
@@ -18,6 +18,7 @@ pub fn check_script<W: Write>(alloc: Global, bytes: &[u8], writer: &mut W) -> Re
     ensures ok { IfOk result (λ ended. Writes (W.contents writer.old) (W.contents writer.new) (IsJudged bytes.now ended)) }
     // also after a fault
     ensures begun { Writes (W.contents writer.old) (W.contents writer.new) (BeginsJudgement bytes.now) }
+    ensures fault { IfErr result IsOfWriter }
 {
     let (ended, line) = judgement(alloc, bytes)?;
     finish(writer, line.as_str())?;
@@ -34,6 +35,7 @@ pub fn read_script<W: Write>(
 ) -> Result<Option<Checked>, Fault>
     ensures read { IfOk result (IsRead bytes.now (W.contents writer.old) (W.contents writer.new)) }
     ensures begun { OnErr result (Writes (W.contents writer.old) (W.contents writer.new) (BeginsJudgement bytes.now)) }
+    ensures fault { IfErr result IsOfWriter }
 {
     match checked(alloc, bytes) {
         Ok(script) => Ok(Some(script)),

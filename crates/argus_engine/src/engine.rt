@@ -1,11 +1,12 @@
-ghost use Rattle.std.specs.Prelude.{◌≡◌, IfOk, OnOk, OnErr, string_bytes, ◌++◌, ◌∷◌, [], MatchBool};
+ghost use Rattle.std.specs.Prelude.{◌≡◌, ◌≢◌, IfErr, IfOk, OnOk, OnErr, string_bytes, ◌++◌, ◌∷◌, [], MatchBool};
 ghost use Rattle.run_model.specs.declared.step.Step.{Step};
 ghost use Rattle.run_model.specs.Answers.{answer_of};
 ghost use Rattle.run_model.specs.Runs.{world_after};
 ghost use Rattle.run_model.specs.Texts.{Spells, answer_text};
 ghost use Rattle.run_model.specs.Transcripts.{error_text, line_feed};
 ghost use Rattle.argus_engine.specs.Serving.{Answers, BeginsAnswers, Writes};
-ghost use Rattle.argus_engine.specs.Reading.{GoesOn};
+ghost use Rattle.argus_engine.specs.Reading.{GoesOn, IsOfReader};
+ghost use Rattle.argus_engine.specs.declared.engine.Fault.TheVariants.{Store};
 
 use crate::reading::{Line, read_line};
 use crate::writing::{finish, send_if_full};
@@ -42,12 +43,22 @@ pub enum Fault {
 }
 
 impl From<AllocError> for Fault {
+    ghost use Rattle.std.specs.Prelude.{◌≡◌};
+    ghost use Rattle.argus_engine.specs.declared.engine.Fault.TheVariants.{Memory};
+
+    ghost from_gives = { λ _ fault. fault ≡ Memory };
+
     fn from(_refused: AllocError) -> Fault {
         Fault::Memory
     }
 }
 
 impl<T: Drop> From<AllocFailed<T>> for Fault {
+    ghost use Rattle.std.specs.Prelude.{◌≡◌};
+    ghost use Rattle.argus_engine.specs.declared.engine.Fault.TheVariants.{Memory};
+
+    ghost from_gives = { λ _ fault. fault ≡ Memory };
+
     fn from(_refused: AllocFailed<T>) -> Fault {
         Fault::Memory
     }
@@ -77,6 +88,7 @@ pub fn steps<R: Read, W: Write>(
     ensures begun { Writes (W.contents writer.old) (W.contents writer.new)
         (λ written. BeginsAnswers (R.remaining reader.old) world.old written) }
     ensures setup { world.new.setup ≡ world.old.setup }
+    ensures fault { IfErr result (λ fault. fault ≢ Store) }
 {
     let Ok(mut buffered) = BufReader::new(alloc, reader) else {
         return Err(Fault::Memory);
@@ -103,6 +115,7 @@ fn answer_all<R: Read, W: Write>(
     ensures begun { Writes (W.contents writer.old) (W.contents writer.new)
         (λ sent. BeginsAnswers (R.remaining reader.old) world.old (sent ++ string_bytes answers.new)) }
     ensures setup { world.new.setup ≡ world.old.setup }
+    ensures fault { IfErr result (λ fault. fault ≢ Store) }
 {
     let mut line = Vec::new(alloc);
     for number in 1..u64::MAX {
@@ -132,6 +145,7 @@ fn answer_next<R: Read>(
         (string_bytes answers.old) (string_bytes answers.new) next) }
     ensures err { OnErr result (string_bytes answers.new ≡ string_bytes answers.old) }
     ensures setup { world.new.setup ≡ world.old.setup }
+    ensures fault { IfErr result IsOfReader }
 {
     match read_line(reader, line)? {
         Line::Whole => match answer_line(alloc, world, line, answers)? {

@@ -1,9 +1,9 @@
 //! What the program says of one action, after the answers.
 
-ghost use Rattle.std.specs.Prelude.{◌≡◌, ℕ, List, IfOk, string_bytes};
+ghost use Rattle.std.specs.Prelude.{◌≡◌, ℕ, List, IfErr, IfOk, string_bytes};
 ghost use Rattle.run_model.specs.Explaining.{IsExplained};
 ghost use Rattle.argus_engine.specs.declared.engine.Ended.TheVariants.{Done};
-ghost use Rattle.argus_engine.specs.Serving.{Begins, Writes};
+ghost use Rattle.argus_engine.specs.Serving.{Begins, IsOfWriter, Writes};
 
 use crate::engine::{Ended, Fault};
 use crate::writing::finish;
@@ -26,6 +26,7 @@ pub fn explain_text<W: Write>(
     // also after a fault
     ensures begun { Writes (W.contents writer.old) (W.contents writer.new)
         (λ written. (lines : List ℕ) → IsExplained word.now history.now lines → Begins written lines) }
+    ensures fault { IfErr result IsOfWriter }
 {
     let lines = explained_lines(alloc, history, word)?;
     finish(writer, lines.as_str())?;

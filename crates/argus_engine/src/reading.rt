@@ -1,8 +1,9 @@
 //! Reading one line at a time, and never more of one than a step can have.
 
-ghost use Rattle.std.specs.Prelude.{◌∷◌, [], IfOk, MatchOption};
+ghost use Rattle.std.specs.Prelude.{◌≡◌, ◌∷◌, [], IfErr, IfOk, MatchOption};
 ghost use Rattle.std.specs.Io.KnownBytes.{Consumes, IsAtEnd};
-ghost use Rattle.argus_engine.specs.Reading.{ReadsLine};
+ghost use Rattle.argus_engine.specs.declared.engine.Fault.TheVariants.{Input};
+ghost use Rattle.argus_engine.specs.Reading.{IsOfReader, ReadsLine};
 
 use crate::engine::Fault;
 use run_model::MAX_LINE;
@@ -23,7 +24,8 @@ pub(crate) enum Line {
 /// may have is read.
 #[tactic(auto, using(crate::proofs::Bytes::nothing_was, crate::proofs::Bytes::at_end_gives, crate::proofs::Bytes::cut_is_no_step, crate::proofs::Bytes::long_is_no_step, crate::proofs::Bytes::one_more_byte, crate::proofs::Bytes::one_more_lacks))]
 pub(crate) fn read_line<R: Read>(reader: &mut R, line: &mut Vec<u8>) -> Result<Line, Fault>
-    ensures { IfOk result (λ found. ReadsLine (R.remaining reader.old) (R.remaining reader.new) line.new.items found) }
+    ensures found { IfOk result (λ found. ReadsLine (R.remaining reader.old) (R.remaining reader.new) line.new.items found) }
+    ensures fault { IfErr result IsOfReader }
 {
     line.clear();
     for _ in 0..MAX_LINE + 1 {
@@ -40,8 +42,9 @@ pub(crate) fn read_line<R: Read>(reader: &mut R, line: &mut Vec<u8>) -> Result<L
 /// Reads one byte, again where a signal interrupts; `None` at the end.
 #[tactic(auto, using(crate::proofs::Bytes::read_none, crate::proofs::Bytes::read_one))]
 fn read_byte<R: Read>(reader: &mut R) -> Result<Option<u8>, Fault>
-    ensures { IfOk result (λ found. MatchOption found (IsAtEnd (R.remaining reader.old))
+    ensures found { IfOk result (λ found. MatchOption found (IsAtEnd (R.remaining reader.old))
         (λ byte. Consumes (R.remaining reader.old) (R.remaining reader.new) (byte ∷ []))) }
+    ensures fault { IfErr result (λ fault. fault ≡ Input) }
 {
     let mut bytes = [0u8; 1];
     for _ in 0..u64::MAX {

@@ -1,12 +1,12 @@
 //! Running a script, and what the program says of that.
 
-ghost use Rattle.std.specs.Prelude.{◌≡◌, ◌≤◌, ◌<◌, ◌++◌, ◌∷◌, [], length, map, suc, IfOk, OnOk, string_bytes};
+ghost use Rattle.std.specs.Prelude.{◌≡◌, ◌≤◌, ◌<◌, ◌++◌, ◌∷◌, [], length, map, suc, IfErr, IfOk, OnOk, string_bytes};
 ghost use Rattle.script_model.specs.Resolved.{IsResolved};
 ghost use Rattle.script_laws.specs.Laws.{HasFewObjects, IsWithinLimits};
 ghost use Rattle.run_model.specs.Replay.{objects_at};
 ghost use Rattle.run_model.specs.Texts.{max_guardians};
 ghost use Rattle.argus_engine.specs.Running.{BeginsRun, IsFit, TellsRun, WasRun, all_bases, base_line, base_lines, bases_at, end_line, run_text};
-ghost use Rattle.argus_engine.specs.Serving.{Writes};
+ghost use Rattle.argus_engine.specs.Serving.{IsOfWriter, Writes};
 
 use crate::engine::Fault;
 use crate::writing::finish;
@@ -34,6 +34,7 @@ pub fn run_script<W: Write>(alloc: Global, script: &Checked, writer: &mut W) -> 
     ensures ok { OnOk result (Writes (W.contents writer.old) (W.contents writer.new) (TellsRun script.now script.now.guardians)) }
     // also after a fault
     ensures begun { Writes (W.contents writer.old) (W.contents writer.new) (BeginsRun script.now script.now.guardians) }
+    ensures fault { IfErr result IsOfWriter }
 {
     let outcome = ran(alloc, setup_of(alloc, script)?, script)?;
     let text = run_text(alloc, outcome.ends.as_slice(), outcome.bases.as_slice())?;

@@ -8,9 +8,9 @@ ghost use Rattle.run_model.specs.Replay.{Setup};
 ghost use Rattle.script_laws.specs.Laws.{HasFewObjects};
 ghost use Rattle.values.specs.declared.content.Content.{Content};
 ghost use Rattle.std.specs.Io.KnownBytes.{Keeps};
-ghost use Rattle.argus_engine.specs.declared.engine.Fault.TheVariants.{Output};
+ghost use Rattle.argus_engine.specs.declared.engine.Fault.TheVariants.{Input, Output};
 ghost use Rattle.argus_engine.specs.Running.{IsFit};
-ghost use Rattle.argus_engine.specs.Storing.{AreOpenedBy, ArePartlySaved, BeginsStoredRun, CanOpen, HasOnly, IsOpening, IsStoredRun, Opens, saved};
+ghost use Rattle.argus_engine.specs.Storing.{AreOpenedBy, ArePartlySaved, BeginsStoredRun, CanOpen, HasOnly, IsOfStore, IsOpening, IsStoredRun, LeavesStoredRun, Opens, saved};
 ghost use Rattle.argus_engine.specs.Serving.{Writes};
 
 use crate::engine::{Ended, Fault};
@@ -31,8 +31,8 @@ use values::Content;
 /// lines.
 ///
 /// Where a store holds no content, or a top action is prepared there, or it has an object that the script lacks, `error store` is written, `Stopped`
-/// comes, and the stores are as they were. After a fault the first stores may have been saved, and the others are as they were: none where memory
-/// ran out before, and all where the writer failed, of which a beginning of the lines was then written.
+/// comes, and the stores are as they were. After a fault the first stores may have been saved, and the others are as they were. Where the writer
+/// failed all that was to be saved is, and a beginning of what was to be written was written; after another fault nothing was.
 pub fn run_stored<A: Alter + Drop, W: Write>(
     alloc: Global,
     script: &Checked,
@@ -51,6 +51,9 @@ pub fn run_stored<A: Alter + Drop, W: Write>(
         (map (view.content A.Store) stores.old) (map (view.content A.Store) stores.new)) }
     // so no line is written before all is saved
     ensures silent { IfErr result (λ fault. fault ≢ Output → Keeps (W.contents writer.old) (W.contents writer.new)) }
+    ensures untold { IfErr result (λ fault. fault ≡ Output → LeavesStoredRun script.now (map (view.found A.Store) stores.old)
+        (map (view.content A.Store) stores.old) (map (view.content A.Store) stores.new)) }
+    ensures fault { IfErr result (λ fault. fault ≢ Input) }
 {
     let Some(setup) = opened(alloc, script, stores)? else {
         finish(writer, "error store\n")?;
@@ -151,6 +154,7 @@ fn save_all<A: Alter + Drop>(
         ≡ saved (map (λ base. base.entries) bases.now) (map (view.content A.Store) stores.old)) }
     ensures err { OnErr result ((count : ℕ) × (map (view.content A.Store) stores.new
         ≡ saved (take count (map (λ base. base.entries) bases.now)) (map (view.content A.Store) stores.old))) }
+    ensures fault { IfErr result IsOfStore }
 {
     for (index, store) in stores.iter_mut().enumerate() {
         store.save(alloc, base_at(bases, index))?;
@@ -166,6 +170,11 @@ fn base_at(bases: &[BTreeMap<u32, Content>], index: usize) -> &BTreeMap<u32, Con
 }
 
 impl From<StoreFault> for Fault {
+    ghost use Rattle.std.specs.Prelude.{◌≡◌};
+    ghost use Rattle.argus_engine.specs.Storing.{fault_of};
+
+    ghost from_gives = { λ fault e. e ≡ fault_of fault };
+
     fn from(fault: StoreFault) -> Fault {
         match fault {
             StoreFault::Memory => Fault::Memory,

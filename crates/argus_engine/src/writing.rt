@@ -16,6 +16,7 @@ const BUFFER_SIZE: usize = 8192;
 pub(crate) fn send_if_full<W: Write>(writer: &mut W, text: &mut String) -> Result<(), Fault>
     ensures ok { OnOk result (Moves (W.contents writer.old) (W.contents writer.new) (string_bytes text.old) (string_bytes text.new)) }
     ensures err { OnErr result (TakesFront (W.contents writer.old) (W.contents writer.new) (string_bytes text.old) × (string_bytes text.new ≡ [])) }
+    ensures fault { IfErr result (λ fault. fault ≡ Output) }
 {
     if text.len() < BUFFER_SIZE {
         return Ok(());

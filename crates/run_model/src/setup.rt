@@ -152,6 +152,7 @@ impl Setup {
     pub fn add_guardian(&mut self, contents: Vec<Content>) -> Result<(), SetupFault>
         ensures added { OnOk result (self.new ≡ self.old ++ (contents.items ∷ [])) }
         ensures refused { IsErrOf result SetupFault.Bad → (max_guardians ≤ length self.old) ⊎ (max_objects < length contents.items) }
+        ensures full { (max_guardians ≤ length self.old) ⊎ (max_objects < length contents.items) → IsErrOf result SetupFault.Bad }
         ensures err { OnErr result (self.new ≡ self.old) }
     {
         if self.guardians.len() >= MAX_GUARDIANS || contents.len() > MAX_OBJECTS {
