@@ -1,10 +1,10 @@
 -- What is said of a run is written, or a beginning of it; and as many bases are left as there are stores.
-use Rattle.std.proofs.Common.{◌≢◌, IfErr, Result, Ok, Err, List, MatchOption, None, Some, map, [], Option, ap, append-nil, drop, inr, length, suc, sym, take, take-append-drop, zero, ℕ, ◌+◌, ◌∙◌, ◌≡◌, arith, refl}
+use Rattle.std.proofs.Common.{◌≢◌, IfErr, IsErrAnd, Result, Ok, Err, List, MatchOption, None, Some, map, [], Option, ap, append-nil, drop, inl, inr, length, suc, sym, take, take-append-drop, zero, ℕ, ◌+◌, ◌∙◌, ◌≡◌, arith, refl, subst}
 use Rattle.std.proofs.lemmas.List.{length-map, length_push, take_all}
 use Rattle.std.specs.BTreeMap.{BTreeMap}
 use Rattle.std.specs.Io.KnownBytes.{Appends, Keeps}
 use Rattle.argus_engine.specs.declared.engine.Fault.{Fault}
-use Rattle.argus_engine.specs.declared.engine.Fault.TheVariants.{Output}
+use Rattle.argus_engine.specs.declared.engine.Fault.TheVariants.{Memory, Output, Store}
 use Rattle.stable_store.specs.Stored.{Stored}
 use Rattle.values.specs.declared.content.Content.{Content}
 use Rattle.script_model.specs.declared.checked.Checked.{Checked}
@@ -16,7 +16,7 @@ use Rattle.argus_engine.specs.declared.engine.Ended.TheVariants.{Done, Stopped}
 use Rattle.argus_engine.specs.Reading.{TakesFront}
 use Rattle.argus_engine.specs.Serving.{Writes}
 use Rattle.argus_engine.specs.Running.{BeginsRun, TellsRun, WasRun, bases_of_first, run_text}
-use Rattle.argus_engine.specs.Storing.{AreOpenedBy, BeginsStoredRun, TellsStoredRun, refusal_line, saved}
+use Rattle.argus_engine.specs.Storing.{AreOpenedBy, BeginsStoredRun, IsOfStore, TellsStoredRun, refusal_line, saved}
 use Rattle.argus_engine.proofs.Opening.{none_in, some_in}
 
 pub front_told : (before after : Option (List ℕ)) (script : Checked) (setup : Setup) (text : List ℕ) → TellsRun script setup text
@@ -94,3 +94,37 @@ kept_same (Some bytes) = refl
 pub silent : {A : Type 0} (result : Result A Fault) (o : Option (List ℕ)) → IfErr result (λ fault. fault ≢ Output → Keeps o o)
 silent (Ok a) o = tt
 silent (Err fault) o = λ other. kept_same o
+
+-- ---- which fault it is
+
+-- all was done, whatever the fault
+pub always_so : {A So : Type 0} (result : Result A Fault) → So → IfErr result (λ fault. fault ≡ Output → So)
+always_so (Ok a) so = tt
+always_so (Err fault) so = λ output. so
+
+-- memory was wanting
+pub wants_memory : {A : Type 0} (result : Result A Fault) → IsErrAnd result (λ fault. fault ≡ Memory) → IfErr result IsOfStore
+wants_memory (Ok a) is = tt
+wants_memory (Err fault) is = inl is
+
+-- the fault is passed on
+pub passed_on : {A : Type 0} (result : Result A Fault) (before : Fault) → IsErrAnd result (λ fault. fault ≡ before) → IsOfStore before → IfErr result IsOfStore
+passed_on (Ok a) before is of_store = tt
+passed_on (Err fault) before is of_store = subst IsOfStore (sym is) of_store
+
+-- memory or a store failed, and no writer
+pub never_output : {A : Type 0} (So : Type 0) (result : Result A Fault) → IfErr result IsOfStore → IfErr result (λ fault. fault ≡ Output → So)
+never_output So (Ok a) of_store = tt
+never_output So (Err fault) (inl memory) = λ output. absurd (no_memory (sym memory ∙ output))
+  where
+    no_memory : Memory ≡ Output → ⊥
+    no_memory e = cc
+never_output So (Err fault) (inr store) = λ output. absurd (no_store (sym store ∙ output))
+  where
+    no_store : Store ≡ Output → ⊥
+    no_store e = cc
+
+-- the bases that are saved are those that were left
+pub whole_saved : (old : List Stored) (bases given_bases : List (BTreeMap ℕ Content)) (new : List Stored) → given_bases ≡ bases
+    → new ≡ saved (map (λ b. b.entries) given_bases) old → new ≡ saved (map (λ b. b.entries) bases) old
+whole_saved old bases given_bases new same is = is ∙ ap (λ bs. saved (map (λ (b : BTreeMap ℕ Content). b.entries) bs) old) same
