@@ -1,5 +1,5 @@
 -- Clients that run one after another: each as a top action of its own, which ends before the next begins.
-use Rattle.std.proofs.Common.{Bool, Err, IfOk, IsTrue, List, None, Ok, OnErr, OnOk, Option, Result, Some, [], ap, false, get_or, inl, inr, length, refl, subst, sym, take, true, ℕ, ◌+◌, ◌<◌, ◌++◌, ◌∙◌, ◌∷◌, ◌≡◌, ◌≢◌}
+use Rattle.std.proofs.Common.{Err, IfOk, IsTrue, List, None, Ok, OnErr, OnOk, Option, Result, Some, [], ap, false, get_or, inl, inr, length, refl, subst, sym, take, true, ℕ, ◌+◌, ◌<◌, ◌++◌, ◌∙◌, ◌∷◌, ◌≡◌, ◌≢◌}
 use Rattle.std.proofs.lemmas.Bool.{false≢true, or_cases, or_left, or_right}
 use Rattle.std.proofs.lemmas.List.{take_more}
 use Rattle.std.proofs.lemmas.List.Elements.{filter_map-append}
@@ -24,11 +24,13 @@ use Rattle.script_model.specs.declared.names.Gives.TheVariants as gives
 use Rattle.script_model.specs.declared.statement.Statement.{Statement}
 use Rattle.script_model.specs.Resolved as resolved
 use Rattle.activities.specs.declared.client.ClientEnd.{ClientEnd}
+use Rattle.activities.specs.declared.client.ClientEnd.TheVariants.{Aborted, Committed}
 use Rattle.activities.specs.declared.flow.Flow.{Flow}
+use Rattle.activities.specs.declared.flow.Flow.TheVariants.{Ended, Returned}
 use Rattle.activities.specs.declared.frames.Frames.{Frames}
 use Rattle.activities.specs.Bodies.{IsBody, sizes}
 use Rattle.activities.specs.Continuing.{CommitsAmong, CommitsNone, EndsAll, GoesOn, IsOpen, tops_begun, tops_by}
-use Rattle.activities.specs.Ends.{AreRun, ClientRan, IsEnd, IsTopAt, RanInTurn, TopMade, commits, has_committed, is_told, named, named_by}
+use Rattle.activities.specs.Ends.{AreRun, ClientRan, IsEnd, IsTopAt, RanInTurn, TopMade, commits, end_of, named, named_by, top_of}
 use Rattle.activities.proofs.ArmNames.{unless_begun}
 use Rattle.activities.proofs.Going.{commits_nowhere, ends_nowhere, ends_through, fresh_commits, fresh_ends, goes_nowhere, goes_through, one_step}
 use Rattle.activities.proofs.Steps.{step_begins}
@@ -133,25 +135,34 @@ pub top_commits : (home : ℕ) (old mid new : World) (a : Name) → TopMade home
 top_commits home old mid new a m g c = fresh_commits (a ∷ []) old mid new (a ∷ []) m.began m.goes_on m.commits c
 
 -- a client of which the top action could not be begun
-pub not_ran : (home : ℕ) (old new : World) (found : Option Name) (end : ClientEnd) → TopMade home old new found → found ≡ None
-    → end.top ≡ None → end.committed ≡ false → end.value ≡ None → ClientRan home old new end
-not_ran home old new found end m f t c v =
-    let same : found ≡ end.top = f ∙ sym t in
-    record {
-      began = subst (λ o. IsTopAt home old o) same m.top;
-      goes_on = subst (λ o. GoesOn old new (named_by o)) same m.goes_on;
-      is_end = record { told = subst (λ o. is_told o end.committed new.past) (sym t) c; value = λ k. v };
-      ended = λ a h k. absurd (false≢true (ap (λ o. has_name (named_by o) a) (sym f) ∙ m.began.only a h k));
-    }
+pub not_ran : (home : ℕ) (old new : World) (found : Option Name) → TopMade home old new found → found ≡ None
+    → ClientRan home old new (Aborted None)
+not_ran home old new found m f = record {
+  began = subst (λ o. IsTopAt home old o) f m.top;
+  goes_on = subst (λ o. GoesOn old new (named_by o)) f m.goes_on;
+  is_end = tt;
+  ended = λ a h k. absurd (false≢true (ap (λ o. has_name (named_by o) a) (sym f) ∙ m.began.only a h k));
+}
+
+-- its end names it
+named_at_end : (a : Name) (flow : Flow) → top_of (end_of a flow) ≡ Some a
+named_at_end a Ended = refl
+named_at_end a (Returned value) = refl
+named_at_end a _ = refl
+
+-- and says whether it has committed
+said_at_end : (past : List Event) (a : Name) (flow : Flow) → commits flow ≡ is_committed a past → IsEnd past (end_of a flow)
+said_at_end past a Ended h = sym h
+said_at_end past a (Returned value) h = sym h
+said_at_end past a _ h = sym h
 
 -- a client of which the top action has ended
-top_ran : (home : ℕ) (old mid new : World) (a : Name) (end : ClientEnd) → TopMade home old mid (Some a) → GoesOn mid new []
-    → EndsAll mid new → IsTrue (is_ended a new.past) → end.top ≡ Some a → end.committed ≡ is_committed a new.past
-    → (end.committed ≡ false → end.value ≡ None) → ClientRan home old new end
-top_ran home old mid new a end m g e f t c v = record {
-  began = subst (λ o. IsTopAt home old o) (sym t) m.top;
-  goes_on = subst (λ x. GoesOn old new (named_by x)) (sym t) (top_goes home old mid new a m g);
-  is_end = record { told = subst (λ x. is_told x end.committed new.past) (sym t) c; value = v };
+top_ran : (home : ℕ) (old mid new : World) (a : Name) (flow : Flow) → TopMade home old mid (Some a) → GoesOn mid new []
+    → EndsAll mid new → IsTrue (is_ended a new.past) → commits flow ≡ is_committed a new.past → ClientRan home old new (end_of a flow)
+top_ran home old mid new a flow m g e f c = record {
+  began = subst (λ o. IsTopAt home old o) (sym (named_at_end a flow)) m.top;
+  goes_on = subst (λ o. GoesOn old new (named_by o)) (sym (named_at_end a flow)) (top_goes home old mid new a m g);
+  is_end = said_at_end new.past a flow c;
   ended = fresh_ends (a ∷ []) old mid new [] m.began g e alone;
 }
   where
@@ -164,13 +175,13 @@ top_ran home old mid new a end m g e f t c v = record {
 -- where memory sufficed, its body came to an end that says whether it has committed
 pub client_ran : {E : Type 0} (home : ℕ) (old mid new : World) (a b : Name) (result : Result Flow E) (flow : Flow) (end : ClientEnd)
     → TopMade home old mid (Some a) → GoesOn mid new [] → OnOk result (EndsAll mid new) → OnOk result (IsTrue (is_ended a new.past))
-    → IfOk result (λ f. commits f ≡ is_committed a new.past) → result ≡ Ok flow → b ≡ a → end.top ≡ Some b
-    → end.committed ≡ has_committed result → (commits flow ≡ false → end.value ≡ None) → ClientRan home old new end
-client_ran home old mid new a b result flow end m g e d t r n p c v =
-    let same : end.committed ≡ commits flow = c ∙ ap has_committed r in
-    top_ran home old mid new a end m g (subst (λ x. OnOk x (EndsAll mid new)) r e)
-    (subst (λ x. OnOk x (IsTrue (is_ended a new.past))) r d) (p ∙ ap Some n)
-    (same ∙ subst (λ x. IfOk x (λ f. commits f ≡ is_committed a new.past)) r t) (λ f. v (sym same ∙ f))
+    → IfOk result (λ f. commits f ≡ is_committed a new.past) → result ≡ Ok flow → b ≡ a → end ≡ end_of b flow
+    → ClientRan home old new end
+client_ran home old mid new a b result flow end m g e d t r n s =
+    subst (λ x. ClientRan home old new x) (sym (s ∙ ap (λ x. end_of x flow) n))
+    (top_ran home old mid new a flow m g (subst (λ x. OnOk x (EndsAll mid new)) r e)
+    (subst (λ x. OnOk x (IsTrue (is_ended a new.past))) r d)
+    (subst (λ x. IfOk x (λ f. commits f ≡ is_committed a new.past)) r t))
 
 -- also after an error the world has gone on
 pub goes_on_err : {X E : Type 0} (result : Result X E) (old new : World) (tops : List Name) → GoesOn old new tops
@@ -205,32 +216,33 @@ unchanged_rest : (old new : List Event) (top : Option Name) (names : List Name) 
 unchanged_rest old new None names same a h = same a h
 unchanged_rest old new (Some b) names same a h = same a (or_right _ _ h)
 
-told_stays : (old new : List Event) (top : Option Name) (names : List Name) (committed : Bool) → Unchanged old new (cons_option top names)
-    → is_told top committed old → is_told top committed new
-told_stays old new None names committed same t = t
-told_stays old new (Some a) names committed same t = t ∙ sym (same a (or_left _ _ (same_name_self a)))
+end_stays : (old new : List Event) (end : ClientEnd) (names : List Name) → Unchanged old new (cons_option (top_of end) names)
+    → IsEnd old end → IsEnd new end
+end_stays old new (Committed a value) names same t = same a (or_left _ _ (same_name_self a)) ∙ t
+end_stays old new (Aborted (Some a)) names same t = same a (or_left _ _ (same_name_self a)) ∙ t
+end_stays old new (Aborted None) names same t = tt
 
 ends_stay : (old new : List Event) (ends : List ClientEnd) → Unchanged old new (named ends) → AllByRecursion (IsEnd old) ends
     → AllByRecursion (IsEnd new) ends
 ends_stay old new [] same each = tt
 ends_stay old new (end ∷ ends) same each = (
-  record { told = told_stays old new end.top (named ends) end.committed same each.0.told; value = each.0.value },
-  ends_stay old new ends (unchanged_rest old new end.top (named ends) same) each.1,
+  end_stays old new end (named ends) same each.0,
+  ends_stay old new ends (unchanged_rest old new (top_of end) (named ends) same) each.1,
 )
 
 each_push : {X : Type 0} (P : X → Type 0) (xs : List X) (x : X) → AllByRecursion P xs → P x → AllByRecursion P (xs ++ (x ∷ []))
 each_push P [] x each p = (p, tt)
 each_push P (y ∷ ys) x each p = (each.0, each_push P ys x each.1 p)
 
-named_last : (end : ClientEnd) → named (end ∷ []) ≡ named_by end.top
-named_last end = go end.top
+named_last : (end : ClientEnd) → named (end ∷ []) ≡ named_by (top_of end)
+named_last end = go (top_of end)
   where
     go : (top : Option Name) → cons_option top [] ≡ named_by top
     go None = refl
     go (Some a) = refl
 
-named_push : (ends : List ClientEnd) (end : ClientEnd) → named (ends ++ (end ∷ [])) ≡ named ends ++ named_by end.top
-named_push ends end = filter_map-append (λ e. e.top) ends (end ∷ []) ∙ ap (λ l. named ends ++ l) (named_last end)
+named_push : (ends : List ClientEnd) (end : ClientEnd) → named (ends ++ (end ∷ [])) ≡ named ends ++ named_by (top_of end)
+named_push ends end = filter_map-append (λ e. top_of e) ends (end ∷ []) ∙ ap (λ l. named ends ++ l) (named_last end)
 
 -- one more in turn
 in_turn_push : (clients : List Client) (client : Client) (old mid new : World) (ends : List ClientEnd) (end : ClientEnd)
@@ -254,11 +266,11 @@ one_more_run clients client old mid new ends end a c n = record {
   in_turn = in_turn_push clients client old mid new ends end a.in_turn c;
   goes_on =
       subst (λ l. GoesOn old new l) (sym (named_push ends end))
-      (goes_through old mid new (named ends) (named_by end.top) a.goes_on c.goes_on);
+      (goes_through old mid new (named ends) (named_by (top_of end)) a.goes_on c.goes_on);
   told =
       each_push (IsEnd new.past) ends end
       (ends_stay mid.past new.past ends (λ b h. n b (tops_known old mid (named ends) b a.goes_on h)) a.told) c.is_end;
-  ended = ends_through old mid new (named_by end.top) c.goes_on a.ended c.ended;
+  ended = ends_through old mid new (named_by (top_of end)) c.goes_on a.ended c.ended;
 }
 
 -- one client more, where none has wanted memory so far

@@ -1,5 +1,5 @@
 -- How clients end, and what their actions leave of a world.
-use Rattle.std.specs.Prelude.{◌≡◌, ℕ, Bool, true, false, List, [], ◌∷◌, Option, Some, None, Result, Ok, Err, filter_map}
+use Rattle.std.specs.Prelude.{◌≡◌, IsTrue, ℕ, Bool, true, false, List, [], ◌∷◌, Option, Some, None, Result, Ok, Err, filter_map}
 use Rattle.std.specs.List.{AllByRecursion}
 use Rattle.action_names.specs.Names.{Name}
 use Rattle.run_model.specs.declared.answer.Answer.TheVariants as answer
@@ -11,31 +11,38 @@ use Rattle.run_model.specs.Answers.{answer_of}
 use Rattle.run_model.specs.Runs.{World}
 use Rattle.script_model.specs.declared.checked.Client.{Client}
 use Rattle.activities.specs.declared.client.ClientEnd.{ClientEnd}
+use Rattle.activities.specs.declared.client.ClientEnd.TheVariants.{Aborted, Committed}
 use Rattle.activities.specs.declared.flow.Flow.{Flow}
 use Rattle.activities.specs.declared.flow.Flow.TheVariants.{Ended, Returned}
 use Rattle.activities.specs.declared.open_action.Called.{Called}
 use Rattle.activities.specs.declared.open_action.Called.TheVariants.{Began}
 use Rattle.activities.specs.Continuing.{CommitsNone, GoesOn, EndsAll, HaveBegun}
 
--- the top actions that ends name
+-- the top action that an end names
+abbrev pub top_of : ClientEnd → Option Name
+top_of (Committed top value) = Some top
+top_of (Aborted top) = top
+
 abbrev pub named : List ClientEnd → List Name
-named ends = filter_map (λ e. e.top) ends
+named ends = filter_map (λ e. top_of e) ends
 
--- it is said to have committed exactly where it has
-abbrev pub is_told : Option Name → Bool → List Event → Type 0
-is_told None committed past = committed ≡ false
-is_told (Some a) committed past = committed ≡ is_committed a past
-
--- what a client's end says is so, and a value comes only where it committed
-pub record IsEnd (past : List Event) (end : ClientEnd) : Type 0 where
-  pub told : is_told end.top end.committed past
-  pub value : end.committed ≡ false → end.value ≡ None
+-- what a client's end says is so
+abbrev pub IsEnd : List Event → ClientEnd → Type 0
+IsEnd past (Committed top value) = IsTrue (is_committed top past)
+IsEnd past (Aborted (Some top)) = is_committed top past ≡ false
+IsEnd past (Aborted None) = Unit {0}
 
 -- an action that ended so has committed
 abbrev pub commits : Flow → Bool
 commits Ended = true
 commits (Returned value) = true
 commits _ = false
+
+-- how a client ended of which the top action came to this end
+abbrev pub end_of : Name → Flow → ClientEnd
+end_of top Ended = Committed top None
+end_of top (Returned value) = Committed top value
+end_of top _ = Aborted (Some top)
 
 -- whether it says so of what an action came to
 abbrev pub has_committed : {E : Type 0} → Result Flow E → Bool
@@ -66,8 +73,8 @@ pub record TopMade (home : ℕ) (old new : World) (found : Option Name) : Type 0
 
 -- a client of this home was run: its end names exactly the action that a `top` step began
 pub record ClientRan (home : ℕ) (old new : World) (end : ClientEnd) : Type 0 where
-  pub began : IsTopAt home old end.top
-  pub goes_on : GoesOn old new (named_by end.top)
+  pub began : IsTopAt home old (top_of end)
+  pub goes_on : GoesOn old new (named_by (top_of end))
   pub is_end : IsEnd new.past end
   pub ended : EndsAll old new
 

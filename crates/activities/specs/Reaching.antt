@@ -44,5 +44,6 @@ AreTold guardians a w = (g : ℕ) → IsTrue (has guardians g) → IsTrue (would
 -- and the decision would be refused
 abbrev pub IsHeld : BTreeSet ℕ → Name → World → World → Type 0
 IsHeld guardians t old new = IsTrue (would_refuse old (Close t))
-    ⊎ (((g : ℕ) × IsTrue (has guardians g) × (has_prepared g t new.past ≡ false) × (is_yes (answer_of new.setup (Prepare g t) new.past) ≡ false))
+    ⊎ (((g : ℕ) × IsTrue (has guardians g) × (has_prepared g t new.past ≡ false)
+    × (is_yes (answer_of new.setup (Prepare g t) new.past) ≡ false))
     ⊎ (((g : ℕ) → IsTrue (has guardians g) → IsTrue (has_prepared g t new.past)) × IsTrue (would_refuse new (Decide t))))

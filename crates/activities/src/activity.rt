@@ -175,7 +175,7 @@ impl<'s> Activity<'s> {
         match statement {
             Statement::Op(call, signals) => match perform(world, action, frames, call)? {
                 Performed::Granted => Ok(Flow::Ended),
-                Performed::Signalled => self.signalled(world, action, frames, signals),
+                Performed::Signalled => self.run_signals(world, action, frames, signals),
                 Performed::Refused => Ok(Flow::Aborted),
                 Performed::Waits => Ok(wait()),
             },
@@ -204,7 +204,7 @@ impl<'s> Activity<'s> {
     /// What a statement does where it signals: its body for that, without which the innermost action aborts.
     #[cycle(activity)]
     #[tactic(auto, using(crate::proofs::Ways::turns))]
-    fn signalled(
+    fn run_signals(
         &mut self,
         world: &mut World,
         action: &mut OpenAction,
@@ -297,7 +297,7 @@ impl<'s> Activity<'s> {
         let reached = Reached::new(self.alloc, handler.guardian)?;
         let name = match action.begin_call(world, handler.guardian)? {
             Called::Began(name) => name,
-            Called::Signalled => return self.signalled(world, action, frames, signals),
+            Called::Signalled => return self.run_signals(world, action, frames, signals),
             Called::Refused => return Ok(Flow::Aborted),
         };
         let mut child = OpenAction::new(name, handler.guardian, reached);
@@ -308,7 +308,7 @@ impl<'s> Activity<'s> {
         let reply = match flow {
             Flow::Ended | Flow::Returned(None) => Reply::Done,
             Flow::Returned(Some(value)) => Reply::Gives(value),
-            Flow::Aborted => return self.signalled(world, action, frames, signals),
+            Flow::Aborted => return self.run_signals(world, action, frames, signals),
             Flow::Outwards(reach) => return Ok(Flow::Outwards(reach)),
         };
         if frames.bind(call.binding, reply)? {
@@ -386,8 +386,8 @@ impl<'s> Activity<'s> {
         Ok(flow)
     }
 
-    /// Runs the arms in order, to the first that returns or is left. Each is over a copy of the variables. Of the names that are waiting the
-    /// last is that of the next arm.
+    /// Runs the arms in order, to the first that returns or is left. Each is over a copy of the variables. Of the names that are waiting
+    /// the last is that of the next arm.
     #[cycle(activity)]
     #[tactic(auto, using(crate::proofs::Ways::arms))]
     fn run_arms(
@@ -440,7 +440,7 @@ fn wait() -> Flow
 }
 
 /// Whether an action that came to this end committed.
-pub(crate) fn has_committed(ended: &Result<Flow, AllocError>) -> bool
+fn has_committed(ended: &Result<Flow, AllocError>) -> bool
     ensures { result ≡ has_committed ended.now }
 {
     matches!(ended, Ok(Flow::Ended) | Ok(Flow::Returned(_)))

@@ -3,11 +3,16 @@ use values::Value;
 
 /// How a client ended.
 #[derive(Drop)]
-pub struct ClientEnd {
-    /// Its top action; none where that could not be begun.
-    pub top: Option<Name>,
-    /// Whether the top action committed.
-    pub committed: bool,
-    /// The value that the client returned, if it committed and returned one.
-    pub value: Option<Value>,
+pub enum ClientEnd {
+    /// Its top action committed.
+    Committed {
+        top: Name,
+        /// The value that the client returned, if it returned one.
+        value: Option<Value>,
+    },
+    /// Its top action did not commit.
+    Aborted {
+        /// The top action; none where it could not be begun.
+        top: Option<Name>,
+    },
 }

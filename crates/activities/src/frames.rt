@@ -167,7 +167,8 @@ impl Frames {
     ) -> Result<Option<Frames>, AllocError>
         requires ints { IsTrue (list_all (λ e. int_is_bound (length self.now.ints.items) e) call.now.ints) }
         requires texts { IsTrue (list_all (λ e. text_is_bound (length self.now.texts.items) e) call.now.texts) }
-        ensures { IfOk result (λ found. IfSome found (λ inside. sizes inside ≡ record { ints = length call.now.ints; texts = length call.now.texts; truths = 0 })) }
+        ensures { IfOk result (λ found. IfSome found (λ inside. sizes inside
+            ≡ record { ints = length call.now.ints; texts = length call.now.texts; truths = 0 })) }
     {
         let mut inside = Frames::new(alloc);
         for expr in call.ints.as_slice() {

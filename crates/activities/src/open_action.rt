@@ -92,7 +92,7 @@ impl OpenAction {
         ensures began { IfOk result (λ found. HaveBegun (named_by found) world.old world.new) }
     {
         let answer = make(world, Step::NestedTop(self.name.copy()?))?;
-        Ok(started(answer))
+        Ok(begun_by(answer))
     }
 
     /// Makes an operation on an object of its home.
@@ -143,7 +143,7 @@ impl OpenAction {
     {
         match self.try_end(world, wants_commit(&flow)) {
             Ok(true) => Ok(flow),
-            Ok(false) => Ok(self.aborted(flow)),
+            Ok(false) => Ok(self.flow_of_abort(flow)),
             Err(fault) => {
                 let _ = self.abort(world);
                 Err(fault)
@@ -187,7 +187,7 @@ impl OpenAction {
     }
 
     /// How it ended where it has aborted and its body ended so.
-    fn aborted(&self, flow: Flow) -> Flow
+    fn flow_of_abort(&self, flow: Flow) -> Flow
         ensures { commits result ≡ false }
     {
         let Flow::Outwards(reach) = flow else {
@@ -324,7 +324,7 @@ fn what_came(answer: Answer) -> Called
 }
 
 /// The action that an answer began, of which there is one at most.
-fn started(answer: Answer) -> Option<Name>
+fn begun_by(answer: Answer) -> Option<Name>
     requires { (names : List Name) → answer ≡ Began names → length names ≡ 1 }
     ensures { named_by result ≡ names_begun answer }
 {

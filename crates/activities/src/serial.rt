@@ -1,11 +1,11 @@
-ghost use Rattle.std.specs.Prelude.{◌≡◌, false, None, List, length, IfOk, IsTrue, OnErr};
+ghost use Rattle.std.specs.Prelude.{◌≡◌, List, length, IfOk, IsTrue, OnErr};
 ghost use Rattle.script_model.specs.Resolved.{IsResolved, is_resolved_client};
 ghost use Rattle.action_names.specs.Names as names;
 ghost use Rattle.run_model.specs.Runs.{IsRun};
 ghost use Rattle.activities.specs.Continuing.{CommitsNone, EndsAll, GoesOn};
-ghost use Rattle.activities.specs.Ends.{AreRun, ClientRan, TopMade, commits};
+ghost use Rattle.activities.specs.Ends.{AreRun, ClientRan, TopMade, end_of};
 
-use crate::activity::{Activity, has_committed};
+use crate::activity::Activity;
 use crate::client::ClientEnd;
 use crate::flow::Flow;
 use crate::frames::Frames;
@@ -14,7 +14,6 @@ use action_names::Name;
 use run_model::{Answer, Step};
 use script_model::{Checked, Client};
 use std::alloc::{AllocError, Global};
-use values::Value;
 use world::World;
 
 /// Runs the clients of a script one after another, each to its end, and gives how they ended, in their order. The arms of a `coenter` are
@@ -61,23 +60,13 @@ fn run_client(
 {
     let reached = Reached::new(alloc, client.home)?;
     let Some(name) = begin_top(world, client.home)? else {
-        return Ok(ClientEnd {
-            top: None,
-            committed: false,
-            value: None,
-        });
+        return Ok(ClientEnd::Aborted { top: None });
     };
     let mut top = OpenAction::new(name, client.home, reached);
     let mut frames = Frames::new(alloc);
     let body = client.body.as_slice();
-    let ended = Activity::new(alloc, script).run(world, &mut top, &mut frames, body);
-    let committed = has_committed(&ended);
-    let flow = ended?;
-    Ok(ClientEnd {
-        top: Some(top.name),
-        committed,
-        value: returned(flow),
-    })
+    let flow = Activity::new(alloc, script).run(world, &mut top, &mut frames, body)?;
+    Ok(end_of(top.name, flow))
 }
 
 /// Begins a top action at a guardian; none where that is refused.
@@ -92,12 +81,13 @@ fn begin_top(world: &mut World, home: u32) -> Result<Option<Name>, AllocError>
     }
 }
 
-/// The value that a body returned, if it returned one.
-fn returned(flow: Flow) -> Option<Value>
-    ensures { commits flow ≡ false → result ≡ None }
+/// How a client ended of which the top action came to this end.
+fn end_of(top: Name, flow: Flow) -> ClientEnd
+    ensures { result ≡ end_of top flow }
 {
     match flow {
-        Flow::Returned(value) => value,
-        _ => None,
+        Flow::Ended => ClientEnd::Committed { top, value: None },
+        Flow::Returned(value) => ClientEnd::Committed { top, value },
+        Flow::Aborted | Flow::Outwards(_) => ClientEnd::Aborted { top: Some(top) },
     }
 }

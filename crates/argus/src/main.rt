@@ -2,13 +2,11 @@
 //! error.
 #![tactic(auto)]
 
-mod command_line;
-mod request;
 mod run;
 mod stores;
 
 use argus_engine::Fault;
-use request::{Command, CommandFault};
+use command_line::request::{Command, CommandFault};
 use std::env;
 use std::process::ExitCode;
 

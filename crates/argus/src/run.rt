@@ -1,11 +1,11 @@
 //! Running a command on files.
 
-use crate::request::{Check, Run, Steps};
 use crate::stores::open_stores;
 use argus_engine::{
     Ended, Fault, check_script, explain_text, read_script, run_script, run_stored,
     steps as answer_steps,
 };
+use command_line::request::{Check, Run, Steps};
 use run_model::{Setup, SetupFault};
 use std::process::ExitCode;
 use std::{fs, io};

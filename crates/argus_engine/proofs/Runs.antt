@@ -1,5 +1,5 @@
 -- What is said of a run is written, or a beginning of it; and as many bases are left as there are stores.
-use Rattle.std.proofs.Common.{◌≢◌, IfErr, IsErrAnd, Result, Ok, Err, List, MatchOption, None, Some, map, [], Option, ap, append-nil, drop, inl, inr, length, suc, sym, take, take-append-drop, zero, ℕ, ◌+◌, ◌∙◌, ◌≡◌, arith, refl, subst}
+use Rattle.std.proofs.Common.{◌≢◌, IfErr, IsErrAnd, Result, Ok, Err, List, None, Some, map, [], Option, ap, append-nil, drop, inl, inr, length, suc, sym, take, take-append-drop, zero, ℕ, ◌+◌, ◌∙◌, ◌≡◌, arith, refl, subst}
 use Rattle.std.proofs.lemmas.List.{length-map, length_push, take_all}
 use Rattle.std.specs.BTreeMap.{BTreeMap}
 use Rattle.std.specs.Io.KnownBytes.{Appends, Keeps}
@@ -16,7 +16,7 @@ use Rattle.argus_engine.specs.declared.engine.Ended.TheVariants.{Done, Stopped}
 use Rattle.argus_engine.specs.Reading.{TakesFront}
 use Rattle.argus_engine.specs.Serving.{Writes}
 use Rattle.argus_engine.specs.Running.{BeginsRun, TellsRun, WasRun, bases_of_first, run_text}
-use Rattle.argus_engine.specs.Storing.{AreOpenedBy, BeginsStoredRun, IsOfStore, TellsStoredRun, refusal_line, saved}
+use Rattle.argus_engine.specs.Storing.{AreOpenedBy, BeginsStoredRun, IsOfStore, IsOpened, TellsStoredRun, refusal_line, saved}
 use Rattle.argus_engine.proofs.Opening.{none_in, some_in}
 
 pub front_told : (before after : Option (List ℕ)) (script : Checked) (setup : Setup) (text : List ℕ) → TellsRun script setup text
@@ -51,12 +51,12 @@ count_left script setup ends bases run =
 
 module _ (script : Checked) (found : List (Option Stored)) where
   pub none_told : (o : Option Setup) → o ≡ None
-      → MatchOption o ((setup : Setup) → AreOpenedBy found script.guardians setup → ⊥) (AreOpenedBy found script.guardians)
+      → IsOpened found script.guardians o
       → TellsStoredRun script found Stopped [] refusal_line
   none_told o none match = (none_in (AreOpenedBy found script.guardians) o none match, refl, refl)
 
   pub done_told : (o : Option Setup) (setup : Setup) (ends given_ends : List ClientEnd) (bases given_bases : List (BTreeMap ℕ Content)) (text : List ℕ)
-      → o ≡ Some setup → MatchOption o ((setup : Setup) → AreOpenedBy found script.guardians setup → ⊥) (AreOpenedBy found script.guardians)
+      → o ≡ Some setup → IsOpened found script.guardians o
       → WasRun script setup ends (map (λ b. b.entries) bases) → text ≡ run_text given_ends (map (λ b. b.entries) given_bases)
       → given_ends ≡ ends → given_bases ≡ bases → TellsStoredRun script found Done (map (λ b. b.entries) bases) text
   done_told o setup ends given_ends bases given_bases text some match run says same_ends same_bases = (
@@ -68,7 +68,7 @@ module _ (script : Checked) (found : List (Option Stored)) where
   )
 
   pub count_run : (o : Option Setup) (setup : Setup) (ends : List ClientEnd) (bases given_bases : List (BTreeMap ℕ Content)) (count : ℕ)
-      → o ≡ Some setup → MatchOption o ((setup : Setup) → AreOpenedBy found script.guardians setup → ⊥) (AreOpenedBy found script.guardians)
+      → o ≡ Some setup → IsOpened found script.guardians o
       → WasRun script setup ends (map (λ b. b.entries) bases) → given_bases ≡ bases → count ≡ length script.guardians → count ≡ length given_bases
   count_run o setup ends bases given_bases count some match run same counted =
       counted ∙ sym (some_in _ (AreOpenedBy found script.guardians) o setup some match).count

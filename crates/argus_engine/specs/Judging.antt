@@ -26,7 +26,8 @@ IsScript bytes = (checked : Checked) × IsScriptIn bytes checked
 -- their first fault, and its place: the whole of what is no JSON has the wrong shape
 abbrev pub HasFirstFault : List ℕ → FaultKind → List ℕ → Type 0
 HasFirstFault bytes why place =
-    (IsNoJson bytes × (why ≡ Shape) × (place ≡ [])) ⊎ ((document : Data) × IsDocument bytes document × IsFirstFault document (Bad why place))
+    (IsNoJson bytes × (why ≡ Shape) × (place ≡ []))
+    ⊎ ((document : Data) × IsDocument bytes document × IsFirstFault document (Bad why place))
 
 -- what a call answers that finds no script
 abbrev pub IsFaultOf : List ℕ → ScriptFault → Type 0

@@ -1,5 +1,5 @@
 -- Words for the clauses of private functions: one line, and how far the engine has come.
-use Rattle.std.specs.Prelude.{ℕ, ◌≡◌, ◌≢◌, ◌≤◌, suc, List, [], ◌∷◌, ◌++◌, Option, length, take, ◌⊎◌}
+use Rattle.std.specs.Prelude.{ℕ, Bool, true, false, ◌≡◌, ◌≢◌, ◌≤◌, suc, List, [], ◌∷◌, ◌++◌, Option, length, take, ◌⊎◌}
 use Rattle.std.specs.List.{AllByRecursion}
 use Rattle.std.specs.Io.KnownBytes.{Appends, Consumes}
 use Rattle.run_model.specs.declared.step.Step.{Step}
@@ -7,7 +7,7 @@ use Rattle.run_model.specs.declared.history.Event.{Event}
 use Rattle.run_model.specs.Replay.{Setup}
 use Rattle.run_model.specs.Answers.{answer_of}
 use Rattle.run_model.specs.Runs.{World, history_after, history_from, world_after}
-use Rattle.run_model.specs.Texts.{IsStep, step_text, answer_text}
+use Rattle.run_model.specs.Texts.{IsStep, Spells, step_text, answer_text}
 use Rattle.run_model.specs.Transcripts.{BeginsWithStep, line_feed}
 use Rattle.run_model.specs.Reading.{Lacks}
 use Rattle.argus_engine.specs.declared.reading.Line.{Line}
@@ -35,6 +35,14 @@ ReadsLine old new bytes line.Missing = Gives old []
 -- the reader went on with the line of the step
 abbrev pub ReadsStep : Option (List ℕ) → Option (List ℕ) → Step → Type 0
 ReadsStep old new step = IsStep step × Consumes old new (step_text step ++ line_feed ∷ [])
+
+-- the line spells a step, which was made and answered; or it spells none, and nothing was done
+abbrev pub AnswersLine : List ℕ → World → World → List ℕ → List ℕ → Bool → Type 0
+AnswersLine line world after pending grown true =
+    (step : Step) × Spells line step × (after ≡ world_after world step (answer_of world.setup step world.past))
+    × (grown ≡ pending ++ (answer_text (answer_of world.setup step world.past) ++ line_feed ∷ []))
+AnswersLine line world after pending grown false =
+    ((step : Step) → Spells line step → ⊥) × (after ≡ world) × (grown ≡ pending)
 
 -- one more line was answered, or none was there to be answered
 abbrev pub GoesOn : Option (List ℕ) → Option (List ℕ) → World → World → List ℕ → List ℕ → Next → Type 0

@@ -1,8 +1,7 @@
 -- What is said of a script that is run: how its clients ended, and then the bases of its objects.
-use Rattle.std.specs.Prelude.{ℕ, zero, suc, ◌≡◌, ◌⊎◌, List, [], ◌∷◌, ◌++◌, length, if◌then◌else◌, Option, Some, None, codes, decimal}
+use Rattle.std.specs.Prelude.{ℕ, zero, suc, ◌≡◌, ◌⊎◌, List, [], ◌∷◌, ◌++◌, length, Some, None, codes, decimal}
 use Rattle.serde_json.specs.Data.{Data}
 use Rattle.values.specs.declared.content.Content.{Content}
-use Rattle.values.specs.declared.value.Value.{Value}
 use Rattle.values.specs.Values.{value_text}
 use Rattle.values.specs.Contents.{content_text}
 use Rattle.script_model.specs.declared.checked.Checked.{Checked}
@@ -12,6 +11,7 @@ use Rattle.run_model.specs.Runs.{World}
 use Rattle.run_model.specs.Transcripts.{line_feed}
 use Rattle.run_model.specs.Versions.{base_of}
 use Rattle.activities.specs.declared.client.ClientEnd.{ClientEnd}
+use Rattle.activities.specs.declared.client.ClientEnd.TheVariants.{Aborted, Committed}
 use Rattle.activities.specs.Ends.{AreRun}
 use Rattle.argus_engine.specs.Serving.{Begins}
 
@@ -44,14 +44,14 @@ all_bases w = bases_of_first w (length w.setup)
 
 -- ---- lines
 
--- a value behind a blank, if there is one
-abbrev pub value_part : Option Value → List ℕ
-value_part None = []
-value_part (Some value) = codes " " ++ value_text value
+-- how a client ended, and the value that it returned
+abbrev pub end_text : ClientEnd → List ℕ
+end_text (Committed top None) = codes "committed"
+end_text (Committed top (Some value)) = codes "committed " ++ value_text value
+end_text (Aborted top) = codes "aborted"
 
 abbrev pub end_line : ℕ → ClientEnd → List ℕ
-end_line n end =
-    codes "client " ++ (decimal n ++ (codes " " ++ ((if end.committed then codes "committed" else codes "aborted") ++ (value_part end.value ++ line_feed ∷ []))))
+end_line n end = codes "client " ++ (decimal n ++ (codes " " ++ (end_text end ++ line_feed ∷ [])))
 
 -- an object at g, and its base
 abbrev pub base_line : ℕ → ℕ × Content → List ℕ

@@ -1,11 +1,13 @@
 -- What is said of a script that is run over stores, one for each guardian: what they hold takes the place of the script's contents, and at
 -- the end the bases are saved.
-use Rattle.std.specs.Prelude.{ℕ, suc, ◌≡◌, ◌⊎◌, ◌≤◌, ◌<◌, List, [], ◌∷◌, ◌++◌, length, take, get_or, unwrap_or, Option, Some, None, IsSome, codes}
+use Rattle.std.specs.Prelude.{ℕ, suc, ◌≡◌, ◌⊎◌, ◌≤◌, ◌<◌, List, [], ◌∷◌, ◌++◌, length, take, get_or, unwrap_or, Option, Some, None, IsSome, MatchOption, map, codes}
 use Rattle.std.specs.Ordering.{nat_cmp}
 use Rattle.std.specs.FinMap.{FinMap, empty, get}
 use Rattle.values.specs.declared.content.Content.{Content}
 use Rattle.stable_store.specs.Stored.{Stored}
+use Rattle.sqlite_trees.specs.declared.store.Store.{Ghosts}
 use Rattle.sql_store.specs.Calls.{after_save}
+use Rattle.sql_store.specs.Views.{View, content, found}
 use Rattle.script_model.specs.declared.checked.Checked.{Checked}
 use Rattle.run_model.specs.Replay.{Setup}
 use Rattle.run_model.specs.Transcripts.{line_feed}
@@ -18,6 +20,15 @@ use Rattle.stable_store.specs.declared.fault.StoreFault.{StoreFault}
 use Rattle.stable_store.specs.declared.fault.StoreFault.TheVariants as store
 use Rattle.argus_engine.specs.Serving.{Begins}
 use Rattle.argus_engine.specs.Running.{WasRun, run_text}
+
+module _ {A : Type 0} (g : Ghosts A) where
+  -- what was found at each store
+  abbrev pub all_found : List (View g) → List (Option Stored)
+  all_found stores = map (found g) stores
+
+  -- what each holds
+  abbrev pub all_held : List (View g) → List Stored
+  all_held stores = map (content g) stores
 
 -- the contents that a store has of objects, and of the others their own; the first object has number n
 abbrev pub laid_over : FinMap nat_cmp Content → ℕ → List Content → List Content
@@ -47,6 +58,10 @@ Opens (Some stored) own contents = IsOpening stored (length own) × (contents �
 pub record AreOpenedBy (found : List (Option Stored)) (own : List (List Content)) (setup : Setup) : Type 0 where
   pub count : length setup ≡ length own
   pub each : (n : ℕ) → n < length own → Opens (get_or found n None) (get_or own n []) (get_or setup n [])
+
+-- the setup that they open, if they open one
+abbrev pub IsOpened : List (Option Stored) → List (List Content) → Option Setup → Type 0
+IsOpened found own opened = MatchOption opened ((setup : Setup) → AreOpenedBy found own setup → ⊥) (AreOpenedBy found own)
 
 -- the stores once these bases were saved, each at its guardian; where there are fewer bases, the stores behind them as they were
 abbrev pub saved : List (List (ℕ × Content)) → List Stored → List Stored

@@ -26,8 +26,8 @@ pub fn check_script<W: Write>(alloc: Global, bytes: &[u8], writer: &mut W) -> Re
 }
 
 /// The script that the bytes are. Where they are none, it writes `fault`, the number of the first fault, from 1 to 12, and the JSON pointer
-/// of its place, which is `/` for the whole document; then it gives `None`. After a fault of memory or of the writer a beginning of that line
-/// was written.
+/// of its place, which is `/` for the whole document; then it gives `None`. After a fault of memory or of the writer a beginning of that
+/// line was written.
 pub fn read_script<W: Write>(
     alloc: Global,
     bytes: &[u8],
@@ -37,7 +37,7 @@ pub fn read_script<W: Write>(
     ensures begun { OnErr result (Writes (W.contents writer.old) (W.contents writer.new) (BeginsJudgement bytes.now)) }
     ensures fault { IfErr result IsOfWriter }
 {
-    match checked(alloc, bytes) {
+    match script_in(alloc, bytes) {
         Ok(script) => Ok(Some(script)),
         Err(fault) => {
             let line = fault_line(alloc, fault)?;
@@ -51,7 +51,7 @@ pub fn read_script<W: Write>(
 fn judgement(alloc: Global, bytes: &[u8]) -> Result<(Ended, String), AllocError>
     ensures { IfOk result (λ said. IsJudged bytes.now said.0 (string_bytes said.1)) }
 {
-    match checked(alloc, bytes) {
+    match script_in(alloc, bytes) {
         Ok(_) => Ok((Ended::Done, String::from_str(alloc, "ok\n")?)),
         Err(fault) => Ok((Ended::Stopped, fault_line(alloc, fault)?)),
     }
@@ -68,7 +68,7 @@ fn fault_line(alloc: Global, fault: ScriptFault) -> Result<String, AllocError>
 }
 
 /// The script that the bytes are, or their first fault.
-fn checked(alloc: Global, bytes: &[u8]) -> Result<Checked, ScriptFault>
+fn script_in(alloc: Global, bytes: &[u8]) -> Result<Checked, ScriptFault>
     ensures script { IfOk result (IsScriptIn bytes.now) }
     ensures fault { IfErr result (IsFaultOf bytes.now) }
 {

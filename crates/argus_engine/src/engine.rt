@@ -1,11 +1,8 @@
-ghost use Rattle.std.specs.Prelude.{◌≡◌, ◌≢◌, IfErr, IfOk, OnOk, OnErr, string_bytes, ◌++◌, ◌∷◌, [], MatchBool};
-ghost use Rattle.run_model.specs.declared.step.Step.{Step};
-ghost use Rattle.run_model.specs.Answers.{answer_of};
-ghost use Rattle.run_model.specs.Runs.{world_after};
-ghost use Rattle.run_model.specs.Texts.{Spells, answer_text};
+ghost use Rattle.std.specs.Prelude.{◌≡◌, ◌≢◌, IfErr, IfOk, OnOk, OnErr, string_bytes, ◌++◌, ◌∷◌, []};
+ghost use Rattle.run_model.specs.Texts.{answer_text};
 ghost use Rattle.run_model.specs.Transcripts.{error_text, line_feed};
 ghost use Rattle.argus_engine.specs.Serving.{Answers, BeginsAnswers, Writes};
-ghost use Rattle.argus_engine.specs.Reading.{GoesOn, IsOfReader};
+ghost use Rattle.argus_engine.specs.Reading.{AnswersLine, GoesOn, IsOfReader};
 ghost use Rattle.argus_engine.specs.declared.engine.Fault.TheVariants.{Store};
 
 use crate::reading::{Line, read_line};
@@ -74,8 +71,8 @@ pub(crate) enum Next {
 
 /// Reads steps to the end or to the first line that is no step, makes each in the world, and writes the line of each
 /// answer, or `error` with the line's number, after which nothing more is written. A line is ended by a line feed and has
-/// at most 8,192 bytes before it. After a fault the world has made the steps up to where it came, and of the answers that
-/// belong to what was read a beginning was written.
+/// at most 8,192 bytes before it. After a fault a beginning was written of the answers that belong to the input, and of those
+/// that belong to some beginning of it; of the world it is then said that its setup is the same and its history a run.
 pub fn steps<R: Read, W: Write>(
     alloc: Global,
     world: &mut World,
@@ -165,10 +162,7 @@ fn answer_line(
     line: &[u8],
     answers: &mut String,
 ) -> Result<bool, AllocError>
-    ensures ok { IfOk result (λ is_step. MatchBool is_step
-        ((step : Step) × Spells line.now step × (world.new ≡ world_after world.old step (answer_of world.old.setup step world.old.past))
-        × (string_bytes answers.new ≡ string_bytes answers.old ++ (answer_text (answer_of world.old.setup step world.old.past) ++ line_feed ∷ [])))
-        (((step : Step) → Spells line.now step → ⊥) × (world.new ≡ world.old) × (string_bytes answers.new ≡ string_bytes answers.old))) }
+    ensures ok { IfOk result (AnswersLine line.now world.old world.new (string_bytes answers.old) (string_bytes answers.new)) }
     ensures err { OnErr result (string_bytes answers.new ≡ string_bytes answers.old) }
     ensures setup { world.new.setup ≡ world.old.setup }
 {

@@ -22,7 +22,8 @@ pub fn explain_text<W: Write>(
     word: &str,
     writer: &mut W,
 ) -> Result<Ended, Fault>
-    ensures ok { IfOk result (λ ended. (ended ≡ Done) × Writes (W.contents writer.old) (W.contents writer.new) (IsExplained word.now history.now)) }
+    ensures ok { IfOk result (λ ended. (ended ≡ Done)
+        × Writes (W.contents writer.old) (W.contents writer.new) (IsExplained word.now history.now)) }
     // also after a fault
     ensures begun { Writes (W.contents writer.old) (W.contents writer.new)
         (λ written. (lines : List ℕ) → IsExplained word.now history.now lines → Begins written lines) }

@@ -1,8 +1,8 @@
-//! The engine of the program: it reads steps, a line each, makes them in a world, and writes the line of each answer; and it says of a script
-//! whether it is one, and runs it, also over stores.
+//! The engine of the program: it reads steps, a line each, makes them in a world, and writes the line of each answer; and it says of a
+//! script whether it is one, and runs it, also over stores.
 //!
 //! What it writes is the answer text that belongs to what it reads. Of steps it keeps one line and one buffer of answers at a
-//! time, so its memory grows with the history alone.
+//! time, beside the world.
 #![tactic(auto)]
 
 mod checking;

@@ -5,7 +5,7 @@ ghost use Rattle.script_model.specs.Resolved.{IsResolved};
 ghost use Rattle.script_laws.specs.Laws.{HasFewObjects, IsWithinLimits};
 ghost use Rattle.run_model.specs.Replay.{objects_at};
 ghost use Rattle.run_model.specs.Texts.{max_guardians};
-ghost use Rattle.argus_engine.specs.Running.{BeginsRun, IsFit, TellsRun, WasRun, all_bases, base_line, base_lines, bases_at, end_line, run_text};
+ghost use Rattle.argus_engine.specs.Running.{BeginsRun, IsFit, TellsRun, WasRun, all_bases, base_line, base_lines, bases_at, end_line, end_text, run_text};
 ghost use Rattle.argus_engine.specs.Serving.{IsOfWriter, Writes};
 
 use crate::engine::Fault;
@@ -26,8 +26,8 @@ pub(crate) struct Outcome {
     pub(crate) bases: Vec<BTreeMap<u32, Content>>,
 }
 
-/// Runs a script in a new world of its objects, its clients one after another. Writes a line for each client, `client 1 committed`, with the
-/// value that it returned behind it, or `client 1 aborted`, and then a line for each object: its base, as in
+/// Runs a script in a new world of its objects, its clients one after another. Writes a line for each client, `client 1 committed`, with
+/// the value that it returned behind it, or `client 1 aborted`, and then a line for each object: its base, as in
 /// `1/1 {"record":{"balance":40}}`. After a fault of memory or of the writer a beginning of that was written.
 pub fn run_script<W: Write>(alloc: Global, script: &Checked, writer: &mut W) -> Result<(), Fault>
     requires { IsFit script.now }
@@ -36,7 +36,7 @@ pub fn run_script<W: Write>(alloc: Global, script: &Checked, writer: &mut W) -> 
     ensures begun { Writes (W.contents writer.old) (W.contents writer.new) (BeginsRun script.now script.now.guardians) }
     ensures fault { IfErr result IsOfWriter }
 {
-    let outcome = ran(alloc, setup_of(alloc, script)?, script)?;
+    let outcome = run_clients(alloc, setup_of(alloc, script)?, script)?;
     let text = run_text(alloc, outcome.ends.as_slice(), outcome.bases.as_slice())?;
     finish(writer, text.as_str())
 }
@@ -76,8 +76,12 @@ pub(crate) fn add_guardian(setup: &mut Setup, contents: Vec<Content>) -> Result<
     }
 }
 
-/// Runs a script in a new world of the setup.
-pub(crate) fn ran(alloc: Global, setup: Setup, script: &Checked) -> Result<Outcome, AllocError>
+/// Runs a script's clients in a new world of the setup.
+pub(crate) fn run_clients(
+    alloc: Global,
+    setup: Setup,
+    script: &Checked,
+) -> Result<Outcome, AllocError>
     requires { IsResolved script.now }
     ensures { IfOk result (λ it. WasRun script.now setup it.ends.items (map (λ base. base.entries) it.bases.items)) }
 {
@@ -142,18 +146,27 @@ fn push_end(
 ) -> Result<(), AllocError>
     ensures { OnOk result (string_bytes text.new ≡ string_bytes text.old ++ end_line number end.now) }
 {
-    let how = if end.committed {
-        "committed"
-    } else {
-        "aborted"
-    };
-    let line = format!(in alloc; "client {number} {how}")?;
+    let line = format!(in alloc; "client {number} ")?;
     text.push_str(line.as_str())?;
-    if let Some(value) = &end.value {
-        text.push(' ')?;
-        value.write_to(text)?;
-    }
+    push_end_text(end, text)?;
     text.push('\n')
+}
+
+/// How the client ended, and the value that it returned.
+fn push_end_text(end: &ClientEnd, text: &mut String) -> Result<(), AllocError>
+    ensures { OnOk result (string_bytes text.new ≡ string_bytes text.old ++ end_text end.now) }
+{
+    match end {
+        ClientEnd::Committed {
+            value: Some(value),
+            ..
+        } => {
+            text.push_str("committed ")?;
+            value.write_to(text)
+        }
+        ClientEnd::Committed { value: None, .. } => text.push_str("committed"),
+        ClientEnd::Aborted { .. } => text.push_str("aborted"),
+    }
 }
 
 fn push_bases(

@@ -4,17 +4,16 @@ ghost use Rattle.std.specs.Prelude.{◌≡◌, ◌≢◌, ◌≤◌, ◌<◌, �
 ghost use Rattle.std.specs.FinMap.{get};
 ghost use Rattle.stable_store.specs.Held.{contents_in, held};
 ghost use Rattle.sql_store.specs.Views as view;
-ghost use Rattle.run_model.specs.Replay.{Setup};
 ghost use Rattle.script_laws.specs.Laws.{HasFewObjects};
 ghost use Rattle.values.specs.declared.content.Content.{Content};
 ghost use Rattle.std.specs.Io.KnownBytes.{Keeps};
 ghost use Rattle.argus_engine.specs.declared.engine.Fault.TheVariants.{Input, Output};
 ghost use Rattle.argus_engine.specs.Running.{IsFit};
-ghost use Rattle.argus_engine.specs.Storing.{AreOpenedBy, ArePartlySaved, BeginsStoredRun, CanOpen, HasOnly, IsOfStore, IsOpening, IsStoredRun, LeavesStoredRun, Opens, saved};
+ghost use Rattle.argus_engine.specs.Storing.{ArePartlySaved, BeginsStoredRun, CanOpen, HasOnly, IsOfStore, IsOpened, IsOpening, IsStoredRun, LeavesStoredRun, Opens, all_found, all_held, saved};
 ghost use Rattle.argus_engine.specs.Serving.{Writes};
 
 use crate::engine::{Ended, Fault};
-use crate::running::{add_guardian, ran, run_text};
+use crate::running::{add_guardian, run_clients, run_text};
 use crate::writing::finish;
 use run_model::Setup;
 use script::Checked;
@@ -30,9 +29,10 @@ use values::Content;
 /// of which a store has none has the script's. Then it saves the base of each object, a transaction for each store in order, and writes the
 /// lines.
 ///
-/// Where a store holds no content, or a top action is prepared there, or it has an object that the script lacks, `error store` is written, `Stopped`
-/// comes, and the stores are as they were. After a fault the first stores may have been saved, and the others are as they were. Where the writer
-/// failed all that was to be saved is, and a beginning of what was to be written was written; after another fault nothing was.
+/// Where a store holds no content, or a top action is prepared there, or it has an object that the script lacks, `error store` is written,
+/// `Stopped` comes, and the stores are as they were. After a fault the first stores may have been saved, and the others are as they were.
+/// Where the writer failed all that was to be saved is, and a beginning of what was to be written was written; after another fault nothing
+/// was.
 pub fn run_stored<A: Alter + Drop, W: Write>(
     alloc: Global,
     script: &Checked,
@@ -42,24 +42,22 @@ pub fn run_stored<A: Alter + Drop, W: Write>(
     requires script { IsFit script.now }
     requires count { length stores.old ≡ length script.now.guardians }
     ensures ok { IfOk result (λ ended. Writes (W.contents writer.old) (W.contents writer.new)
-        (IsStoredRun script.now (map (view.found A.Store) stores.old) (map (view.content A.Store) stores.old)
-        (map (view.content A.Store) stores.new) ended)) }
+        (IsStoredRun script.now (all_found A.Store stores.old) (all_held A.Store stores.old) (all_held A.Store stores.new) ended)) }
     // also after a fault
-    ensures begun { Writes (W.contents writer.old) (W.contents writer.new)
-        (BeginsStoredRun script.now (map (view.found A.Store) stores.old)) }
-    ensures err { OnErr result (ArePartlySaved script.now (map (view.found A.Store) stores.old)
-        (map (view.content A.Store) stores.old) (map (view.content A.Store) stores.new)) }
+    ensures begun { Writes (W.contents writer.old) (W.contents writer.new) (BeginsStoredRun script.now (all_found A.Store stores.old)) }
+    ensures err { OnErr result (ArePartlySaved script.now (all_found A.Store stores.old)
+        (all_held A.Store stores.old) (all_held A.Store stores.new)) }
     // so no line is written before all is saved
     ensures silent { IfErr result (λ fault. fault ≢ Output → Keeps (W.contents writer.old) (W.contents writer.new)) }
-    ensures untold { IfErr result (λ fault. fault ≡ Output → LeavesStoredRun script.now (map (view.found A.Store) stores.old)
-        (map (view.content A.Store) stores.old) (map (view.content A.Store) stores.new)) }
+    ensures untold { IfErr result (λ fault. fault ≡ Output → LeavesStoredRun script.now (all_found A.Store stores.old)
+        (all_held A.Store stores.old) (all_held A.Store stores.new)) }
     ensures fault { IfErr result (λ fault. fault ≢ Input) }
 {
-    let Some(setup) = opened(alloc, script, stores)? else {
+    let Some(setup) = open_setup(alloc, script, stores)? else {
         finish(writer, "error store\n")?;
         return Ok(Ended::Stopped);
     };
-    let outcome = ran(alloc, setup, script)?;
+    let outcome = run_clients(alloc, setup, script)?;
     let text = run_text(alloc, outcome.ends.as_slice(), outcome.bases.as_slice())?;
     save_all(alloc, stores, outcome.bases.as_slice())?;
     finish(writer, text.as_str())?;
@@ -67,16 +65,14 @@ pub fn run_stored<A: Alter + Drop, W: Write>(
 }
 
 /// The setup that the stores open; none where one of them opens no guardian.
-fn opened<A: Alter + Drop>(
+fn open_setup<A: Alter + Drop>(
     alloc: Global,
     script: &Checked,
     stores: &[SqlStable<A>],
 ) -> Result<Option<Setup>, AllocError>
     requires script { IsFit script.now }
     requires count { length stores.now ≡ length script.now.guardians }
-    ensures { IfOk result (λ found. MatchOption found
-        ((setup : Setup) → AreOpenedBy (map (view.found A.Store) stores.now) script.now.guardians setup → ⊥)
-        (AreOpenedBy (map (view.found A.Store) stores.now) script.now.guardians)) }
+    ensures { IfOk result (IsOpened (all_found A.Store stores.now) script.now.guardians) }
 {
     let mut setup = Setup::new(alloc);
     for (index, own) in script.guardians.as_slice().iter().enumerate() {
@@ -91,8 +87,8 @@ fn opened<A: Alter + Drop>(
     Ok(Some(setup))
 }
 
-/// Whether a store can open a guardian that has so many objects: it holds a content, no top action is prepared there, and it has no object but those from
-/// number 1 to the last.
+/// Whether a store can open a guardian that has so many objects: it holds a content, no top action is prepared there, and it has no object
+/// but those from number 1 to the last.
 pub fn can_open<A: Alter + Drop>(store: &SqlStable<A>, objects: usize) -> bool
     ensures { MatchBool result (CanOpen (view.found A.Store store.now) objects) (CanOpen (view.found A.Store store.now) objects → ⊥) }
 {
@@ -150,10 +146,10 @@ fn save_all<A: Alter + Drop>(
     bases: &[BTreeMap<u32, Content>],
 ) -> Result<(), Fault>
     requires { length stores.old ≡ length bases.now }
-    ensures ok { OnOk result (map (view.content A.Store) stores.new
-        ≡ saved (map (λ base. base.entries) bases.now) (map (view.content A.Store) stores.old)) }
-    ensures err { OnErr result ((count : ℕ) × (map (view.content A.Store) stores.new
-        ≡ saved (take count (map (λ base. base.entries) bases.now)) (map (view.content A.Store) stores.old))) }
+    ensures ok { OnOk result (all_held A.Store stores.new
+        ≡ saved (map (λ base. base.entries) bases.now) (all_held A.Store stores.old)) }
+    ensures err { OnErr result ((count : ℕ) × (all_held A.Store stores.new
+        ≡ saved (take count (map (λ base. base.entries) bases.now)) (all_held A.Store stores.old))) }
     ensures fault { IfErr result IsOfStore }
 {
     for (index, store) in stores.iter_mut().enumerate() {

@@ -15,7 +15,8 @@ const BUFFER_SIZE: usize = 8192;
 #[tactic(auto, using(crate::proofs::Progressed::moves_all, crate::proofs::Progressed::moves_none))]
 pub(crate) fn send_if_full<W: Write>(writer: &mut W, text: &mut String) -> Result<(), Fault>
     ensures ok { OnOk result (Moves (W.contents writer.old) (W.contents writer.new) (string_bytes text.old) (string_bytes text.new)) }
-    ensures err { OnErr result (TakesFront (W.contents writer.old) (W.contents writer.new) (string_bytes text.old) × (string_bytes text.new ≡ [])) }
+    ensures err { OnErr result (TakesFront (W.contents writer.old) (W.contents writer.new) (string_bytes text.old)
+        × (string_bytes text.new ≡ [])) }
     ensures fault { IfErr result (λ fault. fault ≡ Output) }
 {
     if text.len() < BUFFER_SIZE {

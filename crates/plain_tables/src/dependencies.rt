@@ -11,7 +11,7 @@ ghost use Rattle.run_model.specs.Replay.{Setup};
 ghost use Rattle.run_model.specs.Runs.{IsRun};
 ghost use Rattle.plain_tables.specs.Parts.{newest_row, least_in, AreDependencies, AreNewRows, IsRowBegun, AreRowsBegun, AreRowsOfCommit};
 
-use plain_facts::actions;
+use history_facts::actions;
 use run_model::{Answer, Deps, Event, History, Name, Names, Setup, Step};
 use std::alloc::{AllocError, Global};
 
@@ -95,7 +95,7 @@ fn rows_begun(
     Ok(added)
 }
 
-fn inherited(alloc: Global, rows: &[Row], name: &Name) -> Result<Deps, AllocError>
+fn inherit(alloc: Global, rows: &[Row], name: &Name) -> Result<Deps, AllocError>
     ensures { IfOk result (λ deps. (g : ℕ) → map.get deps g ≡ inherited (is_top name.now) name.now (λ b. least_in rows.now b g)) }
 {
     match name.parent()? {
@@ -113,7 +113,7 @@ fn row_begun(
 ) -> Result<Row, AllocError>
     ensures { IfOk result (λ row. IsRowBegun rows.now name.now home present row) }
 {
-    let mut deps = inherited(alloc, rows, name)?;
+    let mut deps = inherit(alloc, rows, name)?;
     deps.lower(home, present)?;
     Ok(Row {
         action: name.copy()?,

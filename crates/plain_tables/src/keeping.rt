@@ -8,7 +8,7 @@ ghost use Rattle.run_model.specs.Telling.{tells};
 ghost use Rattle.plain_tables.specs.Parts.{kept_of, may_undo};
 ghost use Rattle.plain_tables.specs.Changed.{kept_after};
 
-use plain_facts::{actions, telling};
+use history_facts::{actions, telling};
 use run_model::{Answer, Class, Event, History, Name, ObjectId, Op, Reply, Step};
 use std::alloc::{AllocError, Global};
 use std::marker::Model;
@@ -100,16 +100,16 @@ pub fn kept_change(
     ensures { IfOk result (λ change. kept_after kept.now change ≡ kept_of (event.now ∷ history.now)) }
 {
     if let Step::Op(action, object, operation) = &event.step {
-        return granted(history, action, *object, operation, &event.answer);
+        return keep_granted(history, action, *object, operation, &event.answer);
     }
     if may_undo(&event.step) {
-        return Ok(KeptChange::Left(left(alloc, kept, history, event)?));
+        return Ok(KeptChange::Left(copy_left(alloc, kept, history, event)?));
     }
     Ok(KeptChange::Same)
 }
 
 // The operation is kept, if it is granted.
-fn granted(
+fn keep_granted(
     history: &History,
     action: &Name,
     object: ObjectId,
@@ -143,7 +143,7 @@ fn may_undo(step: &Step) -> bool
 }
 
 // Copies of the operations that the event does not undo.
-fn left(
+fn copy_left(
     alloc: Global,
     kept: &[Performed],
     history: &History,

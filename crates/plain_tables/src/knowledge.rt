@@ -7,7 +7,7 @@ ghost use Rattle.run_model.specs.Runs.{IsRun};
 ghost use Rattle.plain_tables.specs.Parts.{IsGuardian, IsKnown, AreLists, AreToldToo, AreBoth, counted, receiver_of};
 ghost use Rattle.plain_tables.specs.Changed.{lists_after, IsReceiver};
 
-use plain_facts::{actions, telling};
+use history_facts::{actions, telling};
 use run_model::{Event, History, Name, Names, Setup, Step};
 use std::alloc::{AllocError, Global};
 
@@ -200,7 +200,8 @@ fn greater_counts(
     own: &[u64],
     others: &[u64],
 ) -> Result<Vec<u64>, AllocError>
-    ensures { IfOk result (λ counts. (k : ℕ) → k < guardians → slice_index counts.items k ≡ max (slice_index own.now k) (slice_index others.now k)) }
+    ensures { IfOk result (λ counts. (k : ℕ) → k < guardians
+        → slice_index counts.items k ≡ max (slice_index own.now k) (slice_index others.now k)) }
 {
     let mut counts = Vec::with_capacity(alloc, guardians)?;
     for index in 0..guardians {

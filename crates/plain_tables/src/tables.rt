@@ -12,7 +12,7 @@ ghost use Rattle.plain_tables.specs.Tables.{IsTables, AreChanges};
 use crate::dependencies::{self, Row};
 use crate::keeping::{self, KeptChange, Performed};
 use crate::knowledge::{self, Known};
-use plain_facts::actions;
+use history_facts::actions;
 use run_model::{Event, History, Name, Setup};
 use std::alloc::{AllocError, Global};
 
@@ -111,7 +111,7 @@ impl Tables {
     }
 
     /// The granted operations that are kept, the oldest first.
-    pub fn kept(&self, setup: &Setup, history: &History) -> &[Performed]
+    pub fn kept_operations(&self, setup: &Setup, history: &History) -> &[Performed]
         requires { IsTables setup.now self.now history.now }
         ensures { result.now ≡ reverse (filter (λ o. is_kept o history.now) (performed history.now)) }
     {

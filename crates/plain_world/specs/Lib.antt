@@ -1,4 +1,5 @@
 pub mod Plain
 pub mod Arms
+pub mod Checks
 pub mod Kept
 pub mod Ready

@@ -14,8 +14,8 @@ use crate::refusals::opening;
 use crate::view::View;
 use action_names::{Name, Names};
 use atomic_types::AtomicType;
-use plain_facts::actions::is_committed;
-use plain_facts::telling::holder_of;
+use history_facts::actions::is_committed;
+use history_facts::telling::holder_of;
 use plain_tables::Performed;
 use run_model::{Content, History, ObjectId, Op};
 use std::alloc::{AllocError, Global};
@@ -30,7 +30,7 @@ pub fn blockers(
     requires { IsPlain view.now.setup.now view.now.tables.now view.now.history.now }
     ensures { IfOk result (λ names. names ≡ blockers name.now object operation.now view.now.history.now) }
 {
-    let kept = view.tables.kept(view.setup, view.history);
+    let kept = view.tables.kept_operations(view.setup, view.history);
     holders(view.alloc, view.history, kept, name, object, operation)
 }
 
@@ -113,7 +113,7 @@ fn place_for(names: &[Name], name: &Name) -> Option<usize>
 }
 
 /// What the kept operations on the object leave of it.
-pub fn left(view: &View<'_>, object: ObjectId) -> Result<Content, AllocError>
+pub fn content_left(view: &View<'_>, object: ObjectId) -> Result<Content, AllocError>
     requires plain { IsPlain view.now.setup.now view.now.tables.now view.now.history.now }
     requires guardian { 1 ≤ object.guardian }
     requires number { 1 ≤ object.number }
@@ -123,7 +123,11 @@ pub fn left(view: &View<'_>, object: ObjectId) -> Result<Content, AllocError>
     let Some(content) = opening(view.setup, object) else {
         unreachable!()
     };
-    replay(content, view.tables.kept(view.setup, view.history), object)
+    replay(
+        content,
+        view.tables.kept_operations(view.setup, view.history),
+        object,
+    )
 }
 
 /// What the operations on the object, one after another, leave of its opening content.
@@ -155,7 +159,7 @@ pub fn base(view: &View<'_>, object: ObjectId) -> Result<Content, AllocError>
     replay_unheld(
         content,
         view.history,
-        view.tables.kept(view.setup, view.history),
+        view.tables.kept_operations(view.setup, view.history),
         object,
     )
 }
@@ -188,7 +192,7 @@ pub fn is_changed(view: &View<'_>, object: ObjectId, name: &Name) -> Result<bool
     ensures { IfOk result (λ changed. changed ≡
         list_any (λ o. is_concerned object.guardian name.now view.now.history.now o) (kept_on object view.now.history.now)) }
 {
-    let kept = view.tables.kept(view.setup, view.history);
+    let kept = view.tables.kept_operations(view.setup, view.history);
     concerns_any(view.history, kept, object, name)
 }
 

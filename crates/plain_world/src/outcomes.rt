@@ -5,18 +5,18 @@ ghost use Rattle.atomic_types.specs.Objects.{knows};
 ghost use Rattle.run_model.specs.declared.answer.Answer.TheVariants.{Began, VoteYes, VoteNo};
 ghost use Rattle.run_model.specs.Actions.{next_number};
 ghost use Rattle.run_model.specs.Keeping.{blockers};
-ghost use Rattle.run_model.specs.Refusals.{checks, first_refusal, is_past_arms, arm_names};
+ghost use Rattle.run_model.specs.Refusals.{checks, first_refusal, max_number, is_past_arms, arm_names};
 ghost use Rattle.run_model.specs.Replay.{opening, objects_at};
 ghost use Rattle.run_model.specs.Votes.{may_prepare};
 ghost use Rattle.run_model.specs.Answers.{outcome, granted_or_waits, told_count};
 ghost use Rattle.plain_world.specs.Arms.{uses_up};
 ghost use Rattle.plain_world.specs.Plain.{IsPlain};
 
-use crate::objects::{blockers, is_changed, left};
+use crate::objects::{blockers, content_left, is_changed};
 use crate::view::View;
 use action_names::{Name, Names};
 use atomic_types::AtomicType;
-use plain_facts::actions::{crashes, next_child, next_top};
+use history_facts::actions::{crashes, next_child, next_top};
 use run_model::{Answer, ArmKind, ArmKinds, ObjectId, Op, Step};
 use std::alloc::{AllocError, Global};
 
@@ -45,7 +45,7 @@ pub fn of_step(view: &View<'_>, step: &Step) -> Result<Answer, AllocError>
 
 /// The top action with this number. From 1 on there is one, so `Err` comes for want of memory alone.
 fn top_name(alloc: Global, number: u64) -> Result<Name, AllocError>
-    requires { number ≤ 4294967295 }
+    requires { number ≤ max_number }
     ensures { IfOk result (λ name. name ≡ number ∷ []) }
 {
     Name::top(alloc, number as u32).map_err(|_| AllocError)
@@ -53,7 +53,7 @@ fn top_name(alloc: Global, number: u64) -> Result<Name, AllocError>
 
 /// The child with this number. From 1 on, and with room for a level more, `Err` comes for want of memory alone.
 fn child_name(parent: &Name, number: u64) -> Result<Name, AllocError>
-    requires { number ≤ 4294967295 }
+    requires { number ≤ max_number }
     ensures { IfOk result (λ name. name ≡ child_of parent.now number) }
 {
     parent.child(number as u32).map_err(|_| AllocError)
@@ -69,7 +69,7 @@ fn began(alloc: Global, name: Name) -> Result<Answer, AllocError>
 }
 
 fn begin_top(view: &View<'_>) -> Result<Answer, AllocError>
-    requires { next_number [] view.now.history.now ≤ 4294967295 }
+    requires { next_number [] view.now.history.now ≤ max_number }
     ensures { IfOk result (λ answer. answer ≡ Began ((next_number [] view.now.history.now ∷ []) ∷ [])) }
 {
     let name = top_name(view.alloc, next_top(view.history))?;
@@ -77,7 +77,7 @@ fn begin_top(view: &View<'_>) -> Result<Answer, AllocError>
 }
 
 fn begin_child(view: &View<'_>, parent: &Name) -> Result<Answer, AllocError>
-    requires { next_number parent.now view.now.history.now ≤ 4294967295 }
+    requires { next_number parent.now view.now.history.now ≤ max_number }
     ensures { IfOk result (λ answer. answer ≡ Began (child_of parent.now (next_number parent.now view.now.history.now) ∷ [])) }
 {
     let name = child_name(parent, next_child(view.history, parent))?;
@@ -141,7 +141,7 @@ fn operate(
     if !names.is_empty() {
         return Ok(Answer::Waits(names));
     }
-    let mut content = left(view, object)?;
+    let mut content = content_left(view, object)?;
     Ok(Answer::Granted(content.apply(operation)?))
 }
 

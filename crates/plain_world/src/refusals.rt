@@ -1,25 +1,26 @@
 //! When a step is refused: for each kind of step its refusals in their order.
-ghost use Rattle.std.specs.Prelude.{◌≡◌, ◌≤◌, false, ◌==◌, ◌||◌, [], ◌∷◌, length, nat_lt, IfOk, IsTrue, MatchOption};
+ghost use Rattle.std.specs.Prelude.{◌≡◌, ◌≤◌, false, ◌==◌, ◌||◌, length, suc, nat_lt, IfOk, IsTrue, MatchOption};
 ghost use Rattle.atomic_types.specs.Objects.{knows};
 ghost use Rattle.run_model.specs.declared.step.Step.TheVariants.{Top, NestedTop, Call, Arms, Commit, Close, Prepare, Decide, Abort, Tell, Crash, Recover};
 ghost use Rattle.run_model.specs.declared.step.Step.TheVariants as steps;
 ghost use Rattle.run_model.specs.Actions.{is_begun, home_of};
 ghost use Rattle.run_model.specs.Lists.{is_known_orphan};
 ghost use Rattle.run_model.specs.Votes.{all_prepared};
-ghost use Rattle.run_model.specs.Replay.{opening, objects_at};
-ghost use Rattle.run_model.specs.Refusals.{checks, first_refusal, no_action, ended_or_closed, busy, gone, known_orphan, has_sub, is_past_arms};
+ghost use Rattle.run_model.specs.Replay.{opening};
+ghost use Rattle.run_model.specs.Refusals.{checks, first_refusal, has_sub, max_number, is_past_arms};
 ghost use Rattle.plain_world.specs.Plain.{IsPlain};
 ghost use Rattle.plain_world.specs.Arms.{uses_up};
+ghost use Rattle.plain_world.specs.Checks.{is_no_object, worker_checks, actor_checks};
 ghost use Rattle.plain_world.specs.Ready.{is_ready};
 
 use crate::view::View;
 use action_names::{MAX_DEPTH, Name};
 use atomic_types::AtomicType;
-use plain_facts::actions::{
+use history_facts::actions::{
     home_of, is_begun, is_busy, is_closed, is_done, is_down, is_ended, is_gone, next_child,
     next_top,
 };
-use plain_facts::telling::{has_prepared, has_voted, told_since_crash};
+use history_facts::telling::{has_prepared, has_voted, told_since_crash};
 use run_model::{ArmKind, ArmKinds, Content, ObjectId, Op, Refusal, Setup, Step};
 use std::alloc::AllocError;
 
@@ -59,10 +60,8 @@ fn is_no_guardian(setup: &Setup, guardian: u32) -> bool
 /// What the object held when all began, if there is such an object.
 pub fn opening(setup: &Setup, object: ObjectId) -> Option<&Content>
     requires { 1 ≤ object.guardian }
-    ensures { MatchOption result
-        (IsTrue ((object.number == 0) || nat_lt (length (objects_at setup.now object.guardian)) object.number))
-        (λ content. (((object.number == 0) || nat_lt (length (objects_at setup.now object.guardian)) object.number) ≡ false)
-        × (content.now ≡ opening setup.now object)) }
+    ensures { MatchOption result (IsTrue (is_no_object setup.now object))
+        (λ content. (is_no_object setup.now object ≡ false) × (content.now ≡ opening setup.now object)) }
 {
     if object.number == 0 {
         return None;
@@ -86,8 +85,7 @@ fn is_known_orphan(view: &View<'_>, name: &Name) -> Result<bool, AllocError>
 
 /// Why the action may do nothing more: it is over, it is busy, or its home crashed.
 fn of_worker(view: &View<'_>, name: &Name) -> Option<Refusal>
-    ensures { result ≡ first_refusal (ended_or_closed name.now view.now.history.now ∷ busy name.now view.now.history.now
-        ∷ gone name.now view.now.history.now ∷ []) }
+    ensures { result ≡ first_refusal (worker_checks name.now view.now.history.now) }
 {
     if is_done(view.history, name) {
         return Some(Refusal::Ended);
@@ -104,9 +102,7 @@ fn of_worker(view: &View<'_>, name: &Name) -> Option<Refusal>
 /// Why the action may take no step of its own, wherever it is.
 fn of_actor(view: &View<'_>, name: &Name) -> Result<Option<Refusal>, AllocError>
     requires { IsPlain view.now.setup.now view.now.tables.now view.now.history.now }
-    ensures { IfOk result (λ why. why ≡ first_refusal (no_action name.now view.now.history.now
-        ∷ ended_or_closed name.now view.now.history.now ∷ busy name.now view.now.history.now
-        ∷ gone name.now view.now.history.now ∷ known_orphan view.now.setup.now name.now view.now.history.now ∷ [])) }
+    ensures { IfOk result (λ why. why ≡ first_refusal (actor_checks view.now.setup.now name.now view.now.history.now)) }
 {
     if !is_begun(view.history, name) {
         return Ok(Some(Refusal::NoAction));
@@ -383,8 +379,8 @@ fn is_past_arms(view: &View<'_>, name: &Name, kinds: &ArmKinds) -> bool
 
 /// Whether arms with children from one number on and top actions from another need a number that is used up.
 fn uses_up(mut child: u64, mut top: u64, kinds: &[ArmKind]) -> bool
-    requires child { child ≤ 4294967296 }
-    requires top { top ≤ 4294967296 }
+    requires child { child ≤ suc max_number }
+    requires top { top ≤ suc max_number }
     ensures { result ≡ uses_up child top kinds.now }
 {
     for kind in kinds {

@@ -1,4 +1,3 @@
-mod WayBack
 mod Texts
 mod Finds
 mod Keys

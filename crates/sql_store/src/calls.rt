@@ -8,9 +8,9 @@ ghost use Rattle.stable_store.specs.Held.{held};
 ghost use Rattle.sql_store.specs.Calls.{Stands, Carries, after_save};
 
 use crate::decoding::{fault_of, read_content};
-use crate::{laid, mirror, statements};
+use crate::{mirror, statements};
 use sqlite::{Alter, Connection};
-use stable_store::{GREATEST_COUNT, Kept, Prepared, StoreFault};
+use stable_store::{GREATEST_COUNT, Kept, Prepared, StoreFault, laid};
 use std::alloc::Global;
 use std::collections::BTreeMap;
 use values::Content;

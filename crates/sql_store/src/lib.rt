@@ -3,7 +3,6 @@
 
 mod calls;
 mod decoding;
-mod laid;
 mod mirror;
 mod rows;
 mod schema;

@@ -52,7 +52,8 @@ impl<A: Alter + Drop> SqlStable<A> {
     /// A store in this database: in tables that it makes where the database has none of them, and else in those that
     /// are there. `NotOurs` where only some are there, where they have other columns or are of another version; `Failed`
     /// where the device or the database refuses, or a transaction is under way; `Memory` for want of memory. With a
-    /// fault the connection comes back, and the database is what it was.
+    /// fault the connection comes back, and the database is what it was. (Which fault comes, and that the database stays as it
+    /// was, is tested and not proved.)
     ///
     /// Where the tables hold no content of a store, the store answers `NotOurs` to each call, and counts it.
     pub fn new(
@@ -99,12 +100,12 @@ impl<A: Alter + Drop> SqlStable<A> {
             (view.may_leave A.Store) self.old self.new (Unit {0}) (after_save base.now.entries (view.content A.Store self.old)) result }
     {
         if !self.holds_content {
-            return Err(counted(&mut self.failures, StoreFault::NotOurs));
+            return Err(count_fault(&mut self.failures, StoreFault::NotOurs));
         }
         one_spelling();
         match calls::save(&mut self.conn, &mut self.kept, alloc, base) {
             Ok(()) => Ok(()),
-            Err(fault) => Err(counted(&mut self.failures, fault)),
+            Err(fault) => Err(count_fault(&mut self.failures, fault)),
         }
     }
 
@@ -192,7 +193,7 @@ fn is_alone<A: Alter>(conn: &Connection<A>) -> bool
 }
 
 /// The fault of a call. All but want of memory are counted.
-fn counted(failures: &mut u64, fault: StoreFault) -> StoreFault
+fn count_fault(failures: &mut u64, fault: StoreFault) -> StoreFault
     ensures same { result ≡ fault }
     ensures counts { IsExcused (Unit {0}) failures.old failures.new fault }
 {
@@ -223,67 +224,67 @@ impl<A: Alter + Drop> Stable for SqlStable<A> {
         values: BTreeMap<u32, Content>,
     ) -> Result<(), StoreFault> {
         if !self.holds_content {
-            return Err(counted(&mut self.failures, StoreFault::NotOurs));
+            return Err(count_fault(&mut self.failures, StoreFault::NotOurs));
         }
         one_spelling();
         match calls::prepare(&mut self.conn, &mut self.kept, alloc, top, home, values) {
             Ok(()) => Ok(()),
-            Err(fault) => Err(counted(&mut self.failures, fault)),
+            Err(fault) => Err(count_fault(&mut self.failures, fault)),
         }
     }
 
     fn install(&mut self, alloc: Global, top: u32) -> Result<(), StoreFault> {
         if !self.holds_content {
-            return Err(counted(&mut self.failures, StoreFault::NotOurs));
+            return Err(count_fault(&mut self.failures, StoreFault::NotOurs));
         }
         one_spelling();
         match calls::install(&mut self.conn, &mut self.kept, alloc, top) {
             Ok(()) => Ok(()),
-            Err(fault) => Err(counted(&mut self.failures, fault)),
+            Err(fault) => Err(count_fault(&mut self.failures, fault)),
         }
     }
 
     fn discard(&mut self, top: u32) -> Result<(), StoreFault> {
         if !self.holds_content {
-            return Err(counted(&mut self.failures, StoreFault::NotOurs));
+            return Err(count_fault(&mut self.failures, StoreFault::NotOurs));
         }
         one_spelling();
         match calls::discard(&mut self.conn, &mut self.kept, top) {
             Ok(()) => Ok(()),
-            Err(fault) => Err(counted(&mut self.failures, fault)),
+            Err(fault) => Err(count_fault(&mut self.failures, fault)),
         }
     }
 
     fn decide(&mut self, top: u32) -> Result<(), StoreFault> {
         if !self.holds_content {
-            return Err(counted(&mut self.failures, StoreFault::NotOurs));
+            return Err(count_fault(&mut self.failures, StoreFault::NotOurs));
         }
         one_spelling();
         match calls::decide(&mut self.conn, &mut self.kept, top) {
             Ok(()) => Ok(()),
-            Err(fault) => Err(counted(&mut self.failures, fault)),
+            Err(fault) => Err(count_fault(&mut self.failures, fault)),
         }
     }
 
     fn bump(&mut self) -> Result<(), StoreFault> {
         if !self.holds_content {
-            return Err(counted(&mut self.failures, StoreFault::NotOurs));
+            return Err(count_fault(&mut self.failures, StoreFault::NotOurs));
         }
         one_spelling();
         match calls::bump(&mut self.conn, &mut self.kept) {
             Ok(()) => Ok(()),
-            Err(fault) => Err(counted(&mut self.failures, fault)),
+            Err(fault) => Err(count_fault(&mut self.failures, fault)),
         }
     }
 
     fn load(&mut self, alloc: Global) -> Result<Kept, StoreFault> {
         if !self.holds_content {
-            return Err(counted(&mut self.failures, StoreFault::NotOurs));
+            return Err(count_fault(&mut self.failures, StoreFault::NotOurs));
         }
         one_spelling();
         match calls::load(&mut self.conn, &self.kept, alloc) {
             Ok(kept) => Ok(kept),
-            Err(fault) => Err(counted(&mut self.failures, fault)),
+            Err(fault) => Err(count_fault(&mut self.failures, fault)),
         }
     }
 

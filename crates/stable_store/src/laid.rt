@@ -10,13 +10,18 @@ use std::alloc::{AllocError, Global};
 use std::collections::BTreeMap;
 use values::Content;
 
-/// Lays the contents over those of the base. Where memory runs out the base is as it was.
+/// What the objects of a base had that were given other contents, by the order in which they were.
+pub type Replaced = Vec<(u32, Option<Content>)>;
+
+/// Lays the contents over those of the base, and gives what the objects had. Where memory runs out the base is as it was.
 pub fn lay(
     alloc: Global,
     base: &mut BTreeMap<u32, Content>,
     values: &BTreeMap<u32, Content>,
-) -> Result<(), AllocError>
+) -> Result<Replaced, AllocError>
     ensures ok { OnOk result (contents_in base.new ≡ laid values.now.entries (contents_in base.old)) }
+    ensures back { IfOk result (λ replaced. CanUndo replaced.items (contents_in base.new)
+        × (undone replaced.items (contents_in base.new) ≡ contents_in base.old)) }
     ensures err { OnErr result (contents_in base.new ≡ contents_in base.old) }
 {
     let mut replaced = Vec::with_capacity(alloc, values.len())?;
@@ -29,7 +34,7 @@ pub fn lay(
             }
         }
     }
-    Ok(())
+    Ok(replaced)
 }
 
 /// Lays one content over that of the base, and gives the one that the object had.
@@ -46,7 +51,7 @@ fn lay_one(
 }
 
 /// Gives the objects back what they had, the last first. This takes no memory.
-fn undo(base: &mut BTreeMap<u32, Content>, mut replaced: Vec<(u32, Option<Content>)>)
+pub fn undo(base: &mut BTreeMap<u32, Content>, mut replaced: Replaced)
     requires { CanUndo replaced.items (contents_in base.old) }
     ensures { contents_in base.new ≡ undone replaced.items (contents_in base.old) }
 {

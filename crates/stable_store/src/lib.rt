@@ -7,7 +7,7 @@
 mod fail_once;
 mod fault;
 mod kept;
-mod laid;
+pub mod laid;
 mod plain;
 mod stable;
 

@@ -71,7 +71,7 @@ impl Stable for PlainStable {
         let Some(record) = self.kept.prepared.get(&top) else {
             return Ok(());
         };
-        lay(alloc, &mut self.kept.base, &record.values)?;
+        drop(lay(alloc, &mut self.kept.base, &record.values)?);
         drop(self.kept.prepared.remove(&top));
         Ok(())
     }

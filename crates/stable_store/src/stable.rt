@@ -14,8 +14,9 @@ pub const GREATEST_COUNT: u64 = 9_223_372_036_854_775_807;
 
 /// What a guardian keeps through a crash. A call makes its whole change or none: where it answers an error the content
 /// is what it was, and what it was handed by value is dropped. `Memory` is want of memory; every other error is counted.
-/// A stop in the midst of a call leaves the content before it or after it, as long as the device returns what was
-/// written to it; a stop after an `Ok` leaves the content after it.
+/// Where the device returns what was written to it and no failure has shut the store, whatever content an opening finds after a
+/// stop in the midst of a call is that before the call or that after it; after an `Ok` it is that after it. That an opening finds
+/// one is not said.
 ///
 /// Objects, top actions and guardians go by their numbers.
 pub trait Stable: Drop {

@@ -10,7 +10,7 @@ ghost use Rattle.tracer.specs.Endings.{AreEndings, place_at};
 ghost use Rattle.tracer.specs.Places.{place_numbers, step_number};
 
 use crate::place::{ClosingStep, Place};
-use plain_facts::actions::ancestors;
+use history_facts::actions::ancestors;
 use run_model::{Event, History, Name, Step};
 use std::alloc::{AllocError, Global};
 use std::collections::{BTreeMap, BTreeSet};

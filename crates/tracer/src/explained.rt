@@ -13,7 +13,7 @@ ghost use Rattle.tracer.specs.Explained.{listed, AreByPlace, IsPlaced, Explains,
 use crate::endings::Endings;
 use crate::orphans::is_orphan;
 use crate::place::Place;
-use plain_facts::actions::is_begun;
+use history_facts::actions::is_begun;
 use run_model::{Answer, Event, History, Name, ObjectId, Op, Reply, Step};
 use std::alloc::{AllocError, Global};
 use std::collections::BTreeMap;

@@ -9,8 +9,8 @@ ghost use Rattle.tracer.specs.Endings.{AreEndings};
 ghost use Rattle.tracer.specs.Losses.{IsStanding, is_seen_loss};
 
 use crate::endings::Endings;
-use plain_facts::actions::{ancestors, begins, is_aborted};
-use plain_facts::steps::{crashes, is_path, names_begun};
+use history_facts::actions::{ancestors, begins, is_aborted};
+use history_facts::steps::{crashes, is_path, names_begun};
 use run_model::{Answer, Event, History, Name, Step};
 use std::alloc::{AllocError, Global};
 

@@ -1,6 +1,6 @@
 use Rattle.std.proofs.Common.{[], ap, arith, subst, sym, take, ◌++◌, ◌∙◌}
 use Rattle.std.proofs.lemmas.List.{take_all}
-use Rattle.activities.specs.Ends.{AreRun, named_by}
+use Rattle.activities.specs.Ends.{AreRun, named_by, top_of}
 use Rattle.activities.proofs.Clients.{all_ran, goes_on_err, if_err, more_ran, none_run}
 use Rattle.activities.proofs.Going.{goes_nowhere, goes_through}
 use Rattle.activities.proofs.serial.run_serial.Goals as goal
@@ -16,17 +16,17 @@ loop-client-init c = record {
 
 pub returns-in_err-push-in-Ok-clause-err : goal.returns-in_err-push-in-Ok-clause-err
 returns-in_err-push-in-Ok-clause-err c =
-    goes_on_err _ c.args.world.now c.run_client.new.world (c.loop-client.invariant.goes_on.0 ++ named_by c.in-Ok.end.top)
-    (goes_through c.args.world.now c.loop-client.world c.run_client.new.world c.loop-client.invariant.goes_on.0 (named_by c.in-Ok.end.top)
+    goes_on_err _ c.args.world.now c.run_client.new.world (c.loop-client.invariant.goes_on.0 ++ named_by (top_of c.in-Ok.end))
+    (goes_through c.args.world.now c.loop-client.world c.run_client.new.world c.loop-client.invariant.goes_on.0 (named_by (top_of c.in-Ok.end))
     c.loop-client.invariant.goes_on.1 c.in-Ok.ensures.ok.goes_on)
 
 pub loop-client-preserved : goal.loop-client-preserved
 loop-client-preserved c = elim c.match-run_client.branch [
   | in-Ok+in_ok-push-in-Ok w ↦ record {
     goes_on = (
-      c.loop-client.invariant.goes_on.0 ++ named_by w.in-Ok.end.top,
+      c.loop-client.invariant.goes_on.0 ++ named_by (top_of w.in-Ok.end),
       goes_through c.args.world.now c.loop-client.world c.run_client.new.world c.loop-client.invariant.goes_on.0
-          (named_by w.in-Ok.end.top) c.loop-client.invariant.goes_on.1 w.in-Ok.ensures.ok.goes_on,
+          (named_by (top_of w.in-Ok.end)) c.loop-client.invariant.goes_on.1 w.in-Ok.ensures.ok.goes_on,
     );
     ran =
         more_ran c.loop-client.fault c.match-run_client.fault c.as_slice-clients.result.now c.loop-client.client-index c.client-item.result

@@ -6,8 +6,8 @@ use Rattle.argus_engine.proofs.Limits.{resolved}
 use Rattle.argus_engine.proofs.Runs.{front_told}
 use Rattle.argus_engine.proofs.running.run_script.Goals as goal
 
-pub ran-requires : goal.ran-requires
-ran-requires g c = resolved c.args.script.now c.requires
+pub run_clients-requires : goal.run_clients-requires
+run_clients-requires g c = resolved c.args.script.now c.requires
 
 pub returns-clause-begun : goal.returns-clause-begun
 returns-clause-begun g c =

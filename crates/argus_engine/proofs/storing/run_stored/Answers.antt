@@ -21,8 +21,8 @@ returns-in_default-clause-begun g c =
     whole_stored _ _ c.args.script.now all Stopped [] refusal_line (none_told c.args.script.now all c.in_ok-setup.field-0 c.in_default.is c.in_ok-setup.ensures)
     c.in_ok-finish.ensures.ok
 
-pub ran-requires : goal.ran-requires
-ran-requires g c = resolved c.args.script.now c.requires.script
+pub run_clients-requires : goal.run_clients-requires
+run_clients-requires g c = resolved c.args.script.now c.requires.script
 
 pub save_all-requires : goal.save_all-requires
 save_all-requires g c =

@@ -19,7 +19,7 @@ pub returns-then-may_undo : goal.returns-then-may_undo
 returns-then-may_undo c =
     let e = c.args.event.now in
     let past = c.args.history.now in
-    c.in_ok-left.ensures ∙ ap (λ os. left_by e past os) c.requires
+    c.in_ok-copy_left.ensures ∙ ap (λ os. left_by e past os) c.requires
     ∙ kept_left e past (nothing_granted e.step e.answer (suc (length past)) c.in_default.not-Op)
 
 pub returns-in-Op : goal.returns-in-Op
@@ -27,9 +27,9 @@ returns-in-Op c =
     let e = c.args.event.now in
     let past = c.args.history.now in
     let step = Op c.in-Op.action c.in-Op.object c.in-Op.operation in
-    IfOk-weaker c.granted.result
+    IfOk-weaker c.keep_granted.result
     (λ change. (os : List Performed) → kept_after os change ≡ os ++ performed_by (suc (length past)) step e.answer)
     (λ change. kept_after c.args.kept.now change ≡ kept_of (e ∷ past))
     (λ change h. h c.args.kept.now ∙ ap (λ os. os ++ performed_by (suc (length past)) step e.answer) c.requires
     ∙ kept_performed e past c.in-Op.action c.in-Op.object c.in-Op.operation c.in-Op.is)
-    c.granted.ensures
+    c.keep_granted.ensures

@@ -15,8 +15,8 @@ replay_unheld-requires c =
     let setup = c.args.view.now.setup.now in
     let past = c.args.view.now.history.now in
     let x = c.args.object in
-    ap (λ k. all_known x k c.kept.result.now) c.in-Some.ensures.1
-    ∙ ap (λ os. list_all (λ o. knows (opening setup x) o.operation) os) (on_kept x past c.kept.result.now c.kept.ensures)
+    ap (λ k. all_known x k c.kept_operations.result.now) c.in-Some.ensures.1
+    ∙ ap (λ os. list_all (λ o. knows (opening setup x) o.operation) os) (on_kept x past c.kept_operations.result.now c.kept_operations.ensures)
     ∙ kept_known setup past x c.requires.plain.run
 
 pub returns : goal.returns
@@ -27,4 +27,4 @@ returns c =
     let P : Content → Type 0 = λ k. IfOk c.replay_unheld.result (λ content. content ≡ left_of k (filter (λ o. is_none (holder x o past)) (kept_on x past))) in
     let Q : List Performed → Type 0 =
     λ os. IfOk c.replay_unheld.result (λ content. content ≡ left_of c.in-Some.content.now (filter (λ o. is_none (holder x o past)) os)) in
-    subst P c.in-Some.ensures.1 (subst Q (on_kept x past c.kept.result.now c.kept.ensures) c.replay_unheld.ensures)
+    subst P c.in-Some.ensures.1 (subst Q (on_kept x past c.kept_operations.result.now c.kept_operations.ensures) c.replay_unheld.ensures)

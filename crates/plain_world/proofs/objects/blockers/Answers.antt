@@ -9,4 +9,4 @@ returns c =
     let past = c.args.view.now.history.now in
     let P : List Performed → Type 0 = λ os. IfOk c.holders.result (λ names. names
     ≡ holders c.args.name.now c.args.object c.args.operation.now past os) in
-    subst P (on_kept c.args.object past c.kept-kept.result.now c.kept-kept.ensures) c.holders.ensures
+    subst P (on_kept c.args.object past c.kept_operations-kept.result.now c.kept_operations-kept.ensures) c.holders.ensures

@@ -1,7 +1,7 @@
-use Rattle.std.proofs.Common.{ap, arith, length, min, sym, ◌∙◌, ◌≤◌}
+use Rattle.std.proofs.Common.{ap, arith, length, sym, ◌∙◌, ◌≤◌}
 use Rattle.run_model.specs.Actions.{next_number}
 use Rattle.plain_world.specs.Arms.{uses_up}
-use Rattle.plain_world.proofs.ArmNames.{past_arms}
+use Rattle.plain_world.proofs.ArmNames.{cut, past_arms}
 use Rattle.plain_world.proofs.refusals.is_past_arms.Goals as goal
 
 pub returns : goal.returns
@@ -11,4 +11,4 @@ returns c =
     ∙ c.if-is_empty.false) few
     (c.uses_up.ensures ∙ ap (λ ks. uses_up c.next_child.result c.next_top.result ks) c.as_slice.ensures
     ∙ ap (λ n. uses_up n c.next_top.result c.args.kinds.now) c.next_child.ensures
-    ∙ ap (λ n. uses_up (min (next_number c.args.name.now c.args.view.now.history.now) 4294967296) n c.args.kinds.now) c.next_top.ensures)
+    ∙ ap (λ n. uses_up (cut (next_number c.args.name.now c.args.view.now.history.now)) n c.args.kinds.now) c.next_top.ensures)

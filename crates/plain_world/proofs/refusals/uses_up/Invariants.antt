@@ -1,4 +1,5 @@
-use Rattle.std.proofs.Common.{◌≡◌, ◌≤◌, drop}
+use Rattle.std.proofs.Common.{◌≡◌, ◌≤◌, drop, suc}
+use Rattle.run_model.specs.Refusals.{max_number}
 use Rattle.plain_world.specs.Arms.{uses_up}
 use Rattle.plain_world.proofs.refusals.uses_up.Given as goal
 
@@ -6,6 +7,6 @@ use Rattle.plain_world.proofs.refusals.uses_up.Given as goal
 abbrev pub invariant-loop-kind : goal.invariant-loop-kind
 invariant-loop-kind l = record {
   left : uses_up l.initial.child l.initial.top l.kinds ≡ uses_up l.child l.top (drop l.kind-index l.kinds);
-  child : l.child ≤ 4294967296;
-  top : l.top ≤ 4294967296;
+  child : l.child ≤ suc max_number;
+  top : l.top ≤ suc max_number;
 }

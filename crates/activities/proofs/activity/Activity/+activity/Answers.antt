@@ -156,7 +156,7 @@ call-run-ended-requires t c =
 
 pub call-returns-in-Aborted-clause-goes_on : goal.call-returns-in-Aborted-clause-goes_on
 call-returns-in-Aborted-clause-goes_on t c =
-    nested_goes (nested_goes c.begin_call.ensures.goes_on c.run-ended.ensures.goes_on) c.signalled-in-Aborted.ensures.goes_on
+    nested_goes (nested_goes c.begin_call.ensures.goes_on c.run-ended.ensures.goes_on) c.run_signals-in-Aborted.ensures.goes_on
 
 pub call-returns-in-Aborted-clause-commits : goal.call-returns-in-Aborted-clause-commits
 call-returns-in-Aborted-clause-commits t c =
@@ -165,24 +165,24 @@ call-returns-in-Aborted-clause-commits t c =
     let z = c.run-ended.new.world in
     let n = c.new-child.result.name in
     let began = called_began c.in_ok-name.field-0 c.in-Began.name n x y c.in-Began.is c.new-child.ensures.name c.in_ok-name.ensures.began in
-    then_commits x z c.signalled-in-Aborted.new.world (then_goes x y z c.begin_call.ensures.goes_on c.run-ended.ensures.goes_on)
+    then_commits x z c.run_signals-in-Aborted.new.world (then_goes x y z c.begin_call.ensures.goes_on c.run-ended.ensures.goes_on)
     (child_commits n x y z began c.begin_call.ensures.goes_on c.begin_call.ensures.commits c.run-ended.ensures.others)
-    c.signalled-in-Aborted.ensures.commits
+    c.run_signals-in-Aborted.ensures.commits
 
 pub call-returns-in-Aborted-clause-ends : goal.call-returns-in-Aborted-clause-ends
 call-returns-in-Aborted-clause-ends t c =
     let x = c.args.world.now in
     let y = c.begin_call.new.world in
     let z = c.run-ended.new.world in
-    let w = c.signalled-in-Aborted.new.world in
+    let w = c.run_signals-in-Aborted.new.world in
     let n = c.new-child.result.name in
     let began = called_began c.in_ok-name.field-0 c.in-Began.name n x y c.in-Began.is c.new-child.ensures.name c.in_ok-name.ensures.began in
     let came : c.run-ended.result ≡ Ok c.in_ok-flow.flow = search rules in
     let ends = ok_so c.run-ended.result c.in_ok-flow.flow (EndsAll y z) came c.run-ended.ensures.ends in
     let ended = ok_so c.run-ended.result c.in_ok-flow.flow (IsTrue (is_ended n z.past)) came c.run-ended.ensures.ended in
-    on_ok c.signalled-in-Aborted.result (EndsAll z w) (EndsAll x w)
-    (then_ends x z w c.signalled-in-Aborted.ensures.goes_on (child_ends n x y z began c.run-ended.ensures.goes_on ends ended))
-    c.signalled-in-Aborted.ensures.ends
+    on_ok c.run_signals-in-Aborted.result (EndsAll z w) (EndsAll x w)
+    (then_ends x z w c.run_signals-in-Aborted.ensures.goes_on (child_ends n x y z began c.run-ended.ensures.goes_on ends ended))
+    c.run_signals-in-Aborted.ensures.ends
 
 pub run_arms-run-ended-requires : goal.run_arms-run-ended-requires
 run_arms-run-ended-requires t c =
@@ -280,8 +280,8 @@ statement-perform-requires-clause-call t c =
     op_of c.args.self.now.script.now frames c.in-Op.call c.in-Op.signals
     (subst (λ (s : Statement). IsStatement c.args.self.now.script.now frames s) c.in-Op.is c.requires.statement)
 
-pub statement-signalled-requires : goal.statement-signalled-requires
-statement-signalled-requires t c =
+pub statement-run_signals-requires : goal.statement-run_signals-requires
+statement-run_signals-requires t c =
     let script = c.args.self.now.script.now in
     let frames = sizes c.args.frames.now in
     let binding = c.in-Op.call.binding in
@@ -296,11 +296,11 @@ statement-returns-in-Signalled-clause-frames t c =
     let script = c.args.self.now.script.now in
     let frames = sizes c.args.frames.now in
     let binding = c.in-Op.call.binding in
-    let new = sizes c.signalled.new.frames in
-    let r = c.signalled.result in
+    let new = sizes c.run_signals.new.frames in
+    let r = c.run_signals.result in
     let asks = subst (λ (s : Statement). IsStatement script frames s) c.in-Op.is c.requires.statement in
     let same = subst (λ p. IsPerformed p binding frames (sizes c.perform.new.frames)) c.in-Signalled.is c.in_ok-perform-in-Op.ensures.frames in
     let after = ap (λ (s : Statement). (asked s).after frames) c.in-Op.is ∙ op_after script frames c.in-Op.call c.in-Op.signals in
     subst (λ f. IfOk r (λ flow. WhereEnded flow (new ≡ f))) (sym after)
     (signalled_after script frames binding c.in-Op.signals new r (op_signals script frames c.in-Op.call c.in-Op.signals asks)
-    c.signalled.ensures.unheard (subst (λ f. IfOk r (λ flow. WhereEnded flow (new ≡ f))) same c.signalled.ensures.frames))
+    c.run_signals.ensures.unheard (subst (λ f. IfOk r (λ flow. WhereEnded flow (new ≡ f))) same c.run_signals.ensures.frames))

@@ -15,8 +15,8 @@ decreases-inner l = 6 * l.self.now.left + 1
 abbrev pub decreases-run : goal.decreases-run
 decreases-run l = 6 * l.self.now.left + 1
 
-abbrev pub decreases-signalled : goal.decreases-signalled
-decreases-signalled l = 6 * l.self.now.left + 2
+abbrev pub decreases-run_signals : goal.decreases-run_signals
+decreases-run_signals l = 6 * l.self.now.left + 2
 
 abbrev pub decreases-repeat : goal.decreases-repeat
 decreases-repeat l = 6 * l.self.now.left + 2

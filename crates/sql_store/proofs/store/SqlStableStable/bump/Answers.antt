@@ -30,12 +30,12 @@ pub returns-in-Err-clause-makes : goal.returns-in-Err-clause-makes
 returns-in-Err-clause-makes g c =
     let s = c.self.inside in
     let at = g.A.Store in
-    let new : View at = (c.bump.new.kept, (c.bump.new.conn, (c.counted-in-Err.new.failures, (s.is_known, s.holds_content)))) in
-    subst (λ (old : View at). Makes {S = View at} {T = Unit {0}} (content at) (failures at) (is_honest at) (is_up at) (may_leave at) old new (Unit {0} ⊎ (greatest_count ≤ (content at old).count)) (after_bump (content at old)) (Err c.counted-in-Err.result)) c.self.view_is
+    let new : View at = (c.bump.new.kept, (c.bump.new.conn, (c.count_fault-in-Err.new.failures, (s.is_known, s.holds_content)))) in
+    subst (λ (old : View at). Makes {S = View at} {T = Unit {0}} (content at) (failures at) (is_honest at) (is_up at) (may_leave at) old new (Unit {0} ⊎ (greatest_count ≤ (content at old).count)) (after_bump (content at old)) (Err c.count_fault-in-Err.result)) c.self.view_is
     (made_err at c.one_spelling.ensures.stored (λ h up db may. g.met.A.Store.settled h.store db up may) s.kept s.conn c.bump.new.conn s.failures s.is_known s.holds_content c.if-not-self.false
-    (after_bump (held s.kept)) (λ known. c.self.invariant known c.if-not-self.false) c.bump.new.kept (Unit {0} ⊎ (greatest_count ≤ (held s.kept).count)) c.counted-in-Err.new.failures c.in-Err.fault c.counted-in-Err.result
+    (after_bump (held s.kept)) (λ known. c.self.invariant known c.if-not-self.false) c.bump.new.kept (Unit {0} ⊎ (greatest_count ≤ (held s.kept).count)) c.count_fault-in-Err.new.failures c.in-Err.fault c.count_fault-in-Err.result
     (λ known. c.in-Err.ensures.carries (c.self.invariant known c.if-not-self.false)) c.in-Err.ensures.changes
-    (excused_more (Unit {0}) _ inl _ _ _ (subst (IsExcused (Unit {0}) s.failures c.counted-in-Err.new.failures) (sym c.counted-in-Err.ensures.same) c.counted-in-Err.ensures.counts)))
+    (excused_more (Unit {0}) _ inl _ _ _ (subst (IsExcused (Unit {0}) s.failures c.count_fault-in-Err.new.failures) (sym c.count_fault-in-Err.ensures.same) c.count_fault-in-Err.ensures.counts)))
 
 pub returns-in-Ok-clause-spent : goal.returns-in-Ok-clause-spent
 returns-in-Ok-clause-spent g c =
@@ -43,5 +43,5 @@ returns-in-Ok-clause-spent g c =
 
 pub returns-in-Err-clause-spent : goal.returns-in-Err-clause-spent
 returns-in-Err-clause-spent g c =
-    subst (λ (old : View g.A.Store). greatest_count ≤ (content g.A.Store old).count → IsRefused {T = Unit {0}} (Err c.counted-in-Err.result)) c.self.view_is
-    (subst (λ f. greatest_count ≤ (held c.self.inside.kept).count → IsRefused {T = Unit {0}} (Err f)) (sym c.counted-in-Err.ensures.same) c.in-Err.ensures.spent)
+    subst (λ (old : View g.A.Store). greatest_count ≤ (content g.A.Store old).count → IsRefused {T = Unit {0}} (Err c.count_fault-in-Err.result)) c.self.view_is
+    (subst (λ f. greatest_count ≤ (held c.self.inside.kept).count → IsRefused {T = Unit {0}} (Err f)) (sym c.count_fault-in-Err.ensures.same) c.in-Err.ensures.spent)

@@ -29,9 +29,9 @@ pub returns-in-Err-clause-makes : goal.returns-in-Err-clause-makes
 returns-in-Err-clause-makes g c =
     let s = c.self.inside in
     let at = g.A.Store in
-    let new : View at = (s.kept, (c.load.new.conn, (c.counted-in-Err.new.failures, (s.is_known, s.holds_content)))) in
-    subst (λ (old : View at). Makes {S = View at} {T = Kept} (content at) (failures at) (is_honest at) (is_up at) (may_leave at) old new (Unit {0}) (content at old) (Err c.counted-in-Err.result)) c.self.view_is
+    let new : View at = (s.kept, (c.load.new.conn, (c.count_fault-in-Err.new.failures, (s.is_known, s.holds_content)))) in
+    subst (λ (old : View at). Makes {S = View at} {T = Kept} (content at) (failures at) (is_honest at) (is_up at) (may_leave at) old new (Unit {0}) (content at old) (Err c.count_fault-in-Err.result)) c.self.view_is
     (made_err at c.one_spelling.ensures.stored (λ h up db may. g.met.A.Store.settled h.store db up may) s.kept s.conn c.load.new.conn s.failures s.is_known s.holds_content c.if-not-self.false
-    (held s.kept) (λ known. c.self.invariant known c.if-not-self.false) s.kept (Unit {0}) c.counted-in-Err.new.failures c.in-Err.fault c.counted-in-Err.result
+    (held s.kept) (λ known. c.self.invariant known c.if-not-self.false) s.kept (Unit {0}) c.count_fault-in-Err.new.failures c.in-Err.fault c.count_fault-in-Err.result
     (λ known. c.in-Err.ensures.carries (c.self.invariant known c.if-not-self.false)) refl
-    (subst (IsExcused (Unit {0}) s.failures c.counted-in-Err.new.failures) (sym c.counted-in-Err.ensures.same) c.counted-in-Err.ensures.counts))
+    (subst (IsExcused (Unit {0}) s.failures c.count_fault-in-Err.new.failures) (sym c.count_fault-in-Err.ensures.same) c.count_fault-in-Err.ensures.counts))

@@ -30,9 +30,9 @@ pub returns-in-Err : goal.returns-in-Err
 returns-in-Err g c =
     let s = c.self.inside in
     let at = g.A.Store in
-    let new : View at = (c.prepare.new.kept, (c.prepare.new.conn, (c.counted-in-Err.new.failures, (s.is_known, s.holds_content)))) in
-    subst (λ (old : View at). Makes {S = View at} {T = Unit {0}} (content at) (failures at) (is_honest at) (is_up at) (may_leave at) old new (Unit {0}) (after_prepare c.args.top c.args.home c.args.values.entries (content at old)) (Err c.counted-in-Err.result)) c.self.view_is
+    let new : View at = (c.prepare.new.kept, (c.prepare.new.conn, (c.count_fault-in-Err.new.failures, (s.is_known, s.holds_content)))) in
+    subst (λ (old : View at). Makes {S = View at} {T = Unit {0}} (content at) (failures at) (is_honest at) (is_up at) (may_leave at) old new (Unit {0}) (after_prepare c.args.top c.args.home c.args.values.entries (content at old)) (Err c.count_fault-in-Err.result)) c.self.view_is
     (made_err at c.one_spelling.ensures.stored (λ h up db may. g.met.A.Store.settled h.store db up may) s.kept s.conn c.prepare.new.conn s.failures s.is_known s.holds_content c.if-not-self.false
-    (after_prepare c.args.top c.args.home c.args.values.entries (held s.kept)) (λ known. c.self.invariant known c.if-not-self.false) c.prepare.new.kept (Unit {0}) c.counted-in-Err.new.failures c.in-Err.fault c.counted-in-Err.result
+    (after_prepare c.args.top c.args.home c.args.values.entries (held s.kept)) (λ known. c.self.invariant known c.if-not-self.false) c.prepare.new.kept (Unit {0}) c.count_fault-in-Err.new.failures c.in-Err.fault c.count_fault-in-Err.result
     (λ known. c.in-Err.ensures.carries (c.self.invariant known c.if-not-self.false)) c.in-Err.ensures.changes
-    (subst (IsExcused (Unit {0}) s.failures c.counted-in-Err.new.failures) (sym c.counted-in-Err.ensures.same) c.counted-in-Err.ensures.counts))
+    (subst (IsExcused (Unit {0}) s.failures c.count_fault-in-Err.new.failures) (sym c.count_fault-in-Err.ensures.same) c.count_fault-in-Err.ensures.counts))

@@ -1,0 +1,11 @@
+use Rattle.std.proofs.Common.{codes, refl, Some}
+use Rattle.clap.specs.Words.{found_of}
+use Rattle.command_line.proofs.Finding.{word_is}
+use Rattle.command_line.proofs.parsing.check_given.Goals as goal
+
+pub returns-clause-found : goal.returns-clause-found
+returns-clause-found c =
+    let found = found_of c.args.found.now in
+    record {
+      script = word_is found (codes "SCRIPT") (Some c.in_ok-get_str.field-0) c.in_ok-get_str.field-0 c.in_ok-get_str.ensures refl;
+    }

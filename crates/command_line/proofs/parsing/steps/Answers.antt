@@ -1,0 +1,12 @@
+use Rattle.std.proofs.Common.{codes, ap, ap₂, ◌≡◌, ◌∙◌}
+use Rattle.std.proofs.lemmas.Result.{IfOk-weaker}
+use Rattle.clap.specs.Words.{app_of, new_app, with_rule}
+use Rattle.clap.specs.Simple.{app_of_fields}
+use Rattle.command_line.proofs.parsing.steps.Goals as goal
+
+pub returns : goal.returns
+returns c =
+    let named : app_of c.after_help.result ≡ new_app (codes "steps") = ap app_of_fields c.after_help.ensures ∙ ap app_of_fields c.about.ensures ∙ c.new.ensures.app in
+    let first = c.in_ok-arg.ensures.shape c.needed.ensures.local ∙ ap₂ with_rule named c.needed.ensures.rule in
+    let second = c.in_ok-arg-2.ensures.shape c.needed-2.ensures.local ∙ ap₂ with_rule first c.needed-2.ensures.rule in
+    IfOk-weaker c.arg-3.result _ _ (λ new h. h.shape c.optional.ensures.local ∙ ap₂ with_rule second c.optional.ensures.rule) c.arg-3.ensures

@@ -1,0 +1,193 @@
+//! The command line, as clap reads it.
+
+ghost use Rattle.std.specs.Prelude.{◌≡◌, false, map, IfOk, IfErr, IfSome, IsNone};
+ghost use Rattle.clap.specs.Words.{app_of, found_of, rows_of, rule_of, subcommand_rows_of};
+ghost use Rattle.command_line.specs.declared.request.Command.{Command};
+ghost use Rattle.command_line.specs.declared.request.Check.{Check};
+ghost use Rattle.command_line.specs.declared.request.Run.{Run};
+ghost use Rattle.command_line.specs.declared.request.Steps.{Steps};
+ghost use Rattle.command_line.specs.Words.{IsCheckGiven, IsCommand, IsFault, IsFlag, IsFound, IsRunGiven, IsStepsGiven, argus_app, check_app, flag, needed, optional, run_app, steps_app};
+
+use crate::request::{self, CommandFault};
+use clap::{Arg, ArgAction, ArgMatches};
+use std::alloc::{AllocError, Global};
+
+/// The version that `--version` prints.
+const VERSION: &str = "0.1.0";
+
+/// The command that the words ask for, which come without the program's own name. `Said` comes where clap refuses the words, where
+/// they ask for help or the version, and where memory runs out; its kind tells these apart, and its text is for the user. `Incomplete`
+/// comes only where the words are no command.
+pub fn command<'a>(
+    alloc: Global,
+    words: &'a [&'a str],
+) -> Result<request::Command<'a>, CommandFault>
+    ensures found { IfOk result (IsCommand (map (λ word. word.now) words.entry.now)) }
+    ensures refused { IfErr result (IsFault (map (λ word. word.now) words.entry.now)) }
+{
+    let matches = match definition(alloc) {
+        Ok(argus) => argus.try_get_matches_from(words)?,
+        Err(refused) => return Err(CommandFault::Said(clap::Error::from(refused))),
+    };
+    match taken(&matches) {
+        Some(found) => Ok(found),
+        None => Err(CommandFault::Incomplete),
+    }
+}
+
+/// The command of what clap found.
+fn taken<'a>(matches: &ArgMatches<'a>) -> Option<request::Command<'a>>
+    ensures found { IfSome result (IsFound (subcommand_rows_of matches.now)) }
+    ensures none { IsNone result → (command : Command) → IsFound (subcommand_rows_of matches.now) command → ⊥ }
+{
+    match matches.subcommand() {
+        Some(("steps", found)) => Some(request::Command::Steps(steps_given(found)?)),
+        Some(("check", found)) => Some(request::Command::Check(check_given(found)?)),
+        Some(("run", found)) => Some(request::Command::Run(run_given(found)?)),
+        _ => None,
+    }
+}
+
+#[tactic(auto, using(crate::proofs::Finding::word_is, crate::proofs::Finding::no_word, crate::proofs::Finding::no_setup, crate::proofs::Finding::no_file))]
+fn steps_given<'a>(found: &ArgMatches<'a>) -> Option<request::Steps<'a>>
+    ensures found { IfSome result (IsStepsGiven (rows_of (found_of found.now))) }
+    ensures none { IsNone result → (given : Steps) → IsStepsGiven (rows_of (found_of found.now)) given → ⊥ }
+{
+    Some(request::Steps {
+        setup: found.get_str("SETUP")?,
+        file: found.get_str("FILE")?,
+        explain: found.get_str("explain"),
+    })
+}
+
+#[tactic(auto, using(crate::proofs::Finding::word_is, crate::proofs::Finding::no_word, crate::proofs::Finding::no_script_to_check))]
+fn check_given<'a>(found: &ArgMatches<'a>) -> Option<request::Check<'a>>
+    ensures found { IfSome result (IsCheckGiven (rows_of (found_of found.now))) }
+    ensures none { IsNone result → (given : Check) → IsCheckGiven (rows_of (found_of found.now)) given → ⊥ }
+{
+    Some(request::Check {
+        script: found.get_str("SCRIPT")?,
+    })
+}
+
+#[tactic(auto, using(crate::proofs::Finding::word_is, crate::proofs::Finding::no_word, crate::proofs::Finding::no_script_to_run))]
+fn run_given<'a>(found: &ArgMatches<'a>) -> Option<request::Run<'a>>
+    ensures found { IfSome result (IsRunGiven (rows_of (found_of found.now))) }
+    ensures none { IsNone result → (given : Run) → IsRunGiven (rows_of (found_of found.now)) given → ⊥ }
+{
+    Some(request::Run {
+        script: found.get_str("SCRIPT")?,
+        store: found.get_str("store"),
+        serial: is_set(found, "serial"),
+    })
+}
+
+/// Whether a flag is set, as `get_flag` gives it, whose contract says nothing of a value that is no `bool`.
+fn is_set(found: &ArgMatches<'_>, id: &str) -> bool
+    ensures { IsFlag id.now (rows_of (found_of found.now)) result }
+{
+    found.get_one(id).unwrap_or(false)
+}
+
+/// The command line of the program, for clap.
+fn definition<'a>(alloc: Global) -> Result<clap::Command<'a>, AllocError>
+    ensures { IfOk result (λ argus. app_of argus ≡ argus_app) }
+{
+    let argus = clap::Command::new(alloc, "argus")
+        .bin_name("argus")?
+        .version(VERSION)
+        .about("Runs nested transactions of guardians, and scripts of them")
+        .no_binary_name(true)
+        .arg_required_else_help(true)
+        .subcommand_required(true);
+    argus
+        .subcommand(steps(alloc)?)?
+        .subcommand(check(alloc)?)?
+        .subcommand(run(alloc)?)
+}
+
+fn steps<'a>(alloc: Global) -> Result<clap::Command<'a>, AllocError>
+    ensures { IfOk result (λ steps. app_of steps ≡ steps_app) }
+{
+    clap::Command::new(alloc, "steps")
+        .about("Makes the steps of a file and writes their answers")
+        .after_help("Example: argus steps examples/transfer/setup.json examples/transfer/steps")
+        .arg(needed(
+            alloc,
+            "SETUP",
+            "The JSON document of the guardians and their objects",
+        ))?
+        .arg(needed(alloc, "FILE", "The steps, one a line; - is standard input"))?
+        .arg(optional(
+            alloc,
+            "explain",
+            "ACTION",
+            "Writes, after the answers, what the action sees, by place in the serial order",
+        ))
+}
+
+fn check<'a>(alloc: Global) -> Result<clap::Command<'a>, AllocError>
+    ensures { IfOk result (λ check. app_of check ≡ check_app) }
+{
+    clap::Command::new(alloc, "check")
+        .about("Says whether a file is a script, or which fault is its first")
+        .after_help("Example: argus check examples/scripts/take/script.json")
+        .arg(needed(
+            alloc,
+            "SCRIPT",
+            "The JSON document of guardians, handlers and clients",
+        ))
+}
+
+fn run<'a>(alloc: Global) -> Result<clap::Command<'a>, AllocError>
+    ensures { IfOk result (λ run. app_of run ≡ run_app) }
+{
+    clap::Command::new(alloc, "run")
+        .about(
+            "Runs the clients of a script and writes how they ended, and then the base of each object",
+        )
+        .after_help("Example: argus run --serial examples/scripts/reservations/script.json")
+        .arg(needed(
+            alloc,
+            "SCRIPT",
+            "The JSON document of guardians, handlers and clients",
+        ))?
+        .arg(flag(
+            alloc,
+            "serial",
+            "Runs clients and arms one after another; until there are threads, they run so without it too",
+        ))?
+        .arg(optional(
+            alloc,
+            "store",
+            "DIR",
+            "Keeps the objects of guardian N in DIR/gN.db: takes what is there in place of the script's contents, and saves the bases at the end",
+        ))
+}
+
+/// An argument that has to be there.
+fn needed<'a>(alloc: Global, id: &'a str, help: &'a str) -> Arg<'a>
+    ensures rule { rule_of result ≡ needed id.now }
+    ensures local { result.global ≡ false }
+{
+    Arg::new(alloc, id).help(help).required(true)
+}
+
+/// An option with a value.
+fn optional<'a>(alloc: Global, id: &'a str, value: &'a str, help: &'a str) -> Arg<'a>
+    ensures rule { rule_of result ≡ optional id.now }
+    ensures local { result.global ≡ false }
+{
+    Arg::new(alloc, id).long(id).value_name(value).help(help)
+}
+
+/// An option that is there or not.
+fn flag<'a>(alloc: Global, id: &'a str, help: &'a str) -> Arg<'a>
+    ensures rule { rule_of result ≡ flag id.now }
+    ensures local { result.global ≡ false }
+{
+    Arg::new(alloc, id)
+        .long(id)
+        .action(ArgAction::SetTrue)
+        .help(help)
+}

@@ -1,0 +1,61 @@
+//! What a command line asks for.
+
+/// What the words ask for.
+#[derive(Clone, Copy, Drop)]
+pub enum Command<'a> {
+    /// Answers the steps of a file at a setup.
+    Steps(Steps<'a>),
+    /// Says whether a file is a script.
+    Check(Check<'a>),
+    /// Runs the clients of a script.
+    Run(Run<'a>),
+}
+
+/// What the answering of steps is given.
+#[derive(Clone, Copy, Drop)]
+pub struct Steps<'a> {
+    /// The path of the setup.
+    pub setup: &'a str,
+    /// The path of the steps; `-` is standard input.
+    pub file: &'a str,
+    /// The action to explain after the answers.
+    pub explain: Option<&'a str>,
+}
+
+/// What the checking of a script is given.
+#[derive(Clone, Copy, Drop)]
+pub struct Check<'a> {
+    /// The path of the script.
+    pub script: &'a str,
+}
+
+/// What the running of a script is given.
+#[derive(Clone, Copy, Drop)]
+pub struct Run<'a> {
+    /// The path of the script.
+    pub script: &'a str,
+    /// The folder that keeps the guardians' objects between runs; with none they last as long as the run.
+    pub store: Option<&'a str>,
+    /// Whether clients and arms run one after another; until there are threads, they do so without it too.
+    pub serial: bool,
+}
+
+/// Why words are no command.
+#[derive(Drop)]
+pub enum CommandFault {
+    /// What clap says: a mistake in the words, help or the version that was asked for, or want of memory.
+    Said(clap::Error),
+    /// A part of the command is not there.
+    Incomplete,
+}
+
+impl From<clap::Error> for CommandFault {
+    ghost use Rattle.std.specs.Prelude.{◌≡◌};
+    ghost use Rattle.command_line.specs.declared.request.CommandFault.TheVariants.{Said};
+
+    ghost from_gives = { λ error e. e ≡ Said error };
+
+    fn from(error: clap::Error) -> CommandFault {
+        CommandFault::Said(error)
+    }
+}

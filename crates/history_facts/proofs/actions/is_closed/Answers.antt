@@ -1,0 +1,11 @@
+use Rattle.std.proofs.Common.{rules, tests, ap, ◌∙◌}
+use Rattle.std.proofs.lemmas.Iterator.Search.{any_from_yields_List}
+use Rattle.std.proofs.lemmas.Iterator.Adapters.{YieldsList-from_rev_slice}
+use Rattle.run_model.specs.Actions.{step_closes, is_closed}
+use Rattle.history_facts.proofs.actions.is_closed.Goals as goal
+
+pub returns : goal.returns
+returns c =
+    any_from_yields_List (λ e. step_closes e.step c.args.action.now) _ _ _ c.any.ensures.ran (YieldsList-from_rev_slice c.events.result.now (cc))
+    (λ x b q k. search (rules, tests))
+    ∙ ap (is_closed c.args.action.now) c.events.ensures

@@ -1,0 +1,218 @@
+//! The tables of a run. A plain world makes the steps of the history again, so that what happens in it is known to be a run.
+ghost use Rattle.std.specs.Prelude.{◌≡◌, [], IfOk, OnOk};
+ghost use Rattle.run_model.specs.Runs.{is_accepted};
+ghost use Rattle.plain_tables.specs.Tables.{IsTables};
+
+use crate::reading::At;
+use crate::{past, reading};
+use plain_tables::{Performed, Tables};
+use plain_world::PlainWorld;
+use rows::{RowFault, Words};
+use run_model::text::{append_reply, append_request};
+use run_model::{Answer, Event, History, Setup, Step};
+use std::alloc::{AllocError, Global};
+use std::marker::Model;
+
+/// What happens in a world, and the tables of it.
+#[derive(Drop)]
+struct Run {
+    world: PlainWorld,
+    history: History,
+    tables: Tables,
+}
+
+impl Model for Run {
+    ghost use Rattle.std.specs.Prelude.{◌≡◌};
+    ghost use Rattle.run_model.specs.Runs.{World};
+    ghost use Rattle.plain_tables.specs.Tables.{IsTables};
+
+    ghost Value = { World };
+
+    ghost view = { λ a. a.world };
+
+    ghost invariant = { λ a. (a.history ≡ a.world.past) × IsTables a.world.setup a.tables a.history };
+}
+
+/// Answers the rows `table CALL` for the run of the history's steps.
+pub(crate) fn answer(
+    alloc: Global,
+    setup: &Setup,
+    past: &History,
+    words: Words<'_>,
+    answer: &mut String,
+) -> Result<(), RowFault> {
+    run_of(alloc, setup, past)?.answer(alloc, words, answer)
+}
+
+/// The run of these steps.
+fn run_of(alloc: Global, setup: &Setup, past: &History) -> Result<Run, RowFault> {
+    let mut run = Run::new(alloc, setup.copy()?)?;
+    for event in past.events() {
+        run = run.follow(&event.step)?;
+    }
+    Ok(run)
+}
+
+/// Makes the step in the world, and puts its event into the history and the tables.
+fn follow(
+    world: &mut PlainWorld,
+    history: &mut History,
+    tables: &mut Tables,
+    step: &Step,
+) -> Result<(), RowFault>
+    requires tables { IsTables world.old.setup tables.old history.old }
+    requires past { history.old ≡ world.old.past }
+    ensures tables { OnOk result (IsTables world.new.setup tables.new history.new) }
+    ensures past { OnOk result (history.new ≡ world.new.past) }
+{
+    let answer = world.step(step)?;
+    if !is_accepted(&answer) {
+        return Err(RowFault::Unread);
+    }
+    // so that what happened is known to be a run
+    let _ = world.history();
+    let event = Event {
+        step: step.copy()?,
+        answer,
+    };
+    let changes = tables.changes(world.setup(), history, &event)?;
+    history.push(event).map_err(AllocError::from)?;
+    tables.install(world.setup(), history, changes);
+    Ok(())
+}
+
+/// Whether the step of this answer happened.
+fn is_accepted(answer: &Answer) -> bool
+    ensures { result ≡ is_accepted answer.now }
+{
+    !matches!(answer, Answer::Waits(_) | Answer::Refused(_))
+}
+
+impl Run {
+    /// The run of this setup to which nothing has happened.
+    fn new(alloc: Global, setup: Setup) -> Result<Run, AllocError> {
+        let world = PlainWorld::new(alloc, setup)?;
+        let tables = Tables::new(alloc, world.setup())?;
+        Ok(Run {
+            world,
+            history: History::new(alloc),
+            tables,
+        })
+    }
+
+    /// The run with one step more.
+    fn follow(self, step: &Step) -> Result<Run, RowFault> {
+        let Run {
+            mut world,
+            mut history,
+            mut tables,
+        } = self;
+        follow(&mut world, &mut history, &mut tables, step)?;
+        Ok(Run {
+            world,
+            history,
+            tables,
+        })
+    }
+
+    fn answer(
+        &self,
+        alloc: Global,
+        mut words: Words<'_>,
+        answer: &mut String,
+    ) -> Result<(), RowFault> {
+        match words.word()? {
+            "guardians" => Ok(write!(answer, "{}", self.world.setup().guardians())?),
+            "events" => past::write_events(alloc, self.world.history(), answer),
+            "dependency" => Ok(self.write_dependency(
+                reading::read_at(alloc, &mut words)?,
+                answer,
+            )?),
+            "knows_abort" => Ok(self.write_knows_abort(
+                reading::read_at(alloc, &mut words)?,
+                answer,
+            )?),
+            "orphan" => Ok(self.write_orphan(reading::read_at(alloc, &mut words)?, answer)?),
+            "known_crashes" => self.write_known_crashes(words, answer),
+            "kept" => Ok(self.write_kept(answer)?),
+            "kept_copies" => Ok(self.write_kept_copies(answer)?),
+            _ => Err(RowFault::Unread),
+        }
+    }
+
+    /// `dependency GUARDIAN ACTION`: the least incarnation of the guardian on which the action depends.
+    fn write_dependency(&self, at: At, answer: &mut String) -> Result<(), AllocError> {
+        let setup = self.world.setup();
+        let found = self
+            .tables
+            .dependency(setup, &self.history, &at.action, at.guardian);
+        write!(answer, "{found:?}")
+    }
+
+    /// `knows_abort GUARDIAN ACTION`: whether the guardian knows that the action aborted.
+    fn write_knows_abort(&self, at: At, answer: &mut String) -> Result<(), AllocError> {
+        let setup = self.world.setup();
+        let knows = self
+            .tables
+            .knows_abort(setup, &self.history, at.guardian, &at.action);
+        write!(answer, "{knows}")
+    }
+
+    /// `orphan GUARDIAN ACTION`: whether the action is known as an orphan at the guardian.
+    fn write_orphan(&self, at: At, answer: &mut String) -> Result<(), AllocError> {
+        let setup = self.world.setup();
+        let known = self
+            .tables
+            .is_known_orphan(setup, &self.history, &at.action, at.guardian)?;
+        write!(answer, "{known}")
+    }
+
+    /// `known_crashes GUARDIAN OTHER`: how many crashes of the other the guardian knows of.
+    fn write_known_crashes(
+        &self,
+        mut words: Words<'_>,
+        answer: &mut String,
+    ) -> Result<(), RowFault> {
+        let at = reading::guardian(&mut words)?;
+        let of = reading::guardian(&mut words)?;
+        let setup = self.world.setup();
+        let known = self.tables.known_crashes(setup, &self.history, at, of);
+        Ok(write!(answer, "{known}")?)
+    }
+
+    /// `kept`: how many operations are kept, and their parts.
+    fn write_kept(&self, answer: &mut String) -> Result<(), AllocError> {
+        let kept = self
+            .tables
+            .kept_operations(self.world.setup(), &self.history);
+        write!(answer, "{}:", kept.len())?;
+        for operation in kept {
+            write_performed(operation, answer)?;
+        }
+        Ok(())
+    }
+
+    /// `kept_copies`: the same of copies.
+    fn write_kept_copies(&self, answer: &mut String) -> Result<(), AllocError> {
+        let kept = self
+            .tables
+            .kept_operations(self.world.setup(), &self.history);
+        write!(answer, "{}:", kept.len())?;
+        for operation in kept {
+            write_copy(operation, answer)?;
+        }
+        Ok(())
+    }
+}
+
+fn write_copy(operation: &Performed, answer: &mut String) -> Result<(), AllocError> {
+    write_performed(&operation.copy()?, answer)
+}
+
+/// Writes the number of the operation's event, its action, what it asks of which object, and its reply.
+fn write_performed(operation: &Performed, answer: &mut String) -> Result<(), AllocError> {
+    write!(answer, " {} {}", operation.number(), operation.action())?;
+    append_request(operation.object(), operation.operation(), answer)?;
+    answer.push_str(" gives ")?;
+    append_reply(operation.reply(), answer)
+}

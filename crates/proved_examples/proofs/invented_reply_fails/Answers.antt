@@ -1,0 +1,8 @@
+use Rattle.std.proofs.Common.{refl}
+use Rattle.std.specs.Fmt.{digits}
+use Rattle.run_model.specs.Answers.{answer_of}
+use Rattle.proved_examples.proofs.invented_reply_fails.Goals as goal
+
+pub returns : goal.returns
+unfolding answer_of digits
+returns c = refl

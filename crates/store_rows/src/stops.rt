@@ -1,0 +1,216 @@
+//! What a stop of the device leaves: one of its two files fails from some call on, for each number of calls up to one that suffices.
+use crate::calls::Change;
+use crate::devices::{
+    CALLS, Device, DeviceStore, Failing, calls_to_open, crashed, make_whole, open_copy, open_store,
+};
+use rows::{RowFault, Words};
+use stable_store::StoreFault;
+use std::alloc::Global;
+use std::fmt::Write;
+
+/// A change that is made in copies of a device, each of which fails after another number of calls.
+#[derive(Clone, Copy, Drop)]
+pub(crate) struct Trial<'a> {
+    device: &'a Device,
+    failing: Failing,
+    change: Change<'a>,
+}
+
+/// The contents before and after a change.
+#[derive(Drop)]
+struct Contents {
+    before: String,
+    after: String,
+}
+
+impl<'a> Trial<'a> {
+    /// The trial of the words of a `Failing` and of the change after them.
+    pub(crate) fn read(device: &'a Device, words: Words<'a>) -> Result<Trial<'a>, RowFault> {
+        let mut words = words;
+        let failing = Failing::read(&mut words)?;
+        let change = Change::read(words.rest());
+        Ok(Trial {
+            device,
+            failing,
+            change,
+        })
+    }
+
+    /// The store in a copy that fails after so many calls.
+    fn open(&self, alloc: Global, calls: u64) -> Result<DeviceStore, RowFault> {
+        open_copy(alloc, self.device, self.failing, calls)
+    }
+
+    fn contents(&self, alloc: Global) -> Result<Contents, RowFault> {
+        Contents::of(alloc, self.open(alloc, u64::MAX)?, self.change)
+    }
+}
+
+impl Contents {
+    fn of(alloc: Global, mut store: DeviceStore, change: Change<'_>) -> Result<Contents, RowFault> {
+        let mut before = String::new(alloc);
+        let mut after = String::new(alloc);
+        store.load(alloc, &mut before)?;
+        make_whole(alloc, &mut store, change)?;
+        store.load(alloc, &mut after)?;
+        Ok(Contents { before, after })
+    }
+
+    /// What is kept where the change was made, or was refused.
+    fn kept(&self, is_made: bool) -> &str {
+        if is_made {
+            self.after.as_str()
+        } else {
+            self.before.as_str()
+        }
+    }
+}
+
+/// Writes the content after the change, and what is wrong where a stop leaves another than this or the one before.
+pub(crate) fn write_stops(
+    alloc: Global,
+    trial: &Trial<'_>,
+    answer: &mut String,
+) -> Result<(), RowFault> {
+    let contents = trial.contents(alloc)?;
+    answer.push_str(contents.after.as_str())?;
+    stop_each(alloc, trial, &contents, answer)
+}
+
+/// Lets the file fail after each number of calls, from the first of the change up to one that suffices.
+fn stop_each(
+    alloc: Global,
+    trial: &Trial<'_>,
+    contents: &Contents,
+    wrong: &mut String,
+) -> Result<(), RowFault> {
+    let first = calls_to_open(alloc, trial.device, trial.failing)?;
+    for calls in first..CALLS {
+        let told = wrong.len();
+        let suffices = survives(alloc, trial, trial.open(alloc, calls)?, contents, wrong)?;
+        if wrong.len() > told {
+            write!(wrong, " after {calls} calls")?;
+        }
+        if suffices {
+            if calls == first {
+                wrong.push_str("; never stopped")?;
+            }
+            return Ok(());
+        }
+    }
+    wrong.push_str("; no number of calls suffices")?;
+    Ok(())
+}
+
+/// Changes the store, and opens it again after a crash. Gives whether nothing failed.
+fn survives(
+    alloc: Global,
+    trial: &Trial<'_>,
+    mut store: DeviceStore,
+    contents: &Contents,
+    wrong: &mut String,
+) -> Result<bool, RowFault> {
+    let is_made = make_checked(alloc, &mut store, trial.change, contents, wrong)?;
+    let again = open_store(alloc, crashed(store), trial.failing.log_frames)?;
+    check_found(alloc, again, contents, is_made, wrong)?;
+    Ok(is_made)
+}
+
+/// Makes the change, and looks at the store, which goes on. Gives whether nothing failed.
+fn make_checked(
+    alloc: Global,
+    store: &mut DeviceStore,
+    change: Change<'_>,
+    contents: &Contents,
+    wrong: &mut String,
+) -> Result<bool, RowFault> {
+    let fault = store.make(alloc, change)?;
+    check_failures(store.failures(), fault, wrong)?;
+    check_loaded(alloc, store, contents.kept(fault.is_none()), wrong)?;
+    Ok(fault.is_none())
+}
+
+/// A change is refused as `Failed`, and that is counted once.
+fn check_failures(
+    failures: u64,
+    fault: Option<StoreFault>,
+    wrong: &mut String,
+) -> Result<(), RowFault> {
+    match fault {
+        None if failures == 0 => Ok(()),
+        Some(StoreFault::Failed) if failures == 1 => Ok(()),
+        _ => Ok(write!(wrong, "; {fault:?} with {failures} failures")?),
+    }
+}
+
+/// The store, which goes on, contains this, or does not load, and that is counted once.
+fn check_loaded(
+    alloc: Global,
+    store: &mut DeviceStore,
+    kept: &str,
+    wrong: &mut String,
+) -> Result<(), RowFault> {
+    let before = store.failures();
+    let mut found = String::new(alloc);
+    store.load(alloc, &mut found)?;
+    let is_refused = found.as_str() == "Failed" && store.failures().checked_sub(before) == Some(1);
+    if !is_refused && found.as_str() != kept {
+        write!(wrong, "; goes on with {}", found.as_str())?;
+    }
+    Ok(())
+}
+
+/// After a crash the store has what was kept, or has what it would after a change that was refused.
+fn check_found(
+    alloc: Global,
+    mut store: DeviceStore,
+    contents: &Contents,
+    is_made: bool,
+    wrong: &mut String,
+) -> Result<(), RowFault> {
+    let mut found = String::new(alloc);
+    store.load(alloc, &mut found)?;
+    if found.as_str() != contents.kept(is_made) && found.as_str() != contents.after.as_str() {
+        write!(wrong, "; found again {}", found.as_str())?;
+    }
+    Ok(())
+}
+
+/// A store whose device has just enough calls left to open it.
+pub(crate) fn open_exhausted(
+    alloc: Global,
+    device: &Device,
+    failing: Failing,
+) -> Result<DeviceStore, RowFault> {
+    let calls = calls_to_open(alloc, device, failing)?;
+    open_copy(alloc, device, failing, calls)
+}
+
+/// A store whose database was closed in the change: a sync failed. `Unread` where no sync of the change fails.
+pub(crate) fn shut(alloc: Global, trial: &Trial<'_>) -> Result<DeviceStore, RowFault> {
+    let first = calls_to_open(alloc, trial.device, trial.failing)?;
+    for calls in first..CALLS {
+        if is_shut(alloc, trial, calls)? {
+            return stopped(alloc, trial.open(alloc, calls)?, trial.change);
+        }
+    }
+    Err(RowFault::Unread)
+}
+
+/// Whether a sync fails after so many calls.
+fn is_shut(alloc: Global, trial: &Trial<'_>, calls: u64) -> Result<bool, RowFault> {
+    let store = stopped(alloc, trial.open(alloc, calls)?, trial.change)?;
+    Ok(!store.into_device().may_be_used())
+}
+
+/// The store after a change that is refused.
+fn stopped(
+    alloc: Global,
+    mut store: DeviceStore,
+    change: Change<'_>,
+) -> Result<DeviceStore, RowFault> {
+    match store.make(alloc, change)? {
+        Some(StoreFault::Failed) => Ok(store),
+        _ => Err(RowFault::Unread),
+    }
+}

@@ -1,0 +1,203 @@
+//! Operations on an object.
+use crate::reading::{identifier, int, spelled_value, value_unread};
+use atomic_types::{AtomicType, Class, Op, Reply, object_laws};
+use rows::{Row, RowFault, Words};
+use std::alloc::{AllocError, Global};
+use values::{Array, Content, Record, Variant};
+
+/// An object, as a content or as what is in one.
+#[derive(Drop)]
+enum Object {
+    Content(Content),
+    Record(Record),
+    Array(Array),
+    Variant(Variant),
+}
+
+/// The object on which operations are performed.
+#[derive(Drop)]
+pub(crate) struct Performing {
+    alloc: Global,
+    object: Option<Object>,
+}
+
+impl Performing {
+    pub(crate) fn new(alloc: Global) -> Performing {
+        Performing {
+            alloc,
+            object: None,
+        }
+    }
+
+    pub(crate) fn answer(&mut self, row: &Row<'_>, answer: &mut String) -> Result<(), RowFault> {
+        match row.call {
+            "content" => self.hold_content(row.given),
+            "within" => self.hold_within(row.given),
+            "describe" => describe(self.alloc, row.words(), answer),
+            "copy_reply" => copy_reply(self.alloc, row.given, answer),
+            "conflict" => conflict(row.words(), answer),
+            "object_laws" => {
+                object_laws();
+                Ok(())
+            }
+            _ => self.perform(row, answer),
+        }
+    }
+
+    fn hold_content(&mut self, spelling: &str) -> Result<(), RowFault> {
+        self.object = Some(Object::Content(read_content(self.alloc, spelling)?));
+        Ok(())
+    }
+
+    /// Holds the record, the array or the variant that is in a content.
+    fn hold_within(&mut self, spelling: &str) -> Result<(), RowFault> {
+        self.object = Some(match read_content(self.alloc, spelling)? {
+            Content::Record(record) => Object::Record(record),
+            Content::Array(array) => Object::Array(array),
+            Content::Variant(variant) => Object::Variant(variant),
+        });
+        Ok(())
+    }
+
+    /// Performs the operation that the row spells.
+    fn perform(&mut self, row: &Row<'_>, answer: &mut String) -> Result<(), RowFault> {
+        let op = read_op(self.alloc, row.call, row.words())?;
+        match &mut self.object {
+            Some(object) => perform(self.alloc, object, &op, answer),
+            None => Err(RowFault::Unread),
+        }
+    }
+}
+
+fn read_content(alloc: Global, spelling: &str) -> Result<Content, RowFault> {
+    Content::from_spelling(alloc, spelling).map_err(value_unread)
+}
+
+/// The operation of this name.
+fn read_op(alloc: Global, name: &str, mut words: Words<'_>) -> Result<Op, RowFault> {
+    Ok(match name {
+        "low" => Op::Low,
+        "high" => Op::High,
+        "size" => Op::Size,
+        "remh" => Op::RemoveHigh,
+        "reml" => Op::RemoveLow,
+        "fetch" => Op::Fetch(int(&mut words)?),
+        "get" => Op::Get(identifier(alloc, words.word()?)?),
+        "is" => Op::Is(identifier(alloc, words.word()?)?),
+        "value" => Op::ValueOf(identifier(alloc, words.word()?)?),
+        _ => return read_write(alloc, name, words),
+    })
+}
+
+/// The operation of this name which has a value.
+fn read_write(alloc: Global, name: &str, mut words: Words<'_>) -> Result<Op, RowFault> {
+    let place = match name {
+        "addh" | "addl" => "",
+        _ => words.word()?,
+    };
+    let value = spelled_value(alloc, words.word()?)?;
+    Ok(match name {
+        "addh" => Op::AddHigh(value),
+        "addl" => Op::AddLow(value),
+        "set" => Op::Set(identifier(alloc, place)?, value),
+        "change" => Op::Change(identifier(alloc, place)?, value),
+        "store" => Op::Store(place.parse().map_err(|_| RowFault::Unread)?, value),
+        _ => return Err(RowFault::Unread),
+    })
+}
+
+/// Performs the operation on the object, whatever it is.
+fn perform(
+    alloc: Global,
+    object: &mut Object,
+    op: &Op,
+    answer: &mut String,
+) -> Result<(), RowFault> {
+    match object {
+        Object::Content(content) => perform_on(alloc, content, op, answer),
+        Object::Record(record) => perform_on(alloc, record, op, answer),
+        Object::Array(array) => perform_on(alloc, array, op, answer),
+        Object::Variant(variant) => perform_on(alloc, variant, op, answer),
+    }
+}
+
+/// Writes what a copy of the object replies to the operation, and then performs it on the object itself, whose reply has to be the same.
+fn perform_on<T: AtomicType>(
+    alloc: Global,
+    object: &mut T,
+    op: &Op,
+    answer: &mut String,
+) -> Result<(), RowFault> {
+    if !object.knows(op) {
+        return Ok(answer.push_str("unknown")?);
+    }
+    let wanted = reply_of_copy(object, op)?;
+    write_reply(alloc, &wanted, answer)?;
+    if object.apply(op)? == wanted {
+        return Ok(());
+    }
+    Ok(answer.push_str(" of a copy alone")?)
+}
+
+fn reply_of_copy<T: AtomicType>(object: &T, op: &Op) -> Result<Reply, RowFault> {
+    let mut copy = object.copy()?;
+    if !copy.knows(op) {
+        return Err(RowFault::Unread);
+    }
+    Ok(copy.apply(op)?)
+}
+
+fn write_reply(alloc: Global, reply: &Reply, answer: &mut String) -> Result<(), RowFault> {
+    match reply {
+        Reply::Gives(value) => answer.push_str(value.text(alloc)?.as_str())?,
+        Reply::Truth(holds) => write!(answer, "{holds}")?,
+        Reply::Done => answer.push_str("done")?,
+        Reply::Signals(signal) => write!(answer, "{signal:?}")?,
+    }
+    Ok(())
+}
+
+/// Reads an operation, and writes what there is to say of it.
+fn describe(alloc: Global, mut words: Words<'_>, answer: &mut String) -> Result<(), RowFault> {
+    let name = words.word()?;
+    let op = read_op(alloc, name, words)?;
+    Ok(write_description(&op, answer)?)
+}
+
+/// Writes the operation's name and class, and whether its copy equals it.
+fn write_description(op: &Op, answer: &mut String) -> Result<(), AllocError> {
+    write!(
+        answer,
+        "{} {:?} {}",
+        op.name(),
+        Record::class(op),
+        equals_copy(op)?
+    )
+}
+
+fn equals_copy(op: &Op) -> Result<bool, AllocError> {
+    let copy = op.copy()?;
+    Ok(copy == *op)
+}
+
+/// Writes the copy of the reply that gives this value, and whether it equals the reply.
+fn copy_reply(alloc: Global, spelling: &str, answer: &mut String) -> Result<(), RowFault> {
+    let reply = Reply::Gives(spelled_value(alloc, spelling)?);
+    let copy = reply.copy()?;
+    write_reply(alloc, &copy, answer)?;
+    Ok(write!(answer, " {}", copy == reply)?)
+}
+
+fn conflict(mut words: Words<'_>, answer: &mut String) -> Result<(), RowFault> {
+    let first = read_class(words.word()?)?;
+    let second = read_class(words.word()?)?;
+    Ok(write!(answer, "{}", Content::conflicts(first, second))?)
+}
+
+fn read_class(name: &str) -> Result<Class, RowFault> {
+    match name {
+        "read" => Ok(Class::Read),
+        "write" => Ok(Class::Write),
+        _ => Err(RowFault::Unread),
+    }
+}

@@ -1,8 +1,0 @@
-use Rattle.std.proofs.Common.{refl}
-use Rattle.std.specs.Fmt.{digits}
-use Rattle.run_model.specs.Answers.{answer_of}
-use Rattle.worked_examples.proofs.missing_event_fails.Goals as goal
-
-pub returns : goal.returns
-unfolding answer_of digits
-returns c = refl
