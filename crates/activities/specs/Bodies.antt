@@ -11,8 +11,8 @@ use Rattle.script_model.specs.declared.statement.Statement.{Statement}
 use Rattle.script_model.specs.declared.statement.Statement.TheVariants.{Coenter}
 use Rattle.script_model.specs.declared.checked.Checked.{Checked}
 use Rattle.script_model.specs.Resolved as resolved
-use Rattle.activities.specs.declared.operations.Performed.{Performed}
-use Rattle.activities.specs.declared.operations.Performed.TheVariants.{Granted}
+use Rattle.activities.specs.declared.operations.Outcome.{Outcome}
+use Rattle.activities.specs.declared.operations.Outcome.TheVariants.{Granted}
 use Rattle.activities.specs.declared.flow.Flow.{Flow}
 use Rattle.activities.specs.declared.flow.Flow.TheVariants.{Ended}
 use Rattle.activities.specs.declared.frames.Frames.{Frames}
@@ -83,6 +83,6 @@ pub record Within (old new : resolved.Frames) : Type 0 where
   pub truths : old.truths ≤ new.truths
 
 -- a granted operation has bound its reply; else nothing was bound
-abbrev pub IsPerformed : Performed → Binding → resolved.Frames → resolved.Frames → Type 0
-IsPerformed Granted binding old new = new ≡ resolved.frames_after old binding
-IsPerformed _ binding old new = new ≡ old
+abbrev pub IsOutcome : Outcome → Binding → resolved.Frames → resolved.Frames → Type 0
+IsOutcome Granted binding old new = new ≡ resolved.frames_after old binding
+IsOutcome _ binding old new = new ≡ old

@@ -12,7 +12,7 @@ use crate::arms::{arm_body, begin_arms};
 use crate::flow::{Flow, Reach};
 use crate::frames::Frames;
 use crate::open_action::{Called, OpenAction, Reached};
-use crate::operations::{Performed, perform};
+use crate::operations::{Outcome, perform};
 use action_names::Name;
 use atomic_types::Reply;
 use script_model::{Arm, Checked, HandlerCall, Statement};
@@ -174,10 +174,10 @@ impl<'s> Activity<'s> {
     {
         match statement {
             Statement::Op(call, signals) => match perform(world, action, frames, call)? {
-                Performed::Granted => Ok(Flow::Ended),
-                Performed::Signalled => self.run_signals(world, action, frames, signals),
-                Performed::Refused => Ok(Flow::Aborted),
-                Performed::Waits => Ok(wait()),
+                Outcome::Granted => Ok(Flow::Ended),
+                Outcome::Signalled => self.run_signals(world, action, frames, signals),
+                Outcome::Refused => Ok(Flow::Aborted),
+                Outcome::Waits => Ok(wait()),
             },
             Statement::Call(call, signals) => self.call(world, action, frames, call, signals),
             Statement::Coenter(arms) => self.coenter(world, action, frames, arms.as_slice()),

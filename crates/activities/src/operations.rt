@@ -1,7 +1,7 @@
 ghost use Rattle.std.specs.Prelude.{◌≡◌, [], IsTrue, IfOk};
 ghost use Rattle.script_model.specs.Resolved.{binding_is_bound};
 ghost use Rattle.run_model.specs.Runs.{IsRun};
-ghost use Rattle.activities.specs.Bodies.{IsOp, IsPerformed, sizes};
+ghost use Rattle.activities.specs.Bodies.{IsOp, IsOutcome, sizes};
 ghost use Rattle.activities.specs.Continuing.{CommitsNone, EndsAll, GoesOn};
 
 use crate::frames::Frames;
@@ -14,7 +14,7 @@ use world::World;
 
 /// What came of an operation.
 #[derive(Drop)]
-pub(crate) enum Performed {
+pub(crate) enum Outcome {
     Granted,
     Signalled,
     Refused,
@@ -27,34 +27,34 @@ pub(crate) fn perform(
     action: &OpenAction,
     frames: &mut Frames,
     call: &ObjectCall,
-) -> Result<Performed, AllocError>
+) -> Result<Outcome, AllocError>
     requires run { IsRun world.old.setup world.old.past }
     requires call { IsOp (sizes frames.old) call.now }
     ensures goes_on { GoesOn world.old world.new [] }
     ensures commits { CommitsNone world.old world.new }
     ensures ends { EndsAll world.old world.new }
-    ensures frames { IfOk result (λ done. IsPerformed done call.now.binding (sizes frames.old) (sizes frames.new)) }
+    ensures frames { IfOk result (λ done. IsOutcome done call.now.binding (sizes frames.old) (sizes frames.new)) }
 {
     let Some(operation) = frames.operation(&call.operation)? else {
-        return Ok(Performed::Refused);
+        return Ok(Outcome::Refused);
     };
     match action.perform(world, call.object, operation)? {
         Answer::Granted(reply) => bind(frames, call.binding, reply),
-        Answer::Waits(_) => Ok(Performed::Waits),
-        _ => Ok(Performed::Refused),
+        Answer::Waits(_) => Ok(Outcome::Waits),
+        _ => Ok(Outcome::Refused),
     }
 }
 
-fn bind(frames: &mut Frames, binding: Binding, reply: Reply) -> Result<Performed, AllocError>
+fn bind(frames: &mut Frames, binding: Binding, reply: Reply) -> Result<Outcome, AllocError>
     requires { IsTrue (binding_is_bound (sizes frames.old) binding) }
-    ensures { IfOk result (λ done. IsPerformed done binding (sizes frames.old) (sizes frames.new)) }
+    ensures { IfOk result (λ done. IsOutcome done binding (sizes frames.old) (sizes frames.new)) }
 {
     if matches!(reply, Reply::Signals(_)) {
-        return Ok(Performed::Signalled);
+        return Ok(Outcome::Signalled);
     }
     if frames.bind(binding, reply)? {
-        Ok(Performed::Granted)
+        Ok(Outcome::Granted)
     } else {
-        Ok(Performed::Refused)
+        Ok(Outcome::Refused)
     }
 }

@@ -1,12 +1,10 @@
 //! Running a command on files.
 
 use crate::stores::open_stores;
-use argus_engine::{
-    Ended, Fault, check_script, explain_text, read_script, run_script, run_stored,
-    steps as answer_steps,
-};
+use argus_engine::{Ended, Fault, check_script, explain_text, read_script, steps as answer_steps};
 use command_line::request::{Check, Run, Steps};
 use run_model::{Setup, SetupFault};
+use script_engine::{run_script, run_stored};
 use std::process::ExitCode;
 use std::{fs, io};
 use world::World;
@@ -40,8 +38,8 @@ pub fn check(rt: &HostRuntime, given: &Check<'_>) -> Result<ExitCode, Fault> {
     }
 }
 
-/// Runs the script in a file and writes how its clients ended, and the bases of its objects, to standard output. The status is 1 where the file
-/// is no script, or where a store is not its own.
+/// Runs the script in a file and writes how its clients ended, and the bases of its objects, to standard output. The
+/// status is 1 where the file is no script, or where a store is not its own.
 pub fn run(rt: &HostRuntime, given: &Run<'_>) -> Result<ExitCode, Fault> {
     let bytes = read_file(rt, given.script)?;
     let Some(script) = read_script(rt.alloc(), bytes.as_slice(), &mut io::writer(rt))? else {

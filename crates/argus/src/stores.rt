@@ -2,8 +2,9 @@
 
 ghost use Rattle.std.specs.Prelude.{◌≡◌, IfOk, IfSome, length};
 
-use argus_engine::{Fault, can_open};
+use argus_engine::Fault;
 use script::Checked;
+use script_engine::can_open;
 use sql_store::SqlStable;
 use sqlite::{Connection, Error, ErrorCode, File, FileStore};
 use stable_store::StoreFault;
@@ -11,8 +12,8 @@ use stable_store::StoreFault;
 /// A store in a file.
 pub type FileStable = SqlStable<FileStore<File>>;
 
-/// The stores of a script's guardians, in order; a file that is not there is made. `None` where one of them is no store, or can not open its guardian; the
-/// files behind it are then not looked at.
+/// The stores of a script's guardians, in order; a file that is not there is made. `None` where one of them is no
+/// store, or can not open its guardian; the files behind it are then not looked at.
 pub fn open_stores(
     rt: &HostRuntime,
     folder: &str,

@@ -9,8 +9,8 @@ use Rattle.run_model.specs.Texts.{step_text, max_line, Spells}
 use Rattle.run_model.specs.Reading.{Lacks}
 use Rattle.run_model.specs.Spaces.{Lacks-nil, Lacks-cons, Lacks-append}
 use Rattle.run_model.proofs.Cutting.{same_cut, no_cut}
-use Rattle.argus_engine.specs.Serving.{Gives}
-use Rattle.argus_engine.specs.Reading.{FacesNoStep, TakesFront}
+use Rattle.argus_engine.specs.Serving.{Gives, TakesFront}
+use Rattle.argus_engine.specs.Reading.{FacesNoStep}
 use Rattle.argus_engine.proofs.NoLineFeed.{step_lacks_line_feed}
 
 -- what is left after the bytes that were read, as far as it is known

@@ -5,8 +5,7 @@ use Rattle.action_names.specs.Names.{Name, IsName, name_text}
 use Rattle.run_model.specs.declared.history.Event.{Event}
 use Rattle.run_model.specs.Explaining.{IsExplained, explanation, explanation_lines, not_begun}
 use Rattle.run_model.proofs.OneSpelling.{same_name}
-use Rattle.argus_engine.specs.Reading.{TakesFront}
-use Rattle.argus_engine.specs.Serving.{Begins, Writes}
+use Rattle.argus_engine.specs.Serving.{Begins, Writes, TakesFront}
 
 -- a beginning of the only lines that there are
 pub front_written : (before after : Option (List ℕ)) (text : List ℕ) (Right : List ℕ → Type 0) → ((lines : List ℕ) → Right lines → lines ≡ text)

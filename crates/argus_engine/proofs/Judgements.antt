@@ -1,10 +1,9 @@
 -- What is said of a script is written, or a beginning of it.
-use Rattle.std.proofs.Common.{ℕ, List, [], Option, take, drop, sym, take-append-drop, append-nil, inr}
+use Rattle.std.proofs.Common.{ℕ, List, [], Option, Result, Ok, Err, OnErr, take, drop, sym, take-append-drop, append-nil, inr}
 use Rattle.std.specs.Io.KnownBytes.{Appends}
 use Rattle.argus_engine.specs.declared.engine.Ended.{Ended}
 use Rattle.argus_engine.specs.Judging.{BeginsJudgement, IsJudged}
-use Rattle.argus_engine.specs.Reading.{TakesFront}
-use Rattle.argus_engine.specs.Serving.{Writes}
+use Rattle.argus_engine.specs.Serving.{Writes, TakesFront}
 
 pub front_said : (before after : Option (List ℕ)) (bytes line : List ℕ) (ended : Ended) → IsJudged bytes ended line → TakesFront before after line
     → Writes before after (BeginsJudgement bytes)
@@ -13,3 +12,8 @@ front_said before after bytes line ended judged took = (take took.0 line, took.2
 pub whole_said : (before after : Option (List ℕ)) (bytes line : List ℕ) (ended : Ended) → IsJudged bytes ended line → Appends before after line
     → Writes before after (BeginsJudgement bytes)
 whole_said before after bytes line ended judged wrote = (line, wrote, inr (ended, line, judged, ([], sym (append-nil line))))
+
+-- what is said of an error
+pub on_err : {A E P : Type 0} (result : Result A E) → P → OnErr result P
+on_err (Ok a) p = tt
+on_err (Err e) p = p

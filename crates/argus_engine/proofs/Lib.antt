@@ -4,8 +4,3 @@ pub mod Progressed
 pub mod Bytes
 pub mod Explanations
 pub mod Judgements
-pub mod Opening
-pub mod Reporting
-pub mod Saving
-pub mod Limits
-pub mod Runs

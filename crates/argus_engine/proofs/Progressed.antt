@@ -17,8 +17,8 @@ use Rattle.argus_engine.specs.declared.engine.Next.{Next}
 use Rattle.argus_engine.specs.declared.engine.Next.TheVariants as found
 use Rattle.argus_engine.specs.declared.engine.Ended.{Ended}
 use Rattle.argus_engine.specs.declared.engine.Ended.TheVariants.{Done, Stopped}
-use Rattle.argus_engine.specs.Serving.{Gives, Begins, step_lines, Made, Answers, BeginsAnswers, Writes}
-use Rattle.argus_engine.specs.Reading.{FacesNoStep, ReadsStep, answer_lines, Progress, TakesFront, Running, GoesOn, Moves}
+use Rattle.argus_engine.specs.Serving.{Gives, Begins, step_lines, Made, Answers, BeginsAnswers, Writes, TakesFront}
+use Rattle.argus_engine.specs.Reading.{FacesNoStep, ReadsStep, answer_lines, Progress, Running, GoesOn, Moves}
 use Rattle.argus_engine.proofs.Bytes.{left_text, gives_more}
 use Rattle.argus_engine.proofs.OneAnswer.{back, forth, one_answer}
 

@@ -1,5 +1,5 @@
 -- Words for the clauses of private functions: one line, and how far the engine has come.
-use Rattle.std.specs.Prelude.{ℕ, Bool, true, false, ◌≡◌, ◌≢◌, ◌≤◌, suc, List, [], ◌∷◌, ◌++◌, Option, length, take, ◌⊎◌}
+use Rattle.std.specs.Prelude.{ℕ, Bool, true, false, ◌≡◌, ◌≢◌, suc, List, [], ◌∷◌, ◌++◌, Option, length, ◌⊎◌}
 use Rattle.std.specs.List.{AllByRecursion}
 use Rattle.std.specs.Io.KnownBytes.{Appends, Consumes}
 use Rattle.run_model.specs.declared.step.Step.{Step}
@@ -68,10 +68,6 @@ pub record Progress (input left : Option (List ℕ)) (old new : World) (number :
   pub setup : new.setup ≡ old.setup
   pub past : new.past ≡ history_from old.setup old.past steps
   pub answers : written ≡ answer_lines old.setup old.past steps
-
--- the writer took the front of the bytes
-abbrev pub TakesFront : Option (List ℕ) → Option (List ℕ) → List ℕ → Type 0
-TakesFront old new bytes = (count : ℕ) × (count ≤ length bytes) × Appends old new (take count bytes)
 
 -- the writer took a beginning of what was kept for it, and the rest is kept
 abbrev pub Moves : Option (List ℕ) → Option (List ℕ) → List ℕ → List ℕ → Type 0

@@ -1,5 +1,5 @@
 -- What the engine makes of the bytes of a reader, and what it leaves with a writer.
-use Rattle.std.specs.Prelude.{ℕ, ◌≡◌, ◌≢◌, List, [], ◌∷◌, ◌++◌, Option, None, Some, ⊤, ◌⊎◌}
+use Rattle.std.specs.Prelude.{ℕ, ◌≡◌, ◌≢◌, ◌≤◌, List, [], ◌∷◌, ◌++◌, length, take, Option, None, Some, ⊤, ◌⊎◌}
 use Rattle.std.specs.List.{AllByRecursion}
 use Rattle.std.specs.Io.KnownBytes.{Appends}
 use Rattle.run_model.specs.declared.step.Step.{Step}
@@ -9,7 +9,9 @@ use Rattle.run_model.specs.Transcripts.{IsAnswered, BeginsWithStep, line_feed}
 use Rattle.argus_engine.specs.declared.engine.Ended.{Ended}
 use Rattle.argus_engine.specs.declared.engine.Ended.TheVariants.{Done, Stopped}
 use Rattle.argus_engine.specs.declared.engine.Fault.{Fault}
-use Rattle.argus_engine.specs.declared.engine.Fault.TheVariants.{Memory, Output}
+use Rattle.argus_engine.specs.declared.engine.Fault.TheVariants.{Memory, Output, Store}
+use Rattle.stable_store.specs.declared.fault.StoreFault.{StoreFault}
+use Rattle.stable_store.specs.declared.fault.StoreFault.TheVariants as store
 
 -- the bytes of a reader, where they are known, are this text
 abbrev pub Gives : Option (List ℕ) → List ℕ → Type 0
@@ -51,9 +53,19 @@ pub record Answers (input : Option (List ℕ)) (old new : World) (written : List
 abbrev pub Writes : Option (List ℕ) → Option (List ℕ) → (List ℕ → Type 0) → Type 0
 Writes before after fact = (written : List ℕ) × Appends before after written × fact written
 
+-- the writer took the front of the bytes
+abbrev pub TakesFront : Option (List ℕ) → Option (List ℕ) → List ℕ → Type 0
+TakesFront old new bytes = (count : ℕ) × (count ≤ length bytes) × Appends old new (take count bytes)
+
 -- want of memory, or a fault of the writer
 abbrev pub IsOfWriter : Fault → Type 0
 IsOfWriter fault = (fault ≡ Memory) ⊎ (fault ≡ Output)
+
+-- what a store's fault is to who runs a script
+abbrev pub fault_of : StoreFault → Fault
+fault_of store.Memory = Memory
+fault_of store.Failed = Store
+fault_of store.NotOurs = Store
 
 -- What was written is a beginning of what belongs to all that the reader gives; and it is a beginning of what belongs to some
 -- beginning of it.

@@ -8,6 +8,7 @@ ghost use Rattle.argus_engine.specs.declared.engine.Fault.TheVariants.{Store};
 use crate::reading::{Line, read_line};
 use crate::writing::{finish, send_if_full};
 use run_model::{Answer, Step};
+use stable_store::StoreFault;
 use std::alloc::{AllocError, AllocFailed, Global};
 use std::io::{BufReader, Read, Write};
 use thiserror::Error;
@@ -58,6 +59,20 @@ impl<T: Drop> From<AllocFailed<T>> for Fault {
 
     fn from(_refused: AllocFailed<T>) -> Fault {
         Fault::Memory
+    }
+}
+
+impl From<StoreFault> for Fault {
+    ghost use Rattle.std.specs.Prelude.{◌≡◌};
+    ghost use Rattle.argus_engine.specs.Serving.{fault_of};
+
+    ghost from_gives = { λ fault e. e ≡ fault_of fault };
+
+    fn from(fault: StoreFault) -> Fault {
+        match fault {
+            StoreFault::Memory => Fault::Memory,
+            StoreFault::Failed | StoreFault::NotOurs => Fault::Store,
+        }
     }
 }
 

@@ -3,7 +3,8 @@
 ghost use Rattle.std.specs.Prelude.{◌≡◌, ◌≤◌, [], length, take, IfErr, IfOk, OnOk, OnErr, string_bytes};
 ghost use Rattle.std.specs.Io.KnownBytes.{Appends, Keeps};
 ghost use Rattle.argus_engine.specs.declared.engine.Fault.TheVariants.{Output};
-ghost use Rattle.argus_engine.specs.Reading.{Moves, TakesFront};
+ghost use Rattle.argus_engine.specs.Reading.{Moves};
+ghost use Rattle.argus_engine.specs.Serving.{TakesFront};
 
 use crate::engine::Fault;
 use std::io::{ErrorKind, Write};
@@ -27,9 +28,9 @@ pub(crate) fn send_if_full<W: Write>(writer: &mut W, text: &mut String) -> Resul
     written
 }
 
-/// Writes the text and flushes the writer.
+/// Writes the text and flushes the writer. After a fault of the writer a beginning of the text was written; there is no other.
 #[tactic(auto, using(crate::proofs::Bytes::flushed, crate::proofs::Bytes::not_flushed))]
-pub(crate) fn finish<W: Write>(writer: &mut W, text: &str) -> Result<(), Fault>
+pub fn finish<W: Write>(writer: &mut W, text: &str) -> Result<(), Fault>
     ensures ok { OnOk result (Appends (W.contents writer.old) (W.contents writer.new) text.now) }
     ensures front { TakesFront (W.contents writer.old) (W.contents writer.new) text.now }
     ensures fault { IfErr result (λ fault. fault ≡ Output) }

@@ -59,8 +59,8 @@ impl Bank {
         })
     }
 
-    /// Commits a top action by two phases: it closes, the branches vote on it, and where both say yes it is decided. Else it is
-    /// aborted. Says whether it is committed.
+    /// Commits a top action by two phases: it closes, the branches vote on it, and where both say yes it is decided.
+    /// Else it is aborted. Says whether it is committed.
     pub(crate) fn commit(&mut self, top: u32) -> Result<bool, BankFault> {
         self.done(format!(in self.alloc; "close {top}")?)?;
         for branch in BRANCHES {
@@ -192,6 +192,7 @@ impl Bank {
         }
     }
 
+    // Makes the step. After want of memory the world is as it was.
     fn make(&mut self, step: Step) -> Result<Said, BankFault> {
         match self.world.step(&step) {
             Ok(answer) => Ok(Said::of(&answer)),

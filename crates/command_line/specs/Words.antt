@@ -25,7 +25,8 @@ flag id = record (new_rule id) { long = Some id; action = Some SetTrue }
 
 -- `steps [--explain ACTION] SETUP FILE`
 abbrev pub steps_app : App
-steps_app = with_rule (with_rule (with_rule (new_app (codes "steps")) (needed (codes "SETUP"))) (needed (codes "FILE"))) (optional (codes "explain"))
+steps_app = with_rule (with_rule (with_rule (new_app (codes "steps")) (needed (codes "SETUP"))) (needed (codes "FILE")))
+    (optional (codes "explain"))
 
 -- `check SCRIPT`
 abbrev pub check_app : App
@@ -33,7 +34,8 @@ check_app = with_rule (new_app (codes "check")) (needed (codes "SCRIPT"))
 
 -- `run [--serial] [--store DIR] SCRIPT`
 abbrev pub run_app : App
-run_app = with_rule (with_rule (with_rule (new_app (codes "run")) (needed (codes "SCRIPT"))) (flag (codes "serial"))) (optional (codes "store"))
+run_app = with_rule (with_rule (with_rule (new_app (codes "run")) (needed (codes "SCRIPT"))) (flag (codes "serial")))
+    (optional (codes "store"))
 
 -- `argus`, which has a version, whose words come without its own name, and which shows help where there are none
 abbrev pub bare_app : App

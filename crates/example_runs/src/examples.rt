@@ -8,6 +8,7 @@ use crate::stepping::{
     make_step, name_fault, rewrite_step,
 };
 use crate::stores::{Database, keep_database, run_over_stores};
+use crate::text::unescaped_text;
 use rows::{Row, RowFault, Subject};
 use run_model::Setup;
 use std::alloc::{AllocError, Global};
@@ -106,6 +107,6 @@ fn answer_of_run(
 }
 
 fn keep_frame(examples: &mut Examples, frame: &str) -> Result<(), RowFault> {
-    examples.frame = String::from_str(examples.alloc, frame)?;
+    examples.frame = unescaped_text(examples.alloc, frame)?;
     Ok(())
 }

@@ -56,8 +56,8 @@ pub(crate) struct Writer {
 }
 
 impl Writer {
-    /// The writer of a word: `wide`; `narrow:CALLS`, which takes a byte a call; or `full:CALLS`, which takes 5 bytes a call, and whose flush
-    /// fails where no call is left.
+    /// The writer of a word: `wide`; `narrow:CALLS`, which takes a byte a call; or `full:CALLS`, which takes 5 bytes a
+    /// call, and whose flush fails where no call is left.
     pub(crate) fn of_word(alloc: Global, word: &str) -> Result<Writer, RowFault> {
         let (kind, calls) = word.split_once(':').unwrap_or((word, ""));
         match kind {
@@ -110,7 +110,7 @@ impl Writer {
             Ok(Ended::Done) => self.push("done", answer),
             Ok(Ended::Stopped) => self.push("stopped", answer),
             Err(Fault::Memory) => Err(RowFault::Memory),
-            Err(Fault::Output) if self.is_refused => Err(RowFault::Memory),
+            Err(Fault::Input | Fault::Output) if self.is_refused => Err(RowFault::Memory),
             Err(Fault::Output) => self.push("fault output", answer),
             Err(Fault::Input) => self.push("fault input", answer),
             Err(Fault::Store) => self.push("fault store", answer),
@@ -118,7 +118,7 @@ impl Writer {
     }
 
     /// Writes this, and what was written.
-    fn push(&self, how: &str, answer: &mut String) -> Result<(), RowFault> {
+    pub(crate) fn push(&self, how: &str, answer: &mut String) -> Result<(), RowFault> {
         answer.push_str(how)?;
         if !self.taken.is_empty() {
             answer.push_str(": ")?;

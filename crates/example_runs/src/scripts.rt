@@ -1,15 +1,17 @@
 //! Rows of scripts: what is said of them, and what is told of their runs.
 ghost use Rattle.std.specs.Prelude.{IfOk};
 ghost use Rattle.script_model.specs.Resolved.{IsResolved};
-ghost use Rattle.argus_engine.specs.Running.{IsFit};
+ghost use Rattle.script_engine.specs.Running.{IsFit};
 
 use crate::examples::Examples;
 use crate::pieces::Writer;
+use crate::text::unescaped_text;
 use activities::run_serial;
-use argus_engine::{Ended, Fault, check_script, read_script, run_script, setup_of, steps};
+use argus_engine::{Ended, Fault, check_script, read_script, steps};
 use rows::{Row, RowFault};
 use run_model::History;
 use script::{Checked, ScriptFault, check, read};
+use script_engine::{run_script, setup_of};
 use script_model::{FaultKind, Pointer};
 use std::alloc::{AllocError, Global};
 use world::World;
@@ -49,7 +51,8 @@ pub(crate) fn check_text(
     let alloc = examples.alloc;
     let mut words = row.words();
     let mut writer = Writer::of_word(alloc, words.word()?)?;
-    let text = framed(alloc, examples.frame.as_str(), words.rest())?;
+    let text = unescaped_text(alloc, words.rest())?;
+    let text = framed(alloc, examples.frame.as_str(), text.as_str())?;
     let ended = check_script(alloc, text.as_bytes(), &mut writer);
     writer.tell(alloc, ended, row.answer, answer)
 }
@@ -60,17 +63,18 @@ fn framed(alloc: Global, frame: &str, text: &str) -> Result<String, AllocError> 
     format!(in alloc; "{before}{text}{after}")
 }
 
-/// `script TEXT`: how many guardians, handlers and clients the script has, which the section then has; or what is said of a text that is none.
+/// `script TEXT`: how many guardians, handlers and clients the script has, which the section then has, and what was
+/// written, which is nothing; or what is said of a text that is none.
 pub(crate) fn keep_script(
     examples: &mut Examples,
     row: &Row<'_>,
     answer: &mut String,
 ) -> Result<(), RowFault> {
-    let script = String::from_str(examples.alloc, row.given)?;
+    let script = unescaped_text(examples.alloc, row.given)?;
     let mut writer = Writer::of_word(examples.alloc, "wide")?;
-    match counts(examples.alloc, row.given, &mut writer) {
+    match counts(examples.alloc, script.as_str(), &mut writer) {
         Ok(Some(counts)) => {
-            answer.push_str(counts.as_str())?;
+            writer.push(counts.as_str(), answer)?;
             examples.script = script;
             Ok(())
         }

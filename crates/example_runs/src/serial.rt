@@ -97,8 +97,8 @@ pub(crate) fn print_base(
     Ok(answer.push_str(text.as_str())?)
 }
 
-/// `unlocked GUARDIAN OPERATION|..`: what new top actions are answered to these operations after a run of the section's script in a new world.
-/// Where memory is refused to the run, they must be answered so too.
+/// `unlocked GUARDIAN OPERATION|..`: what new top actions are answered to these operations after a run of the section's
+/// script in a new world. Where memory is refused to the run, they must be answered so too.
 pub(crate) fn probe_locks(
     examples: &Examples,
     row: &Row<'_>,

@@ -1,7 +1,7 @@
 //! Rows of steps: what a world and the engine answer to them.
 use crate::examples::Examples;
 use crate::pieces::{Reader, Writer};
-use crate::text::{escape, unescaped};
+use crate::text::{escape, unescaped, unescaped_text};
 use argus_engine::{Fault, explain_text, steps};
 use rows::{Row, RowFault, Words};
 use run_model::{Answer, Setup, SetupFault, Step};
@@ -11,8 +11,8 @@ use world::World;
 
 /// `setup DOCUMENT`: the section has this setup, and a new world of it.
 pub(crate) fn keep_setup(examples: &mut Examples, document: &str) -> Result<(), RowFault> {
-    let setup = String::from_str(examples.alloc, document)?;
-    examples.world = world_of(examples.alloc, document)?;
+    let setup = unescaped_text(examples.alloc, document)?;
+    examples.world = world_of(examples.alloc, setup.as_str())?;
     examples.setup = setup;
     Ok(())
 }
@@ -91,8 +91,8 @@ fn list_of(alloc: Global, lines: &[u8]) -> Result<Vec<Step>, RowFault> {
     Ok(list)
 }
 
-/// Makes the steps one after another, and appends their answers. Where memory was refused, the steps that have an answer are made, and only the
-/// others are asked again.
+/// Makes the steps one after another, and appends their answers. Where memory was refused, the steps that have an
+/// answer are made, and only the others are asked again.
 fn run_list(world: &mut World, list: &[Step], answers: &mut Vec<Answer>) -> Result<(), AllocError> {
     let before = answers.len();
     if world.run(list, answers).is_ok() {

@@ -1,13 +1,13 @@
 //! Rows of runs of scripts over stores: what is said, and what the stores then hold.
 ghost use Rattle.std.specs.Prelude.{◌≡◌, IfOk, length};
-ghost use Rattle.argus_engine.specs.Running.{IsFit};
+ghost use Rattle.script_engine.specs.Running.{IsFit};
 
 use crate::examples::Examples;
 use crate::pieces::Writer;
 use crate::scripts::script_of;
-use argus_engine::{can_open, run_stored};
 use rows::{RowFault, Words};
 use script::Checked;
+use script_engine::{can_open, run_stored};
 use sql_store::SqlStable;
 use sqlite::{Connection, Error, ErrorCode, MemStore};
 use sqlite_resolve::CompileError;
@@ -65,8 +65,8 @@ pub(crate) fn keep_database(examples: &mut Examples, mut words: Words<'_>) -> Re
     Ok(examples.databases.push(database).map_err(AllocError::from)?)
 }
 
-/// `stored OBJECTS WRITER ..`: what comes of runs of the section's script one after another, with these writers: after each run the stores, which
-/// are then opened again, and at last these. Each guardian has so many objects.
+/// `stored OBJECTS WRITER ..`: what comes of runs of the section's script one after another, with these writers: after
+/// each run the stores, which are then opened again, and at last these. Each guardian has so many objects.
 pub(crate) fn run_over_stores(
     examples: &Examples,
     mut words: Words<'_>,
@@ -119,7 +119,7 @@ fn store_in(alloc: Global, conn: Connection<MemStore>) -> Result<MemStable, RowF
 fn in_memory(alloc: Global, database: &Database) -> Result<Connection<MemStore>, RowFault> {
     let mut conn = Connection::open_in_memory(alloc).map_err(|_| RowFault::Memory)?;
     match database.tables {
-        Tables::None => (),
+        Tables::None => return Ok(conn),
         Tables::All => make_tables(&mut conn, BASE)?,
         Tables::WithoutFive => make_tables(&mut conn, BASE_WITHOUT_FIVE)?,
     }

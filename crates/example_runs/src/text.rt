@@ -1,6 +1,7 @@
 //! Texts of several lines in one.
 use rows::RowFault;
 use std::alloc::{AllocError, Global};
+use std::str;
 
 /// Writes the text with `\n` for each line feed, and `\\` for each backslash.
 pub(crate) fn escape(text: &str, escaped: &mut String) -> Result<(), AllocError> {
@@ -29,6 +30,13 @@ pub(crate) fn unescaped(alloc: Global, text: &str) -> Result<Vec<u8>, RowFault> 
         }
     }
     Ok(bytes)
+}
+
+/// The text that is escaped.
+pub(crate) fn unescaped_text(alloc: Global, text: &str) -> Result<String, RowFault> {
+    let bytes = unescaped(alloc, text)?;
+    let text = str::from_utf8(bytes.as_slice()).map_err(|_| RowFault::Unread)?;
+    Ok(String::from_str(alloc, text)?)
 }
 
 /// What is meant by the byte behind a backslash; `\?` is a byte that no text has.

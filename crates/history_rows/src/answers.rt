@@ -1,6 +1,6 @@
 //! Answers, and their lines.
 use crate::reading;
-use rows::RowFault;
+use rows::{RowFault, again};
 use run_model::{Answer, Refusal, Reply, Signal, Value};
 use std::alloc::Global;
 
@@ -10,24 +10,27 @@ pub(crate) fn copy(alloc: Global, said: &str, answer: &mut String) -> Result<(),
 }
 
 fn write_copy(alloc: Global, said: &Answer, answer: &mut String) -> Result<(), RowFault> {
-    write_lines(alloc, &said.copy()?, answer)
+    write_lines(alloc, &again!(said.copy())?, answer)
 }
 
 fn write_lines(alloc: Global, said: &Answer, answer: &mut String) -> Result<(), RowFault> {
     let appended = appended(alloc, said)?;
-    let line = said.text(alloc)?;
+    let line = again!(said.text(alloc))?;
     write!(answer, "{}; {}", line.as_str(), appended.as_str())?;
     Ok(())
 }
 
-/// The text `1 ` with the answer's line behind it. Where memory is refused, it has to be as it was; else the row is not read.
+/// The text `1 ` with the answer's line behind it. Where memory is refused, the text has to be as it was, or else the
+/// row is not read; and the line is appended to it once more.
 fn appended(alloc: Global, said: &Answer) -> Result<String, RowFault> {
     let mut text = String::from_str(alloc, "1 ")?;
-    match said.write_to(&mut text) {
-        Ok(()) => Ok(text),
-        Err(_) if text.as_str() == "1 " => Err(RowFault::Memory),
-        Err(_) => Err(RowFault::Unread),
+    if said.write_to(&mut text).is_err() {
+        if text.as_str() != "1 " {
+            return Err(RowFault::Unread);
+        }
+        said.write_to(&mut text)?;
     }
+    Ok(text)
 }
 
 /// `number REFUSAL`: its number.

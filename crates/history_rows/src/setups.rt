@@ -1,7 +1,8 @@
 //! A setup that is read, or put together guardian by guardian.
 use crate::reading;
+use limits::MAX_GUARDIANS;
 use rows::{RowFault, Words};
-use run_model::{Content, Kind, MAX_GUARDIANS, Setup, SetupFault};
+use run_model::{Content, Kind, Setup, SetupFault};
 use std::alloc::{AllocError, Global};
 use values::{Array, ValueFault};
 
@@ -55,12 +56,22 @@ fn copy(setup: &mut Setup, answer: &mut String) -> Result<(), RowFault> {
 fn add(setup: &mut Setup, contents: Vec<Content>, answer: &mut String) -> Result<(), RowFault> {
     answer.reserve(64)?;
     write!(answer, "{} objects ", contents.len())?;
+    let there = setup.guardians();
     let said = match setup.add_guardian(contents) {
         Ok(()) => "added",
         Err(SetupFault::Bad) => "bad",
-        Err(SetupFault::Memory) => return Err(RowFault::Memory),
+        Err(SetupFault::Memory) => return Err(refused(setup, there)),
     };
     Ok(answer.push_str(said)?)
+}
+
+/// Memory was refused for a guardian. The setup has to have as many as before, or else the row is not read.
+fn refused(setup: &Setup, there: usize) -> RowFault {
+    if setup.guardians() == there {
+        RowFault::Memory
+    } else {
+        RowFault::Unread
+    }
 }
 
 /// The contents that the text spells, a blank between two.
@@ -96,12 +107,15 @@ fn array(alloc: Global) -> Result<Array, RowFault> {
     Array::from_items(Kind::Int, 1, Vec::new(alloc)).map_err(|_| RowFault::Unread)
 }
 
-/// `fill`: adds guardians of no objects to the limit.
+/// `fill`: adds guardians of no objects to the limit. Where memory is refused for one of them, the row goes on with it
+/// when it is answered again.
 fn fill(alloc: Global, setup: &mut Setup, answer: &mut String) -> Result<(), RowFault> {
     answer.push_str("filled")?;
-    for _ in setup.guardians()..MAX_GUARDIANS {
-        if setup.add_guardian(Vec::new(alloc)).is_err() {
-            return Err(RowFault::Memory);
+    for there in setup.guardians()..MAX_GUARDIANS {
+        match setup.add_guardian(Vec::new(alloc)) {
+            Ok(()) => {}
+            Err(SetupFault::Bad) => return Err(RowFault::Unread),
+            Err(SetupFault::Memory) => return Err(refused(setup, there)),
         }
     }
     Ok(())

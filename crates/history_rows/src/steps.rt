@@ -1,6 +1,6 @@
 //! Lines that are read as steps, and what stands in the steps.
 use crate::reading;
-use rows::{RowFault, Words};
+use rows::{RowFault, Words, again};
 use run_model::{ArmKind, ArmKinds, Step};
 use std::alloc::{AllocError, Global};
 
@@ -15,7 +15,7 @@ pub(crate) fn copy(alloc: Global, line: &str, answer: &mut String) -> Result<(),
 }
 
 fn write_copy(step: &Step, answer: &mut String) -> Result<(), AllocError> {
-    write(&step.copy()?, answer)
+    write(&again!(step.copy())?, answer)
 }
 
 /// Writes the fields of a step, in other words than those in which it is spelled.

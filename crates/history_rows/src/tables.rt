@@ -1,13 +1,13 @@
 //! The tables of a run. A plain world makes the steps of the history again, so that what happens in it is known to be a run.
-ghost use Rattle.std.specs.Prelude.{◌≡◌, [], IfOk, OnOk};
-ghost use Rattle.run_model.specs.Runs.{is_accepted};
-ghost use Rattle.plain_tables.specs.Tables.{IsTables};
+ghost use Rattle.std.specs.Prelude.{◌≡◌, [], ◌∷◌, IfOk, OnOk};
+ghost use Rattle.run_model.specs.Runs.{IsRun, is_accepted};
+ghost use Rattle.plain_tables.specs.Tables.{AreChanges, IsTables};
 
 use crate::reading::At;
 use crate::{past, reading};
-use plain_tables::{Performed, Tables};
+use plain_tables::{Changes, Performed, Tables};
 use plain_world::PlainWorld;
-use rows::{RowFault, Words};
+use rows::{RowFault, Words, again};
 use run_model::text::{append_reply, append_request};
 use run_model::{Answer, Event, History, Setup, Step};
 use std::alloc::{AllocError, Global};
@@ -53,7 +53,8 @@ fn run_of(alloc: Global, setup: &Setup, past: &History) -> Result<Run, RowFault>
     Ok(run)
 }
 
-/// Makes the step in the world, and puts its event into the history and the tables.
+/// Makes the step in the world, and puts its event into the history and the tables. A call to which memory is refused
+/// is made once more, of the same world, tables and history.
 fn follow(
     world: &mut PlainWorld,
     history: &mut History,
@@ -65,7 +66,7 @@ fn follow(
     ensures tables { OnOk result (IsTables world.new.setup tables.new history.new) }
     ensures past { OnOk result (history.new ≡ world.new.past) }
 {
-    let answer = world.step(step)?;
+    let answer = again!(world.step(step))?;
     if !is_accepted(&answer) {
         return Err(RowFault::Unread);
     }
@@ -75,9 +76,34 @@ fn follow(
         step: step.copy()?,
         answer,
     };
-    let changes = tables.changes(world.setup(), history, &event)?;
-    history.push(event).map_err(AllocError::from)?;
+    let changes = changes_of(tables, world.setup(), history, &event)?;
+    record(history, event)?;
     tables.install(world.setup(), history, changes);
+    Ok(())
+}
+
+/// What the event changes in the tables.
+fn changes_of(
+    tables: &mut Tables,
+    setup: &Setup,
+    history: &History,
+    event: &Event,
+) -> Result<Changes, AllocError>
+    requires tables { IsTables setup.now tables.old history.now }
+    requires run { IsRun setup.now (event.now ∷ history.now) }
+    ensures same { IsTables setup.now tables.new history.now }
+    ensures changes { IfOk result (λ changes. AreChanges setup.now tables.new changes (event.now ∷ history.now)) }
+{
+    again!(tables.changes(setup, history, event))
+}
+
+/// Puts the event into the history.
+fn record(history: &mut History, event: Event) -> Result<(), AllocError>
+    ensures { OnOk result (history.new ≡ event ∷ history.old) }
+{
+    if let Err(failed) = history.push(event) {
+        history.push(failed.value).map_err(AllocError::from)?;
+    }
     Ok(())
 }
 
@@ -92,7 +118,7 @@ impl Run {
     /// The run of this setup to which nothing has happened.
     fn new(alloc: Global, setup: Setup) -> Result<Run, AllocError> {
         let world = PlainWorld::new(alloc, setup)?;
-        let tables = Tables::new(alloc, world.setup())?;
+        let tables = again!(Tables::new(alloc, world.setup()))?;
         Ok(Run {
             world,
             history: History::new(alloc),
@@ -161,9 +187,10 @@ impl Run {
     /// `orphan GUARDIAN ACTION`: whether the action is known as an orphan at the guardian.
     fn write_orphan(&self, at: At, answer: &mut String) -> Result<(), AllocError> {
         let setup = self.world.setup();
-        let known = self
-            .tables
-            .is_known_orphan(setup, &self.history, &at.action, at.guardian)?;
+        let known = again!(
+            self.tables
+                .is_known_orphan(setup, &self.history, &at.action, at.guardian)
+        )?;
         write!(answer, "{known}")
     }
 
@@ -206,7 +233,7 @@ impl Run {
 }
 
 fn write_copy(operation: &Performed, answer: &mut String) -> Result<(), AllocError> {
-    write_performed(&operation.copy()?, answer)
+    write_performed(&again!(operation.copy())?, answer)
 }
 
 /// Writes the number of the operation's event, its action, what it asks of which object, and its reply.

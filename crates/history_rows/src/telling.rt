@@ -18,7 +18,7 @@ pub(crate) fn answer(
         "of" => Ok(write_told(past, reading::read_at(alloc, &mut words)?, answer)?),
         "prepared_after" => write_prepared_after(alloc, past, words, answer),
         "next" => write_next(alloc, past, words, answer),
-        "holder" => Ok(write_holder(past, reading::read_at(alloc, &mut words)?, answer)?),
+        "holder" => write_holder(past, reading::read_at(alloc, &mut words)?, answer),
         _ => Err(RowFault::Unread),
     }
 }
@@ -81,7 +81,8 @@ fn write_effects(past: &History, at: At, next: Event, answer: &mut String) -> Re
         ),
     ];
     write_true(&effects, answer)?;
-    write_sender(telling::carried_from(&next, past, at.guardian)?, answer)
+    let sender = telling::carried_from(&next, past, at.guardian).map_err(|_| RowFault::Unread)?;
+    write_sender(sender, answer)
 }
 
 fn write_sender(sender: Option<u32>, answer: &mut String) -> Result<(), RowFault> {
@@ -93,9 +94,11 @@ fn write_sender(sender: Option<u32>, answer: &mut String) -> Result<(), RowFault
 }
 
 /// `holder GUARDIAN ACTION`: who holds the action's operations there.
-fn write_holder(past: &History, at: At, answer: &mut String) -> Result<(), AllocError> {
-    match telling::holder_of(past, at.guardian, &at.action)? {
-        Some(holder) => write!(answer, "{holder}"),
-        None => answer.push_str("nobody"),
+fn write_holder(past: &History, at: At, answer: &mut String) -> Result<(), RowFault> {
+    let holder = telling::holder_of(past, at.guardian, &at.action).map_err(|_| RowFault::Unread)?;
+    match holder {
+        Some(holder) => write!(answer, "{holder}")?,
+        None => answer.push_str("nobody")?,
     }
+    Ok(())
 }

@@ -5,7 +5,7 @@ ghost use Rattle.run_model.specs.Dependencies.{dependency};
 ghost use Rattle.run_model.specs.Keeping.{performed, is_kept};
 ghost use Rattle.run_model.specs.Lists.{knows_abort, known_crashes, is_known_orphan, is_below, up_to};
 ghost use Rattle.run_model.specs.Runs.{IsRun};
-ghost use Rattle.run_model.specs.Texts.{max_guardians};
+ghost use Rattle.limits.specs.Limits.{max_guardians};
 ghost use Rattle.plain_tables.specs.Parts.{IsGuardian, least_in, counted};
 ghost use Rattle.plain_tables.specs.Tables.{IsTables, AreChanges};
 

@@ -21,12 +21,11 @@ use history_facts::actions::{
     next_top,
 };
 use history_facts::telling::{has_prepared, has_voted, told_since_crash};
+use limits::MAX_ARMS;
 use run_model::{ArmKind, ArmKinds, Content, ObjectId, Op, Refusal, Setup, Step};
 use std::alloc::AllocError;
 
 const MAX_NUMBER: u64 = 4294967295;
-
-const MAX_ARMS: usize = 64;
 
 /// The first refusal of the step that applies.
 pub fn of_step(view: &View<'_>, step: &Step) -> Result<Option<Refusal>, AllocError>

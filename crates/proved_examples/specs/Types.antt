@@ -28,7 +28,12 @@ tag_of_ints name = record { name = name; kind = kind.Int }
 
 -- an int under one of the tags none and some
 abbrev pub none_with : ℕ → Content
-none_with v = Variant (record { tags = tag_of_ints (codes "none") ∷ tag_of_ints (codes "some") ∷ []; tag = codes "none"; value = Int (pos v) })
+none_with v =
+    Variant (record {
+      tags = tag_of_ints (codes "none") ∷ tag_of_ints (codes "some") ∷ [];
+      tag = codes "none";
+      value = Int (pos v);
+    })
 
 -- guardian 1 holds a record and an array, guardian 2 a record and a variant
 abbrev pub setup_of_types : Setup

@@ -8,8 +8,8 @@ pub trait Subject {
     /// Begins a section, in which nothing is left of the one before.
     fn begin(&mut self, section: &str) -> Result<(), AllocError>;
 
-    /// Makes the call of a row, and writes its answer behind what is written. After an error nothing has changed but that what is written may
-    /// go on.
+    /// Makes the call of a row, and writes its answer behind what is written. After an error nothing has changed but
+    /// that what is written may go on.
     fn answer(&mut self, row: &Row<'_>, answer: &mut String) -> Result<(), RowFault>;
 }
 
@@ -21,8 +21,8 @@ struct Section<'a> {
     wrong: u64,
 }
 
-/// Makes the call of each row of standard input. Prints a line for each section with the number of its rows, after a line for each row that does
-/// not hold. Lines that are empty or begin with `#` are passed over.
+/// Makes the call of each row of standard input. Prints a line for each section with the number of its rows, after a
+/// line for each row that does not hold. Lines that are empty or begin with `#` are passed over.
 pub fn run(rt: &HostRuntime, subject: &mut impl Subject) -> io::Result<()> {
     let mut input = String::new(rt.alloc());
     rt.reader().read_to_string(&mut input)?;

@@ -28,7 +28,8 @@ Grants o e before = (o.number ≡ length (e ∷ before)) × (performed_by o.numb
 
 -- Where c is visible to a and b to c, b is visible to a.
 abbrev pub VisibilityCarriesOver : Type 0
-VisibilityCarriesOver = (a b c : Name) (past : List Event) → IsTrue (is_visible c a past) → IsTrue (is_visible b c past) → IsTrue (is_visible b a past)
+VisibilityCarriesOver = (a b c : Name) (past : List Event) → IsTrue (is_visible c a past) → IsTrue (is_visible b c past)
+    → IsTrue (is_visible b a past)
 
 -- What has closed or ended has nothing active below it, unless an ancestor of the active one aborted.
 abbrev pub NothingActiveBelowDone : Type 0
@@ -46,7 +47,8 @@ NothingLostUnderCommitted = (setup : Setup) (past : List Event) → IsRun setup 
 
 -- the crash before which the operation was kept and after which it is not came after its top action had closed
 abbrev pub DroppedWhenClosed : Performed → List Event → Type 0
-DroppedWhenClosed o past = (crash : Event) × (earlier : List Event) × Came crash earlier past × IsTrue (step_crashes crash.step o.object.guardian)
+DroppedWhenClosed o past = (crash : Event) × (earlier : List Event) × Came crash earlier past
+    × IsTrue (step_crashes crash.step o.object.guardian)
     × IsTrue (is_kept o earlier) × IsFalse (is_kept o (crash ∷ earlier)) × IsTrue (is_closed (top_of o.action) earlier)
 
 -- What is visible to an action that is no orphan is kept, but for reads that a crash dropped after their top action had closed.

@@ -1,3 +1,4 @@
+pub use Rattle.limits.specs.Limits
 pub use Rattle.action_names.specs.Names
 pub use Rattle.action_names.specs.Deps
 pub use Rattle.values.specs.Words

@@ -42,7 +42,8 @@ ReadsBoth {A} {B} mark p q s t text (Some x) = p x.0 × q x.1 × (text ≡ s x.0
 -- what a text is read as that is a name, an object and an operation
 abbrev pub ReadsAct : List ℕ → Option (Name × ObjectId × op.Op) → Type 0
 ReadsAct text None =
-    (a : Name) (x : ObjectId) (wanted : op.Op) → IsName a → IsObject x → IsOp wanted → text ≢ name_text a ++ 32 ∷ (object_text x ++ 32 ∷ op_text wanted)
+    (a : Name) (x : ObjectId) (wanted : op.Op) → IsName a → IsObject x → IsOp wanted
+    → text ≢ name_text a ++ 32 ∷ (object_text x ++ 32 ∷ op_text wanted)
 ReadsAct text (Some x) = IsName x.0 × IsObject x.1 × IsOp x.2 × (text ≡ name_text x.0 ++ 32 ∷ (object_text x.1 ++ 32 ∷ op_text x.2))
 
 -- what a text is read as that is a name, and the kinds of arms after it

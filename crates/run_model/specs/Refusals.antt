@@ -1,6 +1,7 @@
 -- When a step is refused: its refusals in their order, and the first that applies.
 use Rattle.std.specs.Prelude.{ℕ, Bool, true, false, not, ◌||◌, ◌&&◌, ◌==◌, nat_lt, nat_le, suc, List, [], ◌∷◌, length, if◌then◌else◌, Option, Some, None, is_none}
 use Rattle.std.specs.List.{list_any}
+use Rattle.limits.specs.Limits.{max_arms}
 use Rattle.action_names.specs.Names.{Name, is_top, child_of, last_of, max_depth}
 use Rattle.atomic_types.specs.declared.op.Op as op
 use Rattle.atomic_types.specs.Objects.{knows}
@@ -26,9 +27,6 @@ Check = Refusal × Bool
 -- the greatest number that a name has room for
 abbrev pub max_number : ℕ
 max_number = 4294967295
-
-abbrev pub max_arms : ℕ
-max_arms = 64
 
 -- no such number may be given any more
 abbrev pub is_used_up : ℕ → Bool

@@ -2,6 +2,7 @@
 use Rattle.std.specs.Prelude.{ℕ, ◌≤◌, List, [], ◌∷◌, ◌++◌, length, codes, decimal, IsUtf8, ◌≡◌, Some}
 use Rattle.std.specs.Fmt.{signed_decimal}
 use Rattle.std.specs.List.{AllByRecursion}
+use Rattle.limits.specs.Limits.{max_guardians, max_objects}
 use Rattle.serde_json.specs.Data.{Data, array, object, Items, no_items, item, no_members, member}
 use Rattle.serde_json.specs.Read.{read}
 use Rattle.action_names.specs.Names.{Name, IsName, IsComponent, name_text}
@@ -155,12 +156,6 @@ answer_text VoteNo = codes "vote no"
 answer_text (Done count) = codes "done " ++ decimal count
 answer_text (Refused why) = codes "refused " ++ decimal (refusal_number why)
 
-abbrev pub max_guardians : ℕ
-max_guardians = 1024
-
-abbrev pub max_objects : ℕ
-max_objects = 1024
-
 -- the objects of one guardian: at most 1,024
 abbrev pub AreObjects : List Content → Type 0
 AreObjects contents = (length contents ≤ max_objects) × AllByRecursion IsContent contents
@@ -177,7 +172,8 @@ contents_items (c ∷ contents) = item (content_data c) (contents_items contents
 
 abbrev pub guardians_items : Setup → Items
 guardians_items [] = no_items
-guardians_items (contents ∷ setup) = item (object (member (codes "objects") (array (contents_items contents)) no_members)) (guardians_items setup)
+guardians_items (contents ∷ setup) =
+    item (object (member (codes "objects") (array (contents_items contents)) no_members)) (guardians_items setup)
 
 -- the JSON document that a setup is
 abbrev pub setup_data : Setup → Data

@@ -4,20 +4,16 @@ ghost use Rattle.serde_json.specs.Data.{Data, Items, array, object, no_members, 
 ghost use Rattle.serde_json.specs.View.{view, items_view};
 ghost use Rattle.values.specs.declared.content.Content.{Content};
 ghost use Rattle.run_model.specs.Replay.{objects_at};
-ghost use Rattle.run_model.specs.Texts.{IsSetup, IsSetupText, AreObjects, setup_data, max_guardians, max_objects};
+ghost use Rattle.run_model.specs.Texts.{IsSetup, IsSetupText, AreObjects, setup_data};
+ghost use Rattle.limits.specs.Limits.{max_guardians, max_objects};
 ghost use Rattle.run_model.specs.Documents.{guardian_data};
 
+use limits::{MAX_GUARDIANS, MAX_OBJECTS};
 use serde_json::Value as Json;
 use std::alloc::{AllocError, AllocFailed, Global};
 use std::marker::Model;
 use thiserror::Error;
 use values::{Content, ValueFault};
-
-/// How many guardians a setup has at most.
-pub const MAX_GUARDIANS: usize = 1024;
-
-/// How many objects a guardian has at most.
-pub const MAX_OBJECTS: usize = 1024;
 
 const GUARDIANS: &str = "guardians";
 
@@ -32,7 +28,7 @@ struct Objects {
 impl Model for Objects {
     ghost use Rattle.std.specs.Prelude.{List, length, ◌≤◌};
     ghost use Rattle.values.specs.declared.content.Content.{Content};
-    ghost use Rattle.run_model.specs.Texts.{max_objects};
+    ghost use Rattle.limits.specs.Limits.{max_objects};
 
     ghost Value = { List Content };
 
@@ -50,7 +46,7 @@ pub struct Setup {
 impl Model for Setup {
     ghost use Rattle.std.specs.Prelude.{List, length, ◌≤◌};
     ghost use Rattle.values.specs.declared.content.Content.{Content};
-    ghost use Rattle.run_model.specs.Texts.{max_guardians};
+    ghost use Rattle.limits.specs.Limits.{max_guardians};
 
     ghost Value = { List (List Content) };
 

@@ -55,7 +55,8 @@ pub(crate) fn append_step(step: &Step, text: &mut String) -> Result<(), AllocErr
 /// Appends what an operation asks of an object: both, a space before each.
 #[tactic(auto, using(crate::proofs::Growing::grown_same, crate::proofs::Growing::grown_then))]
 pub fn append_request(object: ObjectId, operation: &Op, text: &mut String) -> Result<(), AllocError>
-    ensures ok { OnOk result (string_bytes text.new ≡ string_bytes text.old ++ space ∷ object_text object ++ space ∷ op_text operation.now) }
+    ensures ok { OnOk result
+        (string_bytes text.new ≡ string_bytes text.old ++ space ∷ object_text object ++ space ∷ op_text operation.now) }
     ensures err { OnErr result (IsGrown (string_bytes text.old) (string_bytes text.new)) }
 {
     append_object(object, text)?;

@@ -10,7 +10,8 @@ use Rattle.script_model.specs.Reading.{Outcome, and_then, step, ask}
 use Rattle.script_model.specs.Shapes.{the_object, the_two, the_three, the_list, are_named}
 use Rattle.script_model.specs.Signatures.{max_handlers, gives_in}
 use Rattle.script_model.specs.StatementReading.{body_in}
-use Rattle.script_model.specs.ScriptReading.{Site, context_at, may_lack_value, parameters, the_gives, handler, handlers_from, handlers, objects, Guardians, guardian, add_guardian, guardians_from, guardians_in, clients, max_guardians, script}
+use Rattle.script_model.specs.ScriptReading.{Site, context_at, may_lack_value, parameters, the_gives, handler, handlers_from, handlers, objects, Guardians, guardian, add_guardian, guardians_from, guardians_in, clients, script}
+use Rattle.limits.specs.Limits.{max_guardians}
 
 -- what comes after a part that was read
 pub and_then_ok : {A B : Type 0} (r : Outcome A) (f : A → Outcome B) (b : B) → and_then r f ≡ Ok b → (a : A) × (r ≡ Ok a) × (f a ≡ Ok b)

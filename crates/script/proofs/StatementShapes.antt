@@ -11,7 +11,8 @@ use Rattle.script_model.specs.declared.statement.Arm.{Arm}
 use Rattle.script_model.specs.Reading.{Outcome, Read, Answers, and_then, ask, at, each, fault, step}
 use Rattle.script_model.specs.Scopes.{Scope}
 use Rattle.script_model.specs.Shapes.{has_only, the_list}
-use Rattle.script_model.specs.StatementReading.{BodyReading, Context, max_arms, arm_in, coenter, unbinding, by_member, if_in, repeat_in, abort_in, return_in, plain_statement}
+use Rattle.script_model.specs.StatementReading.{BodyReading, Context, arm_in, coenter, unbinding, by_member, if_in, repeat_in, abort_in, return_in, plain_statement}
+use Rattle.limits.specs.Limits.{max_arms}
 use Rattle.script.specs.Contexts.{AnswersWith}
 
 -- where the fault of a part is that of the whole

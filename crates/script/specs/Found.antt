@@ -3,7 +3,7 @@ use Rattle.std.specs.Prelude.{ℕ, ◌≡◌, ◌<◌, ◌≤◌, List, length, 
 use Rattle.serde_json.specs.Data.{Data, Items}
 use Rattle.serde_json.specs.Events.{items_len}
 use Rattle.script_model.specs.Signatures.{handler_found, handler_number, handlers_before}
-use Rattle.script_model.specs.ScriptReading.{max_guardians}
+use Rattle.limits.specs.Limits.{max_guardians}
 
 -- the number and the document of a guardian's handler of this name
 abbrev pub found_in : Items → ℕ → List ℕ → Option (ℕ × Data)

@@ -75,7 +75,9 @@ fn value_in(
 }
 
 fn is_count(members: &Map<String, Json>, most: usize) -> bool
-    ensures { result ≡ (nat_le 1 (members_len (members_view members.now.entries)) && nat_le (members_len (members_view members.now.entries)) most) }
+    ensures { result
+        ≡ (nat_le 1 (members_len (members_view members.now.entries))
+        && nat_le (members_len (members_view members.now.entries)) most) }
 {
     is_within(members.len(), 1, most)
 }

@@ -18,6 +18,7 @@ use crate::scope::Scope;
 use crate::shapes::{kind_in, list, object, pair, three_members, two_members};
 use crate::signatures::{Handlers, MAX_HANDLERS, gives_in};
 use crate::statements::{Context, guardian, name};
+use limits::{MAX_GUARDIANS, MAX_OBJECTS};
 use script_model::{Checked, Client, FaultKind, Gives, Handler, ScriptFault, Sort};
 use serde_json::{Map, Value as Json};
 use sqlite_items::Items;
@@ -26,12 +27,6 @@ use values::{Content, Kind};
 
 /// How many parameters a handler has at most.
 const MAX_PARAMS: usize = 8;
-
-/// How many guardians a script has at most.
-const MAX_GUARDIANS: usize = 1024;
-
-/// How many objects a guardian has at most.
-const MAX_OBJECTS: usize = 1024;
 
 /// How many clients a script has at most.
 const MAX_CLIENTS: usize = 64;
@@ -153,7 +148,8 @@ impl<'a, 'j> Site<'a, 'j> {
         json: &'j Json,
         handlers: &mut Items<Handler>,
     ) -> Result<(), ScriptFault>
-        ensures { AnswersOnto handlers.old handlers.new (spec.handlers (site_of self.entry) (length handlers.old) (view json.now) (pointer place.now)) result }
+        ensures { AnswersOnto handlers.old handlers.new
+            (spec.handlers (site_of self.entry) (length handlers.old) (view json.now) (pointer place.now)) result }
     {
         let members = object(self.alloc, place, json)?;
         place.ask(self.alloc, are_named(members), FaultKind::Shape)?;
@@ -194,7 +190,9 @@ impl Guardians {
         number: u32,
         json: &'j Json,
     ) -> Result<(), ScriptFault>
-        ensures { AnswersBy (λ _. guardians_of self.new) (spec.add_guardian (documents_of documents.now) number (guardians_of self.old) (view json.now) (pointer place.now)) result }
+        ensures { AnswersBy (λ _. guardians_of self.new)
+            (spec.add_guardian (documents_of documents.now) number (guardians_of self.old) (view json.now)
+            (pointer place.now)) result }
     {
         let (contents, handlers) = two_members(alloc, place, json, "objects", "handlers")?;
         let contents = objects_in(alloc, &place.member("objects"), contents)?;
@@ -215,7 +213,8 @@ fn guardians_in<'j>(
     place: &Place<'_>,
     signatures: &Handlers<'j>,
 ) -> Result<Guardians, ScriptFault>
-    ensures { AnswersBy guardians_of (spec.guardians_in (documents_of signatures.now) (documents_of signatures.now) (pointer place.now)) result }
+    ensures { AnswersBy guardians_of
+        (spec.guardians_in (documents_of signatures.now) (documents_of signatures.now) (pointer place.now)) result }
 {
     let mut guardians = Guardians {
         objects: Items::new(alloc),

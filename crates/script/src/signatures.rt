@@ -3,7 +3,7 @@ ghost use Rattle.serde_json.specs.Data.{no_members};
 ghost use Rattle.serde_json.specs.View.{view, items_view, members_view};
 ghost use Rattle.script_model.specs.Signatures as spec;
 ghost use Rattle.serde_json.specs.Events.{members_len};
-ghost use Rattle.script_model.specs.ScriptReading.{max_guardians};
+ghost use Rattle.limits.specs.Limits.{max_guardians};
 ghost use Rattle.script.specs.Found.{found_in};
 
 use crate::operations::sort_of_kind;

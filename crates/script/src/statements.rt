@@ -13,7 +13,6 @@ ghost use Rattle.script.specs.Scoping.{variable_of};
 ghost use Rattle.script.specs.Contexts.{context_of, Extends, AnswersWith, call_of, arguments_of};
 
 use crate::expressions::{agree, condition, expr_of_kind, sort_of, value_expr};
-use crate::names::is_identifier;
 use crate::operations::{op_gives_nothing, operation, sort_of_kind};
 use crate::place::Place;
 use crate::scope::{Scope, Variable};
@@ -21,6 +20,7 @@ use crate::shapes::{
     array, has_only, int, list, member, object, pair, string, triple, two_members,
 };
 use crate::signatures::{Handlers, handler_gives, sort_given, takes_count, wanted_kind};
+use limits::MAX_ARMS;
 use script_model::{
     Arm, Binding, Expr, FaultKind, Gives, HandlerCall, IntExpr, ObjectCall, ScriptFault, Sort,
     Statement, TextExpr,
@@ -28,10 +28,7 @@ use script_model::{
 use serde_json::{Map, Value as Json};
 use sqlite_items::Items;
 use std::alloc::Global;
-use values::Content;
-
-/// How many arms a `coenter` has at most.
-const MAX_ARMS: usize = 64;
+use values::{Content, is_identifier};
 
 /// How often a `repeat` turns at most.
 const MAX_TURNS: i64 = 65536;
@@ -285,7 +282,8 @@ impl<'a, 'j> Context<'a, 'j> {
         scope: &Scope<'_>,
         json: &Json,
     ) -> Result<(HandlerCall, Option<Sort>), ScriptFault>
-        ensures { AnswersBy call_of (spec.call_sorted (context_of self.now).guardians scope.now (view json.now) (pointer place.now)) result }
+        ensures { AnswersBy call_of
+            (spec.call_sorted (context_of self.now).guardians scope.now (view json.now) (pointer place.now)) result }
     {
         let (number, name, arguments) = triple(self.alloc, place, json)?;
         let count = self.handlers.guardians();
@@ -341,7 +339,9 @@ impl<'a, 'j> Context<'a, 'j> {
         scope: &mut Scope<'j>,
         members: &'j Map<String, Json>,
     ) -> Result<Option<Items<Statement>>, ScriptFault>
-        ensures read { Answers (spec.signals (body_at levels) (context_of self.now) scope.old (members_view members.now.entries) (pointer place.now)) result }
+        ensures read { Answers
+            (spec.signals (body_at levels) (context_of self.now) scope.old (members_view members.now.entries)
+            (pointer place.now)) result }
         ensures kept { OnOk result (scope.new ≡ scope.old) }
     {
         match member(members, "signals") {
@@ -364,7 +364,9 @@ impl<'a, 'j> Context<'a, 'j> {
         members: &'j Map<String, Json>,
         json: &'j Json,
     ) -> Result<Statement, ScriptFault>
-        ensures read { AnswersWith scope.new (spec.op_statement (body_at levels) (context_of self.now) scope.old (members_view members.now.entries) (view json.now) (pointer place.now)) result }
+        ensures read { AnswersWith scope.new
+            (spec.op_statement (body_at levels) (context_of self.now) scope.old (members_view members.now.entries)
+            (view json.now) (pointer place.now)) result }
         ensures extends { OnOk result (Extends scope.old scope.new) }
     {
         self.ask_value(place, members, op_gives_nothing(json))?;
@@ -389,7 +391,9 @@ impl<'a, 'j> Context<'a, 'j> {
         members: &'j Map<String, Json>,
         json: &'j Json,
     ) -> Result<Statement, ScriptFault>
-        ensures read { AnswersWith scope.new (spec.call_statement (body_at levels) (context_of self.now) scope.old (members_view members.now.entries) (view json.now) (pointer place.now)) result }
+        ensures read { AnswersWith scope.new
+            (spec.call_statement (body_at levels) (context_of self.now) scope.old (members_view members.now.entries)
+            (view json.now) (pointer place.now)) result }
         ensures extends { OnOk result (Extends scope.old scope.new) }
     {
         self.ask_value(place, members, self.call_gives_nothing(json))?;
@@ -449,7 +453,9 @@ impl<'a, 'j> Context<'a, 'j> {
         members: &'j Map<String, Json>,
         json: &'j Json,
     ) -> Result<Statement, ScriptFault>
-        ensures read { Answers (spec.top_action (body_at levels) (context_of self.now) scope.old (members_view members.now.entries) (view json.now) (pointer place.now)) result }
+        ensures read { Answers
+            (spec.top_action (body_at levels) (context_of self.now) scope.old (members_view members.now.entries)
+            (view json.now) (pointer place.now)) result }
         ensures kept { OnOk result (scope.new ≡ scope.old) }
     {
         let inside = (&*place).member("topaction");
@@ -487,7 +493,9 @@ impl<'a, 'j> Context<'a, 'j> {
         scope: &mut Scope<'j>,
         json: &'j Json,
     ) -> Result<Statement, ScriptFault>
-        ensures read { Answers (spec.repeat_in (body_at levels) (context_of self.now) scope.old (view json.now) (pointer place.now)) result }
+        ensures read { Answers
+            (spec.repeat_in (body_at levels) (context_of self.now) scope.old (view json.now) (pointer place.now))
+            result }
         ensures kept { OnOk result (scope.new ≡ scope.old) }
     {
         let (number, body) = pair(self.alloc, place, json)?;
@@ -504,7 +512,9 @@ impl<'a, 'j> Context<'a, 'j> {
         members: &Map<String, Json>,
         names: &[&str],
     ) -> Result<(), ScriptFault>
-        ensures { Answers (ask (has_only (map (λ n. n.now) names.now) (members_view members.now.entries)) FaultKind.Shape (pointer place.now)) result }
+        ensures { Answers
+            (ask (has_only (map (λ n. n.now) names.now) (members_view members.now.entries)) FaultKind.Shape
+            (pointer place.now)) result }
     {
         place.ask(self.alloc, has_only(members, names), FaultKind::Shape)
     }
@@ -517,7 +527,9 @@ impl<'a, 'j> Context<'a, 'j> {
         scope: &mut Scope<'j>,
         json: &'j Json,
     ) -> Result<Statement, ScriptFault>
-        ensures read { AnswersWith scope.new (spec.statement (body_at levels) (context_of self.now) scope.old (view json.now) (pointer place.now)) result }
+        ensures read { AnswersWith scope.new
+            (spec.statement (body_at levels) (context_of self.now) scope.old (view json.now) (pointer place.now))
+            result }
         ensures extends { OnOk result (Extends scope.old scope.new) }
     {
         let members = object(self.alloc, place, json)?;
@@ -548,7 +560,9 @@ impl<'a, 'j> Context<'a, 'j> {
         scope: &mut Scope<'j>,
         members: &'j Map<String, Json>,
     ) -> Result<Statement, ScriptFault>
-        ensures read { AnswersWith scope.new (spec.plain_statement (body_at levels) (context_of self.now) scope.old (members_view members.now.entries) (pointer place.now)) result }
+        ensures read { AnswersWith scope.new
+            (spec.plain_statement (body_at levels) (context_of self.now) scope.old (members_view members.now.entries)
+            (pointer place.now)) result }
         ensures extends { OnOk result (Extends scope.old scope.new) }
     {
         if let Some(json) = member(members, "if") {
@@ -578,7 +592,9 @@ impl<'a, 'j> Context<'a, 'j> {
         scope: &mut Scope<'j>,
         documents: &'j [Json],
     ) -> Result<Items<Statement>, ScriptFault>
-        ensures read { Answers (spec.statements (body_at levels) (context_of self.now) 0 scope.old (items_view documents.now) (pointer place.now)) result }
+        ensures read { Answers
+            (spec.statements (body_at levels) (context_of self.now) 0 scope.old (items_view documents.now)
+            (pointer place.now)) result }
         ensures extends { OnOk result (Extends scope.old scope.new) }
     {
         let mut body = Items::new(self.alloc);

@@ -25,7 +25,8 @@ use Rattle.script_model.specs.Shapes.{the_array, the_int, the_list, the_object, 
 use Rattle.script_model.specs.Scopes.{Scope, agree, sort_of_kind}
 use Rattle.script_model.specs.ExpressionReading.{condition, sort_of, value_expr}
 use Rattle.script_model.specs.OperationReading.{Typed, op_gives_nothing, operation}
-use Rattle.script_model.specs.StatementReading.{Body, BodyReading, CallParts, Context, abort_in, arm_in, arm_of, ask_value, bind, body_at, call_gives_nothing, call_sorted, call_statement, coenter, if_in, in_top_action, is_null, is_top_arm, is_true, max_arms, may_return, may_return_nothing, op_statement, or_empty, repeat_in, return_in, returned, signals, signals_in, statement, statement_of, statements, top_action, turns_of}
+use Rattle.script_model.specs.StatementReading.{Body, BodyReading, CallParts, Context, abort_in, arm_in, arm_of, ask_value, bind, body_at, call_gives_nothing, call_sorted, call_statement, coenter, if_in, in_top_action, is_null, is_top_arm, is_true, may_return, may_return_nothing, op_statement, or_empty, repeat_in, return_in, returned, signals, signals_in, statement, statement_of, statements, top_action, turns_of}
+use Rattle.limits.specs.Limits.{max_arms}
 use Rattle.script_model.specs.Resolved.{Asked, Frames, Surroundings, all_hold, asked, asked_step, body_holds, call_is_resolved, expr_kind, handler_takes, is_resolved_body, object_has, op_is_resolved, result_is, returned_is_bound, returns_as, signals_hold}
 use Rattle.script_laws.proofs.Steps.{asked_ok, no_fault, same_ok, then_read}
 use Rattle.script_laws.proofs.Scopes.{all_known, frames_of, known_kind}

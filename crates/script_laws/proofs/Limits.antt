@@ -12,7 +12,8 @@ use Rattle.script_model.specs.declared.checked.Checked.{Checked}
 use Rattle.script_model.specs.ContentReading.{content}
 use Rattle.script_model.specs.Reading.{Read, ask, at, each, nth, reads, ◌>>=◌, ◌>>◌}
 use Rattle.script_model.specs.Shapes.{the_array, the_list, the_two}
-use Rattle.script_model.specs.ScriptReading.{Guardians, Site, add_guardian, clients, guardian, guardians_from, guardians_in, handlers, max_guardians, max_objects, objects, script}
+use Rattle.script_model.specs.ScriptReading.{Guardians, Site, add_guardian, clients, guardian, guardians_from, guardians_in, handlers, objects, script}
+use Rattle.limits.specs.Limits.{max_guardians, max_objects}
 use Rattle.script_model.specs.Reaching.{Fits}
 use Rattle.script_laws.specs.Laws.{HasFewObjects, IsWithinLimits}
 use Rattle.script_laws.proofs.Steps.{asked_ok, same_ok, then_read}

@@ -17,7 +17,8 @@ use Rattle.script_model.specs.Reading.{Read, ask, at, each, need, nth, reads, st
 use Rattle.script_model.specs.Shapes.{are_named, the_int, the_list, the_object, the_two, two_members}
 use Rattle.script_model.specs.Signatures.{handler_found, handler_number, handlers_before, handlers_in, max_handlers, place_among}
 use Rattle.script_model.specs.StatementReading.{Body, body_in, guardian_index, max_nesting, the_guardian}
-use Rattle.script_model.specs.ScriptReading.{Guardians, Site, add_guardian, client, clients, context_at, guardian, guardians_from, guardians_in, handlers, handlers_from, max_clients, max_guardians, objects, objects_of, script}
+use Rattle.script_model.specs.ScriptReading.{Guardians, Site, add_guardian, client, clients, context_at, guardian, guardians_from, guardians_in, handlers, handlers_from, max_clients, objects, objects_of, script}
+use Rattle.limits.specs.Limits.{max_guardians}
 use Rattle.script_model.specs.Reaching.{Fits}
 use Rattle.script_model.specs.Resolved.{IsResolved, is_resolved_at, is_resolved_client, is_resolved_handler, objects_at}
 use Rattle.script_laws.proofs.Steps.{needed_ok, same_ok, then_read}

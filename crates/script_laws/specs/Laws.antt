@@ -6,7 +6,7 @@ use Rattle.serde_json.specs.Data.{Data}
 use Rattle.script_model.specs.declared.checked.Checked.{Checked}
 use Rattle.script_model.specs.Reaching.{Fits}
 use Rattle.script_model.specs.Resolved.{IsResolved}
-use Rattle.script_model.specs.ScriptReading.{max_guardians, max_objects}
+use Rattle.limits.specs.Limits.{max_guardians, max_objects}
 
 abbrev pub ReadingResolves : Type 0
 ReadingResolves = (document : Data) (c : Checked) → Fits document c → IsResolved c

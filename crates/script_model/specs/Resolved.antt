@@ -172,7 +172,8 @@ operation_is_bound frames _ = true
 
 -- ---- statements
 
--- where a body runs: the objects of its guardian, the handlers of the script, what it may return, and whether it stands in a nested top action
+-- where a body runs: the objects of its guardian, the handlers of the script, what it may return, and whether it stands
+-- in a nested top action
 pub record Surroundings : Type 0 where
   pub objects : List Content
   pub handlers : List Handler

@@ -1,5 +1,6 @@
 -- How handlers, guardians, clients and whole scripts are read.
 use Rattle.std.specs.Prelude.{ℕ, suc, List, [], ◌∷◌, ◌++◌, length, Bool, true, false, not, ◌&&◌, ◌||◌, if◌then◌else◌, nat_lt, is_some, codes, Option, Some, None, unwrap_or, slice_get}
+use Rattle.limits.specs.Limits.{max_guardians, max_objects}
 use Rattle.serde_json.specs.Data.{Data, null, boolean, number, string, array, object, Items, no_items, item, Members, no_members, member}
 use Rattle.serde_json.specs.Find.{as_array, as_str, get_member}
 use Rattle.values.specs.Words.{same_bytes}
@@ -156,12 +157,6 @@ handlers site n d = do
   handlers_from site n ms
 
 -- ---- guardians
-
-abbrev pub max_guardians : ℕ
-max_guardians = 1024
-
-abbrev pub max_objects : ℕ
-max_objects = 1024
 
 abbrev pub objects : Data → Read (List Content)
 objects d = do

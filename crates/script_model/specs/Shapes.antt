@@ -44,7 +44,8 @@ are_named (member n d ms) = is_identifier n && are_named ms
 
 -- the members of these names, where an object has these and no other
 abbrev pub two_members : List ℕ → List ℕ → Members → Option (Data × Data)
-two_members m n ms = if has_only (m ∷ n ∷ []) ms then option_and_then (λ d. option_map (λ e. (d, e)) (get_member n ms)) (get_member m ms) else None
+two_members m n ms = if has_only (m ∷ n ∷ []) ms
+    then option_and_then (λ d. option_map (λ e. (d, e)) (get_member n ms)) (get_member m ms) else None
 
 abbrev pub three_members : List ℕ → List ℕ → List ℕ → Members → Option (Data × Data × Data)
 three_members l m n ms =

@@ -1,5 +1,6 @@
 -- How statements and bodies are read.
 use Rattle.std.specs.Prelude.{ℕ, zero, suc, pos, negsuc, ℤ, List, [], ◌∷◌, Bool, true, false, not, ◌&&◌, nat_le, is_some, is_none, codes, if◌then◌else◌, Option, Some, None, option_and_then}
+use Rattle.limits.specs.Limits.{max_arms}
 use Rattle.serde_json.specs.Events.{items_len}
 use Rattle.serde_json.specs.Data.{Data, null, boolean, Items, no_items, item, Members}
 use Rattle.serde_json.specs.Find.{get_member, as_array, as_str}
@@ -30,8 +31,8 @@ use Rattle.script_model.specs.Signatures.{handler_found, handler_number, wanted_
 abbrev pub Body : Type 0
 Body = List Statement
 
--- what holds throughout a body: the objects of the guardian where it runs, the documents of all guardians, what the body may return, and whether it stands
--- in a nested top action or in an arm that is one
+-- what holds throughout a body: the objects of the guardian where it runs, the documents of all guardians, what the
+-- body may return, and whether it stands in a nested top action or in an arm that is one
 pub record Context : Type 0 where
   pub objects : List Content
   pub guardians : Items
@@ -199,10 +200,6 @@ arm_in inner cx scope d = do
   body ← at (codes "body") (inner (if is_top then in_top_action cx else cx) scope parts.1)
   reads (arm_of is_top body)
 
--- how many arms a `coenter` has at most
-abbrev pub max_arms : ℕ
-max_arms = 64
-
 abbrev pub coenter : BodyReading → Context → Scope → Data → Read Statement
 coenter inner cx scope d = do
   ds ← the_list 1 max_arms d
@@ -289,7 +286,8 @@ unbinding scope read = do
   reads (s, scope)
 
 -- where there is such a member, the object has no others than these, and is read by it
-abbrev pub by_member : List (List ℕ) → Members → Option Data → (Data → Read (Statement × Scope)) → Read (Statement × Scope) → Read (Statement × Scope)
+abbrev pub by_member : List (List ℕ) → Members → Option Data → (Data → Read (Statement × Scope))
+    → Read (Statement × Scope) → Read (Statement × Scope)
 by_member names ms None read otherwise = otherwise
 by_member names ms (Some d) read otherwise = ask (has_only names ms) is.Shape >> read d
 

@@ -82,7 +82,14 @@ prepared = record {
 
 abbrev pub to_prepared : Reference
 to_prepared =
-    record { columns = 1 ∷ []; parent = codes "prepared"; parent_columns = codes "top" ∷ []; on_delete = Cascade; on_update = NoAction; is_deferred = false }
+    record {
+      columns = 1 ∷ [];
+      parent = codes "prepared";
+      parent_columns = codes "top" ∷ [];
+      on_delete = Cascade;
+      on_update = NoAction;
+      is_deferred = false;
+    }
 
 abbrev pub prepared_val : Table
 prepared_val = record {
@@ -106,7 +113,8 @@ no_schema = record { tables = []; indexes = []; views = [] }
 abbrev pub stable_schema : Schema
 stable_schema = record {
   tables =
-      meta ∷ (record base { tree = 2 }) ∷ (record prepared { tree = 3 }) ∷ (record prepared_val { tree = 4 }) ∷ (record decided { tree = 6 }) ∷ [];
+      meta ∷ (record base { tree = 2 }) ∷ (record prepared { tree = 3 }) ∷ (record prepared_val { tree = 4 })
+      ∷ (record decided { tree = 6 }) ∷ [];
   indexes = automatic meta 0 (1 ∷ []) 1 ∷ automatic (record prepared_val { tree = 4 }) 0 (1 ∷ 2 ∷ []) 5 ∷ [];
   views = [];
 }

@@ -25,7 +25,8 @@ pub(crate) fn prepare<A: Alter>(
 ) -> Result<(), StoreFault>
     ensures changes { Changes (held kept.old) (after_prepare top home values.entries (held kept.old)) (held kept.new) result }
     ensures carries { Stands (state A.Store conn.old) (held kept.old)
-        → Carries (state A.Store conn.old) (state A.Store conn.new) (held kept.old) (after_prepare top home values.entries (held kept.old)) result }
+        → Carries (state A.Store conn.old) (state A.Store conn.new) (held kept.old)
+        (after_prepare top home values.entries (held kept.old)) result }
 {
     let Ok(before) = kept.prepared.insert(top, Prepared { home, values }) else {
         return Err(StoreFault::Memory);

@@ -82,7 +82,8 @@ pub(crate) fn find_tables<A: Alter>(conn: &mut Connection<A>) -> Result<Found, S
 /// The rows that a query with no parameters answers.
 fn answer<A: Alter>(conn: &mut Connection<A>, query: &str) -> Result<Vec<Row>, StoreFault>
     ensures { IsPlain (understood stable_schema query.now) → Quiets (state A.Store conn.old)
-        → Reads (state A.Store conn.old) (state A.Store conn.new) (λ _ rows. Shown query.now [] (state A.Store conn.old) (state A.Store conn.new) rows.items) result }
+        → Reads (state A.Store conn.old) (state A.Store conn.new)
+        (λ _ rows. Shown query.now [] (state A.Store conn.old) (state A.Store conn.new) rows.items) result }
 {
     match conn.query_all(query, &[]) {
         Ok(rows) => Ok(rows),
@@ -133,7 +134,8 @@ fn read_base<A: Alter>(
     conn: &mut Connection<A>,
     alloc: Global,
 ) -> Result<BTreeMap<u32, Content>, StoreFault>
-    ensures { Quiets (state A.Store conn.old) → Reads (state A.Store conn.old) (state A.Store conn.new) (λ db base. HoldsBase db (contents_in base)) result }
+    ensures { Quiets (state A.Store conn.old)
+        → Reads (state A.Store conn.old) (state A.Store conn.new) (λ db base. HoldsBase db (contents_in base)) result }
 {
     let rows = answer(conn, "SELECT obj, val FROM base")?;
     contents_of(alloc, &rows)
@@ -144,7 +146,8 @@ fn read_prepared<A: Alter>(
     alloc: Global,
 ) -> Result<BTreeMap<u32, Prepared>, StoreFault>
     ensures { Quiets (state A.Store conn.old)
-        → Reads (state A.Store conn.old) (state A.Store conn.new) (λ db records. HoldsPrepared db (from_entries (records_of records.entries))) result }
+        → Reads (state A.Store conn.old) (state A.Store conn.new)
+        (λ db records. HoldsPrepared db (from_entries (records_of records.entries))) result }
 {
     let homes = answer(conn, "SELECT top, home FROM prepared")?;
     let values = answer(conn, "SELECT top, obj, val FROM prepared_val")?;
@@ -155,7 +158,9 @@ fn read_decided<A: Alter>(
     conn: &mut Connection<A>,
     alloc: Global,
 ) -> Result<BTreeSet<u32>, StoreFault>
-    ensures { Quiets (state A.Store conn.old) → Reads (state A.Store conn.old) (state A.Store conn.new) (λ db decided. HoldsDecided db (set.from_list decided.keys)) result }
+    ensures { Quiets (state A.Store conn.old)
+        → Reads (state A.Store conn.old) (state A.Store conn.new)
+        (λ db decided. HoldsDecided db (set.from_list decided.keys)) result }
 {
     let rows = answer(conn, "SELECT top FROM decided")?;
     numbers_of(alloc, &rows)
@@ -166,7 +171,8 @@ pub(crate) fn read_content<A: Alter>(
     conn: &mut Connection<A>,
     alloc: Global,
 ) -> Result<Kept, StoreFault>
-    ensures { Quiets (state A.Store conn.old) → Reads (state A.Store conn.old) (state A.Store conn.new) (λ db kept. HoldsStored db (held kept)) result }
+    ensures { Quiets (state A.Store conn.old)
+        → Reads (state A.Store conn.old) (state A.Store conn.new) (λ db kept. HoldsStored db (held kept)) result }
 {
     let base = read_base(conn, alloc)?;
     let prepared = read_prepared(conn, alloc)?;
@@ -184,7 +190,8 @@ pub(crate) fn read_content<A: Alter>(
 fn check_rising<A: Alter>(conn: &mut Connection<A>, query: &str) -> Result<(), StoreFault>
     ensures { IsPlain (understood stable_schema query.now) → Quiets (state A.Store conn.old)
         → Reads (state A.Store conn.old) (state A.Store conn.new)
-        (λ _ _. (rows : List Shape) × Shown query.now [] (state A.Store conn.old) (state A.Store conn.new) rows × IsShaped Table rows) result }
+        (λ _ _. (rows : List Shape) × Shown query.now [] (state A.Store conn.old) (state A.Store conn.new) rows
+        × IsShaped Table rows) result }
 {
     let rows = answer(conn, query)?;
     if !are_rising(&rows) {

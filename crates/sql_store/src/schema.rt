@@ -88,7 +88,9 @@ fn is_decided(table: &Table) -> bool
 
 /// Whether the table has these two columns, of which the second is NOT NULL.
 fn has_pair(table: &Table, first: &[u8], first_kind: Kind, second: &[u8], second_kind: Kind) -> bool
-    ensures { IsTrue result → table.now.columns ≡ tables.column first.now first_kind false ∷ tables.column second.now second_kind true ∷ [] }
+    ensures { IsTrue result
+        → table.now.columns
+        ≡ tables.column first.now first_kind false ∷ tables.column second.now second_kind true ∷ [] }
 {
     let [one, other] = table.columns.as_slice() else {
         return false;
@@ -205,7 +207,16 @@ fn has_parent_column(reference: &Reference, name: &[u8]) -> bool
 }
 
 fn is_index(index: &Index, name: &[u8], tree: u32, table: u32, columns: &[usize]) -> bool
-    ensures { IsTrue result → index.now ≡ record { name = name.now; tree = tree; table = table; columns = columns.now; order = plain; is_unique = true } }
+    ensures { IsTrue result
+        → index.now
+        ≡ record {
+          name = name.now;
+          tree = tree;
+          table = table;
+          columns = columns.now;
+          order = plain;
+          is_unique = true;
+        } }
 {
     index.name.as_slice() == name
         && index.tree == tree

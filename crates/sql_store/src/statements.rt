@@ -81,7 +81,8 @@ pub(crate) fn create<A: Alter>(conn: &mut Connection<A>) -> Result<(), Error>
 
 /// Adds a number to the decided.
 pub(crate) fn decide<A: Alter>(conn: &mut Connection<A>, top: u32) -> Result<(), Error>
-    ensures { (c : Stored) → Stands (state A.Store conn.old) c → Carries (state A.Store conn.old) (state A.Store conn.new) c (after_decide top c) result }
+    ensures { (c : Stored) → Stands (state A.Store conn.old) c
+        → Carries (state A.Store conn.old) (state A.Store conn.new) c (after_decide top c) result }
 {
     if !conn.is_autocommit() {
         return Err(BUSY);
@@ -103,7 +104,8 @@ fn stored_count(count: u64) -> ValueRef<'static>
 /// Writes the count.
 pub(crate) fn count<A: Alter>(conn: &mut Connection<A>, count: u64) -> Result<(), Error>
     requires { count ≤ greatest_count }
-    ensures { (c : Stored) → Stands (state A.Store conn.old) c → Carries (state A.Store conn.old) (state A.Store conn.new) c (with_count count c) result }
+    ensures { (c : Stored) → Stands (state A.Store conn.old) c
+        → Carries (state A.Store conn.old) (state A.Store conn.new) c (with_count count c) result }
 {
     if !conn.is_autocommit() {
         return Err(BUSY);
@@ -119,7 +121,8 @@ pub(crate) fn count<A: Alter>(conn: &mut Connection<A>, count: u64) -> Result<()
 
 /// Deletes a record. The values go with it.
 pub(crate) fn discard<A: Alter>(conn: &mut Connection<A>, top: u32) -> Result<(), Error>
-    ensures { (c : Stored) → Stands (state A.Store conn.old) c → Carries (state A.Store conn.old) (state A.Store conn.new) c (after_discard top c) result }
+    ensures { (c : Stored) → Stands (state A.Store conn.old) c
+        → Carries (state A.Store conn.old) (state A.Store conn.new) c (after_discard top c) result }
 {
     if !conn.is_autocommit() {
         return Err(BUSY);
@@ -138,7 +141,8 @@ pub(crate) fn prepare<A: Alter>(
     record: &Prepared,
 ) -> Result<(), Error>
     ensures { (c : Stored) → Stands (state A.Store conn.old) c
-        → Carries (state A.Store conn.old) (state A.Store conn.new) c (after_prepare top record.now.home record.now.values.entries c) result }
+        → Carries (state A.Store conn.old) (state A.Store conn.new) c
+        (after_prepare top record.now.home record.now.values.entries c) result }
 {
     if !conn.is_autocommit() {
         return Err(BUSY);
@@ -161,7 +165,8 @@ pub(crate) fn install<A: Alter>(
     values: &BTreeMap<u32, Content>,
 ) -> Result<(), Error>
     ensures { (c : Stored) → Stands (state A.Store conn.old) c
-        → Carries (state A.Store conn.old) (state A.Store conn.new) c (with_base (laid values.now.entries c.base) (after_discard top c)) result }
+        → Carries (state A.Store conn.old) (state A.Store conn.new) c
+        (with_base (laid values.now.entries c.base) (after_discard top c)) result }
 {
     if !conn.is_autocommit() {
         return Err(BUSY);
@@ -204,7 +209,8 @@ pub(crate) fn save<A: Alter>(
 fn make_store<A: Alter>(tx: &mut Transaction<'_, A>) -> Result<(), Error>
     ensures same { tx.new.conn.ghost_name ≡ tx.old.conn.ghost_name }
     ensures survives { Survives (state A.Store tx.old.conn.now) (state A.Store tx.new.conn.now) (λ _. ⊥) }
-    ensures runs { HasCleanDisk (state A.Store tx.new.conn.now) → RunsInside (state A.Store tx.old.conn.now) (state A.Store tx.new.conn.now) result }
+    ensures runs { HasCleanDisk (state A.Store tx.new.conn.now)
+        → RunsInside (state A.Store tx.old.conn.now) (state A.Store tx.new.conn.now) result }
     ensures made { HasCleanDisk (state A.Store tx.new.conn.now) → OnOk result ((state A.Store tx.new.conn.now).now.schema ≡ stable_schema
         → IsEmptyStore (state A.Store tx.new.conn.now).now.trees) }
 {
@@ -218,7 +224,8 @@ fn make_store<A: Alter>(tx: &mut Transaction<'_, A>) -> Result<(), Error>
 fn make_tables<A: Alter>(tx: &mut Transaction<'_, A>) -> Result<(), Error>
     ensures same { tx.new.conn.ghost_name ≡ tx.old.conn.ghost_name }
     ensures survives { Survives (state A.Store tx.old.conn.now) (state A.Store tx.new.conn.now) (λ _. ⊥) }
-    ensures runs { HasCleanDisk (state A.Store tx.new.conn.now) → RunsInside (state A.Store tx.old.conn.now) (state A.Store tx.new.conn.now) result }
+    ensures runs { HasCleanDisk (state A.Store tx.new.conn.now)
+        → RunsInside (state A.Store tx.old.conn.now) (state A.Store tx.new.conn.now) result }
 {
     for text in TABLES {
         run(tx, text)?;
@@ -231,7 +238,8 @@ fn make_tables<A: Alter>(tx: &mut Transaction<'_, A>) -> Result<(), Error>
 fn run<A: Alter>(tx: &mut Transaction<'_, A>, text: &str) -> Result<(), Error>
     ensures same { tx.new.conn.ghost_name ≡ tx.old.conn.ghost_name }
     ensures survives { Survives (state A.Store tx.old.conn.now) (state A.Store tx.new.conn.now) (λ _. ⊥) }
-    ensures runs { HasCleanDisk (state A.Store tx.new.conn.now) → RunsInside (state A.Store tx.old.conn.now) (state A.Store tx.new.conn.now) result }
+    ensures runs { HasCleanDisk (state A.Store tx.new.conn.now)
+        → RunsInside (state A.Store tx.old.conn.now) (state A.Store tx.new.conn.now) result }
 {
     match tx.execute(text, &[]) {
         Ok(_) => Ok(()),
@@ -273,7 +281,8 @@ fn find_zero<A: Alter>(tx: &mut Transaction<'_, A>) -> Result<(), Error>
     ensures same { tx.new.conn.ghost_name ≡ tx.old.conn.ghost_name }
     ensures survives { Survives (state A.Store tx.old.conn.now) (state A.Store tx.new.conn.now) (λ _. ⊥) }
     ensures looks { HasCleanDisk (state A.Store tx.new.conn.now) → IsTrue (state A.Store tx.old.conn.now).in_transaction
-        → Looks (state A.Store tx.old.conn.now) (state A.Store tx.new.conn.now) (λ _. HoldsCount (state A.Store tx.new.conn.now).now.trees 0) result }
+        → Looks (state A.Store tx.old.conn.now) (state A.Store tx.new.conn.now)
+        (λ _. HoldsCount (state A.Store tx.new.conn.now).now.trees 0) result }
 {
     match rows_of(tx, "SELECT v FROM meta WHERE k = 'count'") {
         Ok(rows) if is_zero(&rows) => Ok(()),
@@ -287,7 +296,8 @@ fn find_rowids<A: Alter>(tx: &mut Transaction<'_, A>) -> Result<(), Error>
     ensures same { tx.new.conn.ghost_name ≡ tx.old.conn.ghost_name }
     ensures survives { Survives (state A.Store tx.old.conn.now) (state A.Store tx.new.conn.now) (λ _. ⊥) }
     ensures looks { HasCleanDisk (state A.Store tx.new.conn.now) → IsTrue (state A.Store tx.old.conn.now).in_transaction
-        → Looks (state A.Store tx.old.conn.now) (state A.Store tx.new.conn.now) (λ _. HasRowids ((state A.Store tx.new.conn.now).now.trees 0)) result }
+        → Looks (state A.Store tx.old.conn.now) (state A.Store tx.new.conn.now)
+        (λ _. HasRowids ((state A.Store tx.new.conn.now).now.trees 0)) result }
 {
     match rows_of(tx, "SELECT rowid FROM meta ORDER BY rowid") {
         Ok(rows) if are_rising(&rows) => Ok(()),
@@ -301,7 +311,8 @@ fn check_empty<A: Alter>(tx: &mut Transaction<'_, A>) -> Result<(), Error>
     ensures same { tx.new.conn.ghost_name ≡ tx.old.conn.ghost_name }
     ensures survives { Survives (state A.Store tx.old.conn.now) (state A.Store tx.new.conn.now) (λ _. ⊥) }
     ensures looks { HasCleanDisk (state A.Store tx.new.conn.now) → IsTrue (state A.Store tx.old.conn.now).in_transaction
-        → Looks (state A.Store tx.old.conn.now) (state A.Store tx.new.conn.now) (λ _. IsEmptyStore (state A.Store tx.new.conn.now).now.trees) result }
+        → Looks (state A.Store tx.old.conn.now) (state A.Store tx.new.conn.now)
+        (λ _. IsEmptyStore (state A.Store tx.new.conn.now).now.trees) result }
 {
     find_none(tx, "SELECT obj, val FROM base")?;
     find_none(tx, "SELECT top, home FROM prepared")?;
@@ -320,7 +331,8 @@ fn put_record<A: Alter>(
     ensures same { tx.new.conn.ghost_name ≡ tx.old.conn.ghost_name }
     ensures survives { Survives (state A.Store tx.old.conn.now) (state A.Store tx.new.conn.now) (λ _. ⊥) }
     ensures steps { (c : Stored) → Sees (state A.Store tx.old.conn.now) c
-        → Steps (state A.Store tx.old.conn.now) (state A.Store tx.new.conn.now) (after_prepare top record.now.home record.now.values.entries c) result }
+        → Steps (state A.Store tx.old.conn.now) (state A.Store tx.new.conn.now)
+        (after_prepare top record.now.home record.now.values.entries c) result }
 {
     match put_home(tx, top, record.home) {
         Ok(()) => put_values(tx, alloc, top, &record.values),
@@ -404,7 +416,8 @@ fn put_value<A: Alter>(
     ensures survives { Survives (state A.Store tx.old.conn.now) (state A.Store tx.new.conn.now) (λ _. ⊥) }
     ensures steps { (home : ℕ) (before : List (ℕ × Spec)) (c : Stored) → is_sorted nat_cmp (before ++ (object, content.now) ∷ []) ≡ true
         → Sees (state A.Store tx.old.conn.now) (after_prepare top home before c)
-        → Steps (state A.Store tx.old.conn.now) (state A.Store tx.new.conn.now) (after_prepare top home (before ++ (object, content.now) ∷ []) c) result }
+        → Steps (state A.Store tx.old.conn.now) (state A.Store tx.new.conn.now)
+        (after_prepare top home (before ++ (object, content.now) ∷ []) c) result }
 {
     let Ok(text) = content.text(alloc) else {
         return Err(WANT);
@@ -427,7 +440,8 @@ fn install_record<A: Alter>(
     ensures same { tx.new.conn.ghost_name ≡ tx.old.conn.ghost_name }
     ensures survives { Survives (state A.Store tx.old.conn.now) (state A.Store tx.new.conn.now) (λ _. ⊥) }
     ensures steps { (c : Stored) → Sees (state A.Store tx.old.conn.now) c
-        → Steps (state A.Store tx.old.conn.now) (state A.Store tx.new.conn.now) (with_base (laid values.now.entries c.base) (after_discard top c)) result }
+        → Steps (state A.Store tx.old.conn.now) (state A.Store tx.new.conn.now)
+        (with_base (laid values.now.entries c.base) (after_discard top c)) result }
 {
     match delete_record(tx, top) {
         Ok(()) => put_base(tx, alloc, values),

@@ -61,7 +61,9 @@ impl<A: Alter + Drop> SqlStable<A> {
         conn: Connection<A>,
     ) -> Result<SqlStable<A>, (StoreFault, Connection<A>)>
         ensures failures { IfOk result (λ s. view.failures A.Store s ≡ 0) }
-        ensures rests { IfOk result (λ s. Rests (view.content A.Store) (view.is_honest A.Store) (view.is_up A.Store) (view.may_leave A.Store) s) }
+        ensures rests { IfOk result
+            (λ s. Rests (view.content A.Store) (view.is_honest A.Store) (view.is_up A.Store) (view.may_leave A.Store)
+            s) }
     {
         let mut conn = conn;
         one_spelling();

@@ -34,12 +34,12 @@ module _ {T : Type 0} where
   IsRefused (Err Failed) = Unit {0}
   IsRefused (Err NotOurs) = Unit {0}
 
--- while the store is up, a stop leaves its content
+-- while the store is up, a stop may leave no content but its own
 abbrev pub Rests : {S : Type 0} → (S → Stored) → (S → Type 0) → (S → Type 0) → (S → Stored → Type 0) → S → Type 0
 Rests content is_honest is_up may_leave s = is_honest s → is_up s → (c : Stored) → may_leave s c → c ≡ content s
 
 -- The call made of the content what is stated, or nothing, and counted a failure only with this excuse.
--- A stop leaves the content before it or after it; and while the store is up, its content.
+-- A stop may leave no content but that before the call or after it; and while the store is up, none but its own.
 pub record Makes {S T : Type 0} (content : S → Stored) (failures : S → ℕ) (is_honest is_up : S → Type 0)
     (may_leave : S → Stored → Type 0) (old new : S) (excuse : Type 0) (after : Stored) (result : Result T StoreFault) : Type 0 where
   -- the content is the one after at `Ok`, and else that before
@@ -48,9 +48,9 @@ pub record Makes {S T : Type 0} (content : S → Stored) (failures : S → ℕ) 
   pub cause : Counts excuse (failures old) (failures new) result
   -- a device that is honest now was honest before
   pub honest : is_honest new → is_honest old
-  -- a stop within the call leaves the content before it or after it
+  -- a stop within the call may leave no content but that before it or after it
   pub stop : is_honest new → is_up old → (c : Stored) → may_leave new c → (c ≡ content old) ⊎ (c ≡ after)
-  -- a stop after the call leaves the content
+  -- a stop after the call may leave no content but that of the store
   pub rest : Rests content is_honest is_up may_leave new
   -- `Ok` comes only of a store that was up, and stays so
   pub stands : OnOk result (is_honest new → is_up old × is_up new)

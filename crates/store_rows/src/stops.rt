@@ -66,14 +66,19 @@ impl Contents {
     }
 }
 
-/// Writes the content after the change, and what is wrong where a stop leaves another than this or the one before.
+/// Writes the contents before and after the change, and what is wrong where a stop leaves another than these.
 pub(crate) fn write_stops(
     alloc: Global,
     trial: &Trial<'_>,
     answer: &mut String,
 ) -> Result<(), RowFault> {
     let contents = trial.contents(alloc)?;
-    answer.push_str(contents.after.as_str())?;
+    write!(
+        answer,
+        "{} then {}",
+        contents.before.as_str(),
+        contents.after.as_str()
+    )?;
     stop_each(alloc, trial, &contents, answer)
 }
 

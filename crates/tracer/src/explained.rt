@@ -65,7 +65,8 @@ fn seen_by_place(
     endings: &Endings,
     action: &Name,
 ) -> Result<BTreeMap<Place, Performed>, AllocError>
-    ensures { AreEndings endings.now history.now → IfOk result (λ seen. AreByPlace seen.entries (visible_by_place action.now history.now) history.now) }
+    ensures { AreEndings endings.now history.now
+        → IfOk result (λ seen. AreByPlace seen.entries (visible_by_place action.now history.now) history.now) }
 {
     let mut seen = BTreeMap::new(alloc);
     let mut events = history.events();
@@ -105,7 +106,10 @@ fn seen_operation(
     action: &Name,
 ) -> Result<Option<Performed>, AllocError>
     ensures seen { (past : List Event) → AreEndings endings.now past
-        → IfOk result (λ seen. listed seen ≡ filter (λ o. is_visible o.action action.now past) (performed_by number event.now.step event.now.answer)) }
+        → IfOk result
+        (λ seen. listed seen
+        ≡ filter (λ o. is_visible o.action action.now past)
+        (performed_by number event.now.step event.now.answer)) }
     ensures numbered { IfOk result (λ seen. IfSome seen (λ performed. performed.number ≡ number)) }
 {
     let (Step::Op(actor, object, operation), Answer::Granted(reply)) = (&event.step, &event.answer)

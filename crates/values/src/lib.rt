@@ -19,4 +19,4 @@ pub use content::{
 pub use record::{Field, MAX_FIELDS, Record};
 pub use value::{Kind, Value};
 pub use variant::{MAX_TAGS, Tag, Variant};
-pub use words::{Identifier, MAX_TEXT, Text, ValueFault};
+pub use words::{Identifier, MAX_TEXT, Text, ValueFault, is_identifier};

@@ -1,8 +1,7 @@
 use Rattle.std.proofs.Common.{subst, sym}
 use Rattle.argus_engine.specs.declared.engine.Ended.TheVariants.{Stopped}
 use Rattle.argus_engine.specs.Judging.{IsJudged}
-use Rattle.argus_engine.proofs.Judgements.{front_said}
-use Rattle.argus_engine.proofs.Saving.{on_err}
+use Rattle.argus_engine.proofs.Judgements.{front_said, on_err}
 use Rattle.argus_engine.proofs.checking.read_script.Goals as goal
 
 pub returns-in_err-finish-in-Err-clause-begun : goal.returns-in_err-finish-in-Err-clause-begun

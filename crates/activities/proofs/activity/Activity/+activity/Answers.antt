@@ -6,7 +6,7 @@ use Rattle.script_model.specs.declared.statement.Statement.{Statement}
 use Rattle.script_model.specs.Resolved.{IsResolved, asked}
 use Rattle.run_model.specs.Actions.{is_ended}
 use Rattle.run_model.specs.Runs.{World}
-use Rattle.activities.specs.Bodies.{AreArms, IsBody, IsPerformed, IsStatement, SignalsHold, WhereEnded, body_of, sizes}
+use Rattle.activities.specs.Bodies.{AreArms, IsBody, IsOutcome, IsStatement, SignalsHold, WhereEnded, body_of, sizes}
 use Rattle.activities.specs.Continuing.{EndsAll, GoesOn, HaveBegun}
 use Rattle.activities.specs.Ends.{named_by}
 use Rattle.activities.proofs.Following.{called_began, copied_sizes, handed_sizes, next_rest, next_within, nothing_bound, ok_so, on_ok, popped, popped_length, same_body}
@@ -286,7 +286,7 @@ statement-run_signals-requires t c =
     let frames = sizes c.args.frames.now in
     let binding = c.in-Op.call.binding in
     let asks = subst (λ (s : Statement). IsStatement script frames s) c.in-Op.is c.requires.statement in
-    let same = subst (λ p. IsPerformed p binding frames (sizes c.perform.new.frames)) c.in-Signalled.is c.in_ok-perform-in-Op.ensures.frames in
+    let same = subst (λ p. IsOutcome p binding frames (sizes c.perform.new.frames)) c.in-Signalled.is c.in_ok-perform-in-Op.ensures.frames in
     let signals = subst (λ f. SignalsHold script f c.in-Op.signals) (sym same)
     (signals_hold_there script frames binding c.in-Op.signals (op_signals script frames c.in-Op.call c.in-Op.signals asks)) in
     (omega arith, (c.requires.script, (signals, c.perform.ensures.goes_on.is_run)))
@@ -299,7 +299,7 @@ statement-returns-in-Signalled-clause-frames t c =
     let new = sizes c.run_signals.new.frames in
     let r = c.run_signals.result in
     let asks = subst (λ (s : Statement). IsStatement script frames s) c.in-Op.is c.requires.statement in
-    let same = subst (λ p. IsPerformed p binding frames (sizes c.perform.new.frames)) c.in-Signalled.is c.in_ok-perform-in-Op.ensures.frames in
+    let same = subst (λ p. IsOutcome p binding frames (sizes c.perform.new.frames)) c.in-Signalled.is c.in_ok-perform-in-Op.ensures.frames in
     let after = ap (λ (s : Statement). (asked s).after frames) c.in-Op.is ∙ op_after script frames c.in-Op.call c.in-Op.signals in
     subst (λ f. IfOk r (λ flow. WhereEnded flow (new ≡ f))) (sym after)
     (signalled_after script frames binding c.in-Op.signals new r (op_signals script frames c.in-Op.call c.in-Op.signals asks)

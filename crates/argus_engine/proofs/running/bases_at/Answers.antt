@@ -1,7 +1,0 @@
-use Rattle.argus_engine.proofs.Reporting.{one_more_base}
-use Rattle.argus_engine.proofs.running.bases_at.Goals as goal
-
-pub loop-index-preserved : goal.loop-index-preserved
-loop-index-preserved c =
-    one_more_base c.args.world.now c.args.guardian c.loop-index.index _ _ c.in_ok-base.base c.loop-index.invariant c.in_ok-insert.ensures.entries
-    c.in_ok-base.ensures

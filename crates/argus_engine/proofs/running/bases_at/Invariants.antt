@@ -1,7 +1,0 @@
-use Rattle.std.proofs.Common.{◌≡◌}
-use Rattle.argus_engine.specs.Running.{first_bases}
-use Rattle.argus_engine.proofs.running.bases_at.Given as goal
-
--- those of the first objects
-abbrev pub invariant-loop-index : goal.invariant-loop-index
-invariant-loop-index l = l.found.entries ≡ first_bases l.world l.guardian l.index

@@ -1,0 +1,5 @@
+pub mod Opening
+pub mod Reporting
+pub mod Saving
+pub mod Limits
+pub mod Runs

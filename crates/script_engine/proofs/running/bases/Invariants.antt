@@ -1,0 +1,7 @@
+use Rattle.std.proofs.Common.{◌≡◌, map}
+use Rattle.script_engine.specs.Running.{bases_of_first}
+use Rattle.script_engine.proofs.running.bases.Given as goal
+
+-- those of the first guardians
+abbrev pub invariant-loop-index : goal.invariant-loop-index
+invariant-loop-index l = map (λ base. base.entries) l.found.items ≡ bases_of_first l.world l.index

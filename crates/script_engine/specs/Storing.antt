@@ -1,0 +1,104 @@
+-- What is said of a script that is run over stores, one for each guardian: what they hold takes the place of the script's contents, and at
+-- the end the bases are saved.
+use Rattle.std.specs.Prelude.{ℕ, suc, ◌≡◌, ◌⊎◌, ◌≤◌, ◌<◌, List, [], ◌∷◌, ◌++◌, length, take, get_or, unwrap_or, Option, Some, None, IsSome, MatchOption, map, codes}
+use Rattle.std.specs.Ordering.{nat_cmp}
+use Rattle.std.specs.FinMap.{FinMap, empty, get}
+use Rattle.values.specs.declared.content.Content.{Content}
+use Rattle.stable_store.specs.Stored.{Stored}
+use Rattle.sqlite_trees.specs.declared.store.Store.{Ghosts}
+use Rattle.sql_store.specs.Calls.{after_save}
+use Rattle.sql_store.specs.Views.{View, content, found}
+use Rattle.script_model.specs.declared.checked.Checked.{Checked}
+use Rattle.run_model.specs.Replay.{Setup}
+use Rattle.run_model.specs.Transcripts.{line_feed}
+use Rattle.activities.specs.declared.client.ClientEnd.{ClientEnd}
+use Rattle.argus_engine.specs.declared.engine.Ended.{Ended}
+use Rattle.argus_engine.specs.declared.engine.Ended.TheVariants.{Done, Stopped}
+use Rattle.argus_engine.specs.declared.engine.Fault.{Fault}
+use Rattle.argus_engine.specs.declared.engine.Fault.TheVariants.{Memory, Store}
+use Rattle.argus_engine.specs.Serving.{Begins}
+use Rattle.script_engine.specs.Running.{WasRun, run_text}
+
+module _ {A : Type 0} (g : Ghosts A) where
+  -- what was found at each store
+  abbrev pub all_found : List (View g) → List (Option Stored)
+  all_found stores = map (found g) stores
+
+  -- what each holds
+  abbrev pub all_held : List (View g) → List Stored
+  all_held stores = map (content g) stores
+
+-- the contents that a store has of objects, and of the others their own; the first object has number n
+abbrev pub laid_over : FinMap nat_cmp Content → ℕ → List Content → List Content
+laid_over base n [] = []
+laid_over base n (own ∷ more) = unwrap_or (get base n) own ∷ laid_over base (suc n) more
+
+-- there are no objects but those from number 1 to this one
+abbrev pub HasOnly : FinMap nat_cmp Content → ℕ → Type 0
+HasOnly base last = (n : ℕ) → IsSome (get base n) → (1 ≤ n) × (n ≤ last)
+
+-- A store that can open a guardian with so many objects: nothing is prepared there, and it has no others.
+pub record IsOpening (stored : Stored) (objects : ℕ) : Type 0 where
+  pub none_prepared : stored.prepared ≡ empty
+  pub within : HasOnly stored.base objects
+
+-- so can what was found at a guardian
+abbrev pub CanOpen : Option Stored → ℕ → Type 0
+CanOpen None objects = ⊥
+CanOpen (Some stored) objects = IsOpening stored objects
+
+-- it opens a guardian with these objects, and these are then their contents
+abbrev pub Opens : Option Stored → List Content → List Content → Type 0
+Opens None own contents = ⊥
+Opens (Some stored) own contents = IsOpening stored (length own) × (contents ≡ laid_over stored.base 1 own)
+
+-- so does what was found at each guardian
+pub record AreOpenedBy (found : List (Option Stored)) (own : List (List Content)) (setup : Setup) : Type 0 where
+  pub count : length setup ≡ length own
+  pub each : (n : ℕ) → n < length own → Opens (get_or found n None) (get_or own n []) (get_or setup n [])
+
+-- the setup that they open, if they open one
+abbrev pub IsOpened : List (Option Stored) → List (List Content) → Option Setup → Type 0
+IsOpened found own opened = MatchOption opened ((setup : Setup) → AreOpenedBy found own setup → ⊥) (AreOpenedBy found own)
+
+-- the stores once these bases were saved, each at its guardian; where there are fewer bases, the stores behind them as they were
+abbrev pub saved : List (List (ℕ × Content)) → List Stored → List Stored
+saved [] stores = stores
+saved (base ∷ bases) [] = []
+saved (base ∷ bases) (s ∷ stores) = after_save base s ∷ saved bases stores
+
+abbrev pub refusal_line : List ℕ
+refusal_line = codes "error store" ++ line_feed ∷ []
+
+-- What is to be said, and the bases that are to be saved: how the script was run in a world that the stores opened; or that they open none.
+abbrev pub TellsStoredRun : Checked → List (Option Stored) → Ended → List (List (ℕ × Content)) → List ℕ → Type 0
+TellsStoredRun script found Done bases text =
+    (setup : Setup) × AreOpenedBy found script.guardians setup
+    × (ends : List ClientEnd) × WasRun script setup ends bases × (text ≡ run_text ends bases)
+TellsStoredRun script found Stopped bases text =
+    ((setup : Setup) → AreOpenedBy found script.guardians setup → ⊥) × (text ≡ refusal_line) × (bases ≡ [])
+
+-- that was said, and the bases were saved
+abbrev pub IsStoredRun : Checked → List (Option Stored) → List Stored → List Stored → Ended → List ℕ → Type 0
+IsStoredRun script found old new ended text =
+    (bases : List (List (ℕ × Content))) × TellsStoredRun script found ended bases text × (new ≡ saved bases old)
+
+-- the stores are left as by a run of which less was said
+abbrev pub LeavesStoredRun : Checked → List (Option Stored) → List Stored → List Stored → Type 0
+LeavesStoredRun script found old new = (ended : Ended) × (text : List ℕ) × IsStoredRun script found old new ended text
+
+-- nothing was said, or a beginning of what is to be said
+abbrev pub BeginsStoredRun : Checked → List (Option Stored) → List ℕ → Type 0
+BeginsStoredRun script found written =
+    (written ≡ []) ⊎ ((ended : Ended) × (bases : List (List (ℕ × Content))) × (text : List ℕ)
+    × TellsStoredRun script found ended bases text × Begins written text)
+
+-- the stores are as they were, or the first so many bases were saved
+abbrev pub ArePartlySaved : Checked → List (Option Stored) → List Stored → List Stored → Type 0
+ArePartlySaved script found old new =
+    (new ≡ old) ⊎ ((bases : List (List (ℕ × Content))) × (text : List ℕ) × TellsStoredRun script found Done bases text
+    × (count : ℕ) × (new ≡ saved (take count bases) old))
+
+-- a fault of a store, or want of memory
+abbrev pub IsOfStore : Fault → Type 0
+IsOfStore fault = (fault ≡ Memory) ⊎ (fault ≡ Store)

@@ -1,0 +1,9 @@
+//! The engine of scripts: it runs a checked script in a world of its objects, or of what stores hold of them, and writes how its clients
+//! ended and which bases they left.
+#![tactic(auto)]
+
+mod running;
+mod storing;
+
+pub use running::{run_script, setup_of};
+pub use storing::{can_open, run_stored};

@@ -1,0 +1,165 @@
+//! Running a script over stores, in which its objects are kept.
+
+ghost use Rattle.std.specs.Prelude.{◌≡◌, ◌≢◌, ◌≤◌, ◌<◌, ◌⊎◌, ℕ, IfErr, IfOk, List, MatchBool, MatchOption, OnErr, OnOk, Some, get_or, length, map, take};
+ghost use Rattle.std.specs.FinMap.{get};
+ghost use Rattle.stable_store.specs.Held.{contents_in, held};
+ghost use Rattle.sql_store.specs.Views as view;
+ghost use Rattle.script_laws.specs.Laws.{HasFewObjects};
+ghost use Rattle.values.specs.declared.content.Content.{Content};
+ghost use Rattle.std.specs.Io.KnownBytes.{Keeps};
+ghost use Rattle.argus_engine.specs.declared.engine.Fault.TheVariants.{Input, Output};
+ghost use Rattle.script_engine.specs.Running.{IsFit};
+ghost use Rattle.script_engine.specs.Storing.{ArePartlySaved, BeginsStoredRun, CanOpen, HasOnly, IsOfStore, IsOpened, IsOpening, IsStoredRun, LeavesStoredRun, Opens, all_found, all_held, saved};
+ghost use Rattle.argus_engine.specs.Serving.{Writes};
+
+use crate::running::{add_guardian, run_clients, run_text};
+use argus_engine::{Ended, Fault, finish};
+use run_model::Setup;
+use script::Checked;
+use sql_store::SqlStable;
+use sqlite::Alter;
+use stable_store::Kept;
+use std::alloc::{AllocError, Global};
+use std::collections::BTreeMap;
+use std::io::Write;
+use values::Content;
+
+/// Runs a script as `run_script` does, in a new world of the contents that the stores have, one store for each guardian in order; an object
+/// of which a store has none has the script's. Then it saves the base of each object, a transaction for each store in order, and writes the
+/// lines.
+///
+/// Where a store holds no content, or a top action is prepared there, or it has an object that the script lacks, `error store` is written,
+/// `Stopped` comes, and the stores are as they were. After a fault the first stores may have been saved, and the others are as they were.
+/// Where the writer failed all that was to be saved is, and a beginning of what was to be written was written; after another fault nothing
+/// was.
+pub fn run_stored<A: Alter + Drop, W: Write>(
+    alloc: Global,
+    script: &Checked,
+    stores: &mut [SqlStable<A>],
+    writer: &mut W,
+) -> Result<Ended, Fault>
+    requires script { IsFit script.now }
+    requires count { length stores.old ≡ length script.now.guardians }
+    ensures ok { IfOk result (λ ended. Writes (W.contents writer.old) (W.contents writer.new)
+        (IsStoredRun script.now (all_found A.Store stores.old) (all_held A.Store stores.old) (all_held A.Store stores.new) ended)) }
+    // also after a fault
+    ensures begun { Writes (W.contents writer.old) (W.contents writer.new) (BeginsStoredRun script.now (all_found A.Store stores.old)) }
+    ensures err { OnErr result (ArePartlySaved script.now (all_found A.Store stores.old)
+        (all_held A.Store stores.old) (all_held A.Store stores.new)) }
+    // so no line is written before all is saved
+    ensures silent { IfErr result (λ fault. fault ≢ Output → Keeps (W.contents writer.old) (W.contents writer.new)) }
+    ensures untold { IfErr result (λ fault. fault ≡ Output → LeavesStoredRun script.now (all_found A.Store stores.old)
+        (all_held A.Store stores.old) (all_held A.Store stores.new)) }
+    ensures fault { IfErr result (λ fault. fault ≢ Input) }
+{
+    let Some(setup) = open_setup(alloc, script, stores)? else {
+        finish(writer, "error store\n")?;
+        return Ok(Ended::Stopped);
+    };
+    let outcome = run_clients(alloc, setup, script)?;
+    let text = run_text(alloc, outcome.ends.as_slice(), outcome.bases.as_slice())?;
+    save_all(alloc, stores, outcome.bases.as_slice())?;
+    finish(writer, text.as_str())?;
+    Ok(Ended::Done)
+}
+
+/// The setup that the stores open; none where one of them opens no guardian.
+fn open_setup<A: Alter + Drop>(
+    alloc: Global,
+    script: &Checked,
+    stores: &[SqlStable<A>],
+) -> Result<Option<Setup>, AllocError>
+    requires script { IsFit script.now }
+    requires count { length stores.now ≡ length script.now.guardians }
+    ensures { IfOk result (IsOpened (all_found A.Store stores.now) script.now.guardians) }
+{
+    let mut setup = Setup::new(alloc);
+    for (index, own) in script.guardians.as_slice().iter().enumerate() {
+        let Some(kept) = stores[index].kept() else {
+            return Ok(None);
+        };
+        let Some(contents) = contents_over(alloc, kept, own.as_slice())? else {
+            return Ok(None);
+        };
+        add_guardian(&mut setup, contents)?;
+    }
+    Ok(Some(setup))
+}
+
+/// Whether a store can open a guardian that has so many objects: it holds a content, no top action is prepared there, and it has no object
+/// but those from number 1 to the last.
+pub fn can_open<A: Alter + Drop>(store: &SqlStable<A>, objects: usize) -> bool
+    ensures { MatchBool result (CanOpen (view.found A.Store store.now) objects) (CanOpen (view.found A.Store store.now) objects → ⊥) }
+{
+    match store.kept() {
+        Some(kept) => is_opening(kept, objects),
+        None => false,
+    }
+}
+
+/// Whether nothing is prepared, and there are no objects but those from number 1 to this one.
+fn is_opening(kept: &Kept, last: usize) -> bool
+    ensures { MatchBool result (IsOpening (held kept.now) last) (IsOpening (held kept.now) last → ⊥) }
+{
+    kept.prepared.is_empty() && is_within(&kept.base, last)
+}
+
+/// The contents of a guardian's objects, where a store can open it.
+fn contents_over(
+    alloc: Global,
+    kept: &Kept,
+    own: &[Content],
+) -> Result<Option<Vec<Content>>, AllocError>
+    requires { HasFewObjects own.now }
+    ensures { IfOk result (λ found. MatchOption found
+        ((contents : List Content) → Opens (Some (held kept.now)) own.now contents → ⊥)
+        (λ contents. Opens (Some (held kept.now)) own.now contents.items)) }
+{
+    if !is_opening(kept, own.len()) {
+        return Ok(None);
+    }
+    let mut contents = Vec::with_capacity(alloc, own.len())?;
+    for (index, content) in own.iter().enumerate() {
+        let number = index as u32 + 1;
+        contents.push(kept.base.get(&number).unwrap_or(content).copy()?)?;
+    }
+    Ok(Some(contents))
+}
+
+/// Whether there are only objects from number 1 to this one.
+fn is_within(base: &BTreeMap<u32, Content>, last: usize) -> bool
+    ensures { MatchBool result (HasOnly (contents_in base.now) last) (HasOnly (contents_in base.now) last → ⊥) }
+{
+    for (&object, _) in base {
+        if object == 0 || object as usize > last {
+            return false;
+        }
+    }
+    true
+}
+
+/// Saves the bases, each at its store.
+fn save_all<A: Alter + Drop>(
+    alloc: Global,
+    stores: &mut [SqlStable<A>],
+    bases: &[BTreeMap<u32, Content>],
+) -> Result<(), Fault>
+    requires { length stores.old ≡ length bases.now }
+    ensures ok { OnOk result (all_held A.Store stores.new
+        ≡ saved (map (λ base. base.entries) bases.now) (all_held A.Store stores.old)) }
+    ensures err { OnErr result ((count : ℕ) × (all_held A.Store stores.new
+        ≡ saved (take count (map (λ base. base.entries) bases.now)) (all_held A.Store stores.old))) }
+    ensures fault { IfErr result IsOfStore }
+{
+    for (index, store) in stores.iter_mut().enumerate() {
+        store.save(alloc, base_at(bases, index))?;
+    }
+    Ok(())
+}
+
+fn base_at(bases: &[BTreeMap<u32, Content>], index: usize) -> &BTreeMap<u32, Content>
+    requires { index < length bases.now }
+    ensures { result.now ≡ get_or bases.now index result.now }
+{
+    &bases[index]
+}
