@@ -13,7 +13,7 @@ use Rattle.run_model.specs.declared.answer.Refusal.TheVariants as why
 use Rattle.run_model.specs.declared.history.Event.{Event}
 use Rattle.run_model.specs.declared.step.Step.TheVariants.{Tell}
 use Rattle.run_model.specs.Answers.{answer_of, refused_or, told_count}
-use Rattle.run_model.specs.Refusals.{checks, down, first_refusal, no_action, no_guardian, not_so}
+use Rattle.run_model.specs.Refusals.{checks, down, facts_of, first_refusal, no_action, no_guardian, not_so}
 use Rattle.run_model.specs.Replay.{Setup}
 use Rattle.run_model.specs.Runs.{World, world_after}
 use Rattle.run_model.specs.Telling.{told_since_crash}
@@ -59,7 +59,7 @@ told g a n = record { step = Tell g a; answer = Done n }
 -- who was told is not told again
 refused_then : (setup : Setup) (g : ℕ) (a : Name) (n : ℕ) (past : List Event) → refusal setup g a (told g a n ∷ past) ≡ true
 refused_then setup g a n past =
-    chain_then (no_guardian setup g).1 (no_action a past).1 (down g past).1 (not_so a past).1
+    chain_then (no_guardian setup g).1 (no_action a (facts_of setup past)).1 (down g (facts_of setup past)).1 (not_so a (facts_of setup past)).1
     (told_since_crash g a past || ((g == g) && same_name a a))
     (or_right (told_since_crash g a past) _ (and_from _ _ (eqb_self g) (same_name_self a)))
 
@@ -67,7 +67,7 @@ refused_then setup g a n past =
 refused_still : (setup : Setup) (g h : ℕ) (a : Name) (n : ℕ) (past : List Event) → refusal setup g a past ≡ true
     → refusal setup g a (told h a n ∷ past) ≡ true
 refused_still setup g h a n past =
-    chain_still (no_guardian setup g).1 (no_action a past).1 (down g past).1 (not_so a past).1 (told_since_crash g a past)
+    chain_still (no_guardian setup g).1 (no_action a (facts_of setup past)).1 (down g (facts_of setup past)).1 (not_so a (facts_of setup past)).1 (told_since_crash g a past)
     ((h == g) && same_name a a)
 
 -- after a telling, the same one would be refused

@@ -18,7 +18,7 @@ use Rattle.run_model.specs.declared.history.Event.{Event}
 use Rattle.run_model.specs.declared.step.Step.TheVariants.{Close, Decide, Prepare}
 use Rattle.run_model.specs.Actions.{step_closes}
 use Rattle.run_model.specs.Answers.{answer_of, outcome, refused_or}
-use Rattle.run_model.specs.Refusals.{Check, checks, down, ended, first_refusal, gone, no_action, no_guardian, no_participant, not_closed, not_top, voted_already}
+use Rattle.run_model.specs.Refusals.{Check, Facts, checks, down, ended, facts_of, first_refusal, gone, no_action, no_guardian, no_participant, not_closed, not_top, voted_already}
 use Rattle.run_model.specs.Replay.{Setup}
 use Rattle.run_model.specs.Runs.{IsRun, World, history_after, world_after}
 use Rattle.run_model.specs.Visibility.{has_prepared}
@@ -47,10 +47,12 @@ unfolding answer_of
 asked_twice setup g t past v =
     go (first_refusal (checks setup (Prepare g t) past))
     (last_applies
-    (no_guardian setup g ∷ no_action t past ∷ ended t past ∷ gone t past ∷ down g past ∷ no_participant g t past ∷ not_top t
-    ∷ not_closed t past ∷ [])
-    (voted_already g t past) v)
+    (no_guardian setup g ∷ no_action t f ∷ ended t f ∷ gone t f ∷ down g f ∷ no_participant g t f ∷ not_top t ∷ not_closed t f ∷ [])
+    (voted_already g t f) v)
   where
+    f : Facts
+    f = facts_of setup past
+
     go : (o : Option Refusal) → is_some o ≡ true → is_yes (refused_or o (outcome setup (Prepare g t) past)) ≡ false
     go (Some r) h = refl
     go None h = absurd (false≢true h)

@@ -187,24 +187,11 @@ pub fn ancestors(alloc: Global, action: &Name) -> Result<Names, AllocError>
     Ok(Names::from_vec(names))
 }
 
-/// The next number of a top action. All numbers above 4294967295 count as 4294967296.
-pub fn next_top(history: &History) -> u64
-    ensures { result ≡ min (next_number [] history.now) (suc max_number) }
-{
-    next_number(history, &[])
-}
-
-/// The next number of a child of the parent. All numbers above 4294967295 count as 4294967296.
-pub fn next_child(history: &History, parent: &Name) -> u64
-    ensures { result ≡ min (next_number parent.now history.now) (suc max_number) }
-{
-    next_number(history, parent.components())
-}
-
 /// One more than a number can be.
 const PAST_NUMBERS: u64 = 1 << 32;
 
-fn next_number(history: &History, parent: &[u32]) -> u64
+/// The next number of a child of the path; of a top action, where it is empty. All numbers above 4294967295 count as 4294967296.
+pub fn next_number(history: &History, parent: &[u32]) -> u64
     ensures { result ≡ min (next_number parent.now history.now) (suc max_number) }
 {
     let mut count = 1;

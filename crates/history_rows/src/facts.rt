@@ -15,7 +15,7 @@ pub(crate) fn answer(
     match words.word()? {
         "fares" => write_fares(past, reading::name(alloc, words.rest())?, answer),
         "at_home" => write_at_home(past, reading::name(alloc, words.rest())?, answer),
-        "next_top" => Ok(write!(answer, "{}", actions::next_top(past))?),
+        "next_top" => Ok(write!(answer, "{}", actions::next_number(past, &[]))?),
         "crashes" => write_crashes(past, reading::guardian(&mut words)?, answer),
         "ancestors" => write_ancestors(alloc, reading::name(alloc, words.rest())?, answer),
         _ => Err(RowFault::Unread),
@@ -62,7 +62,7 @@ fn write_word(word: &str, answer: &mut String) -> Result<(), AllocError> {
 fn write_at_home(past: &History, action: Name, answer: &mut String) -> Result<(), RowFault> {
     let home = actions::home_of(past, &action);
     let incarnation = actions::incarnation_of(past, &action);
-    let next = actions::next_child(past, &action);
+    let next = actions::next_number(past, action.components());
     write!(answer, "{home} {incarnation} {next}")?;
     Ok(())
 }

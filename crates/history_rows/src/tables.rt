@@ -1,6 +1,6 @@
 //! The tables of a run. A plain world makes the steps of the history again, so that what happens in it is known to be a run.
 ghost use Rattle.std.specs.Prelude.{◌≡◌, [], ◌∷◌, IfOk, OnOk};
-ghost use Rattle.run_model.specs.Runs.{IsRun, is_accepted};
+ghost use Rattle.run_model.specs.Runs.{IsRun};
 ghost use Rattle.plain_tables.specs.Tables.{AreChanges, IsTables};
 
 use crate::reading::At;
@@ -9,7 +9,7 @@ use plain_tables::{Changes, Performed, Tables};
 use plain_world::PlainWorld;
 use rows::{RowFault, Words, again};
 use run_model::text::{append_reply, append_request};
-use run_model::{Answer, Event, History, Setup, Step};
+use run_model::{Event, History, Setup, Step};
 use std::alloc::{AllocError, Global};
 use std::marker::Model;
 
@@ -67,7 +67,7 @@ fn follow(
     ensures past { OnOk result (history.new ≡ world.new.past) }
 {
     let answer = again!(world.step(step))?;
-    if !is_accepted(&answer) {
+    if !answer.is_accepted() {
         return Err(RowFault::Unread);
     }
     // so that what happened is known to be a run
@@ -105,13 +105,6 @@ fn record(history: &mut History, event: Event) -> Result<(), AllocError>
         history.push(failed.value).map_err(AllocError::from)?;
     }
     Ok(())
-}
-
-/// Whether the step of this answer happened.
-fn is_accepted(answer: &Answer) -> bool
-    ensures { result ≡ is_accepted answer.now }
-{
-    !matches!(answer, Answer::Waits(_) | Answer::Refused(_))
 }
 
 impl Run {

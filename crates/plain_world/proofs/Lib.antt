@@ -1,4 +1,3 @@
-pub mod ArmNames
 pub mod Counting
 pub mod Places
 pub mod Kept

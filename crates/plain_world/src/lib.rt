@@ -3,9 +3,9 @@
 //! Its history is a run. What the definitions' recursion could not find in time stands in tables, which grow with the history.
 #![tactic(auto)]
 
+mod facts;
 mod objects;
-mod outcomes;
-mod refusals;
+mod results;
 mod view;
 mod world;
 

@@ -10,7 +10,6 @@ ghost use Rattle.run_model.specs.Versions.{base_of};
 ghost use Rattle.plain_world.specs.Kept.{those_on, any_on, all_known, holders, unheld_on, with_holder};
 ghost use Rattle.plain_world.specs.Plain.{IsPlain};
 
-use crate::refusals::opening;
 use crate::view::View;
 use action_names::{Name, Names};
 use atomic_types::AtomicType;
@@ -19,6 +18,7 @@ use history_facts::telling::holder_of;
 use plain_tables::Performed;
 use run_model::{Content, History, ObjectId, Op};
 use std::alloc::{AllocError, Global};
+use step_answers::opening;
 
 /// The names for which an operation of the action on the object waits.
 pub fn blockers(

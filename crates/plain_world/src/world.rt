@@ -5,8 +5,8 @@ ghost use Rattle.run_model.specs.Answers.{answer_of};
 ghost use Rattle.run_model.specs.Runs.{World, IsRun, is_accepted, world_after};
 ghost use Rattle.plain_world.specs.Plain.{IsPlain};
 
+use crate::objects;
 use crate::view::View;
-use crate::{objects, outcomes, refusals};
 use plain_tables::Tables;
 use run_model::{Answer, Content, Event, History, ObjectId, Setup, Step};
 use std::alloc::{AllocError, Global};
@@ -54,13 +54,10 @@ impl PlainWorld {
         ensures err { OnErr result (self.new ≡ self.old) }
     {
         let answer = answer_to(&self.view(), step)?;
-        if !is_accepted(&answer) {
+        if !answer.is_accepted() {
             return Ok(answer);
         }
-        let event = Event {
-            step: step.copy()?,
-            answer: answer.copy()?,
-        };
+        let event = Event::of(step, &answer)?;
         let changes = self.tables.changes(&self.setup, &self.history, &event)?;
         self.history.push(event)?;
         self.tables.install(&self.setup, &self.history, changes);
@@ -106,21 +103,11 @@ impl PlainWorld {
     }
 }
 
-/// The answer of a step: its first refusal, or what comes of it.
+/// The answer of a step.
 #[tactic(auto, unfolding(run_model::specs::Answers::answer_of))]
 fn answer_to(view: &View<'_>, step: &Step) -> Result<Answer, AllocError>
     requires { IsPlain view.now.setup.now view.now.tables.now view.now.history.now }
     ensures { IfOk result (λ answer. answer ≡ answer_of view.now.setup.now step.now view.now.history.now) }
 {
-    match refusals::of_step(view, step)? {
-        Some(why) => Ok(Answer::Refused(why)),
-        None => outcomes::of_step(view, step),
-    }
-}
-
-/// Whether the step of this answer happened.
-fn is_accepted(answer: &Answer) -> bool
-    ensures { result ≡ is_accepted answer.now }
-{
-    !matches!(answer, Answer::Waits(_) | Answer::Refused(_))
+    step_answers::answer_of(view, step)
 }

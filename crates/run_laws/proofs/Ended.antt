@@ -61,7 +61,7 @@ closed_begun setup (e ∷ past) c r h =
     (elim (or_cases _ _ h) [ inl k ↦ (closes_facts setup e past c r k).was_begun | inr k ↦ closed_begun setup past c r.2 k ])
 
 -- a step that commits c meets it unended
-commits_unended : (setup : Setup) (e : Event) (past : List Event) (c : Name) → IsRun setup (e ∷ past) → step_commits e.step c ≡ true
+pub commits_unended : (setup : Setup) (e : Event) (past : List Event) (c : Name) → IsRun setup (e ∷ past) → step_commits e.step c ≡ true
     → is_ended c past ≡ false
 commits_unended setup e past c r h = elim (commits_facts setup e past c r h) [
   | inl l ↦ not_ended c past (closes_facts setup e past c r l.0).undone

@@ -143,7 +143,7 @@ undone_facts setup o e past a k {mid = mid} {end = end} p w v r n s u = elim (or
     ])
 
 -- after its own event an operation is kept as long as nothing undoes it
-kept_next : (o : Performed) (e : Event) (past : List Event) → o.number ≤ length past
+pub kept_next : (o : Performed) (e : Event) (past : List Event) → o.number ≤ length past
     → is_kept o (e ∷ past) ≡ (is_kept o past && not (undoes e past o))
 kept_next o e past l = ap (λ t. t || (is_kept o past && not (undoes e past o))) (ne_eqb o.number (suc (length past)) (λ q. omega arith))
 

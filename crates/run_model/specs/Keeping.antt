@@ -13,7 +13,7 @@ use Rattle.run_model.specs.declared.answer.Answer.TheVariants.{Granted}
 use Rattle.run_model.specs.declared.history.Event.{Event}
 use Rattle.run_model.specs.Actions.{is_aborted, step_crashes}
 use Rattle.run_model.specs.Visibility.{votes_yes}
-use Rattle.run_model.specs.Telling.{tells, holder_of}
+use Rattle.run_model.specs.Telling.{tells, told_committed, holder_by}
 
 -- a granted operation: the number of its event, its action, object, operation and reply
 pub record Performed : Type 0 where
@@ -44,11 +44,16 @@ prepared_after n g t (e ∷ past) = prepared_after n g t past || (nat_lt n (suc 
 abbrev pub outlives_crash : Performed → List Event → Bool
 outlives_crash o past = not (is_read o.operation) && prepared_after o.number o.object.guardian (top_of o.action) past
 
+-- an event after past that tells the operation's guardian that just these actions aborted undoes it: one of them is an ancestor of
+-- its action, or the guardian crashes
+abbrev pub undoes_by : (Name → Bool) → Step → List Event → Performed → Bool
+undoes_by aborts step past o =
+    list_any aborts (ancestors o.action)
+    || (step_crashes step o.object.guardian && not (outlives_crash o past))
+
 -- the event that follows past undoes the operation: its guardian is told that an ancestor of its action aborted, or crashes
 abbrev pub undoes : Event → List Event → Performed → Bool
-undoes e past o =
-    list_any (λ c. tells e past o.object.guardian c && is_aborted c past) (ancestors o.action)
-    || (step_crashes e.step o.object.guardian && not (outlives_crash o past))
+undoes e past o = undoes_by (λ c. tells e past o.object.guardian c && is_aborted c past) e.step past o
 
 -- a granted operation is kept from its own event on, until one undoes it
 abbrev pub is_kept : Performed → List Event → Bool
@@ -59,9 +64,21 @@ is_kept o (e ∷ past) = (o.number == suc (length past)) || (is_kept o past && n
 abbrev pub kept_on : ObjectId → List Event → List Performed
 kept_on x past = filter (λ o. same_object o.object x && is_kept o past) (performed past)
 
--- for whom an operation of a on x waits: the holders of the kept operations on x that conflict with it, as far as they are no
--- ancestors of a, each once, rising by name
-abbrev pub blockers : Name → ObjectId → op.Op → List Event → List Name
-blockers a x wanted past =
+-- What all that is asked of an object rests on: of which actions its guardian was told that they committed, and the operations kept
+-- on it, the newest first.
+pub record Standing : Type 0 where
+  pub told : Name → Bool
+  pub kept : List Performed
+
+abbrev pub standing_of : ObjectId → List Event → Standing
+standing_of x past = record { told = λ c. told_committed x.guardian c past; kept = kept_on x past }
+
+-- for whom an operation of a waits: the holders of the kept operations that conflict with it, as far as they are no ancestors of a,
+-- each once, rising by name
+abbrev pub blockers_by : Standing → Name → op.Op → List Name
+blockers_by s a wanted =
     rising_names (filter (λ c. not (is_ancestor c a))
-    (filter_map (λ o. holder_of x.guardian o.action past) (filter (λ o. conflicts o.operation wanted) (kept_on x past))))
+    (filter_map (λ o. holder_by s.told o.action) (filter (λ o. conflicts o.operation wanted) s.kept)))
+
+abbrev pub blockers : Name → ObjectId → op.Op → List Event → List Name
+blockers a x wanted past = blockers_by (standing_of x past) a wanted

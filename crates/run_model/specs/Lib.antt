@@ -28,9 +28,10 @@ pub mod Transcripts
 pub mod Places
 pub mod Explaining
 pub mod Versions
+pub mod StableContent
+pub mod LocalReadings
 pub mod LocalHistories
 pub mod Gathering
-pub mod StableContent
 pub mod Reading
 pub mod Spaces
 pub mod Writing

@@ -22,14 +22,16 @@ up_to n = reverse (down_from n)
 abbrev pub guardians_of : Setup → List ℕ
 guardians_of setup = up_to (length setup)
 
--- whose lists the step carries to g: a call those of the caller's home, a commit those of the action's home to its parent's home
--- where that is up, a prepare those of the top action's home
+-- Whose lists the step carries to g, where these are the homes of actions, and which guardians are down: a call those of the caller's
+-- home, a commit those of the action's home to its parent's home where that is up, a prepare those of the top action's home.
+abbrev pub carried_by : (Name → ℕ) → (ℕ → Bool) → Step → ℕ → Option ℕ
+carried_by home down (Call a h) g = if h == g then Some (home a) else None
+carried_by home down (Commit a) g = if (home (parent_of a) == g) && not (down g) then Some (home a) else None
+carried_by home down (Prepare h t) g = if h == g then Some (home t) else None
+carried_by home down _ g = None
+
 abbrev pub carried_from : Step → ℕ → List Event → Option ℕ
-carried_from (Call a h) g past = if h == g then Some (home_of a past) else None
-carried_from (Commit a) g past =
-    if (home_of (parent_of a) past == g) && not (is_down g past) then Some (home_of a past) else None
-carried_from (Prepare h t) g past = if h == g then Some (home_of t past) else None
-carried_from _ g past = None
+carried_from step g past = carried_by (λ a. home_of a past) (λ h. is_down h past) step g
 
 abbrev pub from_sender : Option ℕ → (ℕ → Bool) → Bool
 from_sender None known = false
@@ -58,8 +60,14 @@ abbrev pub is_below : Option ℕ → ℕ → Bool
 is_below None n = false
 is_below (Some m) n = nat_lt m n
 
--- a is known as an orphan at g: g knows that an ancestor aborted, or of a crash since an incarnation on which a depends
+-- An action is known as an orphan by these aborts and counts of crashes: an ancestor is among the aborts, or a guardian crashed since
+-- an incarnation on which the action depends.
+abbrev pub is_orphan_by : Setup → (Name → Bool) → (ℕ → ℕ) → (ℕ → Option ℕ) → Name → Bool
+is_orphan_by setup aborts counts depends a =
+    list_any aborts (ancestors a)
+    || list_any (λ h. is_below (depends h) (counts h)) (guardians_of setup)
+
+-- a is known as an orphan at g
 abbrev pub is_known_orphan : Setup → Name → ℕ → List Event → Bool
 is_known_orphan setup a g past =
-    list_any (λ c. knows_abort g c past) (ancestors a)
-    || list_any (λ h. is_below (dependency a h past) (known_crashes g h past)) (guardians_of setup)
+    is_orphan_by setup (λ c. knows_abort g c past) (λ h. known_crashes g h past) (λ h. dependency a h past) a

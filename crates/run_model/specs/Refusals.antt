@@ -48,38 +48,76 @@ has_sub kinds = list_any (λ k. is_sub k) kinds
 abbrev pub no_guardian : Setup → ℕ → Check
 no_guardian setup g = (why.NoGuardian, (g == 0) || nat_lt (length setup) g)
 
-abbrev pub no_action : Name → List Event → Check
-no_action a past = (why.NoAction, not (is_begun a past))
+-- What refusals ask of a history: of an action, whether it was begun, has ended, is ended or closed, has closed, is busy, is gone, is a
+-- known orphan at its home, and whether all its participants are ready; its home; the next number under it; of a guardian, whether
+-- it is down; of both, whether the guardian takes part in the action, has voted on it, and was told of it since its last crash.
+pub record Facts : Type 0 where
+  pub begun : Name → Bool
+  pub ended : Name → Bool
+  pub done : Name → Bool
+  pub closed : Name → Bool
+  pub busy : Name → Bool
+  pub gone : Name → Bool
+  pub orphan : Name → Bool
+  pub ready : Name → Bool
+  pub home : Name → ℕ
+  pub next : Name → ℕ
+  pub down : ℕ → Bool
+  pub takes_part : ℕ → Name → Bool
+  pub voted : ℕ → Name → Bool
+  pub told : ℕ → Name → Bool
+
+-- the facts of a flat history
+abbrev pub facts_of : Setup → List Event → Facts
+facts_of setup past = record {
+  begun = λ a. is_begun a past;
+  ended = λ a. is_ended a past;
+  done = λ a. is_done a past;
+  closed = λ a. is_closed a past;
+  busy = λ a. is_busy a past;
+  gone = λ a. is_gone a past;
+  orphan = λ a. is_known_orphan setup a (home_of a past) past;
+  ready = λ t. all_prepared setup t past;
+  home = λ a. home_of a past;
+  next = λ a. next_number a past;
+  down = λ g. is_down g past;
+  takes_part = λ g t. not (is_none (dependency t g past));
+  voted = λ g t. has_voted g t past;
+  told = λ g a. told_since_crash g a past;
+}
+
+abbrev pub no_action : Name → Facts → Check
+no_action a f = (why.NoAction, not (f.begun a))
 
 abbrev pub no_object : Setup → ObjectId → Check
 no_object setup x = (why.NoObject, (x.number == 0) || nat_lt (length (objects_at setup x.guardian)) x.number)
 
-abbrev pub ended : Name → List Event → Check
-ended a past = (why.Ended, is_ended a past)
+abbrev pub ended : Name → Facts → Check
+ended a f = (why.Ended, f.ended a)
 
-abbrev pub ended_or_closed : Name → List Event → Check
-ended_or_closed a past = (why.Ended, is_done a past)
+abbrev pub ended_or_closed : Name → Facts → Check
+ended_or_closed a f = (why.Ended, f.done a)
 
-abbrev pub busy : Name → List Event → Check
-busy a past = (why.Busy, is_busy a past)
+abbrev pub busy : Name → Facts → Check
+busy a f = (why.Busy, f.busy a)
 
-abbrev pub gone : Name → List Event → Check
-gone a past = (why.Gone, is_gone a past)
+abbrev pub gone : Name → Facts → Check
+gone a f = (why.Gone, f.gone a)
 
-abbrev pub down : ℕ → List Event → Check
-down g past = (why.Down, is_down g past)
+abbrev pub down : ℕ → Facts → Check
+down g f = (why.Down, f.down g)
 
-abbrev pub elsewhere : Name → ObjectId → List Event → Check
-elsewhere a x past = (why.Elsewhere, not (x.guardian == home_of a past))
+abbrev pub elsewhere : Name → ObjectId → Facts → Check
+elsewhere a x f = (why.Elsewhere, not (x.guardian == f.home a))
 
-abbrev pub no_participant : ℕ → Name → List Event → Check
-no_participant g t past = (why.Elsewhere, is_none (dependency t g past))
+abbrev pub no_participant : ℕ → Name → Facts → Check
+no_participant g t f = (why.Elsewhere, not (f.takes_part g t))
 
-abbrev pub known_orphan : Setup → Name → List Event → Check
-known_orphan setup a past = (why.Orphan, is_known_orphan setup a (home_of a past) past)
+abbrev pub known_orphan : Name → Facts → Check
+known_orphan a f = (why.Orphan, f.orphan a)
 
-abbrev pub not_so : Name → List Event → Check
-not_so a past = (why.NotSo, not (is_ended a past))
+abbrev pub not_so : Name → Facts → Check
+not_so a f = (why.NotSo, not (f.ended a))
 
 -- a has no room for children
 abbrev pub too_deep : Bool → Name → Check
@@ -91,61 +129,66 @@ not_top a = (why.NotTop, not (is_top a))
 abbrev pub not_sub : Name → Check
 not_sub a = (why.NotSub, is_top a)
 
-abbrev pub not_closed : Name → List Event → Check
-not_closed t past = (why.NotClosed, not (is_closed t past))
+abbrev pub not_closed : Name → Facts → Check
+not_closed t f = (why.NotClosed, not (f.closed t))
 
-abbrev pub voted_already : ℕ → Name → List Event → Check
-voted_already g t past = (why.Already, has_voted g t past)
+abbrev pub voted_already : ℕ → Name → Facts → Check
+voted_already g t f = (why.Already, f.voted g t)
 
-abbrev pub told_already : ℕ → Name → List Event → Check
-told_already g a past = (why.Already, told_since_crash g a past)
+abbrev pub told_already : ℕ → Name → Facts → Check
+told_already g a f = (why.Already, f.told g a)
 
-abbrev pub unready : Setup → Name → List Event → Check
-unready setup t past = (why.Unready, not (all_prepared setup t past))
+abbrev pub unready : Name → Facts → Check
+unready t f = (why.Unready, not (f.ready t))
 
-abbrev pub is_up : ℕ → List Event → Check
-is_up g past = (why.IsUp, not (is_down g past))
+abbrev pub is_up : ℕ → Facts → Check
+is_up g f = (why.IsUp, not (f.down g))
 
 abbrev pub limit : Bool → Check
 limit reached = (why.Limit, reached)
 
 -- no arms, more than 64, or numbers are used up
-abbrev pub is_past_arms : Name → List ArmKind → List Event → Bool
-is_past_arms a kinds past =
+abbrev pub is_past_arms_by : (Name → ℕ) → Name → List ArmKind → Bool
+is_past_arms_by next a kinds =
     (length kinds == 0)
-    || (nat_lt max_arms (length kinds) || list_any (λ b. is_used_up (last_of b)) (arm_names a (next_number a past) (next_number [] past) kinds))
+    || (nat_lt max_arms (length kinds) || list_any (λ b. is_used_up (last_of b)) (arm_names a (next a) (next []) kinds))
+
+abbrev pub is_past_arms : Name → List ArmKind → List Event → Bool
+is_past_arms a kinds past = is_past_arms_by (λ b. next_number b past) a kinds
 
 abbrev pub bad_operation : Setup → ObjectId → op.Op → Check
 bad_operation setup x wanted = (why.BadOp, not (knows (opening setup x) wanted))
 
 -- the refusals of a step, in order
+abbrev pub checks_by : Setup → Facts → Step → List Check
+checks_by setup f (Top g) = no_guardian setup g ∷ down g f ∷ limit (is_used_up (f.next [])) ∷ []
+checks_by setup f (NestedTop a) =
+    no_action a f ∷ ended_or_closed a f ∷ busy a f ∷ gone a f ∷ known_orphan a f ∷ limit (is_used_up (f.next [])) ∷ []
+checks_by setup f (Call a g) =
+    no_guardian setup g ∷ no_action a f ∷ ended_or_closed a f ∷ busy a f ∷ gone a f ∷ down g f
+    ∷ known_orphan a f ∷ too_deep true a ∷ limit (is_used_up (f.next a)) ∷ []
+checks_by setup f (Arms a kinds) =
+    no_action a f ∷ ended_or_closed a f ∷ busy a f ∷ gone a f ∷ known_orphan a f
+    ∷ too_deep (has_sub kinds) a ∷ limit (is_past_arms_by f.next a kinds) ∷ []
+checks_by setup f (Op a x wanted) =
+    no_guardian setup x.guardian ∷ no_action a f ∷ no_object setup x ∷ ended_or_closed a f ∷ busy a f ∷ gone a f
+    ∷ elsewhere a x f ∷ known_orphan a f ∷ bad_operation setup x wanted ∷ []
+checks_by setup f (Commit a) =
+    no_action a f ∷ ended_or_closed a f ∷ busy a f ∷ gone a f ∷ known_orphan a f ∷ not_sub a ∷ []
+checks_by setup f (Close t) =
+    no_action t f ∷ ended_or_closed t f ∷ busy t f ∷ gone t f ∷ known_orphan t f ∷ not_top t ∷ []
+checks_by setup f (Prepare g t) =
+    no_guardian setup g ∷ no_action t f ∷ ended t f ∷ gone t f ∷ down g f ∷ no_participant g t f ∷ not_top t
+    ∷ not_closed t f ∷ voted_already g t f ∷ []
+checks_by setup f (Decide t) =
+    no_action t f ∷ ended t f ∷ gone t f ∷ not_top t ∷ not_closed t f ∷ unready t f ∷ []
+checks_by setup f (Abort a) = no_action a f ∷ ended a f ∷ []
+checks_by setup f (Tell g a) = no_guardian setup g ∷ no_action a f ∷ down g f ∷ not_so a f ∷ told_already g a f ∷ []
+checks_by setup f (Crash g) = no_guardian setup g ∷ down g f ∷ []
+checks_by setup f (Recover g) = no_guardian setup g ∷ is_up g f ∷ []
+
 abbrev pub checks : Setup → Step → List Event → List Check
-checks setup (Top g) past = no_guardian setup g ∷ down g past ∷ limit (is_used_up (next_number [] past)) ∷ []
-checks setup (NestedTop a) past =
-    no_action a past ∷ ended_or_closed a past ∷ busy a past ∷ gone a past ∷ known_orphan setup a past
-    ∷ limit (is_used_up (next_number [] past)) ∷ []
-checks setup (Call a g) past =
-    no_guardian setup g ∷ no_action a past ∷ ended_or_closed a past ∷ busy a past ∷ gone a past ∷ down g past
-    ∷ known_orphan setup a past ∷ too_deep true a ∷ limit (is_used_up (next_number a past)) ∷ []
-checks setup (Arms a kinds) past =
-    no_action a past ∷ ended_or_closed a past ∷ busy a past ∷ gone a past ∷ known_orphan setup a past
-    ∷ too_deep (has_sub kinds) a ∷ limit (is_past_arms a kinds past) ∷ []
-checks setup (Op a x wanted) past =
-    no_guardian setup x.guardian ∷ no_action a past ∷ no_object setup x ∷ ended_or_closed a past ∷ busy a past ∷ gone a past
-    ∷ elsewhere a x past ∷ known_orphan setup a past ∷ bad_operation setup x wanted ∷ []
-checks setup (Commit a) past =
-    no_action a past ∷ ended_or_closed a past ∷ busy a past ∷ gone a past ∷ known_orphan setup a past ∷ not_sub a ∷ []
-checks setup (Close t) past =
-    no_action t past ∷ ended_or_closed t past ∷ busy t past ∷ gone t past ∷ known_orphan setup t past ∷ not_top t ∷ []
-checks setup (Prepare g t) past =
-    no_guardian setup g ∷ no_action t past ∷ ended t past ∷ gone t past ∷ down g past ∷ no_participant g t past ∷ not_top t
-    ∷ not_closed t past ∷ voted_already g t past ∷ []
-checks setup (Decide t) past =
-    no_action t past ∷ ended t past ∷ gone t past ∷ not_top t ∷ not_closed t past ∷ unready setup t past ∷ []
-checks setup (Abort a) past = no_action a past ∷ ended a past ∷ []
-checks setup (Tell g a) past = no_guardian setup g ∷ no_action a past ∷ down g past ∷ not_so a past ∷ told_already g a past ∷ []
-checks setup (Crash g) past = no_guardian setup g ∷ down g past ∷ []
-checks setup (Recover g) past = no_guardian setup g ∷ is_up g past ∷ []
+checks setup step past = checks_by setup (facts_of setup past) step
 
 -- the first refusal that applies
 abbrev pub first_refusal : List Check → Option Refusal

@@ -9,9 +9,11 @@ use Rattle.run_model.specs.declared.history.Event.{Event}
 use Rattle.run_model.specs.Actions.{home_of, is_committed, step_recovers}
 use Rattle.run_model.specs.Visibility.{votes_yes}
 use Rattle.run_model.specs.Telling.{or_else}
-use Rattle.run_model.specs.Replay.{Setup, objects_at}
+use Rattle.run_model.specs.Keeping.{Standing, standing_of}
+use Rattle.run_model.specs.Replay.{Setup, objects_at, opening}
+use Rattle.run_model.specs.declared.step.ObjectId.{ObjectId}
 use Rattle.run_model.specs.Lists.{up_to}
-use Rattle.run_model.specs.Versions.{owners, version_of}
+use Rattle.run_model.specs.Versions.{owners_by, version_by}
 
 -- the count: how often g has recovered
 abbrev pub stable_count : ℕ → List Event → ℕ
@@ -30,11 +32,14 @@ pub record Prepared : Type 0 where
   pub home : ℕ
   pub values : List (ℕ × Content)
 
--- the objects at g of which t holds a write, rising, each with t's version
+-- the objects at g of which t holds a write, rising, each with t's version, where this is how each of them stands
+abbrev pub values_by : Setup → ℕ → (ObjectId → Standing) → Name → List (ℕ × Content)
+values_by setup g standing t =
+    map (λ n. (n, version_by (opening setup (record { guardian = g; number = n })) (standing (record { guardian = g; number = n })) t))
+    (filter (λ n. has_name (owners_by (standing (record { guardian = g; number = n }))) t) (up_to (length (objects_at setup g))))
+
 abbrev pub values_held : Setup → ℕ → Name → List Event → List (ℕ × Content)
-values_held setup g t past =
-    map (λ n. (n, version_of setup (record { guardian = g; number = n }) t past))
-    (filter (λ n. has_name (owners (record { guardian = g; number = n }) past) t) (up_to (length (objects_at setup g))))
+values_held setup g t past = values_by setup g (λ x. standing_of x past) t
 
 abbrev pub step_told : Step → ℕ → Name → Bool
 step_told (Tell h a) g t = (h == g) && same_name a t

@@ -1,0 +1,3 @@
+pub mod Guardians
+pub mod Messages
+pub mod Forests

@@ -1,0 +1,136 @@
+ghost use Rattle.std.specs.Prelude.{◌≡◌, ◌≤◌, ◌==◌, ℕ, Bool, true, false, IsTrue, IsFalse, List, [], ◌∷◌, IfOk, OnErr, length};
+ghost use Rattle.atomic_types.specs.Objects.{knows};
+ghost use Rattle.run_model.specs.Actions.{crashes, is_busy, is_done, is_down, is_gone};
+ghost use Rattle.run_model.specs.Answers.{operated_by};
+ghost use Rattle.run_model.specs.Replay.{objects_at, opening};
+ghost use Rattle.run_model.specs.Runs.{is_accepted};
+ghost use Rattle.run_model.specs.LocalReadings.{count_here, events_here, is_at_home, is_orphan_here, standing_here, told_here, unsent_aborts, unsent_counts};
+ghost use Rattle.local_laws.specs.Owed.{IsOwed};
+ghost use Rattle.layer_contracts.specs.Guardians.{GuardianState, News, kept, stamped};
+ghost use Rattle.layer_contracts.specs.Messages.{carried_of, stores};
+
+use crate::message::Message;
+use run_model::{Answer, Event, Name, Names, ObjectId, Op, Setup};
+use std::alloc::AllocError;
+
+/// Why a call did not come about.
+#[derive(Clone, Copy, Drop)]
+pub enum Fault {
+    Memory,
+    Stable,
+}
+
+impl From<AllocError> for Fault {
+    ghost use Rattle.std.specs.Prelude.{◌≡◌};
+    ghost use Rattle.layer_contracts.specs.declared.guardian.Fault.TheVariants.{Memory};
+
+    ghost from_gives = { λ _ e. e ≡ Memory };
+
+    fn from(_refused: AllocError) -> Fault {
+        Fault::Memory
+    }
+}
+
+/// A guardian, which knows its own history alone.
+pub trait Guardian: Drop {
+    /// Its setup, its number and its own history.
+    ghost state: { Self → GuardianState };
+
+    /// What one event changes here, made of copies and of room.
+    type Plan: Drop;
+
+    /// What the plan is for.
+    ghost planned: { Self.Plan → News };
+
+    /// The state for which it was made.
+    ghost made_for: { Self.Plan → GuardianState };
+
+    fn setup(&self) -> &Setup
+        ensures { result.now ≡ (state self.now).setup };
+
+    fn number(&self) -> u32
+        ensures { result ≡ (state self.now).number };
+
+    /// Whether the action is on its roster: it was begun, and is at home here.
+    fn is_there(&self, action: &Name) -> bool
+        ensures { result ≡ is_at_home (state self.now).number action.now (state self.now).past };
+
+    /// Whether an action on its roster has ended, or was closed.
+    fn is_done(&self, action: &Name) -> bool
+        requires there { IsTrue (is_at_home (state self.now).number action.now (state self.now).past) }
+        ensures { result ≡ is_done action.now (events_here (state self.now).past) };
+
+    /// Whether something that an action on its roster made has not ended.
+    fn is_busy(&self, action: &Name) -> bool
+        requires there { IsTrue (is_at_home (state self.now).number action.now (state self.now).past) }
+        ensures { result ≡ is_busy action.now (events_here (state self.now).past) };
+
+    /// Whether it has crashed and not recovered since.
+    fn is_down(&self) -> bool
+        ensures { result ≡ is_down (state self.now).number (events_here (state self.now).past) };
+
+    /// How often it has crashed.
+    fn crashes(&self) -> u64
+        ensures { result ≡ crashes (state self.now).number (events_here (state self.now).past) };
+
+    /// Whether it has crashed since the action began here. An action that is not on its roster is not gone.
+    fn is_gone(&self, action: &Name) -> bool
+        ensures { result ≡ is_gone action.now (events_here (state self.now).past) };
+
+    /// Whether it knows the action as an orphan, by its lists and by what messages said of the action's dependencies, whether the action is
+    /// on its roster or not.
+    fn is_orphan(&self, action: &Name) -> Result<bool, AllocError>
+        ensures { IfOk result (λ orphan. orphan ≡ is_orphan_here (state self.now).setup (state self.now).number (state self.now).past action.now) };
+
+    /// Whether it was told of the action since its last crash.
+    fn was_told(&self, action: &Name) -> bool
+        ensures { result ≡ told_here (state self.now).number action.now (state self.now).past };
+
+    /// How many of its objects a telling of this outcome changes.
+    fn told_count(&self, action: &Name, committed: bool) -> u64
+        ensures { result ≡ count_here (state self.now).setup (state self.now).number action.now committed (state self.now).past };
+
+    /// What an operation that nothing refuses is answered: the reply, or for whom it waits.
+    fn operated(
+        &self,
+        action: &Name,
+        object: ObjectId,
+        operation: &Op,
+    ) -> Result<Answer, AllocError>
+        requires own { object.guardian ≡ (state self.now).number }
+        requires guardian { 1 ≤ object.guardian }
+        requires number { 1 ≤ object.number }
+        requires there { object.number ≤ length (objects_at (state self.now).setup object.guardian) }
+        requires known { IsTrue (knows (opening (state self.now).setup object) operation.now) }
+        ensures { IfOk result (λ answer. answer ≡ operated_by (opening (state self.now).setup object) (standing_here (state self.now).past object) action.now operation.now) };
+
+    /// The aborts that it has not sent to the other guardian yet, the newest first.
+    fn unsent_aborts(&self, to: &Self) -> Result<Names, AllocError>
+        ensures { IfOk result (λ names. names ≡ unsent_aborts (state self.now).number (state to.now).number (state self.now).past (state to.now).past) };
+
+    /// And the counts of crashes.
+    fn unsent_counts(&self, to: &Self) -> Result<Vec<(u32, u64)>, AllocError>
+        ensures { IfOk result (λ counts. counts.items ≡ unsent_counts (state self.now).number (state to.now).number (state self.now).past (state to.now).past) };
+
+    /// Makes room for an event and computes what it changes, where it brings what this guardian's own history asks of it.
+    fn plan(&self, event: &Event, message: Message) -> Result<Self::Plan, AllocError>
+        requires accepted { IsTrue (is_accepted event.now.answer) }
+        requires owed { IsOwed (state self.now).setup (state self.now).number
+            (stamped 0 (record { event = event.now; carried = carried_of message })) (state self.now).past event.now.step }
+        ensures made { IfOk result (λ plan. made_for plan ≡ state self.now) }
+        ensures planned { IfOk result (λ plan. planned plan ≡ record { event = event.now; carried = carried_of message }) };
+
+    /// Carries a plan out whose event writes to the stable store: the store's call, then the stamp, then the changes, which cannot fail.
+    fn carry_out<F: FnOnce() -> u64>(&mut self, plan: Self::Plan, stamp: F) -> Result<u64, Fault>
+        requires stamp { F.pre stamp }
+        requires made { made_for plan ≡ state self.old }
+        ensures ok { IfOk result (λ n. F.post stamp n) }
+        ensures kept { IfOk result (λ n. state self.new ≡ kept (state self.old) (stamped n (planned plan))) }
+        ensures err { OnErr result (state self.new ≡ state self.old) };
+
+    /// Carries a plan out whose event does not write to this guardian's store. This cannot fail.
+    fn install(&mut self, plan: Self::Plan, stamp: u64)
+        requires made { made_for plan ≡ state self.old }
+        requires quiet { IsFalse (stores (planned plan).event.step (state self.old).number) }
+        ensures { state self.new ≡ kept (state self.old) (stamped stamp (planned plan)) };
+}

@@ -1,0 +1,206 @@
+-- What keeping an event asks and leaves.
+use Rattle.std.proofs.Common.{List, Some, ap, ap₂, arith, false, get_or, inl, inr, length, refl, set, subst, sym, true, ℕ, ◌++◌, ◌+◌, ◌-◌, ◌<◌, ◌==◌, ◌∙◌, ◌∷◌, ◌≡◌, ◌≤◌, ◌||◌, ◌⊎◌, slice_get}
+use Rattle.std.proofs.lemmas.Option.{slice_get_within}
+use Rattle.std.proofs.lemmas.Bool.{cases_eq, false≢true, ne_eqb, or_left, or_right}
+use Rattle.run_model.specs.declared.history.Event.{Event}
+use Rattle.run_model.specs.declared.step.Step.{Step}
+use Rattle.run_model.specs.declared.step.Step.TheVariants.{Op}
+use Rattle.run_model.specs.LocalHistories.{Stamped, carried_lent, events_of, events_there, history_after_lent, local_history, names_guardian, registry_after, registry_history, numbered}
+use Rattle.run_model.specs.LocalReadings.{LocalEvent}
+use Rattle.run_model.specs.Replay.{Setup}
+use Rattle.run_model.specs.Runs.{IsRun}
+use Rattle.run_laws.proofs.Names.{eqb_self}
+use Rattle.local_laws.specs.Owed.{IsLocalRun, IsOwed}
+use Rattle.local_laws.proofs.Lending.{lent_grows, unnamed_stay}
+use Rattle.local_laws.proofs.Outcomes.{history_named, local_event}
+use Rattle.local_laws.proofs.Owing.{local_runs}
+use Rattle.local_laws.proofs.Registry.{registry_same}
+use Rattle.local_laws.proofs.Growing.{names_same}
+use Rattle.layer_contracts.specs.Guardians.{GuardianState, after_step, lent_two, stamped}
+use Rattle.layer_contracts.specs.Forests.{ForestState}
+use Rattle.lent_steps.specs.Keeping.{IsDone, is_operation}
+use Rattle.layered_world.specs.Standings.{AreSame, IsKeptAt, IsReady, IsWorld, Names, forest_of, standing}
+use Rattle.layered_world.proofs.Inside.{IsInside, named_inside}
+use Rattle.layered_world.proofs.Led.{answers_two, lent_or_out, numbered_events, runs, stands, there_is}
+use Rattle.layered_world.proofs.Places.{back_at, front_at, set_back, set_front, set_other, some_eq, there}
+
+-- what the event names by the forest it names by the run
+named : (past : List Event) (f : ForestState) (e : Event) (low high g : ℕ) → f ≡ forest_of f.setup past → IsRun f.setup (e ∷ past) → Names f e.step low high
+    → ((low == g) || (high == g)) ≡ true → names_guardian e.step (events_there (registry_history f.setup (numbered past))) g ≡ true
+named past f e low high g h r n k = sym (ap (λ reg. names_guardian e.step (events_there reg) g) (there_is past f h)) ∙ n g ∙ k
+
+pub inside : (past : List Event) (f : ForestState) (e : Event) (low high g : ℕ) → f ≡ forest_of f.setup past → IsRun f.setup (e ∷ past) → Names f e.step low high
+    → ((low == g) || (high == g)) ≡ true → IsInside f.setup g
+inside past f e low high g h r n k =
+    named_inside f.setup e past g r
+    (ap (λ p. names_guardian e.step p g) (sym (numbered_events past))
+    ∙ sym (names_same (events_there (registry_history f.setup (numbered past))) (events_of (numbered past)) g (registry_same f.setup (numbered past) (runs f.setup past r.2)) e.step)
+    ∙ named past f e low high g h r n k)
+
+-- the history of the longer run owes nothing of the event
+owed_there : (setup : Setup) (s : Stamped) (run : List Stamped) (g : ℕ) → IsRun setup (events_of (s ∷ run)) → names_guardian s.1.step (events_of run) g ≡ true
+    → IsOwed setup g (local_event setup s run g) (local_history setup run g) s.1.step
+owed_there setup s run g r n =
+    let P : List LocalEvent → Type 0 = λ l. IsLocalRun setup g l in
+    (subst P (history_named setup s run g n) (local_runs setup (s ∷ run) g r)).0
+
+-- an operation asks nothing of what is carried
+owed_operation : (setup : Setup) (g : ℕ) (c d : LocalEvent) (here there : List LocalEvent) (step : Step) → is_operation step ≡ true → c.event ≡ d.event → here ≡ there
+    → IsOwed setup g c here step → IsOwed setup g d there step
+owed_operation setup g c d here there (Op a x wanted) o e h k =
+    subst (λ l. IsOwed setup g d l (Op a x wanted)) h (k.0, sym (ap (λ v. v.answer) e) ∙ k.1)
+owed_operation setup g c d here there _ o e h k = absurd (false≢true o)
+
+-- an answered event may be kept
+pub ready : {X : Type 0} (state : X → GuardianState) (past : List Event) (f : ForestState) (gs : List X) (e : Event) (low high : ℕ)
+    → IsWorld state f.setup past f gs → Names f e.step low high → IsRun f.setup (e ∷ past) → 1 ≤ low → 1 ≤ high → IsReady state f low high e gs
+ready state past f gs e low high w n r l k = record {
+  each = λ a b sa sb.
+      let x = stands state f.setup past f gs low a w l sa in
+      let y = stands state f.setup past f gs high b w k sb in (
+        record { first = ap (λ s. s.setup) x; second = ap (λ s. s.setup) y },
+        ap (λ s. s.number) x,
+        ap (λ s. s.number) y,
+        record {
+          answer = r.0 ∙ sym (answers_two past f e.step low high low high (state a) (state b) w.is_run w.forest n x y (λ g h. inl h));
+          accepted = r.1;
+          operation = λ g o m. owed_operation f.setup g (local_event f.setup (length (e ∷ past), e) (numbered past) g)
+              (stamped 0 (record { event = e; carried = carried_lent f.setup e g f.registry (lent_two (state a) (state b)) }))
+              (local_history f.setup (numbered past) g) (lent_two (state a) (state b) g) e.step o refl
+              (sym (lent_or_out f.setup past (state a) (state b) low high g w.is_run x y (inl (sym (n g) ∙ m))))
+              (owed_there f.setup (length (e ∷ past), e) (numbered past) g (runs f.setup (e ∷ past) r)
+              (sym (names_same (events_there (registry_history f.setup (numbered past))) (events_of (numbered past)) g (registry_same f.setup (numbered past) (runs f.setup past r.2)) e.step)
+              ∙ named past f e low high g w.forest r n (sym (n g) ∙ m)));
+        },
+      );
+}
+
+-- who is lent and named stands where the longer run leads it
+after_is : (past : List Event) (f : ForestState) (e : Event) (lent : ℕ → List LocalEvent) (x x' : GuardianState) (p : ℕ) → f ≡ forest_of f.setup past → x ≡ standing f.setup past p
+    → x' ≡ after_step x (length (e ∷ past), e) f.registry lent
+    → history_after_lent f.setup (length (e ∷ past), e) (registry_history f.setup (numbered past)) lent p ≡ local_history f.setup (numbered (e ∷ past)) p
+    → x' ≡ standing f.setup (e ∷ past) p
+after_is past f e lent x x' p h k q grown =
+    q ∙ ap (λ y. after_step y (length (e ∷ past), e) f.registry lent) k
+    ∙ ap (λ reg. after_step (standing f.setup past p) (length (e ∷ past), e) reg lent) (there_is past f h)
+    ∙ ap (λ l. record { setup = f.setup; number = p; past = l }) grown
+
+pub more : {X : Type 0} (state : X → GuardianState) (past : List Event) (f f' : ForestState) (gs gs' : List X) (e : Event) (low high : ℕ)
+    → IsWorld state f.setup past f gs → Names f e.step low high → IsRun f.setup (e ∷ past) → 1 ≤ low → 1 ≤ high → low ≤ length gs → high ≤ length gs
+    → length gs' ≡ length gs → IsKeptAt state low high (length (e ∷ past)) e f f' gs gs' → IsWorld state f.setup (e ∷ past) f' gs'
+more {X} state past f f' gs gs' e low high w n r l1 l2 h1 h2 len k =
+    let lt1 : low - 1 < length gs = omega arith in
+    let lt2 : high - 1 < length gs = omega arith in
+    let a = there gs (low - 1) lt1 in
+    let b = there gs (high - 1) lt2 in
+    let lt3 : low - 1 < length gs' = omega arith in
+    let lt4 : high - 1 < length gs' = omega arith in
+    of a.0 b.0 (there gs' (low - 1) lt3).0 (there gs' (high - 1) lt4).0 a.1 b.1 (there gs' (low - 1) lt3).1 (there gs' (high - 1) lt4).1
+  where
+    s : Stamped
+    s = (length (e ∷ past), e)
+
+    of : (a b a' b' : X) → slice_get gs (low - 1) ≡ Some a → slice_get gs (high - 1) ≡ Some b → slice_get gs' (low - 1) ≡ Some a' → slice_get gs' (high - 1) ≡ Some b'
+        → IsWorld state f.setup (e ∷ past) f' gs'
+    of a b a' b' sa sb sa' sb' =
+        let done = k.two a b a' b' sa sb sa' sb' in
+        let x = stands state f.setup past f gs low a w l1 sa in
+        let y = stands state f.setup past f gs high b w l2 sb in
+        let lent : ℕ → List LocalEvent = lent_two (state a) (state b) in
+        let R = registry_history f.setup (numbered past) in
+        let grown = lent_grows f.setup s (numbered past) lent (runs f.setup (e ∷ past) r)
+        (λ g m. lent_or_out f.setup past (state a) (state b) low high g w.is_run x y
+        (inl (sym (n g) ∙ ap (λ reg. names_guardian e.step (events_there reg) g) (there_is past f w.forest) ∙ m))) in
+        let at : (p : ℕ) → ((low == p) || (high == p)) ≡ true → history_after_lent f.setup s R lent p ≡ local_history f.setup (numbered (e ∷ past)) p =
+        λ p q. grown.1 p (named past f e low high p w.forest r n q) in
+        let first : state a' ≡ standing f.setup (e ∷ past) low =
+        after_is past f e lent (state a) (state a') low w.forest x done.first (at low (or_left _ _ (eqb_self low))) in
+        let second : state b' ≡ standing f.setup (e ∷ past) high =
+        after_is past f e lent (state b) (state b') high w.forest y done.second (at high (or_right _ _ (eqb_self high))) in
+        record {
+          is_run = r;
+          forest = done.forest ∙ ap (λ reg. record { setup = f.setup; registry = reg })
+              (ap (λ reg. registry_after f.setup s reg lent) (there_is past f w.forest) ∙ grown.0);
+          count = len ∙ w.count;
+          each = λ i z q. each_of i z q a' b' sa' sb' first second (cases_eq i (low - 1)) (cases_eq i (high - 1));
+        }
+      where
+        each_of : (i : ℕ) (z : X) → slice_get gs' i ≡ Some z → (a' b' : X) → slice_get gs' (low - 1) ≡ Some a' → slice_get gs' (high - 1) ≡ Some b'
+            → state a' ≡ standing f.setup (e ∷ past) low → state b' ≡ standing f.setup (e ∷ past) high
+            → (i ≡ low - 1) ⊎ (i ≡ low - 1 → ⊥) → (i ≡ high - 1) ⊎ (i ≡ high - 1 → ⊥) → state z ≡ standing f.setup (e ∷ past) (i + 1)
+        each_of i z q a' b' sa' sb' first second (inl m) o =
+            let same : low ≡ i + 1 = omega arith in
+            ap state (some_eq z a' (sym q ∙ ap (λ j. slice_get gs' j) m ∙ sa')) ∙ first ∙ ap (λ j. standing f.setup (e ∷ past) j) same
+        each_of i z q a' b' sa' sb' first second (inr m) (inl o) =
+            let same : high ≡ i + 1 = omega arith in
+            ap state (some_eq z b' (sym q ∙ ap (λ j. slice_get gs' j) o ∙ sb')) ∙ second ∙ ap (λ j. standing f.setup (e ∷ past) j) same
+        each_of i z q a' b' sa' sb' first second (inr m) (inr o) =
+            let d1 : (low ≡ i + 1 → ⊥) = λ t. apart low m t in
+            let d2 : (high ≡ i + 1 → ⊥) = λ t. apart high o t in
+            let unnamed : names_guardian e.step (events_there (registry_history f.setup (numbered past))) (i + 1) ≡ false =
+            sym (ap (λ reg. names_guardian e.step (events_there reg) (i + 1)) (there_is past f w.forest)) ∙ n (i + 1)
+            ∙ ap₂ ◌||◌ (ne_eqb low (i + 1) d1) (ne_eqb high (i + 1) d2) in
+            w.each i z (sym (k.others i m o) ∙ q)
+            ∙ ap (λ l. record { setup = f.setup; number = i + 1; past = l }) (sym (unnamed_stay f.setup s (numbered past) (i + 1) (runs f.setup (e ∷ past) r) unnamed))
+          where
+            apart : (p : ℕ) → (i ≡ p - 1 → ⊥) → p ≡ i + 1 → ⊥
+            apart p m t = let back : i ≡ p - 1 = omega arith in m back
+
+pub same : {X : Type 0} (state : X → GuardianState) (past : List Event) (f f' : ForestState) (gs gs' : List X)
+    → IsWorld state f.setup past f gs → length gs' ≡ length gs → AreSame state f f' gs gs' → IsWorld state f.setup past f' gs'
+same state past f f' gs gs' w len k = record {
+  is_run = w.is_run;
+  forest = k.forest ∙ w.forest;
+  count = len ∙ w.count;
+  each = λ i z q.
+      let p = there gs i (before i z q) in
+      k.each i p.0 z p.1 q ∙ w.each i p.0 p.1;
+}
+  where
+    before : (i : ℕ) (z : _) → slice_get gs' i ≡ Some z → i < length gs
+    before i z q = let b = slice_get_within gs' i z q in omega arith
+
+-- two elements of what was split
+pub kept_at : {X : Type 0} (state : X → GuardianState) (low high n : ℕ) (e : Event) (f f' : ForestState) (gs left right : List X) (a' b' d d' : X)
+    → gs ≡ left ++ right → length left ≡ high - 1 → low - 1 < length left → 0 < length right
+    → IsDone f (state (get_or left (low - 1) d)) (state (get_or right 0 d')) e n f' (state a') (state b')
+    → IsKeptAt state low high n e f f' gs (set left (low - 1) a' ++ set right 0 b')
+kept_at state low high n e f f' gs left right a' b' d d' g len lt lt2 done = record {
+  two = λ a b x y sa sb sx sy.
+      let pa = some_eq a (get_or left (low - 1) d) (sym sa ∙ ap (λ l. slice_get l (low - 1)) g ∙ front_at left right (low - 1) d lt) in
+      let pb = some_eq b (get_or right 0 d') (sym sb ∙ ap₂ (λ l m. slice_get l m) g (sym len) ∙ back_at left right d' lt2) in
+      let px = some_eq x a' (sym sx ∙ set_front left (set right 0 b') (low - 1) a' lt) in
+      let py = some_eq y b' (sym sy ∙ ap (λ m. slice_get (set left (low - 1) a' ++ set right 0 b') m) (sym len) ∙ set_back left right (low - 1) a' b' lt2) in
+      subst (λ u. IsDone f (state u) (state b) e n f' (state x) (state y)) (sym pa)
+      (subst (λ u. IsDone f (state (get_or left (low - 1) d)) (state u) e n f' (state x) (state y)) (sym pb)
+      (subst (λ u. IsDone f (state (get_or left (low - 1) d)) (state (get_or right 0 d')) e n f' (state u) (state y)) (sym px)
+      (subst (λ u. IsDone f (state (get_or left (low - 1) d)) (state (get_or right 0 d')) e n f' (state a') (state u)) (sym py) done)));
+  others = λ i p q. set_other left right (low - 1) i a' b' p (λ t. q (t ∙ len)) ∙ ap (λ l. slice_get l i) (sym g);
+}
+
+pub same_at : {X : Type 0} (state : X → GuardianState) (i : ℕ) (f f' : ForestState) (gs left right : List X) (a' b' d d' : X)
+    → gs ≡ left ++ right → i < length left → 0 < length right → f' ≡ f → state a' ≡ state (get_or left i d) → state b' ≡ state (get_or right 0 d')
+    → AreSame state f f' gs (set left i a' ++ set right 0 b')
+same_at {X} state i f f' gs left right a' b' d d' g lt lt2 h ka kb = record { forest = h; each = λ k x y q r. of k x y q r (cases_eq k i) (cases_eq k (length left)) }
+  where
+    of : (k : ℕ) (x y : X) → slice_get gs k ≡ Some x → slice_get (set left i a' ++ set right 0 b') k ≡ Some y
+        → (k ≡ i) ⊎ (k ≡ i → ⊥) → (k ≡ length left) ⊎ (k ≡ length left → ⊥) → state y ≡ state x
+    of k x y q r (inl m) o =
+        ap state (some_eq y a' (sym r ∙ ap (λ j. slice_get (set left i a' ++ set right 0 b') j) m ∙ set_front left (set right 0 b') i a' lt)) ∙ ka
+        ∙ ap state (sym (some_eq x (get_or left i d) (sym q ∙ ap₂ (λ l j. slice_get l j) g m ∙ front_at left right i d lt)))
+    of k x y q r (inr m) (inl o) =
+        ap state (some_eq y b' (sym r ∙ ap (λ j. slice_get (set left i a' ++ set right 0 b') j) o ∙ set_back left right i a' b' lt2)) ∙ kb
+        ∙ ap state (sym (some_eq x (get_or right 0 d') (sym q ∙ ap₂ (λ l j. slice_get l j) g o ∙ back_at left right d' lt2)))
+    of k x y q r (inr m) (inr o) =
+        ap state (some_eq y x (sym r ∙ set_other left right i k a' b' m o ∙ ap (λ l. slice_get l k) (sym g) ∙ q))
+
+pub kept_then : {X : Type 0} (state : X → GuardianState) (low high m n : ℕ) (e : Event) (f f' : ForestState) (gs left right : List X) (a' b' d d' : X)
+    → gs ≡ left ++ right → length left ≡ high - 1 → low - 1 < length left → 0 < length right → m ≡ n
+    → IsDone f (state (get_or left (low - 1) d)) (state (get_or right 0 d')) e m f' (state a') (state b')
+    → IsKeptAt state low high n e f f' gs (set left (low - 1) a' ++ set right 0 b')
+kept_then state low high m n e f f' gs left right a' b' d d' g len lt lt2 q done =
+    kept_at state low high n e f f' gs left right a' b' d d' g len lt lt2
+    (subst (λ k. IsDone f (state (get_or left (low - 1) d)) (state (get_or right 0 d')) e k f' (state a') (state b')) q done)
+
+pub differ : (a b low high : ℕ) → a ≡ low → b ≡ high → (low == high) ≡ false → (a == b) ≡ false
+differ a b low high p q h = ap₂ (λ m n. m == n) p q ∙ h

@@ -1,0 +1,60 @@
+use Rattle.std.proofs.Common.{ap, arith, length, sym, ◌++◌, ◌-◌, ◌<◌, ◌∙◌, ◌≡◌, rules, slice_get}
+use Rattle.std.proofs.lemmas.Bool.{ne_eqb}
+use Rattle.layer_contracts.specs.Forests.{ForestState}
+use Rattle.layered_world.proofs.Kept.{differ, kept_then, same_at}
+use Rattle.layered_world.proofs.Places.{back_at, front_at, on_err}
+use Rattle.layered_world.proofs.stepping.keep_at.Goals as goal
+
+pub keep_two-requires-clause-sound : goal.keep_two-requires-clause-sound
+keep_two-requires-clause-sound g c =
+    let lt : c.args.low - 1 < length c.split_at_mut-left.result.0.now = omega (arith, c.split_at_mut-left.ensures.front_len) in
+    let lt2 : 0 < length c.split_at_mut-left.result.1.now = omega (arith, c.split_at_mut-left.ensures.back_len) in
+    let front = ap (λ l. slice_get l (c.args.low - 1)) c.split_at_mut-left.ensures.value
+    ∙ front_at c.split_at_mut-left.result.0.now c.split_at_mut-left.result.1.now (c.args.low - 1) c.index-left-low.result lt in
+    let back = ap (λ l. slice_get l (c.args.high - 1)) c.split_at_mut-left.ensures.value
+    ∙ ap (λ m. slice_get (c.split_at_mut-left.result.0.now ++ c.split_at_mut-left.result.1.now) m) (sym c.split_at_mut-left.ensures.front_len)
+    ∙ back_at c.split_at_mut-left.result.0.now c.split_at_mut-left.result.1.now c.index-right-0.result lt2 in
+    (c.requires.ready.each _ _ front back).0
+
+pub keep_two-requires-clause-differ : goal.keep_two-requires-clause-differ
+keep_two-requires-clause-differ g c =
+    let lt : c.args.low - 1 < length c.split_at_mut-left.result.0.now = omega (arith, c.split_at_mut-left.ensures.front_len) in
+    let lt2 : 0 < length c.split_at_mut-left.result.1.now = omega (arith, c.split_at_mut-left.ensures.back_len) in
+    let front = ap (λ l. slice_get l (c.args.low - 1)) c.split_at_mut-left.ensures.value
+    ∙ front_at c.split_at_mut-left.result.0.now c.split_at_mut-left.result.1.now (c.args.low - 1) c.index-left-low.result lt in
+    let back = ap (λ l. slice_get l (c.args.high - 1)) c.split_at_mut-left.ensures.value
+    ∙ ap (λ m. slice_get (c.split_at_mut-left.result.0.now ++ c.split_at_mut-left.result.1.now) m) (sym c.split_at_mut-left.ensures.front_len)
+    ∙ back_at c.split_at_mut-left.result.0.now c.split_at_mut-left.result.1.now c.index-right-0.result lt2 in
+    let k = c.requires.ready.each _ _ front back in
+    differ _ _ c.args.low c.args.high k.1 k.2 (ne_eqb c.args.low c.args.high c.if-low-high.false)
+
+pub keep_two-requires-clause-answered : goal.keep_two-requires-clause-answered
+keep_two-requires-clause-answered g c =
+    let lt : c.args.low - 1 < length c.split_at_mut-left.result.0.now = omega (arith, c.split_at_mut-left.ensures.front_len) in
+    let lt2 : 0 < length c.split_at_mut-left.result.1.now = omega (arith, c.split_at_mut-left.ensures.back_len) in
+    let front = ap (λ l. slice_get l (c.args.low - 1)) c.split_at_mut-left.ensures.value
+    ∙ front_at c.split_at_mut-left.result.0.now c.split_at_mut-left.result.1.now (c.args.low - 1) c.index-left-low.result lt in
+    let back = ap (λ l. slice_get l (c.args.high - 1)) c.split_at_mut-left.ensures.value
+    ∙ ap (λ m. slice_get (c.split_at_mut-left.result.0.now ++ c.split_at_mut-left.result.1.now) m) (sym c.split_at_mut-left.ensures.front_len)
+    ∙ back_at c.split_at_mut-left.result.0.now c.split_at_mut-left.result.1.now c.index-right-0.result lt2 in
+    (c.requires.ready.each _ _ front back).3
+
+pub returns-in_err-keep_two-clause-err : goal.returns-in_err-keep_two-clause-err
+returns-in_err-keep_two-clause-err g c =
+    let lt : c.args.low - 1 < length c.split_at_mut-left.result.0.now = omega (arith, c.split_at_mut-left.ensures.front_len) in
+    let lt2 : 0 < length c.split_at_mut-left.result.1.now = omega (arith, c.split_at_mut-left.ensures.back_len) in
+    let f : ForestState = g.R.Forest.state c.args.forest.now in
+    on_err c.from_residual-in_err-keep_two.result _
+    (same_at g.G.Guardian.state (c.args.low - 1) f (g.R.Forest.state c.keep_two.new.forest) c.args.guardians.now
+    c.split_at_mut-left.result.0.now c.split_at_mut-left.result.1.now c.keep_two.new.first c.keep_two.new.second c.index-left-low.result c.index-right-0.result
+    c.split_at_mut-left.ensures.value lt lt2 c.in_err-keep_two.ensures.forest_same c.in_err-keep_two.ensures.first_same c.in_err-keep_two.ensures.second_same)
+
+pub returns-clause-ok : goal.returns-clause-ok
+returns-clause-ok g c =
+    let lt : c.args.low - 1 < length c.split_at_mut-left.result.0.now = omega (arith, c.split_at_mut-left.ensures.front_len) in
+    let lt2 : 0 < length c.split_at_mut-left.result.1.now = omega (arith, c.split_at_mut-left.ensures.back_len) in
+    let f : ForestState = g.R.Forest.state c.args.forest.now in
+    let same : c.in_ok-keep_two.field-0 ≡ c.args.number = search rules in
+    kept_then g.G.Guardian.state c.args.low c.args.high c.in_ok-keep_two.field-0 c.args.number c.args.event.now f (g.R.Forest.state c.keep_two.new.forest) c.args.guardians.now
+    c.split_at_mut-left.result.0.now c.split_at_mut-left.result.1.now c.keep_two.new.first c.keep_two.new.second c.index-left-low.result c.index-right-0.result
+    c.split_at_mut-left.ensures.value c.split_at_mut-left.ensures.front_len lt lt2 same c.in_ok-keep_two.ensures.done

@@ -1,0 +1,162 @@
+ghost use Rattle.std.specs.Prelude.{◌≡◌, ◌≤◌, ◌<◌, ℕ, ◌-◌, ◌==◌, ◌||◌, List, ◌∷◌, length, IsTrue, IfOk, OnOk, OnErr, MatchOption, Some, slice_get};
+ghost use Rattle.run_model.specs.Answers.{answer_of};
+ghost use Rattle.run_model.specs.Runs.{IsRun, history_after, is_accepted};
+ghost use Rattle.run_model.specs.LocalHistories.{answer_lent};
+ghost use Rattle.layer_contracts.specs.Guardians.{lent_two};
+ghost use Rattle.lent_steps.specs.Lending.{OneSetup, nobody};
+ghost use Rattle.layered_world.specs.Standings.{AreSame, IsKeptAt, IsOut, IsReady, IsWorld, Names};
+
+use layer_contracts::{Fault, Forest, Guardian};
+use lent_steps::{answer_alone, answer_two, keep_one, keep_two, named};
+use run_model::{Answer, Event, History, Step};
+use std::alloc::{AllocError, Global};
+
+/// Makes one step of a world and gives its answer. An accepted step is in the history from then on, and with the forest and the guardians
+/// that it names; one that is refused or waits changes nothing. After an error nothing has changed.
+pub fn step<R: Forest, G: Guardian>(
+    alloc: Global,
+    forest: &mut R,
+    guardians: &mut [G],
+    history: &mut History,
+    step: &Step,
+) -> Result<Answer, Fault>
+    requires { IsWorld G.state (R.state forest.old).setup history.old (R.state forest.old) guardians.old }
+    ensures answer { IfOk result (λ answer. answer ≡ answer_of (R.state forest.old).setup step.now history.old) }
+    ensures after { IfOk result (λ answer. history.new ≡ history_after step.now answer history.old) }
+    ensures err { OnErr result (history.new ≡ history.old) }
+    ensures world { IsWorld G.state (R.state forest.old).setup history.new (R.state forest.new) guardians.new }
+{
+    let (low, high) = places(forest, step);
+    let answer = answer_at(alloc, forest, guardians, history, low, high, step)?;
+    if !answer.is_accepted() {
+        return Ok(answer);
+    }
+    let event = Event::of(step, &answer)?;
+    keep(alloc, forest, guardians, history, low, high, &event)?;
+    Ok(answer)
+}
+
+/// The guardians that the step names, the lower number first.
+fn places<R: Forest>(forest: &R, step: &Step) -> (u32, u32)
+    ensures names { Names (R.state forest.now) step.now result.0 result.1 }
+    ensures ordered { result.0 ≤ result.1 }
+{
+    let (one, other) = named(forest, step);
+    if one <= other {
+        (one, other)
+    } else {
+        (other, one)
+    }
+}
+
+/// The guardian of this number.
+fn at<G>(guardians: &[G], number: u32) -> Option<&G>
+    ensures { MatchOption result (IsOut (length guardians.now) number)
+        (λ x. (1 ≤ number) × (number ≤ length guardians.now) × (slice_get guardians.now (number - 1) ≡ Some x.now)) }
+{
+    if number == 0 {
+        return None;
+    }
+    guardians.get(number as usize - 1)
+}
+
+/// The answer of a step that names these two guardians.
+fn answer_at<R: Forest, G: Guardian>(
+    alloc: Global,
+    forest: &R,
+    guardians: &[G],
+    _history: &History,
+    low: u32,
+    high: u32,
+    step: &Step,
+) -> Result<Answer, AllocError>
+    requires world { IsWorld G.state (R.state forest.now).setup _history.now (R.state forest.now) guardians.now }
+    requires names { Names (R.state forest.now) step.now low high }
+    ensures { IfOk result (λ answer. answer ≡ answer_of (R.state forest.now).setup step.now _history.now) }
+{
+    match at(guardians, low) {
+        Some(first) => match at(guardians, high) {
+            Some(second) => answer_two(alloc, forest, first, second, step),
+            None => answer_two(alloc, forest, first, first, step),
+        },
+        None => match at(guardians, high) {
+            Some(second) => answer_two(alloc, forest, second, second, step),
+            None => answer_alone(alloc, forest, step),
+        },
+    }
+}
+
+/// Keeps an accepted event: in the history, in the forest and at the guardians that it names.
+fn keep<R: Forest, G: Guardian>(
+    alloc: Global,
+    forest: &mut R,
+    guardians: &mut [G],
+    history: &mut History,
+    low: u32,
+    high: u32,
+    event: &Event,
+) -> Result<(), Fault>
+    requires world { IsWorld G.state (R.state forest.old).setup history.old (R.state forest.old) guardians.old }
+    requires names { Names (R.state forest.old) event.now.step low high }
+    requires ordered { low ≤ high }
+    requires more { IsRun (R.state forest.old).setup (event.now ∷ history.old) }
+    ensures ok { OnOk result (history.new ≡ event.now ∷ history.old) }
+    ensures err { OnErr result (history.new ≡ history.old) }
+    ensures world { IsWorld G.state (R.state forest.old).setup history.new (R.state forest.new) guardians.new }
+{
+    let number = history.next_stamp();
+    record(history, event)?;
+    let kept = keep_at(alloc, forest, guardians, low, high, event, number);
+    if kept.is_err() {
+        history.pop();
+    }
+    kept
+}
+
+/// Records a copy of the event.
+fn record(history: &mut History, event: &Event) -> Result<(), AllocError>
+    ensures ok { OnOk result (history.new ≡ event.now ∷ history.old) }
+    ensures err { OnErr result (history.new ≡ history.old) }
+{
+    history.push(event.copy()?)?;
+    Ok(())
+}
+
+/// Keeps an event at the two guardians of these numbers, or at one.
+fn keep_at<R: Forest, G: Guardian>(
+    alloc: Global,
+    forest: &mut R,
+    guardians: &mut [G],
+    low: u32,
+    high: u32,
+    event: &Event,
+    number: u64,
+) -> Result<(), Fault>
+    requires first { 1 ≤ low }
+    requires ordered { low ≤ high }
+    requires last { high ≤ length guardians.old }
+    requires ready { IsReady G.state (R.state forest.old) low high event.now guardians.old }
+    ensures ok { OnOk result (IsKeptAt G.state low high number event.now (R.state forest.old) (R.state forest.new) guardians.old guardians.new) }
+    ensures err { OnErr result (AreSame G.state (R.state forest.old) (R.state forest.new) guardians.old guardians.new) }
+{
+    if low == high {
+        keep_one(
+            alloc,
+            forest,
+            &mut guardians[low as usize - 1],
+            event,
+            || number,
+        )?;
+        return Ok(());
+    }
+    let (left, right) = guardians.split_at_mut(high as usize - 1);
+    keep_two(
+        alloc,
+        forest,
+        &mut left[low as usize - 1],
+        &mut right[0],
+        event,
+        || number,
+    )?;
+    Ok(())
+}

@@ -1,0 +1,89 @@
+-- What plans leave that are carried out.
+use Rattle.std.proofs.Common.{Bool, List, MatchOption, None, Option, Some, [], ap, ap₂, cond, eqb-true, false, refl, sym, true, ℕ, ◌==◌, ◌∙◌, ◌∷◌, ◌≡◌, IsFalse}
+use Rattle.std.proofs.lemmas.Bool.{false≢true, true≢false}
+use Rattle.run_model.specs.declared.history.Event.{Event}
+use Rattle.run_model.specs.declared.step.Step.{Step}
+use Rattle.run_model.specs.declared.step.Step.TheVariants.{Abort, Arms, Call, Close, Commit, Crash, Decide, NestedTop, Op, Prepare, Recover, Tell, Top}
+use Rattle.run_model.specs.Actions.{home_of}
+use Rattle.run_model.specs.LocalHistories.{carried_lent, events_there, names_guardian, registry_after, registry_event_lent, takes_registry}
+use Rattle.run_model.specs.LocalReadings.{LocalEvent}
+use Rattle.run_laws.proofs.Names.{eqb_self}
+use Rattle.layer_contracts.specs.Guardians.{GuardianState, News, after_step, kept, lent_two, stamped}
+use Rattle.layer_contracts.specs.Forests.{ForestState, RegistryNews, stamped_there}
+use Rattle.layer_contracts.specs.Messages.{stores}
+use Rattle.lent_steps.specs.Keeping.{IsPlannedAt, IsPlannedThere}
+
+-- each of two that differ is lent
+pub first_lent : (a b : GuardianState) → a.past ≡ lent_two a b a.number
+first_lent a b = sym (ap (λ t. cond t a.past (cond (b.number == a.number) b.past [])) (eqb_self a.number))
+
+pub second_lent : (a b : GuardianState) → (a.number == b.number) ≡ false → b.past ≡ lent_two a b b.number
+second_lent a b d = sym (ap₂ (λ t u. cond t a.past (cond u b.past [])) d (eqb_self b.number))
+
+-- the guardian after an event that names it, and after another
+left_named : (f : ForestState) (a b x x' : GuardianState) (e : Event) (n : ℕ) → x.setup ≡ f.setup → x.past ≡ lent_two a b x.number
+    → names_guardian e.step (events_there f.registry) x.number ≡ true
+    → x' ≡ kept x (stamped n (record { event = e; carried = carried_lent f.setup e x.number f.registry (lent_two a b) }))
+    → x' ≡ after_step x (n, e) f.registry (lent_two a b)
+left_named f a b x x' e n s p q h =
+    let new : List LocalEvent → List LocalEvent = λ past. record { stamp = n; event = e; carried = carried_lent x.setup e x.number f.registry (lent_two a b) } ∷ past in
+    h ∙ ap (λ st. kept x (stamped n (record { event = e; carried = carried_lent st e x.number f.registry (lent_two a b) }))) (sym s)
+    ∙ ap (λ past. record x { past = past }) (ap new p
+    ∙ sym (ap (λ t. cond t (new (lent_two a b x.number)) (lent_two a b x.number)) q))
+
+left_unnamed : (f : ForestState) (a b x x' : GuardianState) (e : Event) (n : ℕ) → x.past ≡ lent_two a b x.number
+    → names_guardian e.step (events_there f.registry) x.number ≡ false → x' ≡ x
+    → x' ≡ after_step x (n, e) f.registry (lent_two a b)
+left_unnamed f a b x x' e n p q h =
+    let new : List LocalEvent → List LocalEvent = λ past. record { stamp = n; event = e; carried = carried_lent x.setup e x.number f.registry (lent_two a b) } ∷ past in
+    h ∙ ap (λ past. record x { past = past }) (p ∙ sym (ap (λ t. cond t (new (lent_two a b x.number)) (lent_two a b x.number)) q))
+
+-- by the plan that was carried out
+pub left_at : {P : Type 0} (f : ForestState) (a b x x' : GuardianState) (e : Event) (n : ℕ) (o : Option P) (made_for : P → GuardianState) (planned : P → News)
+    → x.setup ≡ f.setup → x.past ≡ lent_two a b x.number
+    → MatchOption o (names_guardian e.step (events_there f.registry) x.number ≡ false) (λ plan. IsPlannedAt f a b e x (made_for plan) (planned plan))
+    → MatchOption o (x' ≡ x) (λ plan. x' ≡ kept x (stamped n (planned plan)))
+    → x' ≡ after_step x (n, e) f.registry (lent_two a b)
+left_at f a b x x' e n None made_for planned s p q h = left_unnamed f a b x x' e n p q h
+left_at f a b x x' e n (Some plan) made_for planned s p q h =
+    left_named f a b x x' e n s p q.named (h ∙ ap (λ news. kept x (stamped n news)) q.planned)
+
+pub left_there : {P : Type 0} (f f' : ForestState) (a b : GuardianState) (e : Event) (n : ℕ) (o : Option P) (made_for : P → ForestState) (planned : P → RegistryNews)
+    → MatchOption o (takes_registry e.step ≡ false) (λ plan. IsPlannedThere f a b e (made_for plan) (planned plan))
+    → MatchOption o (f' ≡ f) (λ plan. f' ≡ record f { registry = stamped_there n (planned plan) ∷ f.registry })
+    → f' ≡ record f { registry = registry_after f.setup (n, e) f.registry (lent_two a b) }
+left_there f f' a b e n None made_for planned q h =
+    h ∙ ap (λ r. record f { registry = r }) (sym (ap (λ t. cond t (registry_event_lent f.setup (n, e) f.registry (lent_two a b) ∷ f.registry) f.registry) q))
+left_there f f' a b e n (Some plan) made_for planned q h =
+    h ∙ ap (λ news. record f { registry = stamped_there n news ∷ f.registry }) q.planned
+    ∙ ap (λ r. record f { registry = r }) (sym (ap (λ t. cond t (registry_event_lent f.setup (n, e) f.registry (lent_two a b) ∷ f.registry) f.registry) q.takes))
+
+-- one store only is written to
+quiet : (step : Step) (f : ForestState) (m n : ℕ) → names_guardian step (events_there f.registry) m ≡ true → names_guardian step (events_there f.registry) n ≡ true
+    → (m == n) ≡ false → stores step m ≡ true → stores step n ≡ false
+quiet (Prepare h t) f m n p q d s = of (h == n) refl
+  where
+    of : (t : Bool) → (h == n) ≡ t → (h == n) ≡ false
+    of false e = e
+    of true e = absurd (true≢false (sym (sym (ap (λ k. k == n) (eqb-true h m s)) ∙ e) ∙ d))
+quiet (Decide t) f m n p q d s = absurd (true≢false (sym (ap (λ k. k == n) (sym (eqb-true (home_of t (events_there f.registry)) m p)) ∙ q) ∙ d))
+quiet (Tell h a) f m n p q d s = absurd (true≢false (sym (ap (λ k. k == n) (sym (eqb-true h m p)) ∙ q) ∙ d))
+quiet (Recover h) f m n p q d s = absurd (true≢false (sym (ap (λ k. k == n) (sym (eqb-true h m p)) ∙ q) ∙ d))
+quiet (Top g) f m n p q d s = absurd (false≢true s)
+quiet (NestedTop a) f m n p q d s = absurd (false≢true s)
+quiet (Call a g) f m n p q d s = absurd (false≢true s)
+quiet (Arms a kinds) f m n p q d s = absurd (false≢true s)
+quiet (Op a x wanted) f m n p q d s = absurd (false≢true s)
+quiet (Commit a) f m n p q d s = absurd (false≢true s)
+quiet (Close t) f m n p q d s = absurd (false≢true s)
+quiet (Abort a) f m n p q d s = absurd (false≢true s)
+quiet (Crash g) f m n p q d s = absurd (false≢true s)
+
+-- so the other plan writes to none
+pub quiet_plan : {P : Type 0} (f : ForestState) (a b x y : GuardianState) (e : Event) (o : Option P) (made_for : P → GuardianState) (planned : P → News)
+    → names_guardian e.step (events_there f.registry) x.number ≡ true → stores e.step x.number ≡ true → (x.number == y.number) ≡ false
+    → MatchOption o (names_guardian e.step (events_there f.registry) y.number ≡ false) (λ plan. IsPlannedAt f a b e y (made_for plan) (planned plan))
+    → MatchOption o (Unit {0}) (λ plan. IsFalse (stores (planned plan).event.step y.number))
+quiet_plan f a b x y e None made_for planned n s d q = tt
+quiet_plan f a b x y e (Some plan) made_for planned n s d q =
+    ap (λ news. stores news.event.step y.number) q.planned ∙ quiet e.step f x.number y.number n q.named d s

@@ -1,0 +1,5 @@
+pub mod Nothing
+pub mod Owing
+pub mod New
+pub mod Left
+pub mod Own

@@ -1,0 +1,9 @@
+use Rattle.std.proofs.Common.{sym, ◌∙◌}
+use Rattle.layer_contracts.specs.Guardians.{GuardianState}
+use Rattle.lent_steps.proofs.Own.{home_here}
+use Rattle.lent_steps.proofs.here.HereReadsAction.home.Goals as goal
+
+pub returns : goal.returns
+returns g c =
+    let x : GuardianState = g.G.Guardian.state c.args.self.now.guardian.now in
+    c.number.ensures ∙ sym (home_here x.number c.args._action.now x.past c.requires.begun)

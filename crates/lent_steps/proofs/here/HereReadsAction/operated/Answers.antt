@@ -1,0 +1,15 @@
+use Rattle.layer_contracts.specs.Guardians.{GuardianState}
+use Rattle.run_model.specs.LocalReadings.{facts_here}
+use Rattle.lent_steps.proofs.Own.{object_own}
+use Rattle.lent_steps.proofs.Nothing.{is_known}
+use Rattle.lent_steps.proofs.here.HereReadsAction.operated.Goals as goal
+
+pub operated-requires-clause-own : goal.operated-requires-clause-own
+operated-requires-clause-own g c =
+    let x : GuardianState = g.G.Guardian.state c.args.self.now.guardian.now in
+    object_own x.setup x.number c.args.action.now c.args.object c.args.operation.now x.past c.requires.accepted
+
+pub operated-requires-clause-known : goal.operated-requires-clause-known
+operated-requires-clause-known g c =
+    let x : GuardianState = g.G.Guardian.state c.args.self.now.guardian.now in
+    is_known x.setup (facts_here x.setup x.number x.past) c.args.action.now c.args.object c.args.operation.now c.requires.accepted

@@ -1,0 +1,10 @@
+use Rattle.std.proofs.Common.{◌≡◌, ◌++◌, drop}
+use Rattle.layer_contracts.specs.Messages.{sent_of}
+use Rattle.lent_steps.specs.Lending.{new_from}
+use Rattle.lent_steps.proofs.lent.Lent.dependencies_of_new.Given as goal
+
+-- those so far, with those to come
+abbrev pub invariant-loop-name : goal.invariant-loop-name
+invariant-loop-name g l =
+    sent_of l.sent.items ++ new_from (g.R.Forest.state l.fn.self.forest.now) l.home l.life (drop l.name-index l.names)
+    ≡ new_from (g.R.Forest.state l.fn.self.forest.now) l.home l.life l.names

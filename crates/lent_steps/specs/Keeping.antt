@@ -1,0 +1,64 @@
+-- What an accepted step leaves of what it was lent.
+use Rattle.std.specs.Prelude.{◌≡◌, ℕ, Bool, true, false, IsTrue}
+use Rattle.run_model.specs.declared.step.Step.{Step}
+use Rattle.run_model.specs.declared.step.Step.TheVariants.{Op}
+use Rattle.run_model.specs.declared.answer.Answer.{Answer}
+use Rattle.run_model.specs.declared.history.Event.{Event}
+use Rattle.run_model.specs.Runs.{is_accepted}
+use Rattle.run_model.specs.LocalHistories.{answer_lent, carried_lent, events_there, home_lent, life_lent, names_guardian, registry_after, takes_registry}
+use Rattle.local_laws.specs.Owed.{IsOwed}
+use Rattle.layer_contracts.specs.Guardians.{GuardianState, News, after_step, kept, lent_two, stamped}
+use Rattle.layer_contracts.specs.Forests.{ForestState, RegistryNews, begun_at}
+use Rattle.layer_contracts.specs.Messages.{nothing_carried}
+
+abbrev pub is_operation : Step → Bool
+is_operation (Op a x wanted) = true
+is_operation _ = false
+
+-- The event is answered as what was lent has it, and accepted. Of an operation what its guardian's own history asks is asked of the
+-- caller: the forest, which alone is read here for whether the action was begun, does not say that it is on the roster.
+pub record IsAnswered (f : ForestState) (a b : GuardianState) (e : Event) : Type 0 where
+  pub answer : e.answer ≡ answer_lent f.setup f.registry (lent_two a b) e.step
+  pub accepted : IsTrue (is_accepted e.answer)
+  pub operation : (g : ℕ) → IsTrue (is_operation e.step) → names_guardian e.step (events_there f.registry) g ≡ true
+      → IsOwed f.setup g (stamped 0 (record { event = e; carried = carried_lent f.setup e g f.registry (lent_two a b) })) (lent_two a b g) e.step
+
+-- a plan for a guardian that the event names
+pub record IsPlannedAt (f : ForestState) (a b : GuardianState) (e : Event) (x state : GuardianState) (news : News) : Type 0 where
+  pub named : names_guardian e.step (events_there f.registry) x.number ≡ true
+  pub made : state ≡ x
+  pub planned : news ≡ record { event = e; carried = carried_lent f.setup e x.number f.registry (lent_two a b) }
+
+-- and for the forest
+pub record IsPlannedThere (f : ForestState) (a b : GuardianState) (e : Event) (state : ForestState) (news : RegistryNews) : Type 0 where
+  pub takes : takes_registry e.step ≡ true
+  pub made : state ≡ f
+  pub planned : news ≡ record { event = e; begun = begun_at f (home_lent e.step f.registry) (life_lent e.step f.registry (lent_two a b)) e.answer }
+
+-- the forest and two guardians after the event, with its stamp
+pub record IsDone (f : ForestState) (a b : GuardianState) (e : Event) (n : ℕ) (f' : ForestState) (a' b' : GuardianState) : Type 0 where
+  pub forest : f' ≡ record f { registry = registry_after f.setup (n, e) f.registry (lent_two a b) }
+  pub first : a' ≡ after_step a (n, e) f.registry (lent_two a b)
+  pub second : b' ≡ after_step b (n, e) f.registry (lent_two a b)
+
+-- the forest and two guardians, unchanged
+pub record AreSame (f : ForestState) (a b : GuardianState) (f' : ForestState) (a' b' : GuardianState) : Type 0 where
+  pub forest : f' ≡ f
+  pub first : a' ≡ a
+  pub second : b' ≡ b
+
+-- What a step that was answered leaves of all that it was lent: an accepted one is kept with a stamp that was drawn, and no other leaves a trace.
+abbrev pub IsStepped : (ℕ → Type 0) → Step → Answer → ForestState → GuardianState → GuardianState → ForestState → GuardianState → GuardianState → Type 0
+IsStepped drawn step answer f a b f' a' b' = of (is_accepted answer)
+  where
+    of : Bool → Type 0
+    of true = (n : ℕ) × drawn n × IsDone f a b (record { step = step; answer = answer }) n f' a' b'
+    of false = AreSame f a b f' a' b'
+
+-- and what an operation leaves of its guardian, which no message reaches
+abbrev pub IsOperated : (ℕ → Type 0) → Step → Answer → GuardianState → GuardianState → Type 0
+IsOperated drawn step answer g g' = of (is_accepted answer)
+  where
+    of : Bool → Type 0
+    of true = (n : ℕ) × drawn n × (g' ≡ kept g (stamped n (record { event = record { step = step; answer = answer }; carried = nothing_carried })))
+    of false = g' ≡ g

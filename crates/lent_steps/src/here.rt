@@ -1,0 +1,160 @@
+//! An operation, which one guardian answers and keeps by itself.
+ghost use Rattle.std.specs.Prelude.{◌≡◌, ℕ, IfOk, OnOk, OnErr, IsTrue};
+ghost use Rattle.run_model.specs.declared.step.Step.TheVariants as steps;
+ghost use Rattle.run_model.specs.LocalReadings.{facts_here, operation_here, results_here};
+ghost use Rattle.run_model.specs.Runs.{is_accepted};
+ghost use Rattle.local_laws.specs.Owed.{IsOwed};
+ghost use Rattle.layer_contracts.specs.Guardians.{kept, stamped};
+ghost use Rattle.layer_contracts.specs.Messages.{carried_of, nothing_carried};
+ghost use Rattle.lent_steps.specs.Keeping.{IsOperated, is_operation};
+
+use action_names::{Name, Names};
+use layer_contracts::{Guardian, Message};
+use run_model::{Answer, Event, ObjectId, Op, Setup, Step};
+use std::alloc::{AllocError, Global};
+use step_answers::{ReadsAction, operation_of};
+
+/// What an operation reads of one guardian: the actions on its roster, and its objects.
+#[derive(Drop)]
+pub struct Here<'a, G> {
+    pub guardian: &'a G,
+}
+
+impl<'a, G: Guardian> ReadsAction for Here<'a, G> {
+    ghost setup = { λ x. (G.state x.guardian.now).setup };
+
+    ghost facts = { λ x. facts_here (G.state x.guardian.now).setup (G.state x.guardian.now).number (G.state x.guardian.now).past };
+
+    ghost results = { λ x. results_here (G.state x.guardian.now).setup (G.state x.guardian.now).past };
+
+    ghost is_sound = { λ x. Unit {0} };
+
+    fn setup(&self) -> &Setup {
+        self.guardian.setup()
+    }
+
+    fn is_begun(&self, action: &Name) -> bool {
+        self.guardian.is_there(action)
+    }
+
+    fn is_done(&self, action: &Name) -> bool {
+        self.guardian.is_done(action)
+    }
+
+    fn is_busy(&self, action: &Name) -> bool {
+        self.guardian.is_busy(action)
+    }
+
+    fn is_gone(&self, action: &Name) -> bool {
+        self.guardian.is_gone(action)
+    }
+
+    fn is_orphan(&self, action: &Name) -> Result<bool, AllocError> {
+        self.guardian.is_orphan(action)
+    }
+
+    fn home(&self, _action: &Name) -> u32 {
+        self.guardian.number()
+    }
+
+    fn operated(
+        &self,
+        action: &Name,
+        object: ObjectId,
+        operation: &Op,
+    ) -> Result<Answer, AllocError> {
+        self.guardian.operated(action, object, operation)
+    }
+}
+
+/// An operation of an action on the guardian's roster, answered and kept by the guardian alone. One that is refused or waits changes nothing, and
+/// so does a want of memory. An action that is not on the roster is no action here: whether there is one elsewhere the forest knows.
+pub fn operate<G: Guardian, F: FnOnce() -> u64>(
+    alloc: Global,
+    guardian: &mut G,
+    action: &Name,
+    object: ObjectId,
+    operation: &Op,
+    stamp: F,
+) -> Result<Answer, AllocError>
+    requires { F.pre stamp }
+    ensures answer { IfOk result (λ answer. answer ≡ operation_here (G.state guardian.old).setup (G.state guardian.old).number action.now object operation.now
+        (G.state guardian.old).past) }
+    ensures kept { IfOk result (λ answer. IsOperated (λ n. F.post stamp n) (steps.Op action.now object operation.now) answer (G.state guardian.old)
+        (G.state guardian.new)) }
+    ensures err { OnErr result (G.state guardian.new ≡ G.state guardian.old) }
+{
+    let answer = answer_here(guardian, action, object, operation)?;
+    if !answer.is_accepted() {
+        return Ok(answer);
+    }
+    let event = operation_event(action, object, operation, &answer)?;
+    keep_operation(alloc, guardian, &event, stamp)?;
+    Ok(answer)
+}
+
+/// The answer of the operation.
+fn answer_here<G: Guardian>(
+    guardian: &G,
+    action: &Name,
+    object: ObjectId,
+    operation: &Op,
+) -> Result<Answer, AllocError>
+    ensures { IfOk result (λ answer. answer ≡ operation_here (G.state guardian.now).setup (G.state guardian.now).number action.now object operation.now
+        (G.state guardian.now).past) }
+{
+    let here = Here { guardian };
+    operation_of(&here, action, object, operation)
+}
+
+/// The event that the operation with this answer is, of copies.
+fn operation_event(
+    action: &Name,
+    object: ObjectId,
+    operation: &Op,
+    answer: &Answer,
+) -> Result<Event, AllocError>
+    ensures { IfOk result (λ event. event ≡ record { step = steps.Op action.now object operation.now; answer = answer.now }) }
+{
+    let action = action.copy()?;
+    let operation = operation.copy()?;
+    Ok(Event {
+        step: Step::Op(action, object, operation),
+        answer: answer.copy()?,
+    })
+}
+
+/// Keeps an accepted operation, which brings no message.
+fn keep_operation<G: Guardian, F: FnOnce() -> u64>(
+    alloc: Global,
+    guardian: &mut G,
+    event: &Event,
+    stamp: F,
+) -> Result<(), AllocError>
+    requires stamp { F.pre stamp }
+    requires operation { IsTrue (is_operation event.now.step) }
+    requires accepted { IsTrue (is_accepted event.now.answer) }
+    requires owed { IsOwed (G.state guardian.old).setup (G.state guardian.old).number (stamped 0 (record { event = event.now; carried = nothing_carried }))
+        (G.state guardian.old).past event.now.step }
+    ensures ok { OnOk result ((n : ℕ) × F.post stamp n × (G.state guardian.new ≡ kept (G.state guardian.old)
+        (stamped n (record { event = event.now; carried = nothing_carried })))) }
+    ensures err { OnErr result (G.state guardian.new ≡ G.state guardian.old) }
+{
+    let plan = guardian.plan(event, no_message(alloc))?;
+    let number = stamp();
+    guardian.install(plan, number);
+    Ok(())
+}
+
+fn no_message(alloc: Global) -> Message
+    ensures { carried_of result ≡ nothing_carried }
+{
+    Message {
+        sender: None,
+        life: 0,
+        aborts: Names::new(alloc),
+        counts: Vec::new(alloc),
+        dependencies: Vec::new(alloc),
+        outcomes: Vec::new(alloc),
+    }
+}

@@ -1,0 +1,182 @@
+//! What an accepted step leaves of the forest and of the guardians that it was lent.
+ghost use Rattle.std.specs.Prelude.{◌≡◌, ◌==◌, ◌∷◌, ℕ, Bool, true, false, IfOk, OnErr, IsTrue, IsFalse, MatchOption};
+ghost use Rattle.run_model.specs.Runs.{is_accepted};
+ghost use Rattle.run_model.specs.LocalHistories.{answer_lent, carried_lent, events_there, home_lent, life_lent, names_guardian, registry_after, takes_registry};
+ghost use Rattle.layer_contracts.specs.Guardians.{after_step, kept, lent_two, stamped};
+ghost use Rattle.layer_contracts.specs.Messages.{stores};
+ghost use Rattle.layer_contracts.specs.Forests.{stamped_there};
+ghost use Rattle.lent_steps.specs.Lending.{IsOneOf, OneSetup};
+ghost use Rattle.lent_steps.specs.Keeping.{IsAnswered, IsDone, IsPlannedAt, IsPlannedThere, is_operation};
+
+use crate::lent::Lent;
+use crate::names::{home_of_new, named, takes_registry};
+use layer_contracts::{Fault, Forest, Guardian};
+use run_model::{Event, Step};
+use std::alloc::{AllocError, Global};
+
+/// Whether the step names the guardian of this number.
+fn is_named<R: Forest>(forest: &R, step: &Step, guardian: u32) -> bool
+    ensures { result ≡ names_guardian step.now (events_there (R.state forest.now).registry) guardian }
+{
+    let (first, second) = named(forest, step);
+    first == guardian || second == guardian
+}
+
+impl<'a, R: Forest, G: Guardian> Lent<'a, R, G> {
+    /// What the event changes at the guardian, if it names it.
+    fn plan_at(&self, event: &Event, at: &G) -> Result<Option<G::Plan>, AllocError>
+        requires sound { OneSetup (R.state self.now.forest.now) (G.state self.now.first.now) (G.state self.now.second.now) }
+        requires one { IsOneOf (G.state self.now.first.now) (G.state self.now.second.now) (G.state at.now) }
+        requires setup { (G.state at.now).setup ≡ (R.state self.now.forest.now).setup }
+        requires answered { IsAnswered (R.state self.now.forest.now) (G.state self.now.first.now) (G.state self.now.second.now) event.now }
+        ensures { IfOk result (λ planned. MatchOption planned
+            (names_guardian event.now.step (events_there (R.state self.now.forest.now).registry) (G.state at.now).number ≡ false)
+            (λ plan. IsPlannedAt (R.state self.now.forest.now) (G.state self.now.first.now) (G.state self.now.second.now) event.now (G.state at.now)
+            (G.made_for plan) (G.planned plan))) }
+    {
+        if !is_named(self.forest, &event.step, at.number()) {
+            return Ok(None);
+        }
+        let message = self.message(event, at)?;
+        Ok(Some(at.plan(event, message)?))
+    }
+
+    /// What the event changes in the forest, if it does.
+    fn plan_there(&self, event: &Event) -> Result<Option<R::Plan>, AllocError>
+        requires answered { IsAnswered (R.state self.now.forest.now) (G.state self.now.first.now) (G.state self.now.second.now) event.now }
+        ensures { IfOk result (λ planned. MatchOption planned
+            (takes_registry event.now.step ≡ false)
+            (λ plan. IsPlannedThere (R.state self.now.forest.now) (G.state self.now.first.now) (G.state self.now.second.now) event.now
+            (R.made_for plan) (R.planned plan))) }
+    {
+        if !takes_registry(&event.step) {
+            return Ok(None);
+        }
+        let home = home_of_new(self.forest, &event.step);
+        let life = self.crashes_at(home);
+        Ok(Some(self.forest.plan(event, home, life)?))
+    }
+}
+
+/// Whether the event may write to the store of this guardian, which it names.
+fn stores(step: &Step, guardian: u32) -> bool
+    ensures { result ≡ stores step.now guardian }
+{
+    match step {
+        Step::Prepare(at, _) => *at == guardian,
+        Step::Decide(_) | Step::Tell(..) | Step::Recover(_) => true,
+        _ => false,
+    }
+}
+
+fn carry_out<G: Guardian, F: FnOnce() -> u64>(
+    guardian: &mut G,
+    plan: Option<G::Plan>,
+    stamp: F,
+) -> Result<u64, Fault>
+    requires stamp { F.pre stamp }
+    requires made { MatchOption plan (Unit {0}) (λ plan. G.made_for plan ≡ G.state guardian.old) }
+    ensures drawn { IfOk result (λ n. F.post stamp n) }
+    ensures kept { IfOk result (λ n. MatchOption plan (G.state guardian.new ≡ G.state guardian.old)
+        (λ plan. G.state guardian.new ≡ kept (G.state guardian.old) (stamped n (G.planned plan)))) }
+    ensures err { OnErr result (G.state guardian.new ≡ G.state guardian.old) }
+{
+    match plan {
+        Some(plan) => guardian.carry_out(plan, stamp),
+        None => Ok(stamp()),
+    }
+}
+
+fn install<G: Guardian>(guardian: &mut G, plan: Option<G::Plan>, stamp: u64)
+    requires made { MatchOption plan (Unit {0}) (λ plan. G.made_for plan ≡ G.state guardian.old) }
+    requires quiet { MatchOption plan (Unit {0}) (λ plan. IsFalse (stores (G.planned plan).event.step (G.state guardian.old).number)) }
+    ensures { MatchOption plan (G.state guardian.new ≡ G.state guardian.old)
+        (λ plan. G.state guardian.new ≡ kept (G.state guardian.old) (stamped stamp (G.planned plan))) }
+{
+    if let Some(plan) = plan {
+        guardian.install(plan, stamp);
+    }
+}
+
+fn install_there<R: Forest>(forest: &mut R, plan: Option<R::Plan>, stamp: u64)
+    requires { MatchOption plan (Unit {0}) (λ plan. R.made_for plan ≡ R.state forest.old) }
+    ensures { MatchOption plan (R.state forest.new ≡ R.state forest.old)
+        (λ plan. R.state forest.new ≡ record (R.state forest.old) { registry = stamped_there stamp (R.planned plan) ∷ (R.state forest.old).registry }) }
+{
+    if let Some(plan) = plan {
+        forest.install(plan, stamp);
+    }
+}
+
+/// After an accepted step that was lent two guardians: all of them keep its event as far as it names them. Room is made first; then comes
+/// the one call of a store, if there is one, then the stamp, then what cannot fail. After an error all are as they were.
+pub fn keep_two<R: Forest, G: Guardian, F: FnOnce() -> u64>(
+    alloc: Global,
+    forest: &mut R,
+    first: &mut G,
+    second: &mut G,
+    event: &Event,
+    stamp: F,
+) -> Result<u64, Fault>
+    requires stamp { F.pre stamp }
+    requires sound { OneSetup (R.state forest.old) (G.state first.old) (G.state second.old) }
+    requires differ { ((G.state first.old).number == (G.state second.old).number) ≡ false }
+    requires answered { IsAnswered (R.state forest.old) (G.state first.old) (G.state second.old) event.now }
+    ensures drawn { IfOk result (λ n. F.post stamp n) }
+    ensures done { IfOk result (λ n. IsDone (R.state forest.old) (G.state first.old) (G.state second.old) event.now n
+        (R.state forest.new) (G.state first.new) (G.state second.new)) }
+    ensures forest_same { OnErr result (R.state forest.new ≡ R.state forest.old) }
+    ensures first_same { OnErr result (G.state first.new ≡ G.state first.old) }
+    ensures second_same { OnErr result (G.state second.new ≡ G.state second.old) }
+{
+    let lent = Lent {
+        alloc,
+        forest: &*forest,
+        first: &*first,
+        second: &*second,
+    };
+    let there = lent.plan_there(event)?;
+    let one = lent.plan_at(event, lent.first)?;
+    let other = lent.plan_at(event, lent.second)?;
+    if one.is_some() && stores(&event.step, first.number()) {
+        let number = carry_out(first, one, stamp)?;
+        install(second, other, number);
+        install_there(forest, there, number);
+        Ok(number)
+    } else {
+        let number = carry_out(second, other, stamp)?;
+        install(first, one, number);
+        install_there(forest, there, number);
+        Ok(number)
+    }
+}
+
+/// The same after one that was lent one guardian.
+pub fn keep_one<R: Forest, G: Guardian, F: FnOnce() -> u64>(
+    alloc: Global,
+    forest: &mut R,
+    guardian: &mut G,
+    event: &Event,
+    stamp: F,
+) -> Result<u64, Fault>
+    requires stamp { F.pre stamp }
+    requires sound { OneSetup (R.state forest.old) (G.state guardian.old) (G.state guardian.old) }
+    requires answered { IsAnswered (R.state forest.old) (G.state guardian.old) (G.state guardian.old) event.now }
+    ensures drawn { IfOk result (λ n. F.post stamp n) }
+    ensures done { IfOk result (λ n. IsDone (R.state forest.old) (G.state guardian.old) (G.state guardian.old) event.now n
+        (R.state forest.new) (G.state guardian.new) (G.state guardian.new)) }
+    ensures forest_same { OnErr result (R.state forest.new ≡ R.state forest.old) }
+    ensures guardian_same { OnErr result (G.state guardian.new ≡ G.state guardian.old) }
+{
+    let lent = Lent {
+        alloc,
+        forest: &*forest,
+        first: &*guardian,
+        second: &*guardian,
+    };
+    let there = lent.plan_there(event)?;
+    let here = lent.plan_at(event, lent.first)?;
+    let number = carry_out(guardian, here, stamp)?;
+    install_there(forest, there, number);
+    Ok(number)
+}

@@ -1,0 +1,159 @@
+ghost use Rattle.std.specs.Prelude.{◌≡◌, ◌≤◌, ℕ, [], IfOk, MatchOption, IsTrue, None};
+ghost use Rattle.layer_contracts.specs.Guardians.{lent_two};
+ghost use Rattle.lent_steps.specs.Lending.{IsAt, OneSetup, facts_two, results_two};
+
+use action_names::Name;
+use atomic_types::AtomicType;
+use layer_contracts::{Forest, Guardian};
+use run_model::{Answer, ObjectId, Op, Setup};
+use std::alloc::{AllocError, Global};
+use step_answers::{Reads, ReadsAction, opening};
+
+/// What a step reads that is lent the forest and two guardians, or one guardian twice.
+#[derive(Drop)]
+pub struct Lent<'a, R, G> {
+    pub alloc: Global,
+    pub forest: &'a R,
+    pub first: &'a G,
+    pub second: &'a G,
+}
+
+impl<'a, R: Forest, G: Guardian> Lent<'a, R, G> {
+    /// The guardian of this number, if it is lent.
+    pub fn at(&self, guardian: u32) -> Option<&'a G>
+        ensures { MatchOption result (lent_two (G.state self.now.first.now) (G.state self.now.second.now) guardian ≡ [])
+            (λ x. IsAt (R.state self.now.forest.now) (G.state self.now.first.now) (G.state self.now.second.now) guardian (G.state x.now)) }
+    {
+        if self.first.number() == guardian {
+            return Some(self.first);
+        }
+        if self.second.number() == guardian {
+            return Some(self.second);
+        }
+        None
+    }
+}
+
+impl<'a, R: Forest, G: Guardian> ReadsAction for Lent<'a, R, G> {
+    ghost setup = { λ x. (R.state x.forest.now).setup };
+
+    ghost facts = { λ x. facts_two (R.state x.forest.now) (G.state x.first.now) (G.state x.second.now) };
+
+    ghost results = { λ x. results_two (R.state x.forest.now) (G.state x.first.now) (G.state x.second.now) };
+
+    ghost is_sound = { λ x. OneSetup (R.state x.forest.now) (G.state x.first.now) (G.state x.second.now) };
+
+    fn setup(&self) -> &Setup {
+        self.forest.setup()
+    }
+
+    fn is_begun(&self, action: &Name) -> bool {
+        self.forest.is_begun(action)
+    }
+
+    fn is_done(&self, action: &Name) -> bool {
+        self.forest.is_done(action)
+    }
+
+    fn is_busy(&self, action: &Name) -> bool {
+        self.forest.is_busy(action)
+    }
+
+    fn is_gone(&self, action: &Name) -> bool {
+        let home = self.forest.home(action.components());
+        match self.at(home) {
+            Some(guardian) => guardian.is_gone(action),
+            None => false,
+        }
+    }
+
+    fn is_orphan(&self, action: &Name) -> Result<bool, AllocError> {
+        let home = self.forest.home(action.components());
+        match self.at(home) {
+            Some(guardian) => guardian.is_orphan(action),
+            None => Ok(false),
+        }
+    }
+
+    fn home(&self, action: &Name) -> u32 {
+        self.forest.home(action.components())
+    }
+
+    fn operated(
+        &self,
+        action: &Name,
+        object: ObjectId,
+        operation: &Op,
+    ) -> Result<Answer, AllocError> {
+        match self.at(object.guardian) {
+            Some(guardian) => guardian.operated(action, object, operation),
+            None => {
+                let Some(content) = opening(self.forest.setup(), object) else {
+                    unreachable!()
+                };
+                let mut content = content.copy()?;
+                Ok(Answer::Granted(content.apply(operation)?))
+            }
+        }
+    }
+}
+
+impl<'a, R: Forest, G: Guardian> Reads for Lent<'a, R, G> {
+    fn alloc(&self) -> Global {
+        self.alloc
+    }
+
+    fn is_ended(&self, action: &Name) -> bool {
+        self.forest.is_ended(action)
+    }
+
+    fn is_closed(&self, action: &Name) -> bool {
+        self.forest.is_closed(action)
+    }
+
+    fn is_ready(&self, top: &Name) -> bool {
+        self.forest.is_ready(top)
+    }
+
+    fn next(&self, path: &[u32]) -> u64 {
+        self.forest.next(path)
+    }
+
+    fn is_down(&self, guardian: u32) -> bool {
+        match self.at(guardian) {
+            Some(guardian) => guardian.is_down(),
+            None => false,
+        }
+    }
+
+    fn takes_part(&self, guardian: u32, top: &Name) -> bool {
+        self.forest.dependency(top, guardian).is_some()
+    }
+
+    fn has_voted(&self, guardian: u32, top: &Name) -> bool {
+        self.forest.has_voted(guardian, top)
+    }
+
+    fn was_told(&self, guardian: u32, action: &Name) -> bool {
+        match self.at(guardian) {
+            Some(guardian) => guardian.was_told(action),
+            None => false,
+        }
+    }
+
+    fn votes_yes(&self, guardian: u32, top: &Name) -> bool {
+        let crashes = match self.at(guardian) {
+            Some(guardian) => guardian.crashes(),
+            None => 0,
+        };
+        self.forest.dependency(top, guardian) == Some(crashes)
+    }
+
+    fn told_count(&self, guardian: u32, action: &Name) -> Result<u64, AllocError> {
+        let committed = self.forest.is_committed(action);
+        Ok(match self.at(guardian) {
+            Some(guardian) => guardian.told_count(action, committed),
+            None => 0,
+        })
+    }
+}

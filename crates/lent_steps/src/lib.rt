@@ -1,0 +1,19 @@
+//! A step over the forest and the guardians that it names: what it is answered, and what it leaves. An operation needs its guardian alone.
+//!
+//! Everything here is proved of what the step is lent, whatever forest and guardians keep to `layer_contracts`. No flat history is in it.
+#![tactic(auto)]
+
+mod alone;
+mod answering;
+mod here;
+mod keeping;
+mod lent;
+mod messages;
+mod names;
+
+pub use alone::Alone;
+pub use answering::{answer_alone, answer_two};
+pub use here::{Here, operate};
+pub use keeping::{keep_one, keep_two};
+pub use lent::Lent;
+pub use names::named;

@@ -1,0 +1,196 @@
+//! What the messages of an event bring to one of the guardians that it names.
+ghost use Rattle.std.specs.Prelude.{◌≡◌, ℕ, ◌==◌, List, [], ◌∷◌, map, filter, IfOk, None, Some, IsTrue};
+ghost use Rattle.run_model.specs.Actions.{crashes, home_of, names_begun};
+ghost use Rattle.run_model.specs.LocalReadings.{events_here};
+ghost use Rattle.run_model.specs.LocalHistories.{action_lent, aborts_from, carried_lent, counts_of_sender, dependencies_sent, dependency_there, entries_of, events_there, home_lent, life_lent, outcomes_carried, sender_lent, sender_life};
+ghost use Rattle.layer_contracts.specs.Guardians.{lent_two};
+ghost use Rattle.layer_contracts.specs.Messages.{carried_of, sent_of};
+ghost use Rattle.lent_steps.specs.Lending.{IsOneOf, OneSetup, dependencies_two, new_from, new_two};
+
+use crate::lent::Lent;
+use crate::names::{home_of_new, names_begun, parent_path};
+use action_names::{Name, Names};
+use layer_contracts::{Forest, Guardian, Message};
+use run_model::{Event, Step};
+use std::alloc::AllocError;
+use step_answers::Reads;
+
+impl<'a, R: Forest, G: Guardian> Lent<'a, R, G> {
+    /// What the event brings to the guardian, which is one of those that are lent.
+    pub fn message(&self, event: &Event, at: &G) -> Result<Message, AllocError>
+        requires sound { OneSetup (R.state self.now.forest.now) (G.state self.now.first.now) (G.state self.now.second.now) }
+        requires one { IsOneOf (G.state self.now.first.now) (G.state self.now.second.now) (G.state at.now) }
+        ensures { IfOk result (λ message. carried_of message ≡ carried_lent (R.state self.now.forest.now).setup event.now (G.state at.now).number
+            (R.state self.now.forest.now).registry (lent_two (G.state self.now.first.now) (G.state self.now.second.now))) }
+    {
+        let sender = self.sender(&event.step, at.number());
+        let life = self.life_of(sender);
+        let (aborts, counts) = self.lists(sender, at)?;
+        Ok(Message {
+            sender,
+            life,
+            aborts,
+            counts,
+            dependencies: self.dependencies(event, at.number())?,
+            outcomes: self.outcomes(&event.step, at)?,
+        })
+    }
+
+    /// Whose lists the step carries to the guardian of this number.
+    fn sender(&self, step: &Step, at: u32) -> Option<u32>
+        ensures { result ≡ sender_lent step.now at (R.state self.now.forest.now).registry (lent_two (G.state self.now.first.now) (G.state self.now.second.now)) }
+    {
+        match step {
+            Step::Call(caller, to) => {
+                if *to == at {
+                    return Some(self.forest.home(caller.components()));
+                }
+                None
+            }
+            Step::Commit(action) => {
+                if self.forest.home(parent_path(action)) == at && !self.is_down(at) {
+                    return Some(self.forest.home(action.components()));
+                }
+                None
+            }
+            Step::Prepare(to, top) => {
+                if *to == at {
+                    return Some(self.forest.home(top.components()));
+                }
+                None
+            }
+            _ => None,
+        }
+    }
+
+    /// How often the guardian crashed, and 0 where it is not lent.
+    pub fn crashes_at(&self, guardian: u32) -> u64
+        ensures { result ≡ crashes guardian (events_here (lent_two (G.state self.now.first.now) (G.state self.now.second.now) guardian)) }
+    {
+        match self.at(guardian) {
+            Some(guardian) => guardian.crashes(),
+            None => 0,
+        }
+    }
+
+    fn life_of(&self, sender: Option<u32>) -> u64
+        ensures { result ≡ sender_life sender (lent_two (G.state self.now.first.now) (G.state self.now.second.now)) }
+    {
+        match sender {
+            Some(guardian) => self.crashes_at(guardian),
+            None => 0,
+        }
+    }
+
+    /// What the sender has not sent yet of its lists.
+    fn lists(&self, sender: Option<u32>, at: &G) -> Result<(Names, Vec<(u32, u64)>), AllocError>
+        requires { IsOneOf (G.state self.now.first.now) (G.state self.now.second.now) (G.state at.now) }
+        ensures aborts { IfOk result (λ lists. lists.0 ≡ aborts_from sender (G.state at.now).number (lent_two (G.state self.now.first.now) (G.state self.now.second.now))) }
+        ensures counts { IfOk result (λ lists. lists.1.items ≡ counts_of_sender sender (G.state at.now).number (lent_two (G.state self.now.first.now) (G.state self.now.second.now))) }
+    {
+        let Some(number) = sender else {
+            return Ok((Names::new(self.alloc), Vec::new(self.alloc)));
+        };
+        let Some(from) = self.at(number) else {
+            return Ok((Names::new(self.alloc), Vec::new(self.alloc)));
+        };
+        let aborts = from.unsent_aborts(at)?;
+        let counts = from.unsent_counts(at)?;
+        Ok((aborts, counts))
+    }
+
+    /// What the event says of dependencies to the guardian of this number.
+    fn dependencies(
+        &self,
+        event: &Event,
+        at: u32,
+    ) -> Result<Vec<(Name, Vec<(u32, u64)>)>, AllocError>
+        ensures { IfOk result (λ sent. sent_of sent.items ≡ dependencies_two (R.state self.now.forest.now)
+            (G.state self.now.first.now) (G.state self.now.second.now) event.now at) }
+    {
+        match &event.step {
+            Step::Commit(action) => {
+                if self.forest.home(parent_path(action)) == at {
+                    return self.dependencies_of(action);
+                }
+                Ok(Vec::new(self.alloc))
+            }
+            Step::Prepare(to, top) => {
+                if *to == at {
+                    return self.dependencies_of(top);
+                }
+                Ok(Vec::new(self.alloc))
+            }
+            _ => self.new_dependencies(event, at),
+        }
+    }
+
+    fn dependencies_of(&self, action: &Name) -> Result<Vec<(Name, Vec<(u32, u64)>)>, AllocError>
+        ensures { IfOk result (λ sent. sent_of sent.items ≡ (
+          action.now,
+          entries_of (R.state self.now.forest.now).setup (λ h. dependency_there action.now h (R.state self.now.forest.now).registry),
+        ) ∷ []) }
+    {
+        let mut sent = Vec::new(self.alloc);
+        sent.push((action.copy()?, self.forest.dependencies(action)?))?;
+        Ok(sent)
+    }
+
+    fn new_dependencies(
+        &self,
+        event: &Event,
+        at: u32,
+    ) -> Result<Vec<(Name, Vec<(u32, u64)>)>, AllocError>
+        ensures { IfOk result (λ sent. sent_of sent.items ≡ new_two (R.state self.now.forest.now)
+            (G.state self.now.first.now) (G.state self.now.second.now) event.now at) }
+    {
+        let home = home_of_new(self.forest, &event.step);
+        let life = self.crashes_at(home);
+        if home != at {
+            return Ok(Vec::new(self.alloc));
+        }
+        self.dependencies_of_new(names_begun(&event.answer), home, life)
+    }
+
+    fn dependencies_of_new(
+        &self,
+        names: &[Name],
+        home: u32,
+        life: u64,
+    ) -> Result<Vec<(Name, Vec<(u32, u64)>)>, AllocError>
+        ensures { IfOk result (λ sent. sent_of sent.items ≡ new_from (R.state self.now.forest.now) home life names.now) }
+    {
+        let mut sent = Vec::new(self.alloc);
+        for name in names {
+            sent.push((
+                name.copy()?,
+                self.forest.new_dependencies(name, home, life)?,
+            ))?;
+        }
+        Ok(sent)
+    }
+
+    /// What outcomes the step brings.
+    fn outcomes(&self, step: &Step, at: &G) -> Result<Vec<(Name, bool)>, AllocError>
+        requires { IsOneOf (G.state self.now.first.now) (G.state self.now.second.now) (G.state at.now) }
+        ensures { IfOk result (λ outcomes. outcomes.items ≡ outcomes_carried step.now (G.state at.now).number (events_there (R.state self.now.forest.now).registry)
+            (lent_two (G.state self.now.first.now) (G.state self.now.second.now) (G.state at.now).number)) }
+    {
+        match step {
+            Step::Tell(to, action) => {
+                let mut outcomes = Vec::new(self.alloc);
+                if *to == at.number() {
+                    outcomes.push((action.copy()?, self.forest.is_committed(action)))?;
+                }
+                Ok(outcomes)
+            }
+            Step::Prepare(to, top) => {
+                if *to == at.number() {
+                    return self.forest.outcomes_below(top, at);
+                }
+                Ok(Vec::new(self.alloc))
+            }
+            _ => Ok(Vec::new(self.alloc)),
+        }
+    }
+}

@@ -1,0 +1,10 @@
+pub mod Laws
+pub mod Standings
+pub mod Objects
+pub mod Rosters
+pub mod Known
+pub mod Answering
+pub mod Registries
+pub mod Owed
+pub mod Moving
+pub mod NoLocalRuns

@@ -1,0 +1,22 @@
+-- What an accepted step leaves.
+use Rattle.std.proofs.Common.{ℕ, true, ◌≡◌}
+use Rattle.std.proofs.lemmas.Bool.{false≢true}
+use Rattle.run_model.specs.declared.step.Step.{Step}
+use Rattle.run_model.specs.declared.answer.Answer.{Answer}
+use Rattle.run_model.specs.declared.answer.Answer.TheVariants.{Began, Done, Granted, Refused, VoteNo, VoteYes, Waits}
+use Rattle.run_model.specs.Runs.{is_accepted}
+use Rattle.layer_contracts.specs.Forests.{ForestState}
+use Rattle.layer_contracts.specs.Guardians.{GuardianState}
+use Rattle.lent_steps.specs.Keeping.{IsDone, IsStepped}
+
+-- with a stamp that was drawn the step has been taken
+pub taken : (drawn : ℕ → Type 0) (step : Step) (answer : Answer) (f : ForestState) (a b : GuardianState) (f' : ForestState) (a' b' : GuardianState) (n : ℕ)
+    → is_accepted answer ≡ true → drawn n → IsDone f a b (record { step = step; answer = answer }) n f' a' b'
+    → IsStepped drawn step answer f a b f' a' b'
+taken drawn step (Began names) f a b f' a' b' n h d k = (n, d, k)
+taken drawn step (Granted reply) f a b f' a' b' n h d k = (n, d, k)
+taken drawn step (Waits names) f a b f' a' b' n h d k = absurd (false≢true h)
+taken drawn step VoteYes f a b f' a' b' n h d k = (n, d, k)
+taken drawn step VoteNo f a b f' a' b' n h d k = (n, d, k)
+taken drawn step (Done count) f a b f' a' b' n h d k = (n, d, k)
+taken drawn step (Refused why) f a b f' a' b' n h d k = absurd (false≢true h)

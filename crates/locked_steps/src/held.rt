@@ -1,0 +1,123 @@
+//! What stands under a lock of its own: a guardian, or the forest. All that two of them know of each other is that they stand in one setup.
+ghost use Rattle.std.specs.Prelude.{◌≡◌, ◌==◌, ℕ, Bool, true, false, IfOk, IfSome, OnErr, IsTrue, IsFalse, MatchOption, is_some};
+ghost use Rattle.run_model.specs.Replay.{Setup};
+ghost use Rattle.run_model.specs.declared.step.Step.TheVariants as steps;
+ghost use Rattle.run_model.specs.LocalHistories.{answer_lent};
+ghost use Rattle.run_model.specs.LocalReadings.{operation_here};
+ghost use Rattle.layer_contracts.specs.Guardians.{lent_two};
+ghost use Rattle.lent_steps.specs.Keeping.{AreSame, IsAnswered, IsDone, IsOperated, IsStepped, is_operation};
+ghost use Rattle.locked_steps.specs.Pairs.{are_two};
+
+use layer_contracts::{Fault, Forest, Guardian};
+use lent_steps::{answer_two, keep_two, operate};
+use run_model::{Answer, Event, Name, ObjectId, Op, Step};
+use std::alloc::{AllocError, Global};
+use std::marker::PhantomData;
+
+/// The setup in which all that stands under locks stands.
+pub trait OfSetup {
+    ghost setup: { Setup };
+}
+
+/// A guardian under its lock: it is one of the setup.
+#[derive(Drop)]
+pub struct Held<K: OfSetup, G: Guardian> {
+    pub guardian: G,
+    pub of: PhantomData<K>,
+    ghost ours: { (G.state guardian).setup ≡ K.setup },
+}
+
+/// The forest under its lock.
+#[derive(Drop)]
+pub struct HeldForest<K: OfSetup, R: Forest> {
+    pub forest: R,
+    pub of: PhantomData<K>,
+    ghost ours: { (R.state forest).setup ≡ K.setup },
+}
+
+/// One step of two guardians, all locked: its answer, and what it leaves. `None`, and nothing is changed, where the step is an operation, which
+/// needs one guardian alone, or where both are one. After an error all are as they were.
+pub fn both<K: OfSetup, R: Forest, G: Guardian, F: FnOnce() -> u64>(
+    alloc: Global,
+    forest: &mut HeldForest<K, R>,
+    one: &mut Held<K, G>,
+    other: &mut Held<K, G>,
+    step: &Step,
+    stamp: F,
+) -> Result<Option<Answer>, Fault>
+    requires { F.pre stamp }
+    ensures answer { IfOk result (λ r. IfSome r (λ answer. answer ≡ answer_lent K.setup (R.state forest.old.forest).registry
+        (lent_two (G.state one.old.guardian) (G.state other.old.guardian)) step.now)) }
+    ensures done { IfOk result (λ r. MatchOption r
+        (AreSame (R.state forest.old.forest) (G.state one.old.guardian) (G.state other.old.guardian)
+        (R.state forest.new.forest) (G.state one.new.guardian) (G.state other.new.guardian))
+        (λ answer. IsStepped (λ n. F.post stamp n) step.now answer (R.state forest.old.forest) (G.state one.old.guardian) (G.state other.old.guardian)
+        (R.state forest.new.forest) (G.state one.new.guardian) (G.state other.new.guardian))) }
+    ensures taken { IfOk result (λ r. is_some r ≡ are_two (G.state one.old.guardian) (G.state other.old.guardian) step.now) }
+    ensures err { OnErr result (AreSame (R.state forest.old.forest) (G.state one.old.guardian) (G.state other.old.guardian)
+        (R.state forest.new.forest) (G.state one.new.guardian) (G.state other.new.guardian)) }
+{
+    if one.guardian.number() == other.guardian.number() || is_operation(step) {
+        return Ok(None);
+    }
+    let answer = answer_two(alloc, &forest.forest, &one.guardian, &other.guardian, step)?;
+    if !answer.is_accepted() {
+        return Ok(Some(answer));
+    }
+    let event = Event::of(step, &answer)?;
+    keep(alloc, forest, one, other, &event, stamp)?;
+    Ok(Some(answer))
+}
+
+/// An operation of one locked guardian, which answers and keeps it by itself.
+pub fn alone<K: OfSetup, G: Guardian, F: FnOnce() -> u64>(
+    alloc: Global,
+    held: &mut Held<K, G>,
+    action: &Name,
+    object: ObjectId,
+    operation: &Op,
+    stamp: F,
+) -> Result<Answer, AllocError>
+    requires { F.pre stamp }
+    ensures answer { IfOk result (λ answer. answer ≡ operation_here K.setup (G.state held.old.guardian).number action.now object operation.now
+        (G.state held.old.guardian).past) }
+    ensures kept { IfOk result (λ answer. IsOperated (λ n. F.post stamp n) (steps.Op action.now object operation.now) answer (G.state held.old.guardian)
+        (G.state held.new.guardian)) }
+    ensures err { OnErr result (G.state held.new.guardian ≡ G.state held.old.guardian) }
+{
+    operate(alloc, &mut held.guardian, action, object, operation, stamp)
+}
+
+/// Keeps an accepted event, and gives its stamp.
+fn keep<K: OfSetup, R: Forest, G: Guardian, F: FnOnce() -> u64>(
+    alloc: Global,
+    forest: &mut HeldForest<K, R>,
+    one: &mut Held<K, G>,
+    other: &mut Held<K, G>,
+    event: &Event,
+    stamp: F,
+) -> Result<u64, Fault>
+    requires stamp { F.pre stamp }
+    requires differ { ((G.state one.old.guardian).number == (G.state other.old.guardian).number) ≡ false }
+    requires answered { IsAnswered (R.state forest.old.forest) (G.state one.old.guardian) (G.state other.old.guardian) event.now }
+    ensures drawn { IfOk result (λ n. F.post stamp n) }
+    ensures done { IfOk result (λ n. IsDone (R.state forest.old.forest) (G.state one.old.guardian) (G.state other.old.guardian) event.now n
+        (R.state forest.new.forest) (G.state one.new.guardian) (G.state other.new.guardian)) }
+    ensures err { OnErr result (AreSame (R.state forest.old.forest) (G.state one.old.guardian) (G.state other.old.guardian)
+        (R.state forest.new.forest) (G.state one.new.guardian) (G.state other.new.guardian)) }
+{
+    keep_two(
+        alloc,
+        &mut forest.forest,
+        &mut one.guardian,
+        &mut other.guardian,
+        event,
+        stamp,
+    )
+}
+
+fn is_operation(step: &Step) -> bool
+    ensures { result ≡ is_operation step.now }
+{
+    matches!(step, Step::Op(..))
+}
