@@ -14,7 +14,7 @@ use Rattle.run_model.specs.declared.step.Step.TheVariants.{Arms}
 use Rattle.run_model.specs.Actions.{next_number}
 use Rattle.run_model.specs.Answers.{answer_of, outcome, refused_or}
 use Rattle.run_model.specs.Refusals.{arm_names, checks, first_refusal}
-use Rattle.run_model.specs.Replay.{Setup}
+use Rattle.run_model.specs.Openings.{Opening, opening_in}
 use Rattle.run_model.specs.Runs.{IsRun, World, world_after}
 use Rattle.run_laws.proofs.Accepted.{makes_facts}
 use Rattle.run_laws.proofs.Begun.{nameless}
@@ -122,12 +122,12 @@ begun_reverse names old new b = record {
 -- ---- the step that begins arms
 
 -- a step of which the outcome begins actions: where it begins none it was refused, and the world is as it was
-pub unless_begun : (w : World) (step : Step) (answer : Answer) (all : List Name) → outcome w.setup step w.past ≡ Began all
-    → answer ≡ answer_of w.setup step w.past → ((names : List Name) → answer ≢ Began names) → world_after w step answer ≡ w
+pub unless_begun : (w : World) (step : Step) (answer : Answer) (all : List Name) → outcome (opening_in w.lists) step w.past ≡ Began all
+    → answer ≡ answer_of (opening_in w.lists) step w.past → ((names : List Name) → answer ≢ Began names) → world_after w step answer ≡ w
 unfolding answer_of
-unless_begun w step answer all o h refused = go (first_refusal (checks w.setup step w.past)) h
+unless_begun w step answer all o h refused = go (first_refusal (checks (opening_in w.lists) step w.past)) h
   where
-    go : (r : Option Refusal) → answer ≡ refused_or r (outcome w.setup step w.past) → world_after w step answer ≡ w
+    go : (r : Option Refusal) → answer ≡ refused_or r (outcome (opening_in w.lists) step w.past) → world_after w step answer ≡ w
     go None e = absurd (refused all (e ∙ o))
     go (Some why) e = ap (λ b. world_after w step b) e
 
@@ -137,51 +137,51 @@ arms_length a child top (arm.Sub ∷ kinds) = ap suc (arms_length a (suc child) 
 arms_length a child top (arm.Top ∷ kinds) = ap suc (arms_length a child (suc top) kinds)
 
 -- what it answers that it began
-arms_began : (setup : Setup) (a : Name) (kinds : List ArmKind) (past : List Event) (names : List Name)
-    → Began names ≡ answer_of setup (Arms a kinds) past → names ≡ arm_names a (next_number a past) (next_number [] past) kinds
+arms_began : (opening : Opening) (a : Name) (kinds : List ArmKind) (past : List Event) (names : List Name)
+    → Began names ≡ answer_of opening (Arms a kinds) past → names ≡ arm_names a (next_number opening a past) (next_number opening [] past) kinds
 unfolding answer_of
-arms_began setup a kinds past names h = go (first_refusal (checks setup (Arms a kinds) past)) h
+arms_began opening a kinds past names h = go (first_refusal (checks opening (Arms a kinds) past)) h
   where
-    go : (o : Option Refusal) → Began names ≡ refused_or o (Began (arm_names a (next_number a past) (next_number [] past) kinds))
-        → names ≡ arm_names a (next_number a past) (next_number [] past) kinds
+    go : (o : Option Refusal) → Began names ≡ refused_or o (Began (arm_names a (next_number opening a past) (next_number opening [] past) kinds))
+        → names ≡ arm_names a (next_number opening a past) (next_number opening [] past) kinds
     go None e = cc
     go (Some why) e = cc
 
 -- as many as there are arms
-pub arms_begin_each : (setup : Setup) (a : Name) (kinds : List ArmKind) (past : List Event) (names : List Name)
-    → Began names ≡ answer_of setup (Arms a kinds) past → length names ≡ length kinds
-arms_begin_each setup a kinds past names h =
-    ap length (arms_began setup a kinds past names h) ∙ arms_length a (next_number a past) (next_number [] past) kinds
+pub arms_begin_each : (opening : Opening) (a : Name) (kinds : List ArmKind) (past : List Event) (names : List Name)
+    → Began names ≡ answer_of opening (Arms a kinds) past → length names ≡ length kinds
+arms_begin_each opening a kinds past names h =
+    ap length (arms_began opening a kinds past names h) ∙ arms_length a (next_number opening a past) (next_number opening [] past) kinds
 
 -- no two of them are one, in either order
-pub arms_distinct : (setup : Setup) (a : Name) (kinds : List ArmKind) (past : List Event) (names : List Name) → IsRun setup past
-    → Began names ≡ answer_of setup (Arms a kinds) past → AreDistinct (reverse names)
-arms_distinct setup a kinds past names r h =
-    distinct_reverse names (subst AreDistinct (sym (arms_began setup a kinds past names h))
-    (distinct_from _ (arms_differ a (next_number a past) (next_number [] past) kinds named)))
+pub arms_distinct : (opening : Opening) (a : Name) (kinds : List ArmKind) (past : List Event) (names : List Name) → IsRun opening past
+    → Began names ≡ answer_of opening (Arms a kinds) past → AreDistinct (reverse names)
+arms_distinct opening a kinds past names r h =
+    distinct_reverse names (subst AreDistinct (sym (arms_began opening a kinds past names h))
+    (distinct_from _ (arms_differ a (next_number opening a past) (next_number opening [] past) kinds named)))
   where
     e : Event
     e = record { step = Arms a kinds; answer = Began names }
 
     named : a ≡ [] → ⊥
-    named = nameless setup past a r (makes_facts setup e past a (h, refl, r) (same_name_self a)).0
+    named = nameless opening past a r (makes_facts opening e past a (h, refl, r) (same_name_self a)).0
 
 -- where it begins nothing it was refused, and the world is as it was
-pub arms_refused : (w : World) (a : Name) (kinds : List ArmKind) (answer : Answer) → answer ≡ answer_of w.setup (Arms a kinds) w.past
+pub arms_refused : (w : World) (a : Name) (kinds : List ArmKind) (answer : Answer) → answer ≡ answer_of (opening_in w.lists) (Arms a kinds) w.past
     → ((names : List Name) → answer ≢ Began names) → world_after w (Arms a kinds) answer ≡ w
 arms_refused w a kinds answer h refused =
-    unless_begun w (Arms a kinds) answer (arm_names a (next_number a w.past) (next_number [] w.past) kinds) refl h refused
+    unless_begun w (Arms a kinds) answer (arm_names a (next_number (opening_in w.lists) a w.past) (next_number (opening_in w.lists) [] w.past) kinds) refl h refused
 
 -- the step that was made is the one of these arms
-pub together : (old new : World) (a b : Name) (ks all : List ArmKind) (answer : Answer) → answer ≡ answer_of old.setup (Arms a ks) old.past
+pub together : (old new : World) (a b : Name) (ks all : List ArmKind) (answer : Answer) → answer ≡ answer_of (opening_in old.lists) (Arms a ks) old.past
     → new ≡ world_after old (Arms a ks) answer → a ≡ b → ks ≡ all → IsAfter (Arms b all) old new
 together old new a b ks all answer h w e f =
     w ∙ ap (λ x. world_after old (Arms a ks) x) h
-    ∙ ap₂ (λ x y. world_after old (Arms x y) (answer_of old.setup (Arms x y) old.past)) e f
+    ∙ ap₂ (λ x y. world_after old (Arms x y) (answer_of (opening_in old.lists) (Arms x y) old.past)) e f
 
 -- the arms' names, that of the first arm last, have just begun
-pub arms_begun : (old new : World) (a : Name) (ks : List ArmKind) (answer : Answer) (names turned : List Name) → IsRun old.setup old.past
-    → answer ≡ answer_of old.setup (Arms a ks) old.past → new ≡ world_after old (Arms a ks) answer → answer ≡ Began names
+pub arms_begun : (old new : World) (a : Name) (ks : List ArmKind) (answer : Answer) (names turned : List Name) → IsRun (opening_in old.lists) old.past
+    → answer ≡ answer_of (opening_in old.lists) (Arms a ks) old.past → new ≡ world_after old (Arms a ks) answer → answer ≡ Began names
     → turned ≡ reverse names → HaveBegun turned old new
 arms_begun old new a ks answer names turned r h w b t =
     subst (λ l. HaveBegun l old new) (sym t) (begun_reverse names old new

@@ -14,7 +14,7 @@ use Rattle.run_model.specs.declared.step.Step.TheVariants.{Top}
 use Rattle.run_model.specs.Actions.{begun, is_begun, is_committed, is_ended, names_begun, next_number}
 use Rattle.run_model.specs.Answers.{answer_of, refused_or}
 use Rattle.run_model.specs.Refusals.{checks, first_refusal}
-use Rattle.run_model.specs.Replay.{Setup}
+use Rattle.run_model.specs.Openings.{Opening, opening_in}
 use Rattle.run_model.specs.Runs.{IsRun, World, world_after}
 use Rattle.run_laws.proofs.Begun.{begun_more}
 use Rattle.run_laws.proofs.Names.{clash, has_name_append, same_name_self, same_name_true}
@@ -68,31 +68,31 @@ body_given script same client f body h e i t u b =
 -- ---- its top action
 
 -- a `top` step begins one action
-pub top_begins_one : (setup : Setup) (g : ℕ) (past : List Event) (names : List Name) → Began names ≡ answer_of setup (Top g) past
+pub top_begins_one : (opening : Opening) (g : ℕ) (past : List Event) (names : List Name) → Began names ≡ answer_of opening (Top g) past
     → length names ≡ 1
 unfolding answer_of
-top_begins_one setup g past names h = go (first_refusal (checks setup (Top g) past)) h
+top_begins_one opening g past names h = go (first_refusal (checks opening (Top g) past)) h
   where
-    go : (o : Option Refusal) → Began names ≡ refused_or o (Began ((next_number [] past ∷ []) ∷ [])) → length names ≡ 1
-    go None e = let n : names ≡ (next_number [] past ∷ []) ∷ [] = cc in ap length n
+    go : (o : Option Refusal) → Began names ≡ refused_or o (Began ((next_number opening [] past ∷ []) ∷ [])) → length names ≡ 1
+    go None e = let n : names ≡ (next_number opening [] past ∷ []) ∷ [] = cc in ap length n
     go (Some why) e = cc
 
 -- or it is refused
-top_refused : (w : World) (g : ℕ) (given : Answer) → given ≡ answer_of w.setup (Top g) w.past
-    → ((names : List Name) → given ≢ Began names) → (why : Refusal) × (answer_of w.setup (Top g) w.past ≡ Refused why)
+top_refused : (w : World) (g : ℕ) (given : Answer) → given ≡ answer_of (opening_in w.lists) (Top g) w.past
+    → ((names : List Name) → given ≢ Began names) → (why : Refusal) × (answer_of (opening_in w.lists) (Top g) w.past ≡ Refused why)
 unfolding answer_of
-top_refused w g given h none = go (first_refusal (checks w.setup (Top g) w.past)) h
+top_refused w g given h none = go (first_refusal (checks (opening_in w.lists) (Top g) w.past)) h
   where
-    go : (o : Option Refusal) → given ≡ refused_or o (Began ((next_number [] w.past ∷ []) ∷ []))
-        → (why : Refusal) × (refused_or o (Began ((next_number [] w.past ∷ []) ∷ [])) ≡ Refused why)
+    go : (o : Option Refusal) → given ≡ refused_or o (Began ((next_number (opening_in w.lists) [] w.past ∷ []) ∷ []))
+        → (why : Refusal) × (refused_or o (Began ((next_number (opening_in w.lists) [] w.past ∷ []) ∷ [])) ≡ Refused why)
     go None e = absurd (none _ e)
     go (Some why) e = (why, refl)
 
 -- then the world is as it was
-pub top_not_made : (old new : World) (g : ℕ) (given : Answer) → IsRun old.setup old.past → given ≡ answer_of old.setup (Top g) old.past
+pub top_not_made : (old new : World) (g : ℕ) (given : Answer) → IsRun (opening_in old.lists) old.past → given ≡ answer_of (opening_in old.lists) (Top g) old.past
     → new ≡ world_after old (Top g) given → ((names : List Name) → given ≢ Began names) → TopMade g old new None
 top_not_made old new g given r h w none =
-    let same : new ≡ old = w ∙ unless_begun old (Top g) given ((next_number [] old.past ∷ []) ∷ []) refl h none in
+    let same : new ≡ old = w ∙ unless_begun old (Top g) given ((next_number (opening_in old.lists) [] old.past ∷ []) ∷ []) refl h none in
     subst (λ v. TopMade g old v None) (sym same) (record {
       top = top_refused old g given h none;
       goes_on = goes_nowhere old r;
@@ -105,12 +105,12 @@ top_not_made old new g given r h w none =
     })
 
 -- the top action has begun, and nothing else
-pub top_made : (old new : World) (g : ℕ) (given : Answer) (names : List Name) (a : Name) → IsRun old.setup old.past
-    → given ≡ answer_of old.setup (Top g) old.past → new ≡ world_after old (Top g) given → given ≡ Began names → names ≡ a ∷ []
+pub top_made : (old new : World) (g : ℕ) (given : Answer) (names : List Name) (a : Name) → IsRun (opening_in old.lists) old.past
+    → given ≡ answer_of (opening_in old.lists) (Top g) old.past → new ≡ world_after old (Top g) given → given ≡ Began names → names ≡ a ∷ []
     → TopMade g old new (Some a)
 top_made old new g given names a r h w b n =
     let left : new ≡ world_after old (Top g) (Began (a ∷ [])) = w ∙ ap (λ x. world_after old (Top g) x) (b ∙ ap Began n) in
-    let told : Began (a ∷ []) ≡ answer_of old.setup (Top g) old.past = sym (b ∙ ap Began n) ∙ h in
+    let told : Began (a ∷ []) ≡ answer_of (opening_in old.lists) (Top g) old.past = sym (b ∙ ap Began n) ∙ h in
     subst (λ v. TopMade g old v (Some a)) (sym left) (record {
       top = sym told;
       goes_on = one_step old (Top g) (Began (a ∷ [])) r told;
@@ -255,7 +255,7 @@ in_turn_push (first ∷ clients) client old mid new (e ∷ ends) end t c =
     let (next, ran, rest) = t in (next, ran, in_turn_push clients client next mid new ends end rest c)
 
 -- no client
-pub none_run : (w : World) → IsRun w.setup w.past → AreRun [] w w []
+pub none_run : (w : World) → IsRun (opening_in w.lists) w.past → AreRun [] w w []
 none_run w r = record { in_turn = (refl, refl); goes_on = goes_nowhere w r; told = tt; ended = ends_nowhere w }
 
 -- one client more

@@ -13,11 +13,12 @@ use Rattle.run_model.specs.Runs.{IsRun, World, history_after, is_accepted, world
 use Rattle.run_laws.proofs.Growth.{aborted_stays, begun_stays, committed_stays, followed}
 use Rattle.run_laws.proofs.Names.{clash, same_name_self, same_name_true}
 use Rattle.run_laws.proofs.Runs.{run_more}
+use Rattle.run_model.specs.Openings.{opening_in}
 use Rattle.activities.specs.Continuing.{CommitsAmong, CommitsBy, CommitsNone, EndsAll, EndsThese, GoesOn, HaveBegun, IsNoTop, IsOpen, tops_begun, tops_by}
 
 -- where nothing has happened
-pub goes_nowhere : (w : World) → IsRun w.setup w.past → GoesOn w w []
-goes_nowhere w r = record { is_run = r; same_setup = refl; later = []; past = refl; began = refl }
+pub goes_nowhere : (w : World) → IsRun (opening_in w.lists) w.past → GoesOn w w []
+goes_nowhere w r = record { is_run = r; same_opening = refl; later = []; past = refl; began = refl }
 
 -- one list of events after another
 pub tops_append : (later before : List Event) → tops_begun (later ++ before) ≡ tops_begun before ++ tops_begun later
@@ -30,7 +31,7 @@ tops_append (e ∷ later) before =
 pub goes_through : (x y z : World) (s t : List Name) → GoesOn x y s → GoesOn y z t → GoesOn x z (s ++ t)
 goes_through x y z s t a b = record {
   is_run = b.is_run;
-  same_setup = b.same_setup ∙ a.same_setup;
+  same_opening = b.same_opening ∙ a.same_opening;
   later = b.later ++ a.later;
   past = b.past ∙ ap (λ l. b.later ++ l) a.past ∙ sym (append_assoc b.later a.later x.past);
   began = tops_append b.later a.later ∙ ap (λ l. l ++ tops_begun b.later) a.began ∙ ap (λ l. s ++ l) b.began;
@@ -174,19 +175,19 @@ event_tops step VoteYes = refl
 event_tops step VoteNo = refl
 event_tops step (Done n) = refl
 
-pub one_step : (old : World) (step : Step) (answer : Answer) → IsRun old.setup old.past → answer ≡ answer_of old.setup step old.past
+pub one_step : (old : World) (step : Step) (answer : Answer) → IsRun (opening_in old.lists) old.past → answer ≡ answer_of (opening_in old.lists) step old.past
     → GoesOn old (world_after old step answer) (tops_by step answer)
 one_step old step answer r a = record {
-  is_run = subst (λ b. IsRun old.setup (history_after step b old.past)) (sym a) (run_more old.setup step old.past r);
-  same_setup = refl;
+  is_run = subst (λ b. IsRun (opening_in old.lists) (history_after step b old.past)) (sym a) (run_more (opening_in old.lists) step old.past r);
+  same_opening = refl;
   later = event_of step answer;
   past = event_past step answer old.past;
   began = event_tops step answer;
 }
 
 -- a step that is no `top`, also where memory ran out
-pub step_goes : {E : Type 0} (old new : World) (step : Step) (result : Result Answer E) → IsRun old.setup old.past → IsNoTop step
-    → IfOk result (λ answer. answer ≡ answer_of old.setup step old.past) → IfOk result (λ answer. new ≡ world_after old step answer)
+pub step_goes : {E : Type 0} (old new : World) (step : Step) (result : Result Answer E) → IsRun (opening_in old.lists) old.past → IsNoTop step
+    → IfOk result (λ answer. answer ≡ answer_of (opening_in old.lists) step old.past) → IfOk result (λ answer. new ≡ world_after old step answer)
     → OnErr result (new ≡ old) → GoesOn old new []
 step_goes old new step (Ok answer) r n a w e =
     subst (λ v. GoesOn old v []) (sym w) (subst (λ l. GoesOn old (world_after old step answer) l) (no_tops step answer n) (one_step old step answer r a))

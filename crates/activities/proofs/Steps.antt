@@ -15,7 +15,7 @@ use Rattle.run_model.specs.Actions.{begun, is_begun, is_committed, is_ended, mak
 use Rattle.run_model.specs.Answers.{answer_of, granted_or_waits, outcome, refused_or}
 use Rattle.run_model.specs.Keeping.{blockers}
 use Rattle.run_model.specs.Refusals.{checks, first_refusal}
-use Rattle.run_model.specs.Replay.{Setup}
+use Rattle.run_model.specs.Openings.{Opening, OpeningLists, opening_in}
 use Rattle.run_model.specs.Runs.{IsRun, World, history_after, is_accepted, world_after}
 use Rattle.run_model.specs.Votes.{may_prepare}
 use Rattle.run_laws.proofs.Begun.{begun_cases, begun_once}
@@ -28,12 +28,12 @@ use Rattle.activities.specs.Reaching.{is_made}
 -- ---- what a step begins
 
 -- a step by which no action makes anything, and which is no `top`, begins nothing
-nothing_made : (setup : Setup) (step : Step) (past : List Event) → IsNoTop step → maker_in step ≡ None
-    → names_begun (answer_of setup step past) ≡ []
+nothing_made : (opening : Opening) (step : Step) (past : List Event) → IsNoTop step → maker_in step ≡ None
+    → names_begun (answer_of opening step past) ≡ []
 unfolding answer_of
-nothing_made setup step past n m = go (first_refusal (checks setup step past))
+nothing_made opening step past n m = go (first_refusal (checks opening step past))
   where
-    free : (x : ObjectId) (wanted : op.Op) (bs : List Name) → names_begun (granted_or_waits setup x wanted past bs) ≡ []
+    free : (x : ObjectId) (wanted : op.Op) (bs : List Name) → names_begun (granted_or_waits opening x wanted past bs) ≡ []
     free x wanted [] = refl
     free x wanted (b ∷ bs) = refl
 
@@ -41,7 +41,7 @@ nothing_made setup step past n m = go (first_refusal (checks setup step past))
     vote true = refl
     vote false = refl
 
-    of : (step : Step) → IsNoTop step → maker_in step ≡ None → names_begun (outcome setup step past) ≡ []
+    of : (step : Step) → IsNoTop step → maker_in step ≡ None → names_begun (outcome opening step past) ≡ []
     of (Top g) n m = absurd n
     of (NestedTop a) n m = cc
     of (Call a g) n m = cc
@@ -50,7 +50,7 @@ nothing_made setup step past n m = go (first_refusal (checks setup step past))
     of (Prepare g t) n m = vote (may_prepare g t past)
     of _ n m = refl
 
-    go : (o : Option Refusal) → names_begun (refused_or o (outcome setup step past)) ≡ []
+    go : (o : Option Refusal) → names_begun (refused_or o (outcome opening step past)) ≡ []
     go (Some r) = refl
     go None = of step n m
 
@@ -64,10 +64,10 @@ none_begun old step answer n a h k = absurd (clash (go (is_accepted answer) h) k
 
 -- the same of such a step, also where memory ran out
 pub step_ends : {E : Type 0} (old new : World) (step : Step) (result : Result Answer E) → IsNoTop step
-    → IfOk result (λ answer. answer ≡ answer_of old.setup step old.past) → IfOk result (λ answer. new ≡ world_after old step answer)
+    → IfOk result (λ answer. answer ≡ answer_of (opening_in old.lists) step old.past) → IfOk result (λ answer. new ≡ world_after old step answer)
     → OnErr result (new ≡ old) → maker_in step ≡ None → EndsAll old new
 step_ends old new step (Ok answer) n a w e m =
-    subst (λ v. EndsAll old v) (sym w) (none_begun old step answer (ap names_begun a ∙ nothing_made old.setup step old.past n m))
+    subst (λ v. EndsAll old v) (sym w) (none_begun old step answer (ap names_begun a ∙ nothing_made (opening_in old.lists) step old.past n m))
 step_ends old new step (Err fault) n a w e m = subst (λ v. EndsAll old v) (sym e) (λ b h k. absurd (clash h k))
 
 -- what begins nothing
@@ -79,14 +79,14 @@ begun_none names old n = record {
 }
 
 -- what an accepted step answers that it began has just begun
-just_begun : (setup : Setup) (e : Event) (past : List Event) → IsRun setup (e ∷ past)
-    → HaveBegun (names_begun e.answer) (record { setup = setup; past = past }) (record { setup = setup; past = e ∷ past })
-just_begun setup e past r = record {
+just_begun : (lists : OpeningLists) (e : Event) (past : List Event) → IsRun (opening_in lists) (e ∷ past)
+    → HaveBegun (names_begun e.answer) (record { lists = lists; past = past }) (record { lists = lists; past = e ∷ past })
+just_begun lists e past r = record {
   are_open = λ a h. record {
     begun = has_name_append (names_begun e.answer) (begun past) a ∙ or_left _ _ h;
     uncommitted = false_from_ne_true _ (λ c. elim (or_cases _ _ c) [
-      | inl k ↦ clash (commits_begun setup e past a r k) (new a h)
-      | inr k ↦ clash (committed_begun setup past a r.2 k) (new a h)
+      | inl k ↦ clash (commits_begun (opening_in lists) e past a r k) (new a h)
+      | inr k ↦ clash (committed_begun (opening_in lists) past a r.2 k) (new a h)
     ]);
   };
   before = new;
@@ -94,28 +94,28 @@ just_begun setup e past r = record {
 }
   where
     new : (a : Name) → has_name (names_begun e.answer) a ≡ true → is_begun a past ≡ false
-    new a h = false_from_ne_true _ (λ b. clash h (begun_once setup e past a r b))
+    new a h = false_from_ne_true _ (λ b. clash h (begun_once (opening_in lists) e past a r b))
 
 -- what a step answers that it began has just begun
-pub step_begins : (old : World) (step : Step) (answer : Answer) → IsRun old.setup old.past → answer ≡ answer_of old.setup step old.past
+pub step_begins : (old : World) (step : Step) (answer : Answer) → IsRun (opening_in old.lists) old.past → answer ≡ answer_of (opening_in old.lists) step old.past
     → HaveBegun (names_begun answer) old (world_after old step answer)
 step_begins old step answer r a = go answer run
   where
-    run : IsRun old.setup (history_after step answer old.past)
-    run = subst (λ b. IsRun old.setup (history_after step b old.past)) (sym a) (run_more old.setup step old.past r)
+    run : IsRun (opening_in old.lists) (history_after step answer old.past)
+    run = subst (λ b. IsRun (opening_in old.lists) (history_after step b old.past)) (sym a) (run_more (opening_in old.lists) step old.past r)
 
-    go : (answer : Answer) → IsRun old.setup (history_after step answer old.past) → HaveBegun (names_begun answer) old (world_after old step answer)
+    go : (answer : Answer) → IsRun (opening_in old.lists) (history_after step answer old.past) → HaveBegun (names_begun answer) old (world_after old step answer)
     go (Waits names) r = begun_none [] old refl
     go (Refused n) r = begun_none [] old refl
-    go (Began names) r = just_begun old.setup (record { step = step; answer = Began names }) old.past r
-    go (Granted reply) r = just_begun old.setup (record { step = step; answer = Granted reply }) old.past r
-    go VoteYes r = just_begun old.setup (record { step = step; answer = VoteYes }) old.past r
-    go VoteNo r = just_begun old.setup (record { step = step; answer = VoteNo }) old.past r
-    go (Done n) r = just_begun old.setup (record { step = step; answer = Done n }) old.past r
+    go (Began names) r = just_begun old.lists (record { step = step; answer = Began names }) old.past r
+    go (Granted reply) r = just_begun old.lists (record { step = step; answer = Granted reply }) old.past r
+    go VoteYes r = just_begun old.lists (record { step = step; answer = VoteYes }) old.past r
+    go VoteNo r = just_begun old.lists (record { step = step; answer = VoteNo }) old.past r
+    go (Done n) r = just_begun old.lists (record { step = step; answer = Done n }) old.past r
 
 -- the same where memory may have run out
-pub result_begins : {E : Type 0} (old new : World) (step : Step) (result : Result Answer E) → IsRun old.setup old.past
-    → IfOk result (λ answer. answer ≡ answer_of old.setup step old.past) → IfOk result (λ answer. new ≡ world_after old step answer)
+pub result_begins : {E : Type 0} (old new : World) (step : Step) (result : Result Answer E) → IsRun (opening_in old.lists) old.past
+    → IfOk result (λ answer. answer ≡ answer_of (opening_in old.lists) step old.past) → IfOk result (λ answer. new ≡ world_after old step answer)
     → IfOk result (λ answer. HaveBegun (names_begun answer) old new)
 result_begins old new step (Ok answer) r a w = subst (λ v. HaveBegun (names_begun answer) old v) (sym w) (step_begins old step answer r a)
 result_begins old new step (Err fault) r a w = tt
@@ -125,21 +125,21 @@ one_of : (o : Option Refusal) (a : Name) (names : List Name) → Began names ≡
 one_of None a names h = let e : names ≡ a ∷ [] = cc in ap length e
 one_of (Some r) a names h = cc
 
-pub call_begins_one : (setup : Setup) (a : Name) (g : ℕ) (past : List Event) (names : List Name) → Began names ≡ answer_of setup (Call a g) past
+pub call_begins_one : (opening : Opening) (a : Name) (g : ℕ) (past : List Event) (names : List Name) → Began names ≡ answer_of opening (Call a g) past
     → length names ≡ 1
 unfolding answer_of
-call_begins_one setup a g past names h = one_of (first_refusal (checks setup (Call a g) past)) _ names h
+call_begins_one opening a g past names h = one_of (first_refusal (checks opening (Call a g) past)) _ names h
 
-pub nested_begins_one : (setup : Setup) (a : Name) (past : List Event) (names : List Name) → Began names ≡ answer_of setup (NestedTop a) past
+pub nested_begins_one : (opening : Opening) (a : Name) (past : List Event) (names : List Name) → Began names ≡ answer_of opening (NestedTop a) past
     → length names ≡ 1
 unfolding answer_of
-nested_begins_one setup a past names h = one_of (first_refusal (checks setup (NestedTop a) past)) _ names h
+nested_begins_one opening a past names h = one_of (first_refusal (checks opening (NestedTop a) past)) _ names h
 
 -- ---- what a step ends
 
 -- an action that was begun has ended once it was told to abort
 pub abort_ends : (old : World) (a : Name) → IsTrue (is_begun a old.past)
-    → IsTrue (is_ended a (world_after old (Abort a) (answer_of old.setup (Abort a) old.past)).past)
+    → IsTrue (is_ended a (world_after old (Abort a) (answer_of (opening_in old.lists) (Abort a) old.past)).past)
 unfolding answer_of
 abort_ends old a b = go (is_begun a old.past) (is_ended a old.past) b refl
   where
@@ -151,36 +151,36 @@ abort_ends old a b = go (is_begun a old.past) (is_ended a old.past) b refl
 
 -- the same of a result
 pub abort_result_ends : {E : Type 0} (old new : World) (step : Step) (result : Result Answer E)
-    → IfOk result (λ answer. answer ≡ answer_of old.setup step old.past) → IfOk result (λ answer. new ≡ world_after old step answer)
+    → IfOk result (λ answer. answer ≡ answer_of (opening_in old.lists) step old.past) → IfOk result (λ answer. new ≡ world_after old step answer)
     → OnOk result ((a : Name) → step ≡ Abort a → IsTrue (is_begun a old.past) → IsTrue (is_ended a new.past))
 abort_result_ends old new step (Ok answer) e w = λ a s b.
-    ap (λ v. is_ended a v.past) (w ∙ ap (λ x. world_after old step x) e ∙ ap (λ x. world_after old x (answer_of old.setup x old.past)) s)
+    ap (λ v. is_ended a v.past) (w ∙ ap (λ x. world_after old step x) e ∙ ap (λ x. world_after old x (answer_of (opening_in old.lists) x old.past)) s)
     ∙ abort_ends old a b
 abort_result_ends old new step (Err fault) e w = tt
 
 -- ---- what a step commits
 
 -- a step that commits is answered `Done` or refused
-commit_answers : (setup : Setup) (step : Step) (past : List Event) (a : Name) → step_commits step a ≡ true
-    → ((answer_of setup step past) ≡ Done 0) ⊎ (is_accepted (answer_of setup step past) ≡ false)
+commit_answers : (opening : Opening) (step : Step) (past : List Event) (a : Name) → step_commits step a ≡ true
+    → ((answer_of opening step past) ≡ Done 0) ⊎ (is_accepted (answer_of opening step past) ≡ false)
 unfolding answer_of
-commit_answers setup step past a h = go (first_refusal (checks setup step past))
+commit_answers opening step past a h = go (first_refusal (checks opening step past))
   where
-    of : (step : Step) → step_commits step a ≡ true → outcome setup step past ≡ Done 0
+    of : (step : Step) → step_commits step a ≡ true → outcome opening step past ≡ Done 0
     of (Commit b) h = refl
     of (Decide b) h = refl
     of _ h = absurd (false≢true h)
 
-    go : (o : Option Refusal) → (refused_or o (outcome setup step past) ≡ Done 0) ⊎ (is_accepted (refused_or o (outcome setup step past)) ≡ false)
+    go : (o : Option Refusal) → (refused_or o (outcome opening step past) ≡ Done 0) ⊎ (is_accepted (refused_or o (outcome opening step past)) ≡ false)
     go (Some r) = inr refl
     go None = inl (of step h)
 
 -- whether it was done is whether the action has committed then
-pub commit_told : (old new : World) (step : Step) (a : Name) (done : Bool) → new ≡ world_after old step (answer_of old.setup step old.past)
-    → done ≡ is_made (answer_of old.setup step old.past) → step_commits step a ≡ true → is_committed a old.past ≡ false
+pub commit_told : (old new : World) (step : Step) (a : Name) (done : Bool) → new ≡ world_after old step (answer_of (opening_in old.lists) step old.past)
+    → done ≡ is_made (answer_of (opening_in old.lists) step old.past) → step_commits step a ≡ true → is_committed a old.past ≡ false
     → done ≡ is_committed a new.past
 commit_told old new step a done w d h u =
-    d ∙ go (answer_of old.setup step old.past) (commit_answers old.setup step old.past a h) ∙ ap (λ v. is_committed a v.past) (sym w)
+    d ∙ go (answer_of (opening_in old.lists) step old.past) (commit_answers (opening_in old.lists) step old.past a h) ∙ ap (λ v. is_committed a v.past) (sym w)
   where
     go : (answer : Answer) → (answer ≡ Done 0) ⊎ (is_accepted answer ≡ false) → is_made answer ≡ is_committed a (world_after old step answer).past
     go (Done n) r = sym (or_left _ _ h)
@@ -193,8 +193,8 @@ commit_told old new step a done w d h u =
 
 -- the same where memory may have run out
 pub commit_result_told : {E : Type 0} (old new : World) (step : Step) (a : Name) (result : Result Bool E)
-    → OnOk result (new ≡ world_after old step (answer_of old.setup step old.past))
-    → IfOk result (λ done. done ≡ is_made (answer_of old.setup step old.past)) → step_commits step a ≡ true → is_committed a old.past ≡ false
+    → OnOk result (new ≡ world_after old step (answer_of (opening_in old.lists) step old.past))
+    → IfOk result (λ done. done ≡ is_made (answer_of (opening_in old.lists) step old.past)) → step_commits step a ≡ true → is_committed a old.past ≡ false
     → IfOk result (λ done. done ≡ is_committed a new.past)
 commit_result_told old new step a (Ok done) w d h u = commit_told old new step a done w d h u
 commit_result_told old new step a (Err fault) w d h u = tt

@@ -19,7 +19,7 @@ use Rattle.run_model.specs.declared.step.Step.TheVariants.{Close, Decide, Prepar
 use Rattle.run_model.specs.Actions.{step_closes}
 use Rattle.run_model.specs.Answers.{answer_of, outcome, refused_or}
 use Rattle.run_model.specs.Refusals.{Check, Facts, checks, down, ended, facts_of, first_refusal, gone, no_action, no_guardian, no_participant, not_closed, not_top, voted_already}
-use Rattle.run_model.specs.Replay.{Setup}
+use Rattle.run_model.specs.Openings.{Opening, opening_in}
 use Rattle.run_model.specs.Runs.{IsRun, World, history_after, world_after}
 use Rattle.run_model.specs.Visibility.{has_prepared}
 use Rattle.run_model.specs.Votes.{has_voted}
@@ -41,37 +41,37 @@ last_applies (b ∷ before) c h = front b.1 b.0 (first_refusal (before ++ (c ∷
     front false n o k = k
 
 -- who has voted does not vote yes again
-asked_twice : (setup : Setup) (g : ℕ) (t : Name) (past : List Event) → has_voted g t past ≡ true
-    → is_yes (answer_of setup (Prepare g t) past) ≡ false
+asked_twice : (opening : Opening) (g : ℕ) (t : Name) (past : List Event) → has_voted g t past ≡ true
+    → is_yes (answer_of opening (Prepare g t) past) ≡ false
 unfolding answer_of
-asked_twice setup g t past v =
-    go (first_refusal (checks setup (Prepare g t) past))
+asked_twice opening g t past v =
+    go (first_refusal (checks opening (Prepare g t) past))
     (last_applies
-    (no_guardian setup g ∷ no_action t f ∷ ended t f ∷ gone t f ∷ down g f ∷ no_participant g t f ∷ not_top t ∷ not_closed t f ∷ [])
+    (no_guardian opening g ∷ no_action t f ∷ ended t f ∷ gone t f ∷ down g f ∷ no_participant g t f ∷ not_top t ∷ not_closed t f ∷ [])
     (voted_already g t f) v)
   where
     f : Facts
-    f = facts_of setup past
+    f = facts_of opening past
 
-    go : (o : Option Refusal) → is_some o ≡ true → is_yes (refused_or o (outcome setup (Prepare g t) past)) ≡ false
+    go : (o : Option Refusal) → is_some o ≡ true → is_yes (refused_or o (outcome opening (Prepare g t) past)) ≡ false
     go (Some r) h = refl
     go None h = absurd (false≢true h)
 
 -- who did not vote yes has not, and would not
-vote_failed : (w v : World) (g : ℕ) (t : Name) → v ≡ world_after w (Prepare g t) (answer_of w.setup (Prepare g t) w.past)
-    → is_yes (answer_of w.setup (Prepare g t) w.past) ≡ false → has_prepared g t w.past ≡ false
-    → (has_prepared g t v.past ≡ false) × (is_yes (answer_of v.setup (Prepare g t) v.past) ≡ false)
-vote_failed w v g t e y p = subst P (sym e) (go (answer_of w.setup (Prepare g t) w.past) refl)
+vote_failed : (w v : World) (g : ℕ) (t : Name) → v ≡ world_after w (Prepare g t) (answer_of (opening_in w.lists) (Prepare g t) w.past)
+    → is_yes (answer_of (opening_in w.lists) (Prepare g t) w.past) ≡ false → has_prepared g t w.past ≡ false
+    → (has_prepared g t v.past ≡ false) × (is_yes (answer_of (opening_in v.lists) (Prepare g t) v.past) ≡ false)
+vote_failed w v g t e y p = subst P (sym e) (go (answer_of (opening_in w.lists) (Prepare g t) w.past) refl)
   where
     P : World → Type 0
-    P u = (has_prepared g t u.past ≡ false) × (is_yes (answer_of u.setup (Prepare g t) u.past) ≡ false)
+    P u = (has_prepared g t u.past ≡ false) × (is_yes (answer_of (opening_in u.lists) (Prepare g t) u.past) ≡ false)
 
-    twice : (answer : Answer) → is_yes (answer_of w.setup (Prepare g t) (record { step = Prepare g t; answer = answer } ∷ w.past)) ≡ false
+    twice : (answer : Answer) → is_yes (answer_of (opening_in w.lists) (Prepare g t) (record { step = Prepare g t; answer = answer } ∷ w.past)) ≡ false
     twice answer =
-        asked_twice w.setup g t (record { step = Prepare g t; answer = answer } ∷ w.past)
+        asked_twice (opening_in w.lists) g t (record { step = Prepare g t; answer = answer } ∷ w.past)
         (or_left _ _ (and_from _ _ (eqb_self g) (same_name_self t)))
 
-    go : (answer : Answer) → answer_of w.setup (Prepare g t) w.past ≡ answer → P (world_after w (Prepare g t) answer)
+    go : (answer : Answer) → answer_of (opening_in w.lists) (Prepare g t) w.past ≡ answer → P (world_after w (Prepare g t) answer)
     go (Refused r) q = (p, y)
     go (Waits names) q = (p, y)
     go VoteYes q = absurd (clash (ap is_yes q) y)
@@ -81,12 +81,12 @@ vote_failed w v g t e y p = subst P (sym e) (go (answer_of w.setup (Prepare g t)
     go (Done n) q = (p, twice (Done n))
 
 -- who voted yes has, beside those who had
-voted_yes : (w v : World) (g : ℕ) (t : Name) → v ≡ world_after w (Prepare g t) (answer_of w.setup (Prepare g t) w.past)
-    → is_yes (answer_of w.setup (Prepare g t) w.past) ≡ true
+voted_yes : (w v : World) (g : ℕ) (t : Name) → v ≡ world_after w (Prepare g t) (answer_of (opening_in w.lists) (Prepare g t) w.past)
+    → is_yes (answer_of (opening_in w.lists) (Prepare g t) w.past) ≡ true
     → (k : ℕ) → has_prepared k t v.past ≡ (((g == k) && same_name t t) || has_prepared k t w.past)
-voted_yes w v g t e y k = ap (λ u. has_prepared k t u.past) e ∙ go (answer_of w.setup (Prepare g t) w.past) refl
+voted_yes w v g t e y k = ap (λ u. has_prepared k t u.past) e ∙ go (answer_of (opening_in w.lists) (Prepare g t) w.past) refl
   where
-    go : (answer : Answer) → answer_of w.setup (Prepare g t) w.past ≡ answer
+    go : (answer : Answer) → answer_of (opening_in w.lists) (Prepare g t) w.past ≡ answer
         → has_prepared k t (world_after w (Prepare g t) answer).past ≡ (((g == k) && same_name t t) || has_prepared k t w.past)
     go VoteYes q = refl
     go (Refused r) q = absurd (clash y (ap is_yes q))
@@ -125,7 +125,7 @@ pub record AreAsked (guardians : ℕ → Bool) (t : Name) (w : World) (left : Li
 
 -- the first of them voted yes
 pub ask_next : (guardians : ℕ → Bool) (t : Name) (w v : World) (g : ℕ) (left rest : List ℕ) → left ≡ g ∷ rest
-    → v ≡ world_after w (Prepare g t) (answer_of w.setup (Prepare g t) w.past) → is_yes (answer_of w.setup (Prepare g t) w.past) ≡ true
+    → v ≡ world_after w (Prepare g t) (answer_of (opening_in w.lists) (Prepare g t) w.past) → is_yes (answer_of (opening_in w.lists) (Prepare g t) w.past) ≡ true
     → AreAsked guardians t w left → AreAsked guardians t v rest
 unfolding IsStrictlySortedBy
 ask_next guardians t w v g left rest l e y a = record {
@@ -151,9 +151,9 @@ ask_next guardians t w v g left rest l e y a = record {
 
 -- the first of them did not
 pub ask_failed : (guardians : ℕ → Bool) (t : Name) (w v : World) (g : ℕ) (left rest : List ℕ) → left ≡ g ∷ rest
-    → v ≡ world_after w (Prepare g t) (answer_of w.setup (Prepare g t) w.past) → is_yes (answer_of w.setup (Prepare g t) w.past) ≡ false
+    → v ≡ world_after w (Prepare g t) (answer_of (opening_in w.lists) (Prepare g t) w.past) → is_yes (answer_of (opening_in w.lists) (Prepare g t) w.past) ≡ false
     → AreAsked guardians t w left
-    → (h : ℕ) × (guardians h ≡ true) × (has_prepared h t v.past ≡ false) × (is_yes (answer_of v.setup (Prepare h t) v.past) ≡ false)
+    → (h : ℕ) × (guardians h ≡ true) × (has_prepared h t v.past ≡ false) × (is_yes (answer_of (opening_in v.lists) (Prepare h t) v.past) ≡ false)
 ask_failed guardians t w v g left rest l e y a =
     let self : listed left g ≡ true = ap (λ gs. listed gs g) l ∙ or_left _ _ (equal_self g) in
     let f = vote_failed w v g t e y (a.unasked g self) in
@@ -168,27 +168,27 @@ all_asked guardians t w left l a k h = elim (a.asked k h) [
 ]
 
 -- what was just closed has no vote yet
-close_unasked : (setup : Setup) (e : Event) (past : List Event) (g : ℕ) (t : Name) → IsRun setup (e ∷ past) → e.step ≡ Close t
+close_unasked : (opening : Opening) (e : Event) (past : List Event) (g : ℕ) (t : Name) → IsRun opening (e ∷ past) → e.step ≡ Close t
     → has_prepared g t past ≡ false
-close_unasked setup e past g t r s =
-    let f = closes_facts setup e past t r (ap (λ x. step_closes x t) s ∙ same_name_self t) in
-    false_from_ne_true _ (λ p. clash (prepared_closed setup past g t r.2 p) (ends.not_closed t past f.undone))
+close_unasked opening e past g t r s =
+    let f = closes_facts opening e past t r (ap (λ x. step_closes x t) s ∙ same_name_self t) in
+    false_from_ne_true _ (λ p. clash (prepared_closed opening past g t r.2 p) (ends.not_closed t past f.undone))
 
-pub ask_first : (guardians : BTreeSet ℕ) (t : Name) (old new : World) (left : List ℕ) → IsRun old.setup old.past → left ≡ guardians.keys
-    → new ≡ world_after old (Close t) (answer_of old.setup (Close t) old.past) → is_made (answer_of old.setup (Close t) old.past) ≡ true
+pub ask_first : (guardians : BTreeSet ℕ) (t : Name) (old new : World) (left : List ℕ) → IsRun (opening_in old.lists) old.past → left ≡ guardians.keys
+    → new ≡ world_after old (Close t) (answer_of (opening_in old.lists) (Close t) old.past) → is_made (answer_of (opening_in old.lists) (Close t) old.past) ≡ true
     → IsStrictlySortedBy nat_cmp guardians.keys → AreAsked (has guardians) t new left
 ask_first guardians t old new left r l e m s = record {
   asked = λ k h. inr (ap (λ gs. listed gs k) l ∙ h);
-  unasked = λ k h. ap (λ u. has_prepared k t u.past) e ∙ none k (answer_of old.setup (Close t) old.past) refl m;
+  unasked = λ k h. ap (λ u. has_prepared k t u.past) e ∙ none k (answer_of (opening_in old.lists) (Close t) old.past) refl m;
   within = λ k h. sym (ap (λ gs. listed gs k) l) ∙ h;
   sorted = subst (λ gs. IsStrictlySortedBy nat_cmp gs) (sym l) s;
 }
   where
-    none : (k : ℕ) (answer : Answer) → answer_of old.setup (Close t) old.past ≡ answer → is_made answer ≡ true
+    none : (k : ℕ) (answer : Answer) → answer_of (opening_in old.lists) (Close t) old.past ≡ answer → is_made answer ≡ true
         → has_prepared k t (world_after old (Close t) answer).past ≡ false
     none k (Done n) q m =
-        close_unasked old.setup (record { step = Close t; answer = Done n }) old.past k t
-        (subst (λ b. IsRun old.setup (history_after (Close t) b old.past)) q (run_more old.setup (Close t) old.past r)) refl
+        close_unasked (opening_in old.lists) (record { step = Close t; answer = Done n }) old.past k t
+        (subst (λ b. IsRun (opening_in old.lists) (history_after (Close t) b old.past)) q (run_more (opening_in old.lists) (Close t) old.past r)) refl
     none k (Refused n) q m = absurd (false≢true m)
     none k (Waits names) q m = absurd (false≢true m)
     none k VoteYes q m = absurd (false≢true m)
@@ -201,21 +201,21 @@ undone_refused : (o : Option Refusal) → is_made (refused_or o (Done 0)) ≡ fa
 undone_refused None h = absurd (false≢true (sym h))
 undone_refused (Some r) h = refl
 
-pub close_refused : (w : World) (t : Name) → is_made (answer_of w.setup (Close t) w.past) ≡ false → IsTrue (would_refuse w (Close t))
+pub close_refused : (w : World) (t : Name) → is_made (answer_of (opening_in w.lists) (Close t) w.past) ≡ false → IsTrue (would_refuse w (Close t))
 unfolding answer_of
-close_refused w t h = undone_refused (first_refusal (checks w.setup (Close t) w.past)) h
+close_refused w t h = undone_refused (first_refusal (checks (opening_in w.lists) (Close t) w.past)) h
 
-decide_undone : (w : World) (t : Name) → is_made (answer_of w.setup (Decide t) w.past) ≡ false
-    → is_refused (answer_of w.setup (Decide t) w.past) ≡ true
+decide_undone : (w : World) (t : Name) → is_made (answer_of (opening_in w.lists) (Decide t) w.past) ≡ false
+    → is_refused (answer_of (opening_in w.lists) (Decide t) w.past) ≡ true
 unfolding answer_of
-decide_undone w t h = undone_refused (first_refusal (checks w.setup (Decide t) w.past)) h
+decide_undone w t h = undone_refused (first_refusal (checks (opening_in w.lists) (Decide t) w.past)) h
 
 -- and a refused decision leaves the world as it was
-pub decide_refused : (w v : World) (t : Name) → v ≡ world_after w (Decide t) (answer_of w.setup (Decide t) w.past)
-    → is_made (answer_of w.setup (Decide t) w.past) ≡ false → (v ≡ w) × IsTrue (would_refuse v (Decide t))
-decide_refused w v t e h = let same = e ∙ go (answer_of w.setup (Decide t) w.past) refused in (same, ap (λ u. would_refuse u (Decide t)) same ∙ refused)
+pub decide_refused : (w v : World) (t : Name) → v ≡ world_after w (Decide t) (answer_of (opening_in w.lists) (Decide t) w.past)
+    → is_made (answer_of (opening_in w.lists) (Decide t) w.past) ≡ false → (v ≡ w) × IsTrue (would_refuse v (Decide t))
+decide_refused w v t e h = let same = e ∙ go (answer_of (opening_in w.lists) (Decide t) w.past) refused in (same, ap (λ u. would_refuse u (Decide t)) same ∙ refused)
   where
-    refused : is_refused (answer_of w.setup (Decide t) w.past) ≡ true
+    refused : is_refused (answer_of (opening_in w.lists) (Decide t) w.past) ≡ true
     refused = decide_undone w t h
 
     go : (answer : Answer) → is_refused answer ≡ true → world_after w (Decide t) answer ≡ w
@@ -228,8 +228,8 @@ decide_refused w v t e h = let same = e ∙ go (answer_of w.setup (Decide t) w.p
     go (Granted reply) q = absurd (false≢true q)
 
 pub decide_held : {E : Type 0} (guardians : BTreeSet ℕ) (t : Name) (old w v : World) (result : Result Bool E)
-    → OnOk result (v ≡ world_after w (Decide t) (answer_of w.setup (Decide t) w.past))
-    → IfOk result (λ done. done ≡ is_made (answer_of w.setup (Decide t) w.past))
+    → OnOk result (v ≡ world_after w (Decide t) (answer_of (opening_in w.lists) (Decide t) w.past))
+    → IfOk result (λ done. done ≡ is_made (answer_of (opening_in w.lists) (Decide t) w.past))
     → ((k : ℕ) → has guardians k ≡ true → has_prepared k t w.past ≡ true) → IfOk result (λ done. done ≡ false → IsHeld guardians t old v)
 decide_held guardians t old w v (Ok done) e d a = λ f.
     let r = decide_refused w v t e (sym d ∙ f) in

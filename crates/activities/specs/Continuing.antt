@@ -7,6 +7,7 @@ use Rattle.run_model.specs.declared.answer.Answer.{Answer}
 use Rattle.run_model.specs.declared.history.Event.{Event}
 use Rattle.run_model.specs.Actions.{names_begun, is_begun, is_committed, is_ended, step_commits}
 use Rattle.run_model.specs.Answers.{answer_of}
+use Rattle.run_model.specs.Openings.{opening_in}
 use Rattle.run_model.specs.Runs.{World, IsRun, world_after}
 
 -- the actions that a `top` step begins
@@ -21,8 +22,8 @@ tops_begun (e ∷ past) = tops_begun past ++ tops_by e.step e.answer
 
 -- the old history is the older part of the new one, and since then the `top` steps began exactly these
 pub record GoesOn (old new : World) (tops : List Name) : Type 0 where
-  pub is_run : IsRun new.setup new.past
-  pub same_setup : new.setup ≡ old.setup
+  pub is_run : IsRun (opening_in new.lists) new.past
+  pub same_opening : new.lists ≡ old.lists
   pub later : List Event
   pub past : new.past ≡ later ++ old.past
   pub began : tops_begun later ≡ tops
@@ -75,7 +76,7 @@ EndsThese names old new = (a : Name) → IsTrue (has_name names a) → IsTrue (i
 
 -- the world was left by one step
 abbrev pub IsAfter : Step → World → World → Type 0
-IsAfter step old new = new ≡ world_after old step (answer_of old.setup step old.past)
+IsAfter step old new = new ≡ world_after old step (answer_of (opening_in old.lists) step old.past)
 
 -- a step that is no `top`
 abbrev pub IsNoTop : Step → Type 0

@@ -16,6 +16,7 @@ use Rattle.activities.specs.declared.flow.Flow.{Flow}
 use Rattle.activities.specs.declared.flow.Flow.TheVariants.{Ended, Returned}
 use Rattle.activities.specs.declared.open_action.Called.{Called}
 use Rattle.activities.specs.declared.open_action.Called.TheVariants.{Began}
+use Rattle.run_model.specs.Openings.{opening_in}
 use Rattle.activities.specs.Continuing.{CommitsNone, GoesOn, EndsAll, HaveBegun}
 
 -- the top action that an end names
@@ -61,8 +62,8 @@ named_by (Some a) = a ∷ []
 
 -- the `top` step at this guardian began the action, or was refused
 abbrev pub IsTopAt : ℕ → World → Option Name → Type 0
-IsTopAt home w None = (why : Refusal) × (answer_of w.setup (Top home) w.past ≡ answer.Refused why)
-IsTopAt home w (Some a) = answer_of w.setup (Top home) w.past ≡ answer.Began (a ∷ [])
+IsTopAt home w None = (why : Refusal) × (answer_of (opening_in w.lists) (Top home) w.past ≡ answer.Refused why)
+IsTopAt home w (Some a) = answer_of (opening_in w.lists) (Top home) w.past ≡ answer.Began (a ∷ [])
 
 -- that step was made, and nothing else
 pub record TopMade (home : ℕ) (old new : World) (found : Option Name) : Type 0 where

@@ -9,6 +9,7 @@ use Rattle.run_model.specs.declared.step.Step.{Step}
 use Rattle.run_model.specs.declared.step.Step.TheVariants.{Close, Decide, Prepare, Tell}
 use Rattle.run_model.specs.Answers.{answer_of}
 use Rattle.run_model.specs.Runs.{World}
+use Rattle.run_model.specs.Openings.{opening_in}
 use Rattle.run_model.specs.Visibility.{has_prepared}
 
 -- the guardian is of the set
@@ -30,7 +31,7 @@ is_yes _ = false
 
 -- the step would be refused
 abbrev pub would_refuse : World → Step → Bool
-would_refuse w step = is_refused (answer_of w.setup step w.past)
+would_refuse w step = is_refused (answer_of (opening_in w.lists) step w.past)
 
 -- the new set has exactly what the old one had and more has
 abbrev pub IsUnion : BTreeSet ℕ → BTreeSet ℕ → BTreeSet ℕ → Type 0
@@ -45,5 +46,5 @@ AreTold guardians a w = (g : ℕ) → IsTrue (has guardians g) → IsTrue (would
 abbrev pub IsHeld : BTreeSet ℕ → Name → World → World → Type 0
 IsHeld guardians t old new = IsTrue (would_refuse old (Close t))
     ⊎ (((g : ℕ) × IsTrue (has guardians g) × (has_prepared g t new.past ≡ false)
-    × (is_yes (answer_of new.setup (Prepare g t) new.past) ≡ false))
+    × (is_yes (answer_of (opening_in new.lists) (Prepare g t) new.past) ≡ false))
     ⊎ (((g : ℕ) → IsTrue (has guardians g) → IsTrue (has_prepared g t new.past)) × IsTrue (would_refuse new (Decide t))))

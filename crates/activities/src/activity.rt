@@ -7,6 +7,7 @@ ghost use Rattle.activities.specs.Continuing.{AreWaiting, CommitsAmong, CommitsN
 ghost use Rattle.activities.specs.Ends.{commits, has_committed};
 ghost use Rattle.activities.specs.declared.flow.Flow.TheVariants.{Aborted, Outwards};
 ghost use Rattle.activities.specs.declared.flow.Reach.TheVariants.{TopAction};
+ghost use Rattle.run_model.specs.Openings.{opening_in};
 
 use crate::arms::{arm_body, begin_arms};
 use crate::flow::{Flow, Reach};
@@ -68,7 +69,7 @@ impl<'s> Activity<'s> {
     ) -> Result<Flow, AllocError>
         requires script { IsResolved self.old.script.now }
         requires body { IsBody self.old.script.now (sizes frames.old) body.now }
-        requires run { IsRun world.old.setup world.old.past }
+        requires run { IsRun (opening_in world.old.lists) world.old.past }
         requires open { IsOpen action.old.name world.old }
         ensures goes_on { GoesOn world.old world.new [] }
         ensures others { CommitsAmong (action.old.name ∷ []) world.old world.new }
@@ -100,7 +101,7 @@ impl<'s> Activity<'s> {
     ) -> Result<Flow, AllocError>
         requires script { IsResolved self.old.script.now }
         requires body { IsBody self.old.script.now (sizes frames.old) body.now }
-        requires run { IsRun world.old.setup world.old.past }
+        requires run { IsRun (opening_in world.old.lists) world.old.past }
         ensures goes_on { GoesOn world.old world.new [] }
         ensures commits { CommitsNone world.old world.new }
         ensures ends { OnOk result (EndsAll world.old world.new) }
@@ -135,7 +136,7 @@ impl<'s> Activity<'s> {
     ) -> Result<Flow, AllocError>
         requires script { IsResolved self.old.script.now }
         requires body { IsBody self.old.script.now (sizes frames.old) body.now }
-        requires run { IsRun world.old.setup world.old.past }
+        requires run { IsRun (opening_in world.old.lists) world.old.past }
         ensures goes_on { GoesOn world.old world.new [] }
         ensures commits { CommitsNone world.old world.new }
         ensures ends { OnOk result (EndsAll world.old world.new) }
@@ -162,7 +163,7 @@ impl<'s> Activity<'s> {
     ) -> Result<Flow, AllocError>
         requires script { IsResolved self.old.script.now }
         requires statement { IsStatement self.old.script.now (sizes frames.old) statement.now }
-        requires run { IsRun world.old.setup world.old.past }
+        requires run { IsRun (opening_in world.old.lists) world.old.past }
         ensures goes_on { GoesOn world.old world.new [] }
         ensures commits { CommitsNone world.old world.new }
         ensures ends { OnOk result (EndsAll world.old world.new) }
@@ -213,7 +214,7 @@ impl<'s> Activity<'s> {
     ) -> Result<Flow, AllocError>
         requires script { IsResolved self.old.script.now }
         requires signals { SignalsHold self.old.script.now (sizes frames.old) signals.now }
-        requires run { IsRun world.old.setup world.old.past }
+        requires run { IsRun (opening_in world.old.lists) world.old.past }
         ensures goes_on { GoesOn world.old world.new [] }
         ensures commits { CommitsNone world.old world.new }
         ensures ends { OnOk result (EndsAll world.old world.new) }
@@ -242,7 +243,7 @@ impl<'s> Activity<'s> {
     ) -> Result<Flow, AllocError>
         requires script { IsResolved self.old.script.now }
         requires body { IsBody self.old.script.now (sizes frames.old) body.now }
-        requires run { IsRun world.old.setup world.old.past }
+        requires run { IsRun (opening_in world.old.lists) world.old.past }
         ensures goes_on { GoesOn world.old world.new [] }
         ensures commits { CommitsNone world.old world.new }
         ensures ends { OnOk result (EndsAll world.old world.new) }
@@ -279,7 +280,7 @@ impl<'s> Activity<'s> {
         requires script { IsResolved self.old.script.now }
         requires call { IsCall self.old.script.now (sizes frames.old) call.now }
         requires signals { SignalsFollow self.old.script.now (sizes frames.old) call.now.binding signals.now }
-        requires run { IsRun world.old.setup world.old.past }
+        requires run { IsRun (opening_in world.old.lists) world.old.past }
         ensures goes_on { GoesOn world.old world.new [] }
         ensures commits { CommitsNone world.old world.new }
         ensures ends { OnOk result (EndsAll world.old world.new) }
@@ -332,7 +333,7 @@ impl<'s> Activity<'s> {
         requires script { IsResolved self.old.script.now }
         requires body { IsBody self.old.script.now (sizes frames.old) body.now }
         requires signals { IsBody self.old.script.now (sizes frames.old) signals.now }
-        requires run { IsRun world.old.setup world.old.past }
+        requires run { IsRun (opening_in world.old.lists) world.old.past }
         ensures goes_on { GoesOn world.old world.new [] }
         ensures commits { CommitsNone world.old world.new }
         ensures ends { OnOk result (EndsAll world.old world.new) }
@@ -366,7 +367,7 @@ impl<'s> Activity<'s> {
     ) -> Result<Flow, AllocError>
         requires script { IsResolved self.old.script.now }
         requires arms { AreArms self.old.script.now (sizes frames.old) arms.now }
-        requires run { IsRun world.old.setup world.old.past }
+        requires run { IsRun (opening_in world.old.lists) world.old.past }
         ensures goes_on { GoesOn world.old world.new [] }
         ensures commits { CommitsNone world.old world.new }
         ensures ends { OnOk result (EndsAll world.old world.new) }
@@ -401,7 +402,7 @@ impl<'s> Activity<'s> {
         requires script { IsResolved self.old.script.now }
         requires arms { AreArms self.old.script.now (sizes frames.old) arms.now }
         requires each { length waiting.old.items ≡ length arms.now }
-        requires run { IsRun world.old.setup world.old.past }
+        requires run { IsRun (opening_in world.old.lists) world.old.past }
         requires waiting { AreWaiting waiting.old.items world.old }
         ensures goes_on { GoesOn world.old world.new [] }
         ensures others { CommitsAmong waiting.old.items world.old world.new }

@@ -3,6 +3,7 @@ ghost use Rattle.run_model.specs.declared.step.Step.TheVariants.{Arms};
 ghost use Rattle.run_model.specs.Runs.{IsRun};
 ghost use Rattle.activities.specs.Bodies.{body_of, kind_of, kinds};
 ghost use Rattle.activities.specs.Continuing.{AreDistinct, CommitsNone, GoesOn, HaveBegun, IsAfter};
+ghost use Rattle.run_model.specs.Openings.{opening_in};
 
 use crate::open_action::OpenAction;
 use action_names::Name;
@@ -18,7 +19,7 @@ pub(crate) fn begin_arms(
     action: &OpenAction,
     arms: &[Arm],
 ) -> Result<Option<Vec<Name>>, AllocError>
-    requires { IsRun world.old.setup world.old.past }
+    requires { IsRun (opening_in world.old.lists) world.old.past }
     ensures goes_on { GoesOn world.old world.new [] }
     ensures commits { CommitsNone world.old world.new }
     ensures together { IfOk result (λ found. IsAfter (Arms action.now.name (kinds arms.now)) world.old world.new) }

@@ -146,6 +146,9 @@ impl Frames {
                 let tag = tag.copy()?;
                 Ok(self.value(expr)?.map(|value| Op::Change(tag, value)))
             }
+            Operation::Total => Ok(Some(Op::Total)),
+            Operation::Put(expr) => Ok(self.value(expr)?.map(Op::Put)),
+            Operation::Add(expr) => Ok(self.value(expr)?.map(Op::Add)),
         }
     }
 

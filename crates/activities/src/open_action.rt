@@ -8,6 +8,7 @@ ghost use Rattle.run_model.specs.Runs.{IsRun, world_after};
 ghost use Rattle.activities.specs.Continuing.{GoesOn, CommitsAmong, CommitsBy, CommitsNone, EndsAll, EndsThese, HaveBegun, IsAfter, IsNoTop, IsOpen};
 ghost use Rattle.activities.specs.Reaching.{AreTold, IsHeld, IsUnion, is_made, is_yes};
 ghost use Rattle.activities.specs.Ends.{called, commits, named_by};
+ghost use Rattle.run_model.specs.Openings.{opening_in};
 
 use crate::flow::{Flow, Reach};
 use action_names::{Name, Names};
@@ -75,7 +76,7 @@ impl OpenAction {
 
     /// Begins a subaction of it at a guardian.
     pub(crate) fn begin_call(&self, world: &mut World, guardian: u32) -> Result<Called, AllocError>
-        requires { IsRun world.old.setup world.old.past }
+        requires { IsRun (opening_in world.old.lists) world.old.past }
         ensures goes_on { GoesOn world.old world.new [] }
         ensures commits { CommitsNone world.old world.new }
         ensures began { IfOk result (λ c. HaveBegun (called c) world.old world.new) }
@@ -86,7 +87,7 @@ impl OpenAction {
 
     /// Begins a nested top action that it starts; none where that is refused.
     pub(crate) fn begin_nested(&self, world: &mut World) -> Result<Option<Name>, AllocError>
-        requires { IsRun world.old.setup world.old.past }
+        requires { IsRun (opening_in world.old.lists) world.old.past }
         ensures goes_on { GoesOn world.old world.new [] }
         ensures commits { CommitsNone world.old world.new }
         ensures began { IfOk result (λ found. HaveBegun (named_by found) world.old world.new) }
@@ -102,7 +103,7 @@ impl OpenAction {
         object: u32,
         operation: Op,
     ) -> Result<Answer, AllocError>
-        requires { IsRun world.old.setup world.old.past }
+        requires { IsRun (opening_in world.old.lists) world.old.past }
         ensures goes_on { GoesOn world.old world.new [] }
         ensures commits { CommitsNone world.old world.new }
         ensures ends { EndsAll world.old world.new }
@@ -133,7 +134,7 @@ impl OpenAction {
     /// Ends it as its body ended, and says how: where it cannot commit it aborts. After an error it has ended, or its abort
     /// wanted memory too.
     pub(crate) fn end(&self, world: &mut World, flow: Flow) -> Result<Flow, AllocError>
-        requires run { IsRun world.old.setup world.old.past }
+        requires run { IsRun (opening_in world.old.lists) world.old.past }
         requires open { IsOpen self.now.name world.old }
         ensures goes_on { GoesOn world.old world.new [] }
         ensures others { CommitsAmong (self.now.name ∷ []) world.old world.new }
@@ -153,7 +154,7 @@ impl OpenAction {
 
     /// Commits it where that is wanted; where it cannot, and else, aborts it. Whether it has committed.
     fn try_end(&self, world: &mut World, wanted: bool) -> Result<bool, AllocError>
-        requires run { IsRun world.old.setup world.old.past }
+        requires run { IsRun (opening_in world.old.lists) world.old.past }
         requires open { IsOpen self.now.name world.old }
         ensures goes_on { GoesOn world.old world.new [] }
         ensures others { CommitsAmong (self.now.name ∷ []) world.old world.new }
@@ -171,7 +172,7 @@ impl OpenAction {
     }
 
     fn commit_or_abort(&self, world: &mut World) -> Result<bool, AllocError>
-        requires run { IsRun world.old.setup world.old.past }
+        requires run { IsRun (opening_in world.old.lists) world.old.past }
         requires open { IsOpen self.now.name world.old }
         ensures goes_on { GoesOn world.old world.new [] }
         ensures others { CommitsAmong (self.now.name ∷ []) world.old world.new }
@@ -202,7 +203,7 @@ impl OpenAction {
 
     /// Commits it, and tells so; whether that succeeded.
     fn commit(&self, world: &mut World) -> Result<bool, AllocError>
-        requires run { IsRun world.old.setup world.old.past }
+        requires run { IsRun (opening_in world.old.lists) world.old.past }
         requires open { IsOpen self.now.name world.old }
         ensures goes_on { GoesOn world.old world.new [] }
         ensures others { CommitsAmong (self.now.name ∷ []) world.old world.new }
@@ -219,7 +220,7 @@ impl OpenAction {
 
     /// Commits it; whether that succeeded.
     fn try_commit(&self, world: &mut World) -> Result<bool, AllocError>
-        requires run { IsRun world.old.setup world.old.past }
+        requires run { IsRun (opening_in world.old.lists) world.old.past }
         requires open { IsOpen self.now.name world.old }
         ensures goes_on { GoesOn world.old world.new [] }
         ensures others { CommitsAmong (self.now.name ∷ []) world.old world.new }
@@ -235,7 +236,7 @@ impl OpenAction {
 
     /// Commits it by two phases; false at the first participant that does not vote yes.
     fn commit_top(&self, world: &mut World) -> Result<bool, AllocError>
-        requires run { IsRun world.old.setup world.old.past }
+        requires run { IsRun (opening_in world.old.lists) world.old.past }
         requires open { IsOpen self.now.name world.old }
         ensures goes_on { GoesOn world.old world.new [] }
         ensures others { CommitsAmong (self.now.name ∷ []) world.old world.new }
@@ -256,7 +257,7 @@ impl OpenAction {
 
     /// Aborts it, and tells so.
     pub(crate) fn abort(&self, world: &mut World) -> Result<(), AllocError>
-        requires { IsRun world.old.setup world.old.past }
+        requires { IsRun (opening_in world.old.lists) world.old.past }
         ensures goes_on { GoesOn world.old world.new [] }
         ensures commits { CommitsNone world.old world.new }
         ensures ended { OnOk result (EndsThese (self.now.name ∷ []) world.old world.new) }
@@ -270,7 +271,7 @@ impl OpenAction {
     /// Aborts arms of it that have not run, of which the last is the first to be aborted, and tells so. Also after an error the others are
     /// aborted.
     pub(crate) fn abort_arms(&self, world: &mut World, arms: &[Name]) -> Result<(), AllocError>
-        requires { IsRun world.old.setup world.old.past }
+        requires { IsRun (opening_in world.old.lists) world.old.past }
         ensures goes_on { GoesOn world.old world.new [] }
         ensures commits { CommitsNone world.old world.new }
         ensures ended { OnOk result (EndsThese arms.now world.old world.new) }
@@ -286,7 +287,7 @@ impl OpenAction {
 
 /// Aborts an action that has done nothing yet, and tells its home.
 fn abort_at_home(world: &mut World, action: &Name, home: u32) -> Result<(), AllocError>
-    requires { IsRun world.old.setup world.old.past }
+    requires { IsRun (opening_in world.old.lists) world.old.past }
     ensures goes_on { GoesOn world.old world.new [] }
     ensures commits { CommitsNone world.old world.new }
     ensures ended { OnOk result (EndsThese (action.now ∷ []) world.old world.new) }
@@ -299,7 +300,7 @@ fn abort_at_home(world: &mut World, action: &Name, home: u32) -> Result<(), Allo
 
 /// Tells the outcome of an action to guardians, in rising number. Those that are down refuse it.
 fn tell(world: &mut World, action: &Name, guardians: &BTreeSet<u32>) -> Result<(), AllocError>
-    requires { IsRun world.old.setup world.old.past }
+    requires { IsRun (opening_in world.old.lists) world.old.past }
     ensures goes_on { GoesOn world.old world.new [] }
     ensures commits { CommitsNone world.old world.new }
     ensures told { OnOk result (AreTold guardians.now action.now world.new) }
@@ -336,11 +337,11 @@ fn begun_by(answer: Answer) -> Option<Name>
 
 /// Asks a guardian for its vote on a top action; whether that is yes.
 fn prepare(world: &mut World, guardian: u32, top: &Name) -> Result<bool, AllocError>
-    requires { IsRun world.old.setup world.old.past }
+    requires { IsRun (opening_in world.old.lists) world.old.past }
     ensures goes_on { GoesOn world.old world.new [] }
     ensures commits { CommitsNone world.old world.new }
     ensures after { OnOk result (IsAfter (Prepare guardian top.now) world.old world.new) }
-    ensures yes { IfOk result (λ yes. yes ≡ is_yes (answer_of world.old.setup (Prepare guardian top.now) world.old.past)) }
+    ensures yes { IfOk result (λ yes. yes ≡ is_yes (answer_of (opening_in world.old.lists) (Prepare guardian top.now) world.old.past)) }
     ensures ends { EndsAll world.old world.new }
 {
     let vote = make(world, Step::Prepare(guardian, top.copy()?))?;
@@ -355,12 +356,12 @@ fn is_yes(answer: Answer) -> bool
 
 /// Makes a step; whether it was done.
 fn try_step(world: &mut World, step: Step) -> Result<bool, AllocError>
-    requires run { IsRun world.old.setup world.old.past }
+    requires run { IsRun (opening_in world.old.lists) world.old.past }
     requires step { IsNoTop step }
     ensures goes_on { GoesOn world.old world.new [] }
     ensures commits { CommitsBy step world.old world.new }
     ensures after { OnOk result (IsAfter step world.old world.new) }
-    ensures done { IfOk result (λ done. done ≡ is_made (answer_of world.old.setup step world.old.past)) }
+    ensures done { IfOk result (λ done. done ≡ is_made (answer_of (opening_in world.old.lists) step world.old.past)) }
     ensures aborts { OnOk result ((a : Name) → step ≡ Abort a → IsTrue (is_begun a world.old.past) → IsTrue (is_ended a world.new.past)) }
     ensures ends { maker_in step ≡ None → EndsAll world.old world.new }
 {
@@ -401,11 +402,11 @@ pub(crate) fn only(names: Names) -> Name
 
 /// Makes a step that begins no top action of its own accord.
 fn make(world: &mut World, step: Step) -> Result<Answer, AllocError>
-    requires run { IsRun world.old.setup world.old.past }
+    requires run { IsRun (opening_in world.old.lists) world.old.past }
     requires step { IsNoTop step }
     ensures goes_on { GoesOn world.old world.new [] }
     ensures commits { CommitsBy step world.old world.new }
-    ensures answer { IfOk result (λ answer. answer ≡ answer_of world.old.setup step world.old.past) }
+    ensures answer { IfOk result (λ answer. answer ≡ answer_of (opening_in world.old.lists) step world.old.past) }
     ensures after { IfOk result (λ answer. world.new ≡ world_after world.old step answer) }
     ensures err { OnErr result (world.new ≡ world.old) }
     ensures began { IfOk result (λ answer. HaveBegun (names_begun answer) world.old world.new) }

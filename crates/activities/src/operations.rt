@@ -3,6 +3,7 @@ ghost use Rattle.script_model.specs.Resolved.{binding_is_bound};
 ghost use Rattle.run_model.specs.Runs.{IsRun};
 ghost use Rattle.activities.specs.Bodies.{IsOp, IsOutcome, sizes};
 ghost use Rattle.activities.specs.Continuing.{CommitsNone, EndsAll, GoesOn};
+ghost use Rattle.run_model.specs.Openings.{opening_in};
 
 use crate::frames::Frames;
 use crate::open_action::OpenAction;
@@ -28,7 +29,7 @@ pub(crate) fn perform(
     frames: &mut Frames,
     call: &ObjectCall,
 ) -> Result<Outcome, AllocError>
-    requires run { IsRun world.old.setup world.old.past }
+    requires run { IsRun (opening_in world.old.lists) world.old.past }
     requires call { IsOp (sizes frames.old) call.now }
     ensures goes_on { GoesOn world.old world.new [] }
     ensures commits { CommitsNone world.old world.new }

@@ -4,6 +4,7 @@ ghost use Rattle.action_names.specs.Names as names;
 ghost use Rattle.run_model.specs.Runs.{IsRun};
 ghost use Rattle.activities.specs.Continuing.{CommitsNone, EndsAll, GoesOn};
 ghost use Rattle.activities.specs.Ends.{AreRun, ClientRan, TopMade, end_of};
+ghost use Rattle.run_model.specs.Openings.{opening_in};
 
 use crate::activity::Activity;
 use crate::client::ClientEnd;
@@ -53,7 +54,7 @@ fn run_client(
 ) -> Result<ClientEnd, AllocError>
     requires script { IsResolved script.now }
     requires client { IsTrue (is_resolved_client script.now client.now) }
-    requires run { IsRun world.old.setup world.old.past }
+    requires run { IsRun (opening_in world.old.lists) world.old.past }
     ensures ok { IfOk result (λ end. ClientRan client.now.home world.old world.new end) }
     ensures commits { CommitsNone world.old world.new }
     ensures err { OnErr result ((tops : List names.Name) × GoesOn world.old world.new tops) }
@@ -71,7 +72,7 @@ fn run_client(
 
 /// Begins a top action at a guardian; none where that is refused.
 fn begin_top(world: &mut World, home: u32) -> Result<Option<Name>, AllocError>
-    requires { IsRun world.old.setup world.old.past }
+    requires { IsRun (opening_in world.old.lists) world.old.past }
     ensures made { IfOk result (λ found. TopMade home world.old world.new found) }
     ensures err { OnErr result (world.new ≡ world.old) }
 {

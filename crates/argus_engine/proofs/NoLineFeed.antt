@@ -13,7 +13,7 @@ use Rattle.values.specs.declared.value.Value.TheVariants.{Int, Text}
 use Rattle.values.specs.Values.{IsValue, value_text}
 use Rattle.values.specs.Words.{IsIdentifier, is_letter, is_word_character}
 use Rattle.atomic_types.specs.declared.op.Op as op
-use Rattle.atomic_types.specs.declared.op.Op.TheVariants.{Get, Set, Low, High, Size, Fetch, Store, AddHigh, AddLow, RemoveHigh, RemoveLow, Is, ValueOf, Change}
+use Rattle.atomic_types.specs.declared.op.Op.TheVariants.{Get, Set, Low, High, Size, Fetch, Store, AddHigh, AddLow, RemoveHigh, RemoveLow, Is, ValueOf, Change, Total, Put, Add}
 use Rattle.atomic_types.specs.Operations.{IsOp}
 use Rattle.run_model.specs.declared.step.ArmKind.{ArmKind}
 use Rattle.run_model.specs.declared.step.ArmKind.TheVariants as arm
@@ -124,6 +124,9 @@ operation RemoveLow fits = word (codes "reml") refl
 operation (Is tag) fits = after (codes "is ") tag refl (identifier tag fits)
 operation (ValueOf tag) fits = after (codes "value ") tag refl (identifier tag fits)
 operation (Change tag v) fits = both 32 (codes "change " ++ tag) (value_text v) (λ e. omega arith) (after (codes "change ") tag refl (identifier tag fits.0)) (value v fits.1)
+operation Total fits = word (codes "total") refl
+operation (Put v) fits = after (codes "put ") _ refl (value v fits)
+operation (Add v) fits = after (codes "add ") _ refl (value v fits)
 
 kinds : (ks : List ArmKind) → Lacks 10 (kinds_text ks)
 kinds [] = Lacks-nil 10

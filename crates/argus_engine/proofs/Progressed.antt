@@ -8,7 +8,7 @@ use Rattle.std.specs.Io.KnownBytes.{Consumes, Appends, prepend_known}
 use Rattle.std.proofs.KnownBytes.{Consumes-trans, Consumes-nil, Appends-trans, Appends-nil}
 use Rattle.run_model.specs.declared.step.Step.{Step}
 use Rattle.run_model.specs.declared.history.Event.{Event}
-use Rattle.run_model.specs.Replay.{Setup}
+use Rattle.run_model.specs.Openings.{Opening, opening_in}
 use Rattle.run_model.specs.Answers.{answer_of}
 use Rattle.run_model.specs.Runs.{World, history_after, history_from, world_after}
 use Rattle.run_model.specs.Texts.{IsStep, step_text, answer_text}
@@ -23,7 +23,7 @@ use Rattle.argus_engine.proofs.Bytes.{left_text, gives_more}
 use Rattle.argus_engine.proofs.OneAnswer.{back, forth, one_answer}
 
 pub nothing_yet : (input : Option (List ℕ)) (world : World) (written : List ℕ) → written ≡ [] → Progress input input world world 1 written
-nothing_yet input world written e = record { steps = []; each = tt; taken = Consumes-nil input; count = refl; setup = refl; past = refl; answers = e }
+nothing_yet input world written e = record { steps = []; each = tt; taken = Consumes-nil input; count = refl; opening = refl; past = refl; answers = e }
 
 each_more : (steps : List Step) (s : Step) → AllByRecursion IsStep steps → IsStep s → AllByRecursion IsStep (steps ++ s ∷ [])
 each_more [] s each fits = (fits, tt)
@@ -34,38 +34,38 @@ lines_more [] s = refl
 lines_more (t ∷ steps) s =
     ap (λ (l : List ℕ). step_text t ++ 10 ∷ l) (lines_more steps s) ∙ sym (append_assoc (step_text t) (10 ∷ step_lines steps) (step_text s ++ 10 ∷ []))
 
-past_more : (setup : Setup) (past : List Event) (steps : List Step) (s : Step)
-    → history_from setup past (steps ++ s ∷ []) ≡ history_after s (answer_of setup s (history_from setup past steps)) (history_from setup past steps)
-past_more setup past [] s = refl
-past_more setup past (t ∷ steps) s = past_more setup (history_after t (answer_of setup t past) past) steps s
+past_more : (opening : Opening) (past : List Event) (steps : List Step) (s : Step)
+    → history_from opening past (steps ++ s ∷ []) ≡ history_after s (answer_of opening s (history_from opening past steps)) (history_from opening past steps)
+past_more opening past [] s = refl
+past_more opening past (t ∷ steps) s = past_more opening (history_after t (answer_of opening t past) past) steps s
 
-answers_more : (setup : Setup) (past : List Event) (steps : List Step) (s : Step)
-    → answer_lines setup past (steps ++ s ∷ []) ≡ answer_lines setup past steps ++ (answer_text (answer_of setup s (history_from setup past steps)) ++ 10 ∷ [])
-answers_more setup past [] s = refl
-answers_more setup past (t ∷ steps) s =
-    let answer = answer_of setup t past in
+answers_more : (opening : Opening) (past : List Event) (steps : List Step) (s : Step)
+    → answer_lines opening past (steps ++ s ∷ []) ≡ answer_lines opening past steps ++ (answer_text (answer_of opening s (history_from opening past steps)) ++ 10 ∷ [])
+answers_more opening past [] s = refl
+answers_more opening past (t ∷ steps) s =
+    let answer = answer_of opening t past in
     let later = history_after t answer past in
-    ap (λ (l : List ℕ). answer_text answer ++ 10 ∷ l) (answers_more setup later steps s)
-    ∙ sym (append_assoc (answer_text answer) (10 ∷ answer_lines setup later steps) (answer_text (answer_of setup s (history_from setup later steps)) ++ 10 ∷ []))
+    ap (λ (l : List ℕ). answer_text answer ++ 10 ∷ l) (answers_more opening later steps s)
+    ∙ sym (append_assoc (answer_text answer) (10 ∷ answer_lines opening later steps) (answer_text (answer_of opening s (history_from opening later steps)) ++ 10 ∷ []))
 
 -- one line more
 pub one_more : (input left now : Option (List ℕ)) (old new next : World) (number : ℕ) (written grown : List ℕ) (s : Step)
     → Progress input left old new number written → ReadsStep left now s
-    → next ≡ world_after new s (answer_of new.setup s new.past) → grown ≡ written ++ (answer_text (answer_of new.setup s new.past) ++ 10 ∷ [])
+    → next ≡ world_after new s (answer_of (opening_in new.lists) s new.past) → grown ≡ written ++ (answer_text (answer_of (opening_in new.lists) s new.past) ++ 10 ∷ [])
     → Progress input now old next (number + 1) grown
 one_more input left now old new next number written grown s p reads stepped wrote =
-    let past = history_from old.setup old.past p.steps in
-    let same : answer_of new.setup s new.past ≡ answer_of old.setup s past = ap (λ (u : Setup). answer_of u s new.past) p.setup ∙ ap (λ (h : List Event). answer_of old.setup s h) p.past in
+    let past = history_from (opening_in old.lists) old.past p.steps in
+    let same : answer_of (opening_in new.lists) s new.past ≡ answer_of (opening_in old.lists) s past = ap (λ l. answer_of (opening_in l) s new.past) p.opening ∙ ap (λ (h : List Event). answer_of (opening_in old.lists) s h) p.past in
     record {
       steps = p.steps ++ s ∷ [];
       each = each_more p.steps s p.each reads.0;
       taken = subst (Consumes input now) (sym (lines_more p.steps s)) (Consumes-trans input left now (step_lines p.steps) (step_text s ++ 10 ∷ []) p.taken reads.1);
       count = let l = length-append p.steps (s ∷ []) in let c = p.count in omega arith;
-      setup = ap (λ (w : World). w.setup) stepped ∙ p.setup;
-      past = ap (λ (w : World). w.past) stepped ∙ ap (λ (h : List Event). history_after s (answer_of new.setup s new.past) h) p.past
-          ∙ ap (λ a. history_after s a past) same ∙ sym (past_more old.setup old.past p.steps s);
-      answers = wrote ∙ ap (λ (l : List ℕ). l ++ (answer_text (answer_of new.setup s new.past) ++ 10 ∷ [])) p.answers
-          ∙ ap (λ a. answer_lines old.setup old.past p.steps ++ (answer_text a ++ 10 ∷ [])) same ∙ sym (answers_more old.setup old.past p.steps s);
+      opening = ap (λ (w : World). w.lists) stepped ∙ p.opening;
+      past = ap (λ (w : World). w.past) stepped ∙ ap (λ (h : List Event). history_after s (answer_of (opening_in new.lists) s new.past) h) p.past
+          ∙ ap (λ a. history_after s a past) same ∙ sym (past_more (opening_in old.lists) old.past p.steps s);
+      answers = wrote ∙ ap (λ (l : List ℕ). l ++ (answer_text (answer_of (opening_in new.lists) s new.past) ++ 10 ∷ [])) p.answers
+          ∙ ap (λ a. answer_lines (opening_in old.lists) old.past p.steps ++ (answer_text a ++ 10 ∷ [])) same ∙ sym (answers_more (opening_in old.lists) old.past p.steps s);
     }
 
 -- the same with what was written said in another way
@@ -79,7 +79,7 @@ made input left old new after number written rest p e = record {
   steps = p.steps;
   each = p.each;
   lines = refl;
-  setup = ap (λ (w : World). w.setup) e ∙ p.setup;
+  opening = ap (λ (w : World). w.lists) e ∙ p.opening;
   past = ap (λ (w : World). w.past) e ∙ p.past;
 }
 
@@ -88,11 +88,11 @@ pub answers_done : (input left : Option (List ℕ)) (old new after : World) (num
     → Answers input old after written Done
 answers_done input left old new after number written p gives e =
     let lines = step_lines p.steps in
-    let answers = answer_lines old.setup old.past p.steps in
+    let answers = answer_lines (opening_in old.lists) old.past p.steps in
     record {
       text = lines ++ [];
       given = gives_more input left lines [] p.taken gives;
-      answered = subst (λ (a : List ℕ). IsAnswered old.setup old.past 1 (lines ++ []) a) (append-nil answers ∙ sym p.answers) (forth old.setup old.past 1 p.steps [] [] p.each at_end);
+      answered = subst (λ (a : List ℕ). IsAnswered (opening_in old.lists) old.past 1 (lines ++ []) a) (append-nil answers ∙ sym p.answers) (forth (opening_in old.lists) old.past 1 p.steps [] [] p.each at_end);
       rest = [];
       made = made input left old new after number written [] p e;
       is_end = refl;
@@ -103,15 +103,15 @@ pub answers_stopped : (input left : Option (List ℕ)) (old new after : World) (
     → all ≡ written ++ error_text number → Answers input old after all Stopped
 answers_stopped input left old new after number written all p faces e wrote =
     let lines = step_lines p.steps in
-    let answers = answer_lines old.setup old.past p.steps in
+    let answers = answer_lines (opening_in old.lists) old.past p.steps in
     let rest = faces.0 in
     let error = error_text number in
     record {
       text = lines ++ rest;
       given = gives_more input left lines rest p.taken faces.1;
-      answered = subst (λ (a : List ℕ). IsAnswered old.setup old.past 1 (lines ++ rest) a) (ap (λ (l : List ℕ). l ++ error) (sym p.answers) ∙ sym wrote)
-          (forth old.setup old.past 1 p.steps rest error p.each
-          (subst (λ n. IsAnswered old.setup (history_from old.setup old.past p.steps) n rest error) (let c = p.count in omega arith) (no_step faces.2 faces.3)));
+      answered = subst (λ (a : List ℕ). IsAnswered (opening_in old.lists) old.past 1 (lines ++ rest) a) (ap (λ (l : List ℕ). l ++ error) (sym p.answers) ∙ sym wrote)
+          (forth (opening_in old.lists) old.past 1 p.steps rest error p.each
+          (subst (λ n. IsAnswered (opening_in old.lists) (history_from (opening_in old.lists) old.past p.steps) n rest error) (let c = p.count in omega arith) (no_step faces.2 faces.3)));
       rest = rest;
       made = made input left old new after number written rest p e;
       is_end = (faces.2, faces.3);
@@ -121,17 +121,17 @@ answers_stopped input left old new after number written all p faces e wrote =
 pub begins_so_far : (input left : Option (List ℕ)) (old new : World) (number : ℕ) (written : List ℕ) → Progress input left old new number written → BeginsAnswers input old written
 begins_so_far input left old new number written p =
     let lines = step_lines p.steps in
-    let answers = answer_lines old.setup old.past p.steps in
+    let answers = answer_lines (opening_in old.lists) old.past p.steps in
     let rest = left_text input left lines p.taken in
     record {
       text = lines ++ rest.0;
       given = rest.1;
-      each = λ all h. let b = back old.setup old.past 1 p.steps rest.0 all p.each h in (b.0, b.1 ∙ ap (λ (l : List ℕ). l ++ b.0) (sym p.answers));
+      each = λ all h. let b = back (opening_in old.lists) old.past 1 p.steps rest.0 all p.each h in (b.0, b.1 ∙ ap (λ (l : List ℕ). l ++ b.0) (sym p.answers));
       read = lines;
       is_read = (rest.0, refl);
       answers = answers;
-      answered = subst (λ (t : List ℕ). IsAnswered old.setup old.past 1 t answers) (append-nil lines)
-          (subst (λ (a : List ℕ). IsAnswered old.setup old.past 1 (lines ++ []) a) (append-nil answers) (forth old.setup old.past 1 p.steps [] [] p.each at_end));
+      answered = subst (λ (t : List ℕ). IsAnswered (opening_in old.lists) old.past 1 t answers) (append-nil lines)
+          (subst (λ (a : List ℕ). IsAnswered (opening_in old.lists) old.past 1 (lines ++ []) a) (append-nil answers) (forth (opening_in old.lists) old.past 1 p.steps [] [] p.each at_end));
       is_part = ([], sym (append-nil written ∙ p.answers));
     }
 
@@ -159,7 +159,7 @@ pub begins_all : (input : Option (List ℕ)) (old new : World) (written : List �
 begins_all input old new written ended h = record {
   text = h.text;
   given = h.given;
-  each = λ all a. ([], one_answer old.setup old.past 1 h.text all written a h.answered ∙ sym (append-nil written));
+  each = λ all a. ([], one_answer (opening_in old.lists) old.past 1 h.text all written a h.answered ∙ sym (append-nil written));
   read = h.text;
   is_read = ([], sym (append-nil h.text));
   answers = written;

@@ -4,7 +4,7 @@ use Rattle.std.specs.List.{AllByRecursion}
 use Rattle.std.specs.Io.KnownBytes.{Appends, Consumes}
 use Rattle.run_model.specs.declared.step.Step.{Step}
 use Rattle.run_model.specs.declared.history.Event.{Event}
-use Rattle.run_model.specs.Replay.{Setup}
+use Rattle.run_model.specs.Openings.{Opening, opening_in}
 use Rattle.run_model.specs.Answers.{answer_of}
 use Rattle.run_model.specs.Runs.{World, history_after, history_from, world_after}
 use Rattle.run_model.specs.Texts.{IsStep, Spells, step_text, answer_text}
@@ -39,25 +39,25 @@ ReadsStep old new step = IsStep step × Consumes old new (step_text step ++ line
 -- the line spells a step, which was made and answered; or it spells none, and nothing was done
 abbrev pub AnswersLine : List ℕ → World → World → List ℕ → List ℕ → Bool → Type 0
 AnswersLine line world after pending grown true =
-    (step : Step) × Spells line step × (after ≡ world_after world step (answer_of world.setup step world.past))
-    × (grown ≡ pending ++ (answer_text (answer_of world.setup step world.past) ++ line_feed ∷ []))
+    (step : Step) × Spells line step × (after ≡ world_after world step (answer_of (opening_in world.lists) step world.past))
+    × (grown ≡ pending ++ (answer_text (answer_of (opening_in world.lists) step world.past) ++ line_feed ∷ []))
 AnswersLine line world after pending grown false =
     ((step : Step) → Spells line step → ⊥) × (after ≡ world) × (grown ≡ pending)
 
 -- one more line was answered, or none was there to be answered
 abbrev pub GoesOn : Option (List ℕ) → Option (List ℕ) → World → World → List ℕ → List ℕ → Next → Type 0
 GoesOn old new world after pending grown Answered =
-    (step : Step) × ReadsStep old new step × (after ≡ world_after world step (answer_of world.setup step world.past))
-    × (grown ≡ pending ++ (answer_text (answer_of world.setup step world.past) ++ line_feed ∷ []))
+    (step : Step) × ReadsStep old new step × (after ≡ world_after world step (answer_of (opening_in world.lists) step world.past))
+    × (grown ≡ pending ++ (answer_text (answer_of (opening_in world.lists) step world.past) ++ line_feed ∷ []))
 GoesOn old new world after pending grown NoStep = FacesNoStep old × (after ≡ world) × (grown ≡ pending)
 GoesOn old new world after pending grown End = Gives old [] × (after ≡ world) × (grown ≡ pending)
 
 -- the lines of the answers of steps, one after another
-abbrev pub answer_lines : Setup → List Event → List Step → List ℕ
-answer_lines setup past [] = []
-answer_lines setup past (step ∷ steps) =
-    let answer = answer_of setup step past in
-    answer_text answer ++ line_feed ∷ answer_lines setup (history_after step answer past) steps
+abbrev pub answer_lines : Opening → List Event → List Step → List ℕ
+answer_lines opening past [] = []
+answer_lines opening past (step ∷ steps) =
+    let answer = answer_of opening step past in
+    answer_text answer ++ line_feed ∷ answer_lines opening (history_after step answer past) steps
 
 -- this many lines were read before this number and answered, and nothing else was
 pub record Progress (input left : Option (List ℕ)) (old new : World) (number : ℕ) (written : List ℕ) : Type 0 where
@@ -65,9 +65,9 @@ pub record Progress (input left : Option (List ℕ)) (old new : World) (number :
   pub each : AllByRecursion IsStep steps
   pub taken : Consumes input left (step_lines steps)
   pub count : number ≡ suc (length steps)
-  pub setup : new.setup ≡ old.setup
-  pub past : new.past ≡ history_from old.setup old.past steps
-  pub answers : written ≡ answer_lines old.setup old.past steps
+  pub opening : new.lists ≡ old.lists
+  pub past : new.past ≡ history_from (opening_in old.lists) old.past steps
+  pub answers : written ≡ answer_lines (opening_in old.lists) old.past steps
 
 -- the writer took a beginning of what was kept for it, and the rest is kept
 abbrev pub Moves : Option (List ℕ) → Option (List ℕ) → List ℕ → List ℕ → Type 0

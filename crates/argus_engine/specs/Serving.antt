@@ -11,6 +11,7 @@ use Rattle.argus_engine.specs.declared.engine.Ended.TheVariants.{Done, Stopped}
 use Rattle.argus_engine.specs.declared.engine.Fault.{Fault}
 use Rattle.argus_engine.specs.declared.engine.Fault.TheVariants.{Memory, Output, Store}
 use Rattle.stable_store.specs.declared.fault.StoreFault.{StoreFault}
+use Rattle.run_model.specs.Openings.{opening_in}
 use Rattle.stable_store.specs.declared.fault.StoreFault.TheVariants as store
 
 -- the bytes of a reader, where they are known, are this text
@@ -37,14 +38,14 @@ pub record Made (old new : World) (text rest : List ℕ) : Type 0 where
   pub steps : List Step
   pub each : AllByRecursion IsStep steps
   pub lines : text ≡ step_lines steps ++ rest
-  pub setup : new.setup ≡ old.setup
-  pub past : new.past ≡ history_from old.setup old.past steps
+  pub opening : new.lists ≡ old.lists
+  pub past : new.past ≡ history_from (opening_in old.lists) old.past steps
 
 -- All that the reader gave was answered, and the steps before its end were made.
 pub record Answers (input : Option (List ℕ)) (old new : World) (written : List ℕ) (ended : Ended) : Type 0 where
   pub text : List ℕ
   pub given : Gives input text
-  pub answered : IsAnswered old.setup old.past 1 text written
+  pub answered : IsAnswered (opening_in old.lists) old.past 1 text written
   pub rest : List ℕ
   pub made : Made old new text rest
   pub is_end : HasEnded ended rest
@@ -72,9 +73,9 @@ fault_of store.NotOurs = Store
 pub record BeginsAnswers (input : Option (List ℕ)) (old : World) (written : List ℕ) : Type 0 where
   pub text : List ℕ
   pub given : Gives input text
-  pub each : (answers : List ℕ) → IsAnswered old.setup old.past 1 text answers → Begins written answers
+  pub each : (answers : List ℕ) → IsAnswered (opening_in old.lists) old.past 1 text answers → Begins written answers
   pub read : List ℕ
   pub is_read : Begins read text
   pub answers : List ℕ
-  pub answered : IsAnswered old.setup old.past 1 read answers
+  pub answered : IsAnswered (opening_in old.lists) old.past 1 read answers
   pub is_part : Begins written answers

@@ -99,7 +99,7 @@ pub fn steps<R: Read, W: Write>(
     // also after a fault
     ensures begun { Writes (W.contents writer.old) (W.contents writer.new)
         (λ written. BeginsAnswers (R.remaining reader.old) world.old written) }
-    ensures setup { world.new.setup ≡ world.old.setup }
+    ensures setup { world.new.lists ≡ world.old.lists }
     ensures fault { IfErr result (λ fault. fault ≢ Store) }
 {
     let Ok(mut buffered) = BufReader::new(alloc, reader) else {
@@ -126,7 +126,7 @@ fn answer_all<R: Read, W: Write>(
         (λ sent. Answers (R.remaining reader.old) world.old world.new (sent ++ string_bytes answers.new) ended)) }
     ensures begun { Writes (W.contents writer.old) (W.contents writer.new)
         (λ sent. BeginsAnswers (R.remaining reader.old) world.old (sent ++ string_bytes answers.new)) }
-    ensures setup { world.new.setup ≡ world.old.setup }
+    ensures setup { world.new.lists ≡ world.old.lists }
     ensures fault { IfErr result (λ fault. fault ≢ Store) }
 {
     let mut line = Vec::new(alloc);
@@ -156,7 +156,7 @@ fn answer_next<R: Read>(
     ensures ok { IfOk result (λ next. GoesOn (R.remaining reader.old) (R.remaining reader.new) world.old world.new
         (string_bytes answers.old) (string_bytes answers.new) next) }
     ensures err { OnErr result (string_bytes answers.new ≡ string_bytes answers.old) }
-    ensures setup { world.new.setup ≡ world.old.setup }
+    ensures setup { world.new.lists ≡ world.old.lists }
     ensures fault { IfErr result IsOfReader }
 {
     match read_line(reader, line)? {
@@ -179,7 +179,7 @@ fn answer_line(
 ) -> Result<bool, AllocError>
     ensures ok { IfOk result (AnswersLine line.now world.old world.new (string_bytes answers.old) (string_bytes answers.new)) }
     ensures err { OnErr result (string_bytes answers.new ≡ string_bytes answers.old) }
-    ensures setup { world.new.setup ≡ world.old.setup }
+    ensures setup { world.new.lists ≡ world.old.lists }
 {
     let Some(step) = Step::read(alloc, line)? else {
         return Ok(false);

@@ -2,6 +2,8 @@ pub mod Operations
 pub mod Records
 pub mod Arrays
 pub mod Variants
+pub mod Counters
 pub mod Objects
 pub mod Laws
 pub mod TypeLaws
+pub mod Parts

@@ -6,12 +6,15 @@
 
 mod array;
 mod atomic;
+mod counter;
 mod laws;
 mod object;
 mod op;
+mod part;
 mod record;
 mod variant;
 
 pub use atomic::AtomicType;
 pub use laws::object_laws;
 pub use op::{Class, Op, Reply, Signal};
+pub use part::Part;

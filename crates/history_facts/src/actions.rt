@@ -3,10 +3,11 @@ ghost use Rattle.std.specs.Prelude.{◌≡◌, [], reverse, min, suc, not, lengt
 ghost use Rattle.std.specs.List.{list_any};
 ghost use Rattle.action_names.specs.Names.{ancestors, same_name, parent_of};
 ghost use Rattle.run_model.specs.Actions.{begins, is_begun, next_number, is_committed, is_aborted, is_ended, is_closed, is_done, crashes, is_down, home_of, incarnation_of, is_gone, is_busy, names_begun};
+ghost use Rattle.run_model.specs.Openings.{given_before, opening_in};
 ghost use Rattle.run_model.specs.Refusals.{max_number};
 
 use crate::steps::{self, newest};
-use run_model::{Answer, Event, History, Name, Names, Step};
+use run_model::{Answer, Event, History, Name, Names, Opening, Step};
 use std::alloc::{AllocError, Global};
 
 /// Whether the event begins the action.
@@ -191,16 +192,27 @@ pub fn ancestors(alloc: Global, action: &Name) -> Result<Names, AllocError>
 const PAST_NUMBERS: u64 = 1 << 32;
 
 /// The next number of a child of the path; of a top action, where it is empty. All numbers above 4294967295 count as 4294967296.
-pub fn next_number(history: &History, parent: &[u32]) -> u64
-    ensures { result ≡ min (next_number parent.now history.now) (suc max_number) }
+pub fn next_number(opening: &Opening, history: &History, parent: &[u32]) -> u64
+    ensures { result ≡ min (next_number (opening_in opening.now) parent.now history.now) (suc max_number) }
 {
-    let mut count = 1;
+    let mut count = first_number(opening, parent);
     let mut events = history.events();
     while let Some((event, past)) = newest(events) {
         count = PAST_NUMBERS.min(count + children_begun(&event.answer, parent));
         events = past;
     }
     count
+}
+
+/// The number of the first child of the path that a history begins, at most 4294967296.
+fn first_number(opening: &Opening, parent: &[u32]) -> u64
+    ensures { result ≡ min (suc (given_before (opening_in opening.now) parent.now)) (suc max_number) }
+{
+    if parent.is_empty() {
+        PAST_NUMBERS.min(opening.first_top().max(1))
+    } else {
+        1
+    }
 }
 
 /// How many children of the path the answer begins, at most as many as there are numbers.

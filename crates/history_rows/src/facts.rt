@@ -2,20 +2,21 @@
 use crate::reading;
 use history_facts::actions;
 use rows::{RowFault, Words};
-use run_model::{History, Name};
+use run_model::{History, Name, Opening};
 use std::alloc::{AllocError, Global};
 
 /// Answers the rows `fact CALL`.
 pub(crate) fn answer(
     alloc: Global,
+    opening: &Opening,
     past: &History,
     mut words: Words<'_>,
     answer: &mut String,
 ) -> Result<(), RowFault> {
     match words.word()? {
         "fares" => write_fares(past, reading::name(alloc, words.rest())?, answer),
-        "at_home" => write_at_home(past, reading::name(alloc, words.rest())?, answer),
-        "next_top" => Ok(write!(answer, "{}", actions::next_number(past, &[]))?),
+        "at_home" => write_at_home(opening, past, reading::name(alloc, words.rest())?, answer),
+        "next_top" => Ok(write!(answer, "{}", actions::next_number(opening, past, &[]))?),
         "crashes" => write_crashes(past, reading::guardian(&mut words)?, answer),
         "ancestors" => write_ancestors(alloc, reading::name(alloc, words.rest())?, answer),
         _ => Err(RowFault::Unread),
@@ -59,10 +60,15 @@ fn write_word(word: &str, answer: &mut String) -> Result<(), AllocError> {
 }
 
 /// `at_home ACTION`: its home, that one's incarnation, and the next number of a child.
-fn write_at_home(past: &History, action: Name, answer: &mut String) -> Result<(), RowFault> {
+fn write_at_home(
+    opening: &Opening,
+    past: &History,
+    action: Name,
+    answer: &mut String,
+) -> Result<(), RowFault> {
     let home = actions::home_of(past, &action);
     let incarnation = actions::incarnation_of(past, &action);
-    let next = actions::next_number(past, action.components());
+    let next = actions::next_number(opening, past, action.components());
     write!(answer, "{home} {incarnation} {next}")?;
     Ok(())
 }

@@ -1,9 +1,10 @@
-//! Tests of `run_model`, `history_facts` and `plain_tables`, as rows of data. In a section a setup is put together and a history grows, row
-//! by row; other rows read and write steps and answers, ask what the history says, or ask the tables of the world that makes its steps.
+//! Tests of `run_model`, `history_facts` and `plain_tables`, as rows of data. In a section a setup and an opening are put together and a
+//! history grows, row by row; other rows read and write steps and answers, ask what the history says, or ask the tables of the world that makes its steps.
 #![tactic(auto)]
 
 mod answers;
 mod facts;
+mod openings;
 mod past;
 mod reading;
 mod setups;
@@ -11,17 +12,19 @@ mod steps;
 mod tables;
 mod telling;
 
+use openings::Openings;
 use past::Past;
 use rows::{Row, RowFault, Subject};
-use run_model::Setup;
+use run_model::{Opening, Setup};
 use std::alloc::{AllocError, Global};
 use std::io;
 
-/// The setup and the history of a section.
+/// The setup of a section, its opening and its history.
 #[derive(Drop)]
 struct HistoryRows {
     alloc: Global,
     setup: Setup,
+    openings: Openings,
     past: Past,
 }
 
@@ -30,6 +33,7 @@ fn main(rt: HostRuntime) -> io::Result<()> {
     let mut subject = HistoryRows {
         alloc,
         setup: Setup::new(alloc),
+        openings: Openings::new(alloc),
         past: Past::new(alloc),
     };
     rows::run(&rt, &mut subject)
@@ -38,6 +42,7 @@ fn main(rt: HostRuntime) -> io::Result<()> {
 impl Subject for HistoryRows {
     fn begin(&mut self, _section: &str) -> Result<(), AllocError> {
         self.setup = Setup::new(self.alloc);
+        self.openings = Openings::new(self.alloc);
         self.past = Past::new(self.alloc);
         Ok(())
     }
@@ -48,11 +53,19 @@ impl Subject for HistoryRows {
         match row.call {
             "setup" => setups::answer(alloc, &mut self.setup, words, answer),
             "history" => self.past.answer(alloc, words, answer),
-            "fact" => facts::answer(alloc, self.past.history(), words, answer),
+            "opening" => self.openings.answer(alloc, &self.setup, words, answer),
+            "fact" => facts::answer(alloc, &self.opening()?, self.past.history(), words, answer),
             "told" => telling::answer(alloc, self.past.history(), words, answer),
-            "table" => tables::answer(alloc, &self.setup, self.past.history(), words, answer),
+            "table" => tables::answer(alloc, self.opening()?, self.past.history(), words, answer),
             _ => answer_alone(alloc, row, answer),
         }
+    }
+}
+
+impl HistoryRows {
+    /// The opening of the section.
+    fn opening(&self) -> Result<Opening, AllocError> {
+        self.openings.opening(self.alloc, &self.setup)
     }
 }
 

@@ -85,7 +85,8 @@ fn contents(alloc: Global, text: &str) -> Result<Vec<Content>, RowFault> {
     Ok(contents)
 }
 
-fn content(alloc: Global, text: &str) -> Result<Content, RowFault> {
+/// The content that the text spells.
+pub(crate) fn content(alloc: Global, text: &str) -> Result<Content, RowFault> {
     Content::from_spelling(alloc, text).map_err(|fault| match fault {
         ValueFault::Memory => RowFault::Memory,
         ValueFault::Unfit => RowFault::Unread,

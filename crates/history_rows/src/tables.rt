@@ -1,5 +1,6 @@
 //! The tables of a run. A plain world makes the steps of the history again, so that what happens in it is known to be a run.
 ghost use Rattle.std.specs.Prelude.{◌≡◌, [], ◌∷◌, IfOk, OnOk};
+ghost use Rattle.run_model.specs.Openings.{opening_in};
 ghost use Rattle.run_model.specs.Runs.{IsRun};
 ghost use Rattle.plain_tables.specs.Tables.{AreChanges, IsTables};
 
@@ -9,7 +10,7 @@ use plain_tables::{Changes, Performed, Tables};
 use plain_world::PlainWorld;
 use rows::{RowFault, Words, again};
 use run_model::text::{append_reply, append_request};
-use run_model::{Event, History, Setup, Step};
+use run_model::{Event, History, Opening, Step};
 use std::alloc::{AllocError, Global};
 use std::marker::Model;
 
@@ -23,6 +24,7 @@ struct Run {
 
 impl Model for Run {
     ghost use Rattle.std.specs.Prelude.{◌≡◌};
+    ghost use Rattle.run_model.specs.Openings.{opening_in};
     ghost use Rattle.run_model.specs.Runs.{World};
     ghost use Rattle.plain_tables.specs.Tables.{IsTables};
 
@@ -30,23 +32,23 @@ impl Model for Run {
 
     ghost view = { λ a. a.world };
 
-    ghost invariant = { λ a. (a.history ≡ a.world.past) × IsTables a.world.setup a.tables a.history };
+    ghost invariant = { λ a. (a.history ≡ a.world.past) × IsTables (opening_in a.world.lists) a.tables a.history };
 }
 
 /// Answers the rows `table CALL` for the run of the history's steps.
 pub(crate) fn answer(
     alloc: Global,
-    setup: &Setup,
+    opening: Opening,
     past: &History,
     words: Words<'_>,
     answer: &mut String,
 ) -> Result<(), RowFault> {
-    run_of(alloc, setup, past)?.answer(alloc, words, answer)
+    run_of(alloc, opening, past)?.answer(alloc, words, answer)
 }
 
 /// The run of these steps.
-fn run_of(alloc: Global, setup: &Setup, past: &History) -> Result<Run, RowFault> {
-    let mut run = Run::new(alloc, setup.copy()?)?;
+fn run_of(alloc: Global, opening: Opening, past: &History) -> Result<Run, RowFault> {
+    let mut run = Run::new(alloc, opening)?;
     for event in past.events() {
         run = run.follow(&event.step)?;
     }
@@ -61,9 +63,9 @@ fn follow(
     tables: &mut Tables,
     step: &Step,
 ) -> Result<(), RowFault>
-    requires tables { IsTables world.old.setup tables.old history.old }
+    requires tables { IsTables (opening_in world.old.lists) tables.old history.old }
     requires past { history.old ≡ world.old.past }
-    ensures tables { OnOk result (IsTables world.new.setup tables.new history.new) }
+    ensures tables { OnOk result (IsTables (opening_in world.new.lists) tables.new history.new) }
     ensures past { OnOk result (history.new ≡ world.new.past) }
 {
     let answer = again!(world.step(step))?;
@@ -76,25 +78,25 @@ fn follow(
         step: step.copy()?,
         answer,
     };
-    let changes = changes_of(tables, world.setup(), history, &event)?;
+    let changes = changes_of(tables, world.opening(), history, &event)?;
     record(history, event)?;
-    tables.install(world.setup(), history, changes);
+    tables.install(world.opening(), history, changes);
     Ok(())
 }
 
 /// What the event changes in the tables.
 fn changes_of(
     tables: &mut Tables,
-    setup: &Setup,
+    opening: &Opening,
     history: &History,
     event: &Event,
 ) -> Result<Changes, AllocError>
-    requires tables { IsTables setup.now tables.old history.now }
-    requires run { IsRun setup.now (event.now ∷ history.now) }
-    ensures same { IsTables setup.now tables.new history.now }
-    ensures changes { IfOk result (λ changes. AreChanges setup.now tables.new changes (event.now ∷ history.now)) }
+    requires tables { IsTables (opening_in opening.now) tables.old history.now }
+    requires run { IsRun (opening_in opening.now) (event.now ∷ history.now) }
+    ensures same { IsTables (opening_in opening.now) tables.new history.now }
+    ensures changes { IfOk result (λ changes. AreChanges (opening_in opening.now) tables.new changes (event.now ∷ history.now)) }
 {
-    again!(tables.changes(setup, history, event))
+    again!(tables.changes(opening, history, event))
 }
 
 /// Puts the event into the history.
@@ -108,10 +110,10 @@ fn record(history: &mut History, event: Event) -> Result<(), AllocError>
 }
 
 impl Run {
-    /// The run of this setup to which nothing has happened.
-    fn new(alloc: Global, setup: Setup) -> Result<Run, AllocError> {
-        let world = PlainWorld::new(alloc, setup)?;
-        let tables = again!(Tables::new(alloc, world.setup()))?;
+    /// The run of this opening to which nothing has happened.
+    fn new(alloc: Global, opening: Opening) -> Result<Run, AllocError> {
+        let world = PlainWorld::new(alloc, opening)?;
+        let tables = again!(Tables::new(alloc, world.opening()))?;
         Ok(Run {
             world,
             history: History::new(alloc),
@@ -141,7 +143,7 @@ impl Run {
         answer: &mut String,
     ) -> Result<(), RowFault> {
         match words.word()? {
-            "guardians" => Ok(write!(answer, "{}", self.world.setup().guardians())?),
+            "guardians" => Ok(write!(answer, "{}", self.world.opening().setup().guardians())?),
             "events" => past::write_events(alloc, self.world.history(), answer),
             "dependency" => Ok(self.write_dependency(
                 reading::read_at(alloc, &mut words)?,
@@ -161,28 +163,28 @@ impl Run {
 
     /// `dependency GUARDIAN ACTION`: the least incarnation of the guardian on which the action depends.
     fn write_dependency(&self, at: At, answer: &mut String) -> Result<(), AllocError> {
-        let setup = self.world.setup();
+        let opening = self.world.opening();
         let found = self
             .tables
-            .dependency(setup, &self.history, &at.action, at.guardian);
+            .dependency(opening, &self.history, &at.action, at.guardian);
         write!(answer, "{found:?}")
     }
 
     /// `knows_abort GUARDIAN ACTION`: whether the guardian knows that the action aborted.
     fn write_knows_abort(&self, at: At, answer: &mut String) -> Result<(), AllocError> {
-        let setup = self.world.setup();
+        let opening = self.world.opening();
         let knows = self
             .tables
-            .knows_abort(setup, &self.history, at.guardian, &at.action);
+            .knows_abort(opening, &self.history, at.guardian, &at.action);
         write!(answer, "{knows}")
     }
 
     /// `orphan GUARDIAN ACTION`: whether the action is known as an orphan at the guardian.
     fn write_orphan(&self, at: At, answer: &mut String) -> Result<(), AllocError> {
-        let setup = self.world.setup();
+        let opening = self.world.opening();
         let known = again!(
             self.tables
-                .is_known_orphan(setup, &self.history, &at.action, at.guardian)
+                .is_known_orphan(opening, &self.history, &at.action, at.guardian)
         )?;
         write!(answer, "{known}")
     }
@@ -195,8 +197,8 @@ impl Run {
     ) -> Result<(), RowFault> {
         let at = reading::guardian(&mut words)?;
         let of = reading::guardian(&mut words)?;
-        let setup = self.world.setup();
-        let known = self.tables.known_crashes(setup, &self.history, at, of);
+        let opening = self.world.opening();
+        let known = self.tables.known_crashes(opening, &self.history, at, of);
         Ok(write!(answer, "{known}")?)
     }
 
@@ -204,7 +206,7 @@ impl Run {
     fn write_kept(&self, answer: &mut String) -> Result<(), AllocError> {
         let kept = self
             .tables
-            .kept_operations(self.world.setup(), &self.history);
+            .kept_operations(self.world.opening(), &self.history);
         write!(answer, "{}:", kept.len())?;
         for operation in kept {
             write_performed(operation, answer)?;
@@ -216,7 +218,7 @@ impl Run {
     fn write_kept_copies(&self, answer: &mut String) -> Result<(), AllocError> {
         let kept = self
             .tables
-            .kept_operations(self.world.setup(), &self.history);
+            .kept_operations(self.world.opening(), &self.history);
         write!(answer, "{}:", kept.len())?;
         for operation in kept {
             write_copy(operation, answer)?;

@@ -1,13 +1,13 @@
--- What is said of a guardian: its setup, its number and its own history.
+-- What is said of a guardian: its opening, its number and its own history.
 use Rattle.std.specs.Prelude.{ℕ, ◌==◌, List, [], ◌∷◌, if◌then◌else◌}
 use Rattle.run_model.specs.declared.history.Event.{Event}
-use Rattle.run_model.specs.Replay.{Setup}
+use Rattle.run_model.specs.Openings.{Opening}
 use Rattle.run_model.specs.LocalReadings.{Carried, LocalEvent}
 use Rattle.run_model.specs.LocalHistories.{RegistryEvent, Stamped, history_after_lent}
 
 -- a guardian as contracts see it
 pub record GuardianState : Type 0 where
-  pub setup : Setup
+  pub opening : Opening
   pub number : ℕ
   pub past : List LocalEvent
 
@@ -29,4 +29,4 @@ lent_two a b g = if a.number == g then a.past else (if b.number == g then b.past
 
 -- the guardian after an accepted step, by what the step was lent
 abbrev pub after_step : GuardianState → Stamped → List RegistryEvent → (ℕ → List LocalEvent) → GuardianState
-after_step g s registry lent = record g { past = history_after_lent g.setup s registry lent g.number }
+after_step g s registry lent = record g { past = history_after_lent g.opening s registry lent g.number }

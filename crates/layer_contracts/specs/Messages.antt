@@ -1,6 +1,6 @@
 -- What a message is to contracts, and which events write to a guardian's store.
 use Rattle.std.specs.declared.alloc.Global.{Global}
-use Rattle.std.specs.Prelude.{ℕ, Bool, true, false, ◌==◌, List, [], ◌∷◌, Vec, None}
+use Rattle.std.specs.Prelude.{ℕ, Bool, true, false, ◌==◌, List, [], ◌∷◌, Vec}
 use Rattle.action_names.specs.Names.{Name}
 use Rattle.run_model.specs.declared.step.Step.{Step}
 use Rattle.run_model.specs.declared.step.Step.TheVariants.{Prepare, Decide, Tell, Recover}
@@ -20,11 +20,8 @@ carried_of m = record {
   counts = m.counts.items;
   dependencies = sent_of m.dependencies.items;
   outcomes = m.outcomes.items;
+  restored = [];
 }
-
--- no message came
-abbrev pub nothing_carried : Carried
-nothing_carried = record { sender = None; life = 0; aborts = []; counts = []; dependencies = []; outcomes = [] }
 
 -- the event may write to g's store, where g is among those that it names
 abbrev pub stores : Step → ℕ → Bool

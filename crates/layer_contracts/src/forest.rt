@@ -3,6 +3,7 @@ ghost use Rattle.std.specs.List.{list_all};
 ghost use Rattle.run_model.specs.Actions.{home_of, is_begun, is_busy, is_closed, is_committed, is_done, is_ended, maker_of, next_number};
 ghost use Rattle.run_model.specs.Dependencies.{own_entry};
 ghost use Rattle.run_model.specs.Lists.{guardians_of};
+ghost use Rattle.run_model.specs.Openings.{opening_in};
 ghost use Rattle.run_model.specs.Refusals.{max_number};
 ghost use Rattle.run_model.specs.Runs.{is_accepted};
 ghost use Rattle.run_model.specs.Visibility.{has_prepared};
@@ -12,12 +13,12 @@ ghost use Rattle.run_model.specs.LocalHistories.{answer_lent, dependency_there, 
 ghost use Rattle.layer_contracts.specs.Forests.{ForestState, RegistryNews, begun_at, entered, new_entries, stamped_there};
 
 use crate::guardian::Guardian;
-use run_model::{Event, Name, Setup};
+use run_model::{Event, Name, Opening};
 use std::alloc::AllocError;
 
 /// The forest of actions and the ballots, as a step uses them: readings of the registry's history.
 pub trait Forest: Drop {
-    /// The setup, and the registry's history.
+    /// The opening, and the registry's history.
     ghost state: { Self → ForestState };
 
     /// What one event changes here.
@@ -27,8 +28,8 @@ pub trait Forest: Drop {
 
     ghost made_for: { Self.Plan → ForestState };
 
-    fn setup(&self) -> &Setup
-        ensures { result.now ≡ (state self.now).setup };
+    fn opening(&self) -> &Opening
+        ensures { opening_in result.now ≡ (state self.now).opening };
 
     fn is_begun(&self, action: &Name) -> bool
         ensures { result ≡ is_begun action.now (events_there (state self.now).registry) };
@@ -59,7 +60,7 @@ pub trait Forest: Drop {
 
     /// The next number under the path. All numbers above 4294967295 count as 4294967296.
     fn next(&self, path: &[u32]) -> u64
-        ensures { result ≡ min (next_number path.now (events_there (state self.now).registry)) (suc max_number) };
+        ensures { result ≡ min (next_number (state self.now).opening path.now (events_there (state self.now).registry)) (suc max_number) };
 
     fn has_voted(&self, guardian: u32, top: &Name) -> bool
         ensures { result ≡ has_voted guardian top.now (events_there (state self.now).registry) };
@@ -67,7 +68,7 @@ pub trait Forest: Drop {
     /// Whether all participants voted yes.
     fn is_ready(&self, top: &Name) -> bool
         ensures { result ≡ list_all (λ g. is_none (dependency_there top.now g (state self.now).registry)
-            || has_prepared g top.now (events_there (state self.now).registry)) (guardians_of (state self.now).setup) };
+            || has_prepared g top.now (events_there (state self.now).registry)) (guardians_of (state self.now).opening) };
 
     /// The least incarnation of the guardian on which the action depends.
     fn dependency(&self, action: &Name, guardian: u32) -> Option<u64>
@@ -75,7 +76,7 @@ pub trait Forest: Drop {
 
     /// On which guardians the action depends, rising.
     fn dependencies(&self, action: &Name) -> Result<Vec<(u32, u64)>, AllocError>
-        ensures { IfOk result (λ entries. entries.items ≡ entries_of (state self.now).setup (λ h. dependency_there action.now h (state self.now).registry)) };
+        ensures { IfOk result (λ entries. entries.items ≡ entries_of (state self.now).opening (λ h. dependency_there action.now h (state self.now).registry)) };
 
     /// On which guardians an action depends that begins at this home in this life of it.
     fn new_dependencies(

@@ -2,7 +2,7 @@ ghost use Rattle.std.specs.Prelude.{◌≡◌, ◌≤◌, ◌==◌, ℕ, Bool, t
 ghost use Rattle.atomic_types.specs.Objects.{knows};
 ghost use Rattle.run_model.specs.Actions.{crashes, is_busy, is_done, is_down, is_gone};
 ghost use Rattle.run_model.specs.Answers.{operated_by};
-ghost use Rattle.run_model.specs.Replay.{objects_at, opening};
+ghost use Rattle.run_model.specs.Openings.{objects_at, first_content, opening_in};
 ghost use Rattle.run_model.specs.Runs.{is_accepted};
 ghost use Rattle.run_model.specs.LocalReadings.{count_here, events_here, is_at_home, is_orphan_here, standing_here, told_here, unsent_aborts, unsent_counts};
 ghost use Rattle.local_laws.specs.Owed.{IsOwed};
@@ -10,7 +10,7 @@ ghost use Rattle.layer_contracts.specs.Guardians.{GuardianState, News, kept, sta
 ghost use Rattle.layer_contracts.specs.Messages.{carried_of, stores};
 
 use crate::message::Message;
-use run_model::{Answer, Event, Name, Names, ObjectId, Op, Setup};
+use run_model::{Answer, Event, Name, Names, ObjectId, Op, Opening};
 use std::alloc::AllocError;
 
 /// Why a call did not come about.
@@ -33,7 +33,7 @@ impl From<AllocError> for Fault {
 
 /// A guardian, which knows its own history alone.
 pub trait Guardian: Drop {
-    /// Its setup, its number and its own history.
+    /// Its opening, its number and its own history.
     ghost state: { Self → GuardianState };
 
     /// What one event changes here, made of copies and of room.
@@ -45,8 +45,8 @@ pub trait Guardian: Drop {
     /// The state for which it was made.
     ghost made_for: { Self.Plan → GuardianState };
 
-    fn setup(&self) -> &Setup
-        ensures { result.now ≡ (state self.now).setup };
+    fn opening(&self) -> &Opening
+        ensures { opening_in result.now ≡ (state self.now).opening };
 
     fn number(&self) -> u32
         ensures { result ≡ (state self.now).number };
@@ -80,7 +80,7 @@ pub trait Guardian: Drop {
     /// Whether it knows the action as an orphan, by its lists and by what messages said of the action's dependencies, whether the action is
     /// on its roster or not.
     fn is_orphan(&self, action: &Name) -> Result<bool, AllocError>
-        ensures { IfOk result (λ orphan. orphan ≡ is_orphan_here (state self.now).setup (state self.now).number (state self.now).past action.now) };
+        ensures { IfOk result (λ orphan. orphan ≡ is_orphan_here (state self.now).opening (state self.now).number (state self.now).past action.now) };
 
     /// Whether it was told of the action since its last crash.
     fn was_told(&self, action: &Name) -> bool
@@ -88,7 +88,7 @@ pub trait Guardian: Drop {
 
     /// How many of its objects a telling of this outcome changes.
     fn told_count(&self, action: &Name, committed: bool) -> u64
-        ensures { result ≡ count_here (state self.now).setup (state self.now).number action.now committed (state self.now).past };
+        ensures { result ≡ count_here (state self.now).opening (state self.now).number action.now committed (state self.now).past };
 
     /// What an operation that nothing refuses is answered: the reply, or for whom it waits.
     fn operated(
@@ -100,9 +100,9 @@ pub trait Guardian: Drop {
         requires own { object.guardian ≡ (state self.now).number }
         requires guardian { 1 ≤ object.guardian }
         requires number { 1 ≤ object.number }
-        requires there { object.number ≤ length (objects_at (state self.now).setup object.guardian) }
-        requires known { IsTrue (knows (opening (state self.now).setup object) operation.now) }
-        ensures { IfOk result (λ answer. answer ≡ operated_by (opening (state self.now).setup object) (standing_here (state self.now).past object) action.now operation.now) };
+        requires there { object.number ≤ length (objects_at (state self.now).opening.setup object.guardian) }
+        requires known { IsTrue (knows (first_content (state self.now).opening object) operation.now) }
+        ensures { IfOk result (λ answer. answer ≡ operated_by (first_content (state self.now).opening object) (standing_here (state self.now).past object) action.now operation.now) };
 
     /// The aborts that it has not sent to the other guardian yet, the newest first.
     fn unsent_aborts(&self, to: &Self) -> Result<Names, AllocError>
@@ -115,7 +115,7 @@ pub trait Guardian: Drop {
     /// Makes room for an event and computes what it changes, where it brings what this guardian's own history asks of it.
     fn plan(&self, event: &Event, message: Message) -> Result<Self::Plan, AllocError>
         requires accepted { IsTrue (is_accepted event.now.answer) }
-        requires owed { IsOwed (state self.now).setup (state self.now).number
+        requires owed { IsOwed (state self.now).opening (state self.now).number
             (stamped 0 (record { event = event.now; carried = carried_of message })) (state self.now).past event.now.step }
         ensures made { IfOk result (λ plan. made_for plan ≡ state self.now) }
         ensures planned { IfOk result (λ plan. planned plan ≡ record { event = event.now; carried = carried_of message }) };

@@ -1,5 +1,5 @@
 -- What keeping an event asks and leaves.
-use Rattle.std.proofs.Common.{List, Some, ap, ap₂, arith, false, get_or, inl, inr, length, refl, set, subst, sym, true, ℕ, ◌++◌, ◌+◌, ◌-◌, ◌<◌, ◌==◌, ◌∙◌, ◌∷◌, ◌≡◌, ◌≤◌, ◌||◌, ◌⊎◌, slice_get}
+use Rattle.std.proofs.Common.{List, Some, [], ap, ap₂, arith, false, get_or, inl, inr, length, refl, set, subst, sym, true, ℕ, ◌++◌, ◌+◌, ◌-◌, ◌<◌, ◌==◌, ◌∙◌, ◌∷◌, ◌≡◌, ◌≤◌, ◌||◌, ◌⊎◌, slice_get}
 use Rattle.std.proofs.lemmas.Option.{slice_get_within}
 use Rattle.std.proofs.lemmas.Bool.{cases_eq, false≢true, ne_eqb, or_left, or_right}
 use Rattle.run_model.specs.declared.history.Event.{Event}
@@ -7,13 +7,13 @@ use Rattle.run_model.specs.declared.step.Step.{Step}
 use Rattle.run_model.specs.declared.step.Step.TheVariants.{Op}
 use Rattle.run_model.specs.LocalHistories.{Stamped, carried_lent, events_of, events_there, history_after_lent, local_history, names_guardian, registry_after, registry_history, numbered}
 use Rattle.run_model.specs.LocalReadings.{LocalEvent}
-use Rattle.run_model.specs.Replay.{Setup}
+use Rattle.run_model.specs.Openings.{Opening}
 use Rattle.run_model.specs.Runs.{IsRun}
 use Rattle.run_laws.proofs.Names.{eqb_self}
 use Rattle.local_laws.specs.Owed.{IsLocalRun, IsOwed}
 use Rattle.local_laws.proofs.Lending.{lent_grows, unnamed_stay}
 use Rattle.local_laws.proofs.Outcomes.{history_named, local_event}
-use Rattle.local_laws.proofs.Owing.{local_runs}
+use Rattle.local_laws.proofs.Owing.{local_runs, newest_owed}
 use Rattle.local_laws.proofs.Registry.{registry_same}
 use Rattle.local_laws.proofs.Growing.{names_same}
 use Rattle.layer_contracts.specs.Guardians.{GuardianState, after_step, lent_two, stamped}
@@ -25,69 +25,70 @@ use Rattle.layered_world.proofs.Led.{answers_two, lent_or_out, numbered_events, 
 use Rattle.layered_world.proofs.Places.{back_at, front_at, set_back, set_front, set_other, some_eq, there}
 
 -- what the event names by the forest it names by the run
-named : (past : List Event) (f : ForestState) (e : Event) (low high g : ℕ) → f ≡ forest_of f.setup past → IsRun f.setup (e ∷ past) → Names f e.step low high
-    → ((low == g) || (high == g)) ≡ true → names_guardian e.step (events_there (registry_history f.setup (numbered past))) g ≡ true
+named : (past : List Event) (f : ForestState) (e : Event) (low high g : ℕ) → f ≡ forest_of f.opening past → IsRun f.opening (e ∷ past) → Names f e.step low high
+    → ((low == g) || (high == g)) ≡ true → names_guardian e.step (events_there (registry_history f.opening (numbered past))) g ≡ true
 named past f e low high g h r n k = sym (ap (λ reg. names_guardian e.step (events_there reg) g) (there_is past f h)) ∙ n g ∙ k
 
-pub inside : (past : List Event) (f : ForestState) (e : Event) (low high g : ℕ) → f ≡ forest_of f.setup past → IsRun f.setup (e ∷ past) → Names f e.step low high
-    → ((low == g) || (high == g)) ≡ true → IsInside f.setup g
+pub inside : (past : List Event) (f : ForestState) (e : Event) (low high g : ℕ) → f ≡ forest_of f.opening past → IsRun f.opening (e ∷ past) → Names f e.step low high
+    → ((low == g) || (high == g)) ≡ true → IsInside f.opening g
 inside past f e low high g h r n k =
-    named_inside f.setup e past g r
+    named_inside f.opening e past g r
     (ap (λ p. names_guardian e.step p g) (sym (numbered_events past))
-    ∙ sym (names_same (events_there (registry_history f.setup (numbered past))) (events_of (numbered past)) g (registry_same f.setup (numbered past) (runs f.setup past r.2)) e.step)
+    ∙ sym (names_same (events_there (registry_history f.opening (numbered past))) (events_of (numbered past)) g (registry_same f.opening (numbered past) (runs f.opening past r.2)) e.step)
     ∙ named past f e low high g h r n k)
 
 -- the history of the longer run owes nothing of the event
-owed_there : (setup : Setup) (s : Stamped) (run : List Stamped) (g : ℕ) → IsRun setup (events_of (s ∷ run)) → names_guardian s.1.step (events_of run) g ≡ true
-    → IsOwed setup g (local_event setup s run g) (local_history setup run g) s.1.step
-owed_there setup s run g r n =
-    let P : List LocalEvent → Type 0 = λ l. IsLocalRun setup g l in
-    (subst P (history_named setup s run g n) (local_runs setup (s ∷ run) g r)).0
+owed_there : (opening : Opening) (s : Stamped) (run : List Stamped) (g : ℕ) → IsRun opening (events_of (s ∷ run)) → names_guardian s.1.step (events_of run) g ≡ true
+    → IsOwed opening g (local_event opening s run g) (local_history opening run g) s.1.step
+owed_there opening s run g r n =
+    let P : List LocalEvent → Type 0 = λ l. IsLocalRun opening g [] l in
+    newest_owed opening g (local_event opening s run g) (local_history opening run g)
+    (subst P (history_named opening s run g n) (local_runs opening (s ∷ run) g r))
 
 -- an operation asks nothing of what is carried
-owed_operation : (setup : Setup) (g : ℕ) (c d : LocalEvent) (here there : List LocalEvent) (step : Step) → is_operation step ≡ true → c.event ≡ d.event → here ≡ there
-    → IsOwed setup g c here step → IsOwed setup g d there step
-owed_operation setup g c d here there (Op a x wanted) o e h k =
-    subst (λ l. IsOwed setup g d l (Op a x wanted)) h (k.0, sym (ap (λ v. v.answer) e) ∙ k.1)
-owed_operation setup g c d here there _ o e h k = absurd (false≢true o)
+owed_operation : (opening : Opening) (g : ℕ) (c d : LocalEvent) (here there : List LocalEvent) (step : Step) → is_operation step ≡ true → c.event ≡ d.event → here ≡ there
+    → IsOwed opening g c here step → IsOwed opening g d there step
+owed_operation opening g c d here there (Op a x wanted) o e h k =
+    subst (λ l. IsOwed opening g d l (Op a x wanted)) h (k.0, sym (ap (λ v. v.answer) e) ∙ k.1)
+owed_operation opening g c d here there _ o e h k = absurd (false≢true o)
 
 -- an answered event may be kept
 pub ready : {X : Type 0} (state : X → GuardianState) (past : List Event) (f : ForestState) (gs : List X) (e : Event) (low high : ℕ)
-    → IsWorld state f.setup past f gs → Names f e.step low high → IsRun f.setup (e ∷ past) → 1 ≤ low → 1 ≤ high → IsReady state f low high e gs
+    → IsWorld state f.opening past f gs → Names f e.step low high → IsRun f.opening (e ∷ past) → 1 ≤ low → 1 ≤ high → IsReady state f low high e gs
 ready state past f gs e low high w n r l k = record {
   each = λ a b sa sb.
-      let x = stands state f.setup past f gs low a w l sa in
-      let y = stands state f.setup past f gs high b w k sb in (
-        record { first = ap (λ s. s.setup) x; second = ap (λ s. s.setup) y },
+      let x = stands state f.opening past f gs low a w l sa in
+      let y = stands state f.opening past f gs high b w k sb in (
+        record { first = ap (λ s. s.opening) x; second = ap (λ s. s.opening) y },
         ap (λ s. s.number) x,
         ap (λ s. s.number) y,
         record {
           answer = r.0 ∙ sym (answers_two past f e.step low high low high (state a) (state b) w.is_run w.forest n x y (λ g h. inl h));
           accepted = r.1;
-          operation = λ g o m. owed_operation f.setup g (local_event f.setup (length (e ∷ past), e) (numbered past) g)
-              (stamped 0 (record { event = e; carried = carried_lent f.setup e g f.registry (lent_two (state a) (state b)) }))
-              (local_history f.setup (numbered past) g) (lent_two (state a) (state b) g) e.step o refl
-              (sym (lent_or_out f.setup past (state a) (state b) low high g w.is_run x y (inl (sym (n g) ∙ m))))
-              (owed_there f.setup (length (e ∷ past), e) (numbered past) g (runs f.setup (e ∷ past) r)
-              (sym (names_same (events_there (registry_history f.setup (numbered past))) (events_of (numbered past)) g (registry_same f.setup (numbered past) (runs f.setup past r.2)) e.step)
+          operation = λ g o m. owed_operation f.opening g (local_event f.opening (length (e ∷ past), e) (numbered past) g)
+              (stamped 0 (record { event = e; carried = carried_lent f.opening e g f.registry (lent_two (state a) (state b)) }))
+              (local_history f.opening (numbered past) g) (lent_two (state a) (state b) g) e.step o refl
+              (sym (lent_or_out f.opening past (state a) (state b) low high g w.is_run x y (inl (sym (n g) ∙ m))))
+              (owed_there f.opening (length (e ∷ past), e) (numbered past) g (runs f.opening (e ∷ past) r)
+              (sym (names_same (events_there (registry_history f.opening (numbered past))) (events_of (numbered past)) g (registry_same f.opening (numbered past) (runs f.opening past r.2)) e.step)
               ∙ named past f e low high g w.forest r n (sym (n g) ∙ m)));
         },
       );
 }
 
 -- who is lent and named stands where the longer run leads it
-after_is : (past : List Event) (f : ForestState) (e : Event) (lent : ℕ → List LocalEvent) (x x' : GuardianState) (p : ℕ) → f ≡ forest_of f.setup past → x ≡ standing f.setup past p
+after_is : (past : List Event) (f : ForestState) (e : Event) (lent : ℕ → List LocalEvent) (x x' : GuardianState) (p : ℕ) → f ≡ forest_of f.opening past → x ≡ standing f.opening past p
     → x' ≡ after_step x (length (e ∷ past), e) f.registry lent
-    → history_after_lent f.setup (length (e ∷ past), e) (registry_history f.setup (numbered past)) lent p ≡ local_history f.setup (numbered (e ∷ past)) p
-    → x' ≡ standing f.setup (e ∷ past) p
+    → history_after_lent f.opening (length (e ∷ past), e) (registry_history f.opening (numbered past)) lent p ≡ local_history f.opening (numbered (e ∷ past)) p
+    → x' ≡ standing f.opening (e ∷ past) p
 after_is past f e lent x x' p h k q grown =
     q ∙ ap (λ y. after_step y (length (e ∷ past), e) f.registry lent) k
-    ∙ ap (λ reg. after_step (standing f.setup past p) (length (e ∷ past), e) reg lent) (there_is past f h)
-    ∙ ap (λ l. record { setup = f.setup; number = p; past = l }) grown
+    ∙ ap (λ reg. after_step (standing f.opening past p) (length (e ∷ past), e) reg lent) (there_is past f h)
+    ∙ ap (λ l. record { opening = f.opening; number = p; past = l }) grown
 
 pub more : {X : Type 0} (state : X → GuardianState) (past : List Event) (f f' : ForestState) (gs gs' : List X) (e : Event) (low high : ℕ)
-    → IsWorld state f.setup past f gs → Names f e.step low high → IsRun f.setup (e ∷ past) → 1 ≤ low → 1 ≤ high → low ≤ length gs → high ≤ length gs
-    → length gs' ≡ length gs → IsKeptAt state low high (length (e ∷ past)) e f f' gs gs' → IsWorld state f.setup (e ∷ past) f' gs'
+    → IsWorld state f.opening past f gs → Names f e.step low high → IsRun f.opening (e ∷ past) → 1 ≤ low → 1 ≤ high → low ≤ length gs → high ≤ length gs
+    → length gs' ≡ length gs → IsKeptAt state low high (length (e ∷ past)) e f f' gs gs' → IsWorld state f.opening (e ∷ past) f' gs'
 more {X} state past f f' gs gs' e low high w n r l1 l2 h1 h2 len k =
     let lt1 : low - 1 < length gs = omega arith in
     let lt2 : high - 1 < length gs = omega arith in
@@ -101,53 +102,53 @@ more {X} state past f f' gs gs' e low high w n r l1 l2 h1 h2 len k =
     s = (length (e ∷ past), e)
 
     of : (a b a' b' : X) → slice_get gs (low - 1) ≡ Some a → slice_get gs (high - 1) ≡ Some b → slice_get gs' (low - 1) ≡ Some a' → slice_get gs' (high - 1) ≡ Some b'
-        → IsWorld state f.setup (e ∷ past) f' gs'
+        → IsWorld state f.opening (e ∷ past) f' gs'
     of a b a' b' sa sb sa' sb' =
         let done = k.two a b a' b' sa sb sa' sb' in
-        let x = stands state f.setup past f gs low a w l1 sa in
-        let y = stands state f.setup past f gs high b w l2 sb in
+        let x = stands state f.opening past f gs low a w l1 sa in
+        let y = stands state f.opening past f gs high b w l2 sb in
         let lent : ℕ → List LocalEvent = lent_two (state a) (state b) in
-        let R = registry_history f.setup (numbered past) in
-        let grown = lent_grows f.setup s (numbered past) lent (runs f.setup (e ∷ past) r)
-        (λ g m. lent_or_out f.setup past (state a) (state b) low high g w.is_run x y
+        let R = registry_history f.opening (numbered past) in
+        let grown = lent_grows f.opening s (numbered past) lent (runs f.opening (e ∷ past) r)
+        (λ g m. lent_or_out f.opening past (state a) (state b) low high g w.is_run x y
         (inl (sym (n g) ∙ ap (λ reg. names_guardian e.step (events_there reg) g) (there_is past f w.forest) ∙ m))) in
-        let at : (p : ℕ) → ((low == p) || (high == p)) ≡ true → history_after_lent f.setup s R lent p ≡ local_history f.setup (numbered (e ∷ past)) p =
+        let at : (p : ℕ) → ((low == p) || (high == p)) ≡ true → history_after_lent f.opening s R lent p ≡ local_history f.opening (numbered (e ∷ past)) p =
         λ p q. grown.1 p (named past f e low high p w.forest r n q) in
-        let first : state a' ≡ standing f.setup (e ∷ past) low =
+        let first : state a' ≡ standing f.opening (e ∷ past) low =
         after_is past f e lent (state a) (state a') low w.forest x done.first (at low (or_left _ _ (eqb_self low))) in
-        let second : state b' ≡ standing f.setup (e ∷ past) high =
+        let second : state b' ≡ standing f.opening (e ∷ past) high =
         after_is past f e lent (state b) (state b') high w.forest y done.second (at high (or_right _ _ (eqb_self high))) in
         record {
           is_run = r;
-          forest = done.forest ∙ ap (λ reg. record { setup = f.setup; registry = reg })
-              (ap (λ reg. registry_after f.setup s reg lent) (there_is past f w.forest) ∙ grown.0);
+          forest = done.forest ∙ ap (λ reg. record { opening = f.opening; registry = reg })
+              (ap (λ reg. registry_after f.opening s reg lent) (there_is past f w.forest) ∙ grown.0);
           count = len ∙ w.count;
           each = λ i z q. each_of i z q a' b' sa' sb' first second (cases_eq i (low - 1)) (cases_eq i (high - 1));
         }
       where
         each_of : (i : ℕ) (z : X) → slice_get gs' i ≡ Some z → (a' b' : X) → slice_get gs' (low - 1) ≡ Some a' → slice_get gs' (high - 1) ≡ Some b'
-            → state a' ≡ standing f.setup (e ∷ past) low → state b' ≡ standing f.setup (e ∷ past) high
-            → (i ≡ low - 1) ⊎ (i ≡ low - 1 → ⊥) → (i ≡ high - 1) ⊎ (i ≡ high - 1 → ⊥) → state z ≡ standing f.setup (e ∷ past) (i + 1)
+            → state a' ≡ standing f.opening (e ∷ past) low → state b' ≡ standing f.opening (e ∷ past) high
+            → (i ≡ low - 1) ⊎ (i ≡ low - 1 → ⊥) → (i ≡ high - 1) ⊎ (i ≡ high - 1 → ⊥) → state z ≡ standing f.opening (e ∷ past) (i + 1)
         each_of i z q a' b' sa' sb' first second (inl m) o =
             let same : low ≡ i + 1 = omega arith in
-            ap state (some_eq z a' (sym q ∙ ap (λ j. slice_get gs' j) m ∙ sa')) ∙ first ∙ ap (λ j. standing f.setup (e ∷ past) j) same
+            ap state (some_eq z a' (sym q ∙ ap (λ j. slice_get gs' j) m ∙ sa')) ∙ first ∙ ap (λ j. standing f.opening (e ∷ past) j) same
         each_of i z q a' b' sa' sb' first second (inr m) (inl o) =
             let same : high ≡ i + 1 = omega arith in
-            ap state (some_eq z b' (sym q ∙ ap (λ j. slice_get gs' j) o ∙ sb')) ∙ second ∙ ap (λ j. standing f.setup (e ∷ past) j) same
+            ap state (some_eq z b' (sym q ∙ ap (λ j. slice_get gs' j) o ∙ sb')) ∙ second ∙ ap (λ j. standing f.opening (e ∷ past) j) same
         each_of i z q a' b' sa' sb' first second (inr m) (inr o) =
             let d1 : (low ≡ i + 1 → ⊥) = λ t. apart low m t in
             let d2 : (high ≡ i + 1 → ⊥) = λ t. apart high o t in
-            let unnamed : names_guardian e.step (events_there (registry_history f.setup (numbered past))) (i + 1) ≡ false =
+            let unnamed : names_guardian e.step (events_there (registry_history f.opening (numbered past))) (i + 1) ≡ false =
             sym (ap (λ reg. names_guardian e.step (events_there reg) (i + 1)) (there_is past f w.forest)) ∙ n (i + 1)
             ∙ ap₂ ◌||◌ (ne_eqb low (i + 1) d1) (ne_eqb high (i + 1) d2) in
             w.each i z (sym (k.others i m o) ∙ q)
-            ∙ ap (λ l. record { setup = f.setup; number = i + 1; past = l }) (sym (unnamed_stay f.setup s (numbered past) (i + 1) (runs f.setup (e ∷ past) r) unnamed))
+            ∙ ap (λ l. record { opening = f.opening; number = i + 1; past = l }) (sym (unnamed_stay f.opening s (numbered past) (i + 1) (runs f.opening (e ∷ past) r) unnamed))
           where
             apart : (p : ℕ) → (i ≡ p - 1 → ⊥) → p ≡ i + 1 → ⊥
             apart p m t = let back : i ≡ p - 1 = omega arith in m back
 
 pub same : {X : Type 0} (state : X → GuardianState) (past : List Event) (f f' : ForestState) (gs gs' : List X)
-    → IsWorld state f.setup past f gs → length gs' ≡ length gs → AreSame state f f' gs gs' → IsWorld state f.setup past f' gs'
+    → IsWorld state f.opening past f gs → length gs' ≡ length gs → AreSame state f f' gs gs' → IsWorld state f.opening past f' gs'
 same state past f f' gs gs' w len k = record {
   is_run = w.is_run;
   forest = k.forest ∙ w.forest;

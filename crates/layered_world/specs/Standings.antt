@@ -2,28 +2,28 @@
 use Rattle.std.specs.Prelude.{◌≡◌, ◌<◌, ◌⊎◌, ◌≢◌, ◌-◌, ℕ, ◌+◌, ◌==◌, ◌||◌, List, length, Some, slice_get}
 use Rattle.run_model.specs.declared.history.Event.{Event}
 use Rattle.run_model.specs.declared.step.Step.{Step}
-use Rattle.run_model.specs.Replay.{Setup}
+use Rattle.run_model.specs.Openings.{Opening}
 use Rattle.run_model.specs.Runs.{IsRun}
 use Rattle.run_model.specs.LocalHistories.{events_there, local_history, names_guardian, registry_history, numbered}
 use Rattle.layer_contracts.specs.Guardians.{GuardianState}
 use Rattle.layer_contracts.specs.Forests.{ForestState}
-use Rattle.lent_steps.specs.Lending.{OneSetup}
+use Rattle.lent_steps.specs.Lending.{OneOpening}
 use Rattle.lent_steps.specs.Keeping.{IsAnswered, IsDone}
 
 -- where the run leads guardian g
-abbrev pub standing : Setup → List Event → ℕ → GuardianState
-standing setup past g = record { setup = setup; number = g; past = local_history setup (numbered past) g }
+abbrev pub standing : Opening → List Event → ℕ → GuardianState
+standing opening past g = record { opening = opening; number = g; past = local_history opening (numbered past) g }
 
 -- and the forest
-abbrev pub forest_of : Setup → List Event → ForestState
-forest_of setup past = record { setup = setup; registry = registry_history setup (numbered past) }
+abbrev pub forest_of : Opening → List Event → ForestState
+forest_of opening past = record { opening = opening; registry = registry_history opening (numbered past) }
 
 -- guardians are values of any type, each with the state that contracts see; they stand from number 1 on
-pub record IsWorld {X : Type 0} (state : X → GuardianState) (setup : Setup) (past : List Event) (f : ForestState) (guardians : List X) : Type 0 where
-  pub is_run : IsRun setup past
-  pub forest : f ≡ forest_of setup past
-  pub count : length guardians ≡ length setup
-  pub each : (i : ℕ) (x : X) → slice_get guardians i ≡ Some x → state x ≡ standing setup past (i + 1)
+pub record IsWorld {X : Type 0} (state : X → GuardianState) (opening : Opening) (past : List Event) (f : ForestState) (guardians : List X) : Type 0 where
+  pub is_run : IsRun opening past
+  pub forest : f ≡ forest_of opening past
+  pub count : length guardians ≡ length opening.setup
+  pub each : (i : ℕ) (x : X) → slice_get guardians i ≡ Some x → state x ≡ standing opening past (i + 1)
 
 -- no guardian of the setup has this number
 abbrev pub IsOut : ℕ → ℕ → Type 0
@@ -36,7 +36,7 @@ Names f step low high = (g : ℕ) → names_guardian step (events_there f.regist
 -- what keeping an event asks of the two guardians
 pub record IsReady {X : Type 0} (state : X → GuardianState) (f : ForestState) (low high : ℕ) (e : Event) (guardians : List X) : Type 0 where
   pub each : (a b : X) → slice_get guardians (low - 1) ≡ Some a → slice_get guardians (high - 1) ≡ Some b
-      → OneSetup f (state a) (state b) × ((state a).number ≡ low) × ((state b).number ≡ high) × IsAnswered f (state a) (state b) e
+      → OneOpening f (state a) (state b) × ((state a).number ≡ low) × ((state b).number ≡ high) × IsAnswered f (state a) (state b) e
 
 -- and what it leaves
 pub record IsKeptAt {X : Type 0} (state : X → GuardianState) (low high n : ℕ) (e : Event) (f f' : ForestState) (before after : List X) : Type 0 where

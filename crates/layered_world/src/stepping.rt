@@ -3,7 +3,7 @@ ghost use Rattle.run_model.specs.Answers.{answer_of};
 ghost use Rattle.run_model.specs.Runs.{IsRun, history_after, is_accepted};
 ghost use Rattle.run_model.specs.LocalHistories.{answer_lent};
 ghost use Rattle.layer_contracts.specs.Guardians.{lent_two};
-ghost use Rattle.lent_steps.specs.Lending.{OneSetup, nobody};
+ghost use Rattle.lent_steps.specs.Lending.{OneOpening, nobody};
 ghost use Rattle.layered_world.specs.Standings.{AreSame, IsKeptAt, IsOut, IsReady, IsWorld, Names};
 
 use layer_contracts::{Fault, Forest, Guardian};
@@ -20,11 +20,11 @@ pub fn step<R: Forest, G: Guardian>(
     history: &mut History,
     step: &Step,
 ) -> Result<Answer, Fault>
-    requires { IsWorld G.state (R.state forest.old).setup history.old (R.state forest.old) guardians.old }
-    ensures answer { IfOk result (λ answer. answer ≡ answer_of (R.state forest.old).setup step.now history.old) }
+    requires { IsWorld G.state (R.state forest.old).opening history.old (R.state forest.old) guardians.old }
+    ensures answer { IfOk result (λ answer. answer ≡ answer_of (R.state forest.old).opening step.now history.old) }
     ensures after { IfOk result (λ answer. history.new ≡ history_after step.now answer history.old) }
     ensures err { OnErr result (history.new ≡ history.old) }
-    ensures world { IsWorld G.state (R.state forest.old).setup history.new (R.state forest.new) guardians.new }
+    ensures world { IsWorld G.state (R.state forest.old).opening history.new (R.state forest.new) guardians.new }
 {
     let (low, high) = places(forest, step);
     let answer = answer_at(alloc, forest, guardians, history, low, high, step)?;
@@ -70,9 +70,9 @@ fn answer_at<R: Forest, G: Guardian>(
     high: u32,
     step: &Step,
 ) -> Result<Answer, AllocError>
-    requires world { IsWorld G.state (R.state forest.now).setup _history.now (R.state forest.now) guardians.now }
+    requires world { IsWorld G.state (R.state forest.now).opening _history.now (R.state forest.now) guardians.now }
     requires names { Names (R.state forest.now) step.now low high }
-    ensures { IfOk result (λ answer. answer ≡ answer_of (R.state forest.now).setup step.now _history.now) }
+    ensures { IfOk result (λ answer. answer ≡ answer_of (R.state forest.now).opening step.now _history.now) }
 {
     match at(guardians, low) {
         Some(first) => match at(guardians, high) {
@@ -96,13 +96,13 @@ fn keep<R: Forest, G: Guardian>(
     high: u32,
     event: &Event,
 ) -> Result<(), Fault>
-    requires world { IsWorld G.state (R.state forest.old).setup history.old (R.state forest.old) guardians.old }
+    requires world { IsWorld G.state (R.state forest.old).opening history.old (R.state forest.old) guardians.old }
     requires names { Names (R.state forest.old) event.now.step low high }
     requires ordered { low ≤ high }
-    requires more { IsRun (R.state forest.old).setup (event.now ∷ history.old) }
+    requires more { IsRun (R.state forest.old).opening (event.now ∷ history.old) }
     ensures ok { OnOk result (history.new ≡ event.now ∷ history.old) }
     ensures err { OnErr result (history.new ≡ history.old) }
-    ensures world { IsWorld G.state (R.state forest.old).setup history.new (R.state forest.new) guardians.new }
+    ensures world { IsWorld G.state (R.state forest.old).opening history.new (R.state forest.new) guardians.new }
 {
     let number = history.next_stamp();
     record(history, event)?;

@@ -21,12 +21,12 @@ pub second_lent : (a b : GuardianState) → (a.number == b.number) ≡ false →
 second_lent a b d = sym (ap₂ (λ t u. cond t a.past (cond u b.past [])) d (eqb_self b.number))
 
 -- the guardian after an event that names it, and after another
-left_named : (f : ForestState) (a b x x' : GuardianState) (e : Event) (n : ℕ) → x.setup ≡ f.setup → x.past ≡ lent_two a b x.number
+left_named : (f : ForestState) (a b x x' : GuardianState) (e : Event) (n : ℕ) → x.opening ≡ f.opening → x.past ≡ lent_two a b x.number
     → names_guardian e.step (events_there f.registry) x.number ≡ true
-    → x' ≡ kept x (stamped n (record { event = e; carried = carried_lent f.setup e x.number f.registry (lent_two a b) }))
+    → x' ≡ kept x (stamped n (record { event = e; carried = carried_lent f.opening e x.number f.registry (lent_two a b) }))
     → x' ≡ after_step x (n, e) f.registry (lent_two a b)
 left_named f a b x x' e n s p q h =
-    let new : List LocalEvent → List LocalEvent = λ past. record { stamp = n; event = e; carried = carried_lent x.setup e x.number f.registry (lent_two a b) } ∷ past in
+    let new : List LocalEvent → List LocalEvent = λ past. record { stamp = n; event = e; carried = carried_lent x.opening e x.number f.registry (lent_two a b) } ∷ past in
     h ∙ ap (λ st. kept x (stamped n (record { event = e; carried = carried_lent st e x.number f.registry (lent_two a b) }))) (sym s)
     ∙ ap (λ past. record x { past = past }) (ap new p
     ∙ sym (ap (λ t. cond t (new (lent_two a b x.number)) (lent_two a b x.number)) q))
@@ -35,12 +35,12 @@ left_unnamed : (f : ForestState) (a b x x' : GuardianState) (e : Event) (n : ℕ
     → names_guardian e.step (events_there f.registry) x.number ≡ false → x' ≡ x
     → x' ≡ after_step x (n, e) f.registry (lent_two a b)
 left_unnamed f a b x x' e n p q h =
-    let new : List LocalEvent → List LocalEvent = λ past. record { stamp = n; event = e; carried = carried_lent x.setup e x.number f.registry (lent_two a b) } ∷ past in
+    let new : List LocalEvent → List LocalEvent = λ past. record { stamp = n; event = e; carried = carried_lent x.opening e x.number f.registry (lent_two a b) } ∷ past in
     h ∙ ap (λ past. record x { past = past }) (p ∙ sym (ap (λ t. cond t (new (lent_two a b x.number)) (lent_two a b x.number)) q))
 
 -- by the plan that was carried out
 pub left_at : {P : Type 0} (f : ForestState) (a b x x' : GuardianState) (e : Event) (n : ℕ) (o : Option P) (made_for : P → GuardianState) (planned : P → News)
-    → x.setup ≡ f.setup → x.past ≡ lent_two a b x.number
+    → x.opening ≡ f.opening → x.past ≡ lent_two a b x.number
     → MatchOption o (names_guardian e.step (events_there f.registry) x.number ≡ false) (λ plan. IsPlannedAt f a b e x (made_for plan) (planned plan))
     → MatchOption o (x' ≡ x) (λ plan. x' ≡ kept x (stamped n (planned plan)))
     → x' ≡ after_step x (n, e) f.registry (lent_two a b)
@@ -51,12 +51,12 @@ left_at f a b x x' e n (Some plan) made_for planned s p q h =
 pub left_there : {P : Type 0} (f f' : ForestState) (a b : GuardianState) (e : Event) (n : ℕ) (o : Option P) (made_for : P → ForestState) (planned : P → RegistryNews)
     → MatchOption o (takes_registry e.step ≡ false) (λ plan. IsPlannedThere f a b e (made_for plan) (planned plan))
     → MatchOption o (f' ≡ f) (λ plan. f' ≡ record f { registry = stamped_there n (planned plan) ∷ f.registry })
-    → f' ≡ record f { registry = registry_after f.setup (n, e) f.registry (lent_two a b) }
+    → f' ≡ record f { registry = registry_after f.opening (n, e) f.registry (lent_two a b) }
 left_there f f' a b e n None made_for planned q h =
-    h ∙ ap (λ r. record f { registry = r }) (sym (ap (λ t. cond t (registry_event_lent f.setup (n, e) f.registry (lent_two a b) ∷ f.registry) f.registry) q))
+    h ∙ ap (λ r. record f { registry = r }) (sym (ap (λ t. cond t (registry_event_lent f.opening (n, e) f.registry (lent_two a b) ∷ f.registry) f.registry) q))
 left_there f f' a b e n (Some plan) made_for planned q h =
     h ∙ ap (λ news. record f { registry = stamped_there n news ∷ f.registry }) q.planned
-    ∙ ap (λ r. record f { registry = r }) (sym (ap (λ t. cond t (registry_event_lent f.setup (n, e) f.registry (lent_two a b) ∷ f.registry) f.registry) q.takes))
+    ∙ ap (λ r. record f { registry = r }) (sym (ap (λ t. cond t (registry_event_lent f.opening (n, e) f.registry (lent_two a b) ∷ f.registry) f.registry) q.takes))
 
 -- one store only is written to
 quiet : (step : Step) (f : ForestState) (m n : ℕ) → names_guardian step (events_there f.registry) m ≡ true → names_guardian step (events_there f.registry) n ≡ true

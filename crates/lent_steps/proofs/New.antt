@@ -28,9 +28,9 @@ none_kept t names h = ap (λ s. filter (λ c. s) names) h ∙ none names
 
 mapped : (f : ForestState) (a b : GuardianState) (e : Event) (names : List Name)
     → new_from f (home_lent e.step f.registry) (life_lent e.step f.registry (lent_two a b)) names
-    ≡ map (λ c. (c, (action_lent f.setup e.step f.registry (lent_two a b) c).dependencies)) names
+    ≡ map (λ c. (c, (action_lent f.opening e.step f.registry (lent_two a b) c).dependencies)) names
 mapped f a b e [] = refl
-mapped f a b e (n ∷ ns) = ap (λ l. (n, (action_lent f.setup e.step f.registry (lent_two a b) n).dependencies) ∷ l) (mapped f a b e ns)
+mapped f a b e (n ∷ ns) = ap (λ l. (n, (action_lent f.opening e.step f.registry (lent_two a b) n).dependencies) ∷ l) (mapped f a b e ns)
 
 -- the life of the home of new actions
 pub life_is : (f : ForestState) (a b : GuardianState) (e : Event) (home life : ℕ) → home ≡ home_lent e.step f.registry
@@ -42,13 +42,13 @@ pub new_here : (f : ForestState) (a b : GuardianState) (e : Event) (g home life 
     → new_from f home life (names_begun e.answer) ≡ new_two f a b e g
 new_here f a b e g home life h l q =
     ap₂ (λ m k. new_from f m k (names_begun e.answer)) h (life_is f a b e home life h l) ∙ mapped f a b e (names_begun e.answer)
-    ∙ sym (ap (λ ns. map (λ c. (c, (action_lent f.setup e.step f.registry (lent_two a b) c).dependencies)) ns)
+    ∙ sym (ap (λ ns. map (λ c. (c, (action_lent f.opening e.step f.registry (lent_two a b) c).dependencies)) ns)
     (all_kept (home_lent e.step f.registry == g) (names_begun e.answer) (sym (ap (λ m. m == g) h) ∙ q)))
 
 pub new_elsewhere : (f : ForestState) (a b : GuardianState) (e : Event) (g home : ℕ) → home ≡ home_lent e.step f.registry
     → (home == g) ≡ false → [] ≡ new_two f a b e g
 new_elsewhere f a b e g home h q =
-    sym (ap (λ ns. map (λ c. (c, (action_lent f.setup e.step f.registry (lent_two a b) c).dependencies)) ns)
+    sym (ap (λ ns. map (λ c. (c, (action_lent f.opening e.step f.registry (lent_two a b) c).dependencies)) ns)
     (none_kept (home_lent e.step f.registry == g) (names_begun e.answer) (sym (ap (λ m. m == g) h) ∙ q)))
 
 pub begun_is : (f : ForestState) (a b : GuardianState) (e : Event) (home life : ℕ) → home ≡ home_lent e.step f.registry

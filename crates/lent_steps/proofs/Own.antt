@@ -11,13 +11,14 @@ use Rattle.run_model.specs.Actions.{home_of, is_begun}
 use Rattle.run_model.specs.Answers.{outcome_by}
 use Rattle.run_model.specs.LocalReadings.{Carried, LocalEvent, events_here, facts_here, is_at_home, operation_here, results_here}
 use Rattle.run_model.specs.Refusals.{checks_by, first_refusal}
-use Rattle.run_model.specs.Replay.{Setup}
+use Rattle.run_model.specs.Openings.{Opening}
 use Rattle.run_model.specs.Runs.{is_accepted}
 use Rattle.local_laws.specs.Owed.{IsOwed}
 use Rattle.layer_contracts.specs.Guardians.{stamped}
 use Rattle.layer_contracts.specs.Messages.{stores}
 use Rattle.lent_steps.specs.Keeping.{is_operation}
-use Rattle.lent_steps.proofs.Nothing.{none_applies}
+use Rattle.run_laws.proofs.Accepted.{none_applies}
+use Rattle.run_model.specs.declared.answer.Refusal.TheVariants as why
 use Rattle.lent_steps.proofs.Owing.{none_if_accepted}
 
 -- who is on the roster is at home here
@@ -26,24 +27,24 @@ home_here g a here h =
     eqb-true (home_of a (events_here here)) g (and_parts (is_begun a (events_here here)) (home_of a (events_here here) == g) h).1
 
 -- where nothing refuses an operation, its action is on the roster, and its object is the guardian's own
-pub on_roster : (setup : Setup) (g : ℕ) (a : Name) (x : ObjectId) (wanted : op.Op) (here : List LocalEvent)
-    → first_refusal (checks_by setup (facts_here setup g here) (Op a x wanted)) ≡ None → is_at_home g a here ≡ true
-on_roster setup g a x wanted here h = not-false _ (none_applies (checks_by setup (facts_here setup g here) (Op a x wanted)) h).1.0
+pub on_roster : (opening : Opening) (g : ℕ) (a : Name) (x : ObjectId) (wanted : op.Op) (here : List LocalEvent)
+    → first_refusal (checks_by opening (facts_here opening g here) (Op a x wanted)) ≡ None → is_at_home g a here ≡ true
+on_roster opening g a x wanted here h = not-false _ (none_applies (checks_by opening (facts_here opening g here) (Op a x wanted)) h why.NoAction)
 
-pub object_own : (setup : Setup) (g : ℕ) (a : Name) (x : ObjectId) (wanted : op.Op) (here : List LocalEvent)
-    → first_refusal (checks_by setup (facts_here setup g here) (Op a x wanted)) ≡ None → x.guardian ≡ g
-object_own setup g a x wanted here h =
-    let n = none_applies (checks_by setup (facts_here setup g here) (Op a x wanted)) h in
-    eqb-true x.guardian (home_of a (events_here here)) (not-false _ n.1.1.1.1.1.1.0)
-    ∙ home_here g a here (on_roster setup g a x wanted here h)
+pub object_own : (opening : Opening) (g : ℕ) (a : Name) (x : ObjectId) (wanted : op.Op) (here : List LocalEvent)
+    → first_refusal (checks_by opening (facts_here opening g here) (Op a x wanted)) ≡ None → x.guardian ≡ g
+object_own opening g a x wanted here h =
+    let n = none_applies (checks_by opening (facts_here opening g here) (Op a x wanted)) h in
+    eqb-true x.guardian (home_of a (events_here here)) (not-false _ (n why.Elsewhere))
+    ∙ home_here g a here (on_roster opening g a x wanted here h)
 
 -- what the guardian's own history asks of an operation that it answered
-pub owed_here : (setup : Setup) (g : ℕ) (a : Name) (x : ObjectId) (wanted : op.Op) (here : List LocalEvent) (e : Event) (m : Carried)
-    → e.step ≡ Op a x wanted → e.answer ≡ operation_here setup g a x wanted here → is_accepted e.answer ≡ true
-    → IsOwed setup g (stamped 0 (record { event = e; carried = m })) here e.step
-owed_here setup g a x wanted here e m s h k =
-    let none = none_if_accepted _ (outcome_by (facts_here setup g here).next (results_here setup here) (Op a x wanted)) (sym (ap is_accepted h) ∙ k) in
-    subst (λ step. IsOwed setup g (stamped 0 (record { event = e; carried = m })) here step) (sym s) (on_roster setup g a x wanted here none, h)
+pub owed_here : (opening : Opening) (g : ℕ) (a : Name) (x : ObjectId) (wanted : op.Op) (here : List LocalEvent) (e : Event) (m : Carried)
+    → e.step ≡ Op a x wanted → e.answer ≡ operation_here opening g a x wanted here → is_accepted e.answer ≡ true
+    → IsOwed opening g (stamped 0 (record { event = e; carried = m })) here e.step
+owed_here opening g a x wanted here e m s h k =
+    let none = none_if_accepted _ (outcome_by (facts_here opening g here).next (results_here opening here) (Op a x wanted)) (sym (ap is_accepted h) ∙ k) in
+    subst (λ step. IsOwed opening g (stamped 0 (record { event = e; carried = m })) here step) (sym s) (on_roster opening g a x wanted here none, h)
 
 -- an operation writes to no store
 pub operation_quiet : (step : Step) (g : ℕ) → is_operation step ≡ true → stores step g ≡ false

@@ -9,7 +9,7 @@ use Rattle.run_model.specs.LocalHistories.{answer_lent, carried_lent, events_the
 use Rattle.local_laws.specs.Owed.{IsOwed}
 use Rattle.layer_contracts.specs.Guardians.{GuardianState, News, after_step, kept, lent_two, stamped}
 use Rattle.layer_contracts.specs.Forests.{ForestState, RegistryNews, begun_at}
-use Rattle.layer_contracts.specs.Messages.{nothing_carried}
+use Rattle.run_model.specs.LocalReadings.{nothing_carried}
 
 abbrev pub is_operation : Step → Bool
 is_operation (Op a x wanted) = true
@@ -18,16 +18,16 @@ is_operation _ = false
 -- The event is answered as what was lent has it, and accepted. Of an operation what its guardian's own history asks is asked of the
 -- caller: the forest, which alone is read here for whether the action was begun, does not say that it is on the roster.
 pub record IsAnswered (f : ForestState) (a b : GuardianState) (e : Event) : Type 0 where
-  pub answer : e.answer ≡ answer_lent f.setup f.registry (lent_two a b) e.step
+  pub answer : e.answer ≡ answer_lent f.opening f.registry (lent_two a b) e.step
   pub accepted : IsTrue (is_accepted e.answer)
   pub operation : (g : ℕ) → IsTrue (is_operation e.step) → names_guardian e.step (events_there f.registry) g ≡ true
-      → IsOwed f.setup g (stamped 0 (record { event = e; carried = carried_lent f.setup e g f.registry (lent_two a b) })) (lent_two a b g) e.step
+      → IsOwed f.opening g (stamped 0 (record { event = e; carried = carried_lent f.opening e g f.registry (lent_two a b) })) (lent_two a b g) e.step
 
 -- a plan for a guardian that the event names
 pub record IsPlannedAt (f : ForestState) (a b : GuardianState) (e : Event) (x state : GuardianState) (news : News) : Type 0 where
   pub named : names_guardian e.step (events_there f.registry) x.number ≡ true
   pub made : state ≡ x
-  pub planned : news ≡ record { event = e; carried = carried_lent f.setup e x.number f.registry (lent_two a b) }
+  pub planned : news ≡ record { event = e; carried = carried_lent f.opening e x.number f.registry (lent_two a b) }
 
 -- and for the forest
 pub record IsPlannedThere (f : ForestState) (a b : GuardianState) (e : Event) (state : ForestState) (news : RegistryNews) : Type 0 where
@@ -37,7 +37,7 @@ pub record IsPlannedThere (f : ForestState) (a b : GuardianState) (e : Event) (s
 
 -- the forest and two guardians after the event, with its stamp
 pub record IsDone (f : ForestState) (a b : GuardianState) (e : Event) (n : ℕ) (f' : ForestState) (a' b' : GuardianState) : Type 0 where
-  pub forest : f' ≡ record f { registry = registry_after f.setup (n, e) f.registry (lent_two a b) }
+  pub forest : f' ≡ record f { registry = registry_after f.opening (n, e) f.registry (lent_two a b) }
   pub first : a' ≡ after_step a (n, e) f.registry (lent_two a b)
   pub second : b' ≡ after_step b (n, e) f.registry (lent_two a b)
 

@@ -11,31 +11,31 @@ use Rattle.layer_contracts.specs.Guardians.{GuardianState, lent_two}
 use Rattle.layer_contracts.specs.Forests.{ForestState, new_entries}
 
 abbrev pub facts_two : ForestState → GuardianState → GuardianState → Facts
-facts_two f a b = facts_lent f.setup f.registry (lent_two a b)
+facts_two f a b = facts_lent f.opening f.registry (lent_two a b)
 
 abbrev pub results_two : ForestState → GuardianState → GuardianState → Results
-results_two f a b = results_lent f.setup f.registry (lent_two a b)
+results_two f a b = results_lent f.opening f.registry (lent_two a b)
 
 -- no guardian is lent
 abbrev pub nobody : ℕ → List LocalEvent
 nobody g = []
 
 abbrev pub facts_alone : ForestState → Facts
-facts_alone f = facts_lent f.setup f.registry nobody
+facts_alone f = facts_lent f.opening f.registry nobody
 
 abbrev pub results_alone : ForestState → Results
-results_alone f = results_lent f.setup f.registry nobody
+results_alone f = results_lent f.opening f.registry nobody
 
--- all stand in one setup
-pub record OneSetup (f : ForestState) (a b : GuardianState) : Type 0 where
-  pub first : a.setup ≡ f.setup
-  pub second : b.setup ≡ f.setup
+-- all stand in one opening
+pub record OneOpening (f : ForestState) (a b : GuardianState) : Type 0 where
+  pub first : a.opening ≡ f.opening
+  pub second : b.opening ≡ f.opening
 
 -- the guardian x is the one of number g among those lent
 pub record IsAt (f : ForestState) (a b : GuardianState) (g : ℕ) (x : GuardianState) : Type 0 where
   pub number : x.number ≡ g
   pub past : x.past ≡ lent_two a b g
-  pub setup : OneSetup f a b → x.setup ≡ f.setup
+  pub opening : OneOpening f a b → x.opening ≡ f.opening
 
 -- the guardian x is one of those that are lent
 pub record IsOneOf (a b x : GuardianState) : Type 0 where
@@ -49,10 +49,10 @@ new_from f home life (c ∷ cs) = (c, new_entries f home life c) ∷ new_from f 
 -- what an event says to g of dependencies: of new actions at home there, and of all
 abbrev pub new_two : ForestState → GuardianState → GuardianState → Event → ℕ → List (Name × List (ℕ × ℕ))
 new_two f a b e g =
-    map (λ c. (c, (action_lent f.setup e.step f.registry (lent_two a b) c).dependencies))
+    map (λ c. (c, (action_lent f.opening e.step f.registry (lent_two a b) c).dependencies))
     (filter (λ c. home_lent e.step f.registry == g) (names_begun e.answer))
 
 abbrev pub dependencies_two : ForestState → GuardianState → GuardianState → Event → ℕ → List (Name × List (ℕ × ℕ))
 dependencies_two f a b e g =
-    dependencies_sent (λ c. home_of c (events_there f.registry)) (λ c. entries_of f.setup (λ h. dependency_there c h f.registry)) e.step g
+    dependencies_sent (λ c. home_of c (events_there f.registry)) (λ c. entries_of f.opening (λ h. dependency_there c h f.registry)) e.step g
     (new_two f a b e g)

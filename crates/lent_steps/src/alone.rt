@@ -4,9 +4,9 @@ ghost use Rattle.lent_steps.specs.Lending.{facts_alone, results_alone};
 use action_names::Name;
 use atomic_types::AtomicType;
 use layer_contracts::Forest;
-use run_model::{Answer, ObjectId, Op, Setup};
+use run_model::{Answer, ObjectId, Op, Opening};
 use std::alloc::{AllocError, Global};
-use step_answers::{Reads, ReadsAction, opening};
+use step_answers::{Reads, ReadsAction};
 
 /// What a step reads that is lent the forest alone.
 #[derive(Drop)]
@@ -16,7 +16,7 @@ pub struct Alone<'a, R> {
 }
 
 impl<'a, R: Forest> ReadsAction for Alone<'a, R> {
-    ghost setup = { λ x. (R.state x.forest.now).setup };
+    ghost opening = { λ x. (R.state x.forest.now).opening };
 
     ghost facts = { λ x. facts_alone (R.state x.forest.now) };
 
@@ -24,8 +24,8 @@ impl<'a, R: Forest> ReadsAction for Alone<'a, R> {
 
     ghost is_sound = { λ x. Unit {0} };
 
-    fn setup(&self) -> &Setup {
-        self.forest.setup()
+    fn opening(&self) -> &Opening {
+        self.forest.opening()
     }
 
     fn is_begun(&self, action: &Name) -> bool {
@@ -58,10 +58,7 @@ impl<'a, R: Forest> ReadsAction for Alone<'a, R> {
         object: ObjectId,
         operation: &Op,
     ) -> Result<Answer, AllocError> {
-        let Some(content) = opening(self.forest.setup(), object) else {
-            unreachable!()
-        };
-        let mut content = content.copy()?;
+        let mut content = self.forest.opening().first_content(object)?;
         Ok(Answer::Granted(content.apply(operation)?))
     }
 }

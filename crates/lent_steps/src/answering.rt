@@ -2,7 +2,7 @@
 ghost use Rattle.std.specs.Prelude.{◌≡◌, IfOk};
 ghost use Rattle.run_model.specs.LocalHistories.{answer_lent};
 ghost use Rattle.layer_contracts.specs.Guardians.{lent_two};
-ghost use Rattle.lent_steps.specs.Lending.{OneSetup, nobody};
+ghost use Rattle.lent_steps.specs.Lending.{OneOpening, nobody};
 
 use crate::alone::Alone;
 use crate::lent::Lent;
@@ -20,8 +20,8 @@ pub fn answer_two<R: Forest, G: Guardian>(
     second: &G,
     step: &Step,
 ) -> Result<Answer, AllocError>
-    requires { OneSetup (R.state forest.now) (G.state first.now) (G.state second.now) }
-    ensures { IfOk result (λ answer. answer ≡ answer_lent (R.state forest.now).setup (R.state forest.now).registry
+    requires { OneOpening (R.state forest.now) (G.state first.now) (G.state second.now) }
+    ensures { IfOk result (λ answer. answer ≡ answer_lent (R.state forest.now).opening (R.state forest.now).registry
         (lent_two (G.state first.now) (G.state second.now)) step.now) }
 {
     let lent = Lent {
@@ -35,7 +35,7 @@ pub fn answer_two<R: Forest, G: Guardian>(
 
 /// The answer of a step that is lent the forest alone.
 pub fn answer_alone<R: Forest>(alloc: Global, forest: &R, step: &Step) -> Result<Answer, AllocError>
-    ensures { IfOk result (λ answer. answer ≡ answer_lent (R.state forest.now).setup (R.state forest.now).registry nobody step.now) }
+    ensures { IfOk result (λ answer. answer ≡ answer_lent (R.state forest.now).opening (R.state forest.now).registry nobody step.now) }
 {
     let alone = Alone { alloc, forest };
     answer_of(&alone, step)

@@ -1,16 +1,16 @@
 //! An operation, which one guardian answers and keeps by itself.
 ghost use Rattle.std.specs.Prelude.{◌≡◌, ℕ, IfOk, OnOk, OnErr, IsTrue};
 ghost use Rattle.run_model.specs.declared.step.Step.TheVariants as steps;
-ghost use Rattle.run_model.specs.LocalReadings.{facts_here, operation_here, results_here};
+ghost use Rattle.run_model.specs.LocalReadings.{facts_here, nothing_carried, operation_here, results_here};
 ghost use Rattle.run_model.specs.Runs.{is_accepted};
 ghost use Rattle.local_laws.specs.Owed.{IsOwed};
 ghost use Rattle.layer_contracts.specs.Guardians.{kept, stamped};
-ghost use Rattle.layer_contracts.specs.Messages.{carried_of, nothing_carried};
+ghost use Rattle.layer_contracts.specs.Messages.{carried_of};
 ghost use Rattle.lent_steps.specs.Keeping.{IsOperated, is_operation};
 
 use action_names::{Name, Names};
 use layer_contracts::{Guardian, Message};
-use run_model::{Answer, Event, ObjectId, Op, Setup, Step};
+use run_model::{Answer, Event, ObjectId, Op, Opening, Step};
 use std::alloc::{AllocError, Global};
 use step_answers::{ReadsAction, operation_of};
 
@@ -21,16 +21,16 @@ pub struct Here<'a, G> {
 }
 
 impl<'a, G: Guardian> ReadsAction for Here<'a, G> {
-    ghost setup = { λ x. (G.state x.guardian.now).setup };
+    ghost opening = { λ x. (G.state x.guardian.now).opening };
 
-    ghost facts = { λ x. facts_here (G.state x.guardian.now).setup (G.state x.guardian.now).number (G.state x.guardian.now).past };
+    ghost facts = { λ x. facts_here (G.state x.guardian.now).opening (G.state x.guardian.now).number (G.state x.guardian.now).past };
 
-    ghost results = { λ x. results_here (G.state x.guardian.now).setup (G.state x.guardian.now).past };
+    ghost results = { λ x. results_here (G.state x.guardian.now).opening (G.state x.guardian.now).past };
 
     ghost is_sound = { λ x. Unit {0} };
 
-    fn setup(&self) -> &Setup {
-        self.guardian.setup()
+    fn opening(&self) -> &Opening {
+        self.guardian.opening()
     }
 
     fn is_begun(&self, action: &Name) -> bool {
@@ -78,7 +78,7 @@ pub fn operate<G: Guardian, F: FnOnce() -> u64>(
     stamp: F,
 ) -> Result<Answer, AllocError>
     requires { F.pre stamp }
-    ensures answer { IfOk result (λ answer. answer ≡ operation_here (G.state guardian.old).setup (G.state guardian.old).number action.now object operation.now
+    ensures answer { IfOk result (λ answer. answer ≡ operation_here (G.state guardian.old).opening (G.state guardian.old).number action.now object operation.now
         (G.state guardian.old).past) }
     ensures kept { IfOk result (λ answer. IsOperated (λ n. F.post stamp n) (steps.Op action.now object operation.now) answer (G.state guardian.old)
         (G.state guardian.new)) }
@@ -100,7 +100,7 @@ fn answer_here<G: Guardian>(
     object: ObjectId,
     operation: &Op,
 ) -> Result<Answer, AllocError>
-    ensures { IfOk result (λ answer. answer ≡ operation_here (G.state guardian.now).setup (G.state guardian.now).number action.now object operation.now
+    ensures { IfOk result (λ answer. answer ≡ operation_here (G.state guardian.now).opening (G.state guardian.now).number action.now object operation.now
         (G.state guardian.now).past) }
 {
     let here = Here { guardian };
@@ -134,7 +134,7 @@ fn keep_operation<G: Guardian, F: FnOnce() -> u64>(
     requires stamp { F.pre stamp }
     requires operation { IsTrue (is_operation event.now.step) }
     requires accepted { IsTrue (is_accepted event.now.answer) }
-    requires owed { IsOwed (G.state guardian.old).setup (G.state guardian.old).number (stamped 0 (record { event = event.now; carried = nothing_carried }))
+    requires owed { IsOwed (G.state guardian.old).opening (G.state guardian.old).number (stamped 0 (record { event = event.now; carried = nothing_carried }))
         (G.state guardian.old).past event.now.step }
     ensures ok { OnOk result ((n : ℕ) × F.post stamp n × (G.state guardian.new ≡ kept (G.state guardian.old)
         (stamped n (record { event = event.now; carried = nothing_carried })))) }

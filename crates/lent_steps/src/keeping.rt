@@ -5,7 +5,7 @@ ghost use Rattle.run_model.specs.LocalHistories.{answer_lent, carried_lent, even
 ghost use Rattle.layer_contracts.specs.Guardians.{after_step, kept, lent_two, stamped};
 ghost use Rattle.layer_contracts.specs.Messages.{stores};
 ghost use Rattle.layer_contracts.specs.Forests.{stamped_there};
-ghost use Rattle.lent_steps.specs.Lending.{IsOneOf, OneSetup};
+ghost use Rattle.lent_steps.specs.Lending.{IsOneOf, OneOpening};
 ghost use Rattle.lent_steps.specs.Keeping.{IsAnswered, IsDone, IsPlannedAt, IsPlannedThere, is_operation};
 
 use crate::lent::Lent;
@@ -25,9 +25,9 @@ fn is_named<R: Forest>(forest: &R, step: &Step, guardian: u32) -> bool
 impl<'a, R: Forest, G: Guardian> Lent<'a, R, G> {
     /// What the event changes at the guardian, if it names it.
     fn plan_at(&self, event: &Event, at: &G) -> Result<Option<G::Plan>, AllocError>
-        requires sound { OneSetup (R.state self.now.forest.now) (G.state self.now.first.now) (G.state self.now.second.now) }
+        requires sound { OneOpening (R.state self.now.forest.now) (G.state self.now.first.now) (G.state self.now.second.now) }
         requires one { IsOneOf (G.state self.now.first.now) (G.state self.now.second.now) (G.state at.now) }
-        requires setup { (G.state at.now).setup ≡ (R.state self.now.forest.now).setup }
+        requires opening { (G.state at.now).opening ≡ (R.state self.now.forest.now).opening }
         requires answered { IsAnswered (R.state self.now.forest.now) (G.state self.now.first.now) (G.state self.now.second.now) event.now }
         ensures { IfOk result (λ planned. MatchOption planned
             (names_guardian event.now.step (events_there (R.state self.now.forest.now).registry) (G.state at.now).number ≡ false)
@@ -119,7 +119,7 @@ pub fn keep_two<R: Forest, G: Guardian, F: FnOnce() -> u64>(
     stamp: F,
 ) -> Result<u64, Fault>
     requires stamp { F.pre stamp }
-    requires sound { OneSetup (R.state forest.old) (G.state first.old) (G.state second.old) }
+    requires sound { OneOpening (R.state forest.old) (G.state first.old) (G.state second.old) }
     requires differ { ((G.state first.old).number == (G.state second.old).number) ≡ false }
     requires answered { IsAnswered (R.state forest.old) (G.state first.old) (G.state second.old) event.now }
     ensures drawn { IfOk result (λ n. F.post stamp n) }
@@ -160,7 +160,7 @@ pub fn keep_one<R: Forest, G: Guardian, F: FnOnce() -> u64>(
     stamp: F,
 ) -> Result<u64, Fault>
     requires stamp { F.pre stamp }
-    requires sound { OneSetup (R.state forest.old) (G.state guardian.old) (G.state guardian.old) }
+    requires sound { OneOpening (R.state forest.old) (G.state guardian.old) (G.state guardian.old) }
     requires answered { IsAnswered (R.state forest.old) (G.state guardian.old) (G.state guardian.old) event.now }
     ensures drawn { IfOk result (λ n. F.post stamp n) }
     ensures done { IfOk result (λ n. IsDone (R.state forest.old) (G.state guardian.old) (G.state guardian.old) event.now n

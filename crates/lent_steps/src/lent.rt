@@ -1,13 +1,13 @@
 ghost use Rattle.std.specs.Prelude.{◌≡◌, ◌≤◌, ℕ, [], IfOk, MatchOption, IsTrue, None};
 ghost use Rattle.layer_contracts.specs.Guardians.{lent_two};
-ghost use Rattle.lent_steps.specs.Lending.{IsAt, OneSetup, facts_two, results_two};
+ghost use Rattle.lent_steps.specs.Lending.{IsAt, OneOpening, facts_two, results_two};
 
 use action_names::Name;
 use atomic_types::AtomicType;
 use layer_contracts::{Forest, Guardian};
-use run_model::{Answer, ObjectId, Op, Setup};
+use run_model::{Answer, ObjectId, Op, Opening};
 use std::alloc::{AllocError, Global};
-use step_answers::{Reads, ReadsAction, opening};
+use step_answers::{Reads, ReadsAction};
 
 /// What a step reads that is lent the forest and two guardians, or one guardian twice.
 #[derive(Drop)]
@@ -35,16 +35,16 @@ impl<'a, R: Forest, G: Guardian> Lent<'a, R, G> {
 }
 
 impl<'a, R: Forest, G: Guardian> ReadsAction for Lent<'a, R, G> {
-    ghost setup = { λ x. (R.state x.forest.now).setup };
+    ghost opening = { λ x. (R.state x.forest.now).opening };
 
     ghost facts = { λ x. facts_two (R.state x.forest.now) (G.state x.first.now) (G.state x.second.now) };
 
     ghost results = { λ x. results_two (R.state x.forest.now) (G.state x.first.now) (G.state x.second.now) };
 
-    ghost is_sound = { λ x. OneSetup (R.state x.forest.now) (G.state x.first.now) (G.state x.second.now) };
+    ghost is_sound = { λ x. OneOpening (R.state x.forest.now) (G.state x.first.now) (G.state x.second.now) };
 
-    fn setup(&self) -> &Setup {
-        self.forest.setup()
+    fn opening(&self) -> &Opening {
+        self.forest.opening()
     }
 
     fn is_begun(&self, action: &Name) -> bool {
@@ -88,10 +88,7 @@ impl<'a, R: Forest, G: Guardian> ReadsAction for Lent<'a, R, G> {
         match self.at(object.guardian) {
             Some(guardian) => guardian.operated(action, object, operation),
             None => {
-                let Some(content) = opening(self.forest.setup(), object) else {
-                    unreachable!()
-                };
-                let mut content = content.copy()?;
+                let mut content = self.forest.opening().first_content(object)?;
                 Ok(Answer::Granted(content.apply(operation)?))
             }
         }

@@ -5,7 +5,7 @@ ghost use Rattle.run_model.specs.LocalReadings.{events_here};
 ghost use Rattle.run_model.specs.LocalHistories.{action_lent, aborts_from, carried_lent, counts_of_sender, dependencies_sent, dependency_there, entries_of, events_there, home_lent, life_lent, outcomes_carried, sender_lent, sender_life};
 ghost use Rattle.layer_contracts.specs.Guardians.{lent_two};
 ghost use Rattle.layer_contracts.specs.Messages.{carried_of, sent_of};
-ghost use Rattle.lent_steps.specs.Lending.{IsOneOf, OneSetup, dependencies_two, new_from, new_two};
+ghost use Rattle.lent_steps.specs.Lending.{IsOneOf, OneOpening, dependencies_two, new_from, new_two};
 
 use crate::lent::Lent;
 use crate::names::{home_of_new, names_begun, parent_path};
@@ -18,9 +18,9 @@ use step_answers::Reads;
 impl<'a, R: Forest, G: Guardian> Lent<'a, R, G> {
     /// What the event brings to the guardian, which is one of those that are lent.
     pub fn message(&self, event: &Event, at: &G) -> Result<Message, AllocError>
-        requires sound { OneSetup (R.state self.now.forest.now) (G.state self.now.first.now) (G.state self.now.second.now) }
+        requires sound { OneOpening (R.state self.now.forest.now) (G.state self.now.first.now) (G.state self.now.second.now) }
         requires one { IsOneOf (G.state self.now.first.now) (G.state self.now.second.now) (G.state at.now) }
-        ensures { IfOk result (λ message. carried_of message ≡ carried_lent (R.state self.now.forest.now).setup event.now (G.state at.now).number
+        ensures { IfOk result (λ message. carried_of message ≡ carried_lent (R.state self.now.forest.now).opening event.now (G.state at.now).number
             (R.state self.now.forest.now).registry (lent_two (G.state self.now.first.now) (G.state self.now.second.now))) }
     {
         let sender = self.sender(&event.step, at.number());
@@ -128,7 +128,7 @@ impl<'a, R: Forest, G: Guardian> Lent<'a, R, G> {
     fn dependencies_of(&self, action: &Name) -> Result<Vec<(Name, Vec<(u32, u64)>)>, AllocError>
         ensures { IfOk result (λ sent. sent_of sent.items ≡ (
           action.now,
-          entries_of (R.state self.now.forest.now).setup (λ h. dependency_there action.now h (R.state self.now.forest.now).registry),
+          entries_of (R.state self.now.forest.now).opening (λ h. dependency_there action.now h (R.state self.now.forest.now).registry),
         ) ∷ []) }
     {
         let mut sent = Vec::new(self.alloc);

@@ -12,23 +12,24 @@ use Rattle.run_model.specs.declared.answer.Answer.TheVariants.{Granted}
 use Rattle.run_model.specs.declared.history.Event.{Event}
 use Rattle.run_model.specs.declared.step.ObjectId.{ObjectId}
 use Rattle.run_model.specs.declared.step.Step.{Step}
-use Rattle.run_model.specs.declared.step.Step.TheVariants.{Op}
-use Rattle.run_model.specs.Actions.{home_of, is_aborted, step_crashes}
+use Rattle.run_model.specs.declared.step.Step.TheVariants.{Prepare, Op}
+use Rattle.run_model.specs.Actions.{home_of, is_aborted, step_crashes, is_ended}
 use Rattle.run_model.specs.Keeping.{Performed, is_kept, kept_on, performed, performed_by, prepared_after, same_object, undoes, undoes_by}
 use Rattle.run_model.specs.LocalHistories.{Stamped, events_of, local_history, names_guardian}
-use Rattle.run_model.specs.LocalReadings.{LocalEvent, brings, events_here, kept_here, says_aborted}
+use Rattle.run_model.specs.LocalReadings.{LocalEvent, brings, events_here, given_back, kept_here, restored_here, says_aborted}
 use Rattle.run_model.specs.Refusals.{checks}
-use Rattle.run_model.specs.Replay.{Setup}
+use Rattle.run_model.specs.Openings.{Opening}
+use Rattle.atomic_types.specs.declared.part.Part.{Part}
 use Rattle.run_model.specs.Runs.{IsRun}
 use Rattle.run_model.specs.Telling.{tells, told_since_crash}
-use Rattle.run_model.specs.Actions.{is_ended}
 use Rattle.run_model.specs.Visibility.{votes_yes}
-use Rattle.run_laws.proofs.Accepted.{AllFalse, checked}
+use Rattle.run_laws.proofs.Accepted.{NoneApplies, checked}
 use Rattle.run_laws.proofs.Each.{Each, each_filter, each_map}
 use Rattle.run_laws.proofs.Kept.{kept_next}
 use Rattle.run_laws.proofs.Names.{eqb_self}
 use Rattle.local_laws.specs.Standings.{StandingSame, unnumbered}
 use Rattle.local_laws.proofs.Outcomes.{aborts_told, history_named, history_unnamed, local_event, unnamed_crashes, unnamed_tells, unnamed_votes}
+use Rattle.run_model.specs.declared.answer.Refusal.TheVariants as why
 use Rattle.local_laws.proofs.Told.{told_committed_same, told_same}
 
 -- an operation without its number, and whether its guardian prepared its top action since it was granted
@@ -139,7 +140,7 @@ low_more x n os h = each_map (IsLow x n) (IsLow x (suc n)) os (λ o q. (more o.n
     more a n l = omega arith
 
 -- an event more of the flat history
-kept_more : (x : ObjectId) (e : Event) (past : List Event)
+pub kept_more : (x : ObjectId) (e : Event) (past : List Event)
     → kept_on x (e ∷ past)
     ≡ filter (λ o. same_object o.object x) (performed_by (suc (length past)) e.step e.answer)
     ++ filter (λ o. not (undoes e past o)) (kept_on x past)
@@ -215,7 +216,7 @@ marks_at x past n [] h = tt
 marks_at x past n (o ∷ os) h = (h.0.1, marks_at x past n os h.1)
 
 -- two tests that agree on each element
-filter_same : {X : Type 0} (p q : X → Bool) (xs : List X) → Each (λ x. p x ≡ q x) xs → filter p xs ≡ filter q xs
+pub filter_same : {X : Type 0} (p q : X → Bool) (xs : List X) → Each (λ x. p x ≡ q x) xs → filter p xs ≡ filter q xs
 filter_same p q [] h = refl
 filter_same p q (x ∷ xs) h = ap₂ (λ t ys. cond t (x ∷ ys) ys) h.0 (filter_same p q xs h.1)
 
@@ -237,17 +238,17 @@ any_same p q [] h = refl
 any_same p q (b ∷ names) h = ap₂ ◌||◌ (h b) (any_same p q names h)
 
 -- an event that does not name a guardian grants nothing there
-fresh_unnamed : (setup : Setup) (e : Event) (past : List Event) (x : ObjectId) → IsRun setup (e ∷ past)
+fresh_unnamed : (opening : Opening) (e : Event) (past : List Event) (x : ObjectId) → IsRun opening (e ∷ past)
     → names_guardian e.step past x.guardian ≡ false → fresh x e.step e.answer ≡ []
-fresh_unnamed setup e past x r n = of e.step e.answer (checked setup e past r) n
+fresh_unnamed opening e past x r n = of e.step e.answer (checked opening e past r) n
   where
-    of : (step : Step) (answer : Answer) → AllFalse (checks setup step past) → names_guardian step past x.guardian ≡ false
+    of : (step : Step) (answer : Answer) → NoneApplies (checks opening step past) → names_guardian step past x.guardian ≡ false
         → fresh x step answer ≡ []
     of (Op a y o) (Granted q) f n =
         ap (λ t. map (λ o. (o, false)) (cond t (record { number = 0; action = a; object = y; operation = o; reply = q } ∷ []) [])) (and_left _ _ elsewhere)
       where
         elsewhere : (y.guardian == x.guardian) ≡ false
-        elsewhere = ap (λ h. h == x.guardian) (eqb-true y.guardian (home_of a past) (not-false _ f.1.1.1.1.1.1.0)) ∙ n
+        elsewhere = ap (λ h. h == x.guardian) (eqb-true y.guardian (home_of a past) (not-false _ (f why.Elsewhere))) ∙ n
     of _ _ f n = refl
 
 same_length : (here : List LocalEvent) → length (events_here here) ≡ length here
@@ -255,11 +256,11 @@ same_length [] = refl
 same_length (c ∷ here) = ap suc (same_length here)
 
 -- The marks of what is kept are the same.
-marks_same : (setup : Setup) (run : List Stamped) (x : ObjectId) → IsRun setup (events_of run)
-    → map (λ o. mark (events_here (local_history setup run x.guardian)) o) (kept_here x (local_history setup run x.guardian))
+marks_same : (opening : Opening) (run : List Stamped) (x : ObjectId) → IsRun opening (events_of run)
+    → map (λ o. mark (events_here (local_history opening run x.guardian)) o) (kept_here x (local_history opening run x.guardian))
     ≡ map (λ o. mark (events_of run) o) (kept_on x (events_of run))
-marks_same setup [] x r = refl
-marks_same setup (s ∷ run) x r = of (names_guardian s.1.step (events_of run) x.guardian) refl (marks_same setup run x r.2)
+marks_same opening [] x r = refl
+marks_same opening (s ∷ run) x r = of (names_guardian s.1.step (events_of run) x.guardian) refl (marks_same opening run x r.2)
   where
     g : ℕ
     g = x.guardian
@@ -268,13 +269,13 @@ marks_same setup (s ∷ run) x r = of (names_guardian s.1.step (events_of run) x
     past = events_of run
 
     here : List LocalEvent
-    here = local_history setup run g
+    here = local_history opening run g
 
     flat : Aborts
     flat h c = tells s.1 past h c && is_aborted c past
 
     brought : Aborts
-    brought h c = says_aborted (brings (local_event setup s run g) c)
+    brought h c = says_aborted (brings (local_event opening s run g) c)
 
     before : List Marked
     before = map (λ o. mark past o) (kept_on x past)
@@ -288,13 +289,13 @@ marks_same setup (s ∷ run) x r = of (names_guardian s.1.step (events_of run) x
     flat_next = ap (λ os. map (λ o. mark (s.1 ∷ past) o) os) (kept_more x s.1 past) ∙ marked_next x flat s.1 past (kept_on x past) (kept_low x past)
 
     -- and those of the guardian's own history
-    own_next : map (λ o. mark (s.1 ∷ events_here here) o) (kept_here x (local_event setup s run g ∷ here))
+    own_next : map (λ o. mark (s.1 ∷ events_here here) o) (kept_here x (local_event opening s run g ∷ here))
         ≡ fresh x s.1.step s.1.answer
         ++ map (λ m. remark s.1.step s.1.answer m) (filter (λ m. stays brought s.1.step m) (map (λ o. mark (events_here here) o) (kept_here x here)))
     own_next =
         ap (λ n. map (λ o. mark (s.1 ∷ events_here here) o)
         (filter (λ o. same_object o.object x) (performed_by (suc n) s.1.step s.1.answer)
-        ++ filter (λ o. not (undoes_by (λ b. says_aborted (brings (local_event setup s run g) b)) s.1.step (events_here here) o)) (kept_here x here)))
+        ++ filter (λ o. not (undoes_by (λ b. says_aborted (brings (local_event opening s run g) b)) s.1.step (events_here here) o)) (kept_here x here)))
         (sym (same_length here))
         ∙ marked_next x brought s.1 (events_here here) (kept_here x here)
         (subst (λ n. Each (IsLow x n) (kept_here x here)) (sym (same_length here)) (here_low x here))
@@ -302,24 +303,24 @@ marks_same setup (s ∷ run) x r = of (names_guardian s.1.step (events_of run) x
     agree : Each (λ m. stays brought s.1.step m ≡ stays flat s.1.step m) before
     agree = each_map (IsAt x) (λ m. stays brought s.1.step m ≡ stays flat s.1.step m) before (λ m q.
         ap (λ t. not (t || (step_crashes s.1.step m.0.object.guardian && not (not (is_read m.0.operation) && m.1))))
-        (any_same _ _ (ancestors m.0.action) (λ c. aborts_told setup s.1 past here g c r (λ d. told_same setup run g d r.2)
+        (any_same _ _ (ancestors m.0.action) (λ c. aborts_told opening s.1 past here g c r (λ d. told_same opening run g d r.2)
         ∙ ap (λ h. tells s.1 past h c && is_aborted c past) (sym q)))) at_x
 
     of : (t : Bool) → names_guardian s.1.step past g ≡ t
         → map (λ o. mark (events_here here) o) (kept_here x here) ≡ before
-        → map (λ o. mark (events_here (local_history setup (s ∷ run) g)) o) (kept_here x (local_history setup (s ∷ run) g))
+        → map (λ o. mark (events_here (local_history opening (s ∷ run) g)) o) (kept_here x (local_history opening (s ∷ run) g))
         ≡ map (λ o. mark (s.1 ∷ past) o) (kept_on x (s.1 ∷ past))
     of true n ih =
-        ap (λ l. map (λ o. mark (events_here l) o) (kept_here x l)) (history_named setup s run g n)
+        ap (λ l. map (λ o. mark (events_here l) o) (kept_here x l)) (history_named opening s run g n)
         ∙ own_next
         ∙ ap (λ ms. fresh x s.1.step s.1.answer ++ map (λ m. remark s.1.step s.1.answer m) (filter (λ m. stays brought s.1.step m) ms)) ih
         ∙ ap (λ ms. fresh x s.1.step s.1.answer ++ map (λ m. remark s.1.step s.1.answer m) ms) (filter_same _ _ before agree)
         ∙ sym flat_next
     of false n ih =
-        ap (λ l. map (λ o. mark (events_here l) o) (kept_here x l)) (history_unnamed setup s run g n)
+        ap (λ l. map (λ o. mark (events_here l) o) (kept_here x l)) (history_unnamed opening s run g n)
         ∙ ih
         ∙ sym (flat_next
-        ∙ ap₂ ◌++◌ (fresh_unnamed setup s.1 past x r n) (ap (λ ms. map (λ m. remark s.1.step s.1.answer m) ms) (filter_all _ before quiet) ∙ map_all _ before unvoted))
+        ∙ ap₂ ◌++◌ (fresh_unnamed opening s.1 past x r n) (ap (λ ms. map (λ m. remark s.1.step s.1.answer m) ms) (filter_all _ before quiet) ∙ map_all _ before unvoted))
       where
         quiet : Each (λ m. stays flat s.1.step m ≡ true) before
         quiet = each_map (IsAt x) (λ m. stays flat s.1.step m ≡ true) before (λ m q.
@@ -341,11 +342,40 @@ unmarked : (past : List Event) (os : List Performed) → map (λ m. m.0) (map (�
 unmarked past [] = refl
 unmarked past (o ∷ os) = ap (λ ps. unnumbered o ∷ ps) (unmarked past os)
 
+-- no store gave anything back within a run
+nothing_restored : (opening : Opening) (run : List Stamped) (x : ObjectId) → restored_here x (local_history opening run x.guardian) ≡ []
+nothing_restored opening [] x = refl
+nothing_restored opening (s ∷ run) x = of (names_guardian s.1.step (events_of run) g) refl (nothing_restored opening run x)
+  where
+    g : ℕ
+    g = x.guardian
+
+    here : List LocalEvent
+    here = local_history opening run g
+
+    given_if : Bool → List (Name × Part)
+    given_if u = cond u [] []
+
+    none : (step : Step) → given_back step [] x ≡ []
+    none (Prepare h t) = of' (h == g)
+      where
+        of' : (u : Bool) → given_if u ≡ []
+        of' true = refl
+        of' false = refl
+    none _ = refl
+
+    of : (t : Bool) → names_guardian s.1.step (events_of run) g ≡ t → restored_here x here ≡ []
+        → restored_here x (local_history opening (s ∷ run) g) ≡ []
+    of true n ih =
+        ap (λ l. restored_here x l) (history_named opening s run g n)
+        ∙ ap₂ (λ rs ss. rs ++ filter (λ r. not (list_any (λ b. says_aborted (brings (local_event opening s run g) b)) (ancestors r.0))) ss) (none s.1.step) ih
+    of false n ih = ap (λ l. restored_here x l) (history_unnamed opening s run g n) ∙ ih
+
 -- the law
 pub standing_same : StandingSame
-standing_same setup run x r =
-    let here = local_history setup run x.guardian in
-    let told = λ (b : Name). told_committed_same setup run x.guardian b r in
-    let kept = sym (unmarked (events_here here) (kept_here x here)) ∙ ap (λ ms. map (λ m. m.0) ms) (marks_same setup run x r)
+standing_same opening run x r =
+    let here = local_history opening run x.guardian in
+    let told = λ (b : Name). told_committed_same opening run x.guardian b r in
+    let kept = sym (unmarked (events_here here) (kept_here x here)) ∙ ap (λ ms. map (λ m. m.0) ms) (marks_same opening run x r)
     ∙ unmarked (events_of run) (kept_on x (events_of run)) in
-    λ i. record { told = λ b. told b i; kept = kept i }
+    λ i. record { told = λ b. told b i; kept = kept i; restored = nothing_restored opening run x i }

@@ -1,20 +1,19 @@
 -- A guardian answers the operations of actions at home there as it should, and votes and counts so.
 use Rattle.std.proofs.Common.{Bool, List, Some, [], ap, ap₂, cond, eqb-true, false, inl, inr, not, refl, sym, true, ℕ, ◌==◌, ◌∙◌, ◌∷◌, ◌≡◌, ◌||◌, ◌⊎◌}
-use Rattle.std.proofs.lemmas.Bool.{and_from, or_left, or_right, true≢false}
+use Rattle.std.proofs.lemmas.Bool.{or_left, or_right, true≢false, and_from}
 use Rattle.std.specs.List.{list_any}
 use Rattle.action_names.specs.Names.{ancestors}
-use Rattle.atomic_types.specs.declared.op.Op as op
 use Rattle.run_model.specs.declared.answer.Answer.{Answer}
 use Rattle.run_model.specs.declared.history.Event.{Event}
 use Rattle.run_model.specs.declared.step.Step.TheVariants.{Op}
-use Rattle.run_model.specs.Actions.{crashes, home_of, is_begun, is_busy, is_done, is_gone}
+use Rattle.run_model.specs.Actions.{home_of, is_begun, is_busy, is_done, is_gone}
 use Rattle.run_model.specs.Answers.{answer_of, operated_by, refused_or}
 use Rattle.run_model.specs.Keeping.{standing_of}
 use Rattle.run_model.specs.Lists.{guardians_of, is_below, is_known_orphan}
 use Rattle.run_model.specs.LocalHistories.{events_of, local_history, with_dependencies}
-use Rattle.run_model.specs.LocalReadings.{LocalEvent, facts_here, is_at_home, least_of, standing_here}
+use Rattle.run_model.specs.LocalReadings.{LocalEvent, facts_here, least_of, standing_here, is_at_home}
 use Rattle.run_model.specs.Refusals.{Check, checks, checks_by, first_refusal}
-use Rattle.run_model.specs.Replay.{opening}
+use Rattle.run_model.specs.Openings.{first_content}
 use Rattle.run_model.specs.Votes.{is_number}
 use Rattle.run_laws.proofs.Names.{eqb_self, same_name_self}
 use Rattle.local_laws.specs.Answering.{OperationsSame, OrphansSame, TellingsSame, VotesSame}
@@ -26,6 +25,9 @@ use Rattle.local_laws.proofs.Dependencies.{dependencies_same, listed}
 use Rattle.local_laws.proofs.Kept.{any_same}
 use Rattle.local_laws.proofs.Lists.{aborts_same}
 use Rattle.local_laws.proofs.Roster.{guardian_same}
+use Rattle.atomic_types.specs.declared.op.Op as op
+use Rattle.run_model.specs.declared.answer.Refusal.TheVariants as why
+use Rattle.run_laws.proofs.Accepted.{refused_anyway}
 
 -- tests of the numbers of a list that agree there
 any_of : (p q : ℕ → Bool) (ns : List ℕ) → ((n : ℕ) → list_any (λ k. k == n) ns ≡ true → p n ≡ q n) → list_any p ns ≡ list_any q ns
@@ -35,78 +37,60 @@ any_of p q (n ∷ ns) h =
 
 -- who is known as an orphan
 pub orphans_same : OrphansSame
-orphans_same setup run g a r b h =
+orphans_same opening run g a r b h =
     ap₂ ◌||◌
-    (any_same _ _ (ancestors a) (λ c. aborts_same setup run g c r))
-    (any_of _ _ (guardians_of setup) (λ k q. ap₂ is_below (dependencies_same setup run g a k r b h q) (crashes_same setup run g k r)))
-
--- a check of the list applies
-abbrev pub Applies : List Check → Type 0
-Applies [] = ⊥
-Applies (c ∷ cs) = (c.1 ≡ true) ⊎ Applies cs
-
--- then it does not matter what would come of the step
-pub refused_anyway : (cs : List Check) (o p : Answer) → Applies cs → refused_or (first_refusal cs) o ≡ refused_or (first_refusal cs) p
-refused_anyway [] o p h = absurd h
-refused_anyway (c ∷ cs) o p h = of c.1 refl (refused_anyway cs o p)
-  where
-    later : (t : Bool) → c.1 ≡ t → t ≡ false → Applies cs
-    later t q f = elim h [ inl x ↦ absurd (true≢false (sym x ∙ q ∙ f)) | inr x ↦ x ]
-
-    of : (t : Bool) → c.1 ≡ t → (Applies cs → refused_or (first_refusal cs) o ≡ refused_or (first_refusal cs) p)
-        → refused_or (cond t (Some c.0) (first_refusal cs)) o ≡ refused_or (cond t (Some c.0) (first_refusal cs)) p
-    of true q ih = refl
-    of false q ih = ih (later false q refl)
+    (any_same _ _ (ancestors a) (λ c. aborts_same opening run g c r))
+    (any_of _ _ (guardians_of opening) (λ k q. ap₂ is_below (dependencies_same opening run g a k r b h q) (crashes_same opening run g k r)))
 
 -- the law
 pub operations_same : OperationsSame
 unfolding answer_of
-operations_same setup run g a x wanted r b h = ap (λ cs. refused_or (first_refusal cs) own) same_checks ∙ decide (x.guardian == home_of a past) refl
+operations_same opening run g a x wanted r b h = ap (λ cs. refused_or (first_refusal cs) own) same_checks ∙ decide (x.guardian == home_of a past) refl
   where
     past : List Event
     past = events_of run
 
     here : List LocalEvent
-    here = local_history setup run g
+    here = local_history opening run g
 
     own : Answer
-    own = operated_by (opening setup x) (standing_here here x) a wanted
+    own = operated_by (first_content opening x) (standing_here here x) a wanted
 
     flat : Answer
-    flat = operated_by (opening setup x) (standing_of x past) a wanted
+    flat = operated_by (first_content opening x) (standing_of x past) a wanted
 
-    s : IsActionSame a (own_events setup run g) past
-    s = action_same setup run g a r b h
+    s : IsActionSame a (own_events opening run g) past
+    s = action_same opening run g a r b h
 
     at_home : is_at_home g a here ≡ is_begun a past
     at_home = and_from _ _ (s.begun ∙ b) (ap (λ k. k == g) (s.home ∙ h) ∙ eqb_self g) ∙ sym b
 
-    same_checks : checks_by setup (facts_here setup g here) (Op a x wanted) ≡ checks setup (Op a x wanted) past
+    same_checks : checks_by opening (facts_here opening g here) (Op a x wanted) ≡ checks opening (Op a x wanted) past
     same_checks =
-        ap (λ t. checks_by setup (record (facts_here setup g here) { begun = λ c. t }) (Op a x wanted)) at_home
-        ∙ ap (λ t. checks_by setup (record (facts_here setup g here) { begun = λ c. is_begun a past; done = λ c. t }) (Op a x wanted)) s.done
-        ∙ ap (λ t. checks_by setup (record (facts_here setup g here) { begun = λ c. is_begun a past; done = λ c. is_done a past; busy = λ c. t }) (Op a x wanted)) s.busy
-        ∙ ap (λ t. checks_by setup (record (facts_here setup g here) { begun = λ c. is_begun a past; done = λ c. is_done a past; busy = λ c. is_busy a past; gone = λ c. t }) (Op a x wanted)) s.gone
-        ∙ ap (λ n. checks_by setup (record (facts_here setup g here) { begun = λ c. is_begun a past; done = λ c. is_done a past; busy = λ c. is_busy a past; gone = λ c. is_gone a past; home = λ c. n }) (Op a x wanted)) s.home
-        ∙ ap (λ t. checks_by setup (record (facts_here setup g here) { begun = λ c. is_begun a past; done = λ c. is_done a past; busy = λ c. is_busy a past; gone = λ c. is_gone a past; home = λ c. home_of a past; orphan = λ c. t }) (Op a x wanted))
-        (orphans_same setup run g a r b h ∙ ap (λ k. is_known_orphan setup a k past) (sym h))
+        ap (λ t. checks_by opening (record (facts_here opening g here) { begun = λ c. t }) (Op a x wanted)) at_home
+        ∙ ap (λ t. checks_by opening (record (facts_here opening g here) { begun = λ c. is_begun a past; done = λ c. t }) (Op a x wanted)) s.done
+        ∙ ap (λ t. checks_by opening (record (facts_here opening g here) { begun = λ c. is_begun a past; done = λ c. is_done a past; busy = λ c. t }) (Op a x wanted)) s.busy
+        ∙ ap (λ t. checks_by opening (record (facts_here opening g here) { begun = λ c. is_begun a past; done = λ c. is_done a past; busy = λ c. is_busy a past; gone = λ c. t }) (Op a x wanted)) s.gone
+        ∙ ap (λ n. checks_by opening (record (facts_here opening g here) { begun = λ c. is_begun a past; done = λ c. is_done a past; busy = λ c. is_busy a past; gone = λ c. is_gone a past; home = λ c. n }) (Op a x wanted)) s.home
+        ∙ ap (λ t. checks_by opening (record (facts_here opening g here) { begun = λ c. is_begun a past; done = λ c. is_done a past; busy = λ c. is_busy a past; gone = λ c. is_gone a past; home = λ c. home_of a past; orphan = λ c. t }) (Op a x wanted))
+        (orphans_same opening run g a r b h ∙ ap (λ k. is_known_orphan opening a k past) (sym h))
 
     decide : (t : Bool) → (x.guardian == home_of a past) ≡ t
-        → refused_or (first_refusal (checks setup (Op a x wanted) past)) own ≡ refused_or (first_refusal (checks setup (Op a x wanted) past)) flat
+        → refused_or (first_refusal (checks opening (Op a x wanted) past)) own ≡ refused_or (first_refusal (checks opening (Op a x wanted) past)) flat
     decide true q =
         let there : x.guardian ≡ g = eqb-true x.guardian (home_of a past) q ∙ h in
-        ap (λ o. refused_or (first_refusal (checks setup (Op a x wanted) past)) o)
-        (ap (λ k. operated_by (opening setup x) (standing_here (local_history setup run k) x) a wanted) (sym there)
-        ∙ (objects_alike setup run x r).operated (opening setup x) a wanted)
+        ap (λ o. refused_or (first_refusal (checks opening (Op a x wanted) past)) o)
+        (ap (λ k. operated_by (first_content opening x) (standing_here (local_history opening run k) x) a wanted) (sym there)
+        ∙ (objects_alike opening run x r).operated (first_content opening x) a wanted)
     decide false q =
-        refused_anyway (checks setup (Op a x wanted) past) own flat (inr (inr (inr (inr (inr (inr (inl (ap not q))))))))
+        refused_anyway why.Elsewhere (checks opening (Op a x wanted) past) own flat (ap not q)
 
 pub votes_same : VotesSame
-votes_same setup run g t answer r k =
+votes_same opening run g t answer r k =
     ap₂ is_number
-    (ap (λ l. least_of l t g) (ap (λ u. cond u (with_dependencies setup (events_of run) (t ∷ [])) []) (eqb_self g))
-    ∙ listed setup (events_of run) (t ∷ []) t g (or_left _ _ (same_name_self t)) k)
-    (guardian_same setup run g r).crashes
+    (ap (λ l. least_of l t g) (ap (λ u. cond u (with_dependencies opening (events_of run) (t ∷ [])) []) (eqb_self g))
+    ∙ listed opening (events_of run) (t ∷ []) t g (or_left _ _ (same_name_self t)) k)
+    (guardian_same opening run g r).crashes
 
 pub tellings_same : TellingsSame
-tellings_same setup run g a r = counts_same setup run g _ a r
+tellings_same opening run g a r = counts_same opening run g _ a r

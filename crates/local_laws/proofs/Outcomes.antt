@@ -11,13 +11,14 @@ use Rattle.run_model.specs.Actions.{begun, home_of, is_aborted, is_begun, is_com
 use Rattle.run_model.specs.LocalHistories.{Stamped, carried, events_of, local_history, names_guardian, outcomes_below, outcomes_carried}
 use Rattle.run_model.specs.LocalReadings.{LocalEvent, outcome_in, says_aborted, told_here}
 use Rattle.run_model.specs.Refusals.{checks}
-use Rattle.run_model.specs.Replay.{Setup}
+use Rattle.run_model.specs.Openings.{Opening}
 use Rattle.run_model.specs.Runs.{IsRun}
 use Rattle.run_model.specs.Telling.{step_tells, tells, told_since_crash}
 use Rattle.run_model.specs.Visibility.{votes_yes}
-use Rattle.run_laws.proofs.Accepted.{AllFalse, checked}
+use Rattle.run_laws.proofs.Accepted.{NoneApplies, checked}
 use Rattle.run_laws.proofs.Begun.{begun_more}
 use Rattle.run_laws.proofs.Ended.{committed_begun, not_both}
+use Rattle.run_model.specs.declared.answer.Refusal.TheVariants as why
 use Rattle.run_laws.proofs.Names.{same_name_true}
 
 -- a name is in a list where it is put in
@@ -79,29 +80,29 @@ outcomes_say out (a ∷ names) b = of (same_name a b) refl (outcomes_say out nam
         ∙ sym (ap (λ t. cond (t || has_name names b) (Some (out b)) None) e)
 
 -- what has aborted was begun
-pub aborted_begun : (setup : Setup) (past : List Event) (c : Name) → IsRun setup past → is_aborted c past ≡ true → is_begun c past ≡ true
-aborted_begun setup [] c r h = absurd (false≢true h)
-aborted_begun setup (e ∷ past) c r h =
+pub aborted_begun : (opening : Opening) (past : List Event) (c : Name) → IsRun opening past → is_aborted c past ≡ true → is_begun c past ≡ true
+aborted_begun opening [] c r h = absurd (false≢true h)
+aborted_begun opening (e ∷ past) c r h =
     begun_more e past c (elim (or_cases _ _ h) [
-      | inl k ↦ of e.step (checked setup e past r) k
-      | inr k ↦ aborted_begun setup past c r.2 k
+      | inl k ↦ of e.step (checked opening e past r) k
+      | inr k ↦ aborted_begun opening past c r.2 k
     ])
   where
-    of : (step : Step) → AllFalse (checks setup step past) → step_aborts step c ≡ true → is_begun c past ≡ true
-    of (Abort b) f k = ap (λ d. is_begun d past) (sym (same_name_true b c k)) ∙ not-false _ f.0
+    of : (step : Step) → NoneApplies (checks opening step past) → step_aborts step c ≡ true → is_begun c past ≡ true
+    of (Abort b) f k = ap (λ d. is_begun d past) (sym (same_name_true b c k)) ∙ not-false _ (f why.NoAction)
     of _ f k = absurd (false≢true k)
 
 -- what has ended was begun
-pub ended_begun : (setup : Setup) (past : List Event) (b : Name) → IsRun setup past → is_ended b past ≡ true → is_begun b past ≡ true
-ended_begun setup past b r h =
-    elim (or_cases _ _ h) [ inl x ↦ committed_begun setup past b r x | inr x ↦ aborted_begun setup past b r x ]
+pub ended_begun : (opening : Opening) (past : List Event) (b : Name) → IsRun opening past → is_ended b past ≡ true → is_begun b past ≡ true
+ended_begun opening past b r h =
+    elim (or_cases _ _ h) [ inl x ↦ committed_begun opening past b r x | inr x ↦ aborted_begun opening past b r x ]
 
 -- a message brings just the outcomes that its event tells
-pub outcomes_tell : (setup : Setup) (step : Step) (past : List Event) (here : List LocalEvent) (g : ℕ) (b : Name) → IsRun setup past
+pub outcomes_tell : (opening : Opening) (step : Step) (past : List Event) (here : List LocalEvent) (g : ℕ) (b : Name) → IsRun opening past
     → ((c : Name) → told_here g c here ≡ told_since_crash g c past)
     → outcome_in (outcomes_carried step g past here) b
     ≡ cond (step_tells step g b (told_since_crash g b past) (is_ended b past)) (Some (is_committed b past)) None
-outcomes_tell setup (Tell h a) past here g b r told = of (h == g)
+outcomes_tell opening (Tell h a) past here g b r told = of (h == g)
   where
     one : (t : Bool) → same_name a b ≡ t
         → cond (same_name a b) (Some (is_committed a past)) None ≡ cond (same_name a b) (Some (is_committed b past)) None
@@ -113,7 +114,7 @@ outcomes_tell setup (Tell h a) past here g b r told = of (h == g)
     of : (t : Bool) → outcome_in (cond t ((a, is_committed a past) ∷ []) []) b ≡ cond (t && same_name a b) (Some (is_committed b past)) None
     of true = one (same_name a b) refl
     of false = refl
-outcomes_tell setup (Prepare h t) past here g b r told = of (h == g)
+outcomes_tell opening (Prepare h t) past here g b r told = of (h == g)
   where
     test : Name → Bool
     test c = is_proper_ancestor t c && (is_ended c past && not (told_here g c here))
@@ -125,7 +126,7 @@ outcomes_tell setup (Prepare h t) past here g b r told = of (h == g)
         pick : (x : Bool) → is_begun b past ≡ x → (y z : Bool) → is_ended b past ≡ z
             → (x && (y && (z && not (told_here g b here)))) ≡ (y && (z && not (told_since_crash g b past)))
         pick true e y z f = ap (λ w. y && (z && not w)) (told b)
-        pick false e y true f = absurd (true≢false (sym (ended_begun setup past b r f) ∙ e))
+        pick false e y true f = absurd (true≢false (sym (ended_begun opening past b r f) ∙ e))
         pick false e true false f = refl
         pick false e false false f = refl
 
@@ -136,18 +137,18 @@ outcomes_tell setup (Prepare h t) past here g b r told = of (h == g)
         outcomes_say (λ c. is_committed c past) (rising_names (filter test (begun past))) b
         ∙ ap (λ x. cond x (Some (is_committed b past)) None)
         (has_rising (filter test (begun past)) b ∙ has_filter test (begun past) b ∙ known)
-outcomes_tell setup _ past here g b r told = refl
+outcomes_tell opening _ past here g b r told = refl
 
 -- who is told has ended
-pub told_has_ended : (setup : Setup) (e : Event) (past : List Event) (g : ℕ) (b : Name) → IsRun setup (e ∷ past) → tells e past g b ≡ true
+pub told_has_ended : (opening : Opening) (e : Event) (past : List Event) (g : ℕ) (b : Name) → IsRun opening (e ∷ past) → tells e past g b ≡ true
     → is_ended b past ≡ true
-told_has_ended setup e past g b r k = of e.step (checked setup e past r) k
+told_has_ended opening e past g b r k = of e.step (checked opening e past r) k
   where
-    of : (step : Step) → AllFalse (checks setup step past) → step_tells step g b (told_since_crash g b past) (is_ended b past) ≡ true
+    of : (step : Step) → NoneApplies (checks opening step past) → step_tells step g b (told_since_crash g b past) (is_ended b past) ≡ true
         → is_ended b past ≡ true
     of (Tell h a) f k =
         let p = and_parts (h == g) (same_name a b) k in
-        ap (λ c. is_ended c past) (sym (same_name_true a b p.1)) ∙ not-false (is_ended a past) f.1.1.1.0
+        ap (λ c. is_ended c past) (sym (same_name_true a b p.1)) ∙ not-false (is_ended a past) (f why.NotSo)
     of (Prepare h t) f k =
         let p = and_parts (h == g) (is_proper_ancestor t b && (is_ended b past && not (told_since_crash g b past))) k in
         let q = and_parts (is_proper_ancestor t b) (is_ended b past && not (told_since_crash g b past)) p.1 in
@@ -155,11 +156,11 @@ told_has_ended setup e past g b r k = of e.step (checked setup e past r) k
     of _ f k = absurd (false≢true k)
 
 -- a message that brings an abort
-pub aborts_told : (setup : Setup) (e : Event) (past : List Event) (here : List LocalEvent) (g : ℕ) (d : Name) → IsRun setup (e ∷ past)
+pub aborts_told : (opening : Opening) (e : Event) (past : List Event) (here : List LocalEvent) (g : ℕ) (d : Name) → IsRun opening (e ∷ past)
     → ((c : Name) → told_here g c here ≡ told_since_crash g c past)
     → says_aborted (outcome_in (outcomes_carried e.step g past here) d) ≡ (tells e past g d && is_aborted d past)
-aborts_told setup e past here g d r told =
-    ap says_aborted (outcomes_tell setup e.step past here g d r.2 told) ∙ says (tells e past g d) (is_committed d past)
+aborts_told opening e past here g d r told =
+    ap says_aborted (outcomes_tell opening e.step past here g d r.2 told) ∙ says (tells e past g d) (is_committed d past)
     ∙ aborted (tells e past g d) (is_committed d past) (is_aborted d past) refl refl refl
   where
     says : (t c : Bool) → says_aborted (cond t (Some c) None) ≡ (t && not c)
@@ -168,10 +169,10 @@ aborts_told setup e past here g d r told =
 
     aborted : (t c a : Bool) → tells e past g d ≡ t → is_committed d past ≡ c → is_aborted d past ≡ a → (t && not c) ≡ (t && a)
     aborted false c a x y z = refl
-    aborted true true true x y z = absurd (not_both setup past d r.2 y z)
+    aborted true true true x y z = absurd (not_both opening past d r.2 y z)
     aborted true true false x y z = refl
     aborted true false true x y z = refl
-    aborted true false false x y z = absurd (elim (or_cases (is_committed d past) (is_aborted d past) (told_has_ended setup e past g d r x)) [
+    aborted true false false x y z = absurd (elim (or_cases (is_committed d past) (is_aborted d past) (told_has_ended opening e past g d r x)) [
       | inl u ↦ true≢false (sym u ∙ y)
       | inr u ↦ true≢false (sym u ∙ z)
     ])
@@ -194,20 +195,20 @@ unnamed_votes (Prepare h b) VoteYes past g t n = and_left (h == g) (same_name b 
 unnamed_votes _ _ past g t n = refl
 
 -- an event as g keeps it
-abbrev pub local_event : Setup → Stamped → List Stamped → ℕ → LocalEvent
-local_event setup s run g = record {
+abbrev pub local_event : Opening → Stamped → List Stamped → ℕ → LocalEvent
+local_event opening s run g = record {
   stamp = s.0;
   event = s.1;
-  carried = carried setup s.1 g (events_of run) (λ h. local_history setup run h);
+  carried = carried opening s.1 g (events_of run) (λ h. local_history opening run h);
 }
 
 -- the two cases of a local history
-pub history_named : (setup : Setup) (s : Stamped) (run : List Stamped) (g : ℕ) → names_guardian s.1.step (events_of run) g ≡ true
-    → local_history setup (s ∷ run) g ≡ local_event setup s run g ∷ local_history setup run g
-history_named setup s run g n =
-    ap (λ t. cond t (local_event setup s run g ∷ local_history setup run g) (local_history setup run g)) n
+pub history_named : (opening : Opening) (s : Stamped) (run : List Stamped) (g : ℕ) → names_guardian s.1.step (events_of run) g ≡ true
+    → local_history opening (s ∷ run) g ≡ local_event opening s run g ∷ local_history opening run g
+history_named opening s run g n =
+    ap (λ t. cond t (local_event opening s run g ∷ local_history opening run g) (local_history opening run g)) n
 
-pub history_unnamed : (setup : Setup) (s : Stamped) (run : List Stamped) (g : ℕ) → names_guardian s.1.step (events_of run) g ≡ false
-    → local_history setup (s ∷ run) g ≡ local_history setup run g
-history_unnamed setup s run g n =
-    ap (λ t. cond t (local_event setup s run g ∷ local_history setup run g) (local_history setup run g)) n
+pub history_unnamed : (opening : Opening) (s : Stamped) (run : List Stamped) (g : ℕ) → names_guardian s.1.step (events_of run) g ≡ false
+    → local_history opening (s ∷ run) g ≡ local_history opening run g
+history_unnamed opening s run g n =
+    ap (λ t. cond t (local_event opening s run g ∷ local_history opening run g) (local_history opening run g)) n

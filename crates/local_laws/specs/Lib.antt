@@ -8,3 +8,7 @@ pub mod Registries
 pub mod Owed
 pub mod Moving
 pub mod NoLocalRuns
+pub mod Reopened
+pub mod Orderly
+pub mod Tops
+pub mod Bases

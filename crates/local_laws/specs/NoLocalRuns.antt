@@ -24,7 +24,7 @@ kept_at g e past = record { stamp = suc (length past); event = e; carried = carr
 -- what g has is the history of a local run, and with the event it is none
 abbrev pub IsNotOwed : ℕ → Event → List Event → Type 0
 IsNotOwed g e past =
-    IsLocalRun two_records g (histories_of past g) × (IsLocalRun two_records g (kept_at g e past ∷ histories_of past g) → ⊥)
+    IsLocalRun two_records g [] (histories_of past g) × (IsLocalRun two_records g [] (kept_at g e past ∷ histories_of past g) → ⊥)
 
 -- A reply that ignores what the guardian was told: it reads what an aborted child wrote.
 abbrev pub aborted_write : List Event

@@ -11,9 +11,13 @@ ghost use Rattle.local_laws.specs.Answering.{OrphansSame, OperationsSame, VotesS
 ghost use Rattle.local_laws.specs.Registries.{RegistrySame, RegistryDependenciesSame, AnswersSame, HistoriesGrow, AsksNamed, LentAnswers, LentGrows, UnnamedStay, ClosingSame};
 ghost use Rattle.local_laws.specs.Owed.{LocalRuns};
 ghost use Rattle.local_laws.specs.Moving.{HoldersMove};
+ghost use Rattle.local_laws.specs.Reopened.{LifeBefore, RecordsReadBack, ReopenedIsOrderly};
+ghost use Rattle.local_laws.specs.Bases.{BasesAreLaid, RecordsAreHeld};
+ghost use Rattle.local_laws.specs.Orderly.{BlockersByLocks, LocalRunsAreOrderly, OwnersAreChain, OwnersOfRuns, ReplyOfVersion, RunsAreOrderly};
+ghost use Rattle.local_laws.specs.Tops.{TopWithDeltas, TopsOfRuns, VersionWithDeltas};
 ghost use Rattle.local_laws.specs.Known.{AbortsSame, CrashesSame, DependenciesSame};
 ghost use Rattle.local_laws.specs.NoLocalRuns.{ReplyIgnoresTelling, VoteIgnoresCrash, ListsNotCarried};
-ghost use Rattle.local_laws.specs.Objects.{ObjectsAlike, CountsSame, ValuesSame};
+ghost use Rattle.local_laws.specs.Objects.{ObjectsAlike, CountsSame, PartsSame};
 
 /// A guardian's own history says of each action whether the guardian was told its outcome since its last crash.
 pub fn told_same()
@@ -40,9 +44,9 @@ pub fn counts_same()
     ensures { CountsSame }
 {}
 
-/// A top action holds the same values.
-pub fn values_same()
-    ensures { ValuesSame }
+/// A top action holds the same values and deltas.
+pub fn parts_same()
+    ensures { PartsSame }
 {}
 
 /// A guardian's own history says how often it crashed and recovered, whether it is down, and how it voted.
@@ -159,6 +163,77 @@ pub fn unnamed_stay()
 /// In a run, the history of each guardian, by itself, has the replies, own votes and counts that it should.
 pub fn local_runs()
     ensures { LocalRuns }
+{}
+
+/// What a guardian does by its own history keeps Moss's rule at each object: what is newer stands under what it conflicts with.
+pub fn local_runs_are_orderly()
+    ensures { LocalRunsAreOrderly }
+{}
+
+/// Where what is kept of an object stands by Moss's rule, the owners of its versions are a chain by ancestry.
+pub fn owners_are_chain()
+    ensures { OwnersAreChain }
+{}
+
+/// Every run keeps Moss's rule at each object.
+pub fn runs_are_orderly()
+    ensures { RunsAreOrderly }
+{}
+
+/// The owners of an object's versions are a chain in every run.
+pub fn owners_of_runs()
+    ensures { OwnersOfRuns }
+{}
+
+/// The reply of an operation that waits for nobody is that of the version of its action.
+pub fn reply_of_version()
+    ensures { ReplyOfVersion }
+{}
+
+/// What all that is kept of an object leaves of its content is the version on top, with the deltas beside it: those of all who are no ancestors
+/// of that version's owner.
+pub fn top_with_deltas()
+    ensures { TopWithDeltas }
+{}
+
+/// So is the version of an action whose total waits for nobody.
+pub fn version_with_deltas()
+    ensures { VersionWithDeltas }
+{}
+
+/// In every run this is what the kept operations leave of each object.
+pub fn tops_of_runs()
+    ensures { TopsOfRuns }
+{}
+
+/// For whom an operation waits is said by the lock set.
+pub fn blockers_by_locks()
+    ensures { BlockersByLocks }
+{}
+
+/// At every moment of a run, what is installed of an object, laid on its content at the setup, is its base.
+pub fn bases_are_laid()
+    ensures { BasesAreLaid }
+{}
+
+/// As long as a record of a prepared top action is there, it says what the top action holds.
+pub fn records_are_held()
+    ensures { RecordsAreHeld }
+{}
+
+/// What a guardian that was opened again by itself reads of the time before is what its store held.
+pub fn life_before_is()
+    ensures { LifeBefore }
+{}
+
+/// It reads each record of its store back as it stands there, and no other.
+pub fn records_read_back()
+    ensures { RecordsReadBack }
+{}
+
+/// Where no value of its records stands beside another part on its object, its objects keep Moss's rule.
+pub fn reopened_is_orderly()
+    ensures { ReopenedIsOrderly }
 {}
 
 /// Once an action is told committed, what it held goes to the nearest ancestor above it that was not told so, and nothing else moves.

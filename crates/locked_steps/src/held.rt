@@ -1,6 +1,6 @@
-//! What stands under a lock of its own: a guardian, or the forest. All that two of them know of each other is that they stand in one setup.
+//! What stands under a lock of its own: a guardian, or the forest. All that two of them know of each other is that they stand in one opening.
 ghost use Rattle.std.specs.Prelude.{◌≡◌, ◌==◌, ℕ, Bool, true, false, IfOk, IfSome, OnErr, IsTrue, IsFalse, MatchOption, is_some};
-ghost use Rattle.run_model.specs.Replay.{Setup};
+ghost use Rattle.run_model.specs.Openings.{Opening};
 ghost use Rattle.run_model.specs.declared.step.Step.TheVariants as steps;
 ghost use Rattle.run_model.specs.LocalHistories.{answer_lent};
 ghost use Rattle.run_model.specs.LocalReadings.{operation_here};
@@ -14,30 +14,30 @@ use run_model::{Answer, Event, Name, ObjectId, Op, Step};
 use std::alloc::{AllocError, Global};
 use std::marker::PhantomData;
 
-/// The setup in which all that stands under locks stands.
-pub trait OfSetup {
-    ghost setup: { Setup };
+/// The opening in which all that stands under locks stands.
+pub trait OfOpening {
+    ghost opening: { Opening };
 }
 
-/// A guardian under its lock: it is one of the setup.
+/// A guardian under its lock: it stands in the opening.
 #[derive(Drop)]
-pub struct Held<K: OfSetup, G: Guardian> {
+pub struct Held<K: OfOpening, G: Guardian> {
     pub guardian: G,
     pub of: PhantomData<K>,
-    ghost ours: { (G.state guardian).setup ≡ K.setup },
+    ghost ours: { (G.state guardian).opening ≡ K.opening },
 }
 
 /// The forest under its lock.
 #[derive(Drop)]
-pub struct HeldForest<K: OfSetup, R: Forest> {
+pub struct HeldForest<K: OfOpening, R: Forest> {
     pub forest: R,
     pub of: PhantomData<K>,
-    ghost ours: { (R.state forest).setup ≡ K.setup },
+    ghost ours: { (R.state forest).opening ≡ K.opening },
 }
 
 /// One step of two guardians, all locked: its answer, and what it leaves. `None`, and nothing is changed, where the step is an operation, which
 /// needs one guardian alone, or where both are one. After an error all are as they were.
-pub fn both<K: OfSetup, R: Forest, G: Guardian, F: FnOnce() -> u64>(
+pub fn both<K: OfOpening, R: Forest, G: Guardian, F: FnOnce() -> u64>(
     alloc: Global,
     forest: &mut HeldForest<K, R>,
     one: &mut Held<K, G>,
@@ -46,7 +46,7 @@ pub fn both<K: OfSetup, R: Forest, G: Guardian, F: FnOnce() -> u64>(
     stamp: F,
 ) -> Result<Option<Answer>, Fault>
     requires { F.pre stamp }
-    ensures answer { IfOk result (λ r. IfSome r (λ answer. answer ≡ answer_lent K.setup (R.state forest.old.forest).registry
+    ensures answer { IfOk result (λ r. IfSome r (λ answer. answer ≡ answer_lent K.opening (R.state forest.old.forest).registry
         (lent_two (G.state one.old.guardian) (G.state other.old.guardian)) step.now)) }
     ensures done { IfOk result (λ r. MatchOption r
         (AreSame (R.state forest.old.forest) (G.state one.old.guardian) (G.state other.old.guardian)
@@ -70,7 +70,7 @@ pub fn both<K: OfSetup, R: Forest, G: Guardian, F: FnOnce() -> u64>(
 }
 
 /// An operation of one locked guardian, which answers and keeps it by itself.
-pub fn alone<K: OfSetup, G: Guardian, F: FnOnce() -> u64>(
+pub fn alone<K: OfOpening, G: Guardian, F: FnOnce() -> u64>(
     alloc: Global,
     held: &mut Held<K, G>,
     action: &Name,
@@ -79,7 +79,7 @@ pub fn alone<K: OfSetup, G: Guardian, F: FnOnce() -> u64>(
     stamp: F,
 ) -> Result<Answer, AllocError>
     requires { F.pre stamp }
-    ensures answer { IfOk result (λ answer. answer ≡ operation_here K.setup (G.state held.old.guardian).number action.now object operation.now
+    ensures answer { IfOk result (λ answer. answer ≡ operation_here K.opening (G.state held.old.guardian).number action.now object operation.now
         (G.state held.old.guardian).past) }
     ensures kept { IfOk result (λ answer. IsOperated (λ n. F.post stamp n) (steps.Op action.now object operation.now) answer (G.state held.old.guardian)
         (G.state held.new.guardian)) }
@@ -89,7 +89,7 @@ pub fn alone<K: OfSetup, G: Guardian, F: FnOnce() -> u64>(
 }
 
 /// Keeps an accepted event, and gives its stamp.
-fn keep<K: OfSetup, R: Forest, G: Guardian, F: FnOnce() -> u64>(
+fn keep<K: OfOpening, R: Forest, G: Guardian, F: FnOnce() -> u64>(
     alloc: Global,
     forest: &mut HeldForest<K, R>,
     one: &mut Held<K, G>,

@@ -1,4 +1,4 @@
-use crate::held::{Held, HeldForest, OfSetup, alone, both};
+use crate::held::{Held, HeldForest, OfOpening, alone, both};
 use layer_contracts::{Fault, Forest, Guardian};
 use run_model::{Answer, Name, ObjectId, Op, Step};
 use std::alloc::{AllocError, Global};
@@ -10,14 +10,14 @@ pub trait Draw {
 }
 
 /// Guardians under locks of their own, and the forest under one.
-pub struct Runtime<K: OfSetup, R: Forest, G: Guardian, S: Draw> {
+pub struct Runtime<K: OfOpening, R: Forest, G: Guardian, S: Draw> {
     alloc: Global,
     places: Vec<Mutex<Held<K, G>>>,
     forest: Mutex<HeldForest<K, R>>,
     stamps: S,
 }
 
-impl<K: OfSetup, R: Forest, G: Guardian, S: Draw> Runtime<K, R, G, S> {
+impl<K: OfOpening, R: Forest, G: Guardian, S: Draw> Runtime<K, R, G, S> {
     /// One step of two guardians, which are locked in rising order, and then the forest. `None` where there are no two such guardians.
     pub fn step_two(
         &self,

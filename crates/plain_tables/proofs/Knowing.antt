@@ -13,16 +13,17 @@ use Rattle.run_model.specs.Actions.{crashes, home_of, is_aborted, is_down, is_en
 use Rattle.run_model.specs.Lists.{carried_from, down_from, from_sender, greater_of_sender, guardians_of, is_below, is_known_orphan, known_crashes, knows_abort, up_to}
 use Rattle.run_model.specs.Dependencies.{dependency}
 use Rattle.run_model.specs.Refusals.{checks}
-use Rattle.run_model.specs.Replay.{Setup}
+use Rattle.run_model.specs.Openings.{Opening}
 use Rattle.run_model.specs.Runs.{IsRun}
 use Rattle.run_model.specs.Telling.{step_tells, tells, told_since_crash}
-use Rattle.run_laws.proofs.Accepted.{AllFalse, checked}
+use Rattle.run_laws.proofs.Accepted.{NoneApplies, checked}
 use Rattle.run_laws.proofs.Each.{Each}
 use Rattle.run_laws.proofs.Homes.{crashes_next}
 use Rattle.run_laws.proofs.Known.{known_count}
 use Rattle.run_laws.proofs.Names.{clash, eqb_self, has_name_append, same_name_true}
 use Rattle.plain_tables.specs.declared.dependencies.Row.{Row}
 use Rattle.plain_tables.specs.declared.knowledge.Known.{Known}
+use Rattle.run_model.specs.declared.answer.Refusal.TheVariants as why
 use Rattle.plain_tables.specs.Parts.{AreBoth, AreDependencies, AreLists, AreToldToo, IsGuardian, IsKnown, counted, least_in, receiver_of}
 
 -- two numbers that differ
@@ -36,24 +37,24 @@ record IsUntouched (step : Step) (past : List Event) (g : ℕ) : Type 0 where
   unsent : carried_from step g past ≡ None
 
 -- an event reaches its receiver alone
-reaches_one : (setup : Setup) (step : Step) (past : List Event) (g : ℕ) → AllFalse (checks setup step past)
+reaches_one : (opening : Opening) (step : Step) (past : List Event) (g : ℕ) → NoneApplies (checks opening step past)
     → ((r : ℕ) → receiver_of step past ≡ Some r → r ≡ g → ⊥) → IsUntouched step past g
-reaches_one setup (Call a h) past g f n =
+reaches_one opening (Call a h) past g f n =
     let d = differ h g (n h refl) in
     record { up = refl; untold = λ b told ended. refl; unsent = ap (λ t. cond t (Some (home_of a past)) None) d }
-reaches_one setup (Prepare h t) past g f n =
+reaches_one opening (Prepare h t) past g f n =
     let d = differ h g (n h refl) in
     record { up = refl; untold = λ b told ended. ap (λ u. u && (is_proper_ancestor t b && (ended && not told))) d; unsent = ap (λ u. cond u (Some (home_of t past)) None) d }
-reaches_one setup (Tell h a) past g f n =
+reaches_one opening (Tell h a) past g f n =
     let d = differ h g (n h refl) in
     record { up = refl; untold = λ b told ended. ap (λ u. u && same_name a b) d; unsent = refl }
-reaches_one setup (Crash h) past g f n =
+reaches_one opening (Crash h) past g f n =
     record { up = differ h g (n h refl); untold = λ b told ended. refl; unsent = refl }
-reaches_one setup (Commit a) past g f n =
+reaches_one opening (Commit a) past g f n =
     let home = home_of (parent_of a) past in
-    let d = differ home g (n home (ap (λ t. cond t None (Some home)) f.1.1.1.1.1.0)) in
+    let d = differ home g (n home (ap (λ t. cond t None (Some home)) (f why.NotSub))) in
     record { up = refl; untold = λ b told ended. refl; unsent = ap (λ u. cond (u && not (is_down g past)) (Some (home_of a past)) None) d }
-reaches_one setup _ past g f n = record { up = refl; untold = λ b told ended. refl; unsent = refl }
+reaches_one opening _ past g f n = record { up = refl; untold = λ b told ended. refl; unsent = refl }
 
 -- who is not reached knows what it knew of aborts
 abort_as_before : (e : Event) (past : List Event) (g : ℕ) (b : Name) → IsUntouched e.step past g
@@ -100,22 +101,22 @@ crashes_learnt e past g h s up q = of (g == h) refl
     of false k = sym (after false k ∙ ap (λ u. cond u 0 (news (carried_from e.step g past))) up ∙ ap (λ o. news o) q)
 
 -- what a guardian knows after an event that does not reach it
-pub known_as_before : (setup : Setup) (e : Event) (past : List Event) (g : ℕ) (k : Known) → IsRun setup (e ∷ past)
-    → ((r : ℕ) → receiver_of e.step past ≡ Some r → r ≡ g → ⊥) → IsKnown setup g k past → IsKnown setup g k (e ∷ past)
-known_as_before setup e past g k run n known =
-    let u = reaches_one setup e.step past g (checked setup e past run) n in
+pub known_as_before : (opening : Opening) (e : Event) (past : List Event) (g : ℕ) (k : Known) → IsRun opening (e ∷ past)
+    → ((r : ℕ) → receiver_of e.step past ≡ Some r → r ≡ g → ⊥) → IsKnown opening g k past → IsKnown opening g k (e ∷ past)
+known_as_before opening e past g k run n known =
+    let u = reaches_one opening e.step past g (checked opening e past run) n in
     record {
       aborts = λ b. known.aborts b ∙ sym (abort_as_before e past g b u);
       counts = λ h there. known.counts h there ∙ crashes_learnt e past g h None u.up u.unsent;
     }
 
 -- what a guardian knows after news
-pub known_after : (setup : Setup) (e : Event) (past : List Event) (g : ℕ) (s : Option ℕ) (k : Known) → step_crashes e.step g ≡ false
+pub known_after : (opening : Opening) (e : Event) (past : List Event) (g : ℕ) (s : Option ℕ) (k : Known) → step_crashes e.step g ≡ false
     → carried_from e.step g past ≡ s
     → ((b : Name) → has_name k.aborts b ≡ (knows_abort g b past || ((tells e past g b && is_aborted b past) || from_sender s (λ h. knows_abort h b past))))
-    → ((h : ℕ) → IsGuardian setup h → counted k.crashes.items h ≡ greater_of_sender s (λ x. known_crashes x h past) (known_crashes g h past))
-    → IsKnown setup g k (e ∷ past)
-known_after setup e past g s k up q aborts counts = record {
+    → ((h : ℕ) → IsGuardian opening h → counted k.crashes.items h ≡ greater_of_sender s (λ x. known_crashes x h past) (known_crashes g h past))
+    → IsKnown opening g k (e ∷ past)
+known_after opening e past g s k up q aborts counts = record {
   aborts = λ b. aborts b
       ∙ ap (λ o. knows_abort g b past || ((tells e past g b && is_aborted b past) || from_sender o (λ h. knows_abort h b past))) (sym q)
       ∙ ap (λ t. not t && (knows_abort g b past || ((tells e past g b && is_aborted b past) || from_sender (carried_from e.step g past) (λ h. knows_abort h b past)))) (sym up);
@@ -123,10 +124,10 @@ known_after setup e past g s k up q aborts counts = record {
 }
 
 -- what a guardian knows after its crash: how often it crashed
-pub known_crashed : (setup : Setup) (e : Event) (past : List Event) (g : ℕ) (k : Known) → step_crashes e.step g ≡ true → k.aborts ≡ []
-    → ((h : ℕ) → IsGuardian setup h → counted k.crashes.items h ≡ cond (g == h) (suc (crashes g past)) 0)
-    → IsKnown setup g k (e ∷ past)
-known_crashed setup e past g k down none counts = record {
+pub known_crashed : (opening : Opening) (e : Event) (past : List Event) (g : ℕ) (k : Known) → step_crashes e.step g ≡ true → k.aborts ≡ []
+    → ((h : ℕ) → IsGuardian opening h → counted k.crashes.items h ≡ cond (g == h) (suc (crashes g past)) 0)
+    → IsKnown opening g k (e ∷ past)
+known_crashed opening e past g k down none counts = record {
   aborts = λ b. ap (λ names. has_name names b) none
       ∙ ap (λ t. not t && (knows_abort g b past || ((tells e past g b && is_aborted b past) || from_sender (carried_from e.step g past) (λ h. knows_abort h b past)))) (sym down);
   counts = λ h there. counts h there ∙ of h (g == h);
@@ -139,21 +140,21 @@ known_crashed setup e past g k down none counts = record {
     of h false = ap (λ t. cond t 0 (greater_of_sender (carried_from e.step g past) (λ x. known_crashes x h past) (known_crashes g h past))) (sym down)
 
 -- the lists where nobody learns
-pub lists_as_before : (setup : Setup) (e : Event) (past : List Event) (lists : List Known) → IsRun setup (e ∷ past)
-    → receiver_of e.step past ≡ None → AreLists setup lists past → AreLists setup lists (e ∷ past)
-lists_as_before setup e past lists run q old = record {
+pub lists_as_before : (opening : Opening) (e : Event) (past : List Event) (lists : List Known) → IsRun opening (e ∷ past)
+    → receiver_of e.step past ≡ None → AreLists opening lists past → AreLists opening lists (e ∷ past)
+lists_as_before opening e past lists run q old = record {
   count = old.count;
-  each = λ g d there. known_as_before setup e past g _ run (λ r p. absurd (none r p)) (old.each g d there);
+  each = λ g d there. known_as_before opening e past g _ run (λ r p. absurd (none r p)) (old.each g d there);
 }
   where
     none : (r : ℕ) → receiver_of e.step past ≡ Some r → ⊥
     none r p = cc
 
 -- and where one learns
-pub lists_with : (setup : Setup) (e : Event) (past : List Event) (lists : List Known) (r : ℕ) (k : Known) → IsRun setup (e ∷ past)
-    → receiver_of e.step past ≡ Some r → IsGuardian setup r → IsKnown setup r k (e ∷ past) → AreLists setup lists past
-    → AreLists setup (set lists (r - 1) k) (e ∷ past)
-lists_with setup e past lists r k run q there known old = record {
+pub lists_with : (opening : Opening) (e : Event) (past : List Event) (lists : List Known) (r : ℕ) (k : Known) → IsRun opening (e ∷ past)
+    → receiver_of e.step past ≡ Some r → IsGuardian opening r → IsKnown opening r k (e ∷ past) → AreLists opening lists past
+    → AreLists opening (set lists (r - 1) k) (e ∷ past)
+lists_with opening e past lists r k run q there known old = record {
   count = length-set lists (r - 1) k ∙ old.count;
   each = λ g d within. of g d within (g == r) refl;
 }
@@ -166,18 +167,18 @@ lists_with setup e past lists r k run q there known old = record {
     place : (g r : ℕ) → 1 ≤ g → 1 ≤ r → (g ≡ r → ⊥) → g - 1 ≢ r - 1
     place g r a b n = λ p. n (omega arith)
 
-    inside : (r : ℕ) → IsGuardian setup r → r - 1 < length lists
+    inside : (r : ℕ) → IsGuardian opening r → r - 1 < length lists
     inside r w = let c = old.count in let low = w.0 in let high = w.1 in omega arith
 
-    of : (g : ℕ) (d : Known) → IsGuardian setup g → (t : Bool) → (g == r) ≡ t → IsKnown setup g (get_or (set lists (r - 1) k) (g - 1) d) (e ∷ past)
+    of : (g : ℕ) (d : Known) → IsGuardian opening g → (t : Bool) → (g == r) ≡ t → IsKnown opening g (get_or (set lists (r - 1) k) (g - 1) d) (e ∷ past)
     of g d within true p =
         let same = eqb-true g r p in
-        subst (λ x. IsKnown setup x (get_or (set lists (r - 1) k) (x - 1) d) (e ∷ past)) (sym same)
-        (subst (λ y. IsKnown setup r y (e ∷ past)) (sym (get_or-set_same lists (r - 1) k d (inside r there))) known)
+        subst (λ x. IsKnown opening x (get_or (set lists (r - 1) k) (x - 1) d) (e ∷ past)) (sym same)
+        (subst (λ y. IsKnown opening r y (e ∷ past)) (sym (get_or-set_same lists (r - 1) k d (inside r there))) known)
     of g d within false p =
-        subst (λ y. IsKnown setup g y (e ∷ past))
+        subst (λ y. IsKnown opening g y (e ∷ past))
         (sym (get_or-set_other lists (r - 1) (g - 1) k d (place g r within.0 there.0 (λ x. clash (ap (λ y. y == r) x ∙ eqb_self r) p))))
-        (known_as_before setup e past g _ run (λ x y z. other r g p x y q z) (old.each g d within))
+        (known_as_before opening e past g _ run (λ x y z. other r g p x y q z) (old.each g d within))
 
 -- a name that is learnt once more
 pub learnt : (names : List Name) (a : Name) → has_name names a ≡ true → (b : Name) → has_name names b ≡ (has_name names b || same_name a b)
@@ -348,10 +349,10 @@ abbrev pub IsBlank : Known → Type 0
 IsBlank k = (k.aborts ≡ []) × (k.crashes.items ≡ [])
 
 -- at the start nobody knows anything
-pub blank_lists : (setup : Setup) (lists : List Known) → Each IsBlank lists → length lists ≡ length setup → AreLists setup lists []
-blank_lists setup lists blank q = record { count = q; each = λ g d there. known g _ (at lists (g - 1) d blank (inside g there)) }
+pub blank_lists : (opening : Opening) (lists : List Known) → Each IsBlank lists → length lists ≡ length opening.setup → AreLists opening lists []
+blank_lists opening lists blank q = record { count = q; each = λ g d there. known g _ (at lists (g - 1) d blank (inside g there)) }
   where
-    inside : (g : ℕ) → IsGuardian setup g → g - 1 < length lists
+    inside : (g : ℕ) → IsGuardian opening g → g - 1 < length lists
     inside g there = let low = there.0 in let high = there.1 in omega arith
 
     at : (xs : List Known) (i : ℕ) (d : Known) → Each IsBlank xs → i < length xs → IsBlank (get_or xs i d)
@@ -363,31 +364,31 @@ blank_lists setup lists blank q = record { count = q; each = λ g d there. known
     empty_count zero = refl
     empty_count (suc i) = refl
 
-    known : (g : ℕ) (k : Known) → IsBlank k → IsKnown setup g k []
+    known : (g : ℕ) (k : Known) → IsBlank k → IsKnown opening g k []
     known g k h = record {
       aborts = λ b. ap (λ names. has_name names b) h.0;
       counts = λ x there. ap (λ ns. get_or ns (x - 1) 0) h.1 ∙ empty_count (x - 1);
     }
 
 -- news without lists
-pub news_alone : (setup : Setup) (e : Event) (past : List Event) (g : ℕ) (own k : Known) (copied : List Name) → step_crashes e.step g ≡ false
-    → carried_from e.step g past ≡ None → IsKnown setup g own past → copied ≡ own.aborts → AreToldToo copied k.aborts e past g
-    → k.crashes.items ≡ own.crashes.items → IsKnown setup g k (e ∷ past)
-news_alone setup e past g own k copied up q known c told counts =
-    known_after setup e past g None k up q
+pub news_alone : (opening : Opening) (e : Event) (past : List Event) (g : ℕ) (own k : Known) (copied : List Name) → step_crashes e.step g ≡ false
+    → carried_from e.step g past ≡ None → IsKnown opening g own past → copied ≡ own.aborts → AreToldToo copied k.aborts e past g
+    → k.crashes.items ≡ own.crashes.items → IsKnown opening g k (e ∷ past)
+news_alone opening e past g own k copied up q known c told counts =
+    known_after opening e past g None k up q
     (λ b. told b
     ∙ ap (λ t. t || (tells e past g b && is_aborted b past)) (ap (λ ns. has_name ns b) c ∙ known.aborts b)
     ∙ ap (λ t. knows_abort g b past || t) (sym (or-false (tells e past g b && is_aborted b past))))
     (λ h there. ap (λ ns. counted ns h) counts ∙ known.counts h there)
 
 -- news with the lists of a sender
-pub news_from : (setup : Setup) (e : Event) (past : List Event) (g s : ℕ) (own sender k : Known) (copied middle : List Name)
-    → step_crashes e.step g ≡ false → carried_from e.step g past ≡ Some s → IsKnown setup g own past → IsKnown setup s sender past
+pub news_from : (opening : Opening) (e : Event) (past : List Event) (g s : ℕ) (own sender k : Known) (copied middle : List Name)
+    → step_crashes e.step g ≡ false → carried_from e.step g past ≡ Some s → IsKnown opening g own past → IsKnown opening s sender past
     → copied ≡ own.aborts → AreToldToo copied middle e past g → AreBoth middle sender.aborts k.aborts
-    → ((j : ℕ) → j < length setup → get_or k.crashes.items j 0 ≡ max (get_or own.crashes.items j 0) (get_or sender.crashes.items j 0))
-    → IsKnown setup g k (e ∷ past)
-news_from setup e past g s own sender k copied middle up q known sent c told both counts =
-    known_after setup e past g (Some s) k up q
+    → ((j : ℕ) → j < length opening.setup → get_or k.crashes.items j 0 ≡ max (get_or own.crashes.items j 0) (get_or sender.crashes.items j 0))
+    → IsKnown opening g k (e ∷ past)
+news_from opening e past g s own sender k copied middle up q known sent c told both counts =
+    known_after opening e past g (Some s) k up q
     (λ b. both b
     ∙ ap (λ t. t || has_name sender.aborts b)
     (told b ∙ ap (λ t. t || (tells e past g b && is_aborted b past)) (ap (λ ns. has_name ns b) c ∙ known.aborts b))
@@ -397,13 +398,13 @@ news_from setup e past g s own sender k copied middle up q known sent c told bot
     ∙ ap (λ n. max n (counted sender.crashes.items h)) (known.counts h there)
     ∙ ap (λ n. max (known_crashes g h past) n) (sent.counts h there))
   where
-    within : (h : ℕ) → 1 ≤ h → h ≤ length setup → h - 1 < length setup
+    within : (h : ℕ) → 1 ≤ h → h ≤ length opening.setup → h - 1 < length opening.setup
     within h low high = omega arith
 
 -- the entry of a guardian
-pub known_at : (setup : Setup) (past : List Event) (lists : List Known) (g : ℕ) (k : Known) → AreLists setup lists past → IsGuardian setup g
-    → k ≡ get_or lists (g - 1) k → IsKnown setup g k past
-known_at setup past lists g k h there q = subst (λ x. IsKnown setup g x past) (sym q) (h.each g k there)
+pub known_at : (opening : Opening) (past : List Event) (lists : List Known) (g : ℕ) (k : Known) → AreLists opening lists past → IsGuardian opening g
+    → k ≡ get_or lists (g - 1) k → IsKnown opening g k past
+known_at opening past lists g k h there q = subst (λ x. IsKnown opening g x past) (sym q) (h.each g k there)
 
 -- what is no crash crashes nobody
 pub no_crash : (step : Step) (g : ℕ) → ((h : ℕ) → step ≡ Crash h → ⊥) → step_crashes step g ≡ false
@@ -456,15 +457,15 @@ any_within p (suc n) i lt h = any_next p n ∙ of (i == n) refl (λ below. any_w
     of false q before = ap (λ t. t || p (suc n)) (before (smaller q))
 
 -- what is known of an orphan, by the tables
-pub known_orphan : (setup : Setup) (past : List Event) (rows : List Row) (g : ℕ) (k : Known) (a : Name) → AreDependencies rows past
-    → IsKnown setup g k past
+pub known_orphan : (opening : Opening) (past : List Event) (rows : List Row) (g : ℕ) (k : Known) (a : Name) → AreDependencies rows past
+    → IsKnown opening g k past
     → (list_any (λ c. has_name k.aborts c) (ancestors a)
-    || list_any (λ h. is_below (least_in rows a h) (counted k.crashes.items h)) (guardians_of setup)) ≡ is_known_orphan setup a g past
-known_orphan setup past rows g k a rows_said known =
-    ap (λ t. t || list_any (λ h. is_below (least_in rows a h) (counted k.crashes.items h)) (guardians_of setup))
+    || list_any (λ h. is_below (least_in rows a h) (counted k.crashes.items h)) (guardians_of opening)) ≡ is_known_orphan opening a g past
+known_orphan opening past rows g k a rows_said known =
+    ap (λ t. t || list_any (λ h. is_below (least_in rows a h) (counted k.crashes.items h)) (guardians_of opening))
     (any_agrees (λ c. has_name k.aborts c) (λ c. knows_abort g c past) known.aborts (ancestors a))
     ∙ ap (λ t. list_any (λ c. knows_abort g c past) (ancestors a) || t)
     (any_agrees_up_to (λ h. is_below (least_in rows a h) (counted k.crashes.items h))
-    (λ h. is_below (dependency a h past) (known_crashes g h past)) (length setup)
+    (λ h. is_below (dependency a h past) (known_crashes g h past)) (length opening.setup)
     (λ h low high. ap (λ d. is_below d (counted k.crashes.items h)) (rows_said a h)
     ∙ ap (λ n. is_below (dependency a h past) n) (known.counts h (low, high))))

@@ -18,12 +18,13 @@ use Rattle.run_model.specs.Actions.{begins, crashes, home_in, home_of, names_beg
 use Rattle.run_model.specs.Answers.{outcome}
 use Rattle.run_model.specs.Dependencies.{dependency, dependency_after, inherited, merged, own_entry}
 use Rattle.run_model.specs.Refusals.{checks}
-use Rattle.run_model.specs.Replay.{Setup}
+use Rattle.run_model.specs.Openings.{Opening}
 use Rattle.run_model.specs.Runs.{IsRun}
 use Rattle.run_laws.proofs.Depends.{dependency_next}
-use Rattle.run_laws.proofs.Accepted.{AllFalse, answered, checked}
+use Rattle.run_laws.proofs.Accepted.{NoneApplies, answered, checked}
 use Rattle.run_laws.proofs.Names.{clash, eqb_self, same_name_true}
 use Rattle.plain_tables.specs.declared.dependencies.Row.{Row}
+use Rattle.run_model.specs.declared.answer.Refusal.TheVariants as why
 use Rattle.plain_tables.specs.Parts.{AreDependencies, AreNewRows, AreRowsBegun, AreRowsOfCommit, IsRowBegun, least_in, newest_row, said_or}
 
 -- the newer rows count
@@ -121,19 +122,19 @@ own_same home g past = of (home == g) refl
     of false q = refl
 
 -- what begins something is no commit
-begins_no_commit : (setup : Setup) (e : Event) (past : List Event) (names : List Name) → IsRun setup (e ∷ past) → e.answer ≡ Began names
+begins_no_commit : (opening : Opening) (e : Event) (past : List Event) (names : List Name) → IsRun opening (e ∷ past) → e.answer ≡ Began names
     → (a : Name) (before : Name → Option ℕ) (own : Option ℕ) → dependency_after false e.step a before own ≡ before a
-begins_no_commit setup e past names run q a before own = of e.step (sym (answered setup e past run) ∙ q)
+begins_no_commit opening e past names run q a before own = of e.step (sym (answered opening e past run) ∙ q)
   where
-    of : (step : Step) → outcome setup step past ≡ Began names → dependency_after false step a before own ≡ before a
+    of : (step : Step) → outcome opening step past ≡ Began names → dependency_after false step a before own ≡ before a
     of (Commit c) h = cc
     of _ h = refl
 
 -- the rows of the actions that an event begins
-pub begun_rows : (setup : Setup) (e : Event) (past : List Event) (rows added : List Row) (names : List Name) (home present : ℕ)
-    → IsRun setup (e ∷ past) → AreDependencies rows past → e.answer ≡ Began names → home ≡ home_in e.step (λ b. home_of b past)
+pub begun_rows : (opening : Opening) (e : Event) (past : List Event) (rows added : List Row) (names : List Name) (home present : ℕ)
+    → IsRun opening (e ∷ past) → AreDependencies rows past → e.answer ≡ Began names → home ≡ home_in e.step (λ b. home_of b past)
     → present ≡ crashes home past → AreRowsBegun rows names home present added → AreNewRows added e past
-begun_rows setup e past rows added names home present run old q at n z a g =
+begun_rows opening e past rows added names home present run old q at n z a g =
     begun_found rows home present names added z a g (dependency a g past)
     ∙ of (has_name names a) (ap (λ x. has_name (names_begun x) a) q)
   where
@@ -152,23 +153,23 @@ begun_rows setup e past rows added names home present run old q at n z a g =
         ∙ ap (λ d. lesser (inherited (is_top a) a before) d) (own_now h)
         ∙ sym (dependency_next e past a g true h)
     of false h =
-        sym (begins_no_commit setup e past names run q a before (own_entry (home_of a (e ∷ past)) g (crashes g past)))
+        sym (begins_no_commit opening e past names run q a before (own_entry (home_of a (e ∷ past)) g (crashes g past)))
         ∙ sym (dependency_next e past a g false h)
 
 -- the row that a commit adds
-pub commit_rows : (setup : Setup) (e : Event) (past : List Event) (rows added : List Row) (c : Name) → IsRun setup (e ∷ past)
+pub commit_rows : (opening : Opening) (e : Event) (past : List Event) (rows added : List Row) (c : Name) → IsRun opening (e ∷ past)
     → AreDependencies rows past → e.step ≡ Commit c → AreRowsOfCommit rows c added → AreNewRows added e past
-commit_rows setup e past rows [] c run old q z a g =
-    let f = subst (λ s. AllFalse (checks setup s past)) q (checked setup e past run) in
-    absurd (clash z f.1.1.1.1.1.0)
-commit_rows setup e past rows (r ∷ s ∷ more) c run old q z a g = absurd z
-commit_rows setup e past rows (r ∷ []) c run old q z a g = of (same_name (parent_of c) a) refl
+commit_rows opening e past rows [] c run old q z a g =
+    let f = subst (λ s. NoneApplies (checks opening s past)) q (checked opening e past run) in
+    absurd (clash z (f why.NotSub))
+commit_rows opening e past rows (r ∷ s ∷ more) c run old q z a g = absurd z
+commit_rows opening e past rows (r ∷ []) c run old q z a g = of (same_name (parent_of c) a) refl
   where
     before : Name → Option ℕ
     before b = dependency b g past
 
     begins_nothing : begins e a ≡ false
-    begins_nothing = ap (λ x. has_name (names_begun x) a) (answered setup e past run ∙ ap (λ s. outcome setup s past) q)
+    begins_nothing = ap (λ x. has_name (names_begun x) a) (answered opening e past run ∙ ap (λ s. outcome opening s past) q)
 
     after : dependency a g (e ∷ past) ≡ merged (same_name (parent_of c) a) c a before
     after =

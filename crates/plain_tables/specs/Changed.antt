@@ -4,7 +4,7 @@ use Rattle.run_model.specs.Keeping.{Performed}
 use Rattle.plain_tables.specs.declared.knowledge.Known.{Known}
 use Rattle.plain_tables.specs.declared.keeping.KeptChange.{KeptChange}
 use Rattle.plain_tables.specs.declared.keeping.KeptChange.TheVariants.{Same, Granted, Left}
-use Rattle.run_model.specs.Replay.{Setup}
+use Rattle.run_model.specs.Openings.{Opening}
 use Rattle.plain_tables.specs.Parts.{IsGuardian}
 
 -- the kept operations after the change
@@ -19,6 +19,6 @@ lists_after lists None = lists
 lists_after lists (Some (g, k)) = slice_set lists (g - 1) k
 
 -- whoever learns is a guardian of the setup
-abbrev pub IsReceiver : Setup → Option (ℕ × Known) → Type 0
-IsReceiver setup None = Unit {0}
-IsReceiver setup (Some (g, k)) = IsGuardian setup g
+abbrev pub IsReceiver : Opening → Option (ℕ × Known) → Type 0
+IsReceiver opening None = Unit {0}
+IsReceiver opening (Some (g, k)) = IsGuardian opening g

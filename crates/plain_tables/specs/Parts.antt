@@ -12,13 +12,13 @@ use Rattle.run_model.specs.Telling.{tells}
 use Rattle.run_model.specs.Dependencies.{dependency, inherited, own_entry}
 use Rattle.run_model.specs.Keeping.{Performed, performed, is_kept}
 use Rattle.run_model.specs.Lists.{knows_abort, known_crashes}
-use Rattle.run_model.specs.Replay.{Setup}
+use Rattle.run_model.specs.Openings.{Opening}
 use Rattle.plain_tables.specs.declared.dependencies.Row.{Row}
 use Rattle.plain_tables.specs.declared.knowledge.Known.{Known}
 
 -- the guardians of a setup are numbered from 1
-abbrev pub IsGuardian : Setup → ℕ → Type 0
-IsGuardian setup g = (1 ≤ g) × (g ≤ length setup)
+abbrev pub IsGuardian : Opening → ℕ → Type 0
+IsGuardian opening g = (1 ≤ g) × (g ≤ length opening.setup)
 
 -- the last of the rows of an action
 abbrev pub newest_row : List Row → Name → Option Row
@@ -72,14 +72,14 @@ abbrev pub counted : List ℕ → ℕ → ℕ
 counted counts h = slice_index counts (h - 1)
 
 -- what guardian g knows
-pub record IsKnown (setup : Setup) (g : ℕ) (k : Known) (past : List Event) : Type 0 where
+pub record IsKnown (opening : Opening) (g : ℕ) (k : Known) (past : List Event) : Type 0 where
   pub aborts : (b : Name) → has_name k.aborts b ≡ knows_abort g b past
-  pub counts : (h : ℕ) → IsGuardian setup h → counted k.crashes.items h ≡ known_crashes g h past
+  pub counts : (h : ℕ) → IsGuardian opening h → counted k.crashes.items h ≡ known_crashes g h past
 
 -- one entry for each guardian, in their order
-pub record AreLists (setup : Setup) (lists : List Known) (past : List Event) : Type 0 where
-  pub count : length lists ≡ length setup
-  pub each : (g : ℕ) (d : Known) → IsGuardian setup g → IsKnown setup g (slice_index_or lists (g - 1) d) past
+pub record AreLists (opening : Opening) (lists : List Known) (past : List Event) : Type 0 where
+  pub count : length lists ≡ length opening.setup
+  pub each : (g : ℕ) (d : Known) → IsGuardian opening g → IsKnown opening g (slice_index_or lists (g - 1) d) past
 
 -- the names and those that the event tells the guardian to have aborted
 abbrev pub AreToldToo : List Name → List Name → Event → List Event → ℕ → Type 0

@@ -7,12 +7,12 @@ ghost use Rattle.action_names.specs.Names.{Name, is_top, parent_of};
 ghost use Rattle.action_names.specs.Deps.{lesser};
 ghost use Rattle.run_model.specs.Actions.{crashes, home_in, home_of};
 ghost use Rattle.run_model.specs.Dependencies.{inherited, own_entry};
-ghost use Rattle.run_model.specs.Replay.{Setup};
+ghost use Rattle.run_model.specs.Openings.{opening_in};
 ghost use Rattle.run_model.specs.Runs.{IsRun};
 ghost use Rattle.plain_tables.specs.Parts.{newest_row, least_in, AreDependencies, AreNewRows, IsRowBegun, AreRowsBegun, AreRowsOfCommit};
 
 use history_facts::actions;
-use run_model::{Answer, Deps, Event, History, Name, Names, Setup, Step};
+use run_model::{Answer, Deps, Event, History, Name, Names, Opening, Step};
 use std::alloc::{AllocError, Global};
 
 /// On what an action depends since some event. Of an action's rows the newest counts.
@@ -33,12 +33,12 @@ pub fn least_in(rows: &[Row], action: &Name, guardian: u32) -> Option<u64>
 pub fn new_rows(
     alloc: Global,
     rows: &[Row],
-    setup: &Setup,
+    opening: &Opening,
     history: &History,
     event: &Event,
 ) -> Result<Vec<Row>, AllocError>
     requires rows { AreDependencies rows.now history.now }
-    requires run { IsRun setup.now (event.now ∷ history.now) }
+    requires run { IsRun (opening_in opening.now) (event.now ∷ history.now) }
     ensures { IfOk result (λ added. AreNewRows added.items event.now history.now) }
 {
     match (&event.step, &event.answer) {

@@ -195,7 +195,7 @@ fn outlives_crash(history: &History, operation: &Performed, above: &[Name]) -> b
     let top = &above[0];
     match operation.operation.class() {
         Class::Read => false,
-        Class::Write => telling::prepared_after(
+        Class::Write | Class::Add => telling::prepared_after(
             history,
             operation.number,
             operation.object.guardian,

@@ -3,12 +3,13 @@ ghost use Rattle.std.specs.Prelude.{◌≡◌, ◌∷◌, [], ◌-◌, ◌≤◌
 ghost use Rattle.std.specs.List.{list_any};
 ghost use Rattle.action_names.specs.Names.{Name, has_name, same_name};
 ghost use Rattle.run_model.specs.Actions.{step_crashes};
+ghost use Rattle.run_model.specs.Openings.{opening_in};
 ghost use Rattle.run_model.specs.Runs.{IsRun};
 ghost use Rattle.plain_tables.specs.Parts.{IsGuardian, IsKnown, AreLists, AreToldToo, AreBoth, counted, receiver_of};
 ghost use Rattle.plain_tables.specs.Changed.{lists_after, IsReceiver};
 
 use history_facts::{actions, telling};
-use run_model::{Event, History, Name, Names, Setup, Step};
+use run_model::{Event, History, Name, Names, Opening, Step};
 use std::alloc::{AllocError, Global};
 
 /// What one guardian knows: which actions aborted, and how often each guardian crashed, in the order of the guardians. A number that
@@ -20,10 +21,10 @@ pub struct Known {
 }
 
 /// What the guardians of the setup know at the start: nothing.
-pub fn new_lists(alloc: Global, setup: &Setup) -> Result<Vec<Known>, AllocError>
-    ensures { IfOk result (λ lists. AreLists setup.now lists.items []) }
+pub fn new_lists(alloc: Global, opening: &Opening) -> Result<Vec<Known>, AllocError>
+    ensures { IfOk result (λ lists. AreLists (opening_in opening.now) lists.items []) }
 {
-    let guardians = setup.guardians();
+    let guardians = opening.setup().guardians();
     let mut lists = Vec::with_capacity(alloc, guardians)?;
     for _guardian in 0..guardians {
         lists.push(Known {
@@ -67,21 +68,21 @@ impl Known {
 pub fn knowledge_change(
     alloc: Global,
     lists: &[Known],
-    setup: &Setup,
+    opening: &Opening,
     history: &History,
     event: &Event,
 ) -> Result<Option<(u32, Known)>, AllocError>
-    requires lists { AreLists setup.now lists.now history.now }
-    requires run { IsRun setup.now (event.now ∷ history.now) }
-    ensures lists { IfOk result (λ change. AreLists setup.now (lists_after lists.now change) (event.now ∷ history.now)) }
-    ensures receiver { IfOk result (λ change. IsReceiver setup.now change) }
+    requires lists { AreLists (opening_in opening.now) lists.now history.now }
+    requires run { IsRun (opening_in opening.now) (event.now ∷ history.now) }
+    ensures lists { IfOk result (λ change. AreLists (opening_in opening.now) (lists_after lists.now change) (event.now ∷ history.now)) }
+    ensures receiver { IfOk result (λ change. IsReceiver (opening_in opening.now) change) }
 {
     let Some(receiver) = receiver_of(history, &event.step)? else {
         return Ok(None);
     };
     let known = match &event.step {
-        Step::Crash(_) => known_after_crash(alloc, setup, history, event, receiver)?,
-        _ => known_after_news(alloc, lists, setup, history, event, receiver)?,
+        Step::Crash(_) => known_after_crash(alloc, opening, history, event, receiver)?,
+        _ => known_after_news(alloc, lists, opening, history, event, receiver)?,
     };
     Ok(Some((receiver, known)))
 }
@@ -104,15 +105,15 @@ fn receiver_of(history: &History, step: &Step) -> Result<Option<u32>, AllocError
 // A crash loses all but the number of the guardian's own crashes, now one more.
 fn known_after_crash(
     alloc: Global,
-    setup: &Setup,
+    opening: &Opening,
     history: &History,
     event: &Event,
     crashed: u32,
 ) -> Result<Known, AllocError>
-    requires run { IsRun setup.now (event.now ∷ history.now) }
-    requires guardian { IsGuardian setup.now crashed }
+    requires run { IsRun (opening_in opening.now) (event.now ∷ history.now) }
+    requires guardian { IsGuardian (opening_in opening.now) crashed }
     requires crash { step_crashes event.now.step crashed ≡ true }
-    ensures { IfOk result (λ known. IsKnown setup.now crashed known (event.now ∷ history.now)) }
+    ensures { IfOk result (λ known. IsKnown (opening_in opening.now) crashed known (event.now ∷ history.now)) }
 {
     prove!(history.events().len() < usize::MAX);
     let mut crashes = vec![in alloc; 0; crashed as usize - 1]?;
@@ -127,16 +128,16 @@ fn known_after_crash(
 fn known_after_news(
     alloc: Global,
     lists: &[Known],
-    setup: &Setup,
+    opening: &Opening,
     history: &History,
     event: &Event,
     receiver: u32,
 ) -> Result<Known, AllocError>
-    requires lists { AreLists setup.now lists.now history.now }
-    requires run { IsRun setup.now (event.now ∷ history.now) }
-    requires guardian { IsGuardian setup.now receiver }
+    requires lists { AreLists (opening_in opening.now) lists.now history.now }
+    requires run { IsRun (opening_in opening.now) (event.now ∷ history.now) }
+    requires guardian { IsGuardian (opening_in opening.now) receiver }
     requires no_crash { step_crashes event.now.step receiver ≡ false }
-    ensures { IfOk result (λ known. IsKnown setup.now receiver known (event.now ∷ history.now)) }
+    ensures { IfOk result (λ known. IsKnown (opening_in opening.now) receiver known (event.now ∷ history.now)) }
 {
     let own = known_by(lists, receiver);
     let mut aborts = own.aborts.copy()?;
@@ -151,7 +152,12 @@ fn known_after_news(
     learn_all(&mut aborts, &sender.aborts)?;
     Ok(Known {
         aborts,
-        crashes: greater_counts(alloc, setup.guardians(), &own.crashes, &sender.crashes)?,
+        crashes: greater_counts(
+            alloc,
+            opening.setup().guardians(),
+            &own.crashes,
+            &sender.crashes,
+        )?,
     })
 }
 

@@ -4,6 +4,7 @@ ghost use Rattle.std.specs.List.{list_any};
 ghost use Rattle.run_model.specs.Dependencies.{dependency};
 ghost use Rattle.run_model.specs.Keeping.{performed, is_kept};
 ghost use Rattle.run_model.specs.Lists.{knows_abort, known_crashes, is_known_orphan, is_below, up_to};
+ghost use Rattle.run_model.specs.Openings.{opening_in};
 ghost use Rattle.run_model.specs.Runs.{IsRun};
 ghost use Rattle.limits.specs.Limits.{max_guardians};
 ghost use Rattle.plain_tables.specs.Parts.{IsGuardian, least_in, counted};
@@ -13,7 +14,7 @@ use crate::dependencies::{self, Row};
 use crate::keeping::{self, KeptChange, Performed};
 use crate::knowledge::{self, Known};
 use history_facts::actions;
-use run_model::{Event, History, Name, Setup};
+use run_model::{Event, History, Name, Opening};
 use std::alloc::{AllocError, Global};
 
 /// What is kept of a history. That it is as the definitions have it at a history, `IsTables` says.
@@ -34,38 +35,38 @@ pub struct Changes {
 
 impl Tables {
     /// The tables of a history in which nothing happened.
-    pub fn new(alloc: Global, setup: &Setup) -> Result<Tables, AllocError>
-        ensures { IfOk result (λ tables. IsTables setup.now tables []) }
+    pub fn new(alloc: Global, opening: &Opening) -> Result<Tables, AllocError>
+        ensures { IfOk result (λ tables. IsTables (opening_in opening.now) tables []) }
     {
         Ok(Tables {
             dependencies: Vec::new(alloc),
             kept: Vec::new(alloc),
-            lists: knowledge::new_lists(alloc, setup)?,
+            lists: knowledge::new_lists(alloc, opening)?,
         })
     }
 
     /// What the event changes. The tables say what they said, also where memory runs out, and have room for the changes.
     pub fn changes(
         &mut self,
-        setup: &Setup,
+        opening: &Opening,
         history: &History,
         event: &Event,
     ) -> Result<Changes, AllocError>
-        requires tables { IsTables setup.now self.old history.now }
-        requires run { IsRun setup.now (event.now ∷ history.now) }
-        ensures same { IsTables setup.now self.new history.now }
-        ensures changes { IfOk result (λ changes. AreChanges setup.now self.new changes (event.now ∷ history.now)) }
+        requires tables { IsTables (opening_in opening.now) self.old history.now }
+        requires run { IsRun (opening_in opening.now) (event.now ∷ history.now) }
+        ensures same { IsTables (opening_in opening.now) self.new history.now }
+        ensures changes { IfOk result (λ changes. AreChanges (opening_in opening.now) self.new changes (event.now ∷ history.now)) }
     {
         let alloc = *self.kept.allocator();
         let dependencies = dependencies::new_rows(
             alloc,
             &self.dependencies,
-            setup,
+            opening,
             history,
             event,
         )?;
         let kept = keeping::kept_change(alloc, &self.kept, history, event)?;
-        let lists = knowledge::knowledge_change(alloc, &self.lists, setup, history, event)?;
+        let lists = knowledge::knowledge_change(alloc, &self.lists, opening, history, event)?;
         self.dependencies.reserve(dependencies.len())?;
         self.kept.reserve(1)?;
         Ok(Changes {
@@ -76,9 +77,9 @@ impl Tables {
     }
 
     /// Puts the changes in, once their event stands in the history. This takes no memory.
-    pub fn install(&mut self, setup: &Setup, history: &History, changes: Changes)
-        requires { AreChanges setup.now self.old changes history.now }
-        ensures { IsTables setup.now self.new history.now }
+    pub fn install(&mut self, opening: &Opening, history: &History, changes: Changes)
+        requires { AreChanges (opening_in opening.now) self.old changes history.now }
+        ensures { IsTables (opening_in opening.now) self.new history.now }
     {
         let Changes {
             mut dependencies,
@@ -99,20 +100,20 @@ impl Tables {
     /// The least incarnation of the guardian on which the action depends, if it depends on the guardian.
     pub fn dependency(
         &self,
-        setup: &Setup,
+        opening: &Opening,
         history: &History,
         action: &Name,
         guardian: u32,
     ) -> Option<u64>
-        requires { IsTables setup.now self.now history.now }
+        requires { IsTables (opening_in opening.now) self.now history.now }
         ensures { result ≡ dependency action.now guardian history.now }
     {
         dependencies::least_in(&self.dependencies, action, guardian)
     }
 
     /// The granted operations that are kept, the oldest first.
-    pub fn kept_operations(&self, setup: &Setup, history: &History) -> &[Performed]
-        requires { IsTables setup.now self.now history.now }
+    pub fn kept_operations(&self, opening: &Opening, history: &History) -> &[Performed]
+        requires { IsTables (opening_in opening.now) self.now history.now }
         ensures { result.now ≡ reverse (filter (λ o. is_kept o history.now) (performed history.now)) }
     {
         &self.kept
@@ -121,13 +122,13 @@ impl Tables {
     /// Whether a guardian of the setup knows that the action aborted.
     pub fn knows_abort(
         &self,
-        setup: &Setup,
+        opening: &Opening,
         history: &History,
         guardian: u32,
         action: &Name,
     ) -> bool
-        requires { IsTables setup.now self.now history.now }
-        ensures { IsGuardian setup.now guardian → result ≡ knows_abort guardian action.now history.now }
+        requires { IsTables (opening_in opening.now) self.now history.now }
+        ensures { IsGuardian (opening_in opening.now) guardian → result ≡ knows_abort guardian action.now history.now }
     {
         match self.known_by(guardian) {
             Some(known) => known.has_abort(action),
@@ -136,9 +137,9 @@ impl Tables {
     }
 
     /// How many crashes of the other guardian a guardian knows of, both of the setup.
-    pub fn known_crashes(&self, setup: &Setup, history: &History, guardian: u32, of: u32) -> u64
-        requires { IsTables setup.now self.now history.now }
-        ensures { IsGuardian setup.now guardian → IsGuardian setup.now of → result ≡ known_crashes guardian of history.now }
+    pub fn known_crashes(&self, opening: &Opening, history: &History, guardian: u32, of: u32) -> u64
+        requires { IsTables (opening_in opening.now) self.now history.now }
+        ensures { IsGuardian (opening_in opening.now) guardian → IsGuardian (opening_in opening.now) of → result ≡ known_crashes guardian of history.now }
     {
         match self.known_by(guardian) {
             Some(known) if of > 0 => known.crashes_of(of),
@@ -150,13 +151,13 @@ impl Tables {
     /// since an incarnation on which the action depends.
     pub fn is_known_orphan(
         &self,
-        setup: &Setup,
+        opening: &Opening,
         history: &History,
         action: &Name,
         guardian: u32,
     ) -> Result<bool, AllocError>
-        requires { IsTables setup.now self.now history.now }
-        ensures { IsGuardian setup.now guardian → IfOk result (λ known. known ≡ is_known_orphan setup.now action.now guardian history.now) }
+        requires { IsTables (opening_in opening.now) self.now history.now }
+        ensures { IsGuardian (opening_in opening.now) guardian → IfOk result (λ known. known ≡ is_known_orphan (opening_in opening.now) action.now guardian history.now) }
     {
         let above = actions::ancestors(*self.kept.allocator(), action)?;
         let Some(known) = self.known_by(guardian) else {
@@ -165,7 +166,12 @@ impl Tables {
         if known.has_any_abort(above.as_slice()) {
             return Ok(true);
         }
-        Ok(is_outdated(&self.dependencies, known, action, setup.guardians()))
+        Ok(is_outdated(
+            &self.dependencies,
+            known,
+            action,
+            opening.setup().guardians(),
+        ))
     }
 
     // What the guardian knows, if it is one of the setup.

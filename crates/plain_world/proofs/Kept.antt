@@ -18,10 +18,12 @@ use Rattle.run_model.specs.declared.step.Step.{Step}
 use Rattle.run_model.specs.declared.step.Step.TheVariants.{Op}
 use Rattle.run_model.specs.Keeping.{Performed, is_kept, kept_on, performed, same_object}
 use Rattle.run_model.specs.Refusals.{checks}
-use Rattle.run_model.specs.Replay.{Setup, left_of, opening}
+use Rattle.run_model.specs.Replay.{left_of}
+use Rattle.run_model.specs.Openings.{Opening, first_content}
 use Rattle.run_model.specs.Runs.{IsRun}
 use Rattle.run_model.specs.Telling.{holder_of}
-use Rattle.run_laws.proofs.Accepted.{AllFalse, checked}
+use Rattle.run_laws.proofs.Accepted.{NoneApplies, checked}
+use Rattle.run_model.specs.declared.answer.Refusal.TheVariants as why
 use Rattle.run_laws.proofs.Each.{Each}
 use Rattle.run_laws.proofs.Exchanged.{same_object_true}
 use Rattle.run_laws.proofs.Granted.{grant_cases, grant_parts}
@@ -180,43 +182,43 @@ next_unheld_known x past c content os i o all lt is same left =
     ap (λ k. knows k o.operation) left ∙ left_knows c (filter p before) o.operation (some_known p c before q.1) ∙ q.0
 
 -- what was granted in a run is known
-granted_known : (setup : Setup) (past : List Event) → IsRun setup past
-    → Each (λ o. knows (opening setup o.object) o.operation ≡ true) (performed past)
-granted_known setup [] r = tt
-granted_known setup (e ∷ past) r =
-    let Q : List Performed → Type 0 = λ os. Each (λ o. knows (opening setup o.object) o.operation ≡ true) os in
-    let rest : Q (performed past) = granted_known setup past r.2 in
+granted_known : (opening : Opening) (past : List Event) → IsRun opening past
+    → Each (λ o. knows (first_content opening o.object) o.operation ≡ true) (performed past)
+granted_known opening [] r = tt
+granted_known opening (e ∷ past) r =
+    let Q : List Performed → Type 0 = λ os. Each (λ o. knows (first_content opening o.object) o.operation ≡ true) os in
+    let rest : Q (performed past) = granted_known opening past r.2 in
     elim (grant_cases e past) [
       | inl h ↦ subst Q (sym h) rest
       | inr h ↦
-          let P : Step → Type 0 = λ s. AllFalse (checks setup s past) in
-          let f : P (Op h.0.action h.0.object h.0.operation) = subst P (grant_parts h.0 e past h.2).0 (checked setup e past r) in
-          subst Q (sym h.1) (not-false _ f.1.1.1.1.1.1.1.1.0, rest)
+          let P : Step → Type 0 = λ s. NoneApplies (checks opening s past) in
+          let f : P (Op h.0.action h.0.object h.0.operation) = subst P (grant_parts h.0 e past h.2).0 (checked opening e past r) in
+          subst Q (sym h.1) (not-false _ (f why.BadOp), rest)
     ]
 
 -- one more among those that the object knows
-known_more : (setup : Setup) (x : ObjectId) (t same : Bool) (o : Performed) (others : List Performed) → same_object o.object x ≡ same
-    → knows (opening setup o.object) o.operation ≡ true → list_all (λ p. knows (opening setup x) p.operation) others ≡ true
-    → list_all (λ p. knows (opening setup x) p.operation) (cond (same_object o.object x && t) (o ∷ others) others) ≡ true
-known_more setup x t false o others k own rest =
-    ap (λ s. list_all (λ p. knows (opening setup x) p.operation) (cond (s && t) (o ∷ others) others)) k ∙ rest
-known_more setup x false true o others k own rest =
-    ap (λ s. list_all (λ p. knows (opening setup x) p.operation) (cond (s && false) (o ∷ others) others)) k ∙ rest
-known_more setup x true true o others k own rest =
-    ap (λ s. list_all (λ p. knows (opening setup x) p.operation) (cond (s && true) (o ∷ others) others)) k
-    ∙ ap (λ s. s && list_all (λ p. knows (opening setup x) p.operation) others)
-    (ap (λ y. knows (opening setup y) o.operation) (sym (same_object_true o.object x k)) ∙ own)
+known_more : (opening : Opening) (x : ObjectId) (t same : Bool) (o : Performed) (others : List Performed) → same_object o.object x ≡ same
+    → knows (first_content opening o.object) o.operation ≡ true → list_all (λ p. knows (first_content opening x) p.operation) others ≡ true
+    → list_all (λ p. knows (first_content opening x) p.operation) (cond (same_object o.object x && t) (o ∷ others) others) ≡ true
+known_more opening x t false o others k own rest =
+    ap (λ s. list_all (λ p. knows (first_content opening x) p.operation) (cond (s && t) (o ∷ others) others)) k ∙ rest
+known_more opening x false true o others k own rest =
+    ap (λ s. list_all (λ p. knows (first_content opening x) p.operation) (cond (s && false) (o ∷ others) others)) k ∙ rest
+known_more opening x true true o others k own rest =
+    ap (λ s. list_all (λ p. knows (first_content opening x) p.operation) (cond (s && true) (o ∷ others) others)) k
+    ∙ ap (λ s. s && list_all (λ p. knows (first_content opening x) p.operation) others)
+    (ap (λ y. knows (first_content opening y) o.operation) (sym (same_object_true o.object x k)) ∙ own)
     ∙ rest
 
-known_among : (setup : Setup) (x : ObjectId) (q : Performed → Bool) (os : List Performed)
-    → Each (λ o. knows (opening setup o.object) o.operation ≡ true) os
-    → list_all (λ o. knows (opening setup x) o.operation) (filter (λ o. same_object o.object x && q o) os) ≡ true
-known_among setup x q [] h = refl
-known_among setup x q (o ∷ os) h =
-    known_more setup x (q o) (same_object o.object x) o (filter (λ p. same_object p.object x && q p) os) refl h.0
-    (known_among setup x q os h.1)
+known_among : (opening : Opening) (x : ObjectId) (q : Performed → Bool) (os : List Performed)
+    → Each (λ o. knows (first_content opening o.object) o.operation ≡ true) os
+    → list_all (λ o. knows (first_content opening x) o.operation) (filter (λ o. same_object o.object x && q o) os) ≡ true
+known_among opening x q [] h = refl
+known_among opening x q (o ∷ os) h =
+    known_more opening x (q o) (same_object o.object x) o (filter (λ p. same_object p.object x && q p) os) refl h.0
+    (known_among opening x q os h.1)
 
 -- an object knows all its kept operations
-pub kept_known : (setup : Setup) (past : List Event) (x : ObjectId) → IsRun setup past
-    → list_all (λ o. knows (opening setup x) o.operation) (kept_on x past) ≡ true
-kept_known setup past x r = known_among setup x (λ o. is_kept o past) (performed past) (granted_known setup past r)
+pub kept_known : (opening : Opening) (past : List Event) (x : ObjectId) → IsRun opening past
+    → list_all (λ o. knows (first_content opening x) o.operation) (kept_on x past) ≡ true
+kept_known opening past x r = known_among opening x (λ o. is_kept o past) (performed past) (granted_known opening past r)

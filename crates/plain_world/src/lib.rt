@@ -9,5 +9,5 @@ mod results;
 mod view;
 mod world;
 
-pub use run_model::{Answer, Event, History, Setup, Step};
+pub use run_model::{Answer, Event, History, Opening, Setup, Step};
 pub use world::PlainWorld;

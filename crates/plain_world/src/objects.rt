@@ -4,7 +4,8 @@ ghost use Rattle.std.specs.List.{insert, list_any};
 ghost use Rattle.action_names.specs.Names.{insert_name};
 ghost use Rattle.atomic_types.specs.Operations.{conflicts};
 ghost use Rattle.run_model.specs.Keeping.{blockers, kept_on, same_object};
-ghost use Rattle.run_model.specs.Replay.{opening, objects_at, left_of};
+ghost use Rattle.run_model.specs.Openings.{first_content, objects_at, opening_in};
+ghost use Rattle.run_model.specs.Replay.{left_of};
 ghost use Rattle.run_model.specs.Answers.{is_concerned};
 ghost use Rattle.run_model.specs.Versions.{base_of};
 ghost use Rattle.plain_world.specs.Kept.{those_on, any_on, all_known, holders, unheld_on, with_holder};
@@ -18,7 +19,6 @@ use history_facts::telling::holder_of;
 use plain_tables::Performed;
 use run_model::{Content, History, ObjectId, Op};
 use std::alloc::{AllocError, Global};
-use step_answers::opening;
 
 /// The names for which an operation of the action on the object waits.
 pub fn blockers(
@@ -27,10 +27,10 @@ pub fn blockers(
     object: ObjectId,
     operation: &Op,
 ) -> Result<Names, AllocError>
-    requires { IsPlain view.now.setup.now view.now.tables.now view.now.history.now }
+    requires { IsPlain (opening_in view.now.opening.now) view.now.tables.now view.now.history.now }
     ensures { IfOk result (λ names. names ≡ blockers name.now object operation.now view.now.history.now) }
 {
-    let kept = view.tables.kept_operations(view.setup, view.history);
+    let kept = view.tables.kept_operations(view.opening, view.history);
     holders(view.alloc, view.history, kept, name, object, operation)
 }
 
@@ -114,29 +114,27 @@ fn place_for(names: &[Name], name: &Name) -> Option<usize>
 
 /// What the kept operations on the object leave of it.
 pub fn content_left(view: &View<'_>, object: ObjectId) -> Result<Content, AllocError>
-    requires plain { IsPlain view.now.setup.now view.now.tables.now view.now.history.now }
+    requires plain { IsPlain (opening_in view.now.opening.now) view.now.tables.now view.now.history.now }
     requires guardian { 1 ≤ object.guardian }
     requires number { 1 ≤ object.number }
-    requires there { object.number ≤ length (objects_at view.now.setup.now object.guardian) }
-    ensures { IfOk result (λ content. content ≡ left_of (opening view.now.setup.now object) (kept_on object view.now.history.now)) }
+    requires there { object.number ≤ length (objects_at view.now.opening.now.setup object.guardian) }
+    ensures { IfOk result (λ content. content ≡ left_of (first_content (opening_in view.now.opening.now) object) (kept_on object view.now.history.now)) }
 {
-    let Some(content) = opening(view.setup, object) else {
-        unreachable!()
-    };
+    let content = view.opening.first_content(object)?;
     replay(
         content,
-        view.tables.kept_operations(view.setup, view.history),
+        view.tables.kept_operations(view.opening, view.history),
         object,
     )
 }
 
-/// What the operations on the object, one after another, leave of its opening content.
+/// What the operations on the object, one after another, leave of its first content.
 #[tactic(auto, using(crate::proofs::Kept::those_more))]
-fn replay(opening: &Content, kept: &[Performed], object: ObjectId) -> Result<Content, AllocError>
-    requires { IsTrue (all_known object opening.now kept.now) }
-    ensures { IfOk result (λ content. content ≡ left_of opening.now (those_on object kept.now)) }
+fn replay(first: Content, kept: &[Performed], object: ObjectId) -> Result<Content, AllocError>
+    requires { IsTrue (all_known object first kept.now) }
+    ensures { IfOk result (λ content. content ≡ left_of first (those_on object kept.now)) }
 {
-    let mut content = opening.copy()?;
+    let mut content = first;
     for performed in kept {
         if performed.object() == object {
             content.apply(performed.operation())?;
@@ -147,35 +145,33 @@ fn replay(opening: &Content, kept: &[Performed], object: ObjectId) -> Result<Con
 
 /// The base of the object: what the kept operations on it that nobody holds leave.
 pub fn base(view: &View<'_>, object: ObjectId) -> Result<Content, AllocError>
-    requires plain { IsPlain view.now.setup.now view.now.tables.now view.now.history.now }
+    requires plain { IsPlain (opening_in view.now.opening.now) view.now.tables.now view.now.history.now }
     requires guardian { 1 ≤ object.guardian }
     requires number { 1 ≤ object.number }
-    requires there { object.number ≤ length (objects_at view.now.setup.now object.guardian) }
-    ensures { IfOk result (λ content. content ≡ base_of view.now.setup.now object view.now.history.now) }
+    requires there { object.number ≤ length (objects_at view.now.opening.now.setup object.guardian) }
+    ensures { IfOk result (λ content. content ≡ base_of (opening_in view.now.opening.now) object view.now.history.now) }
 {
-    let Some(content) = opening(view.setup, object) else {
-        unreachable!()
-    };
+    let first = view.opening.first_content(object)?;
     replay_unheld(
-        content,
+        first,
         view.history,
-        view.tables.kept_operations(view.setup, view.history),
+        view.tables.kept_operations(view.opening, view.history),
         object,
     )
 }
 
-/// What the operations on the object that nobody holds, one after another, leave of its opening content.
+/// What the operations on the object that nobody holds, one after another, leave of its first content.
 #[tactic(auto, using(crate::proofs::Kept::unheld_more))]
 fn replay_unheld(
-    opening: &Content,
+    first: Content,
     history: &History,
     kept: &[Performed],
     object: ObjectId,
 ) -> Result<Content, AllocError>
-    requires { IsTrue (all_known object opening.now kept.now) }
-    ensures { IfOk result (λ content. content ≡ left_of opening.now (unheld_on object history.now kept.now)) }
+    requires { IsTrue (all_known object first kept.now) }
+    ensures { IfOk result (λ content. content ≡ left_of first (unheld_on object history.now kept.now)) }
 {
-    let mut content = opening.copy()?;
+    let mut content = first;
     for performed in kept {
         if performed.object() == object
             && holder_of(history, object.guardian, performed.action())?.is_none()
@@ -188,11 +184,11 @@ fn replay_unheld(
 
 /// Whether a telling of the action's outcome changes the object.
 pub fn is_changed(view: &View<'_>, object: ObjectId, name: &Name) -> Result<bool, AllocError>
-    requires { IsPlain view.now.setup.now view.now.tables.now view.now.history.now }
+    requires { IsPlain (opening_in view.now.opening.now) view.now.tables.now view.now.history.now }
     ensures { IfOk result (λ changed. changed ≡
         list_any (λ o. is_concerned object.guardian name.now view.now.history.now o) (kept_on object view.now.history.now)) }
 {
-    let kept = view.tables.kept_operations(view.setup, view.history);
+    let kept = view.tables.kept_operations(view.opening, view.history);
     concerns_any(view.history, kept, object, name)
 }
 

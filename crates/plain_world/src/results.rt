@@ -2,7 +2,7 @@
 ghost use Rattle.std.specs.Prelude.{◌≡◌, ◌≤◌, length, IfOk, IsTrue};
 ghost use Rattle.atomic_types.specs.Objects.{knows};
 ghost use Rattle.run_model.specs.Keeping.{blockers};
-ghost use Rattle.run_model.specs.Replay.{opening, objects_at};
+ghost use Rattle.run_model.specs.Openings.{first_content, objects_at, opening_in};
 ghost use Rattle.run_model.specs.Answers.{granted_or_waits, told_count};
 ghost use Rattle.plain_world.specs.Plain.{IsPlain};
 
@@ -19,12 +19,12 @@ pub fn operate(
     object: ObjectId,
     operation: &Op,
 ) -> Result<Answer, AllocError>
-    requires plain { IsPlain view.now.setup.now view.now.tables.now view.now.history.now }
+    requires plain { IsPlain (opening_in view.now.opening.now) view.now.tables.now view.now.history.now }
     requires guardian { 1 ≤ object.guardian }
     requires number { 1 ≤ object.number }
-    requires there { object.number ≤ length (objects_at view.now.setup.now object.guardian) }
-    requires known { IsTrue (knows (opening view.now.setup.now object) operation.now) }
-    ensures { IfOk result (λ answer. answer ≡ granted_or_waits view.now.setup.now object operation.now view.now.history.now
+    requires there { object.number ≤ length (objects_at view.now.opening.now.setup object.guardian) }
+    requires known { IsTrue (knows (first_content (opening_in view.now.opening.now) object) operation.now) }
+    ensures { IfOk result (λ answer. answer ≡ granted_or_waits (opening_in view.now.opening.now) object operation.now view.now.history.now
         (blockers name.now object operation.now view.now.history.now)) }
 {
     let names = blockers(view, name, object, operation)?;
@@ -37,12 +37,12 @@ pub fn operate(
 
 /// How many objects at the guardian a telling of the action's outcome changes.
 pub fn told_count(view: &View<'_>, guardian: u32, name: &Name) -> Result<u64, AllocError>
-    requires plain { IsPlain view.now.setup.now view.now.tables.now view.now.history.now }
+    requires plain { IsPlain (opening_in view.now.opening.now) view.now.tables.now view.now.history.now }
     requires guardian { 1 ≤ guardian }
-    ensures { IfOk result (λ count. count ≡ told_count view.now.setup.now guardian name.now view.now.history.now) }
+    ensures { IfOk result (λ count. count ≡ told_count (opening_in view.now.opening.now) guardian name.now view.now.history.now) }
 {
     let mut count = 0;
-    for index in 0..view.setup.objects(guardian).len() {
+    for index in 0..view.opening.setup().objects(guardian).len() {
         let object = ObjectId {
             guardian,
             number: index as u32 + 1,

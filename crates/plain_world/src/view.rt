@@ -1,12 +1,13 @@
 //! What a step is judged by in a plain world.
 ghost use Rattle.run_model.specs.Answers.{results_of};
+ghost use Rattle.run_model.specs.Openings.{opening_in};
 ghost use Rattle.run_model.specs.Refusals.{facts_of};
 ghost use Rattle.plain_world.specs.Plain.{IsPlain};
 
 use crate::{facts, results};
 use history_facts::{actions, telling};
 use plain_tables::Tables;
-use run_model::{Answer, History, Name, ObjectId, Op, Setup};
+use run_model::{Answer, History, Name, ObjectId, Op, Opening};
 use std::alloc::{AllocError, Global};
 use step_answers::{Reads, ReadsAction};
 
@@ -14,22 +15,22 @@ use step_answers::{Reads, ReadsAction};
 #[derive(Clone, Copy)]
 pub struct View<'a> {
     pub alloc: Global,
-    pub setup: &'a Setup,
+    pub opening: &'a Opening,
     pub history: &'a History,
     pub tables: &'a Tables,
 }
 
 impl<'a> ReadsAction for View<'a> {
-    ghost setup = { λ view. view.setup.now };
+    ghost opening = { λ view. opening_in view.opening.now };
 
-    ghost facts = { λ view. facts_of view.setup.now view.history.now };
+    ghost facts = { λ view. facts_of (opening_in view.opening.now) view.history.now };
 
-    ghost results = { λ view. results_of view.setup.now view.history.now };
+    ghost results = { λ view. results_of (opening_in view.opening.now) view.history.now };
 
-    ghost is_sound = { λ view. IsPlain view.setup.now view.tables.now view.history.now };
+    ghost is_sound = { λ view. IsPlain (opening_in view.opening.now) view.tables.now view.history.now };
 
-    fn setup(&self) -> &Setup {
-        self.setup
+    fn opening(&self) -> &Opening {
+        self.opening
     }
 
     fn is_begun(&self, action: &Name) -> bool {
@@ -84,7 +85,7 @@ impl<'a> Reads for View<'a> {
     }
 
     fn next(&self, path: &[u32]) -> u64 {
-        actions::next_number(self.history, path)
+        actions::next_number(self.opening, self.history, path)
     }
 
     fn is_down(&self, guardian: u32) -> bool {

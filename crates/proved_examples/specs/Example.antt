@@ -14,7 +14,7 @@ use Rattle.run_model.specs.declared.step.Step.TheVariants.{Op}
 use Rattle.run_model.specs.declared.answer.Answer.{Answer}
 use Rattle.run_model.specs.declared.answer.Answer.TheVariants.{Began, Granted, Waits}
 use Rattle.run_model.specs.declared.history.Event.{Event}
-use Rattle.run_model.specs.Replay.{Setup}
+use Rattle.run_model.specs.Openings.{Opening, fresh}
 use Rattle.run_model.specs.Runs.{answers_from, history_from}
 use Rattle.run_model.specs.Keeping.{Performed}
 use Rattle.run_model.specs.Places.{place_of, visible_by_place}
@@ -27,23 +27,25 @@ abbrev pub record_of : List ℕ → ℕ → Content
 record_of name n = Record (record { name = name; value = Int (pos n) } ∷ [])
 
 -- what the examples begin with: guardian 1 holds a balance of 100, guardian 2 a number n that is 0
-abbrev pub opening_setup : Setup
-opening_setup = (record_of (codes "balance") 100 ∷ []) ∷ (record_of (codes "n") 0 ∷ []) ∷ []
+abbrev pub two_records : Opening
+two_records = fresh ((record_of (codes "balance") 100 ∷ []) ∷ (record_of (codes "n") 0 ∷ []) ∷ [])
 
 abbrev pub steps_of : Example → List Step
 steps_of example = map (λ line. line.0) example
 
--- the steps, asked one after another, are answered as the example says
-abbrev pub Answers : Example → Type 0
-Answers example = answers_from opening_setup [] (steps_of example) ≡ map (λ line. line.1) example
+-- the steps, asked one after another from the opening on, are answered as the example says
+abbrev pub AnswersFrom : Opening → Example → Type 0
+AnswersFrom opening example = answers_from opening [] (steps_of example) ≡ map (λ line. line.1) example
 
--- the same from another setup
-abbrev pub AnswersFrom : Setup → Example → Type 0
-AnswersFrom setup example = answers_from setup [] (steps_of example) ≡ map (λ line. line.1) example
+abbrev pub Answers : Example → Type 0
+Answers example = AnswersFrom two_records example
 
 -- the history that the steps leave
+abbrev pub history_from_opening : Opening → Example → List Event
+history_from_opening opening example = history_from opening [] (steps_of example)
+
 abbrev pub history_of : Example → List Event
-history_of example = history_from opening_setup [] (steps_of example)
+history_of example = history_from_opening two_records example
 
 -- a visible operation: its place, its action, what was asked of which object, and the reply
 abbrev pub Placed : Type 0

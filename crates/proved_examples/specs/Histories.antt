@@ -5,14 +5,14 @@ use Rattle.run_model.specs.declared.step.Step.TheVariants.{Top, Call, Commit, Cl
 use Rattle.run_model.specs.declared.answer.Answer.{Answer}
 use Rattle.run_model.specs.declared.answer.Answer.TheVariants.{Done, VoteYes}
 use Rattle.run_model.specs.declared.history.Event.{Event}
-use Rattle.run_model.specs.Replay.{Setup}
+use Rattle.run_model.specs.Openings.{Opening, fresh}
 use Rattle.run_model.specs.LocalHistories.{Stamped, takes_registry}
 use Rattle.run_model.specs.Gathering.{Histories}
 use Rattle.proved_examples.specs.Example.{Example, record_of, action_1, action_1_1, began, gives, granted, get_balance, set_balance}
 
 -- one guardian with a balance of 100
-abbrev pub one_guardian : Setup
-one_guardian = (record_of (codes "balance") 100 ∷ []) ∷ []
+abbrev pub one_guardian : Opening
+one_guardian = fresh ((record_of (codes "balance") 100 ∷ []) ∷ [])
 
 -- a call takes 30 from the balance, and everything commits
 abbrev pub transfer : Example

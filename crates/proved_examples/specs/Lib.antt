@@ -6,3 +6,5 @@ pub mod Endings
 pub mod Refusals
 pub mod Types
 pub mod Histories
+pub mod Counting
+pub mod Opened

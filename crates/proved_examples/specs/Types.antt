@@ -16,7 +16,7 @@ use Rattle.run_model.specs.declared.step.Step.{Step}
 use Rattle.run_model.specs.declared.step.Step.TheVariants.{Top, Op}
 use Rattle.run_model.specs.declared.answer.Answer.{Answer}
 use Rattle.run_model.specs.declared.answer.Answer.TheVariants.{Granted}
-use Rattle.run_model.specs.Replay.{Setup}
+use Rattle.run_model.specs.Openings.{Opening, fresh}
 use Rattle.proved_examples.specs.Example.{Example, record_of, action_1, began, gives, granted}
 
 -- no ints, the first of which would stand at the low index
@@ -36,12 +36,13 @@ none_with v =
     })
 
 -- guardian 1 holds a record and an array, guardian 2 a record and a variant
-abbrev pub setup_of_types : Setup
-setup_of_types = (record_of (codes "balance") 100 ∷ no_ints_at (pos 1) ∷ []) ∷ (record_of (codes "n") 0 ∷ none_with 0 ∷ []) ∷ []
+abbrev pub three_types : Opening
+three_types =
+    fresh ((record_of (codes "balance") 100 ∷ no_ints_at (pos 1) ∷ []) ∷ (record_of (codes "n") 0 ∷ none_with 0 ∷ []) ∷ [])
 
 -- guardian 1 holds an array that begins at the least index
-abbrev pub setup_at_the_bound : Setup
-setup_at_the_bound = (no_ints_at least_index ∷ []) ∷ []
+abbrev pub array_at_the_bound : Opening
+array_at_the_bound = fresh ((no_ints_at least_index ∷ []) ∷ [])
 
 abbrev pub on_array : operation.Op → Step
 on_array op = Op action_1 (record { guardian = 1; number = 2 }) op

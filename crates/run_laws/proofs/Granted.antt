@@ -14,13 +14,15 @@ use Rattle.run_model.specs.Actions.{home_of, is_begun, is_done}
 use Rattle.run_model.specs.Answers.{granted_or_waits, outcome}
 use Rattle.run_model.specs.Keeping.{Performed, blockers, kept_on, performed, performed_by}
 use Rattle.run_model.specs.Refusals.{checks}
-use Rattle.run_model.specs.Replay.{Setup, left_of, opening}
+use Rattle.run_model.specs.Openings.{Opening, first_content}
+use Rattle.run_model.specs.Replay.{left_of}
 use Rattle.run_model.specs.Runs.{IsRun}
 use Rattle.run_model.specs.Visibility.{is_visible}
 use Rattle.run_laws.specs.Laws.{Grants}
-use Rattle.run_laws.proofs.Accepted.{AllFalse, answered, checked}
+use Rattle.run_laws.proofs.Accepted.{NoneApplies, answered, checked}
 use Rattle.run_laws.proofs.Each.{Each}
 use Rattle.run_laws.proofs.Growth.{Follows, follows_length, here, later}
+use Rattle.run_model.specs.declared.answer.Refusal.TheVariants as why
 use Rattle.atomic_types.specs.declared.op.Op as op
 
 -- the step and the answer that grant an operation
@@ -41,43 +43,43 @@ pub granted_before : (o : Performed) (e : Event) (past : List Event) {now : List
 granted_before o e past p w = let l = follows_length w in let n = p.0 in omega arith
 
 -- what the granting of an operation says of the history before it
-pub record IsGranted (setup : Setup) (c : Name) (x : ObjectId) (wanted : op.Op) (r : Reply) (past : List Event) : Type 0 where
+pub record IsGranted (opening : Opening) (c : Name) (x : ObjectId) (wanted : op.Op) (r : Reply) (past : List Event) : Type 0 where
   pub was_begun : is_begun c past ≡ true
   pub undone : is_done c past ≡ false
   pub home : home_of c past ≡ x.guardian
   pub free : blockers c x wanted past ≡ []
-  pub reply : r ≡ reply_of (left_of (opening setup x) (kept_on x past)) wanted
+  pub reply : r ≡ reply_of (left_of (first_content opening x) (kept_on x past)) wanted
 
 -- what is granted had nobody in its way
-granted_free : (setup : Setup) (x : ObjectId) (wanted : op.Op) (past : List Event) (bs : List Name) (r : Reply)
-    → granted_or_waits setup x wanted past bs ≡ Granted r
-    → (bs ≡ []) × (r ≡ reply_of (left_of (opening setup x) (kept_on x past)) wanted)
-granted_free setup x wanted past [] r h =
-    let e : Granted (reply_of (left_of (opening setup x) (kept_on x past)) wanted) ≡ Granted r = h in (refl, cc)
-granted_free setup x wanted past (b ∷ bs) r h = absurd (let e : Waits (b ∷ bs) ≡ Granted r = h in cc)
+granted_free : (opening : Opening) (x : ObjectId) (wanted : op.Op) (past : List Event) (bs : List Name) (r : Reply)
+    → granted_or_waits opening x wanted past bs ≡ Granted r
+    → (bs ≡ []) × (r ≡ reply_of (left_of (first_content opening x) (kept_on x past)) wanted)
+granted_free opening x wanted past [] r h =
+    let e : Granted (reply_of (left_of (first_content opening x) (kept_on x past)) wanted) ≡ Granted r = h in (refl, cc)
+granted_free opening x wanted past (b ∷ bs) r h = absurd (let e : Waits (b ∷ bs) ≡ Granted r = h in cc)
 
 -- what was checked before a grant
-granted_facts : (setup : Setup) (c : Name) (x : ObjectId) (wanted : op.Op) (r : Reply) (past : List Event)
-    → AllFalse (checks setup (Op c x wanted) past)
-    → outcome setup (Op c x wanted) past ≡ Granted r → IsGranted setup c x wanted r past
-granted_facts setup c x wanted r past f a =
-    let p = granted_free setup x wanted past (blockers c x wanted past) r a in
+granted_facts : (opening : Opening) (c : Name) (x : ObjectId) (wanted : op.Op) (r : Reply) (past : List Event)
+    → NoneApplies (checks opening (Op c x wanted) past)
+    → outcome opening (Op c x wanted) past ≡ Granted r → IsGranted opening c x wanted r past
+granted_facts opening c x wanted r past f a =
+    let p = granted_free opening x wanted past (blockers c x wanted past) r a in
     record {
-      was_begun = not-false _ f.1.0;
-      undone = f.1.1.1.0;
-      home = sym (eqb-true x.guardian (home_of c past) (not-false _ f.1.1.1.1.1.1.0));
+      was_begun = not-false _ (f why.NoAction);
+      undone = f why.Ended;
+      home = sym (eqb-true x.guardian (home_of c past) (not-false _ (f why.Elsewhere)));
       free = p.0;
       reply = p.1;
     }
 
 -- what a grant in a run says
-pub granting : (setup : Setup) (o : Performed) (e : Event) (past : List Event) → IsRun setup (e ∷ past) → Grants o e past
-    → IsGranted setup o.action o.object o.operation o.reply past
-granting setup o e past r p =
+pub granting : (opening : Opening) (o : Performed) (e : Event) (past : List Event) → IsRun opening (e ∷ past) → Grants o e past
+    → IsGranted opening o.action o.object o.operation o.reply past
+granting opening o e past r p =
     let q = grant_parts o e past p in
-    let P : Step → Type 0 = λ s. AllFalse (checks setup s past) in
-    granted_facts setup o.action o.object o.operation o.reply past (subst P q.0 (checked setup e past r))
-    (ap (λ s. outcome setup s past) (sym q.0) ∙ sym (answered setup e past r) ∙ q.1)
+    let P : Step → Type 0 = λ s. NoneApplies (checks opening s past) in
+    granted_facts opening o.action o.object o.operation o.reply past (subst P q.0 (checked opening e past r))
+    (ap (λ s. outcome opening s past) (sym q.0) ∙ sym (answered opening e past r) ∙ q.1)
 
 -- an event grants one operation or none
 pub grant_cases : (e : Event) (past : List Event)

@@ -7,30 +7,31 @@ use Rattle.run_model.specs.declared.step.Step.{Step}
 use Rattle.run_model.specs.declared.step.Step.TheVariants.{Crash}
 use Rattle.run_model.specs.Actions.{begins, crashes, home_in, home_of, incarnation_of, is_begun, step_crashes}
 use Rattle.run_model.specs.Refusals.{checks}
-use Rattle.run_model.specs.Replay.{Setup}
+use Rattle.run_model.specs.Openings.{Opening}
 use Rattle.run_model.specs.Runs.{IsRun}
 use Rattle.run_model.specs.Visibility.{is_lost}
-use Rattle.run_laws.proofs.Accepted.{AllFalse, checked}
+use Rattle.run_laws.proofs.Accepted.{NoneApplies, checked}
 use Rattle.run_laws.proofs.Begun.{begun_cases, begun_more, begun_once}
+use Rattle.run_model.specs.declared.answer.Refusal.TheVariants as why
 use Rattle.run_laws.proofs.Growth.{Follows, begun_stays, here, later}
 
 -- an event leaves the home of what was begun
-pub home_more : (setup : Setup) (e : Event) (past : List Event) (a : Name) → IsRun setup (e ∷ past) → is_begun a past ≡ true
+pub home_more : (opening : Opening) (e : Event) (past : List Event) (a : Name) → IsRun opening (e ∷ past) → is_begun a past ≡ true
     → home_of a (e ∷ past) ≡ home_of a past
-home_more setup e past a r h = ap (λ t. cond t (home_in e.step (λ b. home_of b past)) (home_of a past)) (begun_once setup e past a r h)
+home_more opening e past a r h = ap (λ t. cond t (home_in e.step (λ b. home_of b past)) (home_of a past)) (begun_once opening e past a r h)
 
 -- and its incarnation
-incarnation_more : (setup : Setup) (e : Event) (past : List Event) (a : Name) → IsRun setup (e ∷ past) → is_begun a past ≡ true
+incarnation_more : (opening : Opening) (e : Event) (past : List Event) (a : Name) → IsRun opening (e ∷ past) → is_begun a past ≡ true
     → incarnation_of a (e ∷ past) ≡ incarnation_of a past
-incarnation_more setup e past a r h =
-    ap (λ t. cond t (crashes (home_of a (e ∷ past)) past) (incarnation_of a past)) (begun_once setup e past a r h)
+incarnation_more opening e past a r h =
+    ap (λ t. cond t (crashes (home_of a (e ∷ past)) past) (incarnation_of a past)) (begun_once opening e past a r h)
 
 -- so what holds of both holds after a step
-pub as_before : (setup : Setup) (e : Event) (past : List Event) (a : Name) → IsRun setup (e ∷ past) → is_begun a past ≡ true
+pub as_before : (opening : Opening) (e : Event) (past : List Event) (a : Name) → IsRun opening (e ∷ past) → is_begun a past ≡ true
     → (P : ℕ → ℕ → Type 0) → P (home_of a past) (incarnation_of a past) → P (home_of a (e ∷ past)) (incarnation_of a (e ∷ past))
-as_before setup e past a r h P p =
-    subst (λ n. P (home_of a (e ∷ past)) n) (sym (incarnation_more setup e past a r h))
-    (subst (λ g. P g (incarnation_of a past)) (sym (home_more setup e past a r h)) p)
+as_before opening e past a r h P p =
+    subst (λ n. P (home_of a (e ∷ past)) n) (sym (incarnation_more opening e past a r h))
+    (subst (λ g. P g (incarnation_of a past)) (sym (home_more opening e past a r h)) p)
 
 -- it begins at its home's present incarnation
 pub incarnation_new : (e : Event) (past : List Event) (a : Name) → begins e a ≡ true
@@ -38,10 +39,10 @@ pub incarnation_new : (e : Event) (past : List Event) (a : Name) → begins e a 
 incarnation_new e past a h = ap (λ t. cond t (crashes (home_of a (e ∷ past)) past) (incarnation_of a past)) h
 
 -- the home stays for good
-pub home_stays : (setup : Setup) (a : Name) {past now : List Event} → Follows past now → IsRun setup now → is_begun a past ≡ true
+pub home_stays : (opening : Opening) (a : Name) {past now : List Event} → Follows past now → IsRun opening now → is_begun a past ≡ true
     → home_of a now ≡ home_of a past
-home_stays setup a here r h = refl
-home_stays setup a (later {now = now} e w) r h = home_more setup e now a r (begun_stays a w h) ∙ home_stays setup a w r.2 h
+home_stays opening a here r h = refl
+home_stays opening a (later {now = now} e w) r h = home_more opening e now a r (begun_stays a w h) ∙ home_stays opening a w r.2 h
 
 -- an event adds one crash or none
 pub crashes_next : (e : Event) (past : List Event) (g : ℕ) (t : Bool) → step_crashes e.step g ≡ t
@@ -60,62 +61,62 @@ crashes_more e past g = step (step_crashes e.step g) (crashes g (e ∷ past)) (c
     step false n h = omega arith
 
 -- no incarnation is later than the present one
-incarnation_bound : (setup : Setup) (past : List Event) (b : Name) → IsRun setup past → is_begun b past ≡ true
+incarnation_bound : (opening : Opening) (past : List Event) (b : Name) → IsRun opening past → is_begun b past ≡ true
     → incarnation_of b past ≤ crashes (home_of b past) past
-incarnation_bound setup [] b r h = absurd (false≢true h)
-incarnation_bound setup (e ∷ past) b r h = elim (begun_cases e past b h) [
+incarnation_bound opening [] b r h = absurd (false≢true h)
+incarnation_bound opening (e ∷ past) b r h = elim (begun_cases e past b h) [
   | inl k ↦
       subst (λ n. n ≤ crashes (home_of b (e ∷ past)) (e ∷ past)) (sym (incarnation_new e past b k))
       (crashes_more e past (home_of b (e ∷ past)))
   | inr k ↦
-      as_before setup e past b r k (λ g n. n ≤ crashes g (e ∷ past))
-      (le_trans (incarnation_bound setup past b r.2 k) (crashes_more e past (home_of b past)))
+      as_before opening e past b r k (λ g n. n ≤ crashes g (e ∷ past))
+      (le_trans (incarnation_bound opening past b r.2 k) (crashes_more e past (home_of b past)))
 ]
 
 -- a lost action began before its home last crashed
-pub record IsLostAt (setup : Setup) (b : Name) (past : List Event) : Type 0 where
+pub record IsLostAt (opening : Opening) (b : Name) (past : List Event) : Type 0 where
   pub was_begun : is_begun b past ≡ true
   pub older : incarnation_of b past < crashes (home_of b past) past
-  pub there : (0 < home_of b past) × (home_of b past ≤ length setup)
+  pub there : (0 < home_of b past) × (home_of b past ≤ length opening.setup)
 
--- who crashes is in the setup
-crash_facts : (setup : Setup) (e : Event) (past : List Event) (g : ℕ) → IsRun setup (e ∷ past) → step_crashes e.step g ≡ true
-    → (0 < g) × (g ≤ length setup)
-crash_facts setup e past g r k = of e.step (checked setup e past r) k
+-- who crashes is in the opening
+crash_facts : (opening : Opening) (e : Event) (past : List Event) (g : ℕ) → IsRun opening (e ∷ past) → step_crashes e.step g ≡ true
+    → (0 < g) × (g ≤ length opening.setup)
+crash_facts opening e past g r k = of e.step (checked opening e past r) k
   where
-    of : (step : Step) → AllFalse (checks setup step past) → step_crashes step g ≡ true → (0 < g) × (g ≤ length setup)
+    of : (step : Step) → NoneApplies (checks opening step past) → step_crashes step g ≡ true → (0 < g) × (g ≤ length opening.setup)
     of (Crash h) f k =
-        let p = or_parts _ _ f.0 in
-        bounds h (length setup) (eqb-true h g k) (eqb-false h 0 p.0) (ltb-false (length setup) h p.1)
+        let p = or_parts _ _ (f why.NoGuardian) in
+        bounds h (length opening.setup) (eqb-true h g k) (eqb-false h 0 p.0) (ltb-false (length opening.setup) h p.1)
       where
         bounds : (h n : ℕ) → h ≡ g → (h ≡ 0 → ⊥) → h ≤ n → (0 < g) × (g ≤ n)
         bounds h n e q m = omega arith
     of _ f k = absurd (false≢true k)
 
--- what is lost began before, and its home is in the setup
-pub lost_facts : (setup : Setup) (past : List Event) (b : Name) → IsRun setup past → is_lost b past ≡ true → IsLostAt setup b past
-lost_facts setup [] b r h = absurd (false≢true h)
-lost_facts setup (e ∷ past) b r h = elim (or_cases _ _ h) [
+-- what is lost began before, and its home is in the opening
+pub lost_facts : (opening : Opening) (past : List Event) (b : Name) → IsRun opening past → is_lost b past ≡ true → IsLostAt opening b past
+lost_facts opening [] b r h = absurd (false≢true h)
+lost_facts opening (e ∷ past) b r h = elim (or_cases _ _ h) [
   | inl k ↦
-      let l = lost_facts setup past b r.2 k in
+      let l = lost_facts opening past b r.2 k in
       build l.was_begun (lt_of_lt_of_le l.older (crashes_more e past (home_of b past))) l.there
   | inr k ↦
       let p = and_parts _ _ k in
       let c = (and_parts _ _ p.1).0 in
-      let bound = incarnation_bound setup past b r.2 p.0 in
+      let bound = incarnation_bound opening past b r.2 p.0 in
       let older =
       subst (λ n. incarnation_of b past < n) (sym (crashes_next e past (home_of b past) true c))
       (more (incarnation_of b past) (crashes (home_of b past) past) bound) in
-      build p.0 older (crash_facts setup e past (home_of b past) r c)
+      build p.0 older (crash_facts opening e past (home_of b past) r c)
 ]
   where
     more : (a b : ℕ) → a ≤ b → a < suc b
     more a b x = omega arith
 
     build : is_begun b past ≡ true → incarnation_of b past < crashes (home_of b past) (e ∷ past)
-        → (0 < home_of b past) × (home_of b past ≤ length setup) → IsLostAt setup b (e ∷ past)
+        → (0 < home_of b past) × (home_of b past ≤ length opening.setup) → IsLostAt opening b (e ∷ past)
     build k lt th = record {
       was_begun = begun_more e past b k;
-      older = as_before setup e past b r k (λ g n. n < crashes g (e ∷ past)) lt;
-      there = as_before setup e past b r k (λ g n. (0 < g) × (g ≤ length setup)) th;
+      older = as_before opening e past b r k (λ g n. n < crashes g (e ∷ past)) lt;
+      there = as_before opening e past b r k (λ g n. (0 < g) × (g ≤ length opening.setup)) th;
     }

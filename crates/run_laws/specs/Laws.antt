@@ -13,7 +13,8 @@ use Rattle.run_model.specs.declared.history.Event.{Event}
 use Rattle.run_model.specs.Actions.{is_begun, is_committed, is_aborted, is_closed, is_done, step_crashes}
 use Rattle.run_model.specs.Visibility.{is_visible, is_lost, is_orphan}
 use Rattle.run_model.specs.Keeping.{Performed, performed_by, is_kept}
-use Rattle.run_model.specs.Replay.{Setup, Store, opening, replayed, store_after}
+use Rattle.run_model.specs.Openings.{Opening, first_content}
+use Rattle.run_model.specs.Replay.{Store, replayed, store_after}
 use Rattle.run_model.specs.Answers.{answer_of}
 use Rattle.run_model.specs.Runs.{IsRun}
 use Rattle.run_model.specs.Places.{collide, place_of, place_lt, Exchanges, visible_by_grant, visible_by_place, asked, replies_given}
@@ -33,7 +34,7 @@ VisibilityCarriesOver = (a b c : Name) (past : List Event) → IsTrue (is_visibl
 
 -- What has closed or ended has nothing active below it, unless an ancestor of the active one aborted.
 abbrev pub NothingActiveBelowDone : Type 0
-NothingActiveBelowDone = (setup : Setup) (past : List Event) (d c : Name) → IsRun setup past
+NothingActiveBelowDone = (opening : Opening) (past : List Event) (d c : Name) → IsRun opening past
     → IsTrue (is_begun c past) → IsFalse (is_done c past) → IsTrue (is_ancestor d c) → IsTrue (is_done d past)
     → (f : Name) × IsTrue (is_ancestor f c) × IsTrue (is_aborted f past)
 
@@ -43,7 +44,7 @@ NothingLostAt past = (t b : Name)
     → IsTrue (is_top t) → IsTrue (is_committed t past) → IsTrue (is_ancestor t b) → IsTrue (is_visible b t past) → IsFalse (is_lost b past)
 
 abbrev pub NothingLostUnderCommitted : Type 0
-NothingLostUnderCommitted = (setup : Setup) (past : List Event) → IsRun setup past → NothingLostAt past
+NothingLostUnderCommitted = (opening : Opening) (past : List Event) → IsRun opening past → NothingLostAt past
 
 -- the crash before which the operation was kept and after which it is not came after its top action had closed
 abbrev pub DroppedWhenClosed : Performed → List Event → Type 0
@@ -58,7 +59,7 @@ VisibleIsKeptAt past = (a : Name) (o : Performed) (e : Event) (before : List Eve
     → IsTrue (is_kept o past) ⊎ (IsTrue (is_read o.operation) × DroppedWhenClosed o past)
 
 abbrev pub VisibleIsKept : Type 0
-VisibleIsKept = (setup : Setup) (past : List Event) → IsRun setup past → VisibleIsKeptAt past
+VisibleIsKept = (opening : Opening) (past : List Event) → IsRun opening past → VisibleIsKeptAt past
 
 -- What is not kept is never kept again.
 abbrev pub KeptNeverAgain : Type 0
@@ -73,14 +74,14 @@ ConflictsKeepOrderAt past = (a : Name) (o p : Performed) (e f : Event) (before b
     → IsTrue (place_lt (place_of o past) (place_of p past))
 
 abbrev pub ConflictsKeepOrder : Type 0
-ConflictsKeepOrder = (setup : Setup) (past : List Event) → IsRun setup past → ConflictsKeepOrderAt past
+ConflictsKeepOrder = (opening : Opening) (past : List Event) → IsRun opening past → ConflictsKeepOrderAt past
 
 -- The list by place comes from the list by grant through exchanges of neighbours that do not conflict.
 abbrev pub GrantToPlaceAt : List Event → Type 0
 GrantToPlaceAt past = (a : Name) → IsFalse (is_orphan a past) → Exchanges (visible_by_grant a past) (visible_by_place a past)
 
 abbrev pub GrantToPlace : Type 0
-GrantToPlace = (setup : Setup) (past : List Event) → IsRun setup past → GrantToPlaceAt past
+GrantToPlace = (opening : Opening) (past : List Event) → IsRun opening past → GrantToPlaceAt past
 
 -- Exchanges leave each reply: where those of one list are a store's, so are those of the other.
 abbrev pub ExchangesLeaveReplies : Type 0
@@ -107,33 +108,33 @@ PlacesDiffer = (past : List Event) (o p : Performed) → place_of o past ≡ pla
 
 -- A reply that an action was given while it was no orphan is that of the operations so far that were visible to it, replayed in
 -- order of grant.
-abbrev pub RepliesByGrantAt : Setup → List Event → Type 0
-RepliesByGrantAt setup past = (o : Performed) (e : Event) (before : List Event)
+abbrev pub RepliesByGrantAt : Opening → List Event → Type 0
+RepliesByGrantAt opening past = (o : Performed) (e : Event) (before : List Event)
     → Came e before past → Grants o e before → IsFalse (is_orphan o.action before)
-    → o.reply ≡ reply_of (store_after (opening setup) (visible_by_grant o.action before) o.object) o.operation
+    → o.reply ≡ reply_of (store_after (first_content opening) (visible_by_grant o.action before) o.object) o.operation
 
 abbrev pub RepliesByGrant : Type 0
-RepliesByGrant = (setup : Setup) (past : List Event) → IsRun setup past → RepliesByGrantAt setup past
+RepliesByGrant = (opening : Opening) (past : List Event) → IsRun opening past → RepliesByGrantAt opening past
 
--- The serial view: the operations visible to a begun action that is no orphan, replayed from the setup's contents in order of
+-- The serial view: the operations visible to a begun action that is no orphan, replayed from the opening's contents in order of
 -- place, give exactly the replies that were given.
-abbrev pub SerialViewAt : Setup → List Event → Type 0
-SerialViewAt setup past = (a : Name) → IsTrue (is_begun a past) → IsFalse (is_orphan a past)
-    → replayed (opening setup) (visible_by_place a past) ≡ replies_given (visible_by_place a past)
+abbrev pub SerialViewAt : Opening → List Event → Type 0
+SerialViewAt opening past = (a : Name) → IsTrue (is_begun a past) → IsFalse (is_orphan a past)
+    → replayed (first_content opening) (visible_by_place a past) ≡ replies_given (visible_by_place a past)
 
 abbrev pub SerialView : Type 0
-SerialView = (setup : Setup) (past : List Event) → IsRun setup past → SerialViewAt setup past
+SerialView = (opening : Opening) (past : List Event) → IsRun opening past → SerialViewAt opening past
 
--- Two runs of one setup whose visible lists of two such actions are equal, as lists of action, object and operation, give them
+-- Two runs of one opening whose visible lists of two such actions are equal, as lists of action, object and operation, give them
 -- equal replies.
-abbrev pub EqualListsAt : Setup → List Event → Type 0
-EqualListsAt setup past = (other : List Event) (a b : Name) → IsRun setup other
+abbrev pub EqualListsAt : Opening → List Event → Type 0
+EqualListsAt opening past = (other : List Event) (a b : Name) → IsRun opening other
     → IsTrue (is_begun a past) → IsTrue (is_begun b other) → IsFalse (is_orphan a past) → IsFalse (is_orphan b other)
     → asked (visible_by_place a past) ≡ asked (visible_by_place b other)
     → replies_given (visible_by_place a past) ≡ replies_given (visible_by_place b other)
 
 abbrev pub EqualListsEqualReplies : Type 0
-EqualListsEqualReplies = (setup : Setup) (past : List Event) → IsRun setup past → EqualListsAt setup past
+EqualListsEqualReplies = (opening : Opening) (past : List Event) → IsRun opening past → EqualListsAt opening past
 
 -- the action that takes the step, of those that may be refused as orphans
 abbrev pub actor_of : Step → Option Name
@@ -150,5 +151,5 @@ abbrev pub OrphanWhereRefused : Step → Answer → List Event → Type 0
 OrphanWhereRefused step answer past = answer ≡ Refused Orphan → (a : Name) × (actor_of step ≡ Some a) × IsTrue (is_orphan a past)
 
 abbrev pub RefusedOrphansAreOrphans : Type 0
-RefusedOrphansAreOrphans = (setup : Setup) (past : List Event) (step : Step) → IsRun setup past
-    → OrphanWhereRefused step (answer_of setup step past) past
+RefusedOrphansAreOrphans = (opening : Opening) (past : List Event) (step : Step) → IsRun opening past
+    → OrphanWhereRefused step (answer_of opening step past) past

@@ -16,7 +16,7 @@ use Rattle.values.specs.declared.content.Content.{Content}
 use Rattle.values.specs.Contents.{IsContent, content_data}
 use Rattle.values.proofs.Members.{object_from_members}
 use Rattle.values.proofs.Contents.{content_from_data}
-use Rattle.run_model.specs.Replay.{Setup}
+use Rattle.run_model.specs.Openings.{Setup}
 use Rattle.run_model.specs.Texts.{AreObjects, IsSetup, IsSetupText, contents_items, guardians_items, setup_data}
 use Rattle.limits.specs.Limits.{max_guardians, max_objects}
 use Rattle.run_model.specs.Documents.{guardian_data, setup_fault}

@@ -4,7 +4,11 @@ use Rattle.std.specs.List.{list_any}
 use Rattle.action_names.specs.Names.{Name, is_ancestor, ancestors, top_of, rising_names}
 use Rattle.atomic_types.specs.declared.op.Op as op
 use Rattle.atomic_types.specs.declared.op.Reply.{Reply}
-use Rattle.atomic_types.specs.Operations.{is_read, conflicts}
+use Rattle.atomic_types.specs.Operations.{is_read, class_of, classes_conflict, conflicts}
+use Rattle.atomic_types.specs.declared.op.Class.{Class}
+use Rattle.atomic_types.specs.declared.op.Class.TheVariants.{Add, Write}
+use Rattle.atomic_types.specs.declared.part.Part.{Part}
+use Rattle.atomic_types.specs.declared.part.Part.TheVariants.{Value, Delta}
 use Rattle.run_model.specs.declared.step.Step.{Step}
 use Rattle.run_model.specs.declared.step.Step.TheVariants.{Op}
 use Rattle.run_model.specs.declared.step.ObjectId.{ObjectId}
@@ -40,7 +44,7 @@ abbrev pub prepared_after : ℕ → ℕ → Name → List Event → Bool
 prepared_after n g t [] = false
 prepared_after n g t (e ∷ past) = prepared_after n g t past || (nat_lt n (suc (length past)) && votes_yes e.step e.answer g t)
 
--- a crash of its guardian after past leaves the operation: a write granted before that guardian prepared its top action
+-- a crash of its guardian after past leaves the operation: a write or an add granted before that guardian prepared its top action
 abbrev pub outlives_crash : Performed → List Event → Bool
 outlives_crash o past = not (is_read o.operation) && prepared_after o.number o.object.guardian (top_of o.action) past
 
@@ -64,21 +68,32 @@ is_kept o (e ∷ past) = (o.number == suc (length past)) || (is_kept o past && n
 abbrev pub kept_on : ObjectId → List Event → List Performed
 kept_on x past = filter (λ o. same_object o.object x && is_kept o past) (performed past)
 
--- What all that is asked of an object rests on: of which actions its guardian was told that they committed, and the operations kept
--- on it, the newest first.
+-- What all that is asked of an object rests on: of which actions its guardian was told that they committed; the operations kept on
+-- it, the newest first; and where the guardian was opened again by itself, what its store gave back to prepared top actions, the newest
+-- first: what they wrote or added before all those operations.
 pub record Standing : Type 0 where
   pub told : Name → Bool
   pub kept : List Performed
+  pub restored : List (Name × Part)
 
 abbrev pub standing_of : ObjectId → List Event → Standing
-standing_of x past = record { told = λ c. told_committed x.guardian c past; kept = kept_on x past }
+standing_of x past = record { told = λ c. told_committed x.guardian c past; kept = kept_on x past; restored = [] }
 
--- for whom an operation of a waits: the holders of the kept operations that conflict with it, as far as they are no ancestors of a,
--- each once, rising by name
+-- a value was written, a delta added
+abbrev pub part_class : Part → Class
+part_class (Value v) = Write
+part_class (Delta z) = Add
+
+-- the holders of what conflicts with an operation; one may come twice
+abbrev pub conflicting_holders : Standing → op.Op → List Name
+conflicting_holders s wanted =
+    filter_map (λ r. holder_by s.told r.0) (filter (λ r. classes_conflict (part_class r.1) (class_of wanted)) s.restored)
+    ++ filter_map (λ o. holder_by s.told o.action) (filter (λ o. conflicts o.operation wanted) s.kept)
+
+-- for whom an operation of a waits: the holders of what conflicts with it, as far as they are no ancestors of a, each once, rising by
+-- name
 abbrev pub blockers_by : Standing → Name → op.Op → List Name
-blockers_by s a wanted =
-    rising_names (filter (λ c. not (is_ancestor c a))
-    (filter_map (λ o. holder_by s.told o.action) (filter (λ o. conflicts o.operation wanted) s.kept)))
+blockers_by s a wanted = rising_names (filter (λ c. not (is_ancestor c a)) (conflicting_holders s wanted))
 
 abbrev pub blockers : Name → ObjectId → op.Op → List Event → List Name
 blockers a x wanted past = blockers_by (standing_of x past) a wanted

@@ -6,12 +6,16 @@ pub use Rattle.values.specs.Values
 pub use Rattle.values.specs.Contents
 pub use Rattle.values.specs.Items
 pub use Rattle.values.specs.Tags
+pub use Rattle.values.specs.Totals
 pub use Rattle.atomic_types.specs.Operations
 pub use Rattle.atomic_types.specs.Records
 pub use Rattle.atomic_types.specs.Arrays
 pub use Rattle.atomic_types.specs.Variants
+pub use Rattle.atomic_types.specs.Counters
 pub use Rattle.atomic_types.specs.Objects
+pub use Rattle.atomic_types.specs.Parts
 pub use Rattle.atomic_types.specs.Laws
+pub mod Openings
 pub mod Actions
 pub mod Visibility
 pub mod Telling
@@ -31,6 +35,7 @@ pub mod Versions
 pub mod StableContent
 pub mod LocalReadings
 pub mod LocalHistories
+pub mod Reopening
 pub mod Gathering
 pub mod Reading
 pub mod Spaces

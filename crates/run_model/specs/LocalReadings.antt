@@ -2,29 +2,28 @@
 -- definitions ask of these events alone they are asked as of any history; what they ask of other guardians is read off the messages.
 use Rattle.std.specs.Prelude.{ℕ, suc, max, Bool, false, not, ◌&&◌, ◌||◌, ◌==◌, ◌+◌, ◌-◌, nat_lt, List, [], ◌∷◌, ◌++◌, length, map, filter, take, if◌then◌else◌, Option, Some, None, is_some}
 use Rattle.std.specs.List.{list_any}
-use Rattle.action_names.specs.Names.{Name, same_name, has_name, parent_of}
+use Rattle.action_names.specs.Names.{Name, ancestors, same_name, has_name, parent_of}
 use Rattle.action_names.specs.Deps.{lesser}
-use Rattle.values.specs.declared.content.Content.{Content}
 use Rattle.run_model.specs.declared.step.Step.{Step}
-use Rattle.run_model.specs.declared.step.Step.TheVariants.{Commit, Op}
+use Rattle.run_model.specs.declared.step.Step.TheVariants.{Commit, Op, Prepare}
 use Rattle.atomic_types.specs.declared.op.Op as op
 use Rattle.run_model.specs.declared.step.ObjectId.{ObjectId}
 use Rattle.run_model.specs.declared.answer.Answer.{Answer}
 use Rattle.run_model.specs.declared.history.Event.{Event}
 use Rattle.run_model.specs.Actions.{begins, is_begun, home_of, crashes, step_crashes}
 use Rattle.run_model.specs.Visibility.{votes_yes}
-use Rattle.run_model.specs.Telling.{or_else}
 use Rattle.run_model.specs.Keeping.{Performed, Standing, same_object, performed_by, undoes_by}
-use Rattle.run_model.specs.Replay.{Setup, opening}
+use Rattle.run_model.specs.Openings.{Opening, first_content}
+use Rattle.atomic_types.specs.declared.part.Part.{Part}
 use Rattle.run_model.specs.Lists.{is_orphan_by}
 use Rattle.run_model.specs.Votes.{is_number}
 use Rattle.run_model.specs.Refusals.{Facts, facts_of}
 use Rattle.run_model.specs.Answers.{Results, operated_by, told_count_by, answer_by}
-use Rattle.run_model.specs.StableContent.{Prepared, values_by, step_decides, step_told, installed_by}
+use Rattle.run_model.specs.StableContent.{Prepared, parts_by, step_decides, step_told, installed_by, installed_over}
 
 -- What the messages of an event carried to one guardian: whose lists came, in which life of that guardian (how often it had crashed),
 -- what of its known aborts and crashes it had not sent before, the newest first; dependencies of actions; and outcomes, with whether
--- each is a commit.
+-- each is a commit. In the life before an opening alone, a vote also has what the store gave back of the top action.
 pub record Carried : Type 0 where
   pub sender : Option ℕ
   pub life : ℕ
@@ -32,6 +31,11 @@ pub record Carried : Type 0 where
   pub counts : List (ℕ × ℕ)
   pub dependencies : List (Name × List (ℕ × ℕ))
   pub outcomes : List (Name × Bool)
+  pub restored : List (ℕ × Part)
+
+-- the messages carried nothing
+abbrev pub nothing_carried : Carried
+nothing_carried = record { sender = None; life = 0; aborts = []; counts = []; dependencies = []; outcomes = []; restored = [] }
 
 -- an event as a guardian keeps it
 pub record LocalEvent : Type 0 where
@@ -75,9 +79,22 @@ kept_here x (c ∷ here) =
     filter (λ o. same_object o.object x) (performed_by (suc (length here)) c.event.step c.event.answer)
     ++ filter (λ o. not (undoes_by (λ b. says_aborted (brings c b)) c.event.step (events_here here) o)) (kept_here x here)
 
+-- of what a store gave back with a vote, that of an object
+abbrev pub given_back : Step → List (ℕ × Part) → ObjectId → List (Name × Part)
+given_back (Prepare g t) values x =
+    if g == x.guardian then map (λ v. (t, v.1)) (filter (λ (v : ℕ × Part). v.0 == x.number) values) else []
+given_back _ values x = []
+
+-- what the store gave back of an object, and no abort has undone since, the newest first
+abbrev pub restored_here : ObjectId → List LocalEvent → List (Name × Part)
+restored_here x [] = []
+restored_here x (c ∷ here) =
+    given_back c.event.step c.carried.restored x
+    ++ filter (λ r. not (list_any (λ b. says_aborted (brings c b)) (ancestors r.0))) (restored_here x here)
+
 -- how an object stands
 abbrev pub standing_here : List LocalEvent → ObjectId → Standing
-standing_here here x = record { told = λ b. told_committed_here b here; kept = kept_here x here }
+standing_here here x = record { told = λ b. told_committed_here b here; kept = kept_here x here; restored = restored_here x here }
 
 -- names that are learnt, in front of those known, each once
 abbrev pub learnt : List Name → List Name → List Name
@@ -170,19 +187,19 @@ dependency_here a h (c ∷ here) =
     else after_commit c.event.step a (dependency_here a h here) (λ d. least_of c.carried.dependencies d h)
 
 -- an action that is at home here is known as an orphan here
-abbrev pub is_orphan_here : Setup → ℕ → List LocalEvent → Name → Bool
-is_orphan_here setup g here a =
-    is_orphan_by setup (λ b. has_name (aborts_here g here) b) (λ h. known_crashes_here g h here) (λ h. dependency_here a h here) a
+abbrev pub is_orphan_here : Opening → ℕ → List LocalEvent → Name → Bool
+is_orphan_here opening g here a =
+    is_orphan_by opening (λ b. has_name (aborts_here g here) b) (λ h. known_crashes_here g h here) (λ h. dependency_here a h here) a
 
 -- the action is on the roster: it was begun, and is at home here
 abbrev pub is_at_home : ℕ → Name → List LocalEvent → Bool
 is_at_home g a here = is_begun a (events_here here) && (home_of a (events_here here) == g)
 
 -- The facts that the refusals of an operation ask, of actions on the roster: those of these events, but for known orphans.
-abbrev pub facts_here : Setup → ℕ → List LocalEvent → Facts
-facts_here setup g here = record (facts_of setup (events_here here)) {
+abbrev pub facts_here : Opening → ℕ → List LocalEvent → Facts
+facts_here opening g here = record (facts_of opening (events_here here)) {
   begun = λ a. is_at_home g a here;
-  orphan = λ a. is_orphan_here setup g here a;
+  orphan = λ a. is_orphan_here opening g here a;
   told = λ h a. told_here h a here;
 }
 
@@ -191,35 +208,35 @@ abbrev pub vote_here : ℕ → Name → List (Name × List (ℕ × ℕ)) → Lis
 vote_here g t came here = is_number (least_of came t g) (crashes g (events_here here))
 
 -- the count of a telling that brings this outcome of a
-abbrev pub count_here : Setup → ℕ → Name → Bool → List LocalEvent → ℕ
-count_here setup g a committed here = told_count_by setup g committed (λ x. standing_here here x) a
+abbrev pub count_here : Opening → ℕ → Name → Bool → List LocalEvent → ℕ
+count_here opening g a committed here = told_count_by opening g committed (λ x. standing_here here x) a
 
 -- what operations come to here; votes and tellings are read with their messages
-abbrev pub results_here : Setup → List LocalEvent → Results
-results_here setup here = record {
-  operation = λ a x wanted. operated_by (opening setup x) (standing_here here x) a wanted;
+abbrev pub results_here : Opening → List LocalEvent → Results
+results_here opening here = record {
+  operation = λ a x wanted. operated_by (first_content opening x) (standing_here here x) a wanted;
   vote = λ h t. false;
   count = λ h a. 0;
 }
 
 -- the answer of an operation: there is no action but those on the roster
-abbrev pub operation_here : Setup → ℕ → Name → ObjectId → op.Op → List LocalEvent → Answer
-operation_here setup g a x wanted here = answer_by setup (facts_here setup g here) (results_here setup here) (Op a x wanted)
+abbrev pub operation_here : Opening → ℕ → Name → ObjectId → op.Op → List LocalEvent → Answer
+operation_here opening g a x wanted here = answer_by opening (facts_here opening g here) (results_here opening here) (Op a x wanted)
 
 -- the record of t in the store: from the yes vote on it, with what t held just after it, until the guardian is told t's outcome
-abbrev pub prepared_here : Setup → ℕ → Name → List LocalEvent → Option Prepared
-prepared_here setup g t [] = None
-prepared_here setup g t (c ∷ here) =
+abbrev pub prepared_here : Opening → ℕ → Name → List LocalEvent → Option Prepared
+prepared_here opening g t [] = None
+prepared_here opening g t (c ∷ here) =
     if votes_yes c.event.step c.event.answer g t
-    then Some (record { home = or_zero c.carried.sender; values = values_by setup g (λ x. standing_here (c ∷ here) x) t })
-    else (if step_told c.event.step g t then None else prepared_here setup g t here)
+    then Some (record { home = or_zero c.carried.sender; parts = parts_by opening g (λ x. standing_here (c ∷ here) x) t })
+    else (if step_told c.event.step g t then None else prepared_here opening g t here)
 
--- t is among the decided top actions of the store: only its home keeps the event that decided it
-abbrev pub decided_here : Name → List LocalEvent → Bool
-decided_here t here = list_any (λ c. step_decides c.event.step t) here
+-- t is among the decided top actions of the store: those that its store held, and only its home keeps the event that decided one
+abbrev pub decided_here : Opening → ℕ → Name → List LocalEvent → Bool
+decided_here opening g t here = (opening.stores g).decided t || list_any (λ c. step_decides c.event.step t) here
 
--- the newest installed value of object n
-abbrev pub stable_base_here : Setup → ℕ → ℕ → List LocalEvent → Option Content
-stable_base_here setup g n [] = None
-stable_base_here setup g n (c ∷ here) =
-    or_else (installed_by c.event.step g n (λ t. prepared_here setup g t here) (λ t. says_committed (brings c t))) (stable_base_here setup g n here)
+-- what is installed of object n
+abbrev pub stable_base_here : Opening → ℕ → ℕ → List LocalEvent → Option Part
+stable_base_here opening g n [] = (opening.stores g).base n
+stable_base_here opening g n (c ∷ here) =
+    installed_over (installed_by c.event.step g n (λ t. prepared_here opening g t here) (λ t. says_committed (brings c t))) (stable_base_here opening g n here)

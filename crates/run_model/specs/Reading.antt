@@ -5,7 +5,7 @@ use Rattle.std.specs.Int.{w64}
 use Rattle.action_names.specs.Names.{Name, IsName, IsComponent, name_text}
 use Rattle.values.specs.Values.{value_text}
 use Rattle.atomic_types.specs.declared.op.Op as op
-use Rattle.atomic_types.specs.declared.op.Op.TheVariants.{Get, Set, Low, High, Size, Fetch, Store, AddHigh, AddLow, RemoveHigh, RemoveLow, Is, ValueOf, Change}
+use Rattle.atomic_types.specs.declared.op.Op.TheVariants.{Get, Set, Low, High, Size, Fetch, Store, AddHigh, AddLow, RemoveHigh, RemoveLow, Is, ValueOf, Change, Total, Put, Add}
 use Rattle.atomic_types.specs.Operations.{IsOp, op_name}
 use Rattle.run_model.specs.declared.step.ArmKind.{ArmKind}
 use Rattle.run_model.specs.declared.step.ArmKind.TheVariants as arm
@@ -84,6 +84,9 @@ op_arguments RemoveLow = []
 op_arguments (Is tag) = tag
 op_arguments (ValueOf tag) = tag
 op_arguments (Change tag v) = tag ++ 32 ∷ value_text v
+op_arguments Total = []
+op_arguments (Put v) = value_text v
+op_arguments (Add v) = value_text v
 
 -- whether an operation has no argument
 abbrev pub is_bare : op.Op → Bool
@@ -101,6 +104,9 @@ is_bare RemoveLow = true
 is_bare (Is tag) = false
 is_bare (ValueOf tag) = false
 is_bare (Change tag v) = false
+is_bare Total = true
+is_bare (Put v) = false
+is_bare (Add v) = false
 
 abbrev pub IsBare : op.Op → Type 0
 IsBare o = is_bare o ≡ true

@@ -15,7 +15,7 @@ use Rattle.run_model.specs.declared.answer.Refusal.TheVariants as why
 use Rattle.run_model.specs.declared.history.Event.{Event}
 use Rattle.run_model.specs.Actions.{is_begun, next_number, is_ended, is_closed, is_done, is_busy, is_gone, is_down, home_of}
 use Rattle.run_model.specs.Telling.{told_since_crash}
-use Rattle.run_model.specs.Replay.{Setup, objects_at, opening}
+use Rattle.run_model.specs.Openings.{Opening, objects_at, first_content}
 use Rattle.run_model.specs.Dependencies.{dependency}
 use Rattle.run_model.specs.Lists.{is_known_orphan}
 use Rattle.run_model.specs.Votes.{has_voted, all_prepared}
@@ -45,8 +45,8 @@ is_sub arm.Top = false
 abbrev pub has_sub : List ArmKind → Bool
 has_sub kinds = list_any (λ k. is_sub k) kinds
 
-abbrev pub no_guardian : Setup → ℕ → Check
-no_guardian setup g = (why.NoGuardian, (g == 0) || nat_lt (length setup) g)
+abbrev pub no_guardian : Opening → ℕ → Check
+no_guardian opening g = (why.NoGuardian, (g == 0) || nat_lt (length opening.setup) g)
 
 -- What refusals ask of a history: of an action, whether it was begun, has ended, is ended or closed, has closed, is busy, is gone, is a
 -- known orphan at its home, and whether all its participants are ready; its home; the next number under it; of a guardian, whether
@@ -68,18 +68,18 @@ pub record Facts : Type 0 where
   pub told : ℕ → Name → Bool
 
 -- the facts of a flat history
-abbrev pub facts_of : Setup → List Event → Facts
-facts_of setup past = record {
+abbrev pub facts_of : Opening → List Event → Facts
+facts_of opening past = record {
   begun = λ a. is_begun a past;
   ended = λ a. is_ended a past;
   done = λ a. is_done a past;
   closed = λ a. is_closed a past;
   busy = λ a. is_busy a past;
   gone = λ a. is_gone a past;
-  orphan = λ a. is_known_orphan setup a (home_of a past) past;
-  ready = λ t. all_prepared setup t past;
+  orphan = λ a. is_known_orphan opening a (home_of a past) past;
+  ready = λ t. all_prepared opening t past;
   home = λ a. home_of a past;
-  next = λ a. next_number a past;
+  next = λ a. next_number opening a past;
   down = λ g. is_down g past;
   takes_part = λ g t. not (is_none (dependency t g past));
   voted = λ g t. has_voted g t past;
@@ -89,8 +89,8 @@ facts_of setup past = record {
 abbrev pub no_action : Name → Facts → Check
 no_action a f = (why.NoAction, not (f.begun a))
 
-abbrev pub no_object : Setup → ObjectId → Check
-no_object setup x = (why.NoObject, (x.number == 0) || nat_lt (length (objects_at setup x.guardian)) x.number)
+abbrev pub no_object : Opening → ObjectId → Check
+no_object opening x = (why.NoObject, (x.number == 0) || nat_lt (length (objects_at opening.setup x.guardian)) x.number)
 
 abbrev pub ended : Name → Facts → Check
 ended a f = (why.Ended, f.ended a)
@@ -153,42 +153,42 @@ is_past_arms_by next a kinds =
     (length kinds == 0)
     || (nat_lt max_arms (length kinds) || list_any (λ b. is_used_up (last_of b)) (arm_names a (next a) (next []) kinds))
 
-abbrev pub is_past_arms : Name → List ArmKind → List Event → Bool
-is_past_arms a kinds past = is_past_arms_by (λ b. next_number b past) a kinds
+abbrev pub is_past_arms : Opening → Name → List ArmKind → List Event → Bool
+is_past_arms opening a kinds past = is_past_arms_by (λ b. next_number opening b past) a kinds
 
-abbrev pub bad_operation : Setup → ObjectId → op.Op → Check
-bad_operation setup x wanted = (why.BadOp, not (knows (opening setup x) wanted))
+abbrev pub bad_operation : Opening → ObjectId → op.Op → Check
+bad_operation opening x wanted = (why.BadOp, not (knows (first_content opening x) wanted))
 
 -- the refusals of a step, in order
-abbrev pub checks_by : Setup → Facts → Step → List Check
-checks_by setup f (Top g) = no_guardian setup g ∷ down g f ∷ limit (is_used_up (f.next [])) ∷ []
-checks_by setup f (NestedTop a) =
+abbrev pub checks_by : Opening → Facts → Step → List Check
+checks_by opening f (Top g) = no_guardian opening g ∷ down g f ∷ limit (is_used_up (f.next [])) ∷ []
+checks_by opening f (NestedTop a) =
     no_action a f ∷ ended_or_closed a f ∷ busy a f ∷ gone a f ∷ known_orphan a f ∷ limit (is_used_up (f.next [])) ∷ []
-checks_by setup f (Call a g) =
-    no_guardian setup g ∷ no_action a f ∷ ended_or_closed a f ∷ busy a f ∷ gone a f ∷ down g f
+checks_by opening f (Call a g) =
+    no_guardian opening g ∷ no_action a f ∷ ended_or_closed a f ∷ busy a f ∷ gone a f ∷ down g f
     ∷ known_orphan a f ∷ too_deep true a ∷ limit (is_used_up (f.next a)) ∷ []
-checks_by setup f (Arms a kinds) =
+checks_by opening f (Arms a kinds) =
     no_action a f ∷ ended_or_closed a f ∷ busy a f ∷ gone a f ∷ known_orphan a f
     ∷ too_deep (has_sub kinds) a ∷ limit (is_past_arms_by f.next a kinds) ∷ []
-checks_by setup f (Op a x wanted) =
-    no_guardian setup x.guardian ∷ no_action a f ∷ no_object setup x ∷ ended_or_closed a f ∷ busy a f ∷ gone a f
-    ∷ elsewhere a x f ∷ known_orphan a f ∷ bad_operation setup x wanted ∷ []
-checks_by setup f (Commit a) =
+checks_by opening f (Op a x wanted) =
+    no_guardian opening x.guardian ∷ no_action a f ∷ no_object opening x ∷ ended_or_closed a f ∷ busy a f ∷ gone a f
+    ∷ elsewhere a x f ∷ known_orphan a f ∷ bad_operation opening x wanted ∷ []
+checks_by opening f (Commit a) =
     no_action a f ∷ ended_or_closed a f ∷ busy a f ∷ gone a f ∷ known_orphan a f ∷ not_sub a ∷ []
-checks_by setup f (Close t) =
+checks_by opening f (Close t) =
     no_action t f ∷ ended_or_closed t f ∷ busy t f ∷ gone t f ∷ known_orphan t f ∷ not_top t ∷ []
-checks_by setup f (Prepare g t) =
-    no_guardian setup g ∷ no_action t f ∷ ended t f ∷ gone t f ∷ down g f ∷ no_participant g t f ∷ not_top t
+checks_by opening f (Prepare g t) =
+    no_guardian opening g ∷ no_action t f ∷ ended t f ∷ gone t f ∷ down g f ∷ no_participant g t f ∷ not_top t
     ∷ not_closed t f ∷ voted_already g t f ∷ []
-checks_by setup f (Decide t) =
+checks_by opening f (Decide t) =
     no_action t f ∷ ended t f ∷ gone t f ∷ not_top t ∷ not_closed t f ∷ unready t f ∷ []
-checks_by setup f (Abort a) = no_action a f ∷ ended a f ∷ []
-checks_by setup f (Tell g a) = no_guardian setup g ∷ no_action a f ∷ down g f ∷ not_so a f ∷ told_already g a f ∷ []
-checks_by setup f (Crash g) = no_guardian setup g ∷ down g f ∷ []
-checks_by setup f (Recover g) = no_guardian setup g ∷ is_up g f ∷ []
+checks_by opening f (Abort a) = no_action a f ∷ ended a f ∷ []
+checks_by opening f (Tell g a) = no_guardian opening g ∷ no_action a f ∷ down g f ∷ not_so a f ∷ told_already g a f ∷ []
+checks_by opening f (Crash g) = no_guardian opening g ∷ down g f ∷ []
+checks_by opening f (Recover g) = no_guardian opening g ∷ is_up g f ∷ []
 
-abbrev pub checks : Setup → Step → List Event → List Check
-checks setup step past = checks_by setup (facts_of setup past) step
+abbrev pub checks : Opening → Step → List Event → List Check
+checks opening step past = checks_by opening (facts_of opening past) step
 
 -- the first refusal that applies
 abbrev pub first_refusal : List Check → Option Refusal

@@ -10,7 +10,7 @@ use Rattle.values.specs.declared.content.Content.{Content}
 use Rattle.values.specs.Values.{value_text}
 use Rattle.values.specs.Contents.{IsContent, content_data}
 use Rattle.atomic_types.specs.declared.op.Op as op
-use Rattle.atomic_types.specs.declared.op.Op.TheVariants.{Get, Set, Low, High, Size, Fetch, Store, AddHigh, AddLow, RemoveHigh, RemoveLow, Is, ValueOf, Change}
+use Rattle.atomic_types.specs.declared.op.Op.TheVariants.{Get, Set, Low, High, Size, Fetch, Store, AddHigh, AddLow, RemoveHigh, RemoveLow, Is, ValueOf, Change, Total, Put, Add}
 use Rattle.atomic_types.specs.declared.op.Reply.{Reply}
 use Rattle.atomic_types.specs.declared.op.Reply.TheVariants.{Gives, Truth, Signals}
 use Rattle.atomic_types.specs.declared.op.Reply.TheVariants as reply
@@ -27,7 +27,7 @@ use Rattle.run_model.specs.declared.answer.Answer.{Answer}
 use Rattle.run_model.specs.declared.answer.Answer.TheVariants.{Began, Granted, Waits, VoteYes, VoteNo, Done, Refused}
 use Rattle.run_model.specs.declared.answer.Refusal.{Refusal}
 use Rattle.run_model.specs.declared.answer.Refusal.TheVariants.{NoGuardian, NoAction, NoObject, Ended, Busy, Gone, Down, Elsewhere, Orphan, NotSo, TooDeep, NotTop, NotSub, NotClosed, Already, Unready, IsUp, Limit, BadOp}
-use Rattle.run_model.specs.Replay.{Setup}
+use Rattle.run_model.specs.Openings.{Setup}
 use Rattle.std.specs.Prelude.{true, false}
 
 -- fields of a line are parted by one space
@@ -54,6 +54,9 @@ op_text RemoveLow = codes "reml"
 op_text (Is tag) = codes "is " ++ tag
 op_text (ValueOf tag) = codes "value " ++ tag
 op_text (Change tag v) = codes "change " ++ tag ++ space ∷ value_text v
+op_text Total = codes "total"
+op_text (Put v) = codes "put " ++ value_text v
+op_text (Add v) = codes "add " ++ value_text v
 
 -- the kinds of arms, a space before each
 abbrev pub kinds_text : List ArmKind → List ℕ

@@ -3,7 +3,7 @@ ghost use Rattle.std.specs.List.{AllByRecursion};
 ghost use Rattle.serde_json.specs.Data.{Data, Items, array, object, no_members, member};
 ghost use Rattle.serde_json.specs.View.{view, items_view};
 ghost use Rattle.values.specs.declared.content.Content.{Content};
-ghost use Rattle.run_model.specs.Replay.{objects_at};
+ghost use Rattle.run_model.specs.Openings.{objects_at};
 ghost use Rattle.run_model.specs.Texts.{IsSetup, IsSetupText, AreObjects, setup_data};
 ghost use Rattle.limits.specs.Limits.{max_guardians, max_objects};
 ghost use Rattle.run_model.specs.Documents.{guardian_data};

@@ -100,6 +100,15 @@ fn append_op(operation: &Op, text: &mut String) -> Result<(), AllocError>
             append_words("change ", tag.as_str(), text)?;
             append_value(value, text)
         }
+        Op::Total => text.push_str("total"),
+        Op::Put(value) => {
+            text.push_str("put")?;
+            append_value(value, text)
+        }
+        Op::Add(value) => {
+            text.push_str("add")?;
+            append_value(value, text)
+        }
     }
 }
 

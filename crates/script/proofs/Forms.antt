@@ -31,7 +31,7 @@ use Rattle.script_model.specs.Reading.{Outcome, Answers, and_then, each, step, n
 use Rattle.script_model.specs.declared.fault.FaultKind.TheVariants as is
 use Rattle.script_model.specs.Shapes.{only_member, the_array, the_object, the_list, are_named, kind_in}
 use Rattle.script_model.specs.ExpressionReading.{short_text}
-use Rattle.script_model.specs.ContentReading.{is_wanted, int_value, value_in, fields_in, tags_in, tag_list, items_in, items_of, is_low, ask_names, array_in, variant_in, content_member, content_of, content}
+use Rattle.script_model.specs.ContentReading.{is_wanted, int_value, value_in, fields_in, tags_in, tag_list, items_in, items_of, is_low, ask_names, array_in, variant_in, counter_in, content_member, content_of, content}
 use Rattle.script.proofs.Asked.{ask_true}
 use Rattle.script.proofs.Items.{array_is}
 use Rattle.script.proofs.Spreading.{or_either}
@@ -200,6 +200,13 @@ pub content_variant : (name : List ℕ) (d : Data) (place inside : List ℕ) (r 
     → same_bytes name (codes "variant") ≡ true → inside ≡ step place (codes "variant") → Answers (variant_in d inside) r
     → Answers (content_member name d place) r
 content_variant name d place inside r other second same at h = rw (other, second, same) (subst (λ q. Answers (variant_in d q) r) at h)
+
+pub content_counter : (name : List ℕ) (d : Data) (place inside : List ℕ) (r : Outcome Content) → same_bytes name (codes "record") ≡ false
+    → same_bytes name (codes "array") ≡ false → same_bytes name (codes "variant") ≡ false
+    → same_bytes name (codes "counter") ≡ true → inside ≡ step place (codes "counter") → Answers (counter_in d inside) r
+    → Answers (content_member name d place) r
+content_counter name d place inside r other second third same at h =
+    rw (other, second, third, same) (subst (λ q. Answers (counter_in d q) r) at h)
 
 pub content_only : (d : Data) (place : List ℕ) (name : List ℕ) (inner : Data) (r : Outcome Content) → only_member d ≡ Some (name, inner)
     → Answers (content_member name inner place) r

@@ -16,8 +16,8 @@ use script_model::{FaultKind, ScriptFault};
 use serde_json::{Map, Value as Json};
 use std::alloc::Global;
 use values::{
-    Array, Content, Field, GREATEST_INDEX, Identifier, Kind, LEAST_INDEX, MAX_FIELDS, MAX_ITEMS,
-    MAX_TAGS, Record, Tag, Value, ValueFault, Variant,
+    Array, Content, Counter, Field, GREATEST_INDEX, Identifier, Kind, LEAST_INDEX, MAX_FIELDS,
+    MAX_ITEMS, MAX_TAGS, Record, Tag, Value, ValueFault, Variant,
 };
 
 /// The identifier of these characters, which were asked to be one: so only memory can be wanting.
@@ -216,6 +216,12 @@ fn variant_in(alloc: Global, place: &Place<'_>, json: &Json) -> Result<Content, 
     }
 }
 
+fn counter_in(alloc: Global, place: &Place<'_>, json: &Json) -> Result<Content, ScriptFault>
+    ensures { Answers (spec.counter_in (view json.now) (pointer place.now)) result }
+{
+    Ok(Content::Counter(Counter::new(int(alloc, place, json)?)))
+}
+
 fn content_member(
     alloc: Global,
     place: &Place<'_>,
@@ -230,6 +236,8 @@ fn content_member(
         array_in(alloc, &(&*place).member("array"), json)
     } else if name == "variant" {
         variant_in(alloc, &(&*place).member("variant"), json)
+    } else if name == "counter" {
+        counter_in(alloc, &(&*place).member("counter"), json)
     } else {
         Err(place.fault(alloc, FaultKind::Shape))
     }

@@ -57,6 +57,9 @@ fn op_named(name: &str) -> Option<OpName>
         "is" => Some(OpName::Is),
         "value" => Some(OpName::ValueOf),
         "change" => Some(OpName::Change),
+        "total" => Some(OpName::Total),
+        "put" => Some(OpName::Put),
+        "add" => Some(OpName::Add),
         _ => None,
     }
 }
@@ -66,9 +69,9 @@ fn arity(name: OpName) -> usize
 {
     match name {
         OpName::Low | OpName::High | OpName::Size => 0,
-        OpName::RemoveHigh | OpName::RemoveLow => 0,
+        OpName::RemoveHigh | OpName::RemoveLow | OpName::Total => 0,
         OpName::Get | OpName::Fetch | OpName::AddHigh | OpName::AddLow => 1,
-        OpName::Is | OpName::ValueOf => 1,
+        OpName::Is | OpName::ValueOf | OpName::Put | OpName::Add => 1,
         OpName::Set | OpName::Store | OpName::Change => 2,
     }
 }
@@ -78,6 +81,7 @@ fn gives_value(name: OpName) -> bool
 {
     match name {
         OpName::Set | OpName::Store | OpName::AddHigh | OpName::AddLow | OpName::Change => false,
+        OpName::Put | OpName::Add => false,
         _ => true,
     }
 }
@@ -245,6 +249,18 @@ impl Arguments<'_, '_> {
         }
     }
 
+    fn of_counter(&self, name: OpName) -> Result<Typed, ScriptFault>
+        ensures { Answers (spec.counter_operation self.now.scope.now name
+            (items_view self.now.documents.now) (pointer self.now.place.now)) result }
+    {
+        match name {
+            OpName::Total => Ok((Operation::Total, Some(Sort::Int))),
+            OpName::Put => Ok((Operation::Put(self.value(0, Kind::Int)?), None)),
+            OpName::Add => Ok((Operation::Add(self.value(0, Kind::Int)?), None)),
+            _ => self.no_operation(),
+        }
+    }
+
     fn of_object(&self, content: &Content, name: OpName) -> Result<Typed, ScriptFault>
         ensures { Answers (spec.object_operation content.now self.now.scope.now name
             (items_view self.now.documents.now) (pointer self.now.place.now)) result }
@@ -253,6 +269,7 @@ impl Arguments<'_, '_> {
             Content::Record(record) => self.of_record(record, name),
             Content::Array(array) => self.of_array(array.kind(), name),
             Content::Variant(variant) => self.of_variant(variant, name),
+            Content::Counter(_) => self.of_counter(name),
         }
     }
 }

@@ -7,7 +7,7 @@ use Rattle.script_model.specs.Resolved.{IsResolved}
 use Rattle.script_laws.specs.Laws.{HasFewObjects, IsWithinLimits}
 use Rattle.script_laws.proofs.Limits.{reading_keeps_limits}
 use Rattle.script_laws.proofs.Scripts.{reading_resolves}
-use Rattle.run_model.specs.Replay.{Setup}
+use Rattle.run_model.specs.Openings.{Setup}
 use Rattle.limits.specs.Limits.{max_guardians}
 use Rattle.script_engine.specs.Running.{IsFit}
 

@@ -9,6 +9,7 @@ use Rattle.std.specs.Ordering.{match_ordering, ordering_reverse}
 use Rattle.values.specs.declared.content.Content.{Content}
 use Rattle.run_model.specs.Runs.{World}
 use Rattle.run_model.specs.Versions.{base_of}
+use Rattle.run_model.specs.Openings.{opening_in}
 use Rattle.script_engine.specs.Running.{numbered, first_bases}
 
 -- ---- lines
@@ -67,11 +68,11 @@ first_below w g (suc n) k lt =
 
 -- the base of one object more
 pub one_more_base : (w : World) (g n : ℕ) (before after : List (ℕ × Content)) (base : Content) → before ≡ first_bases w g n
-    → after ≡ insert_entry nat_cmp before (n + 1) base → base ≡ base_of w.setup (record { guardian = g; number = n + 1 }) w.past
+    → after ≡ insert_entry nat_cmp before (n + 1) base → base ≡ base_of (opening_in w.lists) (record { guardian = g; number = n + 1 }) w.past
     → after ≡ first_bases w g (n + 1)
 one_more_base w g n before after base so_far put is =
     let next : n + 1 ≡ suc n = omega arith in
     put ∙ (λ k. insert_entry nat_cmp (so_far k) (n + 1) (is k))
-    ∙ ap (λ m. insert_entry nat_cmp (first_bases w g n) m (base_of w.setup (record { guardian = g; number = m }) w.past)) next
+    ∙ ap (λ m. insert_entry nat_cmp (first_bases w g n) m (base_of (opening_in w.lists) (record { guardian = g; number = m }) w.past)) next
     ∙ put_last (first_bases w g n) (suc n) _ (first_below w g n (suc n) (omega arith))
     ∙ ap (first_bases w g) (sym next)

@@ -8,7 +8,7 @@ use Rattle.argus_engine.specs.declared.engine.Fault.TheVariants.{Memory, Output,
 use Rattle.stable_store.specs.Stored.{Stored}
 use Rattle.values.specs.declared.content.Content.{Content}
 use Rattle.script_model.specs.declared.checked.Checked.{Checked}
-use Rattle.run_model.specs.Replay.{Setup}
+use Rattle.run_model.specs.Openings.{Setup}
 use Rattle.run_model.specs.Runs.{World}
 use Rattle.activities.specs.declared.client.ClientEnd.{ClientEnd}
 use Rattle.argus_engine.specs.declared.engine.Ended.{Ended}
@@ -44,7 +44,7 @@ count_of_first w (suc n) =
 pub count_left : (script : Checked) (setup : Setup) (ends : List ClientEnd) (bases : List (List (ℕ × Content)))
     → WasRun script setup ends bases → length bases ≡ length setup
 count_left script setup ends bases run =
-    ap length run.left ∙ count_of_first run.world (length run.world.setup) ∙ ap length run.are_run.goes_on.same_setup
+    ap length run.left ∙ count_of_first run.world (length run.world.lists.setup) ∙ ap (λ l. length l.setup) run.are_run.goes_on.same_opening
 
 -- ---- over stores
 

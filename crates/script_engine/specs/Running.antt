@@ -6,8 +6,8 @@ use Rattle.values.specs.Values.{value_text}
 use Rattle.values.specs.Contents.{content_text}
 use Rattle.script_model.specs.declared.checked.Checked.{Checked}
 use Rattle.script_model.specs.Reaching.{Fits}
-use Rattle.run_model.specs.Replay.{Setup, objects_at}
-use Rattle.run_model.specs.Runs.{World}
+use Rattle.run_model.specs.Openings.{Setup, objects_at, opening_in}
+use Rattle.run_model.specs.Runs.{World, new_world}
 use Rattle.run_model.specs.Transcripts.{line_feed}
 use Rattle.run_model.specs.Versions.{base_of}
 use Rattle.activities.specs.declared.client.ClientEnd.{ClientEnd}
@@ -19,20 +19,16 @@ use Rattle.argus_engine.specs.Serving.{Begins}
 abbrev pub IsFit : Checked → Type 0
 IsFit script = (document : Data) × Fits document script
 
--- the world of a setup, to which nothing has happened
-abbrev pub opening_world : Setup → World
-opening_world setup = record { setup = setup; past = [] }
-
 -- ---- bases
 
 -- the bases of the first so many objects at g, each by its number
 abbrev pub first_bases : World → ℕ → ℕ → List (ℕ × Content)
 first_bases w g zero = []
-first_bases w g (suc n) = first_bases w g n ++ (suc n, base_of w.setup (record { guardian = g; number = suc n }) w.past) ∷ []
+first_bases w g (suc n) = first_bases w g n ++ (suc n, base_of (opening_in w.lists) (record { guardian = g; number = suc n }) w.past) ∷ []
 
 -- those of all objects at g
 abbrev pub bases_at : World → ℕ → List (ℕ × Content)
-bases_at w g = first_bases w g (length (objects_at w.setup g))
+bases_at w g = first_bases w g (length (objects_at w.lists.setup g))
 
 -- those of the first so many guardians
 abbrev pub bases_of_first : World → ℕ → List (List (ℕ × Content))
@@ -40,7 +36,7 @@ bases_of_first w zero = []
 bases_of_first w (suc n) = bases_of_first w n ++ bases_at w (suc n) ∷ []
 
 abbrev pub all_bases : World → List (List (ℕ × Content))
-all_bases w = bases_of_first w (length w.setup)
+all_bases w = bases_of_first w (length w.lists.setup)
 
 -- ---- lines
 
@@ -75,7 +71,7 @@ run_text ends bases = numbered end_line 1 ends ++ numbered base_lines 1 bases
 -- the script's clients were run in a new world of this setup: so they ended, and these bases they left
 pub record WasRun (script : Checked) (setup : Setup) (ends : List ClientEnd) (bases : List (List (ℕ × Content))) : Type 0 where
   pub world : World
-  pub are_run : AreRun script.clients (opening_world setup) world ends
+  pub are_run : AreRun script.clients (new_world setup) world ends
   pub left : bases ≡ all_bases world
 
 -- the text says how

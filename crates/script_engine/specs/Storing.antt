@@ -9,7 +9,7 @@ use Rattle.sqlite_trees.specs.declared.store.Store.{Ghosts}
 use Rattle.sql_store.specs.Calls.{after_save}
 use Rattle.sql_store.specs.Views.{View, content, found}
 use Rattle.script_model.specs.declared.checked.Checked.{Checked}
-use Rattle.run_model.specs.Replay.{Setup}
+use Rattle.run_model.specs.Openings.{Setup}
 use Rattle.run_model.specs.Transcripts.{line_feed}
 use Rattle.activities.specs.declared.client.ClientEnd.{ClientEnd}
 use Rattle.argus_engine.specs.declared.engine.Ended.{Ended}

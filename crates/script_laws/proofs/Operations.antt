@@ -7,7 +7,7 @@ use Rattle.serde_json.specs.Events.{items_len}
 use Rattle.values.specs.declared.value.Kind.{Kind}
 use Rattle.values.specs.declared.record.Field.{Field}
 use Rattle.values.specs.declared.content.Content.{Content}
-use Rattle.values.specs.declared.content.Content.TheVariants.{Record, Array, Variant}
+use Rattle.values.specs.declared.content.Content.TheVariants.{Record, Array, Variant, Counter}
 use Rattle.values.specs.Values.{same_kind}
 use Rattle.values.specs.Items.{ArrayContent}
 use Rattle.values.specs.declared.value.Kind.TheVariants as kind
@@ -24,7 +24,7 @@ use Rattle.script_model.specs.Reading.{Read, ask, need, nth, reads, ◌>>=◌, �
 use Rattle.script_model.specs.Shapes.{the_int, the_string}
 use Rattle.script_model.specs.Scopes.{Scope, sort_of_kind}
 use Rattle.script_model.specs.ExpressionReading.{expr_of_kind, int_expr}
-use Rattle.script_model.specs.OperationReading.{Typed, argument, argument_at, array_operation, field_kind, has_arity, known, numbered, object_operation, op_in, op_parts, operation, record_operation, the_object_numbered, the_op_name, variant_operation}
+use Rattle.script_model.specs.OperationReading.{Typed, argument, argument_at, array_operation, counter_operation, field_kind, has_arity, known, numbered, object_operation, op_in, op_parts, operation, record_operation, the_object_numbered, the_op_name, variant_operation}
 use Rattle.script_model.specs.Resolved.{content_has, expr_kind, gives_kind, operation_is_bound, takes_expr}
 use Rattle.script_laws.proofs.Steps.{needed_ok, no_fault, same_ok, then_read}
 use Rattle.script_laws.proofs.Scopes.{frames_of, known_kind}
@@ -163,11 +163,31 @@ variant_typed v scope name.Change args place t h =
     (record { has = λ b fit. and_from _ _ (takes_known _ f.1 e is' w.0) fit; bound = w.1; known = refl })
 variant_typed v scope _ args place t h = no_fault h
 
+-- ---- counters
+
+counter_typed : (z : ℤ) (scope : Scope) (n : OpName) (args : Items) (place : List ℕ) (t : Typed)
+    → counter_operation scope n args place ≡ Ok t → IsTyped (Counter z) scope t
+counter_typed z scope name.Total args place t h =
+    subst (IsTyped (Counter z) scope) (same_ok (op.Total, Some Int) t h)
+    (record { has = λ b fit. int_fits b fit; bound = refl; known = refl })
+counter_typed z scope name.Put args place t h =
+    let (e, r, s) = then_read (argument 0 (expr_of_kind kind.Int scope) args) (λ e. reads (op.Put e, None)) place t h in
+    let v = value_argument kind.Int scope 0 args place e r in
+    subst (IsTyped (Counter z) scope) (same_ok (op.Put e, None) t s)
+    (record { has = λ b fit. and_from _ _ (takes_known (Some kind.Int) kind.Int e refl v.0) fit; bound = v.1; known = refl })
+counter_typed z scope name.Add args place t h =
+    let (e, r, s) = then_read (argument 0 (expr_of_kind kind.Int scope) args) (λ e. reads (op.Add e, None)) place t h in
+    let v = value_argument kind.Int scope 0 args place e r in
+    subst (IsTyped (Counter z) scope) (same_ok (op.Add e, None) t s)
+    (record { has = λ b fit. and_from _ _ (takes_known (Some kind.Int) kind.Int e refl v.0) fit; bound = v.1; known = refl })
+counter_typed z scope _ args place t h = no_fault h
+
 object_typed : (content : Content) (scope : Scope) (n : OpName) (args : Items) (place : List ℕ) (t : Typed)
     → object_operation content scope n args place ≡ Ok t → IsTyped content scope t
 object_typed (Record fields) scope n args place t h = record_typed fields scope n args place t h
 object_typed (Array a) scope n args place t h = array_typed a scope n args place t h
 object_typed (Variant v) scope n args place t h = variant_typed v scope n args place t h
+object_typed (Counter z) scope n args place t h = counter_typed z scope n args place t h
 
 -- ---- with the object's number
 

@@ -11,7 +11,7 @@ use Rattle.values.specs.declared.value.Value.TheVariants as value
 use Rattle.values.specs.declared.record.Field.{Field}
 use Rattle.values.specs.declared.variant.Tag.{Tag}
 use Rattle.values.specs.declared.content.Content.{Content}
-use Rattle.values.specs.declared.content.Content.TheVariants.{Record, Array, Variant}
+use Rattle.values.specs.declared.content.Content.TheVariants.{Record, Array, Variant, Counter}
 use Rattle.values.specs.Values.{same_kind}
 use Rattle.values.specs.Fields.{max_fields}
 use Rattle.values.specs.Items.{max_items, least_index, greatest_index}
@@ -116,13 +116,21 @@ variant_in d = do
   v ← at (codes "value") (value_in (Some k) held)
   reads (Variant (record { tags = found; tag = name; value = v }))
 
+-- ---- counters
+
+abbrev pub counter_in : Data → Read Content
+counter_in d = do
+  n ← the_int d
+  reads (Counter n)
+
 -- ---- any content
 
 abbrev pub content_member : List ℕ → Data → Read Content
 content_member name d =
     if same_bytes name (codes "record") then at (codes "record") (record_in d)
     else (if same_bytes name (codes "array") then at (codes "array") (array_in d)
-    else (if same_bytes name (codes "variant") then at (codes "variant") (variant_in d) else fault is.Shape))
+    else (if same_bytes name (codes "variant") then at (codes "variant") (variant_in d)
+    else (if same_bytes name (codes "counter") then at (codes "counter") (counter_in d) else fault is.Shape)))
 
 abbrev pub content_of : Option (List ℕ × Data) → Read Content
 content_of None = fault is.Shape

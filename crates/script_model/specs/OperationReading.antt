@@ -5,9 +5,10 @@ use Rattle.serde_json.specs.Data.{Data, array, Items, item}
 use Rattle.serde_json.specs.Find.{get_item, as_str}
 use Rattle.values.specs.Words.{same_bytes}
 use Rattle.values.specs.declared.value.Kind.{Kind}
+use Rattle.values.specs.declared.value.Kind.TheVariants as kind
 use Rattle.values.specs.declared.record.Field.{Field}
 use Rattle.values.specs.declared.content.Content.{Content}
-use Rattle.values.specs.declared.content.Content.TheVariants.{Record, Array, Variant}
+use Rattle.values.specs.declared.content.Content.TheVariants.{Record, Array, Variant, Counter}
 use Rattle.values.specs.Values.{kind_of}
 use Rattle.values.specs.Fields.{field_value}
 use Rattle.values.specs.Tags.{VariantContent, tag_kind}
@@ -30,7 +31,7 @@ op_names =
     (codes "get", name.Get) ∷ (codes "set", name.Set) ∷ (codes "low", name.Low) ∷ (codes "high", name.High) ∷ (codes "size", name.Size) ∷
     (codes "fetch", name.Fetch) ∷ (codes "store", name.Store) ∷ (codes "addh", name.AddHigh) ∷ (codes "addl", name.AddLow) ∷
     (codes "remh", name.RemoveHigh) ∷ (codes "reml", name.RemoveLow) ∷ (codes "is", name.Is) ∷ (codes "value", name.ValueOf) ∷
-    (codes "change", name.Change) ∷ []
+    (codes "change", name.Change) ∷ (codes "total", name.Total) ∷ (codes "put", name.Put) ∷ (codes "add", name.Add) ∷ []
 
 abbrev pub op_among : List (List ℕ × OpName) → List ℕ → Option OpName
 op_among [] n = None
@@ -55,6 +56,9 @@ arity name.RemoveLow = 0
 arity name.Is = 1
 arity name.ValueOf = 1
 arity name.Change = 2
+arity name.Total = 0
+arity name.Put = 1
+arity name.Add = 1
 
 -- whether its reply is a value
 abbrev pub gives_value : OpName → Bool
@@ -63,6 +67,8 @@ gives_value name.Store = false
 gives_value name.AddHigh = false
 gives_value name.AddLow = false
 gives_value name.Change = false
+gives_value name.Put = false
+gives_value name.Add = false
 gives_value _ = true
 
 -- ---- operations of an object
@@ -138,10 +144,21 @@ variant_operation v scope name.Change args = do
   reads (op.Change t.0 e, None)
 variant_operation v scope _ args = no_operation
 
+abbrev pub counter_operation : Scope → OpName → Items → Read Typed
+counter_operation scope name.Total args = reads (op.Total, Some Int)
+counter_operation scope name.Put args = do
+  e ← argument 0 (expr_of_kind kind.Int scope) args
+  reads (op.Put e, None)
+counter_operation scope name.Add args = do
+  e ← argument 0 (expr_of_kind kind.Int scope) args
+  reads (op.Add e, None)
+counter_operation scope _ args = no_operation
+
 abbrev pub object_operation : Content → Scope → OpName → Items → Read Typed
 object_operation (Record fields) scope n args = record_operation fields scope n args
 object_operation (Array a) scope n args = array_operation a.kind scope n args
 object_operation (Variant v) scope n args = variant_operation v scope n args
+object_operation (Counter z) scope n args = counter_operation scope n args
 
 -- ---- the list of an operation: the object's number, the name, and the arguments
 

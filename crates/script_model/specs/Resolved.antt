@@ -4,7 +4,7 @@ use Rattle.std.specs.List.{list_all}
 use Rattle.values.specs.declared.value.Kind.{Kind}
 use Rattle.values.specs.declared.value.Kind.TheVariants as kind
 use Rattle.values.specs.declared.content.Content.{Content}
-use Rattle.values.specs.declared.content.Content.TheVariants.{Record, Array, Variant}
+use Rattle.values.specs.declared.content.Content.TheVariants.{Record, Array, Variant, Counter}
 use Rattle.values.specs.declared.record.Field.{Field}
 use Rattle.values.specs.Values.{same_kind}
 use Rattle.values.specs.Tags.{VariantContent, tag_kind}
@@ -156,10 +156,17 @@ variant_has v (op.ValueOf tag) b = gives_kind (tag_kind v.tags tag) b
 variant_has v (op.Change tag e) b = takes_expr (tag_kind v.tags tag) e && is_nothing b
 variant_has v _ b = false
 
+abbrev pub counter_has : Operation → Binding → Bool
+counter_has op.Total b = is_int b
+counter_has (op.Put e) b = takes_expr (Some kind.Int) e && is_nothing b
+counter_has (op.Add e) b = takes_expr (Some kind.Int) e && is_nothing b
+counter_has _ b = false
+
 abbrev pub content_has : Content → Operation → Binding → Bool
 content_has (Record fields) o b = record_has fields o b
 content_has (Array a) o b = array_has a.kind o b
 content_has (Variant v) o b = variant_has v o b
+content_has (Counter n) o b = counter_has o b
 
 abbrev pub operation_is_bound : Frames → Operation → Bool
 operation_is_bound frames (op.Set name e) = expr_is_bound frames e
@@ -168,6 +175,8 @@ operation_is_bound frames (op.Store i e) = int_is_bound frames.ints i && expr_is
 operation_is_bound frames (op.AddHigh e) = expr_is_bound frames e
 operation_is_bound frames (op.AddLow e) = expr_is_bound frames e
 operation_is_bound frames (op.Change tag e) = expr_is_bound frames e
+operation_is_bound frames (op.Put e) = expr_is_bound frames e
+operation_is_bound frames (op.Add e) = expr_is_bound frames e
 operation_is_bound frames _ = true
 
 -- ---- statements

@@ -17,6 +17,9 @@ pub enum OpName {
     Is,
     ValueOf,
     Change,
+    Total,
+    Put,
+    Add,
 }
 
 /// What kind of thing a variable or an expression is. It is unknown where a handler that does not say what it gives is

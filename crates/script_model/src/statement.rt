@@ -19,6 +19,9 @@ pub enum Operation {
     Is(Identifier),
     ValueOf(Identifier),
     Change(Identifier, Expr),
+    Total,
+    Put(Expr),
+    Add(Expr),
 }
 
 /// What a reply is, and the place at which it is bound in the frame of its kind, if it is. The place that follows the

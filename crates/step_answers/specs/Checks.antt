@@ -1,13 +1,7 @@
 -- Parts of the refusals of steps: those that many steps have in common.
-use Rattle.std.specs.Prelude.{Bool, ◌||◌, ◌==◌, nat_lt, List, [], ◌∷◌, length}
+use Rattle.std.specs.Prelude.{List, [], ◌∷◌}
 use Rattle.action_names.specs.Names.{Name}
-use Rattle.run_model.specs.declared.step.ObjectId.{ObjectId}
-use Rattle.run_model.specs.Replay.{Setup, objects_at}
 use Rattle.run_model.specs.Refusals.{Check, Facts, no_action, ended_or_closed, busy, gone, known_orphan}
-
--- the setup has no such object
-abbrev pub is_no_object : Setup → ObjectId → Bool
-is_no_object setup x = (x.number == 0) || nat_lt (length (objects_at setup x.guardian)) x.number
 
 -- why an action that was begun may do nothing more
 abbrev pub worker_checks : Name → Facts → List Check

@@ -14,14 +14,14 @@ mod refusals;
 
 pub use outcomes::outcome_of;
 pub use reads::{Reads, ReadsAction};
-pub use refusals::{opening, refusal_of, refusal_of_operation};
+pub use refusals::{refusal_of, refusal_of_operation};
 use run_model::{Answer, Name, ObjectId, Op, Step};
 use std::alloc::AllocError;
 
 /// The answer of a step by this reading: its first refusal, or what comes of it.
 pub fn answer_of<A: Reads>(reads: &A, step: &Step) -> Result<Answer, AllocError>
     requires { A.is_sound reads.now }
-    ensures { IfOk result (λ answer. answer ≡ answer_by (A.setup reads.now) (A.facts reads.now) (A.results reads.now) step.now) }
+    ensures { IfOk result (λ answer. answer ≡ answer_by (A.opening reads.now) (A.facts reads.now) (A.results reads.now) step.now) }
 {
     match refusal_of(reads, step)? {
         Some(why) => Ok(Answer::Refused(why)),
@@ -37,7 +37,7 @@ pub fn operation_of<A: ReadsAction>(
     operation: &Op,
 ) -> Result<Answer, AllocError>
     requires { A.is_sound reads.now }
-    ensures { IfOk result (λ answer. answer ≡ answer_by (A.setup reads.now) (A.facts reads.now) (A.results reads.now)
+    ensures { IfOk result (λ answer. answer ≡ answer_by (A.opening reads.now) (A.facts reads.now) (A.results reads.now)
         (steps.Op action.now object operation.now)) }
 {
     match refusal_of_operation(reads, action, object, operation)? {

@@ -14,7 +14,7 @@ use std::alloc::{AllocError, Global};
 /// The answer of a step that nothing refuses.
 pub fn outcome_of<A: Reads>(reads: &A, step: &Step) -> Result<Answer, AllocError>
     requires sound { A.is_sound reads.now }
-    requires accepted { first_refusal (checks_by (A.setup reads.now) (A.facts reads.now) step.now) ≡ None }
+    requires accepted { first_refusal (checks_by (A.opening reads.now) (A.facts reads.now) step.now) ≡ None }
     ensures { IfOk result (λ answer. answer ≡ outcome_by (A.facts reads.now).next (A.results reads.now) step.now) }
 {
     match step {

@@ -2,15 +2,15 @@ ghost use Rattle.std.specs.Prelude.{◌≡◌, IfOk, IsTrue, None, min, suc};
 ghost use Rattle.run_model.specs.declared.step.Step.TheVariants as steps;
 ghost use Rattle.run_model.specs.Answers.{Results};
 ghost use Rattle.run_model.specs.Refusals.{Facts, checks_by, first_refusal, max_number};
-ghost use Rattle.run_model.specs.Replay.{Setup};
+ghost use Rattle.run_model.specs.Openings.{Opening, opening_in};
 
-use run_model::{Answer, Name, ObjectId, Op, Setup};
+use run_model::{Answer, Name, ObjectId, Op, Opening};
 use std::alloc::{AllocError, Global};
 
 /// What an operation is judged by: the facts of actions that its refusals ask for, and what comes of one that nothing refuses. A guardian by
 /// itself is such a reading. It says more of an action only once it has said that the action was begun.
 pub trait ReadsAction {
-    ghost setup: { Self → Setup };
+    ghost opening: { Self → Opening };
 
     ghost facts: { Self → Facts };
 
@@ -19,8 +19,8 @@ pub trait ReadsAction {
     /// What the parts of the reading have to do with one another.
     ghost is_sound: { Self → Type 0 };
 
-    fn setup(&self) -> &Setup
-        ensures { result.now ≡ setup self.now };
+    fn opening(&self) -> &Opening
+        ensures { opening_in result.now ≡ opening self.now };
 
     fn is_begun(&self, action: &Name) -> bool
         ensures { result ≡ (facts self.now).begun action.now };
@@ -54,7 +54,7 @@ pub trait ReadsAction {
         operation: &Op,
     ) -> Result<Answer, AllocError>
         requires sound { is_sound self.now }
-        requires accepted { first_refusal (checks_by (setup self.now) (facts self.now) (steps.Op action.now object operation.now)) ≡ None }
+        requires accepted { first_refusal (checks_by (opening self.now) (facts self.now) (steps.Op action.now object operation.now)) ≡ None }
         ensures { IfOk result (λ answer. answer ≡ (results self.now).operation action.now object operation.now) };
 }
 
@@ -98,6 +98,6 @@ pub trait Reads: ReadsAction {
     /// What a telling that nothing refuses counts.
     fn told_count(&self, guardian: u32, action: &Name) -> Result<u64, AllocError>
         requires sound { Self.is_sound self.now }
-        requires accepted { first_refusal (checks_by (Self.setup self.now) (Self.facts self.now) (steps.Tell guardian action.now)) ≡ None }
+        requires accepted { first_refusal (checks_by (Self.opening self.now) (Self.facts self.now) (steps.Tell guardian action.now)) ≡ None }
         ensures { IfOk result (λ count. count ≡ (Self.results self.now).count guardian action.now) };
 }

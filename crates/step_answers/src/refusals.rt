@@ -1,18 +1,16 @@
 //! When a step is refused: for each kind of step its refusals in their order.
-ghost use Rattle.std.specs.Prelude.{◌≡◌, ◌≤◌, false, ◌==◌, ◌||◌, length, nat_lt, IfOk, IsTrue, MatchOption};
+ghost use Rattle.std.specs.Prelude.{◌≡◌, ◌≤◌, ◌==◌, ◌||◌, length, nat_lt, IfOk, IsTrue};
 ghost use Rattle.run_model.specs.declared.step.Step.TheVariants.{Top, NestedTop, Call, Arms, Commit, Close, Prepare, Decide, Abort, Tell, Crash, Recover};
 ghost use Rattle.run_model.specs.declared.step.Step.TheVariants as steps;
-ghost use Rattle.run_model.specs.Replay.{opening};
 ghost use Rattle.run_model.specs.Refusals.{checks_by, first_refusal, has_sub, is_past_arms_by};
 ghost use Rattle.step_answers.specs.Arms.{uses_up};
-ghost use Rattle.step_answers.specs.Checks.{actor_checks, is_no_object, worker_checks};
+ghost use Rattle.step_answers.specs.Checks.{actor_checks, worker_checks};
 
 use crate::arms::uses_up;
 use crate::reads::{Reads, ReadsAction};
 use action_names::{MAX_DEPTH, Name};
-use atomic_types::AtomicType;
 use limits::MAX_ARMS;
-use run_model::{ArmKind, ArmKinds, Content, ObjectId, Op, Refusal, Setup, Step};
+use run_model::{ArmKind, ArmKinds, ObjectId, Op, Opening, Refusal, Step};
 use std::alloc::AllocError;
 
 const MAX_NUMBER: u64 = 4294967295;
@@ -20,7 +18,7 @@ const MAX_NUMBER: u64 = 4294967295;
 /// The first refusal of the step that applies.
 pub fn refusal_of<A: Reads>(reads: &A, step: &Step) -> Result<Option<Refusal>, AllocError>
     requires { A.is_sound reads.now }
-    ensures { IfOk result (λ why. why ≡ first_refusal (checks_by (A.setup reads.now) (A.facts reads.now) step.now)) }
+    ensures { IfOk result (λ why. why ≡ first_refusal (checks_by (A.opening reads.now) (A.facts reads.now) step.now)) }
 {
     match step {
         Step::Top(guardian) => Ok(of_top(reads, *guardian)),
@@ -40,24 +38,10 @@ pub fn refusal_of<A: Reads>(reads: &A, step: &Step) -> Result<Option<Refusal>, A
 }
 
 /// Whether no guardian of the setup has this number.
-fn is_no_guardian(setup: &Setup, guardian: u32) -> bool
-    ensures { result ≡ ((guardian == 0) || nat_lt (length setup.now) guardian) }
+fn is_no_guardian(opening: &Opening, guardian: u32) -> bool
+    ensures { result ≡ ((guardian == 0) || nat_lt (length opening.now.setup) guardian) }
 {
-    guardian == 0 || guardian as usize > setup.guardians()
-}
-
-/// What the object held when all began, if there is such an object.
-pub fn opening(setup: &Setup, object: ObjectId) -> Option<&Content>
-    requires { 1 ≤ object.guardian }
-    ensures { MatchOption result (IsTrue (is_no_object setup.now object))
-        (λ content. (is_no_object setup.now object ≡ false) × (content.now ≡ opening setup.now object)) }
-{
-    if object.number == 0 {
-        return None;
-    }
-    setup
-        .objects(object.guardian)
-        .get(object.number as usize - 1)
+    guardian == 0 || guardian as usize > opening.setup().guardians()
 }
 
 /// Why the action may do nothing more: it is over, it is busy, or its home crashed.
@@ -95,9 +79,9 @@ fn of_actor<A: ReadsAction>(reads: &A, name: &Name) -> Result<Option<Refusal>, A
 }
 
 fn of_top<A: Reads>(reads: &A, guardian: u32) -> Option<Refusal>
-    ensures { result ≡ first_refusal (checks_by (A.setup reads.now) (A.facts reads.now) (Top guardian)) }
+    ensures { result ≡ first_refusal (checks_by (A.opening reads.now) (A.facts reads.now) (Top guardian)) }
 {
-    if is_no_guardian(reads.setup(), guardian) {
+    if is_no_guardian(reads.opening(), guardian) {
         return Some(Refusal::NoGuardian);
     }
     if reads.is_down(guardian) {
@@ -111,7 +95,7 @@ fn of_top<A: Reads>(reads: &A, guardian: u32) -> Option<Refusal>
 
 fn of_nested_top<A: Reads>(reads: &A, name: &Name) -> Result<Option<Refusal>, AllocError>
     requires { A.is_sound reads.now }
-    ensures { IfOk result (λ why. why ≡ first_refusal (checks_by (A.setup reads.now) (A.facts reads.now) (NestedTop name.now))) }
+    ensures { IfOk result (λ why. why ≡ first_refusal (checks_by (A.opening reads.now) (A.facts reads.now) (NestedTop name.now))) }
 {
     if let Some(why) = of_actor(reads, name)? {
         return Ok(Some(why));
@@ -124,9 +108,9 @@ fn of_nested_top<A: Reads>(reads: &A, name: &Name) -> Result<Option<Refusal>, Al
 
 fn of_call<A: Reads>(reads: &A, name: &Name, guardian: u32) -> Result<Option<Refusal>, AllocError>
     requires { A.is_sound reads.now }
-    ensures { IfOk result (λ why. why ≡ first_refusal (checks_by (A.setup reads.now) (A.facts reads.now) (Call name.now guardian))) }
+    ensures { IfOk result (λ why. why ≡ first_refusal (checks_by (A.opening reads.now) (A.facts reads.now) (Call name.now guardian))) }
 {
-    if is_no_guardian(reads.setup(), guardian) {
+    if is_no_guardian(reads.opening(), guardian) {
         return Ok(Some(Refusal::NoGuardian));
     }
     if !reads.is_begun(name) {
@@ -152,7 +136,7 @@ fn of_call<A: Reads>(reads: &A, name: &Name, guardian: u32) -> Result<Option<Ref
 
 fn of_commit<A: Reads>(reads: &A, name: &Name) -> Result<Option<Refusal>, AllocError>
     requires { A.is_sound reads.now }
-    ensures { IfOk result (λ why. why ≡ first_refusal (checks_by (A.setup reads.now) (A.facts reads.now) (Commit name.now))) }
+    ensures { IfOk result (λ why. why ≡ first_refusal (checks_by (A.opening reads.now) (A.facts reads.now) (Commit name.now))) }
 {
     if let Some(why) = of_actor(reads, name)? {
         return Ok(Some(why));
@@ -165,7 +149,7 @@ fn of_commit<A: Reads>(reads: &A, name: &Name) -> Result<Option<Refusal>, AllocE
 
 fn of_close<A: Reads>(reads: &A, name: &Name) -> Result<Option<Refusal>, AllocError>
     requires { A.is_sound reads.now }
-    ensures { IfOk result (λ why. why ≡ first_refusal (checks_by (A.setup reads.now) (A.facts reads.now) (Close name.now))) }
+    ensures { IfOk result (λ why. why ≡ first_refusal (checks_by (A.opening reads.now) (A.facts reads.now) (Close name.now))) }
 {
     if let Some(why) = of_actor(reads, name)? {
         return Ok(Some(why));
@@ -178,9 +162,9 @@ fn of_close<A: Reads>(reads: &A, name: &Name) -> Result<Option<Refusal>, AllocEr
 
 fn of_prepare<A: Reads>(reads: &A, guardian: u32, name: &Name) -> Option<Refusal>
     requires { A.is_sound reads.now }
-    ensures { result ≡ first_refusal (checks_by (A.setup reads.now) (A.facts reads.now) (Prepare guardian name.now)) }
+    ensures { result ≡ first_refusal (checks_by (A.opening reads.now) (A.facts reads.now) (Prepare guardian name.now)) }
 {
-    if is_no_guardian(reads.setup(), guardian) {
+    if is_no_guardian(reads.opening(), guardian) {
         return Some(Refusal::NoGuardian);
     }
     if !reads.is_begun(name) {
@@ -212,7 +196,7 @@ fn of_prepare<A: Reads>(reads: &A, guardian: u32, name: &Name) -> Option<Refusal
 
 fn of_decide<A: Reads>(reads: &A, name: &Name) -> Option<Refusal>
     requires { A.is_sound reads.now }
-    ensures { result ≡ first_refusal (checks_by (A.setup reads.now) (A.facts reads.now) (Decide name.now)) }
+    ensures { result ≡ first_refusal (checks_by (A.opening reads.now) (A.facts reads.now) (Decide name.now)) }
 {
     if !reads.is_begun(name) {
         return Some(Refusal::NoAction);
@@ -236,7 +220,7 @@ fn of_decide<A: Reads>(reads: &A, name: &Name) -> Option<Refusal>
 }
 
 fn of_abort<A: Reads>(reads: &A, name: &Name) -> Option<Refusal>
-    ensures { result ≡ first_refusal (checks_by (A.setup reads.now) (A.facts reads.now) (Abort name.now)) }
+    ensures { result ≡ first_refusal (checks_by (A.opening reads.now) (A.facts reads.now) (Abort name.now)) }
 {
     if !reads.is_begun(name) {
         return Some(Refusal::NoAction);
@@ -248,9 +232,9 @@ fn of_abort<A: Reads>(reads: &A, name: &Name) -> Option<Refusal>
 }
 
 fn of_tell<A: Reads>(reads: &A, guardian: u32, name: &Name) -> Option<Refusal>
-    ensures { result ≡ first_refusal (checks_by (A.setup reads.now) (A.facts reads.now) (Tell guardian name.now)) }
+    ensures { result ≡ first_refusal (checks_by (A.opening reads.now) (A.facts reads.now) (Tell guardian name.now)) }
 {
-    if is_no_guardian(reads.setup(), guardian) {
+    if is_no_guardian(reads.opening(), guardian) {
         return Some(Refusal::NoGuardian);
     }
     if !reads.is_begun(name) {
@@ -269,9 +253,9 @@ fn of_tell<A: Reads>(reads: &A, guardian: u32, name: &Name) -> Option<Refusal>
 }
 
 fn of_crash<A: Reads>(reads: &A, guardian: u32) -> Option<Refusal>
-    ensures { result ≡ first_refusal (checks_by (A.setup reads.now) (A.facts reads.now) (Crash guardian)) }
+    ensures { result ≡ first_refusal (checks_by (A.opening reads.now) (A.facts reads.now) (Crash guardian)) }
 {
-    if is_no_guardian(reads.setup(), guardian) {
+    if is_no_guardian(reads.opening(), guardian) {
         return Some(Refusal::NoGuardian);
     }
     if reads.is_down(guardian) {
@@ -281,9 +265,9 @@ fn of_crash<A: Reads>(reads: &A, guardian: u32) -> Option<Refusal>
 }
 
 fn of_recover<A: Reads>(reads: &A, guardian: u32) -> Option<Refusal>
-    ensures { result ≡ first_refusal (checks_by (A.setup reads.now) (A.facts reads.now) (Recover guardian)) }
+    ensures { result ≡ first_refusal (checks_by (A.opening reads.now) (A.facts reads.now) (Recover guardian)) }
 {
-    if is_no_guardian(reads.setup(), guardian) {
+    if is_no_guardian(reads.opening(), guardian) {
         return Some(Refusal::NoGuardian);
     }
     if !reads.is_down(guardian) {
@@ -298,7 +282,7 @@ fn of_arms<A: Reads>(
     kinds: &ArmKinds,
 ) -> Result<Option<Refusal>, AllocError>
     requires { A.is_sound reads.now }
-    ensures { IfOk result (λ why. why ≡ first_refusal (checks_by (A.setup reads.now) (A.facts reads.now) (Arms name.now kinds.now))) }
+    ensures { IfOk result (λ why. why ≡ first_refusal (checks_by (A.opening reads.now) (A.facts reads.now) (Arms name.now kinds.now))) }
 {
     if let Some(why) = of_actor(reads, name)? {
         return Ok(Some(why));
@@ -339,17 +323,17 @@ pub fn refusal_of_operation<A: ReadsAction>(
 ) -> Result<Option<Refusal>, AllocError>
     requires { A.is_sound reads.now }
     ensures { IfOk result (λ why. why ≡ first_refusal
-        (checks_by (A.setup reads.now) (A.facts reads.now) (steps.Op name.now object operation.now))) }
+        (checks_by (A.opening reads.now) (A.facts reads.now) (steps.Op name.now object operation.now))) }
 {
-    if is_no_guardian(reads.setup(), object.guardian) {
+    if is_no_guardian(reads.opening(), object.guardian) {
         return Ok(Some(Refusal::NoGuardian));
     }
     if !reads.is_begun(name) {
         return Ok(Some(Refusal::NoAction));
     }
-    let Some(content) = opening(reads.setup(), object) else {
+    if !reads.opening().has_object(object) {
         return Ok(Some(Refusal::NoObject));
-    };
+    }
     if let Some(why) = of_worker(reads, name) {
         return Ok(Some(why));
     }
@@ -359,7 +343,7 @@ pub fn refusal_of_operation<A: ReadsAction>(
     if reads.is_orphan(name)? {
         return Ok(Some(Refusal::Orphan));
     }
-    if !content.knows(operation) {
+    if !reads.opening().knows(object, operation) {
         return Ok(Some(Refusal::BadOp));
     }
     Ok(None)

@@ -11,7 +11,8 @@ use Rattle.run_model.specs.Explaining.{Explanation, not_begun, orphan, sees, pla
 use Rattle.run_model.specs.Transcripts.{line_feed}
 use Rattle.run_model.specs.Texts.{space, object_text, op_text, reply_text}
 use Rattle.run_model.specs.Places.{place_of, replies_given, visible_by_grant, in_order_of_place}
-use Rattle.run_model.specs.Replay.{Setup, opening, replayed}
+use Rattle.run_model.specs.Replay.{replayed}
+use Rattle.run_model.specs.Openings.{Opening, first_content}
 use Rattle.tracer.specs.declared.explained.Performed.{Performed}
 use Rattle.tracer.specs.declared.explained.Explained.{Explained}
 use Rattle.tracer.specs.declared.explained.Explained.TheVariants.{NotBegun, Orphan, Sees}
@@ -43,10 +44,10 @@ Explains (Sees map) e past = (os : List keeping.Performed) × (e ≡ sees os) ×
 abbrev pub operations_of : BTreeMap Place Performed → List keeping.Performed
 operations_of m = map (λ e. operation_of e.1) m.entries
 
--- replayed from the setup's contents, the operations that are told give the replies that are told
-abbrev pub IsReplayed : Setup → Explained → Type 0
-IsReplayed setup (Sees m) = replayed (opening setup) (operations_of m) ≡ replies_given (operations_of m)
-IsReplayed setup _ = Unit {0}
+-- replayed from the first contents, the operations that are told give the replies that are told
+abbrev pub IsReplayed : Opening → Explained → Type 0
+IsReplayed opening (Sees m) = replayed (first_content opening) (operations_of m) ≡ replies_given (operations_of m)
+IsReplayed opening _ = Unit {0}
 
 -- what is found, as a list
 abbrev pub listed : Option Performed → List keeping.Performed

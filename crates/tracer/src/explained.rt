@@ -4,7 +4,7 @@ ghost use Rattle.run_model.specs.declared.history.Event.{Event};
 ghost use Rattle.run_model.specs.Visibility.{is_visible};
 ghost use Rattle.run_model.specs.Keeping.{performed_by};
 ghost use Rattle.run_model.specs.Places.{visible_by_place};
-ghost use Rattle.run_model.specs.Replay.{Setup};
+ghost use Rattle.run_model.specs.Openings.{Opening};
 ghost use Rattle.run_model.specs.Runs.{IsRun};
 ghost use Rattle.run_model.specs.Explaining.{explanation};
 ghost use Rattle.tracer.specs.Endings.{AreEndings};
@@ -35,8 +35,8 @@ pub enum Explained {
     NotBegun,
     /// An ancestor aborted, or a lost action of its own tree is visible to it.
     Orphan,
-    /// The granted operations that it sees, by place in the serial order: replayed in this order on one plain store with the setup's
-    /// contents, they give just these replies.
+    /// The granted operations that it sees, by place in the serial order: replayed in this order on one plain store with the contents of
+    /// the opening, they give just these replies.
     Sees(BTreeMap<Place, Performed>),
 }
 
@@ -46,7 +46,7 @@ pub enum Explained {
 /// `AllocError` where memory is wanting.
 pub fn explain(alloc: Global, history: &History, action: &Name) -> Result<Explained, AllocError>
     ensures explained { IfOk result (λ told. Explains told (explanation action.now history.now) history.now) }
-    ensures replayed { (setup : Setup) → IsRun setup history.now → IfOk result (λ told. IsReplayed setup told) }
+    ensures replayed { (opening : Opening) → IsRun opening history.now → IfOk result (λ told. IsReplayed opening told) }
 {
     if !is_begun(history, action) {
         return Ok(Explained::NotBegun);

@@ -1,9 +1,9 @@
 //! Operations on an object.
 use crate::reading::{identifier, int, spelled_value, value_unread};
-use atomic_types::{AtomicType, Class, Op, Reply, object_laws};
+use atomic_types::{AtomicType, Class, Op, Part, Reply, object_laws};
 use rows::{Row, RowFault, Words};
 use std::alloc::{AllocError, Global};
-use values::{Array, Content, Record, Variant};
+use values::{Array, Content, Counter, Record, Variant};
 
 /// An object, as a content or as what is in one.
 #[derive(Drop)]
@@ -12,6 +12,7 @@ enum Object {
     Record(Record),
     Array(Array),
     Variant(Variant),
+    Counter(Counter),
 }
 
 /// The object on which operations are performed.
@@ -36,6 +37,7 @@ impl Performing {
             "describe" => describe(self.alloc, row.words(), answer),
             "copy_reply" => copy_reply(self.alloc, row.given, answer),
             "conflict" => conflict(row.words(), answer),
+            "laid" => laid(self.alloc, row.words(), answer),
             "object_laws" => {
                 object_laws();
                 Ok(())
@@ -49,12 +51,13 @@ impl Performing {
         Ok(())
     }
 
-    /// Holds the record, the array or the variant that is in a content.
+    /// Holds the record, the array, the variant or the counter that is in a content.
     fn hold_within(&mut self, spelling: &str) -> Result<(), RowFault> {
         self.object = Some(match read_content(self.alloc, spelling)? {
             Content::Record(record) => Object::Record(record),
             Content::Array(array) => Object::Array(array),
             Content::Variant(variant) => Object::Variant(variant),
+            Content::Counter(counter) => Object::Counter(counter),
         });
         Ok(())
     }
@@ -81,6 +84,7 @@ fn read_op(alloc: Global, name: &str, mut words: Words<'_>) -> Result<Op, RowFau
         "size" => Op::Size,
         "remh" => Op::RemoveHigh,
         "reml" => Op::RemoveLow,
+        "total" => Op::Total,
         "fetch" => Op::Fetch(int(&mut words)?),
         "get" => Op::Get(identifier(alloc, words.word()?)?),
         "is" => Op::Is(identifier(alloc, words.word()?)?),
@@ -92,13 +96,15 @@ fn read_op(alloc: Global, name: &str, mut words: Words<'_>) -> Result<Op, RowFau
 /// The operation of this name which has a value.
 fn read_write(alloc: Global, name: &str, mut words: Words<'_>) -> Result<Op, RowFault> {
     let place = match name {
-        "addh" | "addl" => "",
+        "addh" | "addl" | "put" | "add" => "",
         _ => words.word()?,
     };
     let value = spelled_value(alloc, words.word()?)?;
     Ok(match name {
         "addh" => Op::AddHigh(value),
         "addl" => Op::AddLow(value),
+        "put" => Op::Put(value),
+        "add" => Op::Add(value),
         "set" => Op::Set(identifier(alloc, place)?, value),
         "change" => Op::Change(identifier(alloc, place)?, value),
         "store" => Op::Store(place.parse().map_err(|_| RowFault::Unread)?, value),
@@ -118,6 +124,7 @@ fn perform(
         Object::Record(record) => perform_on(alloc, record, op, answer),
         Object::Array(array) => perform_on(alloc, array, op, answer),
         Object::Variant(variant) => perform_on(alloc, variant, op, answer),
+        Object::Counter(counter) => perform_on(alloc, counter, op, answer),
     }
 }
 
@@ -194,10 +201,23 @@ fn conflict(mut words: Words<'_>, answer: &mut String) -> Result<(), RowFault> {
     Ok(write!(answer, "{}", Content::conflicts(first, second))?)
 }
 
+/// Writes what an object holds under the copy of a part, `value CONTENT` or `delta AMOUNT`, that held the content behind it before.
+fn laid(alloc: Global, mut words: Words<'_>, answer: &mut String) -> Result<(), RowFault> {
+    let part = match words.word()? {
+        "value" => Part::Value(read_content(alloc, words.word()?)?),
+        "delta" => Part::Delta(int(&mut words)?),
+        _ => return Err(RowFault::Unread),
+    };
+    let before = read_content(alloc, words.rest())?;
+    let content = part.copy()?.laid_on(&before)?;
+    Ok(answer.push_str(content.text(alloc)?.as_str())?)
+}
+
 fn read_class(name: &str) -> Result<Class, RowFault> {
     match name {
         "read" => Ok(Class::Read),
         "write" => Ok(Class::Write),
+        "add" => Ok(Class::Add),
         _ => Err(RowFault::Unread),
     }
 }

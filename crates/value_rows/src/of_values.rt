@@ -2,9 +2,10 @@
 use crate::reading::{identifier, int};
 use rows::{Row, RowFault, Words};
 use std::alloc::{AllocError, Global};
-use values::{Array, Content, Record, Value, Variant};
+use values::{Array, Content, Counter, Record, Value, Variant};
 
 mod arrays;
+mod counters;
 mod records;
 mod spelled;
 mod texts;
@@ -32,6 +33,7 @@ impl Holding {
             "record" => self.hold_record(row.given, answer),
             "array" => self.hold_array(row.words(), answer),
             "variant" => self.hold_variant(row.words(), answer),
+            "counter" => self.hold_counter(row.words(), answer),
             "keep" => self.keep(),
             "held" => write_held(self.alloc, &self.held, answer),
             "kept" => write_held(self.alloc, &self.kept, answer),
@@ -45,6 +47,7 @@ impl Holding {
             Some(Content::Record(record)) => records::answer(self.alloc, record, row, answer),
             Some(Content::Array(array)) => arrays::answer(self.alloc, array, row, answer),
             Some(Content::Variant(variant)) => variants::answer(self.alloc, variant, row, answer),
+            Some(Content::Counter(counter)) => counters::answer(counter, row, answer),
             None => spelled::answer(self.alloc, row, answer),
         }
     }
@@ -75,6 +78,12 @@ impl Holding {
             Some(variant) => self.hold(Content::Variant(variant), answer),
             None => Ok(answer.push_str("none")?),
         }
+    }
+
+    /// Holds the counter of a number.
+    fn hold_counter(&mut self, mut words: Words<'_>, answer: &mut String) -> Result<(), RowFault> {
+        let counter = Counter::new(int(&mut words)?);
+        self.hold(Content::Counter(counter), answer)
     }
 
     /// Writes the content, and holds it.

@@ -3,4 +3,5 @@ pub mod Values
 pub mod Fields
 pub mod Items
 pub mod Tags
+pub mod Totals
 pub mod Contents

@@ -1,14 +1,14 @@
 ghost use Rattle.std.specs.Prelude.{◌≡◌, ◌≤◌, [], length, IfOk, OnOk, OnErr};
 ghost use Rattle.run_model.specs.Answers.{answer_of};
-ghost use Rattle.run_model.specs.Replay.{objects_at};
-ghost use Rattle.run_model.specs.Runs.{World, world_after};
+ghost use Rattle.run_model.specs.Openings.{fresh, objects_at, opening_in};
+ghost use Rattle.run_model.specs.Runs.{World, new_world, world_after};
 ghost use Rattle.run_model.specs.Versions.{base_of};
 ghost use Rattle.run_laws.specs.Laws.{OrphanWhereRefused};
 ghost use Rattle.run_laws.specs.Serving.{IsServed};
 ghost use Rattle.world.specs.Running.{Ran, RanBefore};
 
 use plain_world::PlainWorld;
-use run_model::{Answer, Content, History, ObjectId, Setup, Step};
+use run_model::{Answer, Content, History, ObjectId, Opening, Setup, Step};
 use std::alloc::{AllocError, Global};
 use std::marker::Model;
 
@@ -19,32 +19,41 @@ pub struct World {
 }
 
 impl Model for World {
+    ghost use Rattle.run_model.specs.Openings.{opening_in};
     ghost use Rattle.run_model.specs.Runs.{World, IsRun};
 
     ghost Value = { World };
 
     ghost view = { λ a. a.plain };
 
-    ghost invariant = { λ a. IsRun a.plain.setup a.plain.past };
+    ghost invariant = { λ a. IsRun (opening_in a.plain.lists) a.plain.past };
 }
 
 impl World {
-    /// The guardians of the setup, to whom nothing has happened.
+    /// The guardians of the setup, to whom nothing has happened, with empty stores.
     pub fn new(alloc: Global, setup: Setup) -> Result<World, AllocError>
-        ensures { IfOk result (λ world. world ≡ record { setup = setup; past = [] }) }
+        ensures new { IfOk result (λ world. world ≡ new_world setup) }
+        ensures fresh { IfOk result (λ world. opening_in world.lists ≡ fresh setup) }
+    {
+        World::over(alloc, Opening::fresh(alloc, setup))
+    }
+
+    /// The guardians of the opening, to whom nothing has happened since.
+    pub fn over(alloc: Global, opening: Opening) -> Result<World, AllocError>
+        ensures { IfOk result (λ world. world ≡ record { lists = opening; past = [] }) }
     {
         Ok(World {
-            plain: PlainWorld::new(alloc, setup)?,
+            plain: PlainWorld::new(alloc, opening)?,
         })
     }
 
     /// Makes one step and gives its answer. An accepted step is in the history from then on, with its answer; one that is refused or
     /// waits changes nothing. `Err` comes for want of memory alone, and then the world is as it was.
     pub fn step(&mut self, step: &Step) -> Result<Answer, AllocError>
-        ensures answer { IfOk result (λ answer. answer ≡ answer_of self.old.setup step.now self.old.past) }
+        ensures answer { IfOk result (λ answer. answer ≡ answer_of (opening_in self.old.lists) step.now self.old.past) }
         ensures after { IfOk result (λ answer. self.new ≡ world_after self.old step.now answer) }
         ensures orphans { IfOk result (λ answer. OrphanWhereRefused step.now answer self.old.past) }
-        ensures served { IsServed self.new.setup self.new.past }
+        ensures served { IsServed (opening_in self.new.lists) self.new.past }
         ensures err { OnErr result (self.new ≡ self.old) }
     {
         self.plain.step(step)
@@ -54,7 +63,7 @@ impl World {
     /// steps before.
     pub fn run(&mut self, steps: &[Step], answers: &mut Vec<Answer>) -> Result<(), AllocError>
         ensures ok { OnOk result (Ran self.old self.new steps.now answers.old.items answers.new.items) }
-        ensures served { IsServed self.new.setup self.new.past }
+        ensures served { IsServed (opening_in self.new.lists) self.new.past }
         ensures err { OnErr result (RanBefore self.old self.new steps.now answers.old.items answers.new.items) }
     {
         // so that what happened before is known to be a run
@@ -70,7 +79,7 @@ impl World {
     /// What has happened: the accepted steps with their answers. This takes no memory.
     pub fn history(&self) -> &History
         ensures past { result.now ≡ self.now.past }
-        ensures served { IsServed self.now.setup self.now.past }
+        ensures served { IsServed (opening_in self.now.lists) self.now.past }
     {
         self.plain.history()
     }
@@ -79,16 +88,23 @@ impl World {
     pub fn base(&self, object: ObjectId) -> Result<Content, AllocError>
         requires guardian { 1 ≤ object.guardian }
         requires number { 1 ≤ object.number }
-        requires there { object.number ≤ length (objects_at self.now.setup object.guardian) }
-        ensures { IfOk result (λ content. content ≡ base_of self.now.setup object self.now.past) }
+        requires there { object.number ≤ length (objects_at self.now.lists.setup object.guardian) }
+        ensures { IfOk result (λ content. content ≡ base_of (opening_in self.now.lists) object self.now.past) }
     {
         self.plain.base(object)
     }
 
-    /// The setup from which it began.
+    /// The setup of its opening: the guardians, and what their objects held where their stores held nothing.
     pub fn setup(&self) -> &Setup
-        ensures { result.now ≡ self.now.setup }
+        ensures { result.now ≡ self.now.lists.setup }
     {
-        self.plain.setup()
+        self.plain.opening().setup()
+    }
+
+    /// The opening from which it began.
+    pub fn opening(&self) -> &Opening
+        ensures { result.now ≡ self.now.lists }
+    {
+        self.plain.opening()
     }
 }

@@ -5,6 +5,7 @@ use Rattle.activities.specs.Bodies.{kind_of, kinds}
 use Rattle.activities.specs.Continuing.{AreDistinct}
 use Rattle.activities.proofs.Going.{step_commits_by, step_goes}
 use Rattle.activities.proofs.ArmNames.{arms_begin_each, arms_begun, arms_distinct, arms_refused, together}
+use Rattle.run_model.specs.Openings.{opening_in}
 use Rattle.activities.proofs.arms.begin_arms.Goals as goal
 
 pub returns-in-Began-clause-goes_on : goal.returns-in-Began-clause-goes_on
@@ -18,7 +19,7 @@ returns-in-Began-clause-each c =
     c.loop-arm.invariant ∙ ap kinds (take_all c.loop-arm.arm-index c.args.arms.now (omega arith)) in
     let turned : c.reverse.new.self.items ≡ reverse c.in-Began.names = c.reverse.ensures.items ∙ ap reverse c.into_vec-names.ensures in
     ap length turned ∙ length-reverse c.in-Began.names
-    ∙ arms_begin_each c.args.world.now.setup c.in_ok-copy.field-0 c.loop-arm.kinds c.args.world.now.past c.in-Began.names
+    ∙ arms_begin_each (opening_in c.args.world.now.lists) c.in_ok-copy.field-0 c.loop-arm.kinds c.args.world.now.past c.in-Began.names
     (sym c.in-Began.is ∙ c.in_ok-names.ensures.answer)
     ∙ ap length all ∙ length-map c.args.arms.now kind_of
 
@@ -31,7 +32,7 @@ returns-in-Began-clause-began c =
 pub returns-in-Began-clause-distinct : goal.returns-in-Began-clause-distinct
 returns-in-Began-clause-distinct c =
     subst AreDistinct (sym (c.reverse.ensures.items ∙ ap reverse c.into_vec-names.ensures))
-    (arms_distinct c.args.world.now.setup c.in_ok-copy.field-0 c.loop-arm.kinds c.args.world.now.past c.in-Began.names c.requires
+    (arms_distinct (opening_in c.args.world.now.lists) c.in_ok-copy.field-0 c.loop-arm.kinds c.args.world.now.past c.in-Began.names c.requires
     (sym c.in-Began.is ∙ c.in_ok-names.ensures.answer))
 
 pub returns : goal.returns

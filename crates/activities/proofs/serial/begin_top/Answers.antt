@@ -1,10 +1,11 @@
 use Rattle.activities.proofs.Clients.{top_begins_one, top_made, top_not_made}
 use Rattle.std.proofs.Common.{sym, ◌∙◌}
+use Rattle.run_model.specs.Openings.{opening_in}
 use Rattle.activities.proofs.serial.begin_top.Goals as goal
 
 pub only-requires : goal.only-requires
 only-requires c =
-    top_begins_one c.args.world.now.setup c.args.home c.args.world.now.past c.in-Began.names
+    top_begins_one (opening_in c.args.world.now.lists) c.args.home c.args.world.now.past c.in-Began.names
     (sym c.in-Began.is ∙ c.in_ok-names.ensures.answer)
 
 pub returns-in-Began-clause-made : goal.returns-in-Began-clause-made

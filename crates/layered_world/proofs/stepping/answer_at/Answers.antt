@@ -8,27 +8,27 @@ use Rattle.layered_world.proofs.stepping.answer_at.Goals as goal
 pub answer_two-requires : goal.answer_two-requires
 answer_two-requires g c =
     let f : ForestState = g.R.Forest.state c.args.forest.now in
-    let x = stands g.G.Guardian.state f.setup c.args._history.now f c.args.guardians.now c.args.low c.in-Some.first.now c.requires.world c.in-Some.ensures.0 c.in-Some.ensures.2 in
-    let y = stands g.G.Guardian.state f.setup c.args._history.now f c.args.guardians.now c.args.high c.in-Some-at.second.now c.requires.world c.in-Some-at.ensures.0 c.in-Some-at.ensures.2 in
-    record { first = ap (λ s. s.setup) x; second = ap (λ s. s.setup) y }
+    let x = stands g.G.Guardian.state f.opening c.args._history.now f c.args.guardians.now c.args.low c.in-Some.first.now c.requires.world c.in-Some.ensures.0 c.in-Some.ensures.2 in
+    let y = stands g.G.Guardian.state f.opening c.args._history.now f c.args.guardians.now c.args.high c.in-Some-at.second.now c.requires.world c.in-Some-at.ensures.0 c.in-Some-at.ensures.2 in
+    record { first = ap (λ s. s.opening) x; second = ap (λ s. s.opening) y }
 
 pub answer_two-requires-in-None-at : goal.answer_two-requires-in-None-at
 answer_two-requires-in-None-at g c =
     let f : ForestState = g.R.Forest.state c.args.forest.now in
-    let x = stands g.G.Guardian.state f.setup c.args._history.now f c.args.guardians.now c.args.low c.in-Some.first.now c.requires.world c.in-Some.ensures.0 c.in-Some.ensures.2 in
-    record { first = ap (λ s. s.setup) x; second = ap (λ s. s.setup) x }
+    let x = stands g.G.Guardian.state f.opening c.args._history.now f c.args.guardians.now c.args.low c.in-Some.first.now c.requires.world c.in-Some.ensures.0 c.in-Some.ensures.2 in
+    record { first = ap (λ s. s.opening) x; second = ap (λ s. s.opening) x }
 
 pub answer_two-requires-in-Some-at-2 : goal.answer_two-requires-in-Some-at-2
 answer_two-requires-in-Some-at-2 g c =
     let f : ForestState = g.R.Forest.state c.args.forest.now in
-    let y = stands g.G.Guardian.state f.setup c.args._history.now f c.args.guardians.now c.args.high c.in-Some-at-2.second.now c.requires.world c.in-Some-at-2.ensures.0 c.in-Some-at-2.ensures.2 in
-    record { first = ap (λ s. s.setup) y; second = ap (λ s. s.setup) y }
+    let y = stands g.G.Guardian.state f.opening c.args._history.now f c.args.guardians.now c.args.high c.in-Some-at-2.second.now c.requires.world c.in-Some-at-2.ensures.0 c.in-Some-at-2.ensures.2 in
+    record { first = ap (λ s. s.opening) y; second = ap (λ s. s.opening) y }
 
 pub returns-in-Some-at : goal.returns-in-Some-at
 returns-in-Some-at g c =
     let f : ForestState = g.R.Forest.state c.args.forest.now in
-    let x = stands g.G.Guardian.state f.setup c.args._history.now f c.args.guardians.now c.args.low c.in-Some.first.now c.requires.world c.in-Some.ensures.0 c.in-Some.ensures.2 in
-    let y = stands g.G.Guardian.state f.setup c.args._history.now f c.args.guardians.now c.args.high c.in-Some-at.second.now c.requires.world c.in-Some-at.ensures.0 c.in-Some-at.ensures.2 in
+    let x = stands g.G.Guardian.state f.opening c.args._history.now f c.args.guardians.now c.args.low c.in-Some.first.now c.requires.world c.in-Some.ensures.0 c.in-Some.ensures.2 in
+    let y = stands g.G.Guardian.state f.opening c.args._history.now f c.args.guardians.now c.args.high c.in-Some-at.second.now c.requires.world c.in-Some-at.ensures.0 c.in-Some-at.ensures.2 in
     let P : Answer → Type 0 = λ a. IfOk c.answer_two.result (λ answer. answer ≡ a) in
     subst P (answers_two c.args._history.now f c.args.step.now c.args.low c.args.high c.args.low c.args.high
     (g.G.Guardian.state c.in-Some.first.now) (g.G.Guardian.state c.in-Some-at.second.now) c.requires.world.is_run c.requires.world.forest c.requires.names x y (λ k h. inl h))
@@ -37,7 +37,7 @@ returns-in-Some-at g c =
 pub returns-in-None-at : goal.returns-in-None-at
 returns-in-None-at g c =
     let f : ForestState = g.R.Forest.state c.args.forest.now in
-    let x = stands g.G.Guardian.state f.setup c.args._history.now f c.args.guardians.now c.args.low c.in-Some.first.now c.requires.world c.in-Some.ensures.0 c.in-Some.ensures.2 in
+    let x = stands g.G.Guardian.state f.opening c.args._history.now f c.args.guardians.now c.args.low c.in-Some.first.now c.requires.world c.in-Some.ensures.0 c.in-Some.ensures.2 in
     let P : Answer → Type 0 = λ a. IfOk c.answer_two-in-None-at.result (λ answer. answer ≡ a) in
     subst P (answers_low c.args._history.now f c.args.step.now c.args.low c.args.high (g.G.Guardian.state c.in-Some.first.now)
     c.requires.world.is_run c.requires.world.forest c.requires.names x (subst (λ n. IsOut n c.args.high) c.requires.world.count c.in-None-at.ensures))
@@ -46,7 +46,7 @@ returns-in-None-at g c =
 pub returns-in-Some-at-2 : goal.returns-in-Some-at-2
 returns-in-Some-at-2 g c =
     let f : ForestState = g.R.Forest.state c.args.forest.now in
-    let y = stands g.G.Guardian.state f.setup c.args._history.now f c.args.guardians.now c.args.high c.in-Some-at-2.second.now c.requires.world c.in-Some-at-2.ensures.0 c.in-Some-at-2.ensures.2 in
+    let y = stands g.G.Guardian.state f.opening c.args._history.now f c.args.guardians.now c.args.high c.in-Some-at-2.second.now c.requires.world c.in-Some-at-2.ensures.0 c.in-Some-at-2.ensures.2 in
     let P : Answer → Type 0 = λ a. IfOk c.answer_two-in-Some-at-2.result (λ answer. answer ≡ a) in
     subst P (answers_high c.args._history.now f c.args.step.now c.args.low c.args.high (g.G.Guardian.state c.in-Some-at-2.second.now)
     c.requires.world.is_run c.requires.world.forest c.requires.names y (subst (λ n. IsOut n c.args.low) c.requires.world.count c.in-None.ensures))

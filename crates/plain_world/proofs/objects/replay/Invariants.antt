@@ -5,4 +5,4 @@ use Rattle.plain_world.proofs.objects.replay.Given as goal
 
 -- what the operations so far leave
 abbrev pub invariant-loop-performed : goal.invariant-loop-performed
-invariant-loop-performed l = l.content ≡ left_of l.fn.opening (those_on l.fn.object (take l.performed-index l.kept))
+invariant-loop-performed l = l.content ≡ left_of l.fn.first (those_on l.fn.object (take l.performed-index l.kept))

@@ -1,7 +1,8 @@
 use Rattle.std.proofs.Common.{sym, ◌∙◌}
 use Rattle.activities.proofs.Steps.{call_begins_one}
+use Rattle.run_model.specs.Openings.{opening_in}
 use Rattle.activities.proofs.open_action.OpenAction.begin_call.Goals as goal
 
 pub what_came-requires : goal.what_came-requires
 what_came-requires c names h =
-    call_begins_one c.args.world.now.setup c.in_ok-copy.field-0 c.args.guardian c.args.world.now.past names (sym h ∙ c.in_ok-answer.ensures.answer)
+    call_begins_one (opening_in c.args.world.now.lists) c.in_ok-copy.field-0 c.args.guardian c.args.world.now.past names (sym h ∙ c.in_ok-answer.ensures.answer)

@@ -1,7 +1,8 @@
 use Rattle.std.proofs.Common.{sym, ◌∙◌}
 use Rattle.activities.proofs.Steps.{nested_begins_one}
+use Rattle.run_model.specs.Openings.{opening_in}
 use Rattle.activities.proofs.open_action.OpenAction.begin_nested.Goals as goal
 
 pub begun_by-requires : goal.begun_by-requires
 begun_by-requires c names h =
-    nested_begins_one c.args.world.now.setup c.in_ok-copy.field-0 c.args.world.now.past names (sym h ∙ c.in_ok-answer.ensures.answer)
+    nested_begins_one (opening_in c.args.world.now.lists) c.in_ok-copy.field-0 c.args.world.now.past names (sym h ∙ c.in_ok-answer.ensures.answer)

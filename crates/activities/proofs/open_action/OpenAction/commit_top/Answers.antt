@@ -9,13 +9,14 @@ use Rattle.activities.specs.Reaching.{has, is_made}
 use Rattle.activities.proofs.Going.{by_is_among, commits_through, ends_through, goes_through, none_is_among, none_then, still_uncommitted}
 use Rattle.activities.proofs.Steps.{commit_result_told}
 use Rattle.activities.proofs.Voting.{all_asked, ask_failed, ask_first, ask_next, close_refused, decide_held}
+use Rattle.run_model.specs.Openings.{opening_in}
 use Rattle.activities.proofs.open_action.OpenAction.commit_top.Goals as goal
 
 pub returns-then-not-branch-clause-held : goal.returns-then-not-branch-clause-held
 returns-then-not-branch-clause-held c = λ h.
     inl (close_refused c.args.world.now c.args.self.now.name
     (sym (c.in_ok-try_step.ensures.done
-    ∙ ap (λ a. is_made (answer_of c.args.world.now.setup (Close a) c.args.world.now.past)) c.in_ok-copy.ensures.ok.1)
+    ∙ ap (λ a. is_made (answer_of (opening_in c.args.world.now.lists) (Close a) c.args.world.now.past)) c.in_ok-copy.ensures.ok.1)
     ∙ c.if-not-branch.true))
 
 pub loop-guardian-init : goal.loop-guardian-init
@@ -28,7 +29,7 @@ loop-guardian-init c = record {
       c.into_iter-guardian-iterator.result c.requires.run c.into_iter-guardian-iterator.ensures.into_iter_gives.0
       (subst (λ a. IsAfter (Close a) c.args.world.now c.try_step.new.world) c.in_ok-copy.ensures.ok.1 c.in_ok-try_step.ensures.after)
       (sym (c.in_ok-try_step.ensures.done
-      ∙ ap (λ a. is_made (answer_of c.args.world.now.setup (Close a) c.args.world.now.past)) c.in_ok-copy.ensures.ok.1)
+      ∙ ap (λ a. is_made (answer_of (opening_in c.args.world.now.lists) (Close a) c.args.world.now.past)) c.in_ok-copy.ensures.ok.1)
       ∙ c.if-not-branch.false)
       c.into_iter-guardian-iterator.ensures.into_iter_gives.4;
 }
@@ -86,7 +87,7 @@ returns-clause-told c =
     (subst (λ a. OnOk c.try_step-2.result (IsAfter (Decide a) c.loop-guardian.world c.try_step-2.new.world)) c.in_ok-copy-2.ensures.ok.1
     c.try_step-2.ensures.after)
     (subst
-    (λ a. IfOk c.try_step-2.result (λ done. done ≡ is_made (answer_of c.loop-guardian.world.setup (Decide a) c.loop-guardian.world.past)))
+    (λ a. IfOk c.try_step-2.result (λ done. done ≡ is_made (answer_of (opening_in c.loop-guardian.world.lists) (Decide a) c.loop-guardian.world.past)))
     c.in_ok-copy-2.ensures.ok.1 c.try_step-2.ensures.done)
     (same_name_self c.args.self.now.name)
     (sym (still_uncommitted c.args.self.now.name c.args.world.now c.loop-guardian.world c.requires.open c.loop-guardian.invariant.commits))
@@ -98,7 +99,7 @@ returns-clause-held c =
     (subst (λ a. OnOk c.try_step-2.result (IsAfter (Decide a) c.loop-guardian.world c.try_step-2.new.world)) c.in_ok-copy-2.ensures.ok.1
     c.try_step-2.ensures.after)
     (subst
-    (λ a. IfOk c.try_step-2.result (λ done. done ≡ is_made (answer_of c.loop-guardian.world.setup (Decide a) c.loop-guardian.world.past)))
+    (λ a. IfOk c.try_step-2.result (λ done. done ≡ is_made (answer_of (opening_in c.loop-guardian.world.lists) (Decide a) c.loop-guardian.world.past)))
     c.in_ok-copy-2.ensures.ok.1 c.try_step-2.ensures.done)
     (all_asked (has c.args.self.now.reached.participants) c.args.self.now.name c.loop-guardian.world _
     (rest_all deref _ _ _ c.in-None.is c.next.ensures.steps) c.loop-guardian.invariant.asked)

@@ -7,4 +7,4 @@ use Rattle.lent_steps.proofs.alone.AloneReads.told_count.Goals as goal
 pub returns : goal.returns
 returns g c =
     let f = g.R.Forest.state c.args.self.now.forest.now in
-    sym (nobody_count f.setup c.args._guardian c.args._action.now (is_committed c.args._action.now (events_there f.registry)))
+    sym (nobody_count f.opening c.args._guardian c.args._action.now (is_committed c.args._action.now (events_there f.registry)))

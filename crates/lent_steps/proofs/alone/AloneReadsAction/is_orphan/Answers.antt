@@ -7,4 +7,4 @@ use Rattle.lent_steps.proofs.alone.AloneReadsAction.is_orphan.Goals as goal
 pub returns : goal.returns
 returns g c =
     let f = g.R.Forest.state c.args.self.now.forest.now in
-    sym (nobody_orphan f.setup (home_of c.args._action.now (events_there f.registry)) c.args._action.now)
+    sym (nobody_orphan f.opening (home_of c.args._action.now (events_there f.registry)) c.args._action.now)

@@ -7,9 +7,9 @@ use Rattle.lent_steps.proofs.here.HereReadsAction.operated.Goals as goal
 pub operated-requires-clause-own : goal.operated-requires-clause-own
 operated-requires-clause-own g c =
     let x : GuardianState = g.G.Guardian.state c.args.self.now.guardian.now in
-    object_own x.setup x.number c.args.action.now c.args.object c.args.operation.now x.past c.requires.accepted
+    object_own x.opening x.number c.args.action.now c.args.object c.args.operation.now x.past c.requires.accepted
 
 pub operated-requires-clause-known : goal.operated-requires-clause-known
 operated-requires-clause-known g c =
     let x : GuardianState = g.G.Guardian.state c.args.self.now.guardian.now in
-    is_known x.setup (facts_here x.setup x.number x.past) c.args.action.now c.args.object c.args.operation.now c.requires.accepted
+    is_known x.opening (facts_here x.opening x.number x.past) c.args.action.now c.args.object c.args.operation.now c.requires.accepted

@@ -13,5 +13,5 @@ plan-requires-clause-owed g c =
     let b : GuardianState = g.G.Guardian.state c.args.self.now.second.now in
     let x : GuardianState = g.G.Guardian.state c.args.at.now in
     let yes : c.is_named.result ≡ true = grind arith in
-    owed_at f a b x c.args.event.now (carried_of c.in_ok-message.message) c.requires.setup c.requires.one.past c.in_ok-message.ensures c.requires.answered
+    owed_at f a b x c.args.event.now (carried_of c.in_ok-message.message) c.requires.opening c.requires.one.past c.in_ok-message.ensures c.requires.answered
     (ap (λ k. names_guardian c.args.event.now.step (events_there f.registry) k) (sym c.number.ensures) ∙ sym c.is_named.ensures ∙ yes)

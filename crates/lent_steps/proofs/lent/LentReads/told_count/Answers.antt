@@ -7,13 +7,13 @@ use Rattle.lent_steps.proofs.lent.LentReads.told_count.Goals as goal
 pub returns-in-Some : goal.returns-in-Some
 returns-in-Some g c =
     let f = g.R.Forest.state c.args.self.now.forest.now in
-    same_count f.setup c.args.guardian (lent_two (g.G.Guardian.state c.args.self.now.first.now) (g.G.Guardian.state c.args.self.now.second.now) c.args.guardian)
+    same_count f.opening c.args.guardian (lent_two (g.G.Guardian.state c.args.self.now.first.now) (g.G.Guardian.state c.args.self.now.second.now) c.args.guardian)
     c.args.action.now c.told_count.result (g.G.Guardian.state c.in-Some.guardian.now) c.is_committed-committed.result
     (is_committed c.args.action.now (events_there f.registry))
-    c.told_count.ensures (c.in-Some.ensures.setup c.requires.sound) c.in-Some.ensures.number c.in-Some.ensures.past c.is_committed-committed.ensures
+    c.told_count.ensures (c.in-Some.ensures.opening c.requires.sound) c.in-Some.ensures.number c.in-Some.ensures.past c.is_committed-committed.ensures
 
 pub returns-in-None : goal.returns-in-None
 returns-in-None g c =
     let f = g.R.Forest.state c.args.self.now.forest.now in
-    none_count f.setup c.args.guardian (lent_two (g.G.Guardian.state c.args.self.now.first.now) (g.G.Guardian.state c.args.self.now.second.now) c.args.guardian)
+    none_count f.opening c.args.guardian (lent_two (g.G.Guardian.state c.args.self.now.first.now) (g.G.Guardian.state c.args.self.now.second.now) c.args.guardian)
     c.args.action.now (is_committed c.args.action.now (events_there f.registry)) c.in-None.ensures

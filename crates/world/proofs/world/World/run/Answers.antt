@@ -3,12 +3,13 @@ use Rattle.std.proofs.lemmas.List.{take_more}
 use Rattle.run_laws.specs.Serving.{IsServed}
 use Rattle.run_laws.proofs.Serving.{runs_are_served}
 use Rattle.world.proofs.Running.{ran_more, ran_none}
+use Rattle.run_model.specs.Openings.{opening_in}
 use Rattle.world.proofs.world.World.run.Goals as goal
 
 pub loop-step-init : goal.loop-step-init
 loop-step-init c = record {
   ran = ran_none c.args.self.now c.args.answers.now.items;
-  served = subst (λ w. IsServed w.setup w.past) c.self.view_is (runs_are_served _ _ c.self.invariant);
+  served = subst (λ w. IsServed (opening_in w.lists) w.past) c.self.view_is (runs_are_served _ _ c.self.invariant);
 }
 
 pub loop-step-preserved : goal.loop-step-preserved

@@ -1,10 +1,11 @@
 use Rattle.std.proofs.Common.{take}
 use Rattle.run_laws.specs.Serving.{IsServed}
 use Rattle.world.specs.Running.{Ran}
+use Rattle.run_model.specs.Openings.{opening_in}
 use Rattle.world.proofs.world.World.run.Given as goal
 
 abbrev pub invariant-loop-step : goal.invariant-loop-step
 invariant-loop-step l = record {
   ran : Ran l.fn.self l.self (take l.step-index l.steps) l.fn.answers.items l.answers.items;
-  served : IsServed l.self.setup l.self.past;
+  served : IsServed (opening_in l.self.lists) l.self.past;
 }
