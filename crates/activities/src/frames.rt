@@ -3,10 +3,10 @@ ghost use Rattle.std.specs.List.{list_all};
 ghost use Rattle.script_model.specs.Resolved.{int_is_bound, text_is_bound, expr_is_bound, condition_is_bound, operation_is_bound, binding_is_bound, is_place, grown, frames_after};
 ghost use Rattle.activities.specs.Bodies.{sizes};
 
-use atomic_types::{Op, Reply};
+use atomic_types::{Arguments, Op, Reply};
 use script_model::{Binding, Condition, Expr, HandlerCall, IntExpr, Operation, TextExpr};
 use std::alloc::{AllocError, Global};
-use values::{Text, Value};
+use values::{Identifier, Text, Value};
 
 /// The variables that are bound, by kind: each is at its place in the frame of its kind.
 #[derive(Drop)]
@@ -125,41 +125,50 @@ impl Frames {
     pub(crate) fn operation(&self, operation: &Operation) -> Result<Option<Op>, AllocError>
         requires { IsTrue (operation_is_bound (sizes self.now) operation.now) }
     {
-        match operation {
-            Operation::Get(field) => Ok(Some(Op::Get(field.copy()?))),
-            Operation::Set(field, expr) => {
-                let field = field.copy()?;
-                Ok(self.value(expr)?.map(|value| Op::Set(field, value)))
-            }
-            Operation::Low => Ok(Some(Op::Low)),
-            Operation::High => Ok(Some(Op::High)),
-            Operation::Size => Ok(Some(Op::Size)),
-            Operation::Fetch(index) => Ok(self.int(index).map(Op::Fetch)),
-            Operation::Store(index, expr) => self.store(index, expr),
-            Operation::AddHigh(expr) => Ok(self.value(expr)?.map(Op::AddHigh)),
-            Operation::AddLow(expr) => Ok(self.value(expr)?.map(Op::AddLow)),
-            Operation::RemoveHigh => Ok(Some(Op::RemoveHigh)),
-            Operation::RemoveLow => Ok(Some(Op::RemoveLow)),
-            Operation::Is(tag) => Ok(Some(Op::Is(tag.copy()?))),
-            Operation::ValueOf(tag) => Ok(Some(Op::ValueOf(tag.copy()?))),
-            Operation::Change(tag, expr) => {
-                let tag = tag.copy()?;
-                Ok(self.value(expr)?.map(|value| Op::Change(tag, value)))
-            }
-            Operation::Total => Ok(Some(Op::Total)),
-            Operation::Put(expr) => Ok(self.value(expr)?.map(Op::Put)),
-            Operation::Add(expr) => Ok(self.value(expr)?.map(Op::Add)),
+        match self.op_arguments(operation)? {
+            Some(arguments) => Ok(Op::of(operation.name(), arguments)),
+            None => Ok(None),
         }
     }
 
-    fn store(&self, index: &IntExpr, expr: &Expr) -> Result<Option<Op>, AllocError>
+    /// The values of an operation's arguments; none where a sum or a difference is out of 64 bits.
+    fn op_arguments(
+        &self,
+        operation: &Operation,
+    ) -> Result<Option<Arguments<Identifier, i64, Value>>, AllocError>
+        requires { IsTrue (operation_is_bound (sizes self.now) operation.now) }
+    {
+        match operation.arguments() {
+            Arguments::Nothing => Ok(Some(Arguments::Nothing)),
+            Arguments::Word(word) => Ok(Some(Arguments::Word(word.copy()?))),
+            Arguments::WordValue(word, expr) => {
+                let word = word.copy()?;
+                Ok(
+                    self.value(expr)?
+                        .map(|value| Arguments::WordValue(word, value)),
+                )
+            }
+            Arguments::Index(index) => Ok(self.int(index).map(Arguments::Index)),
+            Arguments::IndexValue(index, expr) => self.index_and_value(index, expr),
+            Arguments::Value(expr) => Ok(self.value(expr)?.map(Arguments::Value)),
+        }
+    }
+
+    fn index_and_value(
+        &self,
+        index: &IntExpr,
+        expr: &Expr,
+    ) -> Result<Option<Arguments<Identifier, i64, Value>>, AllocError>
         requires index { IsTrue (int_is_bound (length self.now.ints.items) index.now) }
         requires value { IsTrue (expr_is_bound (sizes self.now) expr.now) }
     {
         let Some(index) = self.int(index) else {
             return Ok(None);
         };
-        Ok(self.value(expr)?.map(|value| Op::Store(index, value)))
+        Ok(
+            self.value(expr)?
+                .map(|value| Arguments::IndexValue(index, value)),
+        )
     }
 
     /// The frames with which the handler's body begins; none where a sum or a difference is out of 64 bits.

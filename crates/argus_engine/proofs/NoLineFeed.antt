@@ -1,5 +1,5 @@
 -- No text of a step has a line feed.
-use Rattle.std.proofs.Common.{◌≡◌, ◌≢◌, ℕ, suc, ◌/◌, ◌%◌, Bool, true, false, not, cond, List, [], ◌∷◌, ◌++◌, refl, sym, subst, arith, decimal, codes, pos, negsuc}
+use Rattle.std.proofs.Common.{◌≡◌, ◌≢◌, ℕ, ℤ, suc, ◌/◌, ◌%◌, Bool, true, false, not, cond, List, [], ◌∷◌, ◌++◌, refl, sym, subst, arith, decimal, codes, pos, negsuc}
 use Rattle.std.specs.Prelude.{◌==◌, nat_lt, flat_map}
 use Rattle.std.specs.List.{AllByRecursion, list_all}
 use Rattle.std.specs.Fmt.{signed_decimal}
@@ -12,15 +12,18 @@ use Rattle.values.specs.declared.value.Value.{Value}
 use Rattle.values.specs.declared.value.Value.TheVariants.{Int, Text}
 use Rattle.values.specs.Values.{IsValue, value_text}
 use Rattle.values.specs.Words.{IsIdentifier, is_letter, is_word_character}
-use Rattle.atomic_types.specs.declared.op.Op as op
-use Rattle.atomic_types.specs.declared.op.Op.TheVariants.{Get, Set, Low, High, Size, Fetch, Store, AddHigh, AddLow, RemoveHigh, RemoveLow, Is, ValueOf, Change, Total, Put, Add}
-use Rattle.atomic_types.specs.Operations.{IsOp}
+use Rattle.atomic_types.specs.Operations as op
+use Rattle.atomic_types.specs.declared.operation.OpName.{OpName}
+use Rattle.atomic_types.specs.declared.operation.OpName.TheVariants as verb
+use Rattle.atomic_types.specs.declared.operation.Arguments.{Arguments}
+use Rattle.atomic_types.specs.declared.operation.Arguments.TheVariants as with
+use Rattle.atomic_types.specs.Operations.{AreArguments, IsOp, arguments_of, name_of, word_of}
 use Rattle.run_model.specs.declared.step.ArmKind.{ArmKind}
 use Rattle.run_model.specs.declared.step.ArmKind.TheVariants as arm
 use Rattle.run_model.specs.declared.step.ObjectId.{ObjectId}
 use Rattle.run_model.specs.declared.step.Step.{Step}
 use Rattle.run_model.specs.declared.step.Step.TheVariants.{Top, NestedTop, Call, Arms, Op, Commit, Close, Prepare, Decide, Abort, Tell, Crash, Recover}
-use Rattle.run_model.specs.Texts.{object_text, op_text, kinds_text, step_text, HasStepParts}
+use Rattle.run_model.specs.Texts.{called_text, object_text, op_text, kinds_text, step_text, HasStepParts}
 use Rattle.run_model.specs.Reading.{Lacks, IsIndex, IsObject}
 use Rattle.run_model.specs.Spaces.{Lacks-nil, Lacks-cons, Lacks-append, Lacks-decimal, Lacks-component}
 
@@ -109,24 +112,23 @@ value (Int (pos n)) fits = Lacks-decimal 10 n (λ r. omega arith) (omega arith)
 value (Int (negsuc n)) fits = index (negsuc n) fits
 value (Text bytes) fits = Lacks-cons 10 34 _ (λ e. omega arith) (both 34 (flat_map escape_byte bytes) [] (λ e. omega arith) (escapes bytes) (Lacks-nil 10))
 
+op_name_lacks : (n : OpName) → list_all (λ b. not (b == 10)) (word_of n) ≡ true
+op_name_lacks verb.Get = refl
+op_name_lacks _ = refl
+
+spaced : (n : OpName) (rest : List ℕ) → Lacks 10 rest → Lacks 10 (word_of n ++ 32 ∷ rest)
+spaced n rest lacks = both 32 (word_of n) rest (λ e. omega arith) (word (word_of n) (op_name_lacks n)) lacks
+
+called : (n : OpName) (a : Arguments (List ℕ) ℤ Value) → AreArguments a → Lacks 10 (called_text (word_of n) a)
+called n with.Nothing fits = word (word_of n) (op_name_lacks n)
+called n (with.Word w) fits = spaced n w (identifier w fits)
+called n (with.WordValue w v) fits = spaced n _ (both 32 w (value_text v) (λ e. omega arith) (identifier w fits.0) (value v fits.1))
+called n (with.Index i) fits = spaced n (signed_decimal i) (index i fits)
+called n (with.IndexValue i v) fits = spaced n _ (both 32 (signed_decimal i) (value_text v) (λ e. omega arith) (index i fits.0) (value v fits.1))
+called n (with.Value v) fits = spaced n (value_text v) (value v fits)
+
 operation : (o : op.Op) → IsOp o → Lacks 10 (op_text o)
-operation (Get field) fits = after (codes "get ") field refl (identifier field fits)
-operation (Set field v) fits = both 32 (codes "set " ++ field) (value_text v) (λ e. omega arith) (after (codes "set ") field refl (identifier field fits.0)) (value v fits.1)
-operation Low fits = word (codes "low") refl
-operation High fits = word (codes "high") refl
-operation Size fits = word (codes "size") refl
-operation (Fetch i) fits = after (codes "fetch ") _ refl (index i fits)
-operation (Store i v) fits = both 32 (codes "store " ++ signed_decimal i) (value_text v) (λ e. omega arith) (after (codes "store ") _ refl (index i fits.0)) (value v fits.1)
-operation (AddHigh v) fits = after (codes "addh ") _ refl (value v fits)
-operation (AddLow v) fits = after (codes "addl ") _ refl (value v fits)
-operation RemoveHigh fits = word (codes "remh") refl
-operation RemoveLow fits = word (codes "reml") refl
-operation (Is tag) fits = after (codes "is ") tag refl (identifier tag fits)
-operation (ValueOf tag) fits = after (codes "value ") tag refl (identifier tag fits)
-operation (Change tag v) fits = both 32 (codes "change " ++ tag) (value_text v) (λ e. omega arith) (after (codes "change ") tag refl (identifier tag fits.0)) (value v fits.1)
-operation Total fits = word (codes "total") refl
-operation (Put v) fits = after (codes "put ") _ refl (value v fits)
-operation (Add v) fits = after (codes "add ") _ refl (value v fits)
+operation o fits = called (name_of o) (arguments_of o) fits
 
 kinds : (ks : List ArmKind) → Lacks 10 (kinds_text ks)
 kinds [] = Lacks-nil 10

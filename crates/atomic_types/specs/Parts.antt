@@ -2,7 +2,7 @@
 use Rattle.std.specs.Prelude.{Option, Some, None}
 use Rattle.values.specs.declared.content.Content.{Content}
 use Rattle.values.specs.declared.value.Value.TheVariants.{Int}
-use Rattle.atomic_types.specs.declared.op.Op.TheVariants.{Add}
+use Rattle.atomic_types.specs.declared.operation.Operation.TheVariants.{Add}
 use Rattle.atomic_types.specs.declared.part.Part.{Part}
 use Rattle.atomic_types.specs.declared.part.Part.TheVariants.{Value, Delta}
 use Rattle.atomic_types.specs.Counters.{sum_of}

@@ -10,11 +10,13 @@ mod counter;
 mod laws;
 mod object;
 mod op;
+mod operation;
 mod part;
 mod record;
 mod variant;
 
 pub use atomic::AtomicType;
 pub use laws::object_laws;
-pub use op::{Class, Op, Reply, Signal};
+pub use op::{Class, Reply, Signal};
+pub use operation::{Arguments, Form, Op, OpName, Operation};
 pub use part::Part;

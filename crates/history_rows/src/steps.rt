@@ -25,7 +25,13 @@ pub(crate) fn write(step: &Step, answer: &mut String) -> Result<(), AllocError> 
         Step::NestedTop(a) => write!(answer, "N {a}"),
         Step::Call(a, g) => write!(answer, "C {a} {g}"),
         Step::Arms(a, kinds) => write!(answer, "A {a} {}", kinds.len()),
-        Step::Op(a, x, op) => write!(answer, "O {a} {} {} {}", x.guardian, x.number, op.name()),
+        Step::Op(a, x, op) => write!(
+            answer,
+            "O {a} {} {} {}",
+            x.guardian,
+            x.number,
+            op.name().text()
+        ),
         Step::Commit(a) => write!(answer, "commits {a}"),
         Step::Close(a) => write!(answer, "closes {a}"),
         Step::Prepare(g, a) => write!(answer, "P {g} {a}"),

@@ -3,7 +3,7 @@ use Rattle.std.proofs.Common.{length, ◌≡◌, Bool, true, false, List, [], �
 use Rattle.std.proofs.lemmas.Bool.{not-false}
 use Rattle.std.specs.List.{list_any}
 use Rattle.action_names.specs.Names.{Name, ancestors}
-use Rattle.atomic_types.specs.declared.op.Op as op
+use Rattle.atomic_types.specs.Operations as op
 use Rattle.atomic_types.specs.Objects.{knows}
 use Rattle.run_model.specs.declared.answer.Refusal.{Refusal}
 use Rattle.run_model.specs.declared.step.ObjectId.{ObjectId}

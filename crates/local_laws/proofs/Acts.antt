@@ -10,8 +10,8 @@ use Rattle.atomic_types.specs.TypeLaws.{objects_order_is_free}
 use Rattle.atomic_types.specs.declared.op.Class.{Class}
 use Rattle.atomic_types.specs.declared.op.Class.TheVariants.{Read, Write}
 use Rattle.atomic_types.specs.declared.op.Class.TheVariants as class
-use Rattle.atomic_types.specs.declared.op.Op as op
-use Rattle.atomic_types.specs.declared.op.Op.TheVariants.{Add}
+use Rattle.atomic_types.specs.Operations as op
+use Rattle.atomic_types.specs.declared.operation.Operation.TheVariants.{Add}
 use Rattle.atomic_types.specs.declared.part.Part.{Part}
 use Rattle.atomic_types.specs.declared.part.Part.TheVariants.{Delta, Value}
 use Rattle.atomic_types.specs.Objects.{content_after, reply_of}

@@ -19,7 +19,7 @@ use Rattle.run_model.specs.LocalHistories.{events_of, local_history}
 use Rattle.local_laws.specs.Standings.{bare, unnumbered}
 use Rattle.local_laws.specs.Objects.{CountsSame, ObjectsAlike, PartsSame}
 use Rattle.local_laws.proofs.Kept.{standing_same}
-use Rattle.atomic_types.specs.declared.op.Op as op
+use Rattle.atomic_types.specs.Operations as op
 
 abbrev bare_all : List Performed → List Performed
 bare_all os = map (λ o. unnumbered o) os

@@ -25,7 +25,7 @@ use Rattle.local_laws.proofs.Dependencies.{dependencies_same, listed}
 use Rattle.local_laws.proofs.Kept.{any_same}
 use Rattle.local_laws.proofs.Lists.{aborts_same}
 use Rattle.local_laws.proofs.Roster.{guardian_same}
-use Rattle.atomic_types.specs.declared.op.Op as op
+use Rattle.atomic_types.specs.Operations as op
 use Rattle.run_model.specs.declared.answer.Refusal.TheVariants as why
 use Rattle.run_laws.proofs.Accepted.{refused_anyway}
 

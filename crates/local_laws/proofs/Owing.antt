@@ -21,7 +21,7 @@ use Rattle.local_laws.proofs.Operations.{operations_same, tellings_same, votes_s
 use Rattle.local_laws.proofs.Outcomes.{history_named, history_unnamed, local_event}
 use Rattle.local_laws.proofs.Roster.{there_own}
 use Rattle.run_model.specs.declared.answer.Refusal.TheVariants as why
-use Rattle.atomic_types.specs.declared.op.Op as op
+use Rattle.atomic_types.specs.Operations as op
 
 -- what one event owes
 owed : (opening : Opening) (s : Stamped) (run : List Stamped) (g : ℕ) → IsRun opening (events_of (s ∷ run)) → names_guardian s.1.step (events_of run) g ≡ true

@@ -3,7 +3,7 @@ use Rattle.std.proofs.Common.{List, None, Option, Some, ap, filter, map, not, re
 use Rattle.std.proofs.lemmas.Bool.{false_from_ne_true, not-true}
 use Rattle.std.specs.List.{AllByRecursion}
 use Rattle.action_names.specs.Names.{Name}
-use Rattle.atomic_types.specs.declared.op.Op as op
+use Rattle.atomic_types.specs.Operations as op
 use Rattle.atomic_types.specs.Objects.{reply_of}
 use Rattle.atomic_types.specs.Operations.{class_of, classes_conflict}
 use Rattle.run_model.specs.Keeping.{Standing, blockers_by}

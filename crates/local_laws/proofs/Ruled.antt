@@ -4,7 +4,7 @@ use Rattle.std.proofs.lemmas.Bool.{not-false, or_parts}
 use Rattle.std.specs.List.{AllByRecursion, list_any}
 use Rattle.action_names.specs.Names.{Name, ancestors, is_ancestor}
 use Rattle.atomic_types.specs.Operations.{class_of, classes_conflict, conflicts}
-use Rattle.atomic_types.specs.declared.op.Op as op
+use Rattle.atomic_types.specs.Operations as op
 use Rattle.values.specs.declared.content.Content.{Content}
 use Rattle.run_model.specs.declared.answer.Answer.{Answer}
 use Rattle.atomic_types.specs.declared.op.Reply.{Reply}

@@ -12,8 +12,8 @@ use Rattle.values.specs.declared.content.Content.TheVariants.{Array, Counter, Re
 use Rattle.values.specs.declared.value.Value.TheVariants.{Int, Text}
 use Rattle.atomic_types.specs.Counters.{sum_of}
 use Rattle.atomic_types.specs.TypeLaws.{objects_order_is_free, reads_leave}
-use Rattle.atomic_types.specs.declared.op.Op as op
-use Rattle.atomic_types.specs.declared.op.Op.TheVariants.{Add, AddHigh, AddLow, Change, Put, RemoveHigh, RemoveLow, Set, Store}
+use Rattle.atomic_types.specs.Operations as op
+use Rattle.atomic_types.specs.declared.operation.Operation.TheVariants.{Add}
 use Rattle.atomic_types.specs.declared.part.Part.{Part}
 use Rattle.atomic_types.specs.declared.part.Part.TheVariants.{Delta, Value}
 use Rattle.atomic_types.specs.Objects.{content_after}
@@ -104,6 +104,10 @@ amount_first m c [] = refl
 amount_first m c (x ∷ xs) =
     ap (λ d. with_amount (amount_of x) d) (amount_first m c xs) ∙ amounts_commute (amount_of x) m (with_amounts c xs)
 
+left_of_or : (b c : Bool) → (b || c) ≡ true → c ≡ false → b ≡ true
+left_of_or true c e f = refl
+left_of_or false c e f = absurd (true≢false (sym e ∙ f))
+
 -- Where nothing writes, what acts leave is what they add.
 pub adds_leave : (c : Content) (xs : List Act) → Each (λ x. is_write_class (deed_of x).1 ≡ false) xs
     → Each (λ x. act_adds_text x ≡ true → laid (Delta (pos 0)) c ≡ c) xs → after_acts c xs ≡ with_amounts c xs
@@ -116,15 +120,7 @@ adds_leave c (x ∷ xs) h k =
         → content_after d o ≡ with_amount (added_by o) d
     by (Add (Int z)) d w t = refl
     by (Add (Text bytes)) d w t = text_leaves d bytes ∙ sym (t refl)
-    by (Set name v) d w t = absurd (true≢false w)
-    by (Store index v) d w t = absurd (true≢false w)
-    by (AddHigh v) d w t = absurd (true≢false w)
-    by (AddLow v) d w t = absurd (true≢false w)
-    by RemoveHigh d w t = absurd (true≢false w)
-    by RemoveLow d w t = absurd (true≢false w)
-    by (Change tag v) d w t = absurd (true≢false w)
-    by (Put v) d w t = absurd (true≢false w)
-    by o d w t = reads_leave d o refl
+    by o d w t = reads_leave d o (left_of_or (op.is_read o) (op.is_write o) refl w)
 
     one : (x : Act) (d : Content) → is_write_class (deed_of x).1 ≡ false → (act_adds_text x ≡ true → laid (Delta (pos 0)) d ≡ d)
         → after_act d x ≡ with_amount (amount_of x) d

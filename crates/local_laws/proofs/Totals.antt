@@ -12,8 +12,8 @@ use Rattle.atomic_types.specs.TypeLaws.{reads_leave}
 use Rattle.atomic_types.specs.declared.op.Class.{Class}
 use Rattle.atomic_types.specs.declared.op.Class.TheVariants.{Read, Write}
 use Rattle.atomic_types.specs.declared.op.Class.TheVariants as class
-use Rattle.atomic_types.specs.declared.op.Op as op
-use Rattle.atomic_types.specs.declared.op.Op.TheVariants.{Add, Total}
+use Rattle.atomic_types.specs.Operations as op
+use Rattle.atomic_types.specs.declared.operation.Operation.TheVariants.{Add, Total}
 use Rattle.atomic_types.specs.declared.part.Part.{Part}
 use Rattle.atomic_types.specs.declared.part.Part.TheVariants.{Delta, Value}
 use Rattle.atomic_types.specs.Operations.{class_of, classes_conflict, is_add_class, is_read_class, is_write_class}

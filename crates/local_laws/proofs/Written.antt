@@ -15,8 +15,8 @@ use Rattle.values.specs.declared.value.Value.TheVariants.{Int, Text}
 use Rattle.atomic_types.specs.declared.op.Class.{Class}
 use Rattle.atomic_types.specs.declared.op.Class.TheVariants.{Read, Write}
 use Rattle.atomic_types.specs.declared.op.Class.TheVariants as class
-use Rattle.atomic_types.specs.declared.op.Op as op
-use Rattle.atomic_types.specs.declared.op.Op.TheVariants.{Add, Put}
+use Rattle.atomic_types.specs.Operations as op
+use Rattle.atomic_types.specs.declared.operation.Operation.TheVariants.{Add, Put}
 use Rattle.atomic_types.specs.declared.part.Part.{Part}
 use Rattle.atomic_types.specs.declared.part.Part.TheVariants.{Delta, Value}
 use Rattle.atomic_types.specs.Counters.{sum_of}

@@ -2,7 +2,7 @@
 use Rattle.std.specs.Prelude.{◌≡◌, ◌==◌, ℕ, List, IsTrue}
 use Rattle.std.specs.List.{list_any}
 use Rattle.action_names.specs.Names.{Name}
-use Rattle.atomic_types.specs.declared.op.Op as op
+use Rattle.atomic_types.specs.Operations as op
 use Rattle.run_model.specs.declared.step.ObjectId.{ObjectId}
 use Rattle.run_model.specs.declared.step.Step.TheVariants.{Op, Prepare}
 use Rattle.run_model.specs.declared.answer.Answer.{Answer}

@@ -3,7 +3,7 @@ use Rattle.std.specs.Prelude.{◌≡◌, ◌⊎◌, Bool, true, not, ◌&&◌, I
 use Rattle.std.specs.List.{AllByRecursion, list_any}
 use Rattle.action_names.specs.Names.{Name, has_name, is_ancestor, same_name}
 use Rattle.atomic_types.specs.declared.op.Class.{Class}
-use Rattle.atomic_types.specs.declared.op.Op as op
+use Rattle.atomic_types.specs.Operations as op
 use Rattle.atomic_types.specs.Operations.{class_of, classes_conflict}
 use Rattle.run_model.specs.declared.step.ObjectId.{ObjectId}
 use Rattle.run_model.specs.Keeping.{Standing, blockers_by, part_class, standing_of}

@@ -6,8 +6,8 @@ use Rattle.values.specs.declared.content.Content.{Content}
 use Rattle.values.specs.declared.content.Content.TheVariants.{Counter}
 use Rattle.values.specs.declared.value.Value.TheVariants.{Text}
 use Rattle.values.specs.Contents.{IsCounter}
-use Rattle.atomic_types.specs.declared.op.Op.{Op}
-use Rattle.atomic_types.specs.declared.op.Op.TheVariants.{Add, Total}
+use Rattle.atomic_types.specs.Operations.{Op}
+use Rattle.atomic_types.specs.declared.operation.Operation.TheVariants.{Add, Total}
 use Rattle.atomic_types.specs.declared.part.Part.TheVariants.{Delta}
 use Rattle.atomic_types.specs.Parts.{laid}
 use Rattle.run_model.specs.declared.history.Event.{Event}

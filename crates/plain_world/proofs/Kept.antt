@@ -11,7 +11,7 @@ use Rattle.values.specs.declared.content.Content.{Content}
 use Rattle.atomic_types.specs.Objects.{knows}
 use Rattle.atomic_types.specs.Operations.{conflicts}
 use Rattle.atomic_types.specs.TypeLaws.{known_stay}
-use Rattle.atomic_types.specs.declared.op.Op as op
+use Rattle.atomic_types.specs.Operations as op
 use Rattle.run_model.specs.declared.history.Event.{Event}
 use Rattle.run_model.specs.declared.step.ObjectId.{ObjectId}
 use Rattle.run_model.specs.declared.step.Step.{Step}

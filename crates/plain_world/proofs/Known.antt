@@ -2,7 +2,7 @@
 use Rattle.std.proofs.Common.{◌≡◌, Bool, true, false, List, [], ◌∷◌, Option, Some, None, cond, refl, subst}
 use Rattle.std.proofs.lemmas.Bool.{not-false}
 use Rattle.action_names.specs.Names.{Name}
-use Rattle.atomic_types.specs.declared.op.Op as op
+use Rattle.atomic_types.specs.Operations as op
 use Rattle.atomic_types.specs.Objects.{knows}
 use Rattle.run_model.specs.declared.answer.Refusal.{Refusal}
 use Rattle.run_model.specs.declared.history.Event.{Event}

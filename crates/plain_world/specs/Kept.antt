@@ -3,7 +3,7 @@ use Rattle.std.specs.Prelude.{ℕ, Bool, not, ◌&&◌, List, filter, filter_map
 use Rattle.std.specs.List.{list_all, list_any}
 use Rattle.action_names.specs.Names.{Name, is_ancestor, insert_name, rising_names}
 use Rattle.values.specs.declared.content.Content.{Content}
-use Rattle.atomic_types.specs.declared.op.Op as op
+use Rattle.atomic_types.specs.Operations as op
 use Rattle.atomic_types.specs.Objects.{knows}
 use Rattle.atomic_types.specs.Operations.{conflicts}
 use Rattle.run_model.specs.declared.step.ObjectId.{ObjectId}

@@ -3,7 +3,7 @@ use Rattle.std.specs.Prelude.{ℤ, pos, negsuc, List, [], ◌∷◌, ◌++◌}
 use Rattle.action_names.specs.Names.{Name}
 use Rattle.values.specs.declared.value.Value.TheVariants.{Int}
 use Rattle.values.specs.declared.content.Content.TheVariants.{Counter}
-use Rattle.atomic_types.specs.declared.op.Op.TheVariants.{Total, Put, Add}
+use Rattle.atomic_types.specs.declared.operation.Operation.TheVariants.{Total, Put, Add}
 use Rattle.atomic_types.specs.declared.op.Reply.TheVariants as reply
 use Rattle.run_model.specs.declared.step.ObjectId.{ObjectId}
 use Rattle.run_model.specs.declared.step.Step.{Step}

@@ -1,7 +1,7 @@
 -- Crashes of guardians before and after they vote.
 use Rattle.std.specs.Prelude.{pos, List, [], ◌∷◌, Some, codes}
 use Rattle.values.specs.declared.value.Value.TheVariants.{Int}
-use Rattle.atomic_types.specs.declared.op.Op.TheVariants.{Get, Set}
+use Rattle.atomic_types.specs.declared.operation.Operation.TheVariants.{Get, Set}
 use Rattle.atomic_types.specs.declared.op.Reply.TheVariants as reply
 use Rattle.run_model.specs.declared.step.Step.TheVariants.{Top, Call, Commit, Close, Prepare, Decide, Abort, Tell, Crash, Recover}
 use Rattle.run_model.specs.declared.answer.Answer.TheVariants.{VoteYes, VoteNo, Done, Refused}

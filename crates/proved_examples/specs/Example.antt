@@ -4,8 +4,8 @@ use Rattle.action_names.specs.Names.{Name}
 use Rattle.values.specs.declared.value.Value.TheVariants.{Int}
 use Rattle.values.specs.declared.content.Content.{Content}
 use Rattle.values.specs.declared.content.Content.TheVariants.{Record}
-use Rattle.atomic_types.specs.declared.op.Op as operation
-use Rattle.atomic_types.specs.declared.op.Op.TheVariants.{Get, Set}
+use Rattle.atomic_types.specs.Operations as operation
+use Rattle.atomic_types.specs.declared.operation.Operation.TheVariants.{Get, Set}
 use Rattle.atomic_types.specs.declared.op.Reply.{Reply}
 use Rattle.atomic_types.specs.declared.op.Reply.TheVariants as reply
 use Rattle.run_model.specs.declared.step.ObjectId.{ObjectId}

@@ -2,7 +2,7 @@
 use Rattle.std.specs.Prelude.{ℕ, zero, suc, pos, [], ◌∷◌, codes}
 use Rattle.action_names.specs.Names.{Name, child_of}
 use Rattle.values.specs.declared.value.Value.TheVariants.{Int, Text}
-use Rattle.atomic_types.specs.declared.op.Op.TheVariants.{Get, Set, AddHigh}
+use Rattle.atomic_types.specs.declared.operation.Operation.TheVariants.{Get, Set, AddHigh}
 use Rattle.run_model.specs.declared.step.ObjectId.{ObjectId}
 use Rattle.run_model.specs.declared.step.Step.TheVariants.{Top, Call, Arms, Op, Commit, Close, Prepare, Decide, Tell, Recover}
 use Rattle.run_model.specs.declared.answer.Answer.TheVariants.{Refused}

@@ -6,8 +6,8 @@ use Rattle.values.specs.declared.variant.Tag.{Tag}
 use Rattle.values.specs.declared.content.Content.{Content}
 use Rattle.values.specs.declared.content.Content.TheVariants.{Array, Variant}
 use Rattle.values.specs.Items.{least_index}
-use Rattle.atomic_types.specs.declared.op.Op as operation
-use Rattle.atomic_types.specs.declared.op.Op.TheVariants.{Low, High, Size, Fetch, AddHigh, AddLow, RemoveLow, Is, ValueOf, Change}
+use Rattle.atomic_types.specs.Operations as operation
+use Rattle.atomic_types.specs.declared.operation.Operation.TheVariants.{Low, High, Size, Fetch, AddHigh, AddLow, RemoveLow, Is, ValueOf, Change}
 use Rattle.atomic_types.specs.declared.op.Signal.{Signal}
 use Rattle.atomic_types.specs.declared.op.Signal.TheVariants.{Bounds, Limit, WrongTag}
 use Rattle.atomic_types.specs.declared.op.Reply.TheVariants as reply

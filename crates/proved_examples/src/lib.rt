@@ -6,7 +6,7 @@
 ghost use Rattle.std.specs.Prelude.{◌≡◌, [], ◌∷◌, ◌++◌, Some, None, true, false, codes, pos, negsuc};
 ghost use Rattle.values.specs.declared.value.Value.TheVariants.{Int};
 ghost use Rattle.values.specs.declared.content.Content.TheVariants.{Counter};
-ghost use Rattle.atomic_types.specs.declared.op.Op.TheVariants.{Total};
+ghost use Rattle.atomic_types.specs.declared.operation.Operation.TheVariants.{Total};
 ghost use Rattle.atomic_types.specs.declared.op.Reply.TheVariants as reply;
 ghost use Rattle.atomic_types.specs.declared.part.Part.TheVariants.{Value, Delta};
 ghost use Rattle.run_model.specs.declared.answer.Answer.TheVariants.{Granted, Waits};

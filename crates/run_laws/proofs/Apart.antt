@@ -23,7 +23,7 @@ use Rattle.run_laws.proofs.Names.{clash}
 use Rattle.run_laws.proofs.Seen.{SeenIfInTheWay, granted_sees}
 use Rattle.run_laws.proofs.Sorted.{EachPair}
 use Rattle.run_laws.proofs.Visible.{visibility_carries_over, visible_stays}
-use Rattle.atomic_types.specs.declared.op.Op as op
+use Rattle.atomic_types.specs.Operations as op
 
 -- an operation after others that it does not conflict with leaves what it leaves before them
 past_others : (c : Content) (o : Performed) (os : List Performed) → Each (λ p. conflicts p.operation o.operation ≡ false) os

@@ -23,7 +23,7 @@ use Rattle.run_laws.proofs.Accepted.{NoneApplies, answered, checked}
 use Rattle.run_laws.proofs.Each.{Each}
 use Rattle.run_laws.proofs.Growth.{Follows, follows_length, here, later}
 use Rattle.run_model.specs.declared.answer.Refusal.TheVariants as why
-use Rattle.atomic_types.specs.declared.op.Op as op
+use Rattle.atomic_types.specs.Operations as op
 
 -- the step and the answer that grant an operation
 pub grant_parts : (o : Performed) (e : Event) (past : List Event) → Grants o e past

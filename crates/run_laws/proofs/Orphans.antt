@@ -32,7 +32,7 @@ use Rattle.run_laws.proofs.Kept.{prepared_closed}
 use Rattle.run_laws.proofs.Known.{known_abort, known_count}
 use Rattle.run_laws.proofs.Names.{any_ancestor_from, any_ancestor_use, any_name, clash, same_name_self, top_facts}
 use Rattle.run_laws.proofs.Sources.{IsSource, dependency_source}
-use Rattle.atomic_types.specs.declared.op.Op as op
+use Rattle.atomic_types.specs.Operations as op
 
 -- an action whose home crashed since it began is lost, where that home has not prepared its tree
 crashed_lost : (opening : Opening) (past : List Event) (b : Name) → IsRun opening past → is_begun b past ≡ true

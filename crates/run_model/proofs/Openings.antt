@@ -2,8 +2,8 @@
 use Rattle.std.proofs.Common.{ℤ, refl, ◌≡◌}
 use Rattle.values.specs.declared.content.Content.{Content}
 use Rattle.values.specs.declared.content.Content.TheVariants.{Record, Array, Variant, Counter}
-use Rattle.atomic_types.specs.declared.op.Op.{Op}
-use Rattle.atomic_types.specs.declared.op.Op.TheVariants.{Get, Set, Low, High, Size, Fetch, Store, AddHigh, AddLow, RemoveHigh, RemoveLow, Is, ValueOf, Change, Total, Put, Add}
+use Rattle.atomic_types.specs.Operations.{Op}
+use Rattle.atomic_types.specs.declared.operation.Operation.TheVariants.{Get, Add}
 use Rattle.atomic_types.specs.declared.part.Part.TheVariants.{Delta}
 use Rattle.atomic_types.specs.Parts.{laid}
 use Rattle.atomic_types.specs.Objects.{knows}
@@ -13,22 +13,7 @@ use Rattle.values.specs.declared.value.Value.TheVariants.{Int}
 -- which operations belong to a counter does not go by its number
 counter_known : (n m : ℤ) (op : Op) → counter_knows n op ≡ counter_knows m op
 counter_known n m (Get field) = refl
-counter_known n m (Set field v) = refl
-counter_known n m Low = refl
-counter_known n m High = refl
-counter_known n m Size = refl
-counter_known n m (Fetch index) = refl
-counter_known n m (Store index v) = refl
-counter_known n m (AddHigh v) = refl
-counter_known n m (AddLow v) = refl
-counter_known n m RemoveHigh = refl
-counter_known n m RemoveLow = refl
-counter_known n m (Is tag) = refl
-counter_known n m (ValueOf tag) = refl
-counter_known n m (Change tag v) = refl
-counter_known n m Total = refl
-counter_known n m (Put v) = refl
-counter_known n m (Add v) = refl
+counter_known n m _ = refl
 
 -- a delta leaves which operations belong to the object
 pub known_under : (z : ℤ) (c : Content) (op : Op) → knows (laid (Delta z) c) op ≡ knows c op

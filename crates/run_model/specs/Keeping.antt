@@ -2,7 +2,7 @@
 use Rattle.std.specs.Prelude.{ℕ, suc, Bool, false, not, ◌&&◌, ◌||◌, ◌==◌, nat_lt, List, [], ◌∷◌, ◌++◌, length, filter, filter_map}
 use Rattle.std.specs.List.{list_any}
 use Rattle.action_names.specs.Names.{Name, is_ancestor, ancestors, top_of, rising_names}
-use Rattle.atomic_types.specs.declared.op.Op as op
+use Rattle.atomic_types.specs.Operations as op
 use Rattle.atomic_types.specs.declared.op.Reply.{Reply}
 use Rattle.atomic_types.specs.Operations.{is_read, class_of, classes_conflict, conflicts}
 use Rattle.atomic_types.specs.declared.op.Class.{Class}

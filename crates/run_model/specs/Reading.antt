@@ -3,16 +3,18 @@ use Rattle.std.specs.Prelude.{ℕ, ℤ, FitsSigned, ◌≡◌, ◌≢◌, ◌⊎
 use Rattle.std.specs.Fmt.{signed_decimal}
 use Rattle.std.specs.Int.{w64}
 use Rattle.action_names.specs.Names.{Name, IsName, IsComponent, name_text}
-use Rattle.values.specs.Values.{value_text}
-use Rattle.atomic_types.specs.declared.op.Op as op
-use Rattle.atomic_types.specs.declared.op.Op.TheVariants.{Get, Set, Low, High, Size, Fetch, Store, AddHigh, AddLow, RemoveHigh, RemoveLow, Is, ValueOf, Change, Total, Put, Add}
-use Rattle.atomic_types.specs.Operations.{IsOp, op_name}
+use Rattle.values.specs.declared.value.Value.{Value}
+use Rattle.atomic_types.specs.Operations as op
+use Rattle.atomic_types.specs.declared.operation.Form.{Form}
+use Rattle.atomic_types.specs.declared.operation.Arguments.{Arguments}
+use Rattle.atomic_types.specs.declared.operation.Arguments.TheVariants as with
+use Rattle.atomic_types.specs.Operations.{AreArguments, IsOp, arguments_of, form_with, op_name}
 use Rattle.run_model.specs.declared.step.ArmKind.{ArmKind}
 use Rattle.run_model.specs.declared.step.ArmKind.TheVariants as arm
 use Rattle.run_model.specs.declared.step.ObjectId.{ObjectId}
 use Rattle.run_model.specs.declared.step.Step.{Step}
 use Rattle.run_model.specs.declared.step.Step.TheVariants.{Top, NestedTop, Call, Arms, Op, Commit, Close, Prepare, Decide, Abort, Tell, Crash, Recover}
-use Rattle.run_model.specs.Texts.{object_text, op_text, kinds_text, HasStepParts}
+use Rattle.run_model.specs.Texts.{arguments_text, object_text, op_text, kinds_text, HasStepParts}
 
 -- what a text is read as: a value that fits and is spelled so, and nothing where no value that fits is
 abbrev pub Reads : {X : Type 0} → (X → Type 0) → (X → List ℕ) → List ℕ → Option X → Type 0
@@ -70,43 +72,20 @@ itself text = text
 
 -- the arguments of an operation, a space between two
 abbrev pub op_arguments : op.Op → List ℕ
-op_arguments (Get field) = field
-op_arguments (Set field v) = field ++ 32 ∷ value_text v
-op_arguments Low = []
-op_arguments High = []
-op_arguments Size = []
-op_arguments (Fetch index) = signed_decimal index
-op_arguments (Store index v) = signed_decimal index ++ 32 ∷ value_text v
-op_arguments (AddHigh v) = value_text v
-op_arguments (AddLow v) = value_text v
-op_arguments RemoveHigh = []
-op_arguments RemoveLow = []
-op_arguments (Is tag) = tag
-op_arguments (ValueOf tag) = tag
-op_arguments (Change tag v) = tag ++ 32 ∷ value_text v
-op_arguments Total = []
-op_arguments (Put v) = value_text v
-op_arguments (Add v) = value_text v
+op_arguments o = arguments_text (arguments_of o)
+
+-- whether there is no argument
+abbrev pub is_nothing : Arguments (List ℕ) ℤ Value → Bool
+is_nothing with.Nothing = true
+is_nothing _ = false
+
+-- arguments of this form, at least one
+abbrev pub AreOfForm : Form → Arguments (List ℕ) ℤ Value → Type 0
+AreOfForm form a = AreArguments a × (is_nothing a ≡ false) × (form_with a ≡ form)
 
 -- whether an operation has no argument
 abbrev pub is_bare : op.Op → Bool
-is_bare (Get field) = false
-is_bare (Set field v) = false
-is_bare Low = true
-is_bare High = true
-is_bare Size = true
-is_bare (Fetch index) = false
-is_bare (Store index v) = false
-is_bare (AddHigh v) = false
-is_bare (AddLow v) = false
-is_bare RemoveHigh = true
-is_bare RemoveLow = true
-is_bare (Is tag) = false
-is_bare (ValueOf tag) = false
-is_bare (Change tag v) = false
-is_bare Total = true
-is_bare (Put v) = false
-is_bare (Add v) = false
+is_bare o = is_nothing (arguments_of o)
 
 abbrev pub IsBare : op.Op → Type 0
 IsBare o = is_bare o ≡ true

@@ -1,5 +1,5 @@
 -- The texts of steps and answers, and the JSON document that a setup is.
-use Rattle.std.specs.Prelude.{ℕ, ◌≤◌, List, [], ◌∷◌, ◌++◌, length, codes, decimal, IsUtf8, ◌≡◌, Some}
+use Rattle.std.specs.Prelude.{ℕ, ℤ, ◌≤◌, List, [], ◌∷◌, ◌++◌, length, codes, decimal, IsUtf8, ◌≡◌, Some}
 use Rattle.std.specs.Fmt.{signed_decimal}
 use Rattle.std.specs.List.{AllByRecursion}
 use Rattle.limits.specs.Limits.{max_guardians, max_objects}
@@ -7,17 +7,19 @@ use Rattle.serde_json.specs.Data.{Data, array, object, Items, no_items, item, no
 use Rattle.serde_json.specs.Read.{read}
 use Rattle.action_names.specs.Names.{Name, IsName, IsComponent, name_text}
 use Rattle.values.specs.declared.content.Content.{Content}
+use Rattle.values.specs.declared.value.Value.{Value}
 use Rattle.values.specs.Values.{value_text}
 use Rattle.values.specs.Contents.{IsContent, content_data}
-use Rattle.atomic_types.specs.declared.op.Op as op
-use Rattle.atomic_types.specs.declared.op.Op.TheVariants.{Get, Set, Low, High, Size, Fetch, Store, AddHigh, AddLow, RemoveHigh, RemoveLow, Is, ValueOf, Change, Total, Put, Add}
+use Rattle.atomic_types.specs.Operations as op
+use Rattle.atomic_types.specs.declared.operation.Arguments.{Arguments}
+use Rattle.atomic_types.specs.declared.operation.Arguments.TheVariants as with
 use Rattle.atomic_types.specs.declared.op.Reply.{Reply}
 use Rattle.atomic_types.specs.declared.op.Reply.TheVariants.{Gives, Truth, Signals}
 use Rattle.atomic_types.specs.declared.op.Reply.TheVariants as reply
 use Rattle.atomic_types.specs.declared.op.Signal.{Signal}
 use Rattle.atomic_types.specs.declared.op.Signal.TheVariants.{Bounds, WrongTag}
 use Rattle.atomic_types.specs.declared.op.Signal.TheVariants as signal
-use Rattle.atomic_types.specs.Operations.{IsOp}
+use Rattle.atomic_types.specs.Operations.{IsOp, arguments_of, op_name}
 use Rattle.run_model.specs.declared.step.ArmKind.{ArmKind}
 use Rattle.run_model.specs.declared.step.ArmKind.TheVariants as arm
 use Rattle.run_model.specs.declared.step.ObjectId.{ObjectId}
@@ -38,25 +40,23 @@ space = 32
 abbrev pub object_text : ObjectId → List ℕ
 object_text x = decimal x.guardian ++ 47 ∷ decimal x.number
 
+-- arguments, a space between two
+abbrev pub arguments_text : Arguments (List ℕ) ℤ Value → List ℕ
+arguments_text with.Nothing = []
+arguments_text (with.Word word) = word
+arguments_text (with.WordValue word v) = word ++ space ∷ value_text v
+arguments_text (with.Index index) = signed_decimal index
+arguments_text (with.IndexValue index v) = signed_decimal index ++ space ∷ value_text v
+arguments_text (with.Value v) = value_text v
+
+-- a name, and arguments with a space before them
+abbrev pub called_text : List ℕ → Arguments (List ℕ) ℤ Value → List ℕ
+called_text word with.Nothing = word
+called_text word arguments = word ++ space ∷ arguments_text arguments
+
 -- an operation's name and its arguments
 abbrev pub op_text : op.Op → List ℕ
-op_text (Get field) = codes "get " ++ field
-op_text (Set field v) = codes "set " ++ field ++ space ∷ value_text v
-op_text Low = codes "low"
-op_text High = codes "high"
-op_text Size = codes "size"
-op_text (Fetch index) = codes "fetch " ++ signed_decimal index
-op_text (Store index v) = codes "store " ++ signed_decimal index ++ space ∷ value_text v
-op_text (AddHigh v) = codes "addh " ++ value_text v
-op_text (AddLow v) = codes "addl " ++ value_text v
-op_text RemoveHigh = codes "remh"
-op_text RemoveLow = codes "reml"
-op_text (Is tag) = codes "is " ++ tag
-op_text (ValueOf tag) = codes "value " ++ tag
-op_text (Change tag v) = codes "change " ++ tag ++ space ∷ value_text v
-op_text Total = codes "total"
-op_text (Put v) = codes "put " ++ value_text v
-op_text (Add v) = codes "add " ++ value_text v
+op_text o = called_text (op_name o) (arguments_of o)
 
 -- the kinds of arms, a space before each
 abbrev pub kinds_text : List ArmKind → List ℕ

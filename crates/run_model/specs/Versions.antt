@@ -3,8 +3,8 @@ use Rattle.std.specs.Prelude.{ℤ, pos, Bool, true, not, ◌&&◌, List, [], ◌
 use Rattle.action_names.specs.Names.{Name, has_name, is_ancestor, rising_names}
 use Rattle.values.specs.declared.content.Content.{Content}
 use Rattle.atomic_types.specs.declared.op.Class.{Class}
-use Rattle.atomic_types.specs.declared.op.Op as op
-use Rattle.atomic_types.specs.declared.op.Op.TheVariants.{Add}
+use Rattle.atomic_types.specs.Operations as op
+use Rattle.atomic_types.specs.declared.operation.Operation.TheVariants.{Add}
 use Rattle.atomic_types.specs.Counters.{added_to, sum_of}
 use Rattle.atomic_types.specs.Operations.{class_of, is_add, is_add_class, is_write, is_write_class}
 use Rattle.run_model.specs.declared.step.ObjectId.{ObjectId}

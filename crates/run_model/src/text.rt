@@ -9,10 +9,10 @@ ghost use Rattle.run_model.specs.Writing.{IsGrown};
 
 use crate::step::{ArmKind, ObjectId, Step};
 use action_names::Name;
-use atomic_types::{Op, Reply, Signal};
+use atomic_types::{Arguments, Op, Reply, Signal};
 use itoa::Buffer;
 use std::alloc::AllocError;
-use values::Value;
+use values::{Identifier, Value};
 
 /// Appends the line of a step, without its line feed.
 #[tactic(auto, using(crate::proofs::Growing::grown_same, crate::proofs::Growing::grown_then))]
@@ -70,46 +70,37 @@ fn append_op(operation: &Op, text: &mut String) -> Result<(), AllocError>
     ensures ok { OnOk result (string_bytes text.new ≡ string_bytes text.old ++ op_text operation.now) }
     ensures err { OnErr result (IsGrown (string_bytes text.old) (string_bytes text.new)) }
 {
-    match operation {
-        Op::Get(field) => append_words("get ", field.as_str(), text),
-        Op::Set(field, value) => {
-            append_words("set ", field.as_str(), text)?;
-            append_value(value, text)
-        }
-        Op::Low => text.push_str("low"),
-        Op::High => text.push_str("high"),
-        Op::Size => text.push_str("size"),
-        Op::Fetch(index) => append_index("fetch ", *index, text),
-        Op::Store(index, value) => {
-            append_index("store ", *index, text)?;
-            append_value(value, text)
-        }
-        Op::AddHigh(value) => {
-            text.push_str("addh")?;
-            append_value(value, text)
-        }
-        Op::AddLow(value) => {
-            text.push_str("addl")?;
-            append_value(value, text)
-        }
-        Op::RemoveHigh => text.push_str("remh"),
-        Op::RemoveLow => text.push_str("reml"),
-        Op::Is(tag) => append_words("is ", tag.as_str(), text),
-        Op::ValueOf(tag) => append_words("value ", tag.as_str(), text),
-        Op::Change(tag, value) => {
-            append_words("change ", tag.as_str(), text)?;
-            append_value(value, text)
-        }
-        Op::Total => text.push_str("total"),
-        Op::Put(value) => {
-            text.push_str("put")?;
-            append_value(value, text)
-        }
-        Op::Add(value) => {
-            text.push_str("add")?;
-            append_value(value, text)
-        }
+    text.push_str(operation.name().text())?;
+    match operation.arguments() {
+        Arguments::Nothing => Ok(()),
+        Arguments::Word(word) => append_words(" ", word.as_str(), text),
+        Arguments::WordValue(word, value) => append_word_and_value(word, value, text),
+        Arguments::Index(index) => append_index(" ", *index, text),
+        Arguments::IndexValue(index, value) => append_index_and_value(*index, value, text),
+        Arguments::Value(value) => append_value(value, text),
     }
+}
+
+#[tactic(auto, using(crate::proofs::Growing::grown_same, crate::proofs::Growing::grown_then))]
+fn append_word_and_value(
+    word: &Identifier,
+    value: &Value,
+    text: &mut String,
+) -> Result<(), AllocError>
+    ensures ok { OnOk result (string_bytes text.new ≡ string_bytes text.old ++ space ∷ word.now ++ space ∷ value_text value.now) }
+    ensures err { OnErr result (IsGrown (string_bytes text.old) (string_bytes text.new)) }
+{
+    append_words(" ", word.as_str(), text)?;
+    append_value(value, text)
+}
+
+#[tactic(auto, using(crate::proofs::Growing::grown_same, crate::proofs::Growing::grown_then))]
+fn append_index_and_value(index: i64, value: &Value, text: &mut String) -> Result<(), AllocError>
+    ensures ok { OnOk result (string_bytes text.new ≡ string_bytes text.old ++ space ∷ signed_decimal index ++ space ∷ value_text value.now) }
+    ensures err { OnErr result (IsGrown (string_bytes text.old) (string_bytes text.new)) }
+{
+    append_index(" ", index, text)?;
+    append_value(value, text)
 }
 
 /// Appends a space, and the object's guardian and its number there, as in `2/7`.

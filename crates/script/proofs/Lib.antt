@@ -15,7 +15,6 @@ pub mod Looked
 pub mod Marking
 pub mod Members
 pub mod Numbered
-pub mod OpNames
 pub mod OpParts
 pub mod OpSteps
 pub mod Pairs

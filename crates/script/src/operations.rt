@@ -12,7 +12,7 @@ use crate::expressions::{expr_of_kind, int_expr};
 use crate::place::Place;
 use crate::scope::Scope;
 use crate::shapes::{int, string};
-use script_model::{FaultKind, OpName, Operation, ScriptFault, Sort};
+use script_model::{FaultKind, Form, OpName, Operation, ScriptFault, Sort};
 use serde_json::Value as Json;
 use std::alloc::Global;
 use values::{Content, Field, Identifier, Kind, Record, Tag, Variant};
@@ -39,57 +39,20 @@ pub(crate) fn sort_of_kind(kind: Kind) -> Sort
     }
 }
 
-fn op_named(name: &str) -> Option<OpName>
-    ensures { result ≡ spec.op_named name.now }
+fn count_of(form: Form) -> usize
+    ensures { result ≡ spec.count_of form }
 {
-    match name {
-        "get" => Some(OpName::Get),
-        "set" => Some(OpName::Set),
-        "low" => Some(OpName::Low),
-        "high" => Some(OpName::High),
-        "size" => Some(OpName::Size),
-        "fetch" => Some(OpName::Fetch),
-        "store" => Some(OpName::Store),
-        "addh" => Some(OpName::AddHigh),
-        "addl" => Some(OpName::AddLow),
-        "remh" => Some(OpName::RemoveHigh),
-        "reml" => Some(OpName::RemoveLow),
-        "is" => Some(OpName::Is),
-        "value" => Some(OpName::ValueOf),
-        "change" => Some(OpName::Change),
-        "total" => Some(OpName::Total),
-        "put" => Some(OpName::Put),
-        "add" => Some(OpName::Add),
-        _ => None,
-    }
-}
-
-fn arity(name: OpName) -> usize
-    ensures { result ≡ spec.arity name }
-{
-    match name {
-        OpName::Low | OpName::High | OpName::Size => 0,
-        OpName::RemoveHigh | OpName::RemoveLow | OpName::Total => 0,
-        OpName::Get | OpName::Fetch | OpName::AddHigh | OpName::AddLow => 1,
-        OpName::Is | OpName::ValueOf | OpName::Put | OpName::Add => 1,
-        OpName::Set | OpName::Store | OpName::Change => 2,
-    }
-}
-
-fn gives_value(name: OpName) -> bool
-    ensures { result ≡ spec.gives_value name }
-{
-    match name {
-        OpName::Set | OpName::Store | OpName::AddHigh | OpName::AddLow | OpName::Change => false,
-        OpName::Put | OpName::Add => false,
-        _ => true,
+    match form {
+        Form::Nothing => 0,
+        Form::Word | Form::Index | Form::Value => 1,
+        Form::WordValue | Form::IndexValue => 2,
     }
 }
 
 fn op_in(json: &Json) -> Option<OpName>
     ensures { result ≡ spec.op_in (view json.now) }
 {
-    op_named(json.as_str()?)
+    OpName::read(json.as_str()?)
 }
 
 fn field_named<'r>(fields: &'r [Field], name: &str) -> Option<&'r Field>
@@ -299,14 +262,14 @@ fn op_name(alloc: Global, place: &Place<'_>, json: &Json) -> Result<OpName, Scri
     ensures { Answers (spec.the_op_name (view json.now) (pointer place.now)) result }
 {
     let name = string(alloc, place, json)?;
-    place.need(alloc, op_named(name), FaultKind::Operation)
+    place.need(alloc, OpName::read(name), FaultKind::Operation)
 }
 
 fn has_arity(name: Option<OpName>, count: usize) -> bool
     ensures { result ≡ spec.has_arity name count }
 {
     match name {
-        Some(name) => count == arity(name),
+        Some(name) => count == count_of(name.form()),
         None => true,
     }
 }
@@ -362,7 +325,7 @@ fn says_nothing(name: Option<OpName>) -> bool
     ensures { result ≡ spec.says_nothing name }
 {
     match name {
-        Some(name) => !gives_value(name),
+        Some(name) => !name.gives_value(),
         None => false,
     }
 }

@@ -13,13 +13,13 @@ use Rattle.values.specs.Items.{ArrayContent}
 use Rattle.values.specs.declared.value.Kind.TheVariants as kind
 use Rattle.values.specs.Tags.{VariantContent, tag_kind}
 use Rattle.script_model.specs.declared.fault.FaultKind.TheVariants as is
-use Rattle.script_model.specs.declared.names.OpName.{OpName}
-use Rattle.script_model.specs.declared.names.OpName.TheVariants as name
+use Rattle.atomic_types.specs.declared.operation.OpName.{OpName}
+use Rattle.atomic_types.specs.declared.operation.OpName.TheVariants as name
 use Rattle.script_model.specs.declared.names.Sort.TheVariants.{Int, Truth}
 use Rattle.script_model.specs.declared.expression.IntExpr.{IntExpr}
 use Rattle.script_model.specs.declared.expression.Expr.{Expr}
 use Rattle.script_model.specs.declared.statement.Binding.{Binding}
-use Rattle.script_model.specs.declared.statement.Operation.TheVariants as op
+use Rattle.atomic_types.specs.declared.operation.Operation.TheVariants as op
 use Rattle.script_model.specs.Reading.{Read, ask, need, nth, reads, ◌>>=◌, ◌>>◌}
 use Rattle.script_model.specs.Shapes.{the_int, the_string}
 use Rattle.script_model.specs.Scopes.{Scope, sort_of_kind}

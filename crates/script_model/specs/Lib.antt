@@ -5,6 +5,7 @@ pub mod Scopes
 pub mod ExpressionReading
 pub mod ContentReading
 pub mod Signatures
+pub mod Operations
 pub mod OperationReading
 pub mod StatementReading
 pub mod ScriptReading

@@ -13,63 +13,28 @@ use Rattle.values.specs.Values.{kind_of}
 use Rattle.values.specs.Fields.{field_value}
 use Rattle.values.specs.Tags.{VariantContent, tag_kind}
 use Rattle.script_model.specs.declared.fault.FaultKind.TheVariants as is
-use Rattle.script_model.specs.declared.names.OpName.{OpName}
-use Rattle.script_model.specs.declared.names.OpName.TheVariants as name
+use Rattle.atomic_types.specs.declared.operation.OpName.{OpName}
+use Rattle.atomic_types.specs.declared.operation.OpName.TheVariants as name
+use Rattle.atomic_types.specs.declared.operation.Form.{Form}
+use Rattle.atomic_types.specs.declared.operation.Form.TheVariants as form
+use Rattle.atomic_types.specs.declared.operation.Operation.TheVariants as op
+use Rattle.atomic_types.specs.Operations as table
 use Rattle.script_model.specs.declared.names.Sort.{Sort}
 use Rattle.script_model.specs.declared.names.Sort.TheVariants.{Int, Truth}
-use Rattle.script_model.specs.declared.statement.Operation.{Operation}
-use Rattle.script_model.specs.declared.statement.Operation.TheVariants as op
+use Rattle.script_model.specs.Operations.{Operation}
 use Rattle.script_model.specs.Reading.{Read, reads, fault, ask, need, nth, ◌>>=◌, ◌>>◌}
 use Rattle.script_model.specs.Shapes.{the_int, the_string}
 use Rattle.script_model.specs.Scopes.{Scope, sort_of_kind}
 use Rattle.script_model.specs.ExpressionReading.{int_expr, expr_of_kind}
 
--- ---- names of operations
-
-abbrev pub op_names : List (List ℕ × OpName)
-op_names =
-    (codes "get", name.Get) ∷ (codes "set", name.Set) ∷ (codes "low", name.Low) ∷ (codes "high", name.High) ∷ (codes "size", name.Size) ∷
-    (codes "fetch", name.Fetch) ∷ (codes "store", name.Store) ∷ (codes "addh", name.AddHigh) ∷ (codes "addl", name.AddLow) ∷
-    (codes "remh", name.RemoveHigh) ∷ (codes "reml", name.RemoveLow) ∷ (codes "is", name.Is) ∷ (codes "value", name.ValueOf) ∷
-    (codes "change", name.Change) ∷ (codes "total", name.Total) ∷ (codes "put", name.Put) ∷ (codes "add", name.Add) ∷ []
-
-abbrev pub op_among : List (List ℕ × OpName) → List ℕ → Option OpName
-op_among [] n = None
-op_among (t ∷ ts) n = if same_bytes t.0 n then Some t.1 else op_among ts n
-
-abbrev pub op_named : List ℕ → Option OpName
-op_named = op_among op_names
-
--- how many arguments an operation takes
-abbrev pub arity : OpName → ℕ
-arity name.Get = 1
-arity name.Set = 2
-arity name.Low = 0
-arity name.High = 0
-arity name.Size = 0
-arity name.Fetch = 1
-arity name.Store = 2
-arity name.AddHigh = 1
-arity name.AddLow = 1
-arity name.RemoveHigh = 0
-arity name.RemoveLow = 0
-arity name.Is = 1
-arity name.ValueOf = 1
-arity name.Change = 2
-arity name.Total = 0
-arity name.Put = 1
-arity name.Add = 1
-
--- whether its reply is a value
-abbrev pub gives_value : OpName → Bool
-gives_value name.Set = false
-gives_value name.Store = false
-gives_value name.AddHigh = false
-gives_value name.AddLow = false
-gives_value name.Change = false
-gives_value name.Put = false
-gives_value name.Add = false
-gives_value _ = true
+-- how many arguments an operation of this form takes
+abbrev pub count_of : Form → ℕ
+count_of form.Nothing = 0
+count_of form.Word = 1
+count_of form.WordValue = 2
+count_of form.Index = 1
+count_of form.IndexValue = 2
+count_of form.Value = 1
 
 -- ---- operations of an object
 
@@ -167,11 +132,11 @@ op_parts (array (item o (item n args))) = Some (o, n, args)
 op_parts _ = None
 
 abbrev pub op_in : Data → Option OpName
-op_in d = option_and_then op_named (as_str d)
+op_in d = option_and_then table.named (as_str d)
 
 abbrev pub has_arity : Option OpName → ℕ → Bool
 has_arity None count = true
-has_arity (Some n) count = count == arity n
+has_arity (Some n) count = count == count_of (table.form_of n)
 
 -- a number from 1 on, as the index of what it numbers
 abbrev pub numbered : {A : Type 0} → List A → ℤ → Option (ℕ × A)
@@ -186,7 +151,7 @@ the_object_numbered objects d = do
 abbrev pub the_op_name : Data → Read OpName
 the_op_name d = do
   s ← the_string d
-  need (op_named s) is.Operation
+  need (table.named s) is.Operation
 
 -- an operation with its object's number
 abbrev pub operation : List Content → Scope → Data → Read (ℕ × Typed)
@@ -201,7 +166,7 @@ operation objects scope d = do
 -- whether no value comes back from an operation of this name
 abbrev pub says_nothing : Option OpName → Bool
 says_nothing None = false
-says_nothing (Some n) = not (gives_value n)
+says_nothing (Some n) = not (table.gives_value n)
 
 abbrev pub op_gives_nothing : Data → Bool
 op_gives_nothing d = says_nothing (option_and_then (λ parts. op_in parts.1) (op_parts d))

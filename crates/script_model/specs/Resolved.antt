@@ -19,8 +19,11 @@ use Rattle.script_model.specs.declared.expression.Expr.{Expr}
 use Rattle.script_model.specs.declared.expression.Expr.TheVariants as expr
 use Rattle.script_model.specs.declared.expression.Condition.{Condition}
 use Rattle.script_model.specs.declared.expression.Condition.TheVariants as test
-use Rattle.script_model.specs.declared.statement.Operation.{Operation}
-use Rattle.script_model.specs.declared.statement.Operation.TheVariants as op
+use Rattle.atomic_types.specs.declared.operation.Arguments.{Arguments}
+use Rattle.atomic_types.specs.declared.operation.Arguments.TheVariants as with
+use Rattle.atomic_types.specs.declared.operation.Operation.TheVariants as op
+use Rattle.atomic_types.specs.Operations.{arguments_of}
+use Rattle.script_model.specs.Operations.{Operation}
 use Rattle.script_model.specs.declared.statement.Binding.{Binding}
 use Rattle.script_model.specs.declared.statement.Binding.TheVariants as binding
 use Rattle.script_model.specs.declared.statement.ObjectCall.{ObjectCall}
@@ -168,16 +171,16 @@ content_has (Array a) o b = array_has a.kind o b
 content_has (Variant v) o b = variant_has v o b
 content_has (Counter n) o b = counter_has o b
 
+abbrev pub arguments_are_bound : {W : Type 0} → Frames → Arguments W IntExpr Expr → Bool
+arguments_are_bound frames with.Nothing = true
+arguments_are_bound frames (with.Word w) = true
+arguments_are_bound frames (with.WordValue w e) = expr_is_bound frames e
+arguments_are_bound frames (with.Index i) = int_is_bound frames.ints i
+arguments_are_bound frames (with.IndexValue i e) = int_is_bound frames.ints i && expr_is_bound frames e
+arguments_are_bound frames (with.Value e) = expr_is_bound frames e
+
 abbrev pub operation_is_bound : Frames → Operation → Bool
-operation_is_bound frames (op.Set name e) = expr_is_bound frames e
-operation_is_bound frames (op.Fetch i) = int_is_bound frames.ints i
-operation_is_bound frames (op.Store i e) = int_is_bound frames.ints i && expr_is_bound frames e
-operation_is_bound frames (op.AddHigh e) = expr_is_bound frames e
-operation_is_bound frames (op.AddLow e) = expr_is_bound frames e
-operation_is_bound frames (op.Change tag e) = expr_is_bound frames e
-operation_is_bound frames (op.Put e) = expr_is_bound frames e
-operation_is_bound frames (op.Add e) = expr_is_bound frames e
-operation_is_bound frames _ = true
+operation_is_bound frames o = arguments_are_bound frames (arguments_of o)
 
 -- ---- statements
 

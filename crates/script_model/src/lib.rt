@@ -10,8 +10,9 @@ mod fault;
 mod names;
 mod statement;
 
+pub use atomic_types::{Arguments, Form, OpName};
 pub use checked::{Checked, Client, Handler};
 pub use expression::{Condition, Expr, IntExpr, TextExpr};
 pub use fault::{FaultKind, Pointer, ScriptFault};
-pub use names::{Gives, OpName, Sort};
+pub use names::{Gives, Sort};
 pub use statement::{Arm, Binding, HandlerCall, ObjectCall, Operation, Statement};

@@ -1,27 +1,5 @@
 use values::Kind;
 
-/// The name of an operation in a script.
-#[derive(Clone, Copy, Debug, PartialEq, Eq)]
-pub enum OpName {
-    Get,
-    Set,
-    Low,
-    High,
-    Size,
-    Fetch,
-    Store,
-    AddHigh,
-    AddLow,
-    RemoveHigh,
-    RemoveLow,
-    Is,
-    ValueOf,
-    Change,
-    Total,
-    Put,
-    Add,
-}
-
 /// What kind of thing a variable or an expression is. It is unknown where a handler that does not say what it gives is
 /// called: that handler's own fault stands later in the document, and until then such a variable fits everywhere.
 #[derive(Clone, Copy, Debug, PartialEq, Eq)]

@@ -1,28 +1,8 @@
 use crate::expression::{Condition, Expr, IntExpr, TextExpr};
 use sqlite_items::Items;
-use values::Identifier;
 
 /// An operation whose arguments are still to be computed.
-#[derive(Drop)]
-pub enum Operation {
-    Get(Identifier),
-    Set(Identifier, Expr),
-    Low,
-    High,
-    Size,
-    Fetch(IntExpr),
-    Store(IntExpr, Expr),
-    AddHigh(Expr),
-    AddLow(Expr),
-    RemoveHigh,
-    RemoveLow,
-    Is(Identifier),
-    ValueOf(Identifier),
-    Change(Identifier, Expr),
-    Total,
-    Put(Expr),
-    Add(Expr),
-}
+pub type Operation = atomic_types::Operation<IntExpr, Expr>;
 
 /// What a reply is, and the place at which it is bound in the frame of its kind, if it is. The place that follows the
 /// last bound one binds a new variable; an earlier place binds that variable again.

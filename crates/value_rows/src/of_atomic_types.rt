@@ -1,9 +1,9 @@
 //! Operations on an object.
 use crate::reading::{identifier, int, spelled_value, value_unread};
-use atomic_types::{AtomicType, Class, Op, Part, Reply, object_laws};
+use atomic_types::{Arguments, AtomicType, Class, Form, Op, OpName, Part, Reply, object_laws};
 use rows::{Row, RowFault, Words};
 use std::alloc::{AllocError, Global};
-use values::{Array, Content, Counter, Record, Variant};
+use values::{Array, Content, Counter, Identifier, Record, Value, Variant};
 
 /// An object, as a content or as what is in one.
 #[derive(Drop)]
@@ -77,38 +77,31 @@ fn read_content(alloc: Global, spelling: &str) -> Result<Content, RowFault> {
 }
 
 /// The operation of this name.
-fn read_op(alloc: Global, name: &str, mut words: Words<'_>) -> Result<Op, RowFault> {
-    Ok(match name {
-        "low" => Op::Low,
-        "high" => Op::High,
-        "size" => Op::Size,
-        "remh" => Op::RemoveHigh,
-        "reml" => Op::RemoveLow,
-        "total" => Op::Total,
-        "fetch" => Op::Fetch(int(&mut words)?),
-        "get" => Op::Get(identifier(alloc, words.word()?)?),
-        "is" => Op::Is(identifier(alloc, words.word()?)?),
-        "value" => Op::ValueOf(identifier(alloc, words.word()?)?),
-        _ => return read_write(alloc, name, words),
-    })
+fn read_op(alloc: Global, name: &str, words: Words<'_>) -> Result<Op, RowFault> {
+    let name = OpName::read(name).ok_or(RowFault::Unread)?;
+    let arguments = read_arguments(alloc, name.form(), words)?;
+    Op::of(name, arguments).ok_or(RowFault::Unread)
 }
 
-/// The operation of this name which has a value.
-fn read_write(alloc: Global, name: &str, mut words: Words<'_>) -> Result<Op, RowFault> {
-    let place = match name {
-        "addh" | "addl" | "put" | "add" => "",
-        _ => words.word()?,
-    };
-    let value = spelled_value(alloc, words.word()?)?;
-    Ok(match name {
-        "addh" => Op::AddHigh(value),
-        "addl" => Op::AddLow(value),
-        "put" => Op::Put(value),
-        "add" => Op::Add(value),
-        "set" => Op::Set(identifier(alloc, place)?, value),
-        "change" => Op::Change(identifier(alloc, place)?, value),
-        "store" => Op::Store(place.parse().map_err(|_| RowFault::Unread)?, value),
-        _ => return Err(RowFault::Unread),
+/// Arguments of this form.
+fn read_arguments(
+    alloc: Global,
+    form: Form,
+    mut words: Words<'_>,
+) -> Result<Arguments<Identifier, i64, Value>, RowFault> {
+    Ok(match form {
+        Form::Nothing => Arguments::Nothing,
+        Form::Word => Arguments::Word(identifier(alloc, words.word()?)?),
+        Form::Index => Arguments::Index(int(&mut words)?),
+        Form::Value => Arguments::Value(spelled_value(alloc, words.word()?)?),
+        Form::WordValue => {
+            let word = identifier(alloc, words.word()?)?;
+            Arguments::WordValue(word, spelled_value(alloc, words.word()?)?)
+        }
+        Form::IndexValue => {
+            let index = int(&mut words)?;
+            Arguments::IndexValue(index, spelled_value(alloc, words.word()?)?)
+        }
     })
 }
 
@@ -171,13 +164,16 @@ fn describe(alloc: Global, mut words: Words<'_>, answer: &mut String) -> Result<
     Ok(write_description(&op, answer)?)
 }
 
-/// Writes the operation's name and class, and whether its copy equals it.
+/// Writes the operation's name and class, the form of its arguments, whether it gives a value, and whether its copy equals it.
 fn write_description(op: &Op, answer: &mut String) -> Result<(), AllocError> {
+    let name = op.name();
     write!(
         answer,
-        "{} {:?} {}",
-        op.name(),
+        "{} {:?} {:?} {} {}",
+        name.text(),
         Record::class(op),
+        name.form(),
+        name.gives_value(),
         equals_copy(op)?
     )
 }
