@@ -26,7 +26,8 @@ pub trait Forest: Drop {
 
     ghost planned: { Self.Plan → RegistryNews };
 
-    ghost made_for: { Self.Plan → ForestState };
+    /// That the plan was made of this forest as it stands, which has the room that the change takes.
+    ghost fits: { Self.Plan → Self → Type 0 };
 
     fn opening(&self) -> &Opening
         ensures { opening_in result.now ≡ (state self.now).opening };
@@ -96,15 +97,17 @@ pub trait Forest: Drop {
         ensures { IfOk result (λ outcomes. outcomes.items ≡
             outcomes_below top.now (G.state at.now).number (events_there (state self.now).registry) (G.state at.now).past) };
 
-    /// Makes room for an event and computes what it changes. What it begins begins at this home in this life of it.
-    fn plan(&self, event: &Event, home: u32, life: u64) -> Result<Self::Plan, AllocError>
+    /// Makes room for an event and computes what it changes. What it begins begins at this home in this life of it. With memory and without, the
+    /// forest says what it said.
+    fn plan(&mut self, event: &Event, home: u32, life: u64) -> Result<Self::Plan, AllocError>
         requires accepted { IsTrue (is_accepted event.now.answer) }
-        requires entered { entered (state self.now) event.now }
-        ensures made { IfOk result (λ plan. made_for plan ≡ state self.now) }
-        ensures planned { IfOk result (λ plan. planned plan ≡ record { event = event.now; begun = begun_at (state self.now) home life event.now.answer }) };
+        requires entered { entered (state self.old) event.now }
+        ensures same { state self.new ≡ state self.old }
+        ensures fits { IfOk result (λ plan. fits plan self.new) }
+        ensures planned { IfOk result (λ plan. planned plan ≡ record { event = event.now; begun = begun_at (state self.old) home life event.now.answer }) };
 
     /// Carries a plan out. This cannot fail.
     fn install(&mut self, plan: Self::Plan, stamp: u64)
-        requires made { made_for plan ≡ state self.old }
+        requires fits { fits plan self.old }
         ensures { state self.new ≡ record (state self.old) { registry = stamped_there stamp (planned plan) ∷ (state self.old).registry } };
 }

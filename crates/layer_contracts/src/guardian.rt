@@ -42,8 +42,8 @@ pub trait Guardian: Drop {
     /// What the plan is for.
     ghost planned: { Self.Plan → News };
 
-    /// The state for which it was made.
-    ghost made_for: { Self.Plan → GuardianState };
+    /// That the plan was made of this guardian as it stands, which has the room that the changes take.
+    ghost fits: { Self.Plan → Self → Type 0 };
 
     fn opening(&self) -> &Opening
         ensures { opening_in result.now ≡ (state self.now).opening };
@@ -112,25 +112,27 @@ pub trait Guardian: Drop {
     fn unsent_counts(&self, to: &Self) -> Result<Vec<(u32, u64)>, AllocError>
         ensures { IfOk result (λ counts. counts.items ≡ unsent_counts (state self.now).number (state to.now).number (state self.now).past (state to.now).past) };
 
-    /// Makes room for an event and computes what it changes, where it brings what this guardian's own history asks of it.
-    fn plan(&self, event: &Event, message: Message) -> Result<Self::Plan, AllocError>
+    /// Makes room for an event and computes what it changes, where it brings what this guardian's own history asks of it. With memory and
+    /// without, the guardian's history is the one that it was.
+    fn plan(&mut self, event: &Event, message: Message) -> Result<Self::Plan, AllocError>
         requires accepted { IsTrue (is_accepted event.now.answer) }
-        requires owed { IsOwed (state self.now).opening (state self.now).number
-            (stamped 0 (record { event = event.now; carried = carried_of message })) (state self.now).past event.now.step }
-        ensures made { IfOk result (λ plan. made_for plan ≡ state self.now) }
+        requires owed { IsOwed (state self.old).opening (state self.old).number
+            (stamped 0 (record { event = event.now; carried = carried_of message })) (state self.old).past event.now.step }
+        ensures same { state self.new ≡ state self.old }
+        ensures fits { IfOk result (λ plan. fits plan self.new) }
         ensures planned { IfOk result (λ plan. planned plan ≡ record { event = event.now; carried = carried_of message }) };
 
     /// Carries a plan out whose event writes to the stable store: the store's call, then the stamp, then the changes, which cannot fail.
     fn carry_out<F: FnOnce() -> u64>(&mut self, plan: Self::Plan, stamp: F) -> Result<u64, Fault>
         requires stamp { F.pre stamp }
-        requires made { made_for plan ≡ state self.old }
+        requires fits { fits plan self.old }
         ensures ok { IfOk result (λ n. F.post stamp n) }
         ensures kept { IfOk result (λ n. state self.new ≡ kept (state self.old) (stamped n (planned plan))) }
         ensures err { OnErr result (state self.new ≡ state self.old) };
 
     /// Carries a plan out whose event does not write to this guardian's store. This cannot fail.
     fn install(&mut self, plan: Self::Plan, stamp: u64)
-        requires made { made_for plan ≡ state self.old }
+        requires fits { fits plan self.old }
         requires quiet { IsFalse (stores (planned plan).event.step (state self.old).number) }
         ensures { state self.new ≡ kept (state self.old) (stamped stamp (planned plan)) };
 }

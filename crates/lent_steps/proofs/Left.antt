@@ -1,17 +1,18 @@
 -- What plans leave that are carried out.
-use Rattle.std.proofs.Common.{Bool, List, MatchOption, None, Option, Some, [], ap, ap₂, cond, eqb-true, false, refl, sym, true, ℕ, ◌==◌, ◌∙◌, ◌∷◌, ◌≡◌, IsFalse}
+use Rattle.std.proofs.Common.{Bool, List, MatchOption, None, Option, Some, [], ap, ap₂, cond, eqb-true, false, refl, subst, sym, true, is_none, ℕ, ◌==◌, ◌∙◌, ◌∷◌, ◌≡◌, IsFalse}
 use Rattle.std.proofs.lemmas.Bool.{false≢true, true≢false}
 use Rattle.run_model.specs.declared.history.Event.{Event}
 use Rattle.run_model.specs.declared.step.Step.{Step}
 use Rattle.run_model.specs.declared.step.Step.TheVariants.{Abort, Arms, Call, Close, Commit, Crash, Decide, NestedTop, Op, Prepare, Recover, Tell, Top}
-use Rattle.run_model.specs.Actions.{home_of}
-use Rattle.run_model.specs.LocalHistories.{carried_lent, events_there, names_guardian, registry_after, registry_event_lent, takes_registry}
-use Rattle.run_model.specs.LocalReadings.{LocalEvent}
+use Rattle.run_model.specs.Actions.{crashes, home_of}
+use Rattle.run_model.specs.LocalHistories.{carried_lent, events_there, home_lent, life_lent, names_guardian, registry_after, registry_event_lent, takes_registry}
+use Rattle.run_model.specs.LocalReadings.{Carried, LocalEvent, events_here}
+use Rattle.local_laws.specs.Owed.{IsOwed}
 use Rattle.run_laws.proofs.Names.{eqb_self}
 use Rattle.layer_contracts.specs.Guardians.{GuardianState, News, after_step, kept, lent_two, stamped}
-use Rattle.layer_contracts.specs.Forests.{ForestState, RegistryNews, stamped_there}
+use Rattle.layer_contracts.specs.Forests.{ForestState, RegistryNews, begun_at, stamped_there}
 use Rattle.layer_contracts.specs.Messages.{stores}
-use Rattle.lent_steps.specs.Keeping.{IsPlannedAt, IsPlannedThere}
+use Rattle.lent_steps.specs.Keeping.{IsBrought, IsPlannedAt, IsPlannedThere}
 
 -- each of two that differ is lent
 pub first_lent : (a b : GuardianState) → a.past ≡ lent_two a b a.number
@@ -39,24 +40,60 @@ left_unnamed f a b x x' e n p q h =
     h ∙ ap (λ past. record x { past = past }) (p ∙ sym (ap (λ t. cond t (new (lent_two a b x.number)) (lent_two a b x.number)) q))
 
 -- by the plan that was carried out
-pub left_at : {P : Type 0} (f : ForestState) (a b x x' : GuardianState) (e : Event) (n : ℕ) (o : Option P) (made_for : P → GuardianState) (planned : P → News)
+pub left_at : {P : Type 0} (f : ForestState) (a b x x' : GuardianState) (e : Event) (n : ℕ) (o : Option P) (planned : P → News)
     → x.opening ≡ f.opening → x.past ≡ lent_two a b x.number
-    → MatchOption o (names_guardian e.step (events_there f.registry) x.number ≡ false) (λ plan. IsPlannedAt f a b e x (made_for plan) (planned plan))
+    → MatchOption o (names_guardian e.step (events_there f.registry) x.number ≡ false) (λ plan. IsPlannedAt f a b e x (planned plan))
     → MatchOption o (x' ≡ x) (λ plan. x' ≡ kept x (stamped n (planned plan)))
     → x' ≡ after_step x (n, e) f.registry (lent_two a b)
-left_at f a b x x' e n None made_for planned s p q h = left_unnamed f a b x x' e n p q h
-left_at f a b x x' e n (Some plan) made_for planned s p q h =
+left_at f a b x x' e n None planned s p q h = left_unnamed f a b x x' e n p q h
+left_at f a b x x' e n (Some plan) planned s p q h =
     left_named f a b x x' e n s p q.named (h ∙ ap (λ news. kept x (stamped n news)) q.planned)
 
-pub left_there : {P : Type 0} (f f' : ForestState) (a b : GuardianState) (e : Event) (n : ℕ) (o : Option P) (made_for : P → ForestState) (planned : P → RegistryNews)
-    → MatchOption o (takes_registry e.step ≡ false) (λ plan. IsPlannedThere f a b e (made_for plan) (planned plan))
+pub left_there : {P : Type 0} (f f' : ForestState) (a b : GuardianState) (e : Event) (home life n : ℕ) (o : Option P) (planned : P → RegistryNews)
+    → home ≡ home_lent e.step f.registry → life ≡ crashes home (events_here (lent_two a b home))
+    → MatchOption o (takes_registry e.step ≡ false) (λ plan. IsPlannedThere f home life e (planned plan))
     → MatchOption o (f' ≡ f) (λ plan. f' ≡ record f { registry = stamped_there n (planned plan) ∷ f.registry })
     → f' ≡ record f { registry = registry_after f.opening (n, e) f.registry (lent_two a b) }
-left_there f f' a b e n None made_for planned q h =
+left_there f f' a b e home life n None planned u v q h =
     h ∙ ap (λ r. record f { registry = r }) (sym (ap (λ t. cond t (registry_event_lent f.opening (n, e) f.registry (lent_two a b) ∷ f.registry) f.registry) q))
-left_there f f' a b e n (Some plan) made_for planned q h =
+left_there f f' a b e home life n (Some plan) planned u v q h =
+    let there : ℕ = home_lent e.step f.registry in
+    let born : life ≡ life_lent e.step f.registry (lent_two a b) = v ∙ ap (λ k. crashes k (events_here (lent_two a b k))) u in
     h ∙ ap (λ news. record f { registry = stamped_there n news ∷ f.registry }) q.planned
+    ∙ ap₂ (λ k m. record f { registry = stamped_there n (record { event = e; begun = begun_at f k m e.answer }) ∷ f.registry }) u born
     ∙ ap (λ r. record f { registry = r }) (sym (ap (λ t. cond t (registry_event_lent f.opening (n, e) f.registry (lent_two a b) ∷ f.registry) f.registry) q.takes))
+
+-- what is kept of a guardian that room was made at, which says what it said
+pub kept_from : {P : Type 0} (x y x' : GuardianState) (n : ℕ) (o : Option P) (planned : P → News) → y ≡ x
+    → MatchOption o (x' ≡ y) (λ plan. x' ≡ kept y (stamped n (planned plan))) → MatchOption o (x' ≡ x) (λ plan. x' ≡ kept x (stamped n (planned plan)))
+kept_from x y x' n o planned same h = subst (λ s. MatchOption o (x' ≡ s) (λ plan. x' ≡ kept s (stamped n (planned plan)))) same h
+
+-- and of such a forest
+pub kept_there : {P : Type 0} (f g f' : ForestState) (n : ℕ) (o : Option P) (planned : P → RegistryNews) → g ≡ f
+    → MatchOption o (f' ≡ g) (λ plan. f' ≡ record g { registry = stamped_there n (planned plan) ∷ g.registry })
+    → MatchOption o (f' ≡ f) (λ plan. f' ≡ record f { registry = stamped_there n (planned plan) ∷ f.registry })
+kept_there f g f' n o planned same h =
+    subst (λ s. MatchOption o (f' ≡ s) (λ plan. f' ≡ record s { registry = stamped_there n (planned plan) ∷ s.registry })) same h
+
+-- what is planned of what was brought
+pub planned_at : {M P : Type 0} (f : ForestState) (a b x : GuardianState) (e : Event) (m : Option M) (carried : M → Carried) (o : Option P) (planned : P → News)
+    → MatchOption m (names_guardian e.step (events_there f.registry) x.number ≡ false) (λ message. IsBrought f a b e x (carried message))
+    → MatchOption m (is_none o ≡ true) (λ message. MatchOption o ⊥ (λ plan. planned plan ≡ record { event = e; carried = carried message }))
+    → MatchOption o (names_guardian e.step (events_there f.registry) x.number ≡ false) (λ plan. IsPlannedAt f a b e x (planned plan))
+planned_at f a b x e None carried None planned q h = q
+planned_at f a b x e None carried (Some plan) planned q h = absurd (false≢true h)
+planned_at f a b x e (Some message) carried None planned q h = absurd h
+planned_at f a b x e (Some message) carried (Some plan) planned q h = record {
+  named = q.named;
+  planned = h ∙ ap (λ c. record { event = e; carried = c }) q.carried;
+}
+
+-- what was brought is owed
+pub brought_owed : {M : Type 0} (f : ForestState) (a b x : GuardianState) (e : Event) (m : Option M) (carried : M → Carried)
+    → MatchOption m (names_guardian e.step (events_there f.registry) x.number ≡ false) (λ message. IsBrought f a b e x (carried message))
+    → MatchOption m (Unit {0}) (λ message. IsOwed x.opening x.number (stamped 0 (record { event = e; carried = carried message })) x.past e.step)
+brought_owed f a b x e None carried q = tt
+brought_owed f a b x e (Some message) carried q = q.owed
 
 -- one store only is written to
 quiet : (step : Step) (f : ForestState) (m n : ℕ) → names_guardian step (events_there f.registry) m ≡ true → names_guardian step (events_there f.registry) n ≡ true
@@ -80,10 +117,10 @@ quiet (Abort a) f m n p q d s = absurd (false≢true s)
 quiet (Crash g) f m n p q d s = absurd (false≢true s)
 
 -- so the other plan writes to none
-pub quiet_plan : {P : Type 0} (f : ForestState) (a b x y : GuardianState) (e : Event) (o : Option P) (made_for : P → GuardianState) (planned : P → News)
+pub quiet_plan : {P : Type 0} (f : ForestState) (a b x y : GuardianState) (e : Event) (o : Option P) (planned : P → News)
     → names_guardian e.step (events_there f.registry) x.number ≡ true → stores e.step x.number ≡ true → (x.number == y.number) ≡ false
-    → MatchOption o (names_guardian e.step (events_there f.registry) y.number ≡ false) (λ plan. IsPlannedAt f a b e y (made_for plan) (planned plan))
+    → MatchOption o (names_guardian e.step (events_there f.registry) y.number ≡ false) (λ plan. IsPlannedAt f a b e y (planned plan))
     → MatchOption o (Unit {0}) (λ plan. IsFalse (stores (planned plan).event.step y.number))
-quiet_plan f a b x y e None made_for planned n s d q = tt
-quiet_plan f a b x y e (Some plan) made_for planned n s d q =
+quiet_plan f a b x y e None planned n s d q = tt
+quiet_plan f a b x y e (Some plan) planned n s d q =
     ap (λ news. stores news.event.step y.number) q.planned ∙ quiet e.step f x.number y.number n q.named d s

@@ -5,11 +5,11 @@ use Rattle.run_model.specs.declared.step.Step.TheVariants.{Op}
 use Rattle.run_model.specs.declared.answer.Answer.{Answer}
 use Rattle.run_model.specs.declared.history.Event.{Event}
 use Rattle.run_model.specs.Runs.{is_accepted}
+use Rattle.run_model.specs.LocalReadings.{Carried, nothing_carried}
 use Rattle.run_model.specs.LocalHistories.{answer_lent, carried_lent, events_there, home_lent, life_lent, names_guardian, registry_after, takes_registry}
 use Rattle.local_laws.specs.Owed.{IsOwed}
 use Rattle.layer_contracts.specs.Guardians.{GuardianState, News, after_step, kept, lent_two, stamped}
 use Rattle.layer_contracts.specs.Forests.{ForestState, RegistryNews, begun_at}
-use Rattle.run_model.specs.LocalReadings.{nothing_carried}
 
 abbrev pub is_operation : Step → Bool
 is_operation (Op a x wanted) = true
@@ -23,17 +23,21 @@ pub record IsAnswered (f : ForestState) (a b : GuardianState) (e : Event) : Type
   pub operation : (g : ℕ) → IsTrue (is_operation e.step) → names_guardian e.step (events_there f.registry) g ≡ true
       → IsOwed f.opening g (stamped 0 (record { event = e; carried = carried_lent f.opening e g f.registry (lent_two a b) })) (lent_two a b g) e.step
 
--- a plan for a guardian that the event names
-pub record IsPlannedAt (f : ForestState) (a b : GuardianState) (e : Event) (x state : GuardianState) (news : News) : Type 0 where
+-- what the event brings to a guardian that it names, as that guardian's own history asks of it
+pub record IsBrought (f : ForestState) (a b : GuardianState) (e : Event) (x : GuardianState) (brought : Carried) : Type 0 where
   pub named : names_guardian e.step (events_there f.registry) x.number ≡ true
-  pub made : state ≡ x
+  pub carried : brought ≡ carried_lent f.opening e x.number f.registry (lent_two a b)
+  pub owed : IsOwed x.opening x.number (stamped 0 (record { event = e; carried = brought })) x.past e.step
+
+-- a plan for a guardian that the event names
+pub record IsPlannedAt (f : ForestState) (a b : GuardianState) (e : Event) (x : GuardianState) (news : News) : Type 0 where
+  pub named : names_guardian e.step (events_there f.registry) x.number ≡ true
   pub planned : news ≡ record { event = e; carried = carried_lent f.opening e x.number f.registry (lent_two a b) }
 
--- and for the forest
-pub record IsPlannedThere (f : ForestState) (a b : GuardianState) (e : Event) (state : ForestState) (news : RegistryNews) : Type 0 where
+-- and for the forest, where what the event begins begins at this home in this life of it
+pub record IsPlannedThere (f : ForestState) (home life : ℕ) (e : Event) (news : RegistryNews) : Type 0 where
   pub takes : takes_registry e.step ≡ true
-  pub made : state ≡ f
-  pub planned : news ≡ record { event = e; begun = begun_at f (home_lent e.step f.registry) (life_lent e.step f.registry (lent_two a b)) e.answer }
+  pub planned : news ≡ record { event = e; begun = begun_at f home life e.answer }
 
 -- the forest and two guardians after the event, with its stamp
 pub record IsDone (f : ForestState) (a b : GuardianState) (e : Event) (n : ℕ) (f' : ForestState) (a' b' : GuardianState) : Type 0 where

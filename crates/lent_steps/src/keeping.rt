@@ -1,16 +1,17 @@
 //! What an accepted step leaves of the forest and of the guardians that it was lent.
-ghost use Rattle.std.specs.Prelude.{◌≡◌, ◌==◌, ◌∷◌, ℕ, Bool, true, false, IfOk, OnErr, IsTrue, IsFalse, MatchOption};
+ghost use Rattle.std.specs.Prelude.{◌≡◌, ◌==◌, ◌∷◌, ℕ, Bool, true, false, IfOk, OnErr, IsTrue, IsFalse, MatchOption, is_none};
 ghost use Rattle.run_model.specs.Runs.{is_accepted};
 ghost use Rattle.run_model.specs.LocalHistories.{answer_lent, carried_lent, events_there, home_lent, life_lent, names_guardian, registry_after, takes_registry};
 ghost use Rattle.layer_contracts.specs.Guardians.{after_step, kept, lent_two, stamped};
-ghost use Rattle.layer_contracts.specs.Messages.{stores};
-ghost use Rattle.layer_contracts.specs.Forests.{stamped_there};
+ghost use Rattle.layer_contracts.specs.Messages.{carried_of, stores};
+ghost use Rattle.layer_contracts.specs.Forests.{entered, stamped_there};
+ghost use Rattle.local_laws.specs.Owed.{IsOwed};
 ghost use Rattle.lent_steps.specs.Lending.{IsOneOf, OneOpening};
-ghost use Rattle.lent_steps.specs.Keeping.{IsAnswered, IsDone, IsPlannedAt, IsPlannedThere, is_operation};
+ghost use Rattle.lent_steps.specs.Keeping.{IsAnswered, IsBrought, IsDone, IsPlannedThere};
 
 use crate::lent::Lent;
 use crate::names::{home_of_new, named, takes_registry};
-use layer_contracts::{Fault, Forest, Guardian};
+use layer_contracts::{Fault, Forest, Guardian, Message};
 use run_model::{Event, Step};
 use std::alloc::{AllocError, Global};
 
@@ -23,39 +24,62 @@ fn is_named<R: Forest>(forest: &R, step: &Step, guardian: u32) -> bool
 }
 
 impl<'a, R: Forest, G: Guardian> Lent<'a, R, G> {
-    /// What the event changes at the guardian, if it names it.
-    fn plan_at(&self, event: &Event, at: &G) -> Result<Option<G::Plan>, AllocError>
+    /// What the event brings to the guardian, if it names it.
+    fn brought_to(&self, event: &Event, at: &G) -> Result<Option<Message>, AllocError>
         requires sound { OneOpening (R.state self.now.forest.now) (G.state self.now.first.now) (G.state self.now.second.now) }
         requires one { IsOneOf (G.state self.now.first.now) (G.state self.now.second.now) (G.state at.now) }
         requires opening { (G.state at.now).opening ≡ (R.state self.now.forest.now).opening }
         requires answered { IsAnswered (R.state self.now.forest.now) (G.state self.now.first.now) (G.state self.now.second.now) event.now }
-        ensures { IfOk result (λ planned. MatchOption planned
+        ensures { IfOk result (λ brought. MatchOption brought
             (names_guardian event.now.step (events_there (R.state self.now.forest.now).registry) (G.state at.now).number ≡ false)
-            (λ plan. IsPlannedAt (R.state self.now.forest.now) (G.state self.now.first.now) (G.state self.now.second.now) event.now (G.state at.now)
-            (G.made_for plan) (G.planned plan))) }
+            (λ message. IsBrought (R.state self.now.forest.now) (G.state self.now.first.now) (G.state self.now.second.now) event.now (G.state at.now)
+            (carried_of message))) }
     {
         if !is_named(self.forest, &event.step, at.number()) {
             return Ok(None);
         }
-        let message = self.message(event, at)?;
-        Ok(Some(at.plan(event, message)?))
+        Ok(Some(self.message(event, at)?))
     }
+}
 
-    /// What the event changes in the forest, if it does.
-    fn plan_there(&self, event: &Event) -> Result<Option<R::Plan>, AllocError>
-        requires answered { IsAnswered (R.state self.now.forest.now) (G.state self.now.first.now) (G.state self.now.second.now) event.now }
-        ensures { IfOk result (λ planned. MatchOption planned
-            (takes_registry event.now.step ≡ false)
-            (λ plan. IsPlannedThere (R.state self.now.forest.now) (G.state self.now.first.now) (G.state self.now.second.now) event.now
-            (R.made_for plan) (R.planned plan))) }
-    {
-        if !takes_registry(&event.step) {
-            return Ok(None);
-        }
-        let home = home_of_new(self.forest, &event.step);
-        let life = self.crashes_at(home);
-        Ok(Some(self.forest.plan(event, home, life)?))
+/// Makes room at the guardian for an event that brings this to it, if it brings something.
+fn plan_at<G: Guardian>(
+    guardian: &mut G,
+    event: &Event,
+    brought: Option<Message>,
+) -> Result<Option<G::Plan>, AllocError>
+    requires accepted { IsTrue (is_accepted event.now.answer) }
+    requires owed { MatchOption brought (Unit {0}) (λ message. IsOwed (G.state guardian.old).opening (G.state guardian.old).number
+        (stamped 0 (record { event = event.now; carried = carried_of message })) (G.state guardian.old).past event.now.step) }
+    ensures same { G.state guardian.new ≡ G.state guardian.old }
+    ensures fits { IfOk result (λ planned. MatchOption planned (Unit {0}) (λ plan. G.fits plan guardian.new)) }
+    ensures planned { IfOk result (λ planned. MatchOption brought (is_none planned ≡ true) (λ message. MatchOption planned ⊥
+        (λ plan. G.planned plan ≡ record { event = event.now; carried = carried_of message }))) }
+{
+    match brought {
+        Some(message) => Ok(Some(guardian.plan(event, message)?)),
+        None => Ok(None),
     }
+}
+
+/// Makes room in the forest for an event, if the forest keeps it.
+fn plan_there<R: Forest>(
+    forest: &mut R,
+    event: &Event,
+    home: u32,
+    life: u64,
+) -> Result<Option<R::Plan>, AllocError>
+    requires accepted { IsTrue (is_accepted event.now.answer) }
+    requires entered { entered (R.state forest.old) event.now }
+    ensures same { R.state forest.new ≡ R.state forest.old }
+    ensures fits { IfOk result (λ planned. MatchOption planned (Unit {0}) (λ plan. R.fits plan forest.new)) }
+    ensures planned { IfOk result (λ planned. MatchOption planned (takes_registry event.now.step ≡ false)
+        (λ plan. IsPlannedThere (R.state forest.old) home life event.now (R.planned plan))) }
+{
+    if !takes_registry(&event.step) {
+        return Ok(None);
+    }
+    Ok(Some(forest.plan(event, home, life)?))
 }
 
 /// Whether the event may write to the store of this guardian, which it names.
@@ -75,7 +99,7 @@ fn carry_out<G: Guardian, F: FnOnce() -> u64>(
     stamp: F,
 ) -> Result<u64, Fault>
     requires stamp { F.pre stamp }
-    requires made { MatchOption plan (Unit {0}) (λ plan. G.made_for plan ≡ G.state guardian.old) }
+    requires fits { MatchOption plan (Unit {0}) (λ plan. G.fits plan guardian.old) }
     ensures drawn { IfOk result (λ n. F.post stamp n) }
     ensures kept { IfOk result (λ n. MatchOption plan (G.state guardian.new ≡ G.state guardian.old)
         (λ plan. G.state guardian.new ≡ kept (G.state guardian.old) (stamped n (G.planned plan)))) }
@@ -88,7 +112,7 @@ fn carry_out<G: Guardian, F: FnOnce() -> u64>(
 }
 
 fn install<G: Guardian>(guardian: &mut G, plan: Option<G::Plan>, stamp: u64)
-    requires made { MatchOption plan (Unit {0}) (λ plan. G.made_for plan ≡ G.state guardian.old) }
+    requires fits { MatchOption plan (Unit {0}) (λ plan. G.fits plan guardian.old) }
     requires quiet { MatchOption plan (Unit {0}) (λ plan. IsFalse (stores (G.planned plan).event.step (G.state guardian.old).number)) }
     ensures { MatchOption plan (G.state guardian.new ≡ G.state guardian.old)
         (λ plan. G.state guardian.new ≡ kept (G.state guardian.old) (stamped stamp (G.planned plan))) }
@@ -99,7 +123,7 @@ fn install<G: Guardian>(guardian: &mut G, plan: Option<G::Plan>, stamp: u64)
 }
 
 fn install_there<R: Forest>(forest: &mut R, plan: Option<R::Plan>, stamp: u64)
-    requires { MatchOption plan (Unit {0}) (λ plan. R.made_for plan ≡ R.state forest.old) }
+    requires { MatchOption plan (Unit {0}) (λ plan. R.fits plan forest.old) }
     ensures { MatchOption plan (R.state forest.new ≡ R.state forest.old)
         (λ plan. R.state forest.new ≡ record (R.state forest.old) { registry = stamped_there stamp (R.planned plan) ∷ (R.state forest.old).registry }) }
 {
@@ -135,9 +159,13 @@ pub fn keep_two<R: Forest, G: Guardian, F: FnOnce() -> u64>(
         first: &*first,
         second: &*second,
     };
-    let there = lent.plan_there(event)?;
-    let one = lent.plan_at(event, lent.first)?;
-    let other = lent.plan_at(event, lent.second)?;
+    let home = home_of_new(lent.forest, &event.step);
+    let life = lent.crashes_at(home);
+    let to_first = lent.brought_to(event, lent.first)?;
+    let to_second = lent.brought_to(event, lent.second)?;
+    let there = plan_there(forest, event, home, life)?;
+    let one = plan_at(first, event, to_first)?;
+    let other = plan_at(second, event, to_second)?;
     if one.is_some() && stores(&event.step, first.number()) {
         let number = carry_out(first, one, stamp)?;
         install(second, other, number);
@@ -174,8 +202,11 @@ pub fn keep_one<R: Forest, G: Guardian, F: FnOnce() -> u64>(
         first: &*guardian,
         second: &*guardian,
     };
-    let there = lent.plan_there(event)?;
-    let here = lent.plan_at(event, lent.first)?;
+    let home = home_of_new(lent.forest, &event.step);
+    let life = lent.crashes_at(home);
+    let brought = lent.brought_to(event, lent.first)?;
+    let there = plan_there(forest, event, home, life)?;
+    let here = plan_at(guardian, event, brought)?;
     let number = carry_out(guardian, here, stamp)?;
     install_there(forest, there, number);
     Ok(number)

@@ -1,0 +1,13 @@
+use Rattle.std.proofs.Common.{ap, subst, sym, ◌∙◌, ◌∷◌}
+use Rattle.run_model.specs.declared.step.Step.TheVariants.{Abort}
+use Rattle.action_forest.proofs.Ending.{aborts}
+use Rattle.action_forest.specs.Events.{done}
+use Rattle.action_forest.specs.Forests.{IsForest}
+use Rattle.action_forest.specs.Trees.{place_of, trees}
+use Rattle.action_forest.proofs.forest.Forest.abort.Goals as goal
+
+pub returns-in-Some : goal.returns-in-Some
+returns-in-Some c = λ opening registry h stamp was.
+    let at = ap (place_of (trees c.args.self.now)) (sym c.components.ensures.numbers) ∙ sym c.in-Some.ensures in
+    subst (λ f. IsForest opening (done stamp (Abort c.args.action.now) ∷ registry) f) (sym c.end.ensures)
+    (aborts opening registry (trees c.args.self.now) c.args.action.now c.in-Some.at stamp at was h)

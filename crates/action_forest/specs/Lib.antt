@@ -1,0 +1,5 @@
+pub mod Trees
+pub mod Events
+pub mod Forests
+pub mod Rooms
+pub mod Walks

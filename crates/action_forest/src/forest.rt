@@ -1,0 +1,577 @@
+//! Actions in trees.
+ghost use Rattle.std.specs.Prelude.{◌≡◌, ◌∷◌, [], ℕ, List, IsFalse, IsTrue, IfOk, MatchOption, ◌+◌, ◌<◌, ◌≤◌, None, Some, if◌then◌else◌, min, suc, vec_capacity, vec_len};
+ghost use Rattle.std.specs.FinMap as map;
+ghost use Rattle.std.specs.Option.{option_and_then, option_map};
+ghost use Rattle.action_names.specs.Names.{Name, is_top};
+ghost use Rattle.run_model.specs.Actions.{home_of, is_begun, is_busy, is_closed, is_committed, is_done, is_ended, maker_in, maker_of, next_number};
+ghost use Rattle.run_model.specs.LocalHistories.{RegistryEvent, closing_there, dependency_there, entries_of, events_there};
+ghost use Rattle.run_model.specs.Openings.{opening_in};
+ghost use Rattle.run_model.specs.Refusals.{max_number};
+ghost use Rattle.run_model.specs.declared.step.Step.TheVariants.{Abort, Close, Commit, Decide};
+ghost use Rattle.run_model.specs.declared.step.Step.{Step};
+ghost use Rattle.action_forest.specs.Trees.{numbered};
+
+use run_model::{Deps, Name, Names, Opening};
+use std::alloc::{AllocError, Global};
+
+/// How an action stands. A top action that is closed and has not been decided is still active.
+#[derive(Clone, Copy, Debug, PartialEq, Eq)]
+pub enum Status {
+    Active,
+    Committed,
+    Aborted,
+}
+
+/// An action. Other actions are named by their places in the forest.
+#[derive(Drop)]
+pub struct Node {
+    pub(crate) name: Name,
+    home: u32,
+    life: u64,
+    maker: Option<usize>,
+    depends: Deps,
+    pub(crate) status: Status,
+    closing: Option<u64>,
+    unended: u64,
+    pub(crate) children: Vec<usize>,
+}
+
+/// Actions in the order in which they began, and the places of the top actions by their numbers.
+#[derive(Drop)]
+pub struct Forest {
+    first_top: u64,
+    guardians: usize,
+    pub(crate) nodes: Vec<Node>,
+    tops: Vec<usize>,
+}
+
+/// The commit of a subaction, with what its parent depends on then.
+#[derive(Drop)]
+pub struct Commitment {
+    action: Name,
+    depends: Deps,
+}
+
+/// Actions that begin, all made by the action at one place if by any.
+#[derive(Drop)]
+pub struct Begun {
+    maker: Option<usize>,
+    nodes: Vec<Node>,
+}
+
+impl Node {
+    ghost use Rattle.action_forest.specs.Trees.{action_in};
+
+    // What is kept of the same action.
+    fn copy(&self) -> Result<Node, AllocError>
+        ensures { IfOk result (λ copy. action_in copy ≡ action_in self.now) }
+    {
+        Ok(Node {
+            name: self.name.copy()?,
+            home: self.home,
+            life: self.life,
+            maker: self.maker,
+            depends: self.depends.copy()?,
+            status: self.status,
+            closing: self.closing,
+            unended: self.unended,
+            children: self.children.clone()?,
+        })
+    }
+}
+
+// The number after the greatest that a name has room for.
+const USED_UP: u64 = 4294967296;
+
+impl Forest {
+    ghost use Rattle.action_forest.specs.Trees.{action_in, action_of, added, changed, changed_at, children_of, depends_at, ended, fresh_action, hung, maker_place, one_less, one_more, place_of, status_at, trees, with_closing, with_depends, with_status};
+    ghost use Rattle.action_forest.specs.Events.{IsUnended, beginning, done, first_entries, life_there, status_there};
+    ghost use Rattle.action_forest.specs.Rooms.{AreBorn, FitsBegun, HasRoom, HasRoomAt, HasRoomBelow, IsBeginning};
+    ghost use Rattle.action_forest.specs.Forests.{AtEach, IsCommitmentOf, IsForest};
+
+    /// The forest before a history: no action was begun. This takes no memory.
+    pub fn new(alloc: Global, opening: &Opening) -> Forest
+        ensures { IsForest (opening_in opening.now) [] (trees result) }
+    {
+        Forest {
+            first_top: opening.first_top().max(1),
+            guardians: opening.setup().guardians(),
+            nodes: Vec::new(alloc),
+            tops: Vec::new(alloc),
+        }
+    }
+
+    /// How the action stands, if it was begun. This takes no memory.
+    pub fn status(&self, path: &[u32]) -> Option<Status>
+        ensures { AtEach (trees self.now) (λ opening registry. result ≡ (if is_begun path.now (events_there registry) then Some (status_there path.now (events_there registry)) else None)) }
+    {
+        Some(self.node(path)?.status)
+    }
+
+    /// Whether the action was begun. This takes no memory, as no reading below does but those that give a list.
+    pub fn is_begun(&self, path: &[u32]) -> bool
+        ensures { AtEach (trees self.now) (λ opening registry. result ≡ is_begun path.now (events_there registry)) }
+    {
+        self.place(path).is_some()
+    }
+
+    /// Whether the action has committed or aborted.
+    pub fn is_ended(&self, path: &[u32]) -> bool
+        ensures { AtEach (trees self.now) (λ opening registry. result ≡ is_ended path.now (events_there registry)) }
+    {
+        !matches!(self.standing(path), Status::Active)
+    }
+
+    /// Whether the action has ended or is closed.
+    pub fn is_done(&self, path: &[u32]) -> bool
+        ensures { AtEach (trees self.now) (λ opening registry. result ≡ is_done path.now (events_there registry)) }
+    {
+        self.is_ended(path) || self.is_closed(path)
+    }
+
+    /// Whether the closing step of the action has come.
+    pub fn is_closed(&self, path: &[u32]) -> bool
+        ensures { AtEach (trees self.now) (λ opening registry. result ≡ is_closed path.now (events_there registry)) }
+    {
+        self.closing(path).is_some()
+    }
+
+    /// Whether the action has committed.
+    pub fn is_committed(&self, path: &[u32]) -> bool
+        ensures { AtEach (trees self.now) (λ opening registry. result ≡ is_committed path.now (events_there registry)) }
+    {
+        matches!(self.standing(path), Status::Committed)
+    }
+
+    /// Whether something that the action made has not ended.
+    pub fn is_busy(&self, path: &[u32]) -> bool
+        ensures { AtEach (trees self.now) (λ opening registry. result ≡ is_busy path.now (events_there registry)) }
+    {
+        match self.node(path) {
+            Some(node) => node.unended > 0,
+            None => false,
+        }
+    }
+
+    /// The stamp of the action's closing step, if it has come.
+    pub fn closing(&self, path: &[u32]) -> Option<u64>
+        ensures { AtEach (trees self.now) (λ opening registry. result ≡ closing_there path.now registry) }
+    {
+        self.node(path)?.closing
+    }
+
+    /// The home of the action, and 0 where there is no such action.
+    pub fn home(&self, path: &[u32]) -> u32
+        ensures { AtEach (trees self.now) (λ opening registry. result ≡ home_of path.now (events_there registry)) }
+    {
+        match self.node(path) {
+            Some(node) => node.home,
+            None => 0,
+        }
+    }
+
+    /// The incarnation of its home in which the action began, and 0 where there is no such action.
+    pub fn life(&self, path: &[u32]) -> u64
+        ensures { AtEach (trees self.now) (λ opening registry. result ≡ life_there path.now registry) }
+    {
+        match self.node(path) {
+            Some(node) => node.life,
+            None => 0,
+        }
+    }
+
+    /// Who made the action.
+    pub fn maker(&self, path: &[u32]) -> Option<&Name>
+        ensures { AtEach (trees self.now) (λ opening registry. MatchOption result (maker_of path.now (events_there registry) ≡ None) (λ maker. maker_of path.now (events_there registry) ≡ Some maker.now)) }
+    {
+        let maker = self.node(path)?.maker?;
+        Some(&self.nodes.get(maker)?.name)
+    }
+
+    /// The number of the next child of the action, and for the empty path that of the next top action. All numbers above 4294967295 count as
+    /// 4294967296.
+    pub fn next(&self, path: &[u32]) -> u64
+        ensures { AtEach (trees self.now) (λ opening registry. result ≡ min (next_number opening path.now (events_there registry)) (suc max_number)) }
+    {
+        let first = if path.is_empty() { self.first_top } else { 1 };
+        let given = self.children(path).len() as u64;
+        first.saturating_add(given).min(USED_UP)
+    }
+
+    /// The least incarnation of the guardian on which the action depends, if it depends on it.
+    pub fn dependency(&self, path: &[u32], guardian: u32) -> Option<u64>
+        ensures { AtEach (trees self.now) (λ opening registry. result ≡ dependency_there path.now guardian registry) }
+    {
+        self.node(path)?.depends.get(guardian)
+    }
+
+    /// On which guardians the action depends, rising, each with the least incarnation.
+    pub fn dependencies(&self, path: &[u32]) -> Result<Vec<(u32, u64)>, AllocError>
+        ensures { AtEach (trees self.now) (λ opening registry. IfOk result (λ entries. entries.items ≡ entries_of opening (λ h. dependency_there path.now h registry))) }
+    {
+        let alloc = *self.nodes.allocator();
+        match self.node(path) {
+            Some(node) => Vec::from_slice(alloc, node.depends.entries()),
+            None => Ok(Vec::new(alloc)),
+        }
+    }
+
+    /// On which guardians an action depends that begins at this home in this life of it.
+    pub fn new_dependencies(
+        &self,
+        action: &Name,
+        home: u32,
+        life: u64,
+    ) -> Result<Vec<(u32, u64)>, AllocError>
+        ensures { AtEach (trees self.now) (λ opening registry. IfOk result (λ entries. entries.items ≡ first_entries opening registry home life action.now)) }
+    {
+        let depends = self.first_depends(action, home, life)?;
+        Vec::from_slice(*self.nodes.allocator(), depends.entries())
+    }
+
+    /// A top action closes at the step with this stamp.
+    pub fn close(&mut self, top: &Name, stamp: u64)
+        ensures { AtEach (trees self.old) (λ opening registry. IsTrue (is_begun top.now (events_there registry)) → IsForest opening (done stamp (Close top.now) ∷ registry) (trees self.new)) }
+    {
+        if let Some(at) = self.place(top.components()) {
+            self.set_closing(at, stamp);
+        }
+    }
+
+    /// A top action commits, at the step with this stamp.
+    pub fn decide(&mut self, top: &Name)
+        ensures { AtEach (trees self.old) (λ opening registry. (stamp : ℕ) → IsUnended (events_there registry) top.now →
+            IsForest opening (done stamp (Decide top.now) ∷ registry) (trees self.new)) }
+    {
+        if let Some(at) = self.place(top.components()) {
+            self.end(at, Status::Committed);
+        }
+    }
+
+    /// An action aborts.
+    pub fn abort(&mut self, action: &Name)
+        ensures { AtEach (trees self.old) (λ opening registry. (stamp : ℕ) → IsUnended (events_there registry) action.now →
+            IsForest opening (done stamp (Abort action.now) ∷ registry) (trees self.new)) }
+    {
+        if let Some(at) = self.place(action.components()) {
+            self.end(at, Status::Aborted);
+        }
+    }
+
+    /// The commit of a subaction to its parent: what the parent depends on then. The forest stays as it is.
+    pub fn plan_commit(&self, action: &Name) -> Result<Commitment, AllocError>
+        ensures { IfOk result (IsCommitmentOf (trees self.now) action.now) }
+    {
+        let path = action.components();
+        let mut depends = self.depends_of(&path[..path.len() - 1])?;
+        if let Some(node) = self.node(path) {
+            depends.merge(&node.depends)?;
+        }
+        Ok(Commitment {
+            action: action.copy()?,
+            depends,
+        })
+    }
+
+    /// A subaction commits at the step with this stamp. This cannot fail.
+    pub fn commit(&mut self, plan: Commitment, stamp: u64)
+        ensures { AtEach (trees self.old) (λ opening registry. (a : Name) → IsCommitmentOf (trees self.old) a plan →
+            IsUnended (events_there registry) a → IsFalse (is_top a) → IsForest opening (done stamp (Commit a) ∷ registry) (trees self.new)) }
+    {
+        let Commitment { action, depends } = plan;
+        if let Some(at) = self.place(action.components()) {
+            self.end(at, Status::Committed);
+            self.set_closing(at, stamp);
+            if let Some(parent) = self.maker_place(at) {
+                self.set_depends(parent, depends);
+            }
+        }
+    }
+
+    /// What a step needs that begins actions of these names, at this home in this life of it, made by this action if by any. This one pair of
+    /// calls serves top actions, nested ones, calls and arms. Whatever comes of it, the forest keeps what it kept.
+    pub fn plan_begin(
+        &mut self,
+        names: &Names,
+        maker: Option<&Name>,
+        home: u32,
+        life: u64,
+    ) -> Result<Begun, AllocError>
+        ensures kept { trees self.new ≡ trees self.old }
+        ensures room { IfOk result (FitsBegun self.new) }
+        ensures born { AtEach (trees self.old) (λ opening registry. IfOk result (AreBorn opening registry (option_map (λ name. name.now) maker.entry) home life (trees self.old) names.now)) }
+    {
+        let count = names.len();
+        self.nodes.reserve(count)?;
+        self.tops.reserve(count)?;
+        let place = self.reserve_children(maker, count)?;
+        let mut nodes = Vec::with_capacity(*self.nodes.allocator(), count)?;
+        for name in names.as_slice() {
+            nodes.push(self.born(name, place, home, life)?)?;
+        }
+        Ok(Begun {
+            maker: place,
+            nodes,
+        })
+    }
+
+    /// Begins the actions of a plan that was made of this forest. This cannot fail.
+    pub fn begin(&mut self, plan: Begun)
+        requires { FitsBegun self.old plan }
+        ensures { AtEach (trees self.old) (λ opening registry. (stamp : ℕ) (step : Step) (names : List (List ℕ)) (home life : ℕ) →
+            IsBeginning opening registry step names home → AreBorn opening registry (maker_in step) home life (trees self.old) names plan →
+            IsForest opening (beginning opening registry stamp step names home life ∷ registry) (trees self.new)) }
+    {
+        let Begun {
+            maker: _,
+            mut nodes,
+        } = plan;
+        nodes.reverse();
+        while let Some(node) = nodes.pop() {
+            self.add(node);
+        }
+    }
+
+    /// A forest that keeps the same.
+    pub fn copy(&self) -> Result<Forest, AllocError>
+        ensures { IfOk result (λ copy. trees copy ≡ trees self.now) }
+    {
+        let mut nodes = Vec::with_capacity(*self.nodes.allocator(), self.nodes.len())?;
+        for node in &self.nodes {
+            nodes.push(node.copy()?)?;
+        }
+        Ok(Forest {
+            first_top: self.first_top,
+            guardians: self.guardians,
+            nodes,
+            tops: self.tops.clone()?,
+        })
+    }
+
+    // How the action stands; one that was not begun counts as active.
+    fn standing(&self, path: &[u32]) -> Status
+        ensures { result ≡ status_at (trees self.now) path.now }
+    {
+        match self.node(path) {
+            Some(node) => node.status,
+            None => Status::Active,
+        }
+    }
+
+    // The places of the children of the action, and for the empty path those of the top actions.
+    fn children(&self, path: &[u32]) -> &[usize]
+        ensures { result.now ≡ children_of (trees self.now) path.now }
+    {
+        if path.is_empty() {
+            return &self.tops;
+        }
+        match self.node(path) {
+            Some(node) => &node.children,
+            None => &[],
+        }
+    }
+
+    // A copy of what the action depends on.
+    fn depends_of(&self, path: &[u32]) -> Result<Deps, AllocError>
+        ensures { IfOk result (λ depends. (g : ℕ) → map.get depends g ≡ depends_at (trees self.now) path.now g) }
+    {
+        match self.node(path) {
+            Some(node) => node.depends.copy(),
+            None => Ok(Deps::new(*self.nodes.allocator())),
+        }
+    }
+
+    // What an action depends on that begins at this home in this life of it.
+    fn first_depends(&self, action: &Name, home: u32, life: u64) -> Result<Deps, AllocError>
+        ensures { AtEach (trees self.now) (λ opening registry. IfOk result (λ depends. map.entries depends ≡ first_entries opening registry home life action.now)) }
+    {
+        let path = action.components();
+        let mut depends = self.depends_of(&path[..path.len() - 1])?;
+        if home > 0 && home as usize <= self.guardians {
+            depends.lower(home, life)?;
+        }
+        Ok(depends)
+    }
+
+    // What is kept of an action as it begins.
+    fn born(
+        &self,
+        name: &Name,
+        maker: Option<usize>,
+        home: u32,
+        life: u64,
+    ) -> Result<Node, AllocError>
+        ensures made { IfOk result (λ node. action_in node ≡ fresh_action name.now maker home life node.depends) }
+        ensures depends { AtEach (trees self.now) (λ opening registry. IfOk result (λ node. map.entries node.depends ≡ first_entries opening registry home life name.now)) }
+    {
+        Ok(Node {
+            name: name.copy()?,
+            home,
+            life,
+            maker,
+            depends: self.first_depends(name, home, life)?,
+            status: Status::Active,
+            closing: None,
+            unended: 0,
+            children: Vec::new(*self.nodes.allocator()),
+        })
+    }
+
+    // The place of the maker, if there is one, with room for so many more children of it.
+    fn reserve_children(
+        &mut self,
+        maker: Option<&Name>,
+        count: usize,
+    ) -> Result<Option<usize>, AllocError>
+        ensures kept { trees self.new ≡ trees self.old }
+        ensures len { vec_len self.new.nodes ≡ vec_len self.old.nodes }
+        ensures capacity { vec_capacity self.new.nodes ≡ vec_capacity self.old.nodes }
+        ensures tops { self.new.tops ≡ self.old.tops }
+        ensures room { IfOk result (HasRoomBelow self.new count) }
+        ensures place { AtEach (trees self.old) (λ opening registry. IfOk result (λ at. at ≡ option_and_then (λ a. place_of (trees self.old) a) (option_map (λ name. name.now) maker.entry))) }
+    {
+        let Some(maker) = maker else {
+            return Ok(None);
+        };
+        let Some(at) = self.place(maker.components()) else {
+            return Ok(None);
+        };
+        let Some(node) = self.nodes.get_mut(at) else {
+            return Ok(None);
+        };
+        node.unended.checked_add(count as u64).ok_or(AllocError)?;
+        node.children.reserve(count)?;
+        Ok(Some(at))
+    }
+
+    // Puts an action in, for which there is room.
+    fn add(&mut self, node: Node)
+        requires { HasRoom self.old 1 node.maker }
+        ensures added { trees self.new ≡ added (action_in node) (trees self.old) }
+        ensures room { (n : ℕ) → HasRoom self.old (n + 1) node.maker → HasRoom self.new n node.maker }
+    {
+        let place = self.nodes.len();
+        let maker = node.maker;
+        let top = node.name.is_top();
+        self.count_more(maker);
+        self.nodes.push_reserved(node);
+        self.hang(top, maker, place);
+    }
+
+    // One thing more that it made has not ended.
+    fn count_more(&mut self, maker: Option<usize>)
+        requires { HasRoomAt self.old.nodes.items 0 1 maker }
+        ensures counted { trees self.new ≡ changed_at one_more maker (trees self.old) }
+        ensures len { vec_len self.new.nodes ≡ vec_len self.old.nodes }
+        ensures capacity { vec_capacity self.new.nodes ≡ vec_capacity self.old.nodes }
+        ensures tops { self.new.tops ≡ self.old.tops }
+        ensures room { (n k : ℕ) → HasRoomAt self.old.nodes.items n (k + 1) maker → HasRoomAt self.new.nodes.items n k maker }
+    {
+        let Some(at) = maker else {
+            return;
+        };
+        if let Some(node) = self.nodes.get_mut(at) {
+            node.unended += 1;
+        }
+    }
+
+    // The next number of a top action, or of a child of the maker, leads to the place.
+    fn hang(&mut self, top: bool, maker: Option<usize>, place: usize)
+        requires tops { vec_len self.old.tops < vec_capacity self.old.tops }
+        requires below { HasRoomAt self.old.nodes.items 1 0 maker }
+        ensures hung { trees self.new ≡ hung top maker place (trees self.old) }
+        ensures len { vec_len self.new.nodes ≡ vec_len self.old.nodes }
+        ensures capacity { vec_capacity self.new.nodes ≡ vec_capacity self.old.nodes }
+        ensures tops_len { vec_len self.new.tops ≤ vec_len self.old.tops + 1 }
+        ensures tops_capacity { vec_capacity self.new.tops ≡ vec_capacity self.old.tops }
+        ensures room { (n k : ℕ) → HasRoomAt self.old.nodes.items (n + 1) k maker → HasRoomAt self.new.nodes.items n k maker }
+    {
+        if top {
+            self.tops.push_reserved(place);
+            return;
+        }
+        let Some(parent) = maker else {
+            return;
+        };
+        if let Some(node) = self.nodes.get_mut(parent) {
+            node.children.push_reserved(place);
+        }
+    }
+
+    fn maker_place(&self, at: usize) -> Option<usize>
+        ensures { result ≡ maker_place (trees self.now) at }
+    {
+        self.nodes.get(at)?.maker
+    }
+
+    // The action ends with this status.
+    fn end(&mut self, at: usize, status: Status)
+        ensures { trees self.new ≡ ended status at (trees self.old) }
+    {
+        let maker = self.maker_place(at);
+        self.set_status(at, status);
+        if let Some(maker) = maker {
+            self.count_less(maker);
+        }
+    }
+
+    fn set_status(&mut self, at: usize, status: Status)
+        ensures { trees self.new ≡ changed (with_status status) at (trees self.old) }
+    {
+        if let Some(node) = self.nodes.get_mut(at) {
+            node.status = status;
+        }
+    }
+
+    fn set_closing(&mut self, at: usize, stamp: u64)
+        ensures { trees self.new ≡ changed (with_closing stamp) at (trees self.old) }
+    {
+        if let Some(node) = self.nodes.get_mut(at) {
+            node.closing = Some(stamp);
+        }
+    }
+
+    fn set_depends(&mut self, at: usize, depends: Deps)
+        ensures { trees self.new ≡ changed (with_depends depends) at (trees self.old) }
+    {
+        if let Some(node) = self.nodes.get_mut(at) {
+            node.depends = depends;
+        }
+    }
+
+    // One thing less that it made has not ended.
+    fn count_less(&mut self, at: usize)
+        ensures { trees self.new ≡ changed one_less at (trees self.old) }
+    {
+        if let Some(node) = self.nodes.get_mut(at) {
+            node.unended = node.unended.saturating_sub(1);
+        }
+    }
+
+    // The place of the action.
+    pub(crate) fn place(&self, path: &[u32]) -> Option<usize>
+        ensures { result ≡ place_of (trees self.now) path.now }
+    {
+        let (first, below) = path.split_first()?;
+        let mut at = numbered(&self.tops, self.first_top, *first)?;
+        for number in below {
+            at = numbered(&self.nodes.get(at)?.children, 1, *number)?;
+        }
+        Some(at)
+    }
+
+    // What is kept of the action.
+    fn node(&self, path: &[u32]) -> Option<&Node>
+        ensures { option_map (λ node. action_in node.now) result ≡ action_of (trees self.now) path.now }
+    {
+        self.nodes.get(self.place(path)?)
+    }
+}
+
+// The place that has this number, where these are all, from the first number on.
+fn numbered(places: &[usize], first: u64, number: u32) -> Option<usize>
+    ensures { result ≡ numbered places.now first number }
+{
+    let index = u64::from(number).checked_sub(first)?;
+    places.get(index as usize).copied()
+}

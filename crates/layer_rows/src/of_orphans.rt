@@ -1,0 +1,164 @@
+//! Calls of the lists of guardians.
+use crate::reading::{GUARDIANS, deps, name, opening, small_number};
+use orphans::{Lists, News};
+use rows::{Row, RowFault, Words};
+use run_model::{Name, Names, Opening};
+use std::alloc::{AllocError, Global};
+
+/// The lists of each guardian, and their opening.
+#[derive(Drop)]
+pub(crate) struct Knowing {
+    alloc: Global,
+    opening: Opening,
+    lists: Vec<Lists>,
+}
+
+impl Knowing {
+    pub(crate) fn new(alloc: Global) -> Result<Knowing, AllocError> {
+        let mut lists = Vec::new(alloc);
+        for before in 0..GUARDIANS {
+            lists.push(Lists::new(alloc, before + 1))?;
+        }
+        Ok(Knowing {
+            alloc,
+            opening: opening(alloc)?,
+            lists,
+        })
+    }
+
+    pub(crate) fn answer(&mut self, row: &Row<'_>, answer: &mut String) -> Result<(), RowFault> {
+        match row.call {
+            "tell" => self.tell(row.words()),
+            "send" => self.send(row.words(), answer),
+            "crash" => self.crash(row.given),
+            "copy" => self.put_copy(row.given),
+            _ => self.ask(row, answer),
+        }
+    }
+
+    fn ask(&self, row: &Row<'_>, answer: &mut String) -> Result<(), RowFault> {
+        match row.call {
+            "unsent" => self.unsent(row.words(), answer),
+            "crashes" => Ok(write!(answer, "{}", self.of(row.given)?.crashes())?),
+            "known_crashes" => self.known_crashes(row.words(), answer),
+            "knows_abort" => self.knows_abort(row.words(), answer),
+            "is_orphan" => self.is_orphan(row.words(), answer),
+            _ => Err(RowFault::Unread),
+        }
+    }
+
+    /// Tells a guardian outcomes, words `NAME:committed` or `NAME:aborted`.
+    fn tell(&mut self, mut words: Words<'_>) -> Result<(), RowFault> {
+        let guardian = words.word()?;
+        let alloc = self.alloc;
+        let outcomes = read_outcomes(alloc, words)?;
+        let news = News {
+            sender: None,
+            life: 0,
+            aborts: &Names::new(alloc),
+            counts: &[],
+            outcomes: &outcomes,
+        };
+        Ok(teach(alloc, self.of_mut(guardian)?, news)?)
+    }
+
+    /// Sends one guardian what the other has not sent it, and says what that was.
+    fn send(&mut self, mut words: Words<'_>, answer: &mut String) -> Result<(), RowFault> {
+        let alloc = self.alloc;
+        let (sender, receiver) = (words.word()?, words.word()?);
+        let (from, to) = (self.of(sender)?, self.of(receiver)?);
+        let life = from.crashes();
+        let aborts = from.unsent_aborts(to)?;
+        let counts = from.unsent_counts(to)?;
+        write!(answer, "{:?} {:?}", aborts.as_slice(), counts.as_slice())?;
+        let news = News {
+            sender: Some(small_number(sender)?),
+            life,
+            aborts: &aborts,
+            counts: &counts,
+            outcomes: &[],
+        };
+        Ok(teach(alloc, self.of_mut(receiver)?, news)?)
+    }
+
+    fn crash(&mut self, given: &str) -> Result<(), RowFault> {
+        let alloc = self.alloc;
+        let lists = self.of_mut(given)?;
+        if lists.crashes() == u64::MAX {
+            return Err(RowFault::Unread);
+        }
+        lists.crash(alloc);
+        Ok(())
+    }
+
+    /// Goes on with a copy of the guardian's lists.
+    fn put_copy(&mut self, given: &str) -> Result<(), RowFault> {
+        let lists = self.of_mut(given)?;
+        *lists = lists.copy()?;
+        Ok(())
+    }
+
+    fn unsent(&self, mut words: Words<'_>, answer: &mut String) -> Result<(), RowFault> {
+        let (from, to) = (self.of(words.word()?)?, self.of(words.word()?)?);
+        let aborts = from.unsent_aborts(to)?;
+        let counts = from.unsent_counts(to)?;
+        Ok(write!(answer, "{:?} {:?}", aborts.as_slice(), counts.as_slice())?)
+    }
+
+    fn known_crashes(&self, mut words: Words<'_>, answer: &mut String) -> Result<(), RowFault> {
+        let lists = self.of(words.word()?)?;
+        let guardian = small_number(words.word()?)?;
+        Ok(write!(answer, "{}", lists.known_crashes(guardian))?)
+    }
+
+    fn knows_abort(&self, mut words: Words<'_>, answer: &mut String) -> Result<(), RowFault> {
+        let lists = self.of(words.word()?)?;
+        let action = name(self.alloc, words.word()?)?;
+        Ok(write!(answer, "{}", lists.knows_abort(action.components()))?)
+    }
+
+    fn is_orphan(&self, mut words: Words<'_>, answer: &mut String) -> Result<(), RowFault> {
+        let lists = self.of(words.word()?)?;
+        let action = name(self.alloc, words.word()?)?;
+        let depends = deps(self.alloc, words)?;
+        let is_orphan = lists.is_known_orphan(&self.opening, &action, &depends);
+        Ok(write!(answer, "{is_orphan}")?)
+    }
+
+    /// The lists of the guardian of this number.
+    fn of(&self, guardian: &str) -> Result<&Lists, RowFault> {
+        self.lists.get(place(guardian)?).ok_or(RowFault::Unread)
+    }
+
+    fn of_mut(&mut self, guardian: &str) -> Result<&mut Lists, RowFault> {
+        self.lists.get_mut(place(guardian)?).ok_or(RowFault::Unread)
+    }
+}
+
+/// Where the lists of the guardian of this number stand.
+fn place(guardian: &str) -> Result<usize, RowFault> {
+    let number = small_number(guardian)? as usize;
+    number.checked_sub(1).ok_or(RowFault::Unread)
+}
+
+fn read_outcomes(alloc: Global, words: Words<'_>) -> Result<Vec<(Name, bool)>, RowFault> {
+    let mut outcomes = Vec::new(alloc);
+    for word in words.rest().split_whitespace() {
+        let (told, outcome) = word.split_once(':').ok_or(RowFault::Unread)?;
+        let committed = match outcome {
+            "committed" => true,
+            "aborted" => false,
+            _ => return Err(RowFault::Unread),
+        };
+        let outcome = (name(alloc, told)?, committed);
+        outcomes.push(outcome).map_err(|_| RowFault::Memory)?;
+    }
+    Ok(outcomes)
+}
+
+/// Has the lists learn news.
+fn teach(alloc: Global, lists: &mut Lists, news: News<'_>) -> Result<(), AllocError> {
+    let lesson = lists.plan_lesson(alloc, news)?;
+    lists.learn(lesson);
+    Ok(())
+}

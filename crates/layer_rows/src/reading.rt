@@ -1,0 +1,58 @@
+//! What rows of all crates are read from.
+use rows::{RowFault, Words};
+use run_model::{Deps, Name, NameFault, Names, Opening, Setup, SetupFault};
+use std::alloc::{AllocError, Global};
+
+/// How many guardians there are.
+pub(crate) const GUARDIANS: u32 = 3;
+
+/// The opening of the guardians, who have no objects.
+pub(crate) fn opening(alloc: Global) -> Result<Opening, AllocError> {
+    let mut setup = Setup::new(alloc);
+    for _ in 0..GUARDIANS {
+        setup.add_guardian(Vec::new(alloc)).map_err(refused)?;
+    }
+    Ok(Opening::fresh(alloc, setup))
+}
+
+/// So few guardians without objects are refused only where memory is.
+fn refused(_fault: SetupFault) -> AllocError {
+    AllocError
+}
+
+/// A number, as those of guardians.
+pub(crate) fn small_number(text: &str) -> Result<u32, RowFault> {
+    text.parse().map_err(|_| RowFault::Unread)
+}
+
+pub(crate) fn name(alloc: Global, text: &str) -> Result<Name, RowFault> {
+    Name::parse(alloc, text).map_err(unread)
+}
+
+fn unread(fault: NameFault) -> RowFault {
+    match fault {
+        NameFault::Memory => RowFault::Memory,
+        NameFault::NotAName | NameFault::TooDeep => RowFault::Unread,
+    }
+}
+
+/// The dependencies that are left in a row: words `GUARDIAN:INCARNATION`.
+pub(crate) fn deps(alloc: Global, words: Words<'_>) -> Result<Deps, RowFault> {
+    let mut deps = Deps::new(alloc);
+    for word in words.rest().split_whitespace() {
+        let (guardian, incarnation) = word.split_once(':').ok_or(RowFault::Unread)?;
+        let least = incarnation.parse().map_err(|_| RowFault::Unread)?;
+        deps.lower(small_number(guardian)?, least)?;
+    }
+    Ok(deps)
+}
+
+/// The names that are left in a row.
+pub(crate) fn names(alloc: Global, words: Words<'_>) -> Result<Names, RowFault> {
+    let mut names = Names::new(alloc);
+    for word in words.rest().split_whitespace() {
+        let action = name(alloc, word)?;
+        names.push(action).map_err(|_| RowFault::Memory)?;
+    }
+    Ok(names)
+}

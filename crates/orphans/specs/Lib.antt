@@ -1,0 +1,4 @@
+pub mod Indexes
+pub mod Logs
+pub mod Sending
+pub mod Knowing

@@ -1,0 +1,198 @@
+//! What a guardian knows.
+ghost use Rattle.std.specs.Prelude.{◌≡◌, ◌<◌, ◌^◌, ◌+◌, [], ◌∷◌, ℕ, List, IsTrue, IsFalse, IfOk};
+ghost use Rattle.std.specs.FinMap as map;
+ghost use Rattle.action_names.specs.Names.{has_name};
+ghost use Rattle.run_model.specs.Actions.{step_crashes};
+ghost use Rattle.run_model.specs.Lists.{is_orphan_by};
+ghost use Rattle.run_model.specs.LocalReadings.{LocalEvent, aborts_here, known_crashes_here, unsent_aborts, unsent_counts};
+ghost use Rattle.run_model.specs.Openings.{opening_in};
+
+use crate::counts::Counts;
+use crate::lesson::{Lesson, News};
+use crate::log::Log;
+use crate::sent::Sent;
+use run_model::{Deps, Name, Names, Opening};
+use std::alloc::{AllocError, Global};
+
+/// Which aborts and crashes a guardian knows of since its last crash, how often it crashed itself, and how much each sender has sent.
+#[derive(Drop)]
+pub struct Lists {
+    guardian: u32,
+    crashes: u64,
+    aborts: Log,
+    counts: Counts,
+    sent: Sent,
+}
+
+impl Lists {
+    ghost use Rattle.orphans.specs.Knowing.{AreLists, FitsLesson, IsLesson, crashes_of, guardian_of};
+
+    /// The lists of a guardian at which nothing happened. This takes no memory.
+    pub fn new(alloc: Global, guardian: u32) -> Lists
+        ensures own { guardian_of result ≡ guardian }
+        ensures lists { AreLists [] result }
+    {
+        Lists {
+            guardian,
+            crashes: 0,
+            aborts: Log::new(alloc),
+            counts: Counts::new(alloc),
+            sent: Sent::new(alloc),
+        }
+    }
+
+    /// Copies news, and makes room for learning it. Whether or not there is memory for it, the lists are those of the same history.
+    pub fn plan_lesson(&mut self, alloc: Global, news: News<'_>) -> Result<Lesson, AllocError>
+        ensures own { guardian_of self.new ≡ guardian_of self.old }
+        ensures same { (here : List LocalEvent) → AreLists here self.old → AreLists here self.new }
+        ensures fits { IfOk result (FitsLesson self.new) }
+        ensures news { IfOk result (IsLesson news.entry.sender news.entry.life news.entry.aborts.now news.entry.counts.now news.entry.outcomes.now) }
+    {
+        let lesson = Lesson::of(alloc, news)?;
+        self.aborts.plan_room(lesson.aborts.len())?;
+        self.counts.plan_room(lesson.counts.len())?;
+        self.sent.plan_place()?;
+        Ok(lesson)
+    }
+
+    /// Learns the news of a lesson for which the lists have room. This cannot fail.
+    pub fn learn(&mut self, lesson: Lesson)
+        requires { FitsLesson self.old lesson }
+        ensures own { guardian_of self.new ≡ guardian_of self.old }
+        ensures lists { (here : List LocalEvent) (c : LocalEvent) → AreLists here self.old → IsFalse (step_crashes c.event.step (guardian_of self.old))
+            → IsLesson c.carried.sender c.carried.life c.carried.aborts c.carried.counts c.carried.outcomes lesson → AreLists (c ∷ here) self.new }
+    {
+        let Lesson {
+            sender,
+            life,
+            aborts,
+            counts,
+            sent_aborts,
+            sent_counts,
+        } = lesson;
+        self.aborts.learn(aborts);
+        self.counts.learn(counts);
+        self.sent
+            .count(sender, life, sent_aborts as u64, sent_counts as u64);
+    }
+
+    /// Forgets all but the own crashes, of which there is one more. This cannot fail.
+    pub fn crash(&mut self, alloc: Global)
+        requires { crashes_of self.old + 1 < 2 ^ 64 }
+        ensures own { guardian_of self.new ≡ guardian_of self.old }
+        ensures lists { (here : List LocalEvent) (c : LocalEvent) → AreLists here self.old → IsTrue (step_crashes c.event.step (guardian_of self.old))
+            → AreLists (c ∷ here) self.new }
+    {
+        self.crashes += 1;
+        self.aborts = Log::new(alloc);
+        self.counts = Counts::new(alloc);
+        self.sent = Sent::new(alloc);
+    }
+
+    /// How often the guardian crashed. This takes no memory.
+    pub fn crashes(&self) -> u64
+        ensures { result ≡ crashes_of self.now }
+    {
+        self.crashes
+    }
+
+    /// Whether the guardian knows that the action with this path aborted. This takes no memory.
+    pub fn knows_abort(&self, path: &[u32]) -> bool
+        ensures { (here : List LocalEvent) → AreLists here self.now → result ≡ has_name (aborts_here (guardian_of self.now) here) path.now }
+    {
+        self.aborts.contains(path)
+    }
+
+    /// How many crashes of a guardian this one knows of; of itself it knows each. This takes no memory.
+    pub fn known_crashes(&self, guardian: u32) -> u64
+        ensures { (here : List LocalEvent) → AreLists here self.now → result ≡ known_crashes_here (guardian_of self.now) guardian here }
+    {
+        self.count_of(guardian)
+    }
+
+    /// Whether an action with these dependencies is known as an orphan. This takes no memory.
+    pub fn is_known_orphan(&self, opening: &Opening, action: &Name, depends: &Deps) -> bool
+        ensures { (here : List LocalEvent) → AreLists here self.now → result ≡ is_orphan_by (opening_in opening.now)
+            (λ b. has_name (aborts_here (guardian_of self.now) here) b) (λ h. known_crashes_here (guardian_of self.now) h here)
+            (λ h. map.get depends.now h) action.now }
+    {
+        self.knows_abort_above(action.components()) || self.knows_crash_since(opening, depends)
+    }
+
+    /// The aborts that this guardian has not sent to the other in this life, the newest first: copies of these alone.
+    pub fn unsent_aborts(&self, to: &Lists) -> Result<Names, AllocError>
+        ensures { IfOk result (λ names. (there here : List LocalEvent) → AreLists there self.now → AreLists here to.now
+            → names ≡ unsent_aborts (guardian_of self.now) (guardian_of to.now) there here) }
+    {
+        let had = to.sent.came(self.guardian, self.crashes).aborts;
+        let unsent = (self.aborts.len() as u64).saturating_sub(had);
+        Ok(Names::from_vec(self.aborts.newest(unsent as usize)?))
+    }
+
+    /// The counts of crashes that this guardian has not sent to the other in this life, the newest first.
+    pub fn unsent_counts(&self, to: &Lists) -> Result<Vec<(u32, u64)>, AllocError>
+        ensures { IfOk result (λ counts. (there here : List LocalEvent) → AreLists there self.now → AreLists here to.now
+            → counts.items ≡ unsent_counts (guardian_of self.now) (guardian_of to.now) there here) }
+    {
+        let had = to.sent.came(self.guardian, self.crashes).counts;
+        let unsent = (self.counts.len() as u64).saturating_sub(had);
+        self.counts.newest(unsent as usize)
+    }
+
+    /// Lists of the same history.
+    pub fn copy(&self) -> Result<Lists, AllocError>
+        ensures own { IfOk result (λ copy. guardian_of copy ≡ guardian_of self.now) }
+        ensures lists { IfOk result (λ copy. (here : List LocalEvent) → AreLists here self.now → AreLists here copy) }
+    {
+        Ok(Lists {
+            guardian: self.guardian,
+            crashes: self.crashes,
+            aborts: self.aborts.copy()?,
+            counts: self.counts.copy()?,
+            sent: self.sent.copy()?,
+        })
+    }
+}
+
+impl Lists {
+    ghost use Rattle.std.specs.List.{list_any};
+    ghost use Rattle.action_names.specs.Names.{ancestors};
+    ghost use Rattle.run_model.specs.Lists.{guardians_of, is_below};
+    ghost use Rattle.orphans.specs.Knowing.{known_count};
+    ghost use Rattle.orphans.specs.Logs.{known_names};
+
+    // How many crashes of the guardian the lists tell of.
+    fn count_of(&self, guardian: u32) -> u64
+        ensures { result ≡ known_count self.now guardian }
+    {
+        if self.guardian == guardian {
+            return self.crashes;
+        }
+        self.counts.greatest(guardian)
+    }
+
+    // Whether it knows that an ancestor of the action with this path aborted.
+    fn knows_abort_above(&self, path: &[u32]) -> bool
+        ensures { result ≡ list_any (λ b. has_name (known_names self.now.aborts) b) (ancestors path.now) }
+    {
+        for depth in 0..path.len() {
+            if self.aborts.contains(&path[..depth + 1]) {
+                return true;
+            }
+        }
+        false
+    }
+
+    // Whether a guardian of the opening crashed since an incarnation among these.
+    fn knows_crash_since(&self, opening: &Opening, depends: &Deps) -> bool
+        ensures { result ≡ list_any (λ h. is_below (map.get depends.now h) (known_count self.now h)) (guardians_of (opening_in opening.now)) }
+    {
+        let guardians = opening.setup().guardians();
+        for &(guardian, least) in depends.entries() {
+            if guardian > 0 && guardian as usize <= guardians && least < self.count_of(guardian) {
+                return true;
+            }
+        }
+        false
+    }
+}
