@@ -2,3 +2,4 @@ pub mod Paths
 pub mod Numbers
 pub mod Text
 pub mod Entries
+pub mod Ancestry

@@ -5,3 +5,4 @@ pub mod Items
 pub mod Tags
 pub mod Totals
 pub mod Contents
+pub mod Bounds

@@ -1,9 +1,9 @@
 //! Calls of an array.
 use super::write_value;
-use crate::reading::int;
+use crate::reading::{int, small_number};
 use rows::{Row, RowFault, Words};
 use std::alloc::Global;
-use values::{Array, Kind, Value};
+use values::{Array, GREATEST_INDEX, Kind, LEAST_INDEX, MAX_ITEMS, Value};
 
 pub(crate) fn answer(
     alloc: Global,
@@ -23,6 +23,7 @@ pub(crate) fn answer(
         "add_low" => add_low(array, row.words()),
         "remove_high" => remove_high(alloc, array, answer),
         "remove_low" => remove_low(alloc, array, answer),
+        "set_bounds" => set_bounds(array, row.words()),
         _ => Err(RowFault::Unread),
     }
 }
@@ -90,6 +91,16 @@ fn remove_low(alloc: Global, array: &mut Array, answer: &mut String) -> Result<(
     write_value(alloc, item.as_ref(), answer)?;
     drop(array.remove_low());
     Ok(())
+}
+
+/// Gives the array a low index and a size, where both are within the limits.
+fn set_bounds(array: &mut Array, mut words: Words<'_>) -> Result<(), RowFault> {
+    let low = int(&mut words)?;
+    let size = small_number(words.word()?)? as usize;
+    if size > MAX_ITEMS || low < LEAST_INDEX || low > GREATEST_INDEX - size as i64 + 1 {
+        return Err(RowFault::Unread);
+    }
+    Ok(array.set_bounds(low, size)?)
 }
 
 pub(crate) fn read_kind(name: &str) -> Result<Kind, RowFault> {
