@@ -1,0 +1,11 @@
+pub mod Held
+pub mod Names
+pub mod Choosing
+pub mod Chain
+pub mod Standing
+pub mod Leaving
+pub mod Sums
+pub mod Passing
+pub mod Topmost
+pub mod Operated
+pub mod Restored

@@ -1,0 +1,4 @@
+pub mod Stacks
+pub mod Deltas
+pub mod Locks
+pub mod Objects
