@@ -28,9 +28,9 @@ use Rattle.local_laws.proofs.Moving.{holders_move}
 use Rattle.local_laws.proofs.Orderly.{holder_is}
 use Rattle.local_laws.proofs.Sums.{adds_leave, amount_of, amounts_are_adds}
 use Rattle.local_laws.proofs.Sums as totals
-use Rattle.object_model.specs.Deltas.{delta_at}
+use Rattle.object_model.specs.Deltas.{delta_at, with_more}
 use Rattle.object_model.specs.Locks as locks
-use Rattle.object_model.specs.Objects.{IsPassed, Seen, is_next, next_delta, owns, passed_delta, with_delta, with_more}
+use Rattle.object_model.specs.Objects.{IsPassed, Seen, is_next, next_delta, owns, passed_delta, with_delta}
 use Rattle.object_model.specs.Stacks.{HasNoneBetween, RiseByAncestry, RisesByAncestry, Stack, inherited, is_passed_by, version_at}
 use Rattle.object_laws.specs.Changes.{told_too}
 use Rattle.object_laws.specs.Laws.{PassedShows}

@@ -17,9 +17,14 @@ delta_sum (d ∷ ds) = sum_of (delta_sum ds) d.1
 abbrev pub HasDelta : List (Name × ℤ) → List (Name × ℤ) → Name → Option ℤ → Type 0
 HasDelta old new a z = (b : Name) → delta_at new b ≡ (if same_name a b then z else delta_at old b)
 
+-- how much a holder adds once what another added, if anything, is added to it
+abbrev pub with_more : Option ℤ → Option ℤ → Option ℤ
+with_more old None = old
+with_more old (Some z) = Some (sum_of (unwrap_or old (pos 0)) z)
+
 -- how much a holder adds once it adds more
 abbrev pub more_at : List (Name × ℤ) → Name → ℤ → Option ℤ
-more_at ds a z = Some (sum_of (unwrap_or (delta_at ds a) (pos 0)) z)
+more_at ds a z = with_more (delta_at ds a) (Some z)
 
 -- an action and its descendants add nothing; all others add what they added
 abbrev pub HasNoneBelow : List (Name × ℤ) → List (Name × ℤ) → Name → Type 0

@@ -1,5 +1,5 @@
 -- One object as contracts see it, and what calls make of it.
-use Rattle.std.specs.Prelude.{◌≡◌, ℤ, pos, Bool, true, false, not, ◌||◌, List, [], ◌∷◌, map, filter, Option, Some, None, is_some, unwrap_or, if◌then◌else◌}
+use Rattle.std.specs.Prelude.{◌≡◌, ℤ, pos, Bool, true, false, not, ◌||◌, List, [], ◌∷◌, map, filter, Option, Some, None, is_some, if◌then◌else◌}
 use Rattle.std.specs.List.Sorted.{IsStrictlySortedBy}
 use Rattle.action_names.specs.Names.{Name, same_name, is_ancestor, name_cmp, has_name}
 use Rattle.values.specs.declared.content.Content.{Content}
@@ -13,7 +13,7 @@ use Rattle.atomic_types.specs.Counters.{sum_of}
 use Rattle.atomic_types.specs.Objects.{content_after}
 use Rattle.atomic_types.specs.Operations.{Op, class_of}
 use Rattle.object_model.specs.Stacks.{RisesByAncestry, Stack, top_of, version_at, written, inherited, added, dropped_below}
-use Rattle.object_model.specs.Deltas.{delta_at, delta_sum, more_at, HasDelta, HasNoneBelow}
+use Rattle.object_model.specs.Deltas.{delta_at, delta_sum, more_at, with_more, HasDelta, HasNoneBelow}
 use Rattle.object_model.specs.Locks as locks
 use Rattle.object_model.specs.Locks.{Locks}
 
@@ -70,10 +70,6 @@ with_delta s to (Some z) = added content_after s to z
 -- the stack once the next holder has what a held: a's version, or what a added
 abbrev pub passed_stack : Seen → Name → Option Name → Stack Content
 passed_stack object a to = if owns object a then inherited object.stack a to else with_delta object.stack to (delta_at object.deltas a)
-
-abbrev pub with_more : Option ℤ → Option ℤ → Option ℤ
-with_more old None = old
-with_more old (Some z) = Some (sum_of (unwrap_or old (pos 0)) z)
 
 -- what the next holder adds then: nothing beside a version, which covers what was added below it
 abbrev pub next_delta : Seen → Name → Name → Option ℤ

@@ -67,11 +67,6 @@ module _ {T : Type 0} where
   added after s None z = record { base = after s.base (Add (Int z)); versions = s.versions }
   added after s (Some a) z = record { base = s.base; versions = changed_at (λ c. after c (Add (Int z))) s.versions a }
 
-  -- the new base, if there is one
-  abbrev pub base_after : T → Option T → T
-  base_after c None = c
-  base_after c (Some d) = d
-
   -- the stack without the versions of a and its descendants
   abbrev pub dropped_below : Stack T → Name → Stack T
   dropped_below s a = record { base = s.base; versions = filter (λ v. not (is_ancestor a v.0)) s.versions }
