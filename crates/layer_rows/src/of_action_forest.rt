@@ -1,5 +1,5 @@
 //! Calls of a forest.
-use crate::reading::{name, names, opening, small_number};
+use crate::reading::{name, names, next_name, next_small_number, opening};
 use action_forest::{Forest, Hearer};
 use rows::{Row, RowFault, Words};
 use run_model::{Name, Names};
@@ -40,8 +40,8 @@ impl Growing {
         match row.call {
             "begin" => self.begin(row.words()),
             "close" => self.close(row.words()),
-            "decide" => Ok(self.forest.decide(&name(self.alloc, row.given)?)),
-            "abort" => Ok(self.forest.abort(&name(self.alloc, row.given)?)),
+            "decide" => self.decide(row.given),
+            "abort" => self.abort(row.given),
             "commit" => self.commit(row.words()),
             "copy" => Ok(self.put_copy()?),
             _ => self.ask(row, answer),
@@ -50,29 +50,32 @@ impl Growing {
 
     fn ask(&self, row: &Row<'_>, answer: &mut String) -> Result<(), RowFault> {
         match row.call {
-            "next_top" => Ok(write!(answer, "{}", self.forest.next(&[]))?),
+            "next_top" => self.next_top(answer),
             "dependency" => self.dependency(row.words(), answer),
             "new_dependencies" => self.new_dependencies(row.words(), answer),
             "outcomes" => self.outcomes(row.words(), answer),
-            _ => self.ask_of(row.call, &name(self.alloc, row.given)?, answer),
+            _ => self.ask_of(row, answer),
         }
     }
 
+    fn next_top(&self, answer: &mut String) -> Result<(), RowFault> {
+        Ok(write!(answer, "{}", self.forest.next(&[]))?)
+    }
+
     /// What is asked of an action alone.
-    fn ask_of(&self, call: &str, action: &Name, answer: &mut String) -> Result<(), RowFault> {
-        let (forest, path) = (&self.forest, action.components());
-        match call {
-            "is" => return self.tests(path, answer),
-            "status" => write!(answer, "{:?}", forest.status(path))?,
-            "closing" => write!(answer, "{:?}", forest.closing(path))?,
-            "home" => write!(answer, "{}", forest.home(path))?,
-            "life" => write!(answer, "{}", forest.life(path))?,
-            "maker" => write!(answer, "{:?}", forest.maker(path))?,
-            "next" => write!(answer, "{}", forest.next(path))?,
-            "dependencies" => write!(answer, "{:?}", forest.dependencies(path)?.as_slice())?,
-            _ => return Err(RowFault::Unread),
+    fn ask_of(&self, row: &Row<'_>, answer: &mut String) -> Result<(), RowFault> {
+        let action = name(self.alloc, row.given)?;
+        let path = action.components();
+        match row.call {
+            "is" => self.tests(path, answer),
+            "dependencies" => Ok(self.dependencies(path, answer)?),
+            call => tell(&self.forest, call, path, answer),
         }
-        Ok(())
+    }
+
+    fn dependencies(&self, path: &[u32], answer: &mut String) -> Result<(), AllocError> {
+        let entries = self.forest.dependencies(path)?;
+        write!(answer, "{:?}", entries.as_slice())
     }
 
     /// Which tests the action passes.
@@ -89,28 +92,36 @@ impl Growing {
     /// `MAKER HOME LIFE NAME..`, and `-` for MAKER where nobody makes them.
     fn begin(&mut self, mut words: Words<'_>) -> Result<(), RowFault> {
         let maker = words.word()?;
-        let home = small_number(words.word()?)?;
+        let home = next_small_number(&mut words)?;
         let life = words.number()?;
         let names = names(self.alloc, words)?;
-        let maker = match maker {
-            "-" => None,
-            maker => Some(name(self.alloc, maker)?),
-        };
+        let maker = maker_of(self.alloc, maker)?;
         Ok(begin(&mut self.forest, &names, maker.as_ref(), home, life)?)
     }
 
     fn close(&mut self, mut words: Words<'_>) -> Result<(), RowFault> {
-        let top = name(self.alloc, words.word()?)?;
-        self.forest.close(&top, words.number()?);
+        let top = next_name(self.alloc, &mut words)?;
+        let stamp = words.number()?;
+        self.forest.close(&top, stamp);
+        Ok(())
+    }
+
+    fn decide(&mut self, given: &str) -> Result<(), RowFault> {
+        let action = name(self.alloc, given)?;
+        self.forest.decide(&action);
+        Ok(())
+    }
+
+    fn abort(&mut self, given: &str) -> Result<(), RowFault> {
+        let action = name(self.alloc, given)?;
+        self.forest.abort(&action);
         Ok(())
     }
 
     fn commit(&mut self, mut words: Words<'_>) -> Result<(), RowFault> {
-        let action = name(self.alloc, words.word()?)?;
+        let action = next_name(self.alloc, &mut words)?;
         let stamp = words.number()?;
-        let plan = self.forest.plan_commit(&action)?;
-        self.forest.commit(plan, stamp);
-        Ok(())
+        Ok(commit(&mut self.forest, &action, stamp)?)
     }
 
     /// Goes on with a copy of the forest.
@@ -120,29 +131,69 @@ impl Growing {
     }
 
     fn dependency(&self, mut words: Words<'_>, answer: &mut String) -> Result<(), RowFault> {
-        let action = name(self.alloc, words.word()?)?;
-        let guardian = small_number(words.word()?)?;
+        let action = next_name(self.alloc, &mut words)?;
+        let guardian = next_small_number(&mut words)?;
         let least = self.forest.dependency(action.components(), guardian);
         Ok(write!(answer, "{least:?}")?)
     }
 
     fn new_dependencies(&self, mut words: Words<'_>, answer: &mut String) -> Result<(), RowFault> {
-        let action = name(self.alloc, words.word()?)?;
-        let home = small_number(words.word()?)?;
-        let entries = self
-            .forest
-            .new_dependencies(&action, home, words.number()?)?;
-        Ok(write!(answer, "{:?}", entries.as_slice())?)
+        let action = next_name(self.alloc, &mut words)?;
+        let home = next_small_number(&mut words)?;
+        let life = words.number()?;
+        Ok(write_new_dependencies(&self.forest, &action, home, life, answer)?)
     }
 
     /// The outcomes below an action of which one was not told who was told of the other names.
     fn outcomes(&self, mut words: Words<'_>, answer: &mut String) -> Result<(), RowFault> {
-        let action = name(self.alloc, words.word()?)?;
+        let action = next_name(self.alloc, &mut words)?;
         let told = Told {
             names: names(self.alloc, words)?,
         };
-        let outcomes = self.forest.outcomes_below(action.components(), &told)?;
-        Ok(write!(answer, "{:?}", outcomes.as_slice())?)
+        Ok(write_outcomes(&self.forest, &action, &told, answer)?)
+    }
+}
+
+/// What one test of a forest tells of an action.
+fn tell(forest: &Forest, call: &str, path: &[u32], answer: &mut String) -> Result<(), RowFault> {
+    let told = match call {
+        "status" => write!(answer, "{:?}", forest.status(path)),
+        "closing" => write!(answer, "{:?}", forest.closing(path)),
+        "home" => write!(answer, "{}", forest.home(path)),
+        "life" => write!(answer, "{}", forest.life(path)),
+        "maker" => write!(answer, "{:?}", forest.maker(path)),
+        "next" => write!(answer, "{}", forest.next(path)),
+        _ => return Err(RowFault::Unread),
+    };
+    Ok(told?)
+}
+
+fn write_new_dependencies(
+    forest: &Forest,
+    action: &Name,
+    home: u32,
+    life: u64,
+    answer: &mut String,
+) -> Result<(), AllocError> {
+    let entries = forest.new_dependencies(action, home, life)?;
+    write!(answer, "{:?}", entries.as_slice())
+}
+
+fn write_outcomes(
+    forest: &Forest,
+    action: &Name,
+    told: &Told,
+    answer: &mut String,
+) -> Result<(), AllocError> {
+    let outcomes = forest.outcomes_below(action.components(), told)?;
+    write!(answer, "{:?}", outcomes.as_slice())
+}
+
+/// Who makes the actions; nobody where `-` stands.
+fn maker_of(alloc: Global, maker: &str) -> Result<Option<Name>, RowFault> {
+    match maker {
+        "-" => Ok(None),
+        maker => Ok(Some(name(alloc, maker)?)),
     }
 }
 
@@ -156,6 +207,13 @@ fn begin(
 ) -> Result<(), AllocError> {
     let plan = forest.plan_begin(names, maker, home, life)?;
     forest.begin(plan);
+    Ok(())
+}
+
+/// Commits the action.
+fn commit(forest: &mut Forest, action: &Name, stamp: u64) -> Result<(), AllocError> {
+    let plan = forest.plan_commit(action)?;
+    forest.commit(plan, stamp);
     Ok(())
 }
 

@@ -1,9 +1,17 @@
 //! Calls of the lists of guardians.
-use crate::reading::{GUARDIANS, deps, name, opening, small_number};
+use crate::reading::{GUARDIANS, deps, name, next_name, next_small_number, opening, small_number};
 use orphans::{Lists, News};
 use rows::{Row, RowFault, Words};
 use run_model::{Name, Names, Opening};
 use std::alloc::{AllocError, Global};
+
+/// What one guardian has not sent another.
+#[derive(Drop)]
+struct Unsent {
+    life: u64,
+    aborts: Names,
+    counts: Vec<(u32, u64)>,
+}
 
 /// The lists of each guardian, and their opening.
 #[derive(Drop)]
@@ -39,7 +47,7 @@ impl Knowing {
     fn ask(&self, row: &Row<'_>, answer: &mut String) -> Result<(), RowFault> {
         match row.call {
             "unsent" => self.unsent(row.words(), answer),
-            "crashes" => Ok(write!(answer, "{}", self.of(row.given)?.crashes())?),
+            "crashes" => self.crashes(row.given, answer),
             "known_crashes" => self.known_crashes(row.words(), answer),
             "knows_abort" => self.knows_abort(row.words(), answer),
             "is_orphan" => self.is_orphan(row.words(), answer),
@@ -64,21 +72,25 @@ impl Knowing {
 
     /// Sends one guardian what the other has not sent it, and says what that was.
     fn send(&mut self, mut words: Words<'_>, answer: &mut String) -> Result<(), RowFault> {
-        let alloc = self.alloc;
-        let (sender, receiver) = (words.word()?, words.word()?);
-        let (from, to) = (self.of(sender)?, self.of(receiver)?);
-        let life = from.crashes();
-        let aborts = from.unsent_aborts(to)?;
-        let counts = from.unsent_counts(to)?;
-        write!(answer, "{:?} {:?}", aborts.as_slice(), counts.as_slice())?;
+        let sender = words.word()?;
+        let receiver = words.word()?;
+        let unsent = self.unsent_of(sender, receiver)?;
+        write_unsent(&unsent, answer)?;
+        self.receive(small_number(sender)?, receiver, &unsent)
+    }
+
+    /// Has a guardian learn what the sender had not sent it.
+    fn receive(&mut self, sender: u32, receiver: &str, sent: &Unsent) -> Result<(), RowFault> {
         let news = News {
-            sender: Some(small_number(sender)?),
-            life,
-            aborts: &aborts,
-            counts: &counts,
+            sender: Some(sender),
+            life: sent.life,
+            aborts: &sent.aborts,
+            counts: &sent.counts,
             outcomes: &[],
         };
-        Ok(teach(alloc, self.of_mut(receiver)?, news)?)
+        let alloc = self.alloc;
+        let lists = self.of_mut(receiver)?;
+        Ok(teach(alloc, lists, news)?)
     }
 
     fn crash(&mut self, given: &str) -> Result<(), RowFault> {
@@ -99,30 +111,45 @@ impl Knowing {
     }
 
     fn unsent(&self, mut words: Words<'_>, answer: &mut String) -> Result<(), RowFault> {
-        let (from, to) = (self.of(words.word()?)?, self.of(words.word()?)?);
-        let aborts = from.unsent_aborts(to)?;
-        let counts = from.unsent_counts(to)?;
-        Ok(write!(answer, "{:?} {:?}", aborts.as_slice(), counts.as_slice())?)
+        let sender = words.word()?;
+        let unsent = self.unsent_of(sender, words.word()?)?;
+        Ok(write_unsent(&unsent, answer)?)
+    }
+
+    fn unsent_of(&self, sender: &str, receiver: &str) -> Result<Unsent, RowFault> {
+        let from = self.of(sender)?;
+        let to = self.of(receiver)?;
+        Ok(unsent_between(from, to)?)
+    }
+
+    fn crashes(&self, given: &str, answer: &mut String) -> Result<(), RowFault> {
+        let lists = self.of(given)?;
+        Ok(write!(answer, "{}", lists.crashes())?)
     }
 
     fn known_crashes(&self, mut words: Words<'_>, answer: &mut String) -> Result<(), RowFault> {
-        let lists = self.of(words.word()?)?;
-        let guardian = small_number(words.word()?)?;
+        let lists = self.next_of(&mut words)?;
+        let guardian = next_small_number(&mut words)?;
         Ok(write!(answer, "{}", lists.known_crashes(guardian))?)
     }
 
     fn knows_abort(&self, mut words: Words<'_>, answer: &mut String) -> Result<(), RowFault> {
-        let lists = self.of(words.word()?)?;
-        let action = name(self.alloc, words.word()?)?;
+        let lists = self.next_of(&mut words)?;
+        let action = next_name(self.alloc, &mut words)?;
         Ok(write!(answer, "{}", lists.knows_abort(action.components()))?)
     }
 
     fn is_orphan(&self, mut words: Words<'_>, answer: &mut String) -> Result<(), RowFault> {
-        let lists = self.of(words.word()?)?;
-        let action = name(self.alloc, words.word()?)?;
+        let lists = self.next_of(&mut words)?;
+        let action = next_name(self.alloc, &mut words)?;
         let depends = deps(self.alloc, words)?;
         let is_orphan = lists.is_known_orphan(&self.opening, &action, &depends);
         Ok(write!(answer, "{is_orphan}")?)
+    }
+
+    /// The lists of the guardian that the next word names.
+    fn next_of(&self, words: &mut Words<'_>) -> Result<&Lists, RowFault> {
+        self.of(words.word()?)
     }
 
     /// The lists of the guardian of this number.
@@ -144,16 +171,36 @@ fn place(guardian: &str) -> Result<usize, RowFault> {
 fn read_outcomes(alloc: Global, words: Words<'_>) -> Result<Vec<(Name, bool)>, RowFault> {
     let mut outcomes = Vec::new(alloc);
     for word in words.rest().split_whitespace() {
-        let (told, outcome) = word.split_once(':').ok_or(RowFault::Unread)?;
-        let committed = match outcome {
-            "committed" => true,
-            "aborted" => false,
-            _ => return Err(RowFault::Unread),
-        };
-        let outcome = (name(alloc, told)?, committed);
+        let outcome = read_outcome(alloc, word)?;
         outcomes.push(outcome).map_err(|_| RowFault::Memory)?;
     }
     Ok(outcomes)
+}
+
+/// An outcome `NAME:committed` or `NAME:aborted`.
+fn read_outcome(alloc: Global, word: &str) -> Result<(Name, bool), RowFault> {
+    let (told, outcome) = word.split_once(':').ok_or(RowFault::Unread)?;
+    let committed = match outcome {
+        "committed" => true,
+        "aborted" => false,
+        _ => return Err(RowFault::Unread),
+    };
+    Ok((name(alloc, told)?, committed))
+}
+
+fn unsent_between(from: &Lists, to: &Lists) -> Result<Unsent, AllocError> {
+    let aborts = from.unsent_aborts(to)?;
+    let counts = from.unsent_counts(to)?;
+    Ok(Unsent {
+        life: from.crashes(),
+        aborts,
+        counts,
+    })
+}
+
+fn write_unsent(unsent: &Unsent, answer: &mut String) -> Result<(), AllocError> {
+    let (aborts, counts) = (unsent.aborts.as_slice(), unsent.counts.as_slice());
+    write!(answer, "{aborts:?} {counts:?}")
 }
 
 /// Has the lists learn news.

@@ -1,5 +1,5 @@
 //! Calls of a ballot.
-use crate::reading::{deps, opening, small_number};
+use crate::reading::{deps, next_small_number, opening, small_number};
 use rows::{Row, RowFault, Words};
 use run_model::Opening;
 use std::alloc::{AllocError, Global};
@@ -33,12 +33,8 @@ impl Voting {
     }
 
     fn vote(&mut self, mut words: Words<'_>) -> Result<(), RowFault> {
-        let guardian = small_number(words.word()?)?;
-        let yes = match words.word()? {
-            "yes" => true,
-            "no" => false,
-            _ => return Err(RowFault::Unread),
-        };
+        let guardian = next_small_number(&mut words)?;
+        let yes = is_yes(words.word()?)?;
         Ok(cast(&mut self.ballot, guardian, yes)?)
     }
 
@@ -57,6 +53,14 @@ impl Voting {
     fn put_copy(&mut self) -> Result<(), AllocError> {
         self.ballot = self.ballot.copy()?;
         Ok(())
+    }
+}
+
+fn is_yes(vote: &str) -> Result<bool, RowFault> {
+    match vote {
+        "yes" => Ok(true),
+        "no" => Ok(false),
+        _ => Err(RowFault::Unread),
     }
 }
 

@@ -25,6 +25,16 @@ pub(crate) fn small_number(text: &str) -> Result<u32, RowFault> {
     text.parse().map_err(|_| RowFault::Unread)
 }
 
+/// The next word as a number.
+pub(crate) fn next_small_number(words: &mut Words<'_>) -> Result<u32, RowFault> {
+    small_number(words.word()?)
+}
+
+/// The next word as a name.
+pub(crate) fn next_name(alloc: Global, words: &mut Words<'_>) -> Result<Name, RowFault> {
+    name(alloc, words.word()?)
+}
+
 pub(crate) fn name(alloc: Global, text: &str) -> Result<Name, RowFault> {
     Name::parse(alloc, text).map_err(unread)
 }
@@ -40,11 +50,17 @@ fn unread(fault: NameFault) -> RowFault {
 pub(crate) fn deps(alloc: Global, words: Words<'_>) -> Result<Deps, RowFault> {
     let mut deps = Deps::new(alloc);
     for word in words.rest().split_whitespace() {
-        let (guardian, incarnation) = word.split_once(':').ok_or(RowFault::Unread)?;
-        let least = incarnation.parse().map_err(|_| RowFault::Unread)?;
-        deps.lower(small_number(guardian)?, least)?;
+        let (guardian, least) = dependency(word)?;
+        deps.lower(guardian, least)?;
     }
     Ok(deps)
+}
+
+/// A word `GUARDIAN:INCARNATION`.
+fn dependency(word: &str) -> Result<(u32, u64), RowFault> {
+    let (guardian, incarnation) = word.split_once(':').ok_or(RowFault::Unread)?;
+    let least = incarnation.parse().map_err(|_| RowFault::Unread)?;
+    Ok((small_number(guardian)?, least))
 }
 
 /// The names that are left in a row.

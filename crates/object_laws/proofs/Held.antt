@@ -75,7 +75,7 @@ any_append p (x ∷ xs) ys = ap (λ t. p x || t) (any_append p xs ys) ∙ of (p 
     of true u v = refl
     of false u v = refl
 
-or_turned : (x y : Bool) → (x || y) ≡ (y || x)
+pub or_turned : (x y : Bool) → (x || y) ≡ (y || x)
 or_turned true true = refl
 or_turned true false = refl
 or_turned false true = refl

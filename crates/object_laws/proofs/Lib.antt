@@ -9,3 +9,4 @@ pub mod Passing
 pub mod Topmost
 pub mod Operated
 pub mod Restored
+pub mod Concerned

@@ -34,8 +34,8 @@ use Rattle.local_laws.specs.Tops.{TextsAddNothing, adds_text, top_owner, with_de
 use Rattle.local_laws.proofs.Rising.{Rising, rising_is}
 use Rattle.local_laws.proofs.Totals.{top_with_deltas}
 use Rattle.object_model.specs.Deltas.{delta_at, delta_sum}
-use Rattle.object_model.specs.Objects.{Seen, deltas_beside, is_beside, last_owner, with_sum}
-use Rattle.object_model.specs.Stacks.{RiseByAncestry, last_version, owners_of, top_of, version_at}
+use Rattle.object_model.specs.Objects.{Seen, deltas_beside, is_beside, with_sum}
+use Rattle.object_model.specs.Stacks.{RiseByAncestry, last_owner, last_version, owners_of, top_of, version_at}
 use Rattle.object_laws.specs.Laws.{ReadsShown, WritesShown, left_by}
 use Rattle.object_laws.specs.Shown.{Shows, only_if}
 use Rattle.object_laws.proofs.Choosing.{delta_known}

@@ -1,5 +1,5 @@
 -- The laws of objects: what shows how an object stands shows it still after each call, and answers by it what the definitions answer.
-use Rattle.std.specs.Prelude.{◌≡◌, Bool, true, not, ◌&&◌, IsTrue, IsFalse, List, [], ◌∷◌, Option, Some, None}
+use Rattle.std.specs.Prelude.{◌≡◌, Bool, true, false, not, ◌&&◌, ◌||◌, IsTrue, IsFalse, List, [], ◌∷◌, Option, Some, None}
 use Rattle.std.specs.List.{AllByRecursion}
 use Rattle.std.specs.List.Sorted.{IsStrictlySortedBy}
 use Rattle.action_names.specs.Names.{Name, has_name, is_ancestor, is_top, name_cmp, parent_of, same_name}
@@ -7,13 +7,14 @@ use Rattle.values.specs.declared.content.Content.{Content}
 use Rattle.atomic_types.specs.declared.part.Part.{Part}
 use Rattle.atomic_types.specs.Objects.{knows, reply_of}
 use Rattle.atomic_types.specs.Operations.{Op, class_of, is_add, is_read}
+use Rattle.run_model.specs.Answers.{is_concerned_by}
 use Rattle.run_model.specs.Keeping.{Performed, Standing, blockers_by}
 use Rattle.run_model.specs.Replay.{left_of}
 use Rattle.run_model.specs.Telling.{holder_by}
 use Rattle.run_model.specs.Versions.{holder_at, part_held, under}
 use Rattle.local_laws.specs.Reopened.{MayStand}
 use Rattle.object_model.specs.Stacks.{AreAbove, HasNoneBetween, IsNextHolder, is_on_top, owners_of, top_of}
-use Rattle.object_model.specs.Locks.{is_in_the_way}
+use Rattle.object_model.specs.Locks.{Locks, has_below, is_in_the_way}
 use Rattle.object_model.specs.Objects.{IsCrashed, IsOperated, IsPassed, IsRestored, IsUndone, Seen, owns, part_of, total_of, untouched}
 use Rattle.object_laws.specs.Shown.{PartFits, Shows}
 use Rattle.object_laws.specs.Changes.{crashed, given, told_too, undone, with_operation}
@@ -116,3 +117,13 @@ abbrev pub NoneBetween : Type 0
 NoneBetween = (c : Content) (s : Standing) (object : Seen) (a : Name) (to : Option Name) → Shows c s object
     → IsTrue (is_ancestor a a) → to ≡ holder_by s.told (parent_of a)
     → IsNextHolder a to × HasNoneBetween object.stack.versions a to
+
+-- a telling that an action committed concerns what it holds itself, and one that it aborted what it or a descendant holds
+abbrev pub is_concerned : Bool → Locks → Name → Bool
+is_concerned true held a = has_name held.readers a || (has_name held.writers a || has_name held.adders a)
+is_concerned false held a = has_below held.readers a || (has_below held.writers a || has_below held.adders a)
+
+-- Whether a telling of an outcome changes the object is said by the locks.
+abbrev pub ConcernedShown : Type 0
+ConcernedShown = (c : Content) (s : Standing) (object : Seen) (a : Name) (committed : Bool) → Shows c s object → IsFalse (s.told a)
+    → is_concerned_by committed s a ≡ is_concerned committed object.locks a

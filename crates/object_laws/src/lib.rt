@@ -4,7 +4,7 @@
 //! alone.
 #![tactic(auto)]
 
-ghost use Rattle.object_laws.specs.Laws.{AddersOnTop, BlockersShown, CrashedShows, KnowsShown, NoneBetween, OperatedShows, OwnersAbove, PartsShown, PassedShows, ReadsShown, RestoredShows, UndoneShows, UntouchedShows, WritesShown};
+ghost use Rattle.object_laws.specs.Laws.{AddersOnTop, BlockersShown, ConcernedShown, CrashedShows, KnowsShown, NoneBetween, OperatedShows, OwnersAbove, PartsShown, PassedShows, ReadsShown, RestoredShows, UndoneShows, UntouchedShows, WritesShown};
 
 /// An object that nobody touched shows that nothing is kept.
 pub fn untouched_shows()
@@ -44,6 +44,11 @@ pub fn parts_shown()
 /// For whom an operation waits is said by the locks.
 pub fn blockers_shown()
     ensures { BlockersShown }
+{}
+
+/// Whether a telling of an outcome changes the object is said by the locks.
+pub fn concerned_shown()
+    ensures { ConcernedShown }
 {}
 
 /// The reply of a read is that of the version on top, with what is added beside it.

@@ -12,7 +12,7 @@ use Rattle.atomic_types.specs.declared.part.Part.TheVariants.{Value, Delta}
 use Rattle.atomic_types.specs.Counters.{sum_of}
 use Rattle.atomic_types.specs.Objects.{content_after}
 use Rattle.atomic_types.specs.Operations.{Op, class_of}
-use Rattle.object_model.specs.Stacks.{RisesByAncestry, Stack, top_of, version_at, written, inherited, added, dropped_below}
+use Rattle.object_model.specs.Stacks.{RisesByAncestry, Stack, top_of, last_owner, version_at, written, inherited, added, dropped_below}
 use Rattle.object_model.specs.Deltas.{delta_at, delta_sum, more_at, with_more, HasDelta, HasNoneBelow}
 use Rattle.object_model.specs.Locks as locks
 use Rattle.object_model.specs.Locks.{Locks}
@@ -131,12 +131,6 @@ part_in None None = None
 
 abbrev pub part_of : Seen → Name → Option Part
 part_of object a = part_in (version_at object.stack.versions a) (delta_at object.deltas a)
-
--- the owner of the version on top, if that is not the base
-abbrev pub last_owner : List (Name × Content) → Option Name
-last_owner [] = None
-last_owner (v ∷ []) = Some v.0
-last_owner (v ∷ w ∷ vs) = last_owner (w ∷ vs)
 
 -- whoever adds this is no ancestor of the owner: what an ancestor added is not seen under the owner's version
 abbrev pub is_beside : Option Name → Name → Bool

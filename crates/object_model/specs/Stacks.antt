@@ -18,6 +18,12 @@ module _ {T : Type 0} where
   abbrev pub top_of : Stack T → T
   top_of s = last_version s.base s.versions
 
+  -- the owner of the version on top, if that is not the base
+  abbrev pub last_owner : List (Name × T) → Option Name
+  last_owner [] = None
+  last_owner (v ∷ []) = Some v.0
+  last_owner (v ∷ w ∷ vs) = last_owner (w ∷ vs)
+
   -- what an owner made of the base
   abbrev pub version_at : List (Name × T) → Name → Option T
   version_at [] a = None

@@ -1,5 +1,5 @@
 //! Calls of names, lists of names, and dependencies.
-use crate::reading::small_number;
+use crate::reading::{next_small_number, small_number};
 use action_names::{Deps, Name, NameFault, Names};
 use rows::{Row, RowFault, Words};
 use std::alloc::{AllocError, Global};
@@ -26,12 +26,21 @@ impl NamesAndDeps {
         match row.call {
             "push" => self.push(row.given, answer),
             "contains" => self.contains(row.given, answer),
-            "names" => Ok(write!(answer, "{:?}", self.names.as_slice())?),
-            "names_len" => Ok(write!(answer, "{}", self.names.len())?),
-            "no_names" => Ok(write!(answer, "{}", self.names.is_empty())?),
-            "copy_names" => Ok(self.copy_names(answer)?),
-            "rebuild_names" => Ok(self.rebuild_names(answer)?),
+            "names" | "names_len" | "no_names" | "copy_names" | "rebuild_names" => {
+                Ok(self.tell_names(row.call, answer)?)
+            }
             _ => self.answer_deps(row, answer),
+        }
+    }
+
+    /// Answers the calls that ask the list of names.
+    fn tell_names(&self, call: &str, answer: &mut String) -> Result<(), AllocError> {
+        match call {
+            "names" => write!(answer, "{:?}", self.names.as_slice()),
+            "names_len" => write!(answer, "{}", self.names.len()),
+            "no_names" => write!(answer, "{}", self.names.is_empty()),
+            "copy_names" => self.copy_names(answer),
+            _ => self.rebuild_names(answer),
         }
     }
 
@@ -144,6 +153,11 @@ fn read_name(alloc: Global, text: &str) -> Result<Name, RowFault> {
     Name::parse(alloc, text).map_err(unread)
 }
 
+/// The next word as a name.
+fn next_name(alloc: Global, words: &mut Words<'_>) -> Result<Name, RowFault> {
+    read_name(alloc, words.word()?)
+}
+
 /// Why an argument that has to be a name is none.
 fn unread(fault: NameFault) -> RowFault {
     match fault {
@@ -162,30 +176,40 @@ fn write_name(name: Result<Name, NameFault>, answer: &mut String) -> Result<(), 
 }
 
 fn child(alloc: Global, mut words: Words<'_>, answer: &mut String) -> Result<(), RowFault> {
-    let name = read_name(alloc, words.word()?)?;
-    let number = small_number(words.word()?)?;
+    let name = next_name(alloc, &mut words)?;
+    let number = next_small_number(&mut words)?;
     write_name(name.child(number), answer)
 }
 
 fn meet(alloc: Global, mut words: Words<'_>, answer: &mut String) -> Result<(), RowFault> {
-    let name = read_name(alloc, words.word()?)?;
-    let other = read_name(alloc, words.word()?)?;
+    let name = next_name(alloc, &mut words)?;
+    let other = next_name(alloc, &mut words)?;
     Ok(write!(answer, "{}", name.meet(&other))?)
 }
 
 fn is_ancestor(alloc: Global, mut words: Words<'_>, answer: &mut String) -> Result<(), RowFault> {
-    let name = read_name(alloc, words.word()?)?;
-    let of = read_name(alloc, words.word()?)?;
+    let name = next_name(alloc, &mut words)?;
+    let of = next_name(alloc, &mut words)?;
     Ok(write!(answer, "{}", name.is_ancestor(&of))?)
 }
 
 /// How the first name stands to each of the others.
 fn compare(alloc: Global, mut words: Words<'_>, answer: &mut String) -> Result<(), RowFault> {
-    let name = read_name(alloc, words.word()?)?;
+    let name = next_name(alloc, &mut words)?;
     for text in words.rest().split(' ') {
-        write_sign(&name, read_name(alloc, text)?, answer)?;
+        write_sign_of(alloc, &name, text, answer)?;
     }
     Ok(())
+}
+
+fn write_sign_of(
+    alloc: Global,
+    name: &Name,
+    text: &str,
+    answer: &mut String,
+) -> Result<(), RowFault> {
+    let other = read_name(alloc, text)?;
+    Ok(write_sign(name, other, answer)?)
 }
 
 /// Writes how two names stand to one another, where their order and their equality agree.

@@ -1,5 +1,5 @@
 //! Operations on an object.
-use crate::reading::{identifier, int, spelled_value, value_unread};
+use crate::reading::{int, next_identifier, next_value, spelled_value, value_unread};
 use atomic_types::{Arguments, AtomicType, Class, Form, Op, OpName, Part, Reply, object_laws};
 use rows::{Row, RowFault, Words};
 use std::alloc::{AllocError, Global};
@@ -91,16 +91,16 @@ fn read_arguments(
 ) -> Result<Arguments<Identifier, i64, Value>, RowFault> {
     Ok(match form {
         Form::Nothing => Arguments::Nothing,
-        Form::Word => Arguments::Word(identifier(alloc, words.word()?)?),
+        Form::Word => Arguments::Word(next_identifier(alloc, &mut words)?),
         Form::Index => Arguments::Index(int(&mut words)?),
-        Form::Value => Arguments::Value(spelled_value(alloc, words.word()?)?),
+        Form::Value => Arguments::Value(next_value(alloc, &mut words)?),
         Form::WordValue => {
-            let word = identifier(alloc, words.word()?)?;
-            Arguments::WordValue(word, spelled_value(alloc, words.word()?)?)
+            let word = next_identifier(alloc, &mut words)?;
+            Arguments::WordValue(word, next_value(alloc, &mut words)?)
         }
         Form::IndexValue => {
             let index = int(&mut words)?;
-            Arguments::IndexValue(index, spelled_value(alloc, words.word()?)?)
+            Arguments::IndexValue(index, next_value(alloc, &mut words)?)
         }
     })
 }
@@ -199,14 +199,43 @@ fn conflict(mut words: Words<'_>, answer: &mut String) -> Result<(), RowFault> {
 
 /// Writes what an object holds under the copy of a part, `value CONTENT` or `delta AMOUNT`, that held the content behind it before.
 fn laid(alloc: Global, mut words: Words<'_>, answer: &mut String) -> Result<(), RowFault> {
-    let part = match words.word()? {
-        "value" => Part::Value(read_content(alloc, words.word()?)?),
-        "delta" => Part::Delta(int(&mut words)?),
-        _ => return Err(RowFault::Unread),
-    };
-    let before = read_content(alloc, words.rest())?;
-    let content = part.copy()?.laid_on(&before)?;
-    Ok(answer.push_str(content.text(alloc)?.as_str())?)
+    let part = read_part(alloc, &mut words)?;
+    write_laid(alloc, &part, words.rest(), answer)
+}
+
+fn read_part(alloc: Global, words: &mut Words<'_>) -> Result<Part, RowFault> {
+    match words.word()? {
+        "value" => read_value_part(alloc, words),
+        "delta" => Ok(Part::Delta(int(words)?)),
+        _ => Err(RowFault::Unread),
+    }
+}
+
+fn read_value_part(alloc: Global, words: &mut Words<'_>) -> Result<Part, RowFault> {
+    let spelling = words.word()?;
+    Ok(Part::Value(read_content(alloc, spelling)?))
+}
+
+/// Writes what is held under a copy of the part that held the content of this spelling.
+fn write_laid(
+    alloc: Global,
+    part: &Part,
+    before: &str,
+    answer: &mut String,
+) -> Result<(), RowFault> {
+    let before = read_content(alloc, before)?;
+    let content = copy_laid_on(part, &before)?;
+    Ok(write_text(alloc, &content, answer)?)
+}
+
+fn copy_laid_on(part: &Part, content: &Content) -> Result<Content, AllocError> {
+    let copy = part.copy()?;
+    copy.laid_on(content)
+}
+
+fn write_text(alloc: Global, content: &Content, answer: &mut String) -> Result<(), AllocError> {
+    let text = content.text(alloc)?;
+    answer.push_str(text.as_str())
 }
 
 fn read_class(name: &str) -> Result<Class, RowFault> {

@@ -1,5 +1,5 @@
 //! Calls of a store in memory, and of one of which a call fails.
-use crate::reading::{small_number, value_unread};
+use crate::reading::{next_small_number, small_number, value_unread};
 use rows::{Row, RowFault, Words};
 use stable_store::{FailOnce, GREATEST_COUNT, Kept, PlainStable, Stable, StoreFault};
 use std::alloc::{AllocError, Global};
@@ -108,8 +108,8 @@ fn prepare<S: Stable>(
     store: &mut S,
     mut words: Words<'_>,
 ) -> Result<Result<(), StoreFault>, RowFault> {
-    let top = small_number(words.word()?)?;
-    let home = small_number(words.word()?)?;
+    let top = next_small_number(&mut words)?;
+    let home = next_small_number(&mut words)?;
     let values = read_contents(alloc, words.rest())?;
     Ok(store.prepare(alloc, top, home, values))
 }
@@ -199,13 +199,19 @@ fn write_contents(
 fn fail(alloc: Global, mut words: Words<'_>, answer: &mut String) -> Result<(), RowFault> {
     let mut store = FailOnce::new(PlainStable::new(alloc), words.number()?);
     for name in words.rest().split(' ') {
-        match call_failing(alloc, &mut store, name)? {
-            Ok(()) => answer.push_str("ok ")?,
-            Err(StoreFault::Memory) => return Err(RowFault::Memory),
-            Err(fault) => write!(answer, "{fault:?} ")?,
-        }
+        let came_out = call_failing(alloc, &mut store, name)?;
+        write_outcome(came_out, answer)?;
     }
     Ok(write!(answer, "{}", store.failures())?)
+}
+
+/// Writes how a call came out.
+fn write_outcome(came_out: Result<(), StoreFault>, answer: &mut String) -> Result<(), RowFault> {
+    match came_out {
+        Ok(()) => Ok(answer.push_str("ok ")?),
+        Err(StoreFault::Memory) => Err(RowFault::Memory),
+        Err(fault) => Ok(write!(answer, "{fault:?} ")?),
+    }
 }
 
 /// Makes the call of this name, at the top action 7.

@@ -8,12 +8,30 @@ pub(crate) fn small_number(text: &str) -> Result<u32, RowFault> {
     text.parse().map_err(|_| RowFault::Unread)
 }
 
+/// The next word as such a number.
+pub(crate) fn next_small_number(words: &mut Words<'_>) -> Result<u32, RowFault> {
+    small_number(words.word()?)
+}
+
 pub(crate) fn int(words: &mut Words<'_>) -> Result<i64, RowFault> {
     words.word()?.parse().map_err(|_| RowFault::Unread)
 }
 
 pub(crate) fn identifier(alloc: Global, text: &str) -> Result<Identifier, RowFault> {
     Identifier::parse(alloc, text).map_err(value_unread)
+}
+
+/// The next word as an identifier.
+pub(crate) fn next_identifier(
+    alloc: Global,
+    words: &mut Words<'_>,
+) -> Result<Identifier, RowFault> {
+    identifier(alloc, words.word()?)
+}
+
+/// The next word as a value by its one spelling.
+pub(crate) fn next_value(alloc: Global, words: &mut Words<'_>) -> Result<Value, RowFault> {
+    spelled_value(alloc, words.word()?)
 }
 
 /// A value by its one spelling.

@@ -1,8 +1,8 @@
 //! Calls of an array.
 use super::write_value;
-use crate::reading::{int, small_number};
+use crate::reading::{int, next_small_number};
 use rows::{Row, RowFault, Words};
-use std::alloc::Global;
+use std::alloc::{AllocError, Global};
 use values::{Array, GREATEST_INDEX, Kind, LEAST_INDEX, MAX_ITEMS, Value};
 
 pub(crate) fn answer(
@@ -12,11 +12,6 @@ pub(crate) fn answer(
     answer: &mut String,
 ) -> Result<(), RowFault> {
     match row.call {
-        "low" => Ok(write!(answer, "{}", array.low())?),
-        "high" => Ok(write!(answer, "{}", array.high())?),
-        "size" => Ok(write!(answer, "{}", array.size())?),
-        "has_room_above" => Ok(write!(answer, "{}", array.has_room_above())?),
-        "has_room_below" => Ok(write!(answer, "{}", array.has_room_below())?),
         "fetch" => fetch(alloc, array, row.words(), answer),
         "store" => store(alloc, array, row.words(), answer),
         "add_high" => add_high(array, row.words()),
@@ -24,8 +19,21 @@ pub(crate) fn answer(
         "remove_high" => remove_high(alloc, array, answer),
         "remove_low" => remove_low(alloc, array, answer),
         "set_bounds" => set_bounds(array, row.words()),
-        _ => Err(RowFault::Unread),
+        call => tell(array, call, answer),
     }
+}
+
+/// Answers the calls that ask for a bound.
+fn tell(array: &Array, call: &str, answer: &mut String) -> Result<(), RowFault> {
+    let told = match call {
+        "low" => write!(answer, "{}", array.low()),
+        "high" => write!(answer, "{}", array.high()),
+        "size" => write!(answer, "{}", array.size()),
+        "has_room_above" => write!(answer, "{}", array.has_room_above()),
+        "has_room_below" => write!(answer, "{}", array.has_room_below()),
+        _ => return Err(RowFault::Unread),
+    };
+    Ok(told?)
 }
 
 fn fetch(
@@ -47,10 +55,16 @@ fn store(
 ) -> Result<(), RowFault> {
     let index = int(&mut words)?;
     let number = int(&mut words)?;
-    let before = store_int(&mut array.copy()?, index, number);
+    let before = stored_in_copy(array, index, number)?;
     write_value(alloc, before.as_ref(), answer)?;
     drop(store_int(array, index, number));
     Ok(())
+}
+
+/// What stood at the index of a copy into which the int was put.
+fn stored_in_copy(array: &Array, index: i64, number: i64) -> Result<Option<Value>, AllocError> {
+    let mut copy = array.copy()?;
+    Ok(store_int(&mut copy, index, number))
 }
 
 /// Puts an int at an index, where it belongs to the array.
@@ -96,7 +110,7 @@ fn remove_low(alloc: Global, array: &mut Array, answer: &mut String) -> Result<(
 /// Gives the array a low index and a size, where both are within the limits.
 fn set_bounds(array: &mut Array, mut words: Words<'_>) -> Result<(), RowFault> {
     let low = int(&mut words)?;
-    let size = small_number(words.word()?)? as usize;
+    let size = next_small_number(&mut words)? as usize;
     if size > MAX_ITEMS || low < LEAST_INDEX || low > GREATEST_INDEX - size as i64 + 1 {
         return Err(RowFault::Unread);
     }

@@ -43,12 +43,15 @@ fn set(
 /// Writes copies of the fields.
 fn write_fields(fields: &[Field], answer: &mut String) -> Result<(), AllocError> {
     for field in fields {
-        let copy = field.copy()?;
-        write!(answer, "{}=", copy.name)?;
-        copy.value.write_to(answer)?;
-        answer.push(';')?;
+        write_field(&field.copy()?, answer)?;
     }
     Ok(())
+}
+
+fn write_field(field: &Field, answer: &mut String) -> Result<(), AllocError> {
+    write!(answer, "{}=", field.name)?;
+    field.value.write_to(answer)?;
+    answer.push(';')
 }
 
 /// Takes the record apart, and writes how many fields it had and whether the first equals its copy.

@@ -1,5 +1,5 @@
 //! Calls of identifiers, texts and values.
-use crate::reading::{identifier, spelled_value};
+use crate::reading::{identifier, next_identifier, next_value, spelled_value};
 use rows::{Row, RowFault, Words};
 use serde_json::Value as Json;
 use std::alloc::{AllocError, Global};
@@ -54,8 +54,8 @@ fn identifier_order(
     mut words: Words<'_>,
     answer: &mut String,
 ) -> Result<(), RowFault> {
-    let name = identifier(alloc, words.word()?)?;
-    let other = identifier(alloc, words.word()?)?;
+    let name = next_identifier(alloc, &mut words)?;
+    let other = next_identifier(alloc, &mut words)?;
     Ok(answer.push(match (name.cmp(&other), name == other) {
         (Ordering::Less, false) => '<',
         (Ordering::Equal, true) => '=',
@@ -132,8 +132,8 @@ fn write_copy(alloc: Global, value: Value, answer: &mut String) -> Result<(), Ro
 }
 
 fn equal(alloc: Global, mut words: Words<'_>, answer: &mut String) -> Result<(), RowFault> {
-    let value = spelled_value(alloc, words.word()?)?;
-    let other = spelled_value(alloc, words.word()?)?;
+    let value = next_value(alloc, &mut words)?;
+    let other = next_value(alloc, &mut words)?;
     Ok(write!(answer, "{}", value == other)?)
 }
 
@@ -141,7 +141,7 @@ fn equal(alloc: Global, mut words: Words<'_>, answer: &mut String) -> Result<(),
 fn write_both(alloc: Global, mut words: Words<'_>, answer: &mut String) -> Result<(), RowFault> {
     answer.push('=')?;
     for _ in 0..2 {
-        let value = spelled_value(alloc, words.word()?)?;
+        let value = next_value(alloc, &mut words)?;
         write_behind(alloc, &value, answer)?;
     }
     Ok(())

@@ -1,0 +1,5 @@
+pub mod Rooms
+pub mod Passing
+pub mod Crashing
+pub mod Granting
+pub mod Giving

@@ -1,0 +1,114 @@
+ghost use Rattle.std.specs.Prelude.{◌≡◌, ◌||◌, [], Bool, IsFalse, IfOk, OnOk, OnErr};
+ghost use Rattle.action_names.specs.Names.{Name, same_name};
+ghost use Rattle.values.specs.declared.content.Content.{Content};
+ghost use Rattle.atomic_types.specs.Objects.{knows};
+ghost use Rattle.run_model.specs.Answers.{is_concerned_by};
+ghost use Rattle.run_model.specs.Keeping.{Standing};
+ghost use Rattle.run_model.specs.Versions.{base_by, part_held};
+ghost use Rattle.object_model.specs.Objects.{owns, untouched};
+ghost use Rattle.object_laws.specs.Shown.{Shows};
+ghost use Rattle.object_laws.specs.Changes.{given};
+ghost use Rattle.object_laws.specs.Laws.{is_concerned};
+ghost use Rattle.atomic_object.specs.Kept.{seen, has_room, KeepsRoom};
+
+use action_names::Name;
+use atomic_types::{Class, Op, Part};
+use deltas::Deltas;
+use moss_locks::LockTable;
+use std::alloc::{AllocError, Global};
+use std::marker::Model;
+use values::Content;
+use version_stack::{Versions, View};
+
+/// One atomic object.
+#[derive(Drop)]
+pub struct Object {
+    pub(crate) versions: Versions<Content>,
+    pub(crate) deltas: Deltas,
+    pub(crate) locks: LockTable,
+}
+
+impl Model for Object {
+    ghost use Rattle.atomic_object.specs.Kept.{Kept};
+
+    ghost Value = { Kept };
+
+    ghost view = { λ a. record { stack = a.versions; deltas = a.deltas; locks = a.locks } };
+}
+
+impl Object {
+    /// An object of this content, of which nobody holds anything. This takes no memory.
+    pub fn new(alloc: Global, content: Content) -> Self
+        ensures untouched { seen result ≡ untouched content }
+        ensures shows { (told : Name → Bool) → Shows content (given told []) (seen result) }
+    {
+        Object {
+            versions: Versions::new(alloc, content),
+            deltas: Deltas::new(alloc),
+            locks: LockTable::new(alloc),
+        }
+    }
+
+    /// Whether the operation belongs to the object. This takes no memory.
+    pub fn knows(&self, op: &Op) -> bool
+        ensures base { result ≡ knows (seen self.now).stack.base op.now }
+        ensures shown { (c : Content) (s : Standing) → Shows c s (seen self.now) → result ≡ knows c op.now }
+    {
+        self.versions.base().knows(op)
+    }
+
+    /// What belongs to the base. This takes no memory.
+    pub fn base(&self) -> View<'_, Content>
+        ensures { (c : Content) (s : Standing) → Shows c s (seen self.now) → result ≡ base_by c s }
+    {
+        self.versions.base()
+    }
+
+    /// What the action holds, to be prepared: its version, put together, or else what it added. Fails only for want of memory.
+    pub fn part(&self, action: &Name) -> Result<Option<Part>, AllocError>
+        ensures { IfOk result (λ part. (c : Content) (s : Standing) → Shows c s (seen self.now) → part ≡ part_held c s action.now) }
+    {
+        if let Some(version) = self.versions.only(action) {
+            return Ok(Some(Part::Value(version.content()?)));
+        }
+        Ok(self.deltas.of(action).map(Part::Delta))
+    }
+
+    /// Makes room for this holder, so that it can be handed what a descendant held. What is held of the object stays, with memory and
+    /// without.
+    pub fn make_room(&mut self, holder: &Name) -> Result<(), AllocError>
+        ensures same { seen self.new ≡ seen self.old }
+        ensures room { OnOk result ((b : Name) → has_room self.new b ≡ (same_name holder.now b || has_room self.old b)) }
+        ensures err { OnErr result (KeepsRoom self.old self.new) }
+    {
+        self.deltas.make_room(holder)?;
+        self.locks.make_room(holder)
+    }
+
+    /// Whether a telling of the outcome changes the object: that the action committed, where it holds anything; that it aborted, where it or a
+    /// descendant does. This takes no memory.
+    pub fn is_concerned(&self, action: &Name, committed: bool) -> bool
+        ensures { (c : Content) (s : Standing) → Shows c s (seen self.now) → IsFalse (s.told action.now) → result ≡ is_concerned_by committed s action.now }
+    {
+        self.is_held(action, committed)
+    }
+
+    // Whether the action, or where it aborted a descendant, has a lock.
+    fn is_held(&self, action: &Name, committed: bool) -> bool
+        ensures { result ≡ is_concerned committed (seen self.now).locks action.now }
+    {
+        if !committed {
+            return self.locks.is_held_below(action);
+        }
+        self.locks.is_held_by(action, Class::Read)
+            || self.locks.is_held_by(action, Class::Write)
+            || self.locks.is_held_by(action, Class::Add)
+    }
+
+    // Whether the action has a version of its own.
+    pub(crate) fn owns(&self, action: &Name) -> bool
+        ensures { result ≡ owns (seen self.now) action.now }
+    {
+        self.versions.only(action).is_some()
+    }
+}

@@ -1,0 +1,4 @@
+pub mod Sorted
+pub mod Rows
+pub mod Looks
+pub mod Kept

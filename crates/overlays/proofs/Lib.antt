@@ -1,0 +1,11 @@
+pub mod ArrayJoins
+pub mod ArrayLaws
+pub mod ArrayNotes
+pub mod ContentJoins
+pub mod ContentNotes
+pub mod Fields
+pub mod Listed
+pub mod Places
+pub mod Stacked
+pub mod ArrayBounds
+pub mod ContentBelow

@@ -1,0 +1,6 @@
+pub mod Ends
+pub mod Handing
+pub mod Under
+pub mod Joining
+pub mod Owners
+pub mod Stacked
