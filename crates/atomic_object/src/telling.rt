@@ -1,4 +1,4 @@
-//! What the ends of actions and crashes make of an object. Nothing here takes memory.
+//! What the ends of actions and crashes make of an object. Nothing here fails.
 ghost use Rattle.std.specs.Prelude.{◌≡◌, ◌&&◌, not, None, IsTrue, if◌then◌else◌};
 ghost use Rattle.action_names.specs.Names.{Name, is_ancestor, is_top};
 ghost use Rattle.atomic_types.specs.Objects.{content_after};

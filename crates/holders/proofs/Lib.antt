@@ -2,3 +2,4 @@ pub mod Sorted
 pub mod Rows
 pub mod Looks
 pub mod Kept
+pub mod Below

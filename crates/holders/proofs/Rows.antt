@@ -2,6 +2,7 @@
 use Rattle.std.proofs.Common.{◌≡◌, Bool, true, false, not, ◌&&◌, ◌||◌, map, filter, List, [], ◌∷◌, ◌++◌, refl, sym, ap, ◌∙◌, subst}
 use Rattle.std.specs.Prelude.{Option, Some, None, is_some}
 use Rattle.std.proofs.lemmas.Bool.{true≢false, false≢true}
+use Rattle.std.proofs.lemmas.List.Kept.{IsStrictlySortedBy-filter}
 use Rattle.std.specs.List.{list_any}
 use Rattle.std.specs.List.Sorted.{IsStrictlySortedBy}
 use Rattle.std.specs.Ordering.{is_eq}
@@ -403,6 +404,11 @@ kept_held {V} s rs new p e q = ap held_in q ∙ held_kept p rs ∙ ap (λ (x : R
 pub kept_room : {V : Type 0} (s : Rows V) (rs new : List (Name × Option V)) (p : Name → Bool) → shown rs ≡ s → new ≡ filter (λ r. p r.0) rs
     → keys_of new ≡ filter p s.room
 kept_room {V} s rs new p e q = ap (λ (x : List (Name × Option V)). keys_of x) q ∙ room_kept p rs ∙ ap (λ (x : Rows V). filter p x.room) e
+
+pub kept_sorted : {X : Type 0} (rs new : List (Name × X)) (p : Name → Bool) → IsStrictlySortedBy name_cmp (keys_of rs) → new ≡ filter (λ r. p r.0) rs
+    → IsStrictlySortedBy name_cmp (keys_of new)
+kept_sorted {X} rs new p s q =
+    subst (IsStrictlySortedBy name_cmp) (sym (ap (λ (x : List (Name × X)). keys_of x) q ∙ room_kept p rs)) (IsStrictlySortedBy-filter name_cmp p (keys_of rs) s)
 
 -- a name that has a row
 pub there_again : {V : Type 0} (s : Rows V) (rs : List (Name × Option V)) (a b : Name) → shown rs ≡ s → is_some (lookup (is_at (name_cmp a)) rs) ≡ true

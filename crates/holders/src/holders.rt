@@ -1,5 +1,6 @@
 //! Holders in the order of their names, so that an action and its descendants stand next to each other.
-ghost use Rattle.std.specs.Prelude.{◌≡◌, ◌||◌, ◌&&◌, not, [], IsTrue, IfOk, OnOk, OnErr, filter, is_some};
+ghost use Rattle.std.specs.Prelude.{◌≡◌, ◌||◌, ◌&&◌, false, not, [], IsTrue, IfOk, OnOk, OnErr, IfSome, IsNone, filter, is_some};
+ghost use Rattle.std.specs.BTreeMap.{ContainsKey};
 ghost use Rattle.std.specs.List.{list_any};
 ghost use Rattle.std.specs.List.Sorted.{IsStrictlySortedBy};
 ghost use Rattle.std.specs.Option.{option_copied};
@@ -105,13 +106,14 @@ impl<V: Drop> Holders<V> {
         self.rows.remove(holder)?
     }
 
-    /// Drops what the action and its descendants hold, and their room. This takes no memory.
+    /// Drops what the action and its descendants hold, and their room. It looks at these and one more. It takes memory, for a moment, only for
+    /// names of more than 8 numbers; where there is none it does without, and looks at all.
     pub fn drop_below(&mut self, action: &Name)
         ensures held { self.new.held ≡ without_below self.old.held action.now }
         ensures room { self.new.room ≡ filter (λ b. not (is_ancestor action.now b)) self.old.room }
         ensures rising { IsStrictlySortedBy name_cmp (names_of self.new.held) }
     {
-        self.rows.retain(|holder, _| !action.is_ancestor(holder));
+        remove_below(&mut self.rows, action);
     }
 
     /// Drops what all but the survivors hold, and their room. This takes no memory.
@@ -136,16 +138,11 @@ impl<V: Drop> Holders<V> {
         false
     }
 
-    /// Whether the action or a descendant holds anything. This takes no memory.
+    /// Whether the action or a descendant holds anything. It looks at these and one more. This takes no memory.
     pub fn has_below(&self, action: &Name) -> bool
         ensures { result ≡ list_any (λ b. is_ancestor action.now b) (names_of self.now.held) }
     {
-        for (holder, row) in self.rows.iter() {
-            if is_below(holder, row, action) {
-                return true;
-            }
-        }
-        false
+        any_below(&self.rows, action)
     }
 
     /// All that hold, in the order of names. Fails only for want of memory.
@@ -207,9 +204,38 @@ fn is_foreign<V>(holder: &Name, row: &Option<V>, action: &Name) -> bool
     row.is_some() && !holder.is_ancestor(action)
 }
 
-// Whether the row holds something and its holder is the action or a descendant.
-fn is_below<V>(holder: &Name, row: &Option<V>, action: &Name) -> bool
-    ensures { result ≡ (is_some row.now && is_ancestor action.now holder.now) }
+// Whether a row of the action or of a descendant holds something. They stand next to each other, from the action on.
+fn any_below<V>(rows: &BTreeMap<Name, Option<V>>, action: &Name) -> bool
+    ensures { result ≡ list_any (λ r. is_some r.1 && is_ancestor action.now r.0) rows.now.entries }
 {
-    row.is_some() && action.is_ancestor(holder)
+    rows.range(action..)
+        .take_while(|(holder, _)| action.is_ancestor(holder))
+        .any(|(_, row)| row.is_some())
+}
+
+// The first name of the action and its descendants that has a row.
+fn first_below<'a, V>(rows: &'a BTreeMap<Name, Option<V>>, action: &Name) -> Option<&'a Name>
+    ensures none { IsNone result → list_any (λ r. is_ancestor action.now r.0) rows.now.entries ≡ false }
+    ensures below { IfSome result (λ first. IsTrue (is_ancestor action.now first.now)) }
+    ensures row { IfSome result (λ first. ContainsKey name_cmp rows.now first.now) }
+{
+    let (first, _) = rows.range(action..).next()?;
+    if action.is_ancestor(first) {
+        Some(first)
+    } else {
+        None
+    }
+}
+
+// Removes the rows of the action and its descendants. A name is copied, since the one in the map can't be used while its row is removed.
+fn remove_below<V: Drop>(rows: &mut BTreeMap<Name, Option<V>>, action: &Name)
+    ensures { rows.new.entries ≡ filter (λ r. not (is_ancestor action.now r.0)) rows.old.entries }
+{
+    while let Some(first) = first_below(rows, action) {
+        let Ok(name) = first.copy() else {
+            rows.retain(|holder, _| !action.is_ancestor(holder));
+            return;
+        };
+        rows.remove(&name);
+    }
 }

@@ -1,2 +1,6 @@
 pub mod Room
 pub mod Stacked
+pub mod Versions
+pub mod Upward
+pub mod Standings
+pub mod GivenBack

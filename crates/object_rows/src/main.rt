@@ -1,18 +1,23 @@
-//! Rows of calls of `holders`, `moss_locks`, `deltas` and `overlays`, a module a crate. The first word of a section's name is the crate that its rows call.
+//! Rows of calls of the crates of which objects are made, `holders`, `moss_locks`, `deltas`, `overlays`, `version_stack` and `atomic_object`, a module a crate. The
+//! first word of a section's name is the crate that its rows call.
 #![tactic(auto)]
 
+mod of_atomic_object;
 mod of_deltas;
 mod of_holders;
 mod of_moss_locks;
 mod of_overlays;
+mod of_version_stack;
 mod reading;
 mod surviving;
 mod writing;
 
+use of_atomic_object::Acting;
 use of_deltas::Adding;
 use of_holders::Holding;
 use of_moss_locks::Locking;
 use of_overlays::Overlaying;
+use of_version_stack::Stacking;
 use rows::{Row, RowFault, Subject};
 use std::alloc::{AllocError, Global};
 use std::io;
@@ -32,6 +37,8 @@ enum Section {
     MossLocks(Locking),
     Deltas(Adding),
     Overlays(Overlaying),
+    VersionStack(Stacking),
+    AtomicObject(Acting),
     Unknown,
 }
 
@@ -60,6 +67,8 @@ impl Subject for Tested {
             Section::MossLocks(locking) => locking.answer(row, answer),
             Section::Deltas(adding) => adding.answer(row, answer),
             Section::Overlays(overlaying) => overlaying.answer(row, answer),
+            Section::VersionStack(stacking) => stacking.answer(row, answer),
+            Section::AtomicObject(acting) => acting.answer(row, answer),
             Section::Unknown => Err(RowFault::Unread),
         }
     }
@@ -72,6 +81,8 @@ fn new_section(alloc: Global, called: &str) -> Section {
         "moss_locks" => Section::MossLocks(Locking::new(alloc)),
         "deltas" => Section::Deltas(Adding::new(alloc)),
         "overlays" => Section::Overlays(Overlaying::new(alloc)),
+        "version_stack" => Section::VersionStack(Stacking::new(alloc)),
+        "atomic_object" => Section::AtomicObject(Acting::new(alloc)),
         _ => Section::Unknown,
     }
 }

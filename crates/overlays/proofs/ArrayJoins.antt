@@ -1,11 +1,12 @@
 -- Overlays of arrays joined, and laid in place.
 use Rattle.std.proofs.Common.{◌≡◌, inl, inr, ℕ, zero, suc, ◌<◌, List, [], ◌∷◌, ◌++◌, length, set, Bool, true, false, Some, None, refl, sym, ap, subst, ◌∙◌, arith, pos, ◌+ℤ◌}
-use Rattle.std.specs.Prelude.{ℤ, ◌-ℤ◌, Option, is_some, int_le, unsigned_abs, slice_get, if◌then◌else◌}
+use Rattle.std.specs.Prelude.{ℤ, ◌-ℤ◌, Option, cond, filter, is_some, int_le, unsigned_abs, slice_get, if◌then◌else◌}
 use Rattle.std.specs.List.{AllByRecursion}
 use Rattle.std.specs.Ordering.{int_cmp}
 use Rattle.std.specs.declared.cmp.Ordering.TheVariants.{Less}
 use Rattle.std.specs.List.Sorted.{IsStrictlySortedBy}
 use Rattle.std.specs.Map.{keys_of}
+use Rattle.std.proofs.lemmas.Map.Entries.{lookup-filter-keys}
 use Rattle.std.proofs.lemmas.Map.Keys.{sorted_head, sorted_tail}
 use Rattle.std.proofs.lemmas.Int.{ints}
 use Rattle.std.proofs.lemmas.List.{length-set}
@@ -210,7 +211,7 @@ over_nothing : (x : Option Value) → or_below x None ≡ x
 over_nothing None = refl
 over_nothing (Some v) = refl
 
-none_at : (i : ℤ) (es : List (ℤ × Value)) → AllByRecursion (λ j. int_cmp i j ≡ Less) (keys_of es) → changed_at es i ≡ None
+pub none_at : (i : ℤ) (es : List (ℤ × Value)) → AllByRecursion (λ j. int_cmp i j ≡ Less) (keys_of es) → changed_at es i ≡ None
 none_at i es h = by_item (changed_at es i) refl where
   by_item : (x : Option Value) → changed_at es i ≡ x → changed_at es i ≡ None
   by_item None e = e
@@ -253,21 +254,25 @@ module _ (w : Option Bounds) (k : ℤ) (v : Value) (rest old : List (ℤ × Valu
 pub put_on_nothing : (es none : List (ℤ × Value)) → none ≡ [] → (i : ℤ) → put_over None es none i ≡ changed_at es i
 put_on_nothing es none e i = ap (λ xs. or_below (changed_at es i) (changed_at xs i)) e ∙ over_nothing (changed_at es i)
 
--- the lower items put on nothing as far as they lie in the upper bounds, and then the upper ones
-pub are_joined : (l u p : ArrayChange) (none between : List (ℤ × Value)) → p.bounds ≡ upper_bounds u.bounds l.bounds → none ≡ []
-    → ((i : ℤ) → changed_at between i ≡ put_over u.bounds l.items none i) → ((i : ℤ) → changed_at p.items i ≡ put_over None u.items between i) → AreJoined l u p
-are_joined l u p none between bounds e first second = record {
-  bounds = bounds;
-  items = λ i. second i ∙ ap (or_below (changed_at u.items i)) (first i
-      ∙ ap (λ xs. or_below (if lies_in u.bounds i then changed_at l.items i else None) (changed_at xs i)) e
-      ∙ over_nothing (if lies_in u.bounds i then changed_at l.items i else None));
+-- the upper items put over the lower ones, where the upper bounds stay as the lower ones are
+pub joined_all : (l u p : ArrayChange) → u.bounds ≡ None → p.bounds ≡ l.bounds → ((i : ℤ) → changed_at p.items i ≡ put_over None u.items l.items i) → AreJoined l u p
+joined_all l u p none bounds put = record {
+  bounds = bounds ∙ ap (λ b. upper_bounds b l.bounds) (sym none);
+  items = λ i. put i ∙ ap (λ b. or_below (changed_at u.items i) (if lies_in b i then changed_at l.items i else None)) (sym none);
 }
 
--- the bounds that the code gives the joined overlay
-pub bounds_of_upper : (u l : Option Bounds) → is_some u ≡ true → u ≡ upper_bounds u l
-bounds_of_upper None l h = absurd (false≢true h)
-bounds_of_upper (Some b) l h = refl
-
-pub bounds_of_lower : (u l : Option Bounds) → is_some u ≡ false → l ≡ upper_bounds u l
-bounds_of_lower None l h = refl
-bounds_of_lower (Some b) l h = absurd (true≢false h)
+-- the upper items put over the lower ones, and then those outside the upper bounds dropped, where no upper item lies
+pub joined_within : (l u p : ArrayChange) (b : Bounds) (between : List (ℤ × Value)) → u.bounds ≡ Some b → p.bounds ≡ u.bounds
+    → ((i : ℤ) → changed_at between i ≡ put_over None u.items l.items i) → p.items ≡ filter (λ e. is_within b e.0) between
+    → ((i : ℤ) → is_some (changed_at u.items i) ≡ true → is_within b i ≡ true) → AreJoined l u p
+joined_within l u p b between some bounds put dropped inside = record {
+  bounds = bounds ∙ some ∙ ap (λ c. upper_bounds c l.bounds) (sym some);
+  items = λ i. ap (λ es. changed_at es i) dropped
+      ∙ lookup-filter-keys (is_at (int_cmp i)) (is_within b) (is_within b i) (λ k at. ap (is_within b) (sym (is_same_index i k at))) between
+      ∙ ap (λ x. cond (is_within b i) x None) (put i) ∙ left (is_within b i) (changed_at u.items i) (changed_at l.items i) (inside i)
+      ∙ ap (λ c. or_below (changed_at u.items i) (if lies_in c i then changed_at l.items i else None)) (sym some);
+} where
+  left : (t : Bool) (x y : Option Value) → (is_some x ≡ true → t ≡ true) → cond t (or_below x y) None ≡ or_below x (cond t y None)
+  left true x y h = refl
+  left false None y h = refl
+  left false (Some v) y h = absurd (false≢true (h refl))

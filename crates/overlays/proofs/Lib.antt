@@ -9,3 +9,5 @@ pub mod Places
 pub mod Stacked
 pub mod ArrayBounds
 pub mod ContentBelow
+pub mod PutBack
+pub mod Outside

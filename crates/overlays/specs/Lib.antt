@@ -5,4 +5,5 @@ pub mod RecordOverlayLaws
 pub mod VariantOverlays
 pub mod CounterOverlays
 pub mod ArrayOverlays
+pub mod ArrayItems
 pub mod ContentOverlays

@@ -12,6 +12,7 @@ ghost use Rattle.overlays.specs.RecordOverlays.{or_below};
 ghost use Rattle.overlays.specs.Overlays.{laid_all, AllFit, shown};
 ghost use Rattle.overlays.specs.ArrayOverlays.{laid_array, ArrayFits, AreLimited, AreLimitedWhere, IsNoted, IsAnswered, IsEnd, AreOfKind, is_item_write, bounds_of, bounds_over, changed_at, lies_in, put_over, stored_over, is_fetch, array_overlays_know, array_fits_stay, array_adds_sum, array_writes_cover};
 
+use crate::array_items::{drop_outside, put_all};
 use crate::bounds::Bounds;
 use crate::layered::Layered;
 use crate::seen::Seen;
@@ -101,12 +102,11 @@ impl Layered for Array {
 
     fn add_in(_overlay: &mut ArrayOverlay, _by: i64) {}
 
+    // It copies the upper items, looks up as many and goes over what falls out of the bounds: over no other item.
     fn join(lower: &mut ArrayOverlay, upper: &ArrayOverlay) -> Result<(), AllocError> {
-        let mut items = BTreeMap::new(lower.alloc);
-        put_items(&mut items, &lower.items, upper.bounds)?;
-        put_items(&mut items, &upper.items, None)?;
-        lower.items = items;
-        if upper.bounds.is_some() {
+        put_all(lower.alloc, &mut lower.items, listed_items(upper)?)?;
+        if let Some(bounds) = upper.bounds {
+            drop_outside(&mut lower.items, bounds);
             lower.bounds = upper.bounds;
         }
         Ok(())

@@ -4,6 +4,7 @@
 #![tactic(auto)]
 
 mod array;
+mod array_items;
 mod bounds;
 mod content;
 mod counter;

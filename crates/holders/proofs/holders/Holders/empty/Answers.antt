@@ -1,10 +1,8 @@
-use Rattle.std.proofs.Common.{◌∙◌, sym, ap, rules, subst}
+use Rattle.std.proofs.Common.{◌∙◌, sym, ap, rules}
 use Rattle.std.proofs.lemmas.Bool.{true≢false}
 use Rattle.std.specs.Option.{option_copied_mut}
-use Rattle.std.specs.List.Sorted.{IsStrictlySortedBy}
-use Rattle.action_names.specs.Names.{name_cmp}
 use Rattle.std.specs.Prelude.{None}
-use Rattle.holders.specs.Held.{held_in, names_of}
+use Rattle.holders.specs.Held.{held_in}
 use Rattle.holders.proofs.Rows.{emptied_in, no_row, held_sorted}
 use Rattle.holders.proofs.holders.Holders.empty.Goals as goal
 use Rattle.holders.proofs.holders.Holders.empty.Goals.{in-Some+in-Some-1, in-Some+in-None-1, in_default}

@@ -1,24 +1,11 @@
-use Rattle.std.proofs.Common.{◌≡◌, ◌&&◌, map, rules, sym, ◌∙◌}
-use Rattle.std.specs.Prelude.{is_some}
-use Rattle.std.specs.Map.Iter.{deref_pair}
-use Rattle.std.proofs.lemmas.Map.Iter.{iter_end}
+use Rattle.std.proofs.Common.{sym, ap, ◌∙◌}
+use Rattle.std.specs.List.{list_any}
 use Rattle.action_names.specs.Names.{is_ancestor}
-use Rattle.holders.proofs.Rows.{any_more}
-use Rattle.holders.proofs.Looks.{found_one, found_none}
+use Rattle.holders.specs.Held.{Rows, names_of}
+use Rattle.holders.proofs.Rows.{any_held}
 use Rattle.holders.proofs.holders.Holders.has_below.Goals as goal
-
-pub loop-holder-preserved : goal.loop-holder-preserved
-loop-holder-preserved g c =
-    any_more deref_pair (λ r. is_some r.1 && is_ancestor c.args.action.now r.0) c.loop-holder.yielded (c.in-Some.holder, c.in-Some.row) c.loop-holder.invariant
-    (sym c.is_below.ensures ∙ c.if-is_below.false)
-
-pub returns-then-is_below : goal.returns-then-is_below
-returns-then-is_below g c =
-    found_one deref_pair _ c.self.inside.rows.entries (λ b. is_ancestor c.args.action.now b) c.loop-holder.yielded _ _ _ _ (c.in-Some.holder, c.in-Some.row)
-    c.self.view_is (c.into_iter-holder-iterator.ensures.into_iter_gives ∙ c.iter-holder-items.ensures.rest) c.loop-holder.yielded_by c.in-Some.is c.next.ensures.steps
-    (sym c.is_below.ensures ∙ c.if-is_below.true)
 
 pub returns : goal.returns
 returns g c =
-    let all : map deref_pair c.loop-holder.yielded ≡ c.self.inside.rows.entries = search (rules, iter_end) in
-    found_none deref_pair _ c.self.inside.rows.entries (λ b. is_ancestor c.args.action.now b) c.loop-holder.yielded c.self.view_is all c.loop-holder.invariant
+    let a = c.args.action.now in
+    c.any_below.ensures ∙ sym (any_held (is_ancestor a) c.self.inside.rows.entries) ∙ ap (λ (s : Rows _). list_any (is_ancestor a) (names_of s.held)) c.self.view_is

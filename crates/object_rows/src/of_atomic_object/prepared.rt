@@ -1,0 +1,42 @@
+//! Who survives a crash of the guardian.
+ghost use Rattle.std.specs.Prelude.{◌&&◌};
+ghost use Rattle.action_names.specs.Names.{has_name, is_top};
+
+use crate::reading::name;
+use action_names::{Name, Names};
+use holders::Survivors;
+use rows::RowFault;
+use std::alloc::{AllocError, Global};
+
+/// Names of actions. The top actions among them had prepared, and survive.
+#[derive(Drop)]
+pub(crate) struct Prepared {
+    names: Names,
+}
+
+impl Prepared {
+    /// The actions of these names, of which there may be none.
+    pub(crate) fn read(alloc: Global, given: &str) -> Result<Prepared, RowFault> {
+        let mut prepared = Prepared {
+            names: Names::new(alloc),
+        };
+        for word in given.split(' ') {
+            if !word.is_empty() {
+                prepared.push(name(alloc, word)?)?;
+            }
+        }
+        Ok(prepared)
+    }
+
+    fn push(&mut self, name: Name) -> Result<(), AllocError> {
+        Ok(self.names.push(name)?)
+    }
+}
+
+impl Survivors for Prepared {
+    ghost stays = { λ prepared a. is_top a && has_name prepared.names a };
+
+    fn stays(&self, holder: &Name) -> bool {
+        holder.is_top() && self.names.contains(holder)
+    }
+}

@@ -1,0 +1,165 @@
+//! What a guardian was told of actions.
+ghost use Rattle.std.specs.Prelude.{◌≡◌, ◌+◌, ◌<◌, ◌^◌, ◌||◌, [], ◌∷◌, ℕ, Bool, true, false, List, IfOk, OnOk};
+ghost use Rattle.action_names.specs.Names.{Name, parent_of};
+ghost use Rattle.run_model.specs.Actions.{step_crashes};
+ghost use Rattle.run_model.specs.LocalReadings.{LocalEvent, told_committed_here, told_here};
+ghost use Rattle.run_model.specs.Telling.{holder_by};
+
+use action_names::Name;
+use holders::Holders;
+use std::alloc::{AllocError, Global};
+
+/// What was told of one action.
+#[derive(Clone, Copy, Drop)]
+struct Told {
+    /// How often the guardian had crashed when it was told last.
+    life: u64,
+    /// Whether it was ever told that the action committed.
+    committed: bool,
+}
+
+/// Which outcomes a guardian was told since its last crash, and of which actions it was ever told that they committed.
+#[derive(Drop)]
+pub struct Tellings {
+    alloc: Global,
+    crashes: u64,
+    told: Holders<Told>,
+}
+
+/// Outcomes that are to be told, in copies; the first of an action's counts.
+#[derive(Drop)]
+pub struct Heard {
+    /// What will have been told of each, in the order of the outcomes.
+    told: Vec<(Name, Told)>,
+}
+
+impl Tellings {
+    ghost use Rattle.tellings.specs.Hearing.{AreTold, FitsHeard, IsHeard, crashes_of};
+
+    /// Nothing was told. This takes no memory.
+    pub fn new(alloc: Global) -> Tellings
+        ensures { (g : ℕ) → AreTold g [] result }
+    {
+        Tellings {
+            alloc,
+            crashes: 0,
+            told: Holders::new(alloc),
+        }
+    }
+
+    /// Whether the outcome of the action was told since the last crash. This takes no memory.
+    pub fn was_told(&self, action: &Name) -> bool
+        ensures { (g : ℕ) (here : List LocalEvent) → AreTold g here self.now → result ≡ told_here g action.now here }
+    {
+        match self.told.get(action) {
+            Some(told) => told.life == self.crashes,
+            None => false,
+        }
+    }
+
+    /// Whether it was ever told that the action committed. This takes no memory.
+    pub fn is_committed(&self, action: &Name) -> bool
+        ensures { (g : ℕ) (here : List LocalEvent) → AreTold g here self.now → result ≡ told_committed_here action.now here }
+    {
+        self.knows_commit(action)
+    }
+
+    /// To whom the action hands on what it did when it commits: the nearest ancestor above it that was not told committed; nobody where that is the base
+    /// (Moss 1981). Fails only for want of memory, which names of up to 8 numbers do not take.
+    pub fn next_holder(&self, action: &Name) -> Result<Option<Name>, AllocError>
+        ensures { IfOk result (λ to. (g : ℕ) (here : List LocalEvent) → AreTold g here self.now
+            → to ≡ holder_by (λ b. told_committed_here b here) (parent_of action.now)) }
+    {
+        let mut above = action.parent()?;
+        while let Some(name) = above {
+            if !self.knows_commit(&name) {
+                return Ok(Some(name));
+            }
+            above = name.parent()?;
+        }
+        Ok(None)
+    }
+
+    /// Copies outcomes, each with whether the action committed, and makes room for them. Whether or not there is memory for it, the tellings are
+    /// those of the same history.
+    pub fn plan(&mut self, outcomes: &[(Name, bool)]) -> Result<Heard, AllocError>
+        ensures same { (g : ℕ) (here : List LocalEvent) → AreTold g here self.old → AreTold g here self.new }
+        ensures crashes { crashes_of self.new ≡ crashes_of self.old }
+        ensures fits { IfOk result (FitsHeard self.new) }
+        ensures heard { IfOk result (IsHeard self.new outcomes.now) }
+    {
+        let mut told = Vec::with_capacity(self.alloc, outcomes.len())?;
+        for (action, committed) in outcomes {
+            told.push(self.plan_one(action, *committed)?)?;
+        }
+        Ok(Heard { told })
+    }
+
+    /// Hears the outcomes that an event brings, for which there is room. This cannot fail.
+    pub fn hear(&mut self, heard: Heard)
+        requires { FitsHeard self.old heard }
+        ensures crashes { crashes_of self.new ≡ crashes_of self.old }
+        ensures told { (g : ℕ) (here : List LocalEvent) (c : LocalEvent) → AreTold g here self.old → IsHeard self.old c.carried.outcomes heard
+            → step_crashes c.event.step g ≡ false → AreTold g (c ∷ here) self.new }
+    {
+        self.put_all(heard);
+    }
+
+    /// Hears the outcomes that came with a crash, and forgets what was told before it but for commits. This cannot fail.
+    pub fn crash(&mut self, heard: Heard)
+        requires fits { FitsHeard self.old heard }
+        requires count { crashes_of self.old + 1 < 2 ^ 64 }
+        ensures crashes { crashes_of self.new ≡ crashes_of self.old + 1 }
+        ensures told { (g : ℕ) (here : List LocalEvent) (c : LocalEvent) → AreTold g here self.old → IsHeard self.old c.carried.outcomes heard
+            → step_crashes c.event.step g ≡ true → AreTold g (c ∷ here) self.new }
+    {
+        self.put_all(heard);
+        self.crashes += 1;
+    }
+}
+
+impl Tellings {
+    ghost use Rattle.action_names.specs.Names.{has_name};
+    ghost use Rattle.holders.specs.Held.{HasMoreRoom, value_at};
+    ghost use Rattle.run_model.specs.Telling.{or_else};
+    ghost use Rattle.tellings.specs.Hearing.{AreBefore, FitsHeard, crashes_of, is_told_committed};
+
+    // Whether it was ever told that the action committed.
+    fn knows_commit(&self, action: &Name) -> bool
+        ensures { result ≡ is_told_committed (value_at self.now.told.held action.now) }
+    {
+        match self.told.get(action) {
+            Some(told) => told.committed,
+            None => false,
+        }
+    }
+
+    // Copies one outcome, and makes room for it.
+    fn plan_one(&mut self, action: &Name, committed: bool) -> Result<(Name, Told), AllocError>
+        ensures crashes { crashes_of self.new ≡ crashes_of self.old }
+        ensures held { self.new.told.held ≡ self.old.told.held }
+        ensures room { OnOk result (HasMoreRoom self.old.told.room self.new.told.room action.now) }
+        ensures named { IfOk result (λ row. row.0 ≡ action.now) }
+        ensures lives { IfOk result (λ row. row.1.life ≡ crashes_of self.old) }
+        ensures committed { IfOk result (λ row. row.1.committed ≡ (committed || is_told_committed (value_at self.old.told.held action.now))) }
+    {
+        self.told.make_room(action)?;
+        let told = Told {
+            life: self.crashes,
+            committed: committed || self.knows_commit(action),
+        };
+        Ok((action.copy()?, told))
+    }
+
+    // Puts in what is heard, the last of it first, so that the first that is said of an action stays.
+    fn put_all(&mut self, mut heard: Heard)
+        requires { FitsHeard self.old heard }
+        ensures crashes { crashes_of self.new ≡ crashes_of self.old }
+        ensures values { (b : Name) → value_at self.new.told.held b ≡ or_else (value_at heard.told.items b) (value_at self.old.told.held b) }
+        ensures lives { (life : ℕ) → AreBefore life self.old.told.held → AreBefore life heard.told.items → AreBefore life self.new.told.held }
+    {
+        while let Some((action, told)) = heard.told.pop() {
+            self.told.put(&action, told);
+        }
+    }
+}
