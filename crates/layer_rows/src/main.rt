@@ -1,13 +1,15 @@
-//! Rows of calls of `two_phase`, `orphans` and `action_forest`, a module a crate. The first word of a section's name is the crate that its rows call.
+//! Rows of calls of `two_phase`, `orphans`, `tellings` and `action_forest`, a module a crate. The first word of a section's name is the crate that its rows call.
 #![tactic(auto)]
 
 mod of_action_forest;
 mod of_orphans;
+mod of_tellings;
 mod of_two_phase;
 mod reading;
 
 use of_action_forest::Growing;
 use of_orphans::Knowing;
+use of_tellings::Hearing;
 use of_two_phase::Voting;
 use rows::{Row, RowFault, Subject};
 use std::alloc::{AllocError, Global};
@@ -26,6 +28,7 @@ fn main(rt: HostRuntime) -> io::Result<()> {
 enum Section {
     TwoPhase(Voting),
     Orphans(Knowing),
+    Tellings(Hearing),
     ActionForest(Growing),
     Unknown,
 }
@@ -53,6 +56,7 @@ impl Subject for Tested {
         match &mut self.section {
             Section::TwoPhase(voting) => voting.answer(row, answer),
             Section::Orphans(knowing) => knowing.answer(row, answer),
+            Section::Tellings(hearing) => hearing.answer(row, answer),
             Section::ActionForest(growing) => growing.answer(row, answer),
             Section::Unknown => Err(RowFault::Unread),
         }
@@ -64,6 +68,7 @@ fn new_section(alloc: Global, called: &str) -> Result<Section, AllocError> {
     Ok(match called {
         "two_phase" => Section::TwoPhase(Voting::new(alloc)?),
         "orphans" => Section::Orphans(Knowing::new(alloc)?),
+        "tellings" => Section::Tellings(Hearing::new(alloc)),
         "action_forest" => Section::ActionForest(Growing::new(alloc)?),
         _ => Section::Unknown,
     })

@@ -1,8 +1,10 @@
 //! Calls of the lists of guardians.
-use crate::reading::{GUARDIANS, deps, name, next_name, next_small_number, opening, small_number};
+use crate::reading::{
+    GUARDIANS, deps, next_name, next_small_number, opening, read_outcomes, small_number,
+};
 use orphans::{Lists, News};
 use rows::{Row, RowFault, Words};
-use run_model::{Name, Names, Opening};
+use run_model::{Names, Opening};
 use std::alloc::{AllocError, Global};
 
 /// What one guardian has not sent another.
@@ -166,26 +168,6 @@ impl Knowing {
 fn place(guardian: &str) -> Result<usize, RowFault> {
     let number = small_number(guardian)? as usize;
     number.checked_sub(1).ok_or(RowFault::Unread)
-}
-
-fn read_outcomes(alloc: Global, words: Words<'_>) -> Result<Vec<(Name, bool)>, RowFault> {
-    let mut outcomes = Vec::new(alloc);
-    for word in words.rest().split_whitespace() {
-        let outcome = read_outcome(alloc, word)?;
-        outcomes.push(outcome).map_err(|_| RowFault::Memory)?;
-    }
-    Ok(outcomes)
-}
-
-/// An outcome `NAME:committed` or `NAME:aborted`.
-fn read_outcome(alloc: Global, word: &str) -> Result<(Name, bool), RowFault> {
-    let (told, outcome) = word.split_once(':').ok_or(RowFault::Unread)?;
-    let committed = match outcome {
-        "committed" => true,
-        "aborted" => false,
-        _ => return Err(RowFault::Unread),
-    };
-    Ok((name(alloc, told)?, committed))
 }
 
 fn unsent_between(from: &Lists, to: &Lists) -> Result<Unsent, AllocError> {

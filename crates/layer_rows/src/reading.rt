@@ -72,3 +72,24 @@ pub(crate) fn names(alloc: Global, words: Words<'_>) -> Result<Names, RowFault> 
     }
     Ok(names)
 }
+
+/// The outcomes that are left in a row: words `NAME:committed` or `NAME:aborted`.
+pub(crate) fn read_outcomes(alloc: Global, words: Words<'_>) -> Result<Vec<(Name, bool)>, RowFault> {
+    let mut outcomes = Vec::new(alloc);
+    for word in words.rest().split_whitespace() {
+        let outcome = read_outcome(alloc, word)?;
+        outcomes.push(outcome).map_err(|_| RowFault::Memory)?;
+    }
+    Ok(outcomes)
+}
+
+/// An outcome `NAME:committed` or `NAME:aborted`.
+fn read_outcome(alloc: Global, word: &str) -> Result<(Name, bool), RowFault> {
+    let (told, outcome) = word.split_once(':').ok_or(RowFault::Unread)?;
+    let committed = match outcome {
+        "committed" => true,
+        "aborted" => false,
+        _ => return Err(RowFault::Unread),
+    };
+    Ok((name(alloc, told)?, committed))
+}

@@ -38,13 +38,21 @@ impl Tellings {
 
     /// Nothing was told. This takes no memory.
     pub fn new(alloc: Global) -> Tellings
-        ensures { (g : ℕ) → AreTold g [] result }
+        ensures crashes { crashes_of result ≡ 0 }
+        ensures told { (g : ℕ) → AreTold g [] result }
     {
         Tellings {
             alloc,
             crashes: 0,
             told: Holders::new(alloc),
         }
+    }
+
+    /// How often the guardian has crashed. This takes no memory.
+    pub fn crashes(&self) -> u64
+        ensures { result ≡ crashes_of self.now }
+    {
+        self.crashes
     }
 
     /// Whether the outcome of the action was told since the last crash. This takes no memory.
