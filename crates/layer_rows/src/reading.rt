@@ -74,7 +74,10 @@ pub(crate) fn names(alloc: Global, words: Words<'_>) -> Result<Names, RowFault> 
 }
 
 /// The outcomes that are left in a row: words `NAME:committed` or `NAME:aborted`.
-pub(crate) fn read_outcomes(alloc: Global, words: Words<'_>) -> Result<Vec<(Name, bool)>, RowFault> {
+pub(crate) fn read_outcomes(
+    alloc: Global,
+    words: Words<'_>,
+) -> Result<Vec<(Name, bool)>, RowFault> {
     let mut outcomes = Vec::new(alloc);
     for word in words.rest().split_whitespace() {
         let outcome = read_outcome(alloc, word)?;
