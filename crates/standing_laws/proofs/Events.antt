@@ -31,7 +31,10 @@ event_of n step answer m = record { stamp = n; event = record { step = step; ans
 nothing_given : (step : Step) (x : ObjectId) → given_back step [] x ≡ []
 nothing_given (Prepare g t) x = of (g == x.guardian)
   where
-    of : (t : Bool) → cond t [] [] ≡ []
+    none : List (Name × Part)
+    none = []
+
+    of : (t : Bool) → cond t none none ≡ none
     of true = refl
     of false = refl
 nothing_given (Top g) x = refl
@@ -130,12 +133,12 @@ kept_on_it x (c ∷ here) =
     both [] ps h k = k
     both (o ∷ os) ps h k = (h.0, both os ps h.1 k)
 
-    passed : (os : List Performed) → Each (λ o. same_object o.object x ≡ true) (filter (λ o. same_object o.object x) os)
-    passed os = each_filter (λ o. same_object o.object x ≡ true) (λ o. same_object o.object x) os (itself os)
-
     itself : (os : List Performed) → Each (λ o. same_object o.object x ≡ true → same_object o.object x ≡ true) os
     itself [] = tt
     itself (o ∷ os) = (λ h. h, itself os)
+
+    passed : (os : List Performed) → Each (λ o. same_object o.object x ≡ true) (filter (λ o. same_object o.object x) os)
+    passed os = each_filter (λ o. same_object o.object x ≡ true) (λ o. same_object o.object x) os (itself os)
 
     weaker : (os : List Performed) → Each (λ o. same_object o.object x ≡ true) os
         → Each (λ o. not (undoes_by (λ b. says_aborted (brings c b)) c.event.step (events_here here) o) ≡ true → same_object o.object x ≡ true) os
@@ -185,16 +188,16 @@ crash_leaves_is c here x s o g =
         standing_here (event_of c.stamp step c.event.answer (record c.carried { outcomes = outcomes; restored = restored }) ∷ here) x
         ≡ crashed (λ o. outlives_crash o (events_here here)) (standing_here here x)
 
+    twice_not : (t : Bool) → not (not t) ≡ t
+    twice_not true = refl
+    twice_not false = refl
+
     outlived : (p : Performed) → same_object p.object x ≡ true
         → not (undoes_by (λ b. false) (Crash x.guardian) (events_here here) p) ≡ outlives_crash p (events_here here)
     outlived p h =
         ap not (ap₂ (λ t u. t || (u && not (outlives_crash p (events_here here)))) (none_any (λ b. false) (ancestors p.action) (λ b. refl))
         (ap (λ k. x.guardian == k) (eqb-true p.object.guardian x.guardian (and_parts _ _ h).0) ∙ eqb_self x.guardian))
         ∙ twice_not (outlives_crash p (events_here here))
-
-    twice_not : (t : Bool) → not (not t) ≡ t
-    twice_not true = refl
-    twice_not false = refl
 
     each_outlived : (os : List Performed) → Each (λ p. same_object p.object x ≡ true) os
         → Each (λ p. not (undoes_by (λ b. false) (Crash x.guardian) (events_here here) p) ≡ outlives_crash p (events_here here)) os

@@ -14,16 +14,16 @@ same_test p q xs h = ap (λ t. filter t xs) (λ i x. h x i)
 -- one test after another is both
 pub one_after_another : {X : Type 0} (p q : X → Bool) (xs : List X) → filter p (filter q xs) ≡ filter (λ x. q x && p x) xs
 one_after_another p q [] = refl
-one_after_another p q (x ∷ xs) = of (q x) refl
+one_after_another p q (x ∷ xs) = of (q x) refl (one_after_another p q xs)
   where
-    of : (t : Bool) → q x ≡ t → filter p (filter q (x ∷ xs)) ≡ filter (λ x. q x && p x) (x ∷ xs)
-    of true e =
+    of : (t : Bool) → q x ≡ t → filter p (filter q xs) ≡ filter (λ x. q x && p x) xs → filter p (filter q (x ∷ xs)) ≡ filter (λ x. q x && p x) (x ∷ xs)
+    of true e rest =
         ap (λ t. filter p (cond t (x ∷ filter q xs) (filter q xs))) e
-        ∙ ap (λ l. cond (p x) (x ∷ l) l) (one_after_another p q xs)
+        ∙ ap (λ l. cond (p x) (x ∷ l) l) rest
         ∙ sym (ap (λ t. cond (t && p x) (x ∷ filter (λ x. q x && p x) xs) (filter (λ x. q x && p x) xs)) e)
-    of false e =
+    of false e rest =
         ap (λ t. filter p (cond t (x ∷ filter q xs) (filter q xs))) e
-        ∙ one_after_another p q xs
+        ∙ rest
         ∙ sym (ap (λ t. cond (t && p x) (x ∷ filter (λ x. q x && p x) xs) (filter (λ x. q x && p x) xs)) e)
 
 -- nothing passes a test that none passes
