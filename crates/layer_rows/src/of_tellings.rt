@@ -3,7 +3,7 @@ use crate::reading::{next_name, read_outcomes};
 use action_names::Name;
 use rows::{Row, RowFault, Words};
 use std::alloc::{AllocError, Global};
-use tellings::{Heard, Tellings};
+use tellings::Tellings;
 
 /// What one guardian was told.
 #[derive(Drop)]
@@ -30,24 +30,21 @@ impl Hearing {
 
     /// Tells it outcomes, words `NAME:committed` or `NAME:aborted`.
     fn tell(&mut self, words: Words<'_>) -> Result<(), RowFault> {
-        let heard = self.plan(words)?;
+        let outcomes = read_outcomes(self.alloc, words)?;
+        let heard = self.tellings.plan(&outcomes)?;
         self.tellings.hear(heard);
         Ok(())
     }
 
     /// Crashes it with an event that brings these outcomes.
     fn crash(&mut self, words: Words<'_>) -> Result<(), RowFault> {
-        let heard = self.plan(words)?;
+        let outcomes = read_outcomes(self.alloc, words)?;
         if self.tellings.crashes() == u64::MAX {
             return Err(RowFault::Unread);
         }
+        let heard = self.tellings.plan(&outcomes)?;
         self.tellings.crash(heard);
         Ok(())
-    }
-
-    fn plan(&mut self, words: Words<'_>) -> Result<Heard, RowFault> {
-        let outcomes = read_outcomes(self.alloc, words)?;
-        Ok(self.tellings.plan(&outcomes)?)
     }
 
     fn ask(&self, row: &Row<'_>, answer: &mut String) -> Result<(), RowFault> {
