@@ -1,0 +1,4 @@
+pub mod Actions
+pub mod Outcomes
+pub mod Crashes
+pub mod Laws

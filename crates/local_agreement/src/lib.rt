@@ -1,0 +1,12 @@
+//! When an event agrees with what a guardian's own history says before it, and that in every run it does.
+//!
+//! A guardian keeps no event that disagrees: its roster, its objects and its store rest on that. Guardians above ask it of each event, and a world
+//! gives it by the laws here, each the contract of a function without a body.
+#![tactic(auto)]
+
+ghost use Rattle.local_agreement.specs.Laws.{RunsAgree};
+
+/// In a run each event of a guardian agrees with the history before it.
+pub fn runs_agree()
+    ensures { RunsAgree }
+{}

@@ -1,0 +1,5 @@
+pub mod Keeping
+pub mod Places
+pub mod Spans
+pub mod Entries
+pub mod Lending
