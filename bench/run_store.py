@@ -1,7 +1,7 @@
 #!/usr/bin/env python3
-"""`run_store.py STORE_RUNS [TIMES]`: how many prepares and installs a second the SQL store makes (TIMES of each, 1,000 where none is said), of
-one object and of 64, in memory and in a file, beside SQLite's own library making the same statements (needs a C compiler and libsqlite3's
-header). The two take turns, and of three runs the middle one counts."""
+"""`run_store.py STORE_RUNS [TIMES]`: how many prepares a second the SQL store makes whose records stay (TIMES of them, 1,000 where none is said), and how
+many prepares with an install after each, of one object and of 64, in memory and in a file, beside SQLite's own library making the same
+statements (needs a C compiler and libsqlite3's header). The two take turns, and of three runs the middle one counts."""
 import pathlib
 import statistics
 import subprocess
@@ -24,11 +24,9 @@ def seconds(program, path, objects, times, *word):
 
 
 def measure(program, path, objects, times):
-    """Seconds for a prepare and for an install, net of starting and of making the tables."""
+    """Seconds for a prepare whose record stays, and for a prepare and an install, net of starting and of making the tables."""
     start = seconds(program, path, objects, 0)
-    prepares = seconds(program, path, objects, times, "prepares")
-    both = seconds(program, path, objects, times)
-    return (prepares - start) / times, (both - prepares) / times
+    return [(seconds(program, path, objects, times, *word) - start) / times for word in (["prepares"], [])]
 
 
 def main():
@@ -37,11 +35,11 @@ def main():
         folder = pathlib.Path(scratch)
         other = folder / "same_statements"
         subprocess.run(["cc", "-O2", "-o", other, HERE / "same_statements.c", "-lsqlite3"], check=True)
-        print("| call | objects | kept in | store, a second | SQLite, a second | SQLite's time of ours |\n|---|---|---|---|---|---|")
+        print("| calls | objects | kept in | store, a second | SQLite, a second | SQLite's time of ours |\n|---|---|---|---|---|---|")
         for place in "memory", "file":
             for objects in 1, 64:
                 turns = [(measure(program, folder / place, objects, times), measure(other, folder / place, objects, times)) for _ in range(TURNS)]
-                for at, call in enumerate(("prepare", "install")):
+                for at, call in enumerate(("prepare", "prepare, install")):
                     ours, theirs = (statistics.median(turn[who][at] for turn in turns) for who in (0, 1))
                     print(f"| {call} | {objects} | {place} | {1 / ours:,.0f} | {1 / theirs:,.0f} | {theirs / ours:.2f} |", flush=True)
 

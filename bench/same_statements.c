@@ -45,6 +45,7 @@ static void prepare(long long top, long long objects, const char *record) {
     run("INSERT INTO prepared VALUES (?1, ?2)", 2, (long long[]){top, 1}, NULL);
     for (long long object = 1; object <= objects; object++)
         run("INSERT INTO prepared_val VALUES (?1, ?2, ?3)", 2, (long long[]){top, object}, record);
+    run("INSERT OR REPLACE INTO meta(rowid, k, v) VALUES (3, 'next_top', ?1)", 1, (long long[]){top + 1}, NULL);
     plainly("COMMIT");
 }
 
@@ -70,7 +71,9 @@ int main(int argc, char **argv) {
             "CREATE TABLE prepared_val(top INTEGER NOT NULL REFERENCES prepared(top) ON DELETE CASCADE, obj INTEGER NOT NULL,"
             " val TEXT NOT NULL, PRIMARY KEY(top, obj));"
             "CREATE TABLE decided(top INTEGER PRIMARY KEY);"
-            "INSERT INTO meta VALUES ('version', 1); INSERT INTO meta VALUES ('count', 0);"
+            "CREATE TABLE prepared_delta(top INTEGER NOT NULL REFERENCES prepared(top) ON DELETE CASCADE, obj INTEGER NOT NULL,"
+            " add_by INTEGER NOT NULL, PRIMARY KEY(top, obj));"
+            "INSERT INTO meta VALUES ('version', 2), ('count', 0), ('next_top', 1);"
             "COMMIT");
     char record[64];
     for (long long top = 1; top <= times; top++) {

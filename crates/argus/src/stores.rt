@@ -12,8 +12,8 @@ use stable_store::StoreFault;
 /// A store in a file.
 pub type FileStable = SqlStable<FileStore<File>>;
 
-/// The stores of a script's guardians, in order; a file that is not there is made. `None` where one of them is no
-/// store, or can not open its guardian; the files behind it are then not looked at.
+/// The stores of a script's guardians, in order; a file that is not there is made, and tables of version 1 are migrated.
+/// `None` where one of them is no store, or can not open its guardian; the files behind it are then not looked at.
 pub fn open_stores(
     rt: &HostRuntime,
     folder: &str,

@@ -3,3 +3,4 @@ pub mod Passing
 pub mod Crashing
 pub mod Granting
 pub mod Giving
+pub mod Outcomes

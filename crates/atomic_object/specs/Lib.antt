@@ -1,3 +1,4 @@
 pub mod Kept
 pub mod Ways
 pub mod Restored
+pub mod Staying

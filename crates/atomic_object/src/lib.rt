@@ -7,6 +7,7 @@
 mod object;
 mod operating;
 mod restoring;
+mod staying;
 mod telling;
 
 pub use object::Object;

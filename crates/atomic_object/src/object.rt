@@ -1,5 +1,5 @@
-ghost use Rattle.std.specs.Prelude.{◌≡◌, ◌||◌, [], Bool, IsFalse, IfOk, OnOk, OnErr};
-ghost use Rattle.action_names.specs.Names.{Name, same_name};
+ghost use Rattle.std.specs.Prelude.{◌≡◌, ◌||◌, [], Bool, IsTrue, IsFalse, IfOk, Some, OnOk, OnErr};
+ghost use Rattle.action_names.specs.Names.{Name, is_top, same_name};
 ghost use Rattle.values.specs.declared.content.Content.{Content};
 ghost use Rattle.atomic_types.specs.Objects.{knows};
 ghost use Rattle.run_model.specs.Answers.{is_concerned_by};
@@ -9,12 +9,16 @@ ghost use Rattle.object_model.specs.Objects.{owns, untouched};
 ghost use Rattle.object_laws.specs.Shown.{Shows};
 ghost use Rattle.object_laws.specs.Changes.{given};
 ghost use Rattle.object_laws.specs.Laws.{is_concerned};
+ghost use Rattle.object_laws.specs.OnceTold.{AreOutcomesBelow, HoldsItsTree, part_over, part_to_hold, told_of};
 ghost use Rattle.atomic_object.specs.Kept.{seen, has_room, KeepsRoom};
+ghost use Rattle.atomic_object.specs.Staying.{OutcomesRise};
 
+use crate::staying::{Staying, last_staying};
 use action_names::Name;
 use atomic_types::{Class, Op, Part};
 use deltas::Deltas;
 use moss_locks::LockTable;
+use overlays::Layered;
 use std::alloc::{AllocError, Global};
 use std::marker::Model;
 use values::Content;
@@ -74,6 +78,64 @@ impl Object {
         Ok(self.deltas.of(action).map(Part::Delta))
     }
 
+    /// What the top action will hold, to be prepared, once the outcomes of its descendants are told, which rise by name: nothing is changed.
+    /// That is the version of the last owner that stays of its tree, with what is added below it; where no owner stays, what is added in its
+    /// tree. Fails only for want of memory.
+    pub fn part_once_told(
+        &self,
+        top: &Name,
+        outcomes: &[(Name, bool)],
+    ) -> Result<Option<Part>, AllocError>
+        requires { OutcomesRise outcomes.now }
+        ensures { IfOk result (λ part. (c : Content) (s : Standing) → Shows c s (seen self.now) → IsTrue (is_top top.now) → IsFalse (s.told top.now)
+            → AreOutcomesBelow s top.now outcomes.now → HoldsItsTree (told_of outcomes.now s) top.now
+            → part ≡ part_held c (told_of outcomes.now s) top.now) }
+    {
+        self.part_to_hold(top, outcomes)
+    }
+
+    // The part, by the versions and the deltas.
+    fn part_to_hold(
+        &self,
+        top: &Name,
+        outcomes: &[(Name, bool)],
+    ) -> Result<Option<Part>, AllocError>
+        requires { OutcomesRise outcomes.now }
+        ensures { IfOk result (λ part. part ≡ part_to_hold outcomes.now top.now (seen self.now)) }
+    {
+        let staying = Staying {
+            from: top,
+            outcomes,
+        };
+        match last_staying(self.versions.owners(), &staying) {
+            Some(owner) => self.version_left(owner, outcomes),
+            None => Ok(self.deltas.sum_left(&staying).map(Part::Delta)),
+        }
+    }
+
+    // The version of an owner, with what stays of the deltas below it.
+    fn version_left(
+        &self,
+        owner: &Name,
+        outcomes: &[(Name, bool)],
+    ) -> Result<Option<Part>, AllocError>
+        requires { OutcomesRise outcomes.now }
+        ensures { IfOk result (λ part. (top : Name) → part ≡ part_over outcomes.now top (seen self.now) (Some owner.now)) }
+    {
+        let Some(version) = self.versions.only(owner) else {
+            return Ok(None);
+        };
+        let mut content = version.content()?;
+        let staying = Staying {
+            from: owner,
+            outcomes,
+        };
+        if let Some(sum) = self.deltas.sum_left(&staying) {
+            content.add(sum);
+        }
+        Ok(Some(Part::Value(content)))
+    }
+
     /// Makes room for this holder, so that it can be handed what a descendant held. What is held of the object stays, with memory and
     /// without.
     pub fn make_room(&mut self, holder: &Name) -> Result<(), AllocError>
@@ -88,7 +150,8 @@ impl Object {
     /// Whether a telling of the outcome changes the object: that the action committed, where it holds anything; that it aborted, where it or a
     /// descendant does. This takes no memory.
     pub fn is_concerned(&self, action: &Name, committed: bool) -> bool
-        ensures { (c : Content) (s : Standing) → Shows c s (seen self.now) → IsFalse (s.told action.now) → result ≡ is_concerned_by committed s action.now }
+        ensures shown { (c : Content) (s : Standing) → Shows c s (seen self.now) → IsFalse (s.told action.now) → result ≡ is_concerned_by committed s action.now }
+        ensures held { result ≡ is_concerned committed (seen self.now).locks action.now }
     {
         self.is_held(action, committed)
     }

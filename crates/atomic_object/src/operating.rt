@@ -1,15 +1,16 @@
 //! Operations on an object.
-ghost use Rattle.std.specs.Prelude.{◌≡◌, pos, IsTrue, IsFalse, IfOk, OnOk, OnErr, if◌then◌else◌};
+ghost use Rattle.std.specs.Prelude.{◌≡◌, pos, IsTrue, IsFalse, IfNone, IfOk, IfSome, OnOk, OnErr, if◌then◌else◌};
 ghost use Rattle.action_names.specs.Names.{Name, has_name, is_ancestor};
 ghost use Rattle.values.specs.declared.content.Content.{Content};
 ghost use Rattle.values.specs.declared.value.Value.TheVariants.{Int};
 ghost use Rattle.atomic_types.specs.declared.operation.Operation.TheVariants.{Add};
 ghost use Rattle.atomic_types.specs.Objects.{knows, reply_of, content_after};
-ghost use Rattle.atomic_types.specs.Operations.{is_read, is_write, is_add};
+ghost use Rattle.atomic_types.specs.Operations.{class_of, is_read, is_write, is_add};
+ghost use Rattle.run_model.specs.declared.answer.Answer.TheVariants.{Waits};
 ghost use Rattle.run_model.specs.Answers.{operated_by};
 ghost use Rattle.run_model.specs.Keeping.{Standing};
 ghost use Rattle.object_model.specs.Stacks.{AreAbove, is_on_top, owners_of, top_of};
-ghost use Rattle.object_model.specs.Locks.{revoked};
+ghost use Rattle.object_model.specs.Locks.{must_wait, revoked};
 ghost use Rattle.object_model.specs.Objects.{AddsBy, IsOperated, NamesRise, amount_of, owns, total_of};
 ghost use Rattle.object_laws.specs.Shown.{Shows};
 ghost use Rattle.atomic_object.specs.Kept.{number_in, replied, seen, KeepsOthersRoom};
@@ -35,11 +36,46 @@ impl Object {
         ensures room { KeepsOthersRoom self.old self.new action.now }
         ensures err { OnErr result (seen self.new ≡ seen self.old) }
     {
+        match self.waited_for(action, op)? {
+            Some(names) => Ok(Answer::Waits(names)),
+            None => Ok(Answer::Granted(self.granted(action, op)?)),
+        }
+    }
+
+    /// What the operation of an action would be answered, with nothing changed. Fails only for want of memory.
+    pub fn answer(&self, action: &Name, op: &Op) -> Result<Answer, AllocError>
+        requires named { IsTrue (is_ancestor action.now action.now) }
+        requires shown { IsShown (seen self.now) }
+        requires known { IsTrue (knows (seen self.now).stack.base op.now) }
+        ensures { IfOk result (λ answer. (c : Content) (s : Standing) → Shows c s (seen self.now) → answer ≡ operated_by c s action.now op.now) }
+    {
+        match self.waited_for(action, op)? {
+            Some(names) => Ok(Answer::Waits(names)),
+            None => Ok(Answer::Granted(self.reply(op)?)),
+        }
+    }
+
+    // For whom the operation has to wait, if for anybody.
+    fn waited_for(&self, action: &Name, op: &Op) -> Result<Option<Names>, AllocError>
+        ensures waits { IfOk result (λ waited. IfSome waited (λ names. (c : Content) (s : Standing) → Shows c s (seen self.now) → Waits names ≡ operated_by c s action.now op.now)) }
+        ensures free { IfOk result (λ waited. IfNone waited (IsFalse (must_wait (seen self.now).locks action.now (class_of op.now)))) }
+    {
         if self.locks.must_wait(action, op.class()) {
             let names = self.locks.blockers(action, op.class())?;
-            return Ok(Answer::Waits(Names::from_vec(names)));
+            return Ok(Some(Names::from_vec(names)));
         }
-        Ok(Answer::Granted(self.granted(action, op)?))
+        Ok(None)
+    }
+
+    // The reply to an operation for which nobody is waited for, with nothing changed.
+    fn reply(&self, op: &Op) -> Result<Reply, AllocError>
+        requires { IsTrue (knows (top_of (seen self.now).stack) op.now) }
+        ensures { IfOk result (λ r. r ≡ replied (seen self.now) op.now) }
+    {
+        match op.class() {
+            Class::Read => self.read_total(op),
+            Class::Write | Class::Add => self.versions.top().reply(op),
+        }
     }
 
     // Makes an operation for which nobody is waited for.

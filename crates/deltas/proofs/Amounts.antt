@@ -1,6 +1,6 @@
 -- What holders add, as it changes.
 use Rattle.std.proofs.Common.{◌≡◌, ℤ, Bool, true, false, not, map, filter, List, [], ◌∷◌, ◌++◌, append-nil, refl, sym, ap, ◌∙◌, subst}
-use Rattle.std.specs.Prelude.{Option, Some, None, if◌then◌else◌}
+use Rattle.std.specs.Prelude.{Option, Some, None, pos, unwrap_or, if◌then◌else◌}
 use Rattle.std.proofs.lemmas.Bool.{true≢false}
 use Rattle.std.specs.Ordering.{is_eq}
 use Rattle.std.specs.declared.cmp.Ordering.{Ordering}
@@ -16,7 +16,7 @@ use Rattle.holders.proofs.Rows.{held_more}
 use Rattle.holders.proofs.Sorted.{at_name}
 use Rattle.object_model.specs.Deltas.{delta_at, delta_sum}
 use Rattle.object_model.specs.Objects.{is_beside}
-use Rattle.deltas.specs.Beside.{sum_beside}
+use Rattle.deltas.specs.Beside.{sum_beside, sum_if_any}
 
 -- what a holder adds is what it holds
 pub delta_held : (ds : List (Name × ℤ)) (a : Name) → delta_at ds a ≡ value_at ds a
@@ -135,3 +135,55 @@ empty_row shows xs x owner e =
 pub sum_all : (ds : List (Name × ℤ)) → sum_beside ds None ≡ delta_sum ds
 sum_all [] = refl
 sum_all (d ∷ ds) = ap (λ n. sum_of n d.1) (sum_all ds)
+
+-- a delta at the end is added to the sum
+delta_end : (ds : List (Name × ℤ)) (d : Name × ℤ) → delta_sum (ds ++ d ∷ []) ≡ sum_of (delta_sum ds) d.1
+delta_end [] d = refl
+delta_end (c ∷ ds) d = ap (λ n. sum_of n c.1) (delta_end ds d) ∙ sums_commute (delta_sum ds) d.1 c.1
+
+some_end : (ds : List (Name × ℤ)) (d : Name × ℤ) → sum_if_any (ds ++ d ∷ []) ≡ Some (sum_of (unwrap_or (sum_if_any ds) (pos 0)) d.1)
+some_end [] d = refl
+some_end (c ∷ ds) d = ap (λ n. Some n) (delta_end (c ∷ ds) d)
+
+chosen_end : (ds : List (Name × ℤ)) (d : Name × ℤ) (p : Name → Bool)
+    → filter (λ e. p e.0) (ds ++ d ∷ []) ≡ (if p d.0 then filter (λ e. p e.0) ds ++ d ∷ [] else filter (λ e. p e.0) ds)
+chosen_end [] d p = refl
+chosen_end (c ∷ ds) d p = by_case (chosen_end ds d p) (p c.0) (p d.0) refl where
+  left : List (Name × ℤ)
+  left = filter (λ e. p e.0) ds
+
+  by_case : filter (λ e. p e.0) (ds ++ d ∷ []) ≡ (if p d.0 then left ++ d ∷ [] else left) → (t u : Bool) → p d.0 ≡ u
+      → (if t then c ∷ filter (λ e. p e.0) (ds ++ d ∷ []) else filter (λ e. p e.0) (ds ++ d ∷ []))
+      ≡ (if p d.0 then (if t then c ∷ left else left) ++ d ∷ [] else (if t then c ∷ left else left))
+  by_case later true true e = simp e (ap (λ es. c ∷ es) (later ∙ simp e refl))
+  by_case later true false e = simp e (ap (λ es. c ∷ es) (later ∙ simp e refl))
+  by_case later false true e = later
+  by_case later false false e = later
+
+-- one more row of a holder that passes adds its amount to the sum of those that pass
+pub left_counted : {A : Type 0} (shows : A → Name × Option ℤ) (xs : List A) (x : A) (p : Name → Bool) (z : ℤ) → (shows x).1 ≡ Some z → p (shows x).0 ≡ true
+    → sum_if_any (filter (λ e. p e.0) (held_in (map shows (xs ++ x ∷ []))))
+    ≡ Some (sum_of (unwrap_or (sum_if_any (filter (λ e. p e.0) (held_in (map shows xs)))) (pos 0)) z)
+left_counted shows xs x p z e k =
+    let before = held_in (map shows xs) in
+    ap (λ ds. sum_if_any (filter (λ e. p e.0) ds)) (held_more shows xs x ∙ ap (λ o. before ++ with_row (shows x).0 o []) e)
+    ∙ ap (λ ds. sum_if_any ds) (chosen_end before ((shows x).0, z) p)
+    ∙ ap (λ t. sum_if_any (if t then filter (λ e. p e.0) before ++ ((shows x).0, z) ∷ [] else filter (λ e. p e.0) before)) k
+    ∙ some_end (filter (λ e. p e.0) before) ((shows x).0, z)
+
+-- one more row of a holder that does not pass leaves it
+pub left_uncounted : {A : Type 0} (shows : A → Name × Option ℤ) (xs : List A) (x : A) (p : Name → Bool) (z : ℤ) → (shows x).1 ≡ Some z → p (shows x).0 ≡ false
+    → sum_if_any (filter (λ e. p e.0) (held_in (map shows (xs ++ x ∷ [])))) ≡ sum_if_any (filter (λ e. p e.0) (held_in (map shows xs)))
+left_uncounted shows xs x p z e k =
+    let before = held_in (map shows xs) in
+    ap (λ ds. sum_if_any (filter (λ e. p e.0) ds)) (held_more shows xs x ∙ ap (λ o. before ++ with_row (shows x).0 o []) e)
+    ∙ ap (λ ds. sum_if_any ds) (chosen_end before ((shows x).0, z) p)
+    ∙ ap (λ t. sum_if_any (if t then filter (λ e. p e.0) before ++ ((shows x).0, z) ∷ [] else filter (λ e. p e.0) before)) k
+
+-- and so does an empty row
+pub left_empty : {A : Type 0} (shows : A → Name × Option ℤ) (xs : List A) (x : A) (p : Name → Bool) → (shows x).1 ≡ None
+    → sum_if_any (filter (λ e. p e.0) (held_in (map shows (xs ++ x ∷ [])))) ≡ sum_if_any (filter (λ e. p e.0) (held_in (map shows xs)))
+left_empty shows xs x p e =
+    let before = held_in (map shows xs) in
+    ap (λ ds. sum_if_any (filter (λ e. p e.0) ds))
+    (held_more shows xs x ∙ ap (λ o. before ++ with_row (shows x).0 o []) e ∙ append-nil before)

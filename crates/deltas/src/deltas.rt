@@ -1,11 +1,12 @@
-ghost use Rattle.std.specs.Prelude.{◌≡◌, [], None, IsTrue, IfOk, OnOk, OnErr, filter, not, if◌then◌else◌};
+ghost use Rattle.std.specs.Prelude.{◌≡◌, [], None, pos, unwrap_or, IsTrue, IfOk, OnOk, OnErr, filter, not, if◌then◌else◌};
 ghost use Rattle.std.specs.List.Sorted.{IsStrictlySortedBy};
 ghost use Rattle.std.specs.Option.{option_copied as name_of};
 ghost use Rattle.action_names.specs.Names.{Name, has_name, name_cmp, is_ancestor};
 ghost use Rattle.holders.specs.Held.{names_of, HasMoreRoom, HasLessRoom};
 ghost use Rattle.object_model.specs.Deltas.{delta_at, delta_sum, more_at, HasDelta, HasNoneBelow};
 ghost use Rattle.object_model.specs.Objects.{is_beside};
-ghost use Rattle.deltas.specs.Beside.{sum_beside};
+ghost use Rattle.atomic_types.specs.Counters.{sum_of};
+ghost use Rattle.deltas.specs.Beside.{sum_beside, sum_if_any};
 
 use action_names::Name;
 use holders::{Holders, Survivors};
@@ -74,6 +75,22 @@ impl Deltas {
             if let Some(amount) = row {
                 if is_beside(holder, owner) {
                     sum = sum.wrapping_add(*amount);
+                }
+            }
+        }
+        sum
+    }
+
+    /// How much those holders add that stay, modulo 2 to the 64, if there are any that add. This takes no memory.
+    pub fn sum_left<S: Survivors>(&self, survivors: &S) -> Option<i64>
+        ensures sum { result ≡ sum_if_any (filter (λ d. S.stays survivors.now d.0) self.now.held) }
+        ensures rising { IsStrictlySortedBy name_cmp (names_of self.now.held) }
+    {
+        let mut sum = None;
+        for (holder, row) in self.amounts.rows() {
+            if let Some(amount) = row {
+                if survivors.stays(holder) {
+                    sum = Some(with_more(sum, *amount));
                 }
             }
         }
@@ -155,6 +172,14 @@ impl Deltas {
     {
         self.amounts.keep(survivors);
     }
+}
+
+// The sum, if there is one, with so much more.
+#[tactic(auto, using(std::proofs::lemmas::Int::wraps))]
+fn with_more(sum: Option<i64>, amount: i64) -> i64
+    ensures { result ≡ sum_of (unwrap_or sum (pos 0)) amount }
+{
+    sum.unwrap_or(0).wrapping_add(amount)
 }
 
 // Whether the holder is no ancestor of the owner, if there is one.

@@ -7,7 +7,7 @@ use crate::stepping::{
     engine_answers, explain_action, keep_setup, keep_steps, lengthen_steps, list_answers,
     make_step, name_fault, rewrite_step,
 };
-use crate::stores::{Database, keep_database, run_over_stores};
+use crate::stores::{Database, keep_database, run_in_memory, run_over_stores};
 use crate::text::unescaped_text;
 use rows::{Row, RowFault, Subject};
 use run_model::Setup;
@@ -102,6 +102,7 @@ fn answer_of_run(
         "unlocked" => probe_locks(examples, row, answer),
         "database" => keep_database(examples, row.words()),
         "stored" => run_over_stores(examples, row.words(), answer),
+        "in_memory" => run_in_memory(examples, row.words(), answer),
         _ => Err(RowFault::Unread),
     }
 }

@@ -5,24 +5,20 @@ ghost use Rattle.script_engine.specs.Running.{IsFit};
 use crate::examples::Examples;
 use crate::pieces::Writer;
 use crate::scripts::script_of;
+use atomic_types::Part;
+use part_texts::part_text;
 use rows::{RowFault, Words};
 use script::Checked;
 use script_engine::{can_open, run_stored};
 use sql_store::SqlStable;
 use sqlite::{Connection, Error, ErrorCode, MemStore};
 use sqlite_resolve::CompileError;
-use stable_store::{Kept, StoreFault};
+use stable_store::{FailOnce, Kept, PlainStable, Stable, StoreFault};
 use std::alloc::{AllocError, Global};
 use std::collections::BTreeMap;
-use values::Content;
 
-/// The tables of a store, before that of the contents.
-const TABLES: &str = "CREATE TABLE meta(k TEXT PRIMARY KEY, v INTEGER NOT NULL);
-    CREATE TABLE prepared(top INTEGER PRIMARY KEY, home INTEGER NOT NULL);
-    CREATE TABLE prepared_val(top INTEGER NOT NULL REFERENCES prepared(top) ON DELETE CASCADE,
-        obj INTEGER NOT NULL, val TEXT NOT NULL, PRIMARY KEY(top, obj));
-    CREATE TABLE decided(top INTEGER PRIMARY KEY);
-    INSERT INTO meta VALUES ('version', 1), ('count', 3);";
+/// The table of the numbers.
+const META: &str = "CREATE TABLE meta(k TEXT PRIMARY KEY, v INTEGER NOT NULL);";
 
 /// The table of the contents.
 const BASE: &str = "CREATE TABLE base(obj INTEGER PRIMARY KEY, val TEXT NOT NULL);";
@@ -31,6 +27,20 @@ const BASE: &str = "CREATE TABLE base(obj INTEGER PRIMARY KEY, val TEXT NOT NULL
 const BASE_WITHOUT_FIVE: &str =
     "CREATE TABLE base(obj INTEGER PRIMARY KEY, val TEXT NOT NULL CHECK (val NOT LIKE '%5%'));";
 
+/// The other tables of version 1, and its numbers.
+const FIRST_TABLES: &str = "CREATE TABLE prepared(top INTEGER PRIMARY KEY, home INTEGER NOT NULL);
+    CREATE TABLE prepared_val(top INTEGER NOT NULL REFERENCES prepared(top) ON DELETE CASCADE,
+        obj INTEGER NOT NULL, val TEXT NOT NULL, PRIMARY KEY(top, obj));
+    CREATE TABLE decided(top INTEGER PRIMARY KEY);
+    INSERT INTO meta VALUES ('version', 1), ('count', 3);";
+
+/// What version 2 has beside that.
+const SECOND_TABLES: &str =
+    "CREATE TABLE prepared_delta(top INTEGER NOT NULL REFERENCES prepared(top) ON DELETE CASCADE,
+        obj INTEGER NOT NULL, add_by INTEGER NOT NULL, PRIMARY KEY(top, obj));
+    UPDATE meta SET v = 2 WHERE k = 'version';
+    INSERT INTO meta VALUES ('next_top', 9);";
+
 type MemStable = SqlStable<MemStore>;
 
 /// Which tables a database has.
@@ -38,9 +48,11 @@ type MemStable = SqlStable<MemStore>;
 enum Tables {
     /// None: it is new.
     None,
-    /// Those of a store.
-    All,
-    /// Those of a store, of which one takes no content with a 5.
+    /// Those of a store of version 1.
+    First,
+    /// Those of a store of version 2.
+    Second,
+    /// Those of a store of version 2, of which one takes no content with a 5.
     WithoutFive,
 }
 
@@ -56,7 +68,8 @@ pub(crate) struct Database {
 pub(crate) fn keep_database(examples: &mut Examples, mut words: Words<'_>) -> Result<(), RowFault> {
     let tables = match words.word()? {
         "new" => Tables::None,
-        "store" => Tables::All,
+        "first_store" => Tables::First,
+        "store" => Tables::Second,
         "without_five" => Tables::WithoutFive,
         _ => return Err(RowFault::Unread),
     };
@@ -85,6 +98,42 @@ pub(crate) fn run_over_stores(
         stores = opened_again(alloc, stores)?;
     }
     Ok(push_stores(alloc, stores.as_slice(), objects, answer)?)
+}
+
+/// `in_memory OBJECTS CALL WRITER ..`: what comes of runs of the section's script one after another, with these writers, over
+/// stores in memory, of each of which the call of this number fails: after each run the stores. Each guardian has so many
+/// objects.
+pub(crate) fn run_in_memory(
+    examples: &Examples,
+    mut words: Words<'_>,
+    answer: &mut String,
+) -> Result<(), RowFault> {
+    let alloc = examples.alloc;
+    let objects = words.number()? as usize;
+    let call = words.number()?;
+    let script = script_of(alloc, examples.script.as_str())?;
+    let mut stores = failing_stores(alloc, script.guardians.len(), call)?;
+    for word in words.rest().split(' ') {
+        if stores.len() != script.guardians.len() {
+            return Err(RowFault::Unread);
+        }
+        run(alloc, &script, stores.as_mut_slice(), word, answer)?;
+        push_stores(alloc, stores.as_slice(), objects, answer)?;
+    }
+    Ok(())
+}
+
+/// So many new stores in memory, of each of which the call of this number fails.
+fn failing_stores(
+    alloc: Global,
+    count: usize,
+    call: u64,
+) -> Result<Vec<FailOnce<PlainStable>>, AllocError> {
+    let mut stores = Vec::new(alloc);
+    for _ in 0..count {
+        stores.push(FailOnce::new(PlainStable::new(alloc), call))?;
+    }
+    Ok(stores)
 }
 
 /// A store in each of these databases.
@@ -120,17 +169,25 @@ fn in_memory(alloc: Global, database: &Database) -> Result<Connection<MemStore>,
     let mut conn = Connection::open_in_memory(alloc).map_err(|_| RowFault::Memory)?;
     match database.tables {
         Tables::None => return Ok(conn),
-        Tables::All => make_tables(&mut conn, BASE)?,
-        Tables::WithoutFive => make_tables(&mut conn, BASE_WITHOUT_FIVE)?,
+        Tables::First => make_tables(&mut conn, [META, BASE, FIRST_TABLES, ""])?,
+        Tables::Second => make_tables(&mut conn, [META, BASE, FIRST_TABLES, SECOND_TABLES])?,
+        Tables::WithoutFive => {
+            make_tables(
+                &mut conn,
+                [META, BASE_WITHOUT_FIVE, FIRST_TABLES, SECOND_TABLES],
+            )?
+        }
     }
     conn.execute_batch(database.batch.as_str())
         .map_err(fault_of)?;
     Ok(conn)
 }
 
-fn make_tables(conn: &mut Connection<MemStore>, base: &str) -> Result<(), RowFault> {
-    conn.execute_batch(TABLES).map_err(fault_of)?;
-    conn.execute_batch(base).map_err(fault_of)
+fn make_tables(conn: &mut Connection<MemStore>, batches: [&str; 4]) -> Result<(), RowFault> {
+    for batch in batches {
+        conn.execute_batch(batch).map_err(fault_of)?;
+    }
+    Ok(())
 }
 
 /// The fault of a statement that the database refused.
@@ -143,10 +200,10 @@ fn fault_of(error: Error) -> RowFault {
 }
 
 /// Runs a script over the stores with the writer of the word, and writes what that took and how the run ended.
-fn run(
+fn run<S: Stable>(
     alloc: Global,
     script: &Checked,
-    stores: &mut [MemStable],
+    stores: &mut [S],
     word: &str,
     answer: &mut String,
 ) -> Result<(), RowFault>
@@ -168,9 +225,9 @@ fn part(answer: &mut String) -> Result<(), AllocError> {
 }
 
 /// Writes of each store whether it can open a guardian that has so many objects, and what it holds.
-fn push_stores(
+fn push_stores<S: Stable>(
     alloc: Global,
-    stores: &[MemStable],
+    stores: &[S],
     objects: usize,
     answer: &mut String,
 ) -> Result<(), AllocError> {
@@ -190,13 +247,13 @@ fn push_stores(
 
 /// Writes what a store holds.
 fn push_kept(alloc: Global, kept: &Kept, answer: &mut String) -> Result<(), AllocError> {
-    let count = format!(in alloc; " count {}", kept.count)?;
-    answer.push_str(count.as_str())?;
-    push_contents(alloc, &kept.base, answer)?;
+    let numbers = format!(in alloc; " count {} next {}", kept.count, kept.next_top)?;
+    answer.push_str(numbers.as_str())?;
+    push_parts(alloc, &kept.base, answer)?;
     for (top, record) in &kept.prepared {
         let begin = format!(in alloc; " [{top}@{}:", record.home)?;
         answer.push_str(begin.as_str())?;
-        push_contents(alloc, &record.values, answer)?;
+        push_parts(alloc, &record.parts, answer)?;
         answer.push(']')?;
     }
     for top in &kept.decided {
@@ -206,14 +263,14 @@ fn push_kept(alloc: Global, kept: &Kept, answer: &mut String) -> Result<(), Allo
     Ok(())
 }
 
-/// Writes each object's number with its content.
-fn push_contents(
+/// Writes each object's number with the part that it has.
+fn push_parts(
     alloc: Global,
-    contents: &BTreeMap<u32, Content>,
+    parts: &BTreeMap<u32, Part>,
     answer: &mut String,
 ) -> Result<(), AllocError> {
-    for (object, content) in contents {
-        let spelling = content.text(alloc)?;
+    for (object, part) in parts {
+        let spelling = part_text(alloc, part)?;
         let entry = format!(in alloc; " {object}={}", spelling.as_str())?;
         answer.push_str(entry.as_str())?;
     }

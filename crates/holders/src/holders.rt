@@ -214,7 +214,7 @@ fn any_below<V>(rows: &BTreeMap<Name, Option<V>>, action: &Name) -> bool
 }
 
 // The first name of the action and its descendants that has a row.
-fn first_below<'a, V>(rows: &'a BTreeMap<Name, Option<V>>, action: &Name) -> Option<&'a Name>
+fn first_below<'a, R>(rows: &'a BTreeMap<Name, R>, action: &Name) -> Option<&'a Name>
     ensures none { IsNone result → list_any (λ r. is_ancestor action.now r.0) rows.now.entries ≡ false }
     ensures below { IfSome result (λ first. IsTrue (is_ancestor action.now first.now)) }
     ensures row { IfSome result (λ first. ContainsKey name_cmp rows.now first.now) }
@@ -227,11 +227,13 @@ fn first_below<'a, V>(rows: &'a BTreeMap<Name, Option<V>>, action: &Name) -> Opt
     }
 }
 
-// Removes the rows of the action and its descendants. A name is copied, since the one in the map can't be used while its row is removed.
-fn remove_below<V: Drop>(rows: &mut BTreeMap<Name, Option<V>>, action: &Name)
+/// Removes the rows of the action and its descendants, whatever a row is. It looks at these and one more. It takes memory, for a moment, only
+/// for names of more than 8 numbers; where there is none it does without, and looks at all.
+pub fn remove_below<R: Drop>(rows: &mut BTreeMap<Name, R>, action: &Name)
     ensures { rows.new.entries ≡ filter (λ r. not (is_ancestor action.now r.0)) rows.old.entries }
 {
     while let Some(first) = first_below(rows, action) {
+        // The name in the map can't be used while its row is removed.
         let Ok(name) = first.copy() else {
             rows.retain(|holder, _| !action.is_ancestor(holder));
             return;

@@ -6,5 +6,5 @@
 mod holders;
 mod survivors;
 
-pub use holders::Holders;
+pub use holders::{Holders, remove_below};
 pub use survivors::Survivors;

@@ -1,8 +1,9 @@
 -- What is said of a guardian: its opening, its number and its own history.
-use Rattle.std.specs.Prelude.{ℕ, ◌==◌, List, [], ◌∷◌, if◌then◌else◌}
+use Rattle.std.specs.Prelude.{ℕ, Bool, not, ◌&&◌, ◌==◌, List, [], ◌∷◌, if◌then◌else◌}
+use Rattle.action_names.specs.Names.{Name}
 use Rattle.run_model.specs.declared.history.Event.{Event}
 use Rattle.run_model.specs.Openings.{Opening}
-use Rattle.run_model.specs.LocalReadings.{Carried, LocalEvent}
+use Rattle.run_model.specs.LocalReadings.{Carried, LocalEvent, count_here, told_committed_here}
 use Rattle.run_model.specs.LocalHistories.{RegistryEvent, Stamped, history_after_lent}
 
 -- a guardian as contracts see it
@@ -18,6 +19,12 @@ pub record News : Type 0 where
 
 abbrev pub stamped : ℕ → News → LocalEvent
 stamped n news = record { stamp = n; event = news.event; carried = news.carried }
+
+-- How many objects a telling of this outcome changes. What was told committed holds nothing any more, and is never told aborted; so such a telling
+-- counts as one that changes nothing.
+abbrev pub count_told : GuardianState → Name → Bool → ℕ
+count_told g a committed =
+    if told_committed_here a g.past && not committed then 0 else count_here g.opening g.number a committed g.past
 
 -- the guardian after it kept an event
 abbrev pub kept : GuardianState → LocalEvent → GuardianState

@@ -1,9 +1,9 @@
--- What a message is to contracts, and which events write to a guardian's store.
+-- What a message is to contracts, and which events may fail at a guardian once there is room for them.
 use Rattle.std.specs.declared.alloc.Global.{Global}
 use Rattle.std.specs.Prelude.{ℕ, Bool, true, false, ◌==◌, List, [], ◌∷◌, Vec}
 use Rattle.action_names.specs.Names.{Name}
 use Rattle.run_model.specs.declared.step.Step.{Step}
-use Rattle.run_model.specs.declared.step.Step.TheVariants.{Prepare, Decide, Tell, Recover}
+use Rattle.run_model.specs.declared.step.Step.TheVariants.{Decide, Op, Prepare, Recover, Tell}
 use Rattle.run_model.specs.LocalReadings.{Carried}
 use Rattle.layer_contracts.specs.declared.message.Message.{Message}
 
@@ -23,10 +23,12 @@ carried_of m = record {
   restored = [];
 }
 
--- the event may write to g's store, where g is among those that it names
-abbrev pub stores : Step → ℕ → Bool
-stores (Prepare h t) g = h == g
-stores (Decide t) g = true
-stores (Tell h a) g = true
-stores (Recover h) g = true
-stores _ g = false
+-- What the event changes at g may fail though there is room, where g is among those that the event names: it may write to g's store, or it is an
+-- operation, which an object makes by one call that takes memory.
+abbrev pub may_fail : Step → ℕ → Bool
+may_fail (Op a x wanted) g = true
+may_fail (Prepare h t) g = h == g
+may_fail (Decide t) g = true
+may_fail (Tell h a) g = true
+may_fail (Recover h) g = true
+may_fail _ g = false

@@ -4,10 +4,11 @@ ghost use Rattle.run_model.specs.Actions.{crashes, is_busy, is_done, is_down, is
 ghost use Rattle.run_model.specs.Answers.{operated_by};
 ghost use Rattle.run_model.specs.Openings.{objects_at, first_content, opening_in};
 ghost use Rattle.run_model.specs.Runs.{is_accepted};
-ghost use Rattle.run_model.specs.LocalReadings.{count_here, events_here, is_at_home, is_orphan_here, standing_here, told_here, unsent_aborts, unsent_counts};
+ghost use Rattle.run_model.specs.LocalReadings.{events_here, is_at_home, is_orphan_here, standing_here, told_here, unsent_aborts, unsent_counts};
 ghost use Rattle.local_laws.specs.Owed.{IsOwed};
-ghost use Rattle.layer_contracts.specs.Guardians.{GuardianState, News, kept, stamped};
-ghost use Rattle.layer_contracts.specs.Messages.{carried_of, stores};
+ghost use Rattle.local_agreement.specs.Laws.{Agrees};
+ghost use Rattle.layer_contracts.specs.Guardians.{GuardianState, News, count_told, kept, stamped};
+ghost use Rattle.layer_contracts.specs.Messages.{carried_of, may_fail};
 
 use crate::message::Message;
 use run_model::{Answer, Event, Name, Names, ObjectId, Op, Opening};
@@ -86,9 +87,9 @@ pub trait Guardian: Drop {
     fn was_told(&self, action: &Name) -> bool
         ensures { result ≡ told_here (state self.now).number action.now (state self.now).past };
 
-    /// How many of its objects a telling of this outcome changes.
-    fn told_count(&self, action: &Name, committed: bool) -> u64
-        ensures { result ≡ count_here (state self.now).opening (state self.now).number action.now committed (state self.now).past };
+    /// How many of its objects a telling of this outcome changes. Fails only for want of memory.
+    fn told_count(&self, action: &Name, committed: bool) -> Result<u64, AllocError>
+        ensures { IfOk result (λ count. count ≡ count_told (state self.now) action.now committed) };
 
     /// What an operation that nothing refuses is answered: the reply, or for whom it waits.
     fn operated(
@@ -112,17 +113,20 @@ pub trait Guardian: Drop {
     fn unsent_counts(&self, to: &Self) -> Result<Vec<(u32, u64)>, AllocError>
         ensures { IfOk result (λ counts. counts.items ≡ unsent_counts (state self.now).number (state to.now).number (state self.now).past (state to.now).past) };
 
-    /// Makes room for an event and computes what it changes, where it brings what this guardian's own history asks of it. With memory and
-    /// without, the guardian's history is the one that it was.
+    /// Makes room for an event and computes what it changes, where it brings what this guardian's own history asks of it, and agrees with that
+    /// history. With memory and without, the guardian's history is the one that it was.
     fn plan(&mut self, event: &Event, message: Message) -> Result<Self::Plan, AllocError>
         requires accepted { IsTrue (is_accepted event.now.answer) }
         requires owed { IsOwed (state self.old).opening (state self.old).number
             (stamped 0 (record { event = event.now; carried = carried_of message })) (state self.old).past event.now.step }
+        requires agrees { Agrees (state self.old).opening (state self.old).number
+            (stamped 0 (record { event = event.now; carried = carried_of message })) (state self.old).past }
         ensures same { state self.new ≡ state self.old }
         ensures fits { IfOk result (λ plan. fits plan self.new) }
         ensures planned { IfOk result (λ plan. planned plan ≡ record { event = event.now; carried = carried_of message }) };
 
-    /// Carries a plan out whose event writes to the stable store: the store's call, then the stamp, then the changes, which cannot fail.
+    /// Carries a plan out whose event writes to the stable store, or is an operation: first the store's call, or the object's, then the stamp,
+    /// then the changes, which cannot fail.
     fn carry_out<F: FnOnce() -> u64>(&mut self, plan: Self::Plan, stamp: F) -> Result<u64, Fault>
         requires stamp { F.pre stamp }
         requires fits { fits plan self.old }
@@ -130,9 +134,9 @@ pub trait Guardian: Drop {
         ensures kept { IfOk result (λ n. state self.new ≡ kept (state self.old) (stamped n (planned plan))) }
         ensures err { OnErr result (state self.new ≡ state self.old) };
 
-    /// Carries a plan out whose event does not write to this guardian's store. This cannot fail.
+    /// Carries a plan out whose event neither writes to this guardian's store nor is an operation. This cannot fail.
     fn install(&mut self, plan: Self::Plan, stamp: u64)
         requires fits { fits plan self.old }
-        requires quiet { IsFalse (stores (planned plan).event.step (state self.old).number) }
+        requires quiet { IsFalse (may_fail (planned plan).event.step (state self.old).number) }
         ensures { state self.new ≡ kept (state self.old) (stamped stamp (planned plan)) };
 }

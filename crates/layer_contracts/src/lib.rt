@@ -6,8 +6,10 @@
 
 mod forest;
 mod guardian;
+mod judging;
 mod message;
 
 pub use forest::Forest;
 pub use guardian::{Fault, Guardian};
+pub use judging::Judging;
 pub use message::Message;

@@ -20,6 +20,7 @@ use Rattle.layer_contracts.specs.Guardians.{GuardianState, after_step, lent_two,
 use Rattle.layer_contracts.specs.Forests.{ForestState}
 use Rattle.lent_steps.specs.Keeping.{IsDone, is_operation}
 use Rattle.layered_world.specs.Standings.{AreSame, IsKeptAt, IsReady, IsWorld, Names, forest_of, standing}
+use Rattle.layered_world.proofs.Agreed.{agrees_lent}
 use Rattle.layered_world.proofs.Inside.{IsInside, named_inside}
 use Rattle.layered_world.proofs.Led.{answers_two, lent_or_out, numbered_events, runs, stands, there_is}
 use Rattle.layered_world.proofs.Places.{back_at, front_at, set_back, set_front, set_other, some_eq, there}
@@ -72,6 +73,8 @@ ready state past f gs e low high w n r l k = record {
               (owed_there f.opening (length (e ∷ past), e) (numbered past) g (runs f.opening (e ∷ past) r)
               (sym (names_same (events_there (registry_history f.opening (numbered past))) (events_of (numbered past)) g (registry_same f.opening (numbered past) (runs f.opening past r.2)) e.step)
               ∙ named past f e low high g w.forest r n (sym (n g) ∙ m)));
+          agrees = λ g q m. agrees_lent past f e low high g (state a) (state b) w.forest r n x y
+              (ap₂ (λ u v. (u == g) || (v == g)) (sym (ap (λ s. s.number) x)) (sym (ap (λ s. s.number) y)) ∙ q);
         },
       );
 }

@@ -8,10 +8,11 @@ use Rattle.run_model.specs.Actions.{crashes, home_of}
 use Rattle.run_model.specs.LocalHistories.{carried_lent, events_there, home_lent, life_lent, names_guardian, registry_after, registry_event_lent, takes_registry}
 use Rattle.run_model.specs.LocalReadings.{Carried, LocalEvent, events_here}
 use Rattle.local_laws.specs.Owed.{IsOwed}
+use Rattle.local_agreement.specs.Laws.{Agrees}
 use Rattle.run_laws.proofs.Names.{eqb_self}
 use Rattle.layer_contracts.specs.Guardians.{GuardianState, News, after_step, kept, lent_two, stamped}
 use Rattle.layer_contracts.specs.Forests.{ForestState, RegistryNews, begun_at, stamped_there}
-use Rattle.layer_contracts.specs.Messages.{stores}
+use Rattle.layer_contracts.specs.Messages.{may_fail}
 use Rattle.lent_steps.specs.Keeping.{IsBrought, IsPlannedAt, IsPlannedThere}
 
 -- each of two that differ is lent
@@ -95,9 +96,16 @@ pub brought_owed : {M : Type 0} (f : ForestState) (a b x : GuardianState) (e : E
 brought_owed f a b x e None carried q = tt
 brought_owed f a b x e (Some message) carried q = q.owed
 
--- one store only is written to
+-- and agrees
+pub brought_agrees : {M : Type 0} (f : ForestState) (a b x : GuardianState) (e : Event) (m : Option M) (carried : M → Carried)
+    → MatchOption m (names_guardian e.step (events_there f.registry) x.number ≡ false) (λ message. IsBrought f a b e x (carried message))
+    → MatchOption m (Unit {0}) (λ message. Agrees x.opening x.number (stamped 0 (record { event = e; carried = carried message })) x.past)
+brought_agrees f a b x e None carried q = tt
+brought_agrees f a b x e (Some message) carried q = q.agrees
+
+-- at one guardian only the event may fail
 quiet : (step : Step) (f : ForestState) (m n : ℕ) → names_guardian step (events_there f.registry) m ≡ true → names_guardian step (events_there f.registry) n ≡ true
-    → (m == n) ≡ false → stores step m ≡ true → stores step n ≡ false
+    → (m == n) ≡ false → may_fail step m ≡ true → may_fail step n ≡ false
 quiet (Prepare h t) f m n p q d s = of (h == n) refl
   where
     of : (t : Bool) → (h == n) ≡ t → (h == n) ≡ false
@@ -110,17 +118,18 @@ quiet (Top g) f m n p q d s = absurd (false≢true s)
 quiet (NestedTop a) f m n p q d s = absurd (false≢true s)
 quiet (Call a g) f m n p q d s = absurd (false≢true s)
 quiet (Arms a kinds) f m n p q d s = absurd (false≢true s)
-quiet (Op a x wanted) f m n p q d s = absurd (false≢true s)
+quiet (Op a x wanted) f m n p q d s =
+    absurd (true≢false (sym (ap (λ k. k == n) (sym (eqb-true (home_of a (events_there f.registry)) m p)) ∙ q) ∙ d))
 quiet (Commit a) f m n p q d s = absurd (false≢true s)
 quiet (Close t) f m n p q d s = absurd (false≢true s)
 quiet (Abort a) f m n p q d s = absurd (false≢true s)
 quiet (Crash g) f m n p q d s = absurd (false≢true s)
 
--- so the other plan writes to none
+-- so the other plan cannot fail
 pub quiet_plan : {P : Type 0} (f : ForestState) (a b x y : GuardianState) (e : Event) (o : Option P) (planned : P → News)
-    → names_guardian e.step (events_there f.registry) x.number ≡ true → stores e.step x.number ≡ true → (x.number == y.number) ≡ false
+    → names_guardian e.step (events_there f.registry) x.number ≡ true → may_fail e.step x.number ≡ true → (x.number == y.number) ≡ false
     → MatchOption o (names_guardian e.step (events_there f.registry) y.number ≡ false) (λ plan. IsPlannedAt f a b e y (planned plan))
-    → MatchOption o (Unit {0}) (λ plan. IsFalse (stores (planned plan).event.step y.number))
+    → MatchOption o (Unit {0}) (λ plan. IsFalse (may_fail (planned plan).event.step y.number))
 quiet_plan f a b x y e None planned n s d q = tt
 quiet_plan f a b x y e (Some plan) planned n s d q =
-    ap (λ news. stores news.event.step y.number) q.planned ∙ quiet e.step f x.number y.number n q.named d s
+    ap (λ news. may_fail news.event.step y.number) q.planned ∙ quiet e.step f x.number y.number n q.named d s

@@ -3,3 +3,4 @@ pub mod Owing
 pub mod New
 pub mod Left
 pub mod Own
+pub mod Agreed

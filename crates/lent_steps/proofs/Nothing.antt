@@ -14,7 +14,7 @@ use Rattle.run_model.specs.Lists.{guardians_of, is_below, up_to}
 use Rattle.run_model.specs.LocalReadings.{count_here, dependency_here, is_orphan_here, known_crashes_here}
 use Rattle.run_laws.proofs.Accepted.{none_applies}
 use Rattle.run_model.specs.LocalReadings.{LocalEvent}
-use Rattle.layer_contracts.specs.Guardians.{GuardianState}
+use Rattle.layer_contracts.specs.Guardians.{GuardianState, count_told}
 use Rattle.run_model.specs.declared.answer.Refusal.TheVariants as why
 use Rattle.values.specs.declared.content.Content.{Content}
 
@@ -39,13 +39,14 @@ is_known opening f a x wanted h =
     let n = none_applies (checks_by opening f (Op a x wanted)) h in
     not-false _ (n why.BadOp)
 
-pub same_count : (opening : Opening) (g : ℕ) (past : List LocalEvent) (a : Name) (r : ℕ) (x : GuardianState) (t u : Bool)
-    → r ≡ count_here x.opening x.number a t x.past → x.opening ≡ opening → x.number ≡ g → x.past ≡ past → t ≡ u → r ≡ count_here opening g a u past
-same_count opening g past a r x t u h e n p q =
-    h ∙ ap (λ s. count_here s x.number a t x.past) e ∙ ap (λ s. count_here opening s a t x.past) n ∙ ap (λ s. count_here opening g a t s) p ∙ ap (λ s. count_here opening g a s past) q
+pub same_count : (opening : Opening) (g : ℕ) (past : List LocalEvent) (a : Name) (x : GuardianState) (t u : Bool)
+    → x.opening ≡ opening → x.number ≡ g → x.past ≡ past → t ≡ u → count_told x a t ≡ count_told (record { opening = opening; number = g; past = past }) a u
+same_count opening g past a x t u e n p q = λ i. count_told (record { opening = e i; number = n i; past = p i }) a (q i)
 
-pub none_count : (opening : Opening) (g : ℕ) (past : List LocalEvent) (a : Name) (u : Bool) → past ≡ [] → 0 ≡ count_here opening g a u past
-none_count opening g past a u p = sym (ap (λ s. count_here opening g a u s) p ∙ nobody_count opening g a u)
+pub none_count : (opening : Opening) (g : ℕ) (past : List LocalEvent) (a : Name) (u : Bool) → past ≡ []
+    → 0 ≡ count_told (record { opening = opening; number = g; past = past }) a u
+none_count opening g past a u p =
+    sym (ap (λ s. count_told (record { opening = opening; number = g; past = s }) a u) p ∙ nobody_count opening g a u)
 
 pub still_known : (opening other : Opening) (x : ObjectId) (wanted : op.Op) → knows (first_content opening x) wanted ≡ true → other ≡ opening → knows (first_content other x) wanted ≡ true
 still_known opening other x wanted k e = ap (λ s. knows (first_content s x) wanted) e ∙ k

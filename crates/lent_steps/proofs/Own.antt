@@ -15,8 +15,6 @@ use Rattle.run_model.specs.Openings.{Opening}
 use Rattle.run_model.specs.Runs.{is_accepted}
 use Rattle.local_laws.specs.Owed.{IsOwed}
 use Rattle.layer_contracts.specs.Guardians.{stamped}
-use Rattle.layer_contracts.specs.Messages.{stores}
-use Rattle.lent_steps.specs.Keeping.{is_operation}
 use Rattle.run_laws.proofs.Accepted.{none_applies}
 use Rattle.run_model.specs.declared.answer.Refusal.TheVariants as why
 use Rattle.lent_steps.proofs.Owing.{none_if_accepted}
@@ -45,8 +43,3 @@ pub owed_here : (opening : Opening) (g : ℕ) (a : Name) (x : ObjectId) (wanted 
 owed_here opening g a x wanted here e m s h k =
     let none = none_if_accepted _ (outcome_by (facts_here opening g here).next (results_here opening here) (Op a x wanted)) (sym (ap is_accepted h) ∙ k) in
     subst (λ step. IsOwed opening g (stamped 0 (record { event = e; carried = m })) here step) (sym s) (on_roster opening g a x wanted here none, h)
-
--- an operation writes to no store
-pub operation_quiet : (step : Step) (g : ℕ) → is_operation step ≡ true → stores step g ≡ false
-operation_quiet (Op a x wanted) g h = refl
-operation_quiet _ g h = absurd (false≢true h)

@@ -1,5 +1,5 @@
 -- What an accepted step leaves of what it was lent.
-use Rattle.std.specs.Prelude.{◌≡◌, ℕ, Bool, true, false, IsTrue}
+use Rattle.std.specs.Prelude.{◌≡◌, ℕ, Bool, true, false, ◌==◌, ◌||◌, IsTrue}
 use Rattle.run_model.specs.declared.step.Step.{Step}
 use Rattle.run_model.specs.declared.step.Step.TheVariants.{Op}
 use Rattle.run_model.specs.declared.answer.Answer.{Answer}
@@ -8,6 +8,7 @@ use Rattle.run_model.specs.Runs.{is_accepted}
 use Rattle.run_model.specs.LocalReadings.{Carried, nothing_carried}
 use Rattle.run_model.specs.LocalHistories.{answer_lent, carried_lent, events_there, home_lent, life_lent, names_guardian, registry_after, takes_registry}
 use Rattle.local_laws.specs.Owed.{IsOwed}
+use Rattle.local_agreement.specs.Laws.{Agrees}
 use Rattle.layer_contracts.specs.Guardians.{GuardianState, News, after_step, kept, lent_two, stamped}
 use Rattle.layer_contracts.specs.Forests.{ForestState, RegistryNews, begun_at}
 
@@ -15,19 +16,27 @@ abbrev pub is_operation : Step → Bool
 is_operation (Op a x wanted) = true
 is_operation _ = false
 
+-- the event agrees with the histories of those lent that it names
+abbrev pub AgreesTwo : ForestState → GuardianState → GuardianState → Event → Type 0
+AgreesTwo f a b e = (g : ℕ) → ((a.number == g) || (b.number == g)) ≡ true → names_guardian e.step (events_there f.registry) g ≡ true
+    → Agrees f.opening g (stamped 0 (record { event = e; carried = carried_lent f.opening e g f.registry (lent_two a b) })) (lent_two a b g)
+
 -- The event is answered as what was lent has it, and accepted. Of an operation what its guardian's own history asks is asked of the
--- caller: the forest, which alone is read here for whether the action was begun, does not say that it is on the roster.
+-- caller: the forest, which alone is read here for whether the action was begun, does not say that it is on the roster. And so is that the event
+-- agrees with the histories of the guardians that it names, of which the forest knows nothing.
 pub record IsAnswered (f : ForestState) (a b : GuardianState) (e : Event) : Type 0 where
   pub answer : e.answer ≡ answer_lent f.opening f.registry (lent_two a b) e.step
   pub accepted : IsTrue (is_accepted e.answer)
   pub operation : (g : ℕ) → IsTrue (is_operation e.step) → names_guardian e.step (events_there f.registry) g ≡ true
       → IsOwed f.opening g (stamped 0 (record { event = e; carried = carried_lent f.opening e g f.registry (lent_two a b) })) (lent_two a b g) e.step
+  pub agrees : AgreesTwo f a b e
 
 -- what the event brings to a guardian that it names, as that guardian's own history asks of it
 pub record IsBrought (f : ForestState) (a b : GuardianState) (e : Event) (x : GuardianState) (brought : Carried) : Type 0 where
   pub named : names_guardian e.step (events_there f.registry) x.number ≡ true
   pub carried : brought ≡ carried_lent f.opening e x.number f.registry (lent_two a b)
   pub owed : IsOwed x.opening x.number (stamped 0 (record { event = e; carried = brought })) x.past e.step
+  pub agrees : Agrees x.opening x.number (stamped 0 (record { event = e; carried = brought })) x.past
 
 -- a plan for a guardian that the event names
 pub record IsPlannedAt (f : ForestState) (a b : GuardianState) (e : Event) (x : GuardianState) (news : News) : Type 0 where

@@ -1,13 +1,15 @@
 -- What a step is lent: the forest, and two guardians, which may be the same one twice.
-use Rattle.std.specs.Prelude.{◌≡◌, ℕ, ◌==◌, List, [], ◌∷◌, map, filter}
+use Rattle.std.specs.Prelude.{◌≡◌, ℕ, true, ◌==◌, ◌||◌, IsTrue, List, [], ◌∷◌, map, filter}
 use Rattle.action_names.specs.Names.{Name}
 use Rattle.run_model.specs.declared.history.Event.{Event}
-use Rattle.run_model.specs.Actions.{home_of, names_begun}
+use Rattle.run_model.specs.declared.step.Step.{Step}
+use Rattle.run_model.specs.declared.step.Step.TheVariants.{Tell}
+use Rattle.run_model.specs.Actions.{home_of, is_committed, names_begun}
 use Rattle.run_model.specs.Answers.{Results}
 use Rattle.run_model.specs.Refusals.{Facts}
-use Rattle.run_model.specs.LocalReadings.{LocalEvent}
+use Rattle.run_model.specs.LocalReadings.{LocalEvent, told_committed_here}
 use Rattle.run_model.specs.LocalHistories.{action_lent, dependencies_sent, dependency_there, entries_of, events_there, facts_lent, home_lent, results_lent}
-use Rattle.layer_contracts.specs.Guardians.{GuardianState, lent_two}
+use Rattle.layer_contracts.specs.Guardians.{GuardianState, count_told, lent_two}
 use Rattle.layer_contracts.specs.Forests.{ForestState, new_entries}
 
 abbrev pub facts_two : ForestState → GuardianState → GuardianState → Facts
@@ -15,6 +17,17 @@ facts_two f a b = facts_lent f.opening f.registry (lent_two a b)
 
 abbrev pub results_two : ForestState → GuardianState → GuardianState → Results
 results_two f a b = results_lent f.opening f.registry (lent_two a b)
+
+-- the same, where a guardian that was told a commit counts nothing for a telling that the action aborted
+abbrev pub results_told : ForestState → GuardianState → GuardianState → Results
+results_told f a b = record (results_two f a b) {
+  count = λ g c. count_told (record { opening = f.opening; number = g; past = lent_two a b g }) c (is_committed c (events_there f.registry));
+}
+
+-- of an action that a guardian was told committed the forest says so too, where the step tells that guardian its outcome
+abbrev pub IsTellable : ForestState → GuardianState → GuardianState → Step → Type 0
+IsTellable f a b (Tell g c) = IsTrue (told_committed_here c (lent_two a b g)) → IsTrue (is_committed c (events_there f.registry))
+IsTellable f a b _ = Unit {0}
 
 -- no guardian is lent
 abbrev pub nobody : ℕ → List LocalEvent
@@ -40,6 +53,7 @@ pub record IsAt (f : ForestState) (a b : GuardianState) (g : ℕ) (x : GuardianS
 -- the guardian x is one of those that are lent
 pub record IsOneOf (a b x : GuardianState) : Type 0 where
   pub past : x.past ≡ lent_two a b x.number
+  pub number : ((a.number == x.number) || (b.number == x.number)) ≡ true
 
 -- new actions with their dependencies
 abbrev pub new_from : ForestState → ℕ → ℕ → List Name → List (Name × List (ℕ × ℕ))

@@ -2,7 +2,7 @@
 ghost use Rattle.std.specs.Prelude.{◌≡◌, IfOk};
 ghost use Rattle.run_model.specs.LocalHistories.{answer_lent};
 ghost use Rattle.layer_contracts.specs.Guardians.{lent_two};
-ghost use Rattle.lent_steps.specs.Lending.{OneOpening, nobody};
+ghost use Rattle.lent_steps.specs.Lending.{IsTellable, OneOpening, nobody};
 
 use crate::alone::Alone;
 use crate::lent::Lent;
@@ -20,7 +20,8 @@ pub fn answer_two<R: Forest, G: Guardian>(
     second: &G,
     step: &Step,
 ) -> Result<Answer, AllocError>
-    requires { OneOpening (R.state forest.now) (G.state first.now) (G.state second.now) }
+    requires sound { OneOpening (R.state forest.now) (G.state first.now) (G.state second.now) }
+    requires tellable { IsTellable (R.state forest.now) (G.state first.now) (G.state second.now) step.now }
     ensures { IfOk result (λ answer. answer ≡ answer_lent (R.state forest.now).opening (R.state forest.now).registry
         (lent_two (G.state first.now) (G.state second.now)) step.now) }
 {

@@ -8,8 +8,9 @@ ghost use Rattle.layer_contracts.specs.Guardians.{kept, stamped};
 ghost use Rattle.layer_contracts.specs.Messages.{carried_of};
 ghost use Rattle.lent_steps.specs.Keeping.{IsOperated, is_operation};
 
+use crate::fault::LockedFault;
 use action_names::{Name, Names};
-use layer_contracts::{Guardian, Message};
+use layer_contracts::{Guardian, Judging, Message};
 use run_model::{Answer, Event, ObjectId, Op, Opening, Step};
 use std::alloc::{AllocError, Global};
 use step_answers::{ReadsAction, operation_of};
@@ -68,15 +69,15 @@ impl<'a, G: Guardian> ReadsAction for Here<'a, G> {
 }
 
 /// An operation of an action on the guardian's roster, answered and kept by the guardian alone. One that is refused or waits changes nothing, and
-/// so does a want of memory. An action that is not on the roster is no action here: whether there is one elsewhere the forest knows.
-pub fn operate<G: Guardian, F: FnOnce() -> u64>(
+/// so does a fault: want of memory, or one that does not agree with the guardian's history. An action that is not on the roster is no action here: whether there is one elsewhere the forest knows.
+pub fn operate<G: Judging, F: FnOnce() -> u64>(
     alloc: Global,
     guardian: &mut G,
     action: &Name,
     object: ObjectId,
     operation: &Op,
     stamp: F,
-) -> Result<Answer, AllocError>
+) -> Result<Answer, LockedFault>
     requires { F.pre stamp }
     ensures answer { IfOk result (λ answer. answer ≡ operation_here (G.state guardian.old).opening (G.state guardian.old).number action.now object operation.now
         (G.state guardian.old).past) }
@@ -125,12 +126,12 @@ fn operation_event(
 }
 
 /// Keeps an accepted operation, which brings no message.
-fn keep_operation<G: Guardian, F: FnOnce() -> u64>(
+fn keep_operation<G: Judging, F: FnOnce() -> u64>(
     alloc: Global,
     guardian: &mut G,
     event: &Event,
     stamp: F,
-) -> Result<(), AllocError>
+) -> Result<(), LockedFault>
     requires stamp { F.pre stamp }
     requires operation { IsTrue (is_operation event.now.step) }
     requires accepted { IsTrue (is_accepted event.now.answer) }
@@ -140,9 +141,12 @@ fn keep_operation<G: Guardian, F: FnOnce() -> u64>(
         (stamped n (record { event = event.now; carried = nothing_carried })))) }
     ensures err { OnErr result (G.state guardian.new ≡ G.state guardian.old) }
 {
-    let plan = guardian.plan(event, no_message(alloc))?;
-    let number = stamp();
-    guardian.install(plan, number);
+    let nothing = no_message(alloc);
+    if !guardian.agrees(event, &nothing)? {
+        return Err(LockedFault::Disagrees);
+    }
+    let plan = guardian.plan(event, nothing)?;
+    guardian.carry_out(plan, stamp)?;
     Ok(())
 }
 

@@ -3,7 +3,8 @@ ghost use Rattle.std.specs.Prelude.{◌≡◌, ◌==◌, ◌∷◌, ℕ, Bool, t
 ghost use Rattle.run_model.specs.Runs.{is_accepted};
 ghost use Rattle.run_model.specs.LocalHistories.{answer_lent, carried_lent, events_there, home_lent, life_lent, names_guardian, registry_after, takes_registry};
 ghost use Rattle.layer_contracts.specs.Guardians.{after_step, kept, lent_two, stamped};
-ghost use Rattle.layer_contracts.specs.Messages.{carried_of, stores};
+ghost use Rattle.local_agreement.specs.Laws.{Agrees};
+ghost use Rattle.layer_contracts.specs.Messages.{carried_of, may_fail};
 ghost use Rattle.layer_contracts.specs.Forests.{entered, stamped_there};
 ghost use Rattle.local_laws.specs.Owed.{IsOwed};
 ghost use Rattle.lent_steps.specs.Lending.{IsOneOf, OneOpening};
@@ -16,7 +17,7 @@ use run_model::{Event, Step};
 use std::alloc::{AllocError, Global};
 
 /// Whether the step names the guardian of this number.
-fn is_named<R: Forest>(forest: &R, step: &Step, guardian: u32) -> bool
+pub(crate) fn is_named<R: Forest>(forest: &R, step: &Step, guardian: u32) -> bool
     ensures { result ≡ names_guardian step.now (events_there (R.state forest.now).registry) guardian }
 {
     let (first, second) = named(forest, step);
@@ -51,6 +52,8 @@ fn plan_at<G: Guardian>(
     requires accepted { IsTrue (is_accepted event.now.answer) }
     requires owed { MatchOption brought (Unit {0}) (λ message. IsOwed (G.state guardian.old).opening (G.state guardian.old).number
         (stamped 0 (record { event = event.now; carried = carried_of message })) (G.state guardian.old).past event.now.step) }
+    requires agrees { MatchOption brought (Unit {0}) (λ message. Agrees (G.state guardian.old).opening (G.state guardian.old).number
+        (stamped 0 (record { event = event.now; carried = carried_of message })) (G.state guardian.old).past) }
     ensures same { G.state guardian.new ≡ G.state guardian.old }
     ensures fits { IfOk result (λ planned. MatchOption planned (Unit {0}) (λ plan. G.fits plan guardian.new)) }
     ensures planned { IfOk result (λ planned. MatchOption brought (is_none planned ≡ true) (λ message. MatchOption planned ⊥
@@ -82,13 +85,13 @@ fn plan_there<R: Forest>(
     Ok(Some(forest.plan(event, home, life)?))
 }
 
-/// Whether the event may write to the store of this guardian, which it names.
-fn stores(step: &Step, guardian: u32) -> bool
-    ensures { result ≡ stores step.now guardian }
+/// Whether what the event changes at this guardian, which it names, may fail though there is room.
+fn may_fail(step: &Step, guardian: u32) -> bool
+    ensures { result ≡ may_fail step.now guardian }
 {
     match step {
         Step::Prepare(at, _) => *at == guardian,
-        Step::Decide(_) | Step::Tell(..) | Step::Recover(_) => true,
+        Step::Op(..) | Step::Decide(_) | Step::Tell(..) | Step::Recover(_) => true,
         _ => false,
     }
 }
@@ -113,7 +116,7 @@ fn carry_out<G: Guardian, F: FnOnce() -> u64>(
 
 fn install<G: Guardian>(guardian: &mut G, plan: Option<G::Plan>, stamp: u64)
     requires fits { MatchOption plan (Unit {0}) (λ plan. G.fits plan guardian.old) }
-    requires quiet { MatchOption plan (Unit {0}) (λ plan. IsFalse (stores (G.planned plan).event.step (G.state guardian.old).number)) }
+    requires quiet { MatchOption plan (Unit {0}) (λ plan. IsFalse (may_fail (G.planned plan).event.step (G.state guardian.old).number)) }
     ensures { MatchOption plan (G.state guardian.new ≡ G.state guardian.old)
         (λ plan. G.state guardian.new ≡ kept (G.state guardian.old) (stamped stamp (G.planned plan))) }
 {
@@ -133,7 +136,7 @@ fn install_there<R: Forest>(forest: &mut R, plan: Option<R::Plan>, stamp: u64)
 }
 
 /// After an accepted step that was lent two guardians: all of them keep its event as far as it names them. Room is made first; then comes
-/// the one call of a store, if there is one, then the stamp, then what cannot fail. After an error all are as they were.
+/// the one call of a store or of an object, if there is one, then the stamp, then what cannot fail. After an error all are as they were.
 pub fn keep_two<R: Forest, G: Guardian, F: FnOnce() -> u64>(
     alloc: Global,
     forest: &mut R,
@@ -166,7 +169,7 @@ pub fn keep_two<R: Forest, G: Guardian, F: FnOnce() -> u64>(
     let there = plan_there(forest, event, home, life)?;
     let one = plan_at(first, event, to_first)?;
     let other = plan_at(second, event, to_second)?;
-    if one.is_some() && stores(&event.step, first.number()) {
+    if one.is_some() && may_fail(&event.step, first.number()) {
         let number = carry_out(first, one, stamp)?;
         install(second, other, number);
         install_there(forest, there, number);

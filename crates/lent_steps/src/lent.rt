@@ -1,6 +1,6 @@
 ghost use Rattle.std.specs.Prelude.{◌≡◌, ◌≤◌, ℕ, [], IfOk, MatchOption, IsTrue, None};
 ghost use Rattle.layer_contracts.specs.Guardians.{lent_two};
-ghost use Rattle.lent_steps.specs.Lending.{IsAt, OneOpening, facts_two, results_two};
+ghost use Rattle.lent_steps.specs.Lending.{IsAt, OneOpening, facts_two, results_told};
 
 use action_names::Name;
 use atomic_types::AtomicType;
@@ -39,7 +39,7 @@ impl<'a, R: Forest, G: Guardian> ReadsAction for Lent<'a, R, G> {
 
     ghost facts = { λ x. facts_two (R.state x.forest.now) (G.state x.first.now) (G.state x.second.now) };
 
-    ghost results = { λ x. results_two (R.state x.forest.now) (G.state x.first.now) (G.state x.second.now) };
+    ghost results = { λ x. results_told (R.state x.forest.now) (G.state x.first.now) (G.state x.second.now) };
 
     ghost is_sound = { λ x. OneOpening (R.state x.forest.now) (G.state x.first.now) (G.state x.second.now) };
 
@@ -148,9 +148,9 @@ impl<'a, R: Forest, G: Guardian> Reads for Lent<'a, R, G> {
 
     fn told_count(&self, guardian: u32, action: &Name) -> Result<u64, AllocError> {
         let committed = self.forest.is_committed(action);
-        Ok(match self.at(guardian) {
+        match self.at(guardian) {
             Some(guardian) => guardian.told_count(action, committed),
-            None => 0,
-        })
+            None => Ok(0),
+        }
     }
 }

@@ -1,10 +1,10 @@
 -- What an event says of outcomes agrees with what the guardian was told.
 use Rattle.std.proofs.Common.{Bool, List, [], ap, cond, false, filter, map, not, refl, subst, sym, true, ℕ, ◌&&◌, ◌==◌, ◌∙◌, ◌∷◌, ◌≡◌}
-use Rattle.std.proofs.lemmas.Bool.{and_parts, false_from_ne_true, or_left}
-use Rattle.std.specs.List.{AllByRecursion}
+use Rattle.std.proofs.lemmas.Bool.{and_from, and_parts, false_from_ne_true, or_left}
+use Rattle.std.specs.List.{AllByRecursion, list_all}
 use Rattle.std.specs.List.Sorted.{IsStrictlySortedBy}
 use Rattle.std.specs.declared.cmp.Ordering.TheVariants.{Less}
-use Rattle.action_names.specs.Names.{Name, is_proper_ancestor, name_cmp, rising_names}
+use Rattle.action_names.specs.Names.{Name, insert_name, is_proper_ancestor, name_cmp, name_lt, rising_names, same_name}
 use Rattle.run_model.specs.declared.answer.Refusal.TheVariants as why
 use Rattle.run_model.specs.declared.history.Event.{Event}
 use Rattle.run_model.specs.declared.step.Step.{Step}
@@ -19,12 +19,12 @@ use Rattle.run_model.specs.Telling.{tells, told_committed, was_told}
 use Rattle.run_laws.proofs.Accepted.{NoneApplies, checked}
 use Rattle.run_laws.proofs.Each.{Each}
 use Rattle.run_laws.proofs.Ended.{not_both}
-use Rattle.run_laws.proofs.Names.{clash}
+use Rattle.run_laws.proofs.Names.{clash, same_name_self}
 use Rattle.local_laws.proofs.Outcomes.{aborts_told}
 use Rattle.local_laws.proofs.Rising.{Rising, rising_is}
 use Rattle.local_laws.proofs.Told.{told_committed_same, told_same}
 use Rattle.local_agreement.specs.Laws.{kept_event}
-use Rattle.local_agreement.specs.Outcomes.{AgreesOnOutcomes, is_by_told}
+use Rattle.local_agreement.specs.Outcomes.{AgreesOnOutcomes, are_brought, is_by_told}
 
 -- ---- outcomes come by name
 
@@ -60,6 +60,60 @@ by_name (Prepare h t) g past here =
     of false names = tt
 by_name _ g past here = tt
 
+-- ---- and of those that the step tells of
+
+all_insert : (p : Name → Bool) (a : Name) (names : List Name) → p a ≡ true → list_all p names ≡ true → list_all p (insert_name a names) ≡ true
+all_insert p a [] h k = and_from _ _ h refl
+all_insert p a (b ∷ names) h k =
+    step (same_name a b) (name_lt a b) (all_insert p a names h (and_parts (p b) (list_all p names) k).1)
+  where
+    step : (t u : Bool) → list_all p (insert_name a names) ≡ true
+        → list_all p (cond t (b ∷ names) (cond u (a ∷ b ∷ names) (b ∷ insert_name a names))) ≡ true
+    step true u later = k
+    step false true later = and_from _ _ h k
+    step false false later = and_from _ _ (and_parts (p b) (list_all p names) k).0 later
+
+all_rising : (p : Name → Bool) (names : List Name) → list_all p names ≡ true → list_all p (rising_names names) ≡ true
+all_rising p [] h = refl
+all_rising p (a ∷ names) h =
+    let parts = and_parts (p a) (list_all p names) h in
+    all_insert p a (rising_names names) parts.0 (all_rising p names parts.1)
+
+all_with : (p : Name → Bool) (out : Name → Bool) (names : List Name)
+    → list_all p names ≡ true → list_all (λ (x : Name × Bool). p x.0) (map (λ b. (b, out b)) names) ≡ true
+all_with p out [] h = refl
+all_with p out (b ∷ names) h =
+    let parts = and_parts (p b) (list_all p names) h in
+    and_from _ _ parts.0 (all_with p out names parts.1)
+
+all_chosen : (p q : Name → Bool) (names : List Name) → list_all p (filter (λ b. p b && q b) names) ≡ true
+all_chosen p q [] = refl
+all_chosen p q (b ∷ names) = step (p b) refl (q b) (all_chosen p q names)
+  where
+    step : (t : Bool) → p b ≡ t → (u : Bool) → list_all p (filter (λ c. p c && q c) names) ≡ true
+        → list_all p (cond (t && u) (b ∷ filter (λ c. p c && q c) names) (filter (λ c. p c && q c) names)) ≡ true
+    step true e true later = and_from _ _ e later
+    step true e false later = later
+    step false e u later = later
+
+brought_by : (step : Step) (g : ℕ) (past : List Event) (here : List LocalEvent) → are_brought step (outcomes_carried step g past here) ≡ true
+brought_by (Tell h a) g past here = of (h == g)
+  where
+    of : (t : Bool) → list_all (λ (x : Name × Bool). same_name x.0 a) (cond t ((a, is_committed a past) ∷ []) []) ≡ true
+    of true = and_from _ _ (same_name_self a) refl
+    of false = refl
+brought_by (Prepare h t) g past here =
+    of (h == g) (all_chosen (λ b. is_proper_ancestor t b) (λ b. is_ended b past && not (told_here g b here)) (begun past))
+  where
+    below : List Name
+    below = filter (λ b. is_proper_ancestor t b && (is_ended b past && not (told_here g b here))) (begun past)
+
+    of : (u : Bool) → list_all (λ b. is_proper_ancestor t b) below ≡ true
+        → list_all (λ (x : Name × Bool). is_proper_ancestor t x.0) (cond u (map (λ b. (b, is_committed b past)) (rising_names below)) []) ≡ true
+    of true all = all_with (λ b. is_proper_ancestor t b) (λ b. is_committed b past) (rising_names below) (all_rising (λ b. is_proper_ancestor t b) below all)
+    of false all = refl
+brought_by _ g past here = refl
+
 module _ (opening : Opening) (s : Stamped) (run : List Stamped) (g : ℕ) (r : IsRun opening (events_of (s ∷ run))) where
   abbrev past : List Event
   past = events_of run
@@ -86,4 +140,4 @@ module _ (opening : Opening) (s : Stamped) (run : List Stamped) (g : ℕ) (r : I
       of _ f = refl
 
   pub agrees_on_outcomes : AgreesOnOutcomes (kept_event opening s run g) here
-  agrees_on_outcomes = record { once = by_name s.1.step g past here; aborts = untold_aborts; operation = operates_untold }
+  agrees_on_outcomes = record { brought = brought_by s.1.step g past here; once = by_name s.1.step g past here; aborts = untold_aborts; operation = operates_untold }

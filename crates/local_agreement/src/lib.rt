@@ -1,7 +1,7 @@
 //! When an event agrees with what a guardian's own history says before it, and that in every run it does.
 //!
-//! A guardian keeps no event that disagrees: its roster, its objects and its store rest on that. Guardians above ask it of each event, and a world
-//! gives it by the laws here, each the contract of a function without a body.
+//! A guardian's roster, its objects and its store rest on that: the calls of a guardian (`layer_contracts`) ask it of each event, and a world
+//! gives it by the law here, the contract of a function without a body.
 #![tactic(auto)]
 
 ghost use Rattle.local_agreement.specs.Laws.{RunsAgree};

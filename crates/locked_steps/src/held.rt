@@ -4,14 +4,15 @@ ghost use Rattle.run_model.specs.Openings.{Opening};
 ghost use Rattle.run_model.specs.declared.step.Step.TheVariants as steps;
 ghost use Rattle.run_model.specs.LocalHistories.{answer_lent};
 ghost use Rattle.run_model.specs.LocalReadings.{operation_here};
+ghost use Rattle.run_model.specs.Runs.{is_accepted};
 ghost use Rattle.layer_contracts.specs.Guardians.{lent_two};
-ghost use Rattle.lent_steps.specs.Keeping.{AreSame, IsAnswered, IsDone, IsOperated, IsStepped, is_operation};
+ghost use Rattle.lent_steps.specs.Keeping.{AreSame, IsDone, IsOperated, IsStepped, is_operation};
 ghost use Rattle.locked_steps.specs.Pairs.{are_two};
 
-use layer_contracts::{Fault, Forest, Guardian};
-use lent_steps::{answer_two, keep_two, operate};
+use layer_contracts::{Forest, Guardian, Judging};
+use lent_steps::{LockedFault, agree_two, answer_two, keep_two, operate, tellable_two};
 use run_model::{Answer, Event, Name, ObjectId, Op, Step};
-use std::alloc::{AllocError, Global};
+use std::alloc::Global;
 use std::marker::PhantomData;
 
 /// The opening in which all that stands under locks stands.
@@ -37,14 +38,14 @@ pub struct HeldForest<K: OfOpening, R: Forest> {
 
 /// One step of two guardians, all locked: its answer, and what it leaves. `None`, and nothing is changed, where the step is an operation, which
 /// needs one guardian alone, or where both are one. After an error all are as they were.
-pub fn both<K: OfOpening, R: Forest, G: Guardian, F: FnOnce() -> u64>(
+pub fn both<K: OfOpening, R: Forest, G: Judging, F: FnOnce() -> u64>(
     alloc: Global,
     forest: &mut HeldForest<K, R>,
     one: &mut Held<K, G>,
     other: &mut Held<K, G>,
     step: &Step,
     stamp: F,
-) -> Result<Option<Answer>, Fault>
+) -> Result<Option<Answer>, LockedFault>
     requires { F.pre stamp }
     ensures answer { IfOk result (λ r. IfSome r (λ answer. answer ≡ answer_lent K.opening (R.state forest.old.forest).registry
         (lent_two (G.state one.old.guardian) (G.state other.old.guardian)) step.now)) }
@@ -60,7 +61,7 @@ pub fn both<K: OfOpening, R: Forest, G: Guardian, F: FnOnce() -> u64>(
     if one.guardian.number() == other.guardian.number() || is_operation(step) {
         return Ok(None);
     }
-    let answer = answer_two(alloc, &forest.forest, &one.guardian, &other.guardian, step)?;
+    let answer = answered(alloc, forest, one, other, step)?;
     if !answer.is_accepted() {
         return Ok(Some(answer));
     }
@@ -70,14 +71,14 @@ pub fn both<K: OfOpening, R: Forest, G: Guardian, F: FnOnce() -> u64>(
 }
 
 /// An operation of one locked guardian, which answers and keeps it by itself.
-pub fn alone<K: OfOpening, G: Guardian, F: FnOnce() -> u64>(
+pub fn alone<K: OfOpening, G: Judging, F: FnOnce() -> u64>(
     alloc: Global,
     held: &mut Held<K, G>,
     action: &Name,
     object: ObjectId,
     operation: &Op,
     stamp: F,
-) -> Result<Answer, AllocError>
+) -> Result<Answer, LockedFault>
     requires { F.pre stamp }
     ensures answer { IfOk result (λ answer. answer ≡ operation_here K.opening (G.state held.old.guardian).number action.now object operation.now
         (G.state held.old.guardian).past) }
@@ -88,32 +89,56 @@ pub fn alone<K: OfOpening, G: Guardian, F: FnOnce() -> u64>(
     operate(alloc, &mut held.guardian, action, object, operation, stamp)
 }
 
-/// Keeps an accepted event, and gives its stamp.
-fn keep<K: OfOpening, R: Forest, G: Guardian, F: FnOnce() -> u64>(
+/// The answer of the step, where what it tells agrees with what these guardians were told.
+fn answered<K: OfOpening, R: Forest, G: Judging>(
+    alloc: Global,
+    forest: &HeldForest<K, R>,
+    one: &Held<K, G>,
+    other: &Held<K, G>,
+    step: &Step,
+) -> Result<Answer, LockedFault>
+    ensures { IfOk result (λ answer. answer ≡ answer_lent (R.state forest.now.forest).opening (R.state forest.now.forest).registry
+        (lent_two (G.state one.now.guardian) (G.state other.now.guardian)) step.now) }
+{
+    if !tellable_two(alloc, &forest.forest, &one.guardian, &other.guardian, step) {
+        return Err(LockedFault::Disagrees);
+    }
+    let answer = answer_two(alloc, &forest.forest, &one.guardian, &other.guardian, step)?;
+    Ok(answer)
+}
+
+/// Keeps an accepted event that agrees with the histories of these guardians, and gives its stamp.
+fn keep<K: OfOpening, R: Forest, G: Judging, F: FnOnce() -> u64>(
     alloc: Global,
     forest: &mut HeldForest<K, R>,
     one: &mut Held<K, G>,
     other: &mut Held<K, G>,
     event: &Event,
     stamp: F,
-) -> Result<u64, Fault>
+) -> Result<u64, LockedFault>
     requires stamp { F.pre stamp }
     requires differ { ((G.state one.old.guardian).number == (G.state other.old.guardian).number) ≡ false }
-    requires answered { IsAnswered (R.state forest.old.forest) (G.state one.old.guardian) (G.state other.old.guardian) event.now }
+    requires answered { event.now.answer ≡ answer_lent (R.state forest.old.forest).opening (R.state forest.old.forest).registry
+        (lent_two (G.state one.old.guardian) (G.state other.old.guardian)) event.now.step }
+    requires accepted { IsTrue (is_accepted event.now.answer) }
+    requires step { IsFalse (is_operation event.now.step) }
     ensures drawn { IfOk result (λ n. F.post stamp n) }
     ensures done { IfOk result (λ n. IsDone (R.state forest.old.forest) (G.state one.old.guardian) (G.state other.old.guardian) event.now n
         (R.state forest.new.forest) (G.state one.new.guardian) (G.state other.new.guardian)) }
     ensures err { OnErr result (AreSame (R.state forest.old.forest) (G.state one.old.guardian) (G.state other.old.guardian)
         (R.state forest.new.forest) (G.state one.new.guardian) (G.state other.new.guardian)) }
 {
-    keep_two(
+    if !agree_two(alloc, &forest.forest, &one.guardian, &other.guardian, event)? {
+        return Err(LockedFault::Disagrees);
+    }
+    Ok(keep_two(
         alloc,
         &mut forest.forest,
         &mut one.guardian,
         &mut other.guardian,
         event,
         stamp,
-    )
+    )?)
 }
 
 fn is_operation(step: &Step) -> bool

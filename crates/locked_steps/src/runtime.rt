@@ -1,7 +1,8 @@
 use crate::held::{Held, HeldForest, OfOpening, alone, both};
-use layer_contracts::{Fault, Forest, Guardian};
+use layer_contracts::{Forest, Judging};
+use lent_steps::LockedFault;
 use run_model::{Answer, Name, ObjectId, Op, Step};
-use std::alloc::{AllocError, Global};
+use std::alloc::Global;
 use std::sync::{Mutex, Wait};
 
 /// Draws stamps, each once.
@@ -10,14 +11,14 @@ pub trait Draw {
 }
 
 /// Guardians under locks of their own, and the forest under one.
-pub struct Runtime<K: OfOpening, R: Forest, G: Guardian, S: Draw> {
+pub struct Runtime<K: OfOpening, R: Forest, G: Judging, S: Draw> {
     alloc: Global,
     places: Vec<Mutex<Held<K, G>>>,
     forest: Mutex<HeldForest<K, R>>,
     stamps: S,
 }
 
-impl<K: OfOpening, R: Forest, G: Guardian, S: Draw> Runtime<K, R, G, S> {
+impl<K: OfOpening, R: Forest, G: Judging, S: Draw> Runtime<K, R, G, S> {
     /// One step of two guardians, which are locked in rising order, and then the forest. `None` where there are no two such guardians.
     pub fn step_two(
         &self,
@@ -25,7 +26,7 @@ impl<K: OfOpening, R: Forest, G: Guardian, S: Draw> Runtime<K, R, G, S> {
         low: usize,
         high: usize,
         step: &Step,
-    ) -> Result<Option<Answer>, Fault> {
+    ) -> Result<Option<Answer>, LockedFault> {
         if low >= high || high >= self.places.len() {
             return Ok(None);
         }
@@ -51,7 +52,7 @@ impl<K: OfOpening, R: Forest, G: Guardian, S: Draw> Runtime<K, R, G, S> {
         action: &Name,
         object: ObjectId,
         operation: &Op,
-    ) -> Result<Option<Answer>, AllocError> {
+    ) -> Result<Option<Answer>, LockedFault> {
         if place >= self.places.len() {
             return Ok(None);
         }

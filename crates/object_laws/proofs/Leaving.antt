@@ -71,7 +71,7 @@ pub record IsLeft (g : Option Name → Bool) (old new : Seen) : Type 0 where
 
 module _ (c : Content) (hold : Act → Option Name) (xs : List Act) (live : Act → Bool) (lives : (x : Act) → is_read_class (deed_of x).1 ≡ false → live x ≡ true)
     (g : Option Name → Bool) (base_stays : g None ≡ true) (goes_up : (b d : Name) → g (Some b) ≡ true → is_ancestor d b ≡ true → g (Some d) ≡ true) where
-  abbrev keeps : Act → Bool
+  abbrev pub keeps : Act → Bool
   keeps x = live x && g (hold x)
 
   same_at : (p : Option Name → Bool) → ((d : Name) → p (Some d) ≡ true → g (Some d) ≡ true) → (xs : List Act)
@@ -88,13 +88,13 @@ module _ (c : Content) (hold : Act → Option Name) (xs : List Act) (live : Act 
           some false q = q ∙ sym (and_right (g (Some d)) (p (Some d)) q)
       of false e o = absurd (false≢true e)
 
-  left_same : (p : Option Name → Bool) → ((d : Name) → p (Some d) ≡ true → g (Some d) ≡ true)
+  pub left_same : (p : Option Name → Bool) → ((d : Name) → p (Some d) ≡ true → g (Some d) ≡ true)
       → after_acts c (filter (λ x. p (hold x)) xs) ≡ after_acts c (filter (λ x. p (hold x)) (filter (λ x. keeps x) xs))
   left_same p stay =
       same_left c (λ x. p (hold x)) (λ x. keeps x && p (hold x)) xs (same_at p stay xs)
       ∙ sym (ap (λ ys. after_acts c ys) (twice (λ x. p (hold x)) (λ x. keeps x) xs))
 
-  sum_same : (b : Name) → g (Some b) ≡ true → sum_acts (λ x. is_exactly (hold x) b) xs ≡ sum_acts (λ x. is_exactly (hold x) b) (filter (λ x. keeps x) xs)
+  pub sum_same : (b : Name) → g (Some b) ≡ true → sum_acts (λ x. is_exactly (hold x) b) xs ≡ sum_acts (λ x. is_exactly (hold x) b) (filter (λ x. keeps x) xs)
   sum_same b h =
       same_sum (λ x. is_exactly (hold x) b) (λ x. keeps x && is_exactly (hold x) b) xs
       (same_at (λ o. is_exactly o b) (λ d q. subst (λ y. g (Some y) ≡ true) (sym (same_name_true d b q)) h) xs)

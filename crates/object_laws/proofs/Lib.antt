@@ -10,3 +10,5 @@ pub mod Topmost
 pub mod Operated
 pub mod Restored
 pub mod Concerned
+pub mod Adding
+pub mod OnceTold

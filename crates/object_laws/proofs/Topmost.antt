@@ -83,7 +83,7 @@ chain_rises (a ∷ ns) r = (each_map _ _ ns (λ d h. proper_before a d h) (below
 
 -- ---- lists by what is found in them
 
-has_owner : {T : Type 0} (vs : List (Name × T)) (b : Name) → has_name (owners_of vs) b ≡ is_some (version_at vs b)
+pub has_owner : {T : Type 0} (vs : List (Name × T)) (b : Name) → has_name (owners_of vs) b ≡ is_some (version_at vs b)
 has_owner [] b = refl
 has_owner {T} (v ∷ vs) b = of (same_name v.0 b) (has_owner vs b)
   where
@@ -125,7 +125,7 @@ found {T} f vs names r q h = (same, by_lookup f vs r (λ b k. h b ∙ ap (λ t. 
     same : owners_of vs ≡ names
     same = rising_same (owners_of vs) names r q has
 
-delta_version : (ds : List (Name × ℤ)) (b : Name) → version_at ds b ≡ delta_at ds b
+pub delta_version : (ds : List (Name × ℤ)) (b : Name) → version_at ds b ≡ delta_at ds b
 delta_version [] b = refl
 delta_version (d ∷ ds) b = ap (λ o. cond (same_name d.0 b) (Some d.1) o) (delta_version ds b)
 
@@ -209,13 +209,13 @@ joined n y z = int_wrap-add_left w64 (n +ℤ y) z ∙ ap (λ t. int_wrap w64 t) 
 sum_turned : (y z : ℤ) → sum_of y z ≡ sum_of z y
 sum_turned y z = ap (λ t. int_wrap w64 t) (+ℤ_comm y z)
 
-delta_alone : (c : Content) (z : ℤ) → laid (Delta z) c ≡ laid (Delta (sum_of (pos 0) z)) c
+pub delta_alone : (c : Content) (z : ℤ) → laid (Delta z) c ≡ laid (Delta (sum_of (pos 0) z)) c
 delta_alone (Record fields) z = refl
 delta_alone (Array a) z = refl
 delta_alone (Variant v) z = refl
 delta_alone (Counter n) z = ap (λ m. Counter m) (sum_from_none n z)
 
-deltas_join : (c : Content) (y z : ℤ) → laid (Delta z) (laid (Delta y) c) ≡ laid (Delta (sum_of y z)) c
+pub deltas_join : (c : Content) (y z : ℤ) → laid (Delta z) (laid (Delta y) c) ≡ laid (Delta (sum_of y z)) c
 deltas_join (Record fields) y z = refl
 deltas_join (Array a) y z = refl
 deltas_join (Variant v) y z = refl

@@ -1,3 +1,4 @@
 pub mod Shown
 pub mod Changes
 pub mod Laws
+pub mod OnceTold

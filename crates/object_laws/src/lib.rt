@@ -4,6 +4,7 @@
 //! alone.
 #![tactic(auto)]
 
+ghost use Rattle.object_laws.specs.OnceTold.{PartsOnceTold};
 ghost use Rattle.object_laws.specs.Laws.{AddersOnTop, BlockersShown, ConcernedShown, CrashedShows, KnowsShown, NoneBetween, OperatedShows, OwnersAbove, PartsShown, PassedShows, ReadsShown, RestoredShows, UndoneShows, UntouchedShows, WritesShown};
 
 /// An object that nobody touched shows that nothing is kept.
@@ -39,6 +40,11 @@ pub fn restored_shows()
 /// What an action holds of an object is its version, or else its delta.
 pub fn parts_shown()
     ensures { PartsShown }
+{}
+
+/// What a top action will hold once the outcomes of its descendants are told is said by the versions and the deltas before that.
+pub fn parts_once_told()
+    ensures { PartsOnceTold }
 {}
 
 /// For whom an operation waits is said by the locks.

@@ -1,5 +1,5 @@
 -- What a store must have that opens a guardian, and what comes of it.
-use Rattle.std.proofs.Common.{append-nil, append_assoc, Bool, Bor, MatchOption, Equal, Greater, Less, List, Ordering, None, Option, Some, [], ap, arith, option_map, cond, false, get_or, is_some, length, map, nat_cmp, refl, subst, suc, sym, true, true≢false, unwrap_or, IsSome, ℕ, ◌+◌, ◌++◌, ◌<◌, ◌≤◌, ◌∙◌, ◌∷◌, ◌≡◌, take}
+use Rattle.std.proofs.Common.{append-nil, append_assoc, Bool, Bor, MatchOption, Equal, Greater, Less, List, Ordering, None, Option, Some, [], ap, arith, option_map, cond, false, get_or, is_some, length, map, nat_cmp, refl, subst, suc, sym, true, true≢false, IsSome, ℕ, ◌+◌, ◌++◌, ◌<◌, ◌≤◌, ◌∙◌, ◌∷◌, ◌≡◌, take}
 use Rattle.std.proofs.lemmas.Cmp.{eq_by_cmp_equiv}
 use Rattle.std.proofs.lemmas.Cmp.{by_ranked, ranked}
 use Rattle.std.proofs.lemmas.List.{get_or-map, get_or_append_left, get_or_push, get_or_read_under, length-take-le, take_more}
@@ -11,6 +11,8 @@ use Rattle.std.specs.List.{AllByRecursion}
 use Rattle.std.specs.Map.{lookup}
 use Rattle.std.specs.Ordering.{is_eq}
 use Rattle.values.specs.declared.content.Content.{Content}
+use Rattle.atomic_types.specs.declared.part.Part.{Part}
+use Rattle.atomic_types.specs.Parts.{laid_where}
 use Rattle.stable_store.specs.Held.{records_of}
 use Rattle.stable_store.specs.declared.kept.Prepared.{Prepared}
 use Rattle.stable_store.proofs.Maps.{get_is}
@@ -81,33 +83,28 @@ none_prepared (r ∷ records) none = absurd (no_more (ap length (none_empty (rec
 
 -- ---- the contents
 
--- the content that a store has of an object, else its own
-pub content_read : (entries : List (ℕ × Content)) (n : ℕ) (found : Option (Bor Content)) (own read : Bor Content) (given : Content)
-    → read ≡ unwrap_or found own → option_map (λ x. x.now) found ≡ lookup (is_at (nat_cmp n)) entries → given ≡ read.now
-    → given ≡ unwrap_or (get (from_entries {R = nat_cmp} entries) n) own.now
-content_read entries n found own read given is finds same =
-    same ∙ ap (λ (x : Bor Content). x.now) is ∙ through found ∙ ap (λ o. unwrap_or o own.now) (finds ∙ sym (get_is entries n))
-  where
-    through : (o : Option (Bor Content)) → (unwrap_or o own).now ≡ unwrap_or (option_map (λ (x : Bor Content). x.now) o) own.now
-    through None = refl
-    through (Some x) = refl
+-- what an object holds under what a store has of it
+pub content_read : (entries : List (ℕ × Part)) (n : ℕ) (found : Option (Bor Part)) (own given : Content)
+    → given ≡ laid_where (option_map (λ x. x.now) found) own → option_map (λ x. x.now) found ≡ lookup (is_at (nat_cmp n)) entries
+    → given ≡ laid_where (get (from_entries {R = nat_cmp} entries) n) own
+content_read entries n found own given is finds = is ∙ ap (λ o. laid_where o own) (finds ∙ sym (get_is entries n))
 
 -- those of one object more
-laid_more : (base : FinMap nat_cmp Content) (n : ℕ) (own : List Content) (c : Content)
-    → laid_over base n (own ++ c ∷ []) ≡ laid_over base n own ++ unwrap_or (get base (n + length own)) c ∷ []
-laid_more base n [] c = let same : n ≡ n + 0 = omega arith in ap (λ k. unwrap_or (get base k) c ∷ []) same
+laid_more : (base : FinMap nat_cmp Part) (n : ℕ) (own : List Content) (c : Content)
+    → laid_over base n (own ++ c ∷ []) ≡ laid_over base n own ++ laid_where (get base (n + length own)) c ∷ []
+laid_more base n [] c = let same : n ≡ n + 0 = omega arith in ap (λ k. laid_where (get base k) c ∷ []) same
 laid_more base n (o ∷ own) c =
     let same : suc n + length own ≡ n + suc (length own) = omega arith in
-    ap (λ l. unwrap_or (get base n) o ∷ l)
-    (laid_more base (suc n) own c ∙ ap (λ k. laid_over base (suc n) own ++ unwrap_or (get base k) c ∷ []) same)
+    ap (λ l. laid_where (get base n) o ∷ l)
+    (laid_more base (suc n) own c ∙ ap (λ k. laid_over base (suc n) own ++ laid_where (get base k) c ∷ []) same)
 
-pub one_more_laid : (base : FinMap nat_cmp Content) (own : List Content) (i : ℕ) (c given : Content) (before after : List Content)
-    → i < length own → c ≡ get_or own i c → given ≡ unwrap_or (get base (i + 1)) c
+pub one_more_laid : (base : FinMap nat_cmp Part) (own : List Content) (i : ℕ) (c given : Content) (before after : List Content)
+    → i < length own → c ≡ get_or own i c → given ≡ laid_where (get base (i + 1)) c
     → before ≡ laid_over base 1 (take i own) → after ≡ before ++ given ∷ [] → after ≡ laid_over base 1 (take (i + 1) own)
 one_more_laid base own i c given before after lt item gives so_far push =
     let count : 1 + length (take i own) ≡ i + 1 = omega (arith, length-take-le i own (omega (arith, lt))) in
     push ∙ (λ k. so_far k ++ gives k ∷ [])
-    ∙ ap (λ n. laid_over base 1 (take i own) ++ unwrap_or (get base n) c ∷ []) (sym count)
+    ∙ ap (λ n. laid_over base 1 (take i own) ++ laid_where (get base n) c ∷ []) (sym count)
     ∙ sym (laid_more base 1 (take i own) c)
     ∙ ap (λ x. laid_over base 1 (take i own ++ x ∷ [])) item
     ∙ ap (laid_over base 1) (sym (take_more own i c lt))
@@ -115,16 +112,16 @@ one_more_laid base own i c given before after lt item gives so_far push =
 -- ---- a walk over the entries
 
 abbrev Entries : Type 0
-Entries = List (ℕ × Content)
+Entries = List (ℕ × Part)
 
 -- one that is not within is met
-pub one_outside : (last : ℕ) (es front rest : Entries) (k : ℕ) (v : Content) (more : Entries) → front ++ rest ≡ es → rest ≡ (k, v) ∷ more
+pub one_outside : (last : ℕ) (es front rest : Entries) (k : ℕ) (v : Part) (more : Entries) → front ++ rest ≡ es → rest ≡ (k, v) ∷ more
     → (IsWithin last k → ⊥) → HasOnly (from_entries {R = nat_cmp} es) last → ⊥
 one_outside last es front rest k v more all next out only =
     out (only k (subst (λ es. IsSome (get (from_entries {R = nat_cmp} es) k)) (ap (λ r. front ++ r) (sym next) ∙ all) (stands_found front k v more)))
 
 -- one more is within
-pub all_within : (last : ℕ) (es front rest : Entries) (k : ℕ) (v : Content) (more : Entries) → front ++ rest ≡ es → rest ≡ (k, v) ∷ more
+pub all_within : (last : ℕ) (es front rest : Entries) (k : ℕ) (v : Part) (more : Entries) → front ++ rest ≡ es → rest ≡ (k, v) ∷ more
     → AllWithin last front → IsWithin last k → (seen : Entries) × (seen ++ more ≡ es) × AllWithin last seen
 all_within last es front rest k v more all next each here = (
   front ++ (k, v) ∷ [],
@@ -198,7 +195,7 @@ module _ (found : List (Option Stored)) (own : List (List Content)) (i : ℕ) (o
           not_above above = omega (arith, above, within)
 
 -- as many contents as objects
-laid_count : (base : FinMap nat_cmp Content) (n : ℕ) (own : List Content) → length (laid_over base n own) ≡ length own
+laid_count : (base : FinMap nat_cmp Part) (n : ℕ) (own : List Content) → length (laid_over base n own) ≡ length own
 laid_count base n [] = refl
 laid_count base n (o ∷ own) = ap suc (laid_count base (suc n) own)
 

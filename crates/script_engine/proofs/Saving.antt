@@ -2,8 +2,7 @@
 use Rattle.std.proofs.Common.{List, [], ap, arith, get_or, length, map, refl, set, suc, sym, take, zero, ℕ, ◌+◌, ◌<◌, ◌∙◌, ◌∷◌, ◌≡◌}
 use Rattle.std.proofs.lemmas.List.{get_or-map, map-set, set-get_or}
 use Rattle.values.specs.declared.content.Content.{Content}
-use Rattle.stable_store.specs.Stored.{Stored}
-use Rattle.sql_store.specs.Calls.{after_save}
+use Rattle.stable_store.specs.Stored.{Stored, after_save}
 use Rattle.script_engine.specs.Storing.{saved}
 
 abbrev Bases : Type 0

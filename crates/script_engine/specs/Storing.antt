@@ -1,13 +1,13 @@
 -- What is said of a script that is run over stores, one for each guardian: what they hold takes the place of the script's contents, and at
 -- the end the bases are saved.
-use Rattle.std.specs.Prelude.{ℕ, suc, ◌≡◌, ◌⊎◌, ◌≤◌, ◌<◌, List, [], ◌∷◌, ◌++◌, length, take, get_or, unwrap_or, Option, Some, None, IsSome, MatchOption, map, codes}
+use Rattle.std.specs.Prelude.{ℕ, suc, ◌≡◌, ◌⊎◌, ◌≤◌, ◌<◌, List, [], ◌∷◌, ◌++◌, length, take, get_or, Option, Some, None, IsSome, MatchOption, map, codes}
 use Rattle.std.specs.Ordering.{nat_cmp}
 use Rattle.std.specs.FinMap.{FinMap, empty, get}
 use Rattle.values.specs.declared.content.Content.{Content}
-use Rattle.stable_store.specs.Stored.{Stored}
-use Rattle.sqlite_trees.specs.declared.store.Store.{Ghosts}
-use Rattle.sql_store.specs.Calls.{after_save}
-use Rattle.sql_store.specs.Views.{View, content, found}
+use Rattle.atomic_types.specs.declared.part.Part.{Part}
+use Rattle.atomic_types.specs.Parts.{laid_where}
+use Rattle.stable_store.specs.Stored.{Stored, after_save}
+use Rattle.stable_store.specs.Calls.{View, found}
 use Rattle.script_model.specs.declared.checked.Checked.{Checked}
 use Rattle.run_model.specs.Openings.{Setup}
 use Rattle.run_model.specs.Transcripts.{line_feed}
@@ -19,22 +19,31 @@ use Rattle.argus_engine.specs.declared.engine.Fault.TheVariants.{Memory, Store}
 use Rattle.argus_engine.specs.Serving.{Begins}
 use Rattle.script_engine.specs.Running.{WasRun, run_text}
 
-module _ {A : Type 0} (g : Ghosts A) where
-  -- what was found at each store
-  abbrev pub all_found : List (View g) → List (Option Stored)
-  all_found stores = map (found g) stores
+-- a store by what is seen of it
+module _ {S : Type 0} (seen : S → View) where
+  -- what was found at a store
+  abbrev pub found_in : S → Option Stored
+  found_in store = found (seen store)
 
-  -- what each holds
-  abbrev pub all_held : List (View g) → List Stored
-  all_held stores = map (content g) stores
+  -- what it holds
+  abbrev pub held_in : S → Stored
+  held_in store = (seen store).content
 
--- the contents that a store has of objects, and of the others their own; the first object has number n
-abbrev pub laid_over : FinMap nat_cmp Content → ℕ → List Content → List Content
+  -- at each store
+  abbrev pub all_found : List S → List (Option Stored)
+  all_found stores = map found_in stores
+
+  abbrev pub all_held : List S → List Stored
+  all_held stores = map held_in stores
+
+-- what objects hold under what a store has of them: their own contents where it has nothing, and where it has a delta that on them;
+-- the first object has number n
+abbrev pub laid_over : FinMap nat_cmp Part → ℕ → List Content → List Content
 laid_over base n [] = []
-laid_over base n (own ∷ more) = unwrap_or (get base n) own ∷ laid_over base (suc n) more
+laid_over base n (own ∷ more) = laid_where (get base n) own ∷ laid_over base (suc n) more
 
 -- there are no objects but those from number 1 to this one
-abbrev pub HasOnly : FinMap nat_cmp Content → ℕ → Type 0
+abbrev pub HasOnly : FinMap nat_cmp Part → ℕ → Type 0
 HasOnly base last = (n : ℕ) → IsSome (get base n) → (1 ≤ n) × (n ≤ last)
 
 -- A store that can open a guardian with so many objects: nothing is prepared there, and it has no others.

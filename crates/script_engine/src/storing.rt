@@ -1,55 +1,54 @@
 //! Running a script over stores, in which its objects are kept.
 
-ghost use Rattle.std.specs.Prelude.{◌≡◌, ◌≢◌, ◌≤◌, ◌<◌, ◌⊎◌, ℕ, IfErr, IfOk, List, MatchBool, MatchOption, OnErr, OnOk, Some, get_or, length, map, take};
+ghost use Rattle.std.specs.Prelude.{◌≡◌, ◌≢◌, option_copied, ◌≤◌, ◌<◌, ◌⊎◌, ℕ, IfErr, IfOk, List, MatchBool, MatchOption, OnErr, OnOk, Some, get_or, length, map, take};
 ghost use Rattle.std.specs.FinMap.{get};
-ghost use Rattle.stable_store.specs.Held.{contents_in, held};
-ghost use Rattle.sql_store.specs.Views as view;
+ghost use Rattle.atomic_types.specs.Parts.{laid_where};
+ghost use Rattle.stable_store.specs.Held.{held, parts_in};
 ghost use Rattle.script_laws.specs.Laws.{HasFewObjects};
 ghost use Rattle.values.specs.declared.content.Content.{Content};
 ghost use Rattle.std.specs.Io.KnownBytes.{Keeps};
 ghost use Rattle.argus_engine.specs.declared.engine.Fault.TheVariants.{Input, Output};
 ghost use Rattle.script_engine.specs.Running.{IsFit};
-ghost use Rattle.script_engine.specs.Storing.{ArePartlySaved, BeginsStoredRun, CanOpen, HasOnly, IsOfStore, IsOpened, IsOpening, IsStoredRun, LeavesStoredRun, Opens, all_found, all_held, saved};
+ghost use Rattle.script_engine.specs.Storing.{ArePartlySaved, BeginsStoredRun, CanOpen, HasOnly, IsOfStore, IsOpened, IsOpening, IsStoredRun, LeavesStoredRun, Opens, all_found, all_held, found_in, saved};
 ghost use Rattle.argus_engine.specs.Serving.{Writes};
 
 use crate::running::{add_guardian, run_clients, run_text};
 use argus_engine::{Ended, Fault, finish};
+use atomic_types::Part;
 use run_model::Setup;
 use script::Checked;
-use sql_store::SqlStable;
-use sqlite::Alter;
-use stable_store::Kept;
+use stable_store::{Kept, Stable};
 use std::alloc::{AllocError, Global};
 use std::collections::BTreeMap;
 use std::io::Write;
 use values::Content;
 
 /// Runs a script as `run_script` does, in a new world of the contents that the stores have, one store for each guardian in order; an object
-/// of which a store has none has the script's. Then it saves the base of each object, a transaction for each store in order, and writes the
-/// lines.
+/// of which a store has nothing has the script's content, and one of which it has a delta has that added to the script's. Then it saves the
+/// base of each object, a call for each store in order, and writes the lines.
 ///
 /// Where a store holds no content, or a top action is prepared there, or it has an object that the script lacks, `error store` is written,
 /// `Stopped` comes, and the stores are as they were. After a fault the first stores may have been saved, and the others are as they were.
 /// Where the writer failed all that was to be saved is, and a beginning of what was to be written was written; after another fault nothing
 /// was.
-pub fn run_stored<A: Alter + Drop, W: Write>(
+pub fn run_stored<S: Stable, W: Write>(
     alloc: Global,
     script: &Checked,
-    stores: &mut [SqlStable<A>],
+    stores: &mut [S],
     writer: &mut W,
 ) -> Result<Ended, Fault>
     requires script { IsFit script.now }
     requires count { length stores.old ≡ length script.now.guardians }
     ensures ok { IfOk result (λ ended. Writes (W.contents writer.old) (W.contents writer.new)
-        (IsStoredRun script.now (all_found A.Store stores.old) (all_held A.Store stores.old) (all_held A.Store stores.new) ended)) }
+        (IsStoredRun script.now (all_found S.seen stores.old) (all_held S.seen stores.old) (all_held S.seen stores.new) ended)) }
     // also after a fault
-    ensures begun { Writes (W.contents writer.old) (W.contents writer.new) (BeginsStoredRun script.now (all_found A.Store stores.old)) }
-    ensures err { OnErr result (ArePartlySaved script.now (all_found A.Store stores.old)
-        (all_held A.Store stores.old) (all_held A.Store stores.new)) }
+    ensures begun { Writes (W.contents writer.old) (W.contents writer.new) (BeginsStoredRun script.now (all_found S.seen stores.old)) }
+    ensures err { OnErr result (ArePartlySaved script.now (all_found S.seen stores.old)
+        (all_held S.seen stores.old) (all_held S.seen stores.new)) }
     // so no line is written before all is saved
     ensures silent { IfErr result (λ fault. fault ≢ Output → Keeps (W.contents writer.old) (W.contents writer.new)) }
-    ensures untold { IfErr result (λ fault. fault ≡ Output → LeavesStoredRun script.now (all_found A.Store stores.old)
-        (all_held A.Store stores.old) (all_held A.Store stores.new)) }
+    ensures untold { IfErr result (λ fault. fault ≡ Output → LeavesStoredRun script.now (all_found S.seen stores.old)
+        (all_held S.seen stores.old) (all_held S.seen stores.new)) }
     ensures fault { IfErr result (λ fault. fault ≢ Input) }
 {
     let Some(setup) = open_setup(alloc, script, stores)? else {
@@ -64,14 +63,14 @@ pub fn run_stored<A: Alter + Drop, W: Write>(
 }
 
 /// The setup that the stores open; none where one of them opens no guardian.
-fn open_setup<A: Alter + Drop>(
+fn open_setup<S: Stable>(
     alloc: Global,
     script: &Checked,
-    stores: &[SqlStable<A>],
+    stores: &[S],
 ) -> Result<Option<Setup>, AllocError>
     requires script { IsFit script.now }
     requires count { length stores.now ≡ length script.now.guardians }
-    ensures { IfOk result (IsOpened (all_found A.Store stores.now) script.now.guardians) }
+    ensures { IfOk result (IsOpened (all_found S.seen stores.now) script.now.guardians) }
 {
     let mut setup = Setup::new(alloc);
     for (index, own) in script.guardians.as_slice().iter().enumerate() {
@@ -88,8 +87,8 @@ fn open_setup<A: Alter + Drop>(
 
 /// Whether a store can open a guardian that has so many objects: it holds a content, no top action is prepared there, and it has no object
 /// but those from number 1 to the last.
-pub fn can_open<A: Alter + Drop>(store: &SqlStable<A>, objects: usize) -> bool
-    ensures { MatchBool result (CanOpen (view.found A.Store store.now) objects) (CanOpen (view.found A.Store store.now) objects → ⊥) }
+pub fn can_open<S: Stable>(store: &S, objects: usize) -> bool
+    ensures { MatchBool result (CanOpen (found_in S.seen store.now) objects) (CanOpen (found_in S.seen store.now) objects → ⊥) }
 {
     match store.kept() {
         Some(kept) => is_opening(kept, objects),
@@ -121,14 +120,24 @@ fn contents_over(
     let mut contents = Vec::with_capacity(alloc, own.len())?;
     for (index, content) in own.iter().enumerate() {
         let number = index as u32 + 1;
-        contents.push(kept.base.get(&number).unwrap_or(content).copy()?)?;
+        contents.push(content_under(kept.base.get(&number), content)?)?;
     }
     Ok(Some(contents))
 }
 
+/// What an object holds under what a store has of it: its own content where that is nothing, and a delta on that.
+fn content_under(part: Option<&Part>, own: &Content) -> Result<Content, AllocError>
+    ensures { IfOk result (λ content. content ≡ laid_where (option_copied part.entry) own.now) }
+{
+    match part {
+        Some(part) => part.laid_on(own),
+        None => own.copy(),
+    }
+}
+
 /// Whether there are only objects from number 1 to this one.
-fn is_within(base: &BTreeMap<u32, Content>, last: usize) -> bool
-    ensures { MatchBool result (HasOnly (contents_in base.now) last) (HasOnly (contents_in base.now) last → ⊥) }
+fn is_within(base: &BTreeMap<u32, Part>, last: usize) -> bool
+    ensures { MatchBool result (HasOnly (parts_in base.now) last) (HasOnly (parts_in base.now) last → ⊥) }
 {
     for (&object, _) in base {
         if object == 0 || object as usize > last {
@@ -139,16 +148,16 @@ fn is_within(base: &BTreeMap<u32, Content>, last: usize) -> bool
 }
 
 /// Saves the bases, each at its store.
-fn save_all<A: Alter + Drop>(
+fn save_all<S: Stable>(
     alloc: Global,
-    stores: &mut [SqlStable<A>],
+    stores: &mut [S],
     bases: &[BTreeMap<u32, Content>],
 ) -> Result<(), Fault>
     requires { length stores.old ≡ length bases.now }
-    ensures ok { OnOk result (all_held A.Store stores.new
-        ≡ saved (map (λ base. base.entries) bases.now) (all_held A.Store stores.old)) }
-    ensures err { OnErr result ((count : ℕ) × (all_held A.Store stores.new
-        ≡ saved (take count (map (λ base. base.entries) bases.now)) (all_held A.Store stores.old))) }
+    ensures ok { OnOk result (all_held S.seen stores.new
+        ≡ saved (map (λ base. base.entries) bases.now) (all_held S.seen stores.old)) }
+    ensures err { OnErr result ((count : ℕ) × (all_held S.seen stores.new
+        ≡ saved (take count (map (λ base. base.entries) bases.now)) (all_held S.seen stores.old))) }
     ensures fault { IfErr result IsOfStore }
 {
     for (index, store) in stores.iter_mut().enumerate() {

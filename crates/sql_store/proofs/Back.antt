@@ -9,18 +9,18 @@ use Rattle.std.specs.FinMap.{FinMap, get, insert, same_map, get-insert, get-remo
 use Rattle.stable_store.specs.declared.kept.Prepared.{Prepared}
 use Rattle.stable_store.specs.Stored.{Record}
 use Rattle.stable_store.specs.Held.{record_of, records_of}
-use Rattle.sql_store.specs.Calls.{with_record}
+use Rattle.sql_store.specs.Mirror.{record_back as back_to}
 use Rattle.stable_store.proofs.Maps.{found_alike, get_is, lookup-seen}
 
-get-with_record : (k : ℕ) (before : Option Record) (m : FinMap nat_cmp Record) (q : ℕ)
-    → get (with_record k before m) q ≡ cond (eq_by_cmp nat_cmp q k) before (get m q)
-get-with_record k None m q = get-remove nat_cmp_total m k q
-get-with_record k (Some r) m q = get-insert nat_cmp_total m k r q
+get-back_to : (k : ℕ) (before : Option Record) (m : FinMap nat_cmp Record) (q : ℕ)
+    → get (back_to k before m) q ≡ cond (eq_by_cmp nat_cmp q k) before (get m q)
+get-back_to k None m q = get-remove nat_cmp_total m k q
+get-back_to k (Some r) m q = get-insert nat_cmp_total m k r q
 
 pub record_back : (m : FinMap nat_cmp Record) (k : ℕ) (r : Record) (before : Option Record) → before ≡ get m k
-    → with_record k before (insert m k r) ≡ m
+    → back_to k before (insert m k r) ≡ m
 record_back m k r before had = same_map nat_cmp_total nat_cmp-IsAntisymmetric _ _ (λ q.
-    get-with_record k before _ q
+    get-back_to k before _ q
     ∙ (ap (cond (eq_by_cmp nat_cmp q k) before) (get-insert nat_cmp_total m k r q) ∙ at (eq_by_cmp nat_cmp q k) q refl))
   where
     at : (b : Bool) (q : ℕ) → eq_by_cmp nat_cmp q k ≡ b → cond b before (cond b (Some r) (get m q)) ≡ get m q

@@ -15,8 +15,8 @@ use Rattle.sqlite.specs.Steps.{FailsToCommit}
 use Rattle.sqlite_trees.specs.declared.store.Store.{Ghosts}
 use Rattle.sqlite.specs.Held.{Held, state}
 use Rattle.stable_store.specs.Stored.{Stored}
-use Rattle.sql_store.specs.Rows.{Holds}
-use Rattle.sql_store.specs.Calls.{IsStore, IsAtRest, Stands, Carries, Sees, Stays, Steps}
+use Rattle.store_contents.specs.Holds.{IsStore}
+use Rattle.sql_store.specs.Steps.{While, IsAtRest, Stands, Carries, Sees, Stays, Steps}
 use Rattle.sql_store.proofs.Runs.{Means, runs_to}
 
 unchanged_keeps : (old new : State) → IsUnchanged old new → KeepsCommit old new
@@ -33,15 +33,17 @@ keeps_then a b c h k =
     record { was_open = λ up. h.was_open (k.was_open up); committed = λ up. k.committed up ∙ h.committed (k.was_open up) }
 
 module _ {S : Type 0} (g : Ghosts S) (text : List ℕ) (command : Command) (params : Row) (f : Stored → Stored) (Needs : Stored → Type 0) (m : Means text command params f Needs)
-    (s t : Held S) (c : Stored) (needs : Needs c) (sees : Sees (state g s) c) (clean : HasCleanDisk (state g t) → HasCleanDisk (state g s)) where
+    (s t : Held S) (c : Stored) (needs : While (state g s) (Needs c)) (sees : Sees (state g s) c) (clean : HasCleanDisk (state g t) → HasCleanDisk (state g s)) where
   -- a statement within a transaction
   pub steps : (r : Result ℕ Error) → ((state g s).in_transaction ≡ false → (r ≡ Err (SqliteFailure TransactionState)) × (t ≡ s))
       → (HasCleanDisk (state g t) → IsTrue (state g s).in_transaction → ExecutesInside 0 text params (state g s) (state g t) r)
       → Steps (state g s) (state g t) (f c) r
   steps (Ok count) ended runs = record {
     ok = λ h. let it = inside h in
-        let w = runs_to text command params f Needs m (state g s) (state g t) count c (sees (clean h) it.1.was_open).store needs it.0 in
-        (it.1.was_open, it.1.is_open, record { store = m.does (state g s).step_limit (state g s).now (state g t).now w.tally c (sees (clean h) it.1.was_open).store needs w.sound w.changed; mode = it.1.mode });
+        let was = sees (clean h) it.1.was_open in
+        let w = runs_to text command params f Needs m (state g s) (state g t) count was.schema it.0 in
+        let now = m.does (state g s).step_limit (state g s).now (state g t).now w.tally c (was.schema, was.store) (needs (clean h) it.1.was_open) w.sound w.changed in
+        (it.1.was_open, it.1.is_open, record { schema = now.0; store = now.1; mode = it.1.mode });
     kept = λ h. let it = inside h in record { was_open = λ _. it.1.was_open; committed = λ _. it.1.committed_is };
   }
     where
@@ -96,9 +98,9 @@ module _ (a b d : State) (c after : Stored) (stands : Stands a c) (law : IsTrue 
   abbrev was : HasCleanDisk b → HasCleanDisk a
   was h = omega (arith, ran.clean)
 
-  before : HasCleanDisk b → IsTrue a.is_open → (db : Trees) → b.may_leave db → Holds db c
+  before : HasCleanDisk b → IsTrue a.is_open → (db : Trees) → b.may_leave db → IsStore db c
   before h up db may = elim (ran.crash h db may) [
-    | inl first ↦ let rest = stands (was h) up in subst (λ t. Holds t c) (ap (λ (x : Database). x.trees) rest.settled ∙ sym (law up db first)) rest.store.holds
+    | inl first ↦ let rest = stands (was h) up in subst (λ t. IsStore t c) (ap (λ (x : Database). x.trees) rest.settled ∙ sym (law up db first)) rest.store
     | inr none ↦ absurd none
   ]
 
@@ -109,7 +111,7 @@ module _ (a b d : State) (c after : Stored) (stands : Stands a c) (law : IsTrue 
       let open_ = kept.was_open up in
       let rest = stands (was h) open_ in
       let same : d.now ≡ a.now = now ∙ (kept.committed up ∙ sym rest.settled) in
-      record { store = subst (λ x. IsStore x c) (sym same) rest.store; mode = mode; settled = now ∙ sym committed }
+      record { schema = ap (λ (x : Database). x.schema) same ∙ rest.schema; store = subst (λ (x : Database). IsStore x.trees c) (sym same) rest.store; mode = mode; settled = now ∙ sym committed }
 
   pub rolled : {T E F : Type 0} (e : E) (f : F) → Steps {T = T} {E = E} a b after (Err e) → d.in_transaction ≡ false → (HasCleanDisk d → IsRolledBack b d) → Survives b d (λ _. ⊥)
       → Carries {T = Unit {0}} {E = F} a d c after (Err f)
@@ -133,7 +135,7 @@ module _ (a b d : State) (c after : Stored) (stands : Stands a c) (law : IsTrue 
     err = failed r err;
     stop = λ h up db may. elim (ended.crash h db may) [
       | inl earlier ↦ inl (before (late h) up db earlier)
-      | inr made ↦ let store = (part.ok (late h)).2.store in inr (subst (λ t. Holds t after) (sym made) store.holds, store.storable)
+      | inr made ↦ inr (subst (λ t. IsStore t after) (sym made) (part.ok (late h)).2.store)
     ];
   }
     where
@@ -147,7 +149,7 @@ module _ (a b d : State) (c after : Stored) (stands : Stands a c) (law : IsTrue 
       done (Ok u) k h =
           let shown = (k h).1 in
           let it = part.ok (late h) in
-          (it.0, shown.is_open, record { store = subst (λ x. IsStore x after) (sym shown.now_is) it.2.store; mode = mode; settled = shown.now_is ∙ sym shown.committed_is })
+          (it.0, shown.is_open, record { schema = ap (λ (x : Database). x.schema) shown.now_is ∙ it.2.schema; store = subst (λ (x : Database). IsStore x.trees after) (sym shown.now_is) it.2.store; mode = mode; settled = shown.now_is ∙ sym shown.committed_is })
 
       failed : (q : Result (Unit {0}) Error) → (HasCleanDisk d → IfErr q (FailsToCommit b d)) → OnErr q (Stands d c)
       failed (Ok u) k = tt
@@ -158,7 +160,7 @@ module _ (a b d : State) (c after : Stored) (stands : Stands a c) (law : IsTrue 
 
 -- as it began
 pub begin_sees : {S : Type 0} (g : Ghosts S) (h : Held S) (c : Stored) → Stands (state g h) c → Sees (state g (record h { in_transaction = true })) c
-begin_sees g h c stands clean up = record { store = (stands clean up).store; mode = refl }
+begin_sees g h c stands clean up = let rest = stands clean up in record { schema = rest.schema; store = rest.store; mode = refl }
 
 pub begin_steps : {S T E : Type 0} (g : Ghosts S) (h : Held S) (b : State) (x : Stored) (r : Result T E) → Steps (state g (record h { in_transaction = true })) b x r → Steps (state g h) b x r
 begin_steps g h b x (Ok v) it =

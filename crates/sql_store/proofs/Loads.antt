@@ -5,27 +5,27 @@ use Rattle.sqlite.specs.Effect.{Database}
 use Rattle.sqlite.specs.State.{State, HasCleanDisk}
 use Rattle.stable_store.specs.Stored.{Stored}
 use Rattle.stable_store.specs.declared.fault.StoreFault.{StoreFault}
-use Rattle.sql_store.specs.Rows.{Holds}
-use Rattle.sql_store.specs.Calls.{IsStore, IsAtRest, Stands, Carries}
-use Rattle.sql_store.specs.Reading.{Quiets, ShowsTheSame, Reads}
+use Rattle.store_contents.specs.Holds.{IsStore}
+use Rattle.sql_store.specs.Steps.{IsAtRest, Stands, Carries}
+use Rattle.sql_store.specs.Reading.{Quiets, ShowsTheSame, LooksUp}
 
 pub quiets : (s : State) (c : Stored) → Stands s c → Quiets s
-quiets s c stands clean up = let r = stands clean up in record { schema = r.store.schema; mode = r.mode; settled = r.settled }
+quiets s c stands clean up = let r = stands clean up in record { schema = r.schema; mode = r.mode; settled = r.settled }
 
 module _ (old new : State) (c : Stored) (law : IsTrue old.is_open → (db : Trees) → old.may_leave db → db ≡ old.committed.trees) (stands : Stands old c) where
   still : ShowsTheSame old new → HasCleanDisk old → IsAtRest new c
   still same clean =
       let r = stands clean same.was_open in
-      record { store = subst (λ (d : Database). IsStore d c) (sym same.now) r.store; mode = same.mode ∙ r.mode; settled = same.now ∙ (r.settled ∙ sym same.committed) }
+      record { schema = ap (λ (d : Database). d.schema) same.now ∙ r.schema; store = subst (λ (d : Database). IsStore d.trees c) (sym same.now) r.store; mode = same.mode ∙ r.mode; settled = same.now ∙ (r.settled ∙ sym same.committed) }
 
-  stops : {T : Type 0} (P : Trees → T → Type 0) (r : Result T StoreFault) → Reads old new P r → HasCleanDisk new → IsTrue old.is_open
-      → (db : Trees) → new.may_leave db → Holds db c
+  stops : {T : Type 0} (P : Database → T → Type 0) (r : Result T StoreFault) → LooksUp old new P r → HasCleanDisk new → IsTrue old.is_open
+      → (db : Trees) → new.may_leave db → IsStore db c
   stops P r h clean up db may =
       let rest = stands (h.clean clean) up in
-      subst (λ t. Holds t c) (ap (λ (d : Database). d.trees) rest.settled ∙ sym (law up db (h.leaves clean up db may))) rest.store.holds
+      subst (λ t. IsStore t c) (ap (λ (d : Database). d.trees) rest.settled ∙ sym (law up db (h.leaves clean up db may))) rest.store
 
   -- whatever is answered after it was read
-  pub was_read : {T U : Type 0} (P : Trees → T → Type 0) (x : T) → Reads old new P (Ok x) → (r : Result U StoreFault)
+  pub was_read : {T U : Type 0} (P : Database → T → Type 0) (x : T) → LooksUp old new P (Ok x) → (r : Result U StoreFault)
       → Carries old new c c r
   was_read P x h (Ok y) = record {
     clean = h.clean;
@@ -41,7 +41,7 @@ module _ (old new : State) (c : Stored) (law : IsTrue old.is_open → (db : Tree
   }
 
   -- what was not read
-  pub was_not_read : {T U : Type 0} (P : Trees → T → Type 0) (e d : StoreFault) (r : Result U StoreFault) → r ≡ Err d → Reads {T = T} old new P (Err e) → Carries old new c c r
+  pub was_not_read : {T U : Type 0} (P : Database → T → Type 0) (e d : StoreFault) (r : Result U StoreFault) → r ≡ Err d → LooksUp {T = T} old new P (Err e) → Carries old new c c r
   was_not_read {U = U} P e d r is h = subst (Carries {T = U} old new c c) (sym is) (record {
     clean = h.clean;
     ok = λ clean. tt;

@@ -1,21 +1,11 @@
--- Queries within a transaction that made the tables.
-use Rattle.std.proofs.Common.{◌≡◌, ◌⊎◌, inl, inr, ℕ, List, [], ◌∷◌, true, Option, None, Some, option_map, is_some, slice_get}
-use Rattle.std.proofs.Common.{pos, cond, IfSome, Result, Ok, Err, OnOk, codes, refl, sym, ap, subst, ◌∙◌, arith}
-use Rattle.std.specs.Ordering.{nat_cmp}
-use Rattle.std.specs.FinMap as map
-use Rattle.std.specs.FinSet as set
-use Rattle.sqlite.specs.Order.{Row, column}
-use Rattle.sqlite.specs.declared.types.Value.TheVariants.{Int}
-use Rattle.sqlite_trees.specs.View.{IsShaped}
-use Rattle.sqlite_trees.specs.declared.store.Shape.TheVariants as shape
-use Rattle.values.specs.Contents.{IsStoredContent}
-use Rattle.std.specs.Cmp.{nat_cmp_total}
+-- Queries within a transaction.
+use Rattle.std.proofs.Common.{◌≡◌, ◌⊎◌, inl, inr, ℕ, List, [], true, Option, None, Some, slice_get}
+use Rattle.std.proofs.Common.{cond, Result, Ok, Err, refl, sym, ap, subst, ◌∙◌, arith}
+use Rattle.sqlite.specs.Order.{Row}
 use Rattle.sqlite.specs.Tree.{Trees}
 use Rattle.sqlite.specs.Table.{Table}
-use Rattle.sqlite.specs.Term.{Term, col}
 use Rattle.sqlite.specs.Command.{Command}
 use Rattle.sqlite.specs.Command.TheVariants.{Insert, InsertOr, Update, Delete}
-use Rattle.sqlite.specs.Program.{overlay}
 use Rattle.sqlite.specs.Effect.{Database}
 use Rattle.sqlite.specs.Does.{Tally, Does, AtPlace, OnRows}
 use Rattle.sqlite.specs.Rows.{Part, Task}
@@ -26,18 +16,15 @@ use Rattle.sqlite.specs.Clock.{timed}
 use Rattle.sqlite.specs.Given.{IsPlain}
 use Rattle.sqlite.specs.State.{State, HasCleanDisk, Survives, KeepsCommit, Shown, ShowsRows, FailsToQuery, IsTooLate, mode_of}
 use Rattle.sqlite.specs.State.{text_of}
+use Rattle.sqlite.proofs.Callers.{command_of, reads_as}
 use Rattle.sqlite_schema.specs.declared.command.Returning.{Returning}
 use Rattle.sqlite_resolve.specs.declared.compiled.Compiled.{Compiled}
-use Rattle.sqlite_rules.specs.Lists.{Has}
-use Rattle.sql_store.specs.Tables.{stable_schema}
-use Rattle.sql_store.specs.Rows.{HasRowids, row_at, value_at, value_in, written}
-use Rattle.sql_store.specs.Reading.{Looks, RunsInside, HoldsCount, IsEmptyStore, IsOnlyNumber}
-use Rattle.sql_store.proofs.Parts.{went, same_value}
-use Rattle.sql_store.proofs.Queries.{IsQuery, plain_query, read_count_text, is_count_term, count_query, shows, shown_same, failed_leaves}
-use Rattle.sql_store.proofs.Readings.{count_read}
+use Rattle.store_tables.specs.Tables.{stable_schema}
+use Rattle.store_tables.proofs.Parts.{went, same_value}
+use Rattle.sql_store.specs.Reading.{Looks, RunsInside, IsQueryText, IsAnswered}
+use Rattle.sql_store.proofs.Queries.{shown_same, failed_leaves}
 use Rattle.sql_store.proofs.Inside.{keeps_then}
-use Rattle.sql_store.proofs.Creating.{unchanged, undone}
-use Rattle.sql_store.proofs.Rowids.{rowids_shown, meta_rowids}
+use Rattle.sql_store.proofs.Ends.{unchanged, undone}
 
 -- ---- a write that shows its rows leaves the schema
 
@@ -74,7 +61,7 @@ module _ (sql : List ℕ) (old new : State) where
   rows_schema c full rows (Some what) h =
       does_schema old.step_limit (mode_of old) full old.now (text_of sql c) what h.1.tally new.now c.command h.1.changed
 
-  shown_schema : (rows : List Row) → Shown sql [] old new rows → new.now.schema ≡ old.now.schema
+  pub shown_schema : (rows : List Row) → Shown sql [] old new rows → new.now.schema ≡ old.now.schema
   unfolding Shown
   shown_schema rows h = rows_schema h.0 (timed [] h.0.formats h.1.now) rows h.0.returning h.2
 
@@ -93,146 +80,70 @@ module _ (sql : List ℕ) (old new : State) where
   shown_within : (rows : List Row) → old.in_transaction ≡ true → Shown sql [] old new rows → GoesOn
   unfolding Shown
   shown_within rows within h = rows_within h.0 (timed [] h.0.formats h.1.now) rows h.0.returning within h.2
+      -- ---- one query
 
-  -- ---- one query
-
-  pub looked : {T : Type 0} (rows : List Row) (Sees : T → Type 0) (x : T) → old.in_transaction ≡ true
-      → IsPlain (understood stable_schema sql)
-      → Shown sql [] old new rows → Sees x → Looks old new Sees (Ok x)
-  looked rows Sees x within plain shown sees = record {
-    inside = let on = shown_within rows within shown in record { kept = on.0; within = on.1 };
+  pub looked : {T E : Type 0} (rows : List Row) (Sees : T → Type 0) (x : T) → old.in_transaction ≡ true → IsQueryText sql
+      → Shown sql [] old new rows → (IsAnswered old.now sql rows → Sees x) → Looks {T = T} {E = E} old new Sees (Ok x)
+  looked rows Sees x within text shown sees = record {
+    inside = let on = shown_within rows within shown in record { kept = on.0; within = λ _. on.1 };
     seen = λ schema.
-        let known : old.now.schema ≡ stable_schema = sym (shown_schema rows shown) ∙ schema in
-        ((shown_same sql old new rows (subst (λ s. IsPlain (understood s sql)) (sym known) plain) shown).0.now_is, sees);
+        let known : old.now.schema ≡ stable_schema = sym (shown_schema rows shown) ∙ schema in (
+          (shown_same sql old new rows (subst (λ s. IsPlain (understood s sql)) (sym known) text.plain) shown).0.now_is,
+          sees (reads_as sql [] old new stable_schema known (command_of (understood stable_schema sql)) refl text.plain text.unlisted rows shown),
+        );
   }
 
-  pub unlooked : {T : Type 0} (e d : Error) (Sees : T → Type 0) → FailsToQuery sql [] old new e ⊎ IsTooLate sql [] old new e
-      → Looks old new Sees (Err d)
+  pub unlooked : {T E : Type 0} (e : Error) (d : E) (Sees : T → Type 0) → FailsToQuery sql [] old new e ⊎ IsTooLate sql [] old new e
+      → Looks {T = T} {E = E} old new Sees (Err d)
   unlooked e d Sees fails = record {
     inside = record {
       kept = elim fails [
         | inl failed ↦ elim (failed_leaves sql old new e failed) [ inl same ↦ unchanged old new same | inr back ↦ undone old new back ]
         | inr late ↦ unchanged old new late.5
       ];
-      within = tt;
+      within = λ _. tt;
     };
     seen = tt;
   }
 
 -- ---- what follows from a look
 
-pub looks_ok : {T U : Type 0} (old new : State) (P : T → Type 0) (Q : U → Type 0) (x : T) (y : U) → Looks old new P (Ok x)
-    → (new.now.schema ≡ stable_schema → new.now ≡ old.now → P x → Q y) → Looks old new Q (Ok y)
+pub clean_before : (a b : State) (P : Trees → Type 0) → Survives a b P → HasCleanDisk b → HasCleanDisk a
+clean_before a b P s clean = omega (arith, s.clean)
+
+-- the same, of another answer
+pub looks_ok : {T U E F : Type 0} (old new : State) (P : T → Type 0) (Q : U → Type 0) (x : T) (y : U) → Looks {T = T} {E = E} old new P (Ok x)
+    → (new.now.schema ≡ stable_schema → new.now ≡ old.now → P x → Q y) → Looks {T = U} {E = F} old new Q (Ok y)
 looks_ok old new P Q x y h leads = record {
   inside = record { kept = h.inside.kept; within = h.inside.within };
   seen = λ schema. let s = h.seen schema in (s.0, leads schema s.0 s.1);
 }
 
-pub looks_err : {T U : Type 0} (old new : State) (P : T → Type 0) (Q : U → Type 0) (r : Result T Error) (e : Error) → Looks old new P r
-    → Looks old new Q (Err e)
-looks_err old new P Q r e h = record { inside = record { kept = h.inside.kept; within = tt }; seen = tt }
+pub looks_err : {T U E F : Type 0} (old new : State) (P : T → Type 0) (Q : U → Type 0) (r : Result T E) (e : F) → Looks old new P r
+    → Looks {T = U} {E = F} old new Q (Err e)
+looks_err old new P Q r e h = record { inside = record { kept = h.inside.kept; within = λ _. tt }; seen = tt }
 
--- what is seen of the trees stays seen
-pub and_looks : {T U : Type 0} (a b c : State) (P : Database → Type 0) (Q : Database → Type 0) (x : T) (r : Result U Error)
-    → Looks {T = T} a b (λ _. P b.now) (Ok x) → (b.in_transaction ≡ true → Looks b c (λ _. Q c.now) r)
-    → Looks a c (λ _. P c.now × Q c.now) r
-and_looks a b c P Q x (Ok y) first next =
-    let second = next first.inside.within in
+-- nothing was looked at
+pub looks_none : {T E : Type 0} (s : State) (P : T → Type 0) (x : T) → s.in_transaction ≡ true → KeepsCommit s s → P x → Looks {T = T} {E = E} s s P (Ok x)
+looks_none s P x within kept p = record { inside = record { kept = kept; within = λ _. within }; seen = λ schema. (refl, p) }
+
+-- one look after another: what the first saw is seen still
+pub then_looks : {T U E F : Type 0} (a b c : State) (P : T → Type 0) (Q : U → Type 0) (x : T) (r : Result U F) → a.in_transaction ≡ true → Looks {T = T} {E = E} a b P (Ok x)
+    → (b.in_transaction ≡ true → Looks b c (λ y. b.now ≡ a.now → P x → Q y) r) → Looks a c Q r
+then_looks a b c P Q x (Ok y) within first next =
+    let second = next (first.inside.within within) in
     record {
-      inside = record { kept = keeps_then a b c first.inside.kept second.inside.kept; within = second.inside.within };
+      inside = record { kept = keeps_then a b c first.inside.kept second.inside.kept; within = λ w. second.inside.within (first.inside.within w) };
       seen = λ schema.
           let s = second.seen schema in
           let f = first.seen (ap (λ (d : Database). d.schema) (sym s.0) ∙ schema) in
-          (s.0 ∙ f.0, (subst P (sym s.0) f.1, s.1));
+          (s.0 ∙ f.0, s.1 f.0 f.1);
     }
-and_looks a b c P Q x (Err e) first next =
-    let second = next first.inside.within in
-    record { inside = record { kept = keeps_then a b c first.inside.kept second.inside.kept; within = tt }; seen = tt }
+then_looks a b c P Q x (Err e) within first next =
+    let second = next (first.inside.within within) in
+    record { inside = record { kept = keeps_then a b c first.inside.kept second.inside.kept; within = λ _. tt }; seen = tt }
 
-pub failed_look : {T U : Type 0} (old new : State) (P : T → Type 0) (Q : U → Type 0) (r : Result T Error) (q : Result U Error) (e : Error)
-    → q ≡ Err e
-    → Looks old new P r → Looks old new Q q
-failed_look old new P Q r q e is h = subst (Looks old new Q) (sym is) (looks_err old new P Q r e h)
-
-pub clean_before : (a b : State) (P : Trees → Type 0) → Survives a b P → HasCleanDisk b → HasCleanDisk a
-clean_before a b P s clean = omega (arith, s.clean)
-
--- ---- an empty store
-
-abbrev pub Lacks : ℕ → Database → Type 0
-Lacks tree d = overlay d.trees [] tree ≡ []
-
-no_rows : (rows : List Row) → ((r : Row) → Has rows r → ⊥) → rows ≡ []
-no_rows [] h = refl
-no_rows (r ∷ rows) h = absurd (h r (inl refl))
-
--- a query that shows no row was of an empty table
-pub none_shown : (sql : List ℕ) (tree : ℕ) (project : List Term) → IsQuery sql (plain_query tree [] project) → (old new : State)
-    → new.now.schema ≡ stable_schema → new.now ≡ old.now
-    → Shown sql [] old new [] → overlay new.now.trees [] tree ≡ []
-none_shown sql tree project it old new schema same h =
-    let known : old.now.schema ≡ stable_schema = ap (λ (d : Database). d.schema) (sym same) ∙ schema in
-    ap (λ (d : Database). overlay d.trees [] tree) same
-    ∙ no_rows (overlay old.now.trees [] tree) (λ r i. (shows sql tree [] project it old new [] known h).each r i refl)
-
-pub none_looked : (sql : List ℕ) (tree : ℕ) (project : List Term) → IsQuery sql (plain_query tree [] project)
-    → (old new : State) (r : Result (Unit {0}) Error)
-    → Looks old new (λ _. Shown sql [] old new []) r → Looks old new (λ _. Lacks tree new.now) r
-none_looked sql tree project it old new (Ok x) h =
-    looks_ok old new (λ _. Shown sql [] old new []) (λ _. Lacks tree new.now) x x h (λ schema same shown. none_shown sql tree project it old new schema same shown)
-none_looked sql tree project it old new (Err e) h = looks_err old new (λ _. Shown sql [] old new []) (λ _. Lacks tree new.now) (Err e) e h
-
-pub zero_shown : (old new : State) (rows : List Row) → new.now.schema ≡ stable_schema → new.now ≡ old.now
-    → Shown read_count_text [] old new rows → IsOnlyNumber rows 0
-    → HoldsCount new.now.trees 0
-zero_shown old new rows schema same h is =
-    let known : old.now.schema ≡ stable_schema = ap (λ (d : Database). d.schema) (sym same) ∙ schema in
-    subst (λ (d : Database). HoldsCount d.trees 0) (sym same)
-    (count_read old.now.trees rows 0 (shows read_count_text 0 is_count_term (col 1 2 ∷ []) count_query old new rows known h) is)
-
-pub rowids_here : (old new : State) (rows : List Row) → new.now.schema ≡ stable_schema → new.now ≡ old.now
-    → Shown (codes "SELECT rowid FROM meta ORDER BY rowid") [] old new rows → IsShaped shape.Table rows → HasRowids (new.now.trees 0)
-rowids_here old new rows schema same h up =
-    let known : old.now.schema ≡ stable_schema = ap (λ (d : Database). d.schema) (sym same) ∙ schema in
-    subst (λ (d : Database). HasRowids (d.trees 0)) (sym same) (rowids_shown (codes "SELECT rowid FROM meta ORDER BY rowid") 0 meta_rowids old new rows known h up)
-
-none_have : (rows : List Row) → rows ≡ [] → HasRowids rows
-none_have rows none = subst HasRowids (sym none) (record { ints = λ r h. absurd h; apart = λ r s h k. absurd h })
-
-empty_store : (db : Trees) → db 2 ≡ [] → db 3 ≡ [] → db 4 ≡ [] → db 6 ≡ [] → HoldsCount db 0 → HasRowids (db 0) → IsEmptyStore db
-empty_store db base homes values decided count rowids = (
-  (
-    record {
-      count = count;
-      base = λ o. ap (λ rows. option_map (λ r. column r 2) (row_at rows o)) base ∙ sym (ap (option_map written) (map.get-empty nat_cmp o));
-      homes = λ t. ap (λ rows. option_map (λ r. column r 2) (row_at rows t)) homes ∙ sym (ap (option_map (λ r. Int (pos r.home))) (map.get-empty nat_cmp t));
-      values = λ t o. ap (λ rows. option_map (λ r. column r 3) (value_at rows t o)) values ∙ sym (ap (λ r. option_map written (value_in r o)) (map.get-empty nat_cmp t));
-      decided = λ t. ap (λ rows. is_some (row_at rows t)) decided ∙ sym (set.contains-from_list nat_cmp_total [] t);
-    },
-    record {
-      base = λ o. subst (λ c. IfSome c IsStoredContent) (sym (map.get-empty nat_cmp o)) tt;
-      values = λ t o. subst (λ r. IfSome (value_in r o) IsStoredContent) (sym (map.get-empty nat_cmp t)) tt;
-      rising = λ t. subst (λ r. IfSome r (λ it. map.is_sorted nat_cmp it.values ≡ true)) (sym (map.get-empty nat_cmp t)) tt;
-    },
-  ),
-  (rowids, (none_have (db 2) base, (none_have (db 3) homes, (none_have (db 4) values, (none_have (db 6) decided, tt))))),
-)
-
-pub emptied : (old new : State) (r : Result (Unit {0}) Error)
-    → Looks old new (λ _. Lacks 2 new.now × (Lacks 3 new.now × (Lacks 4 new.now × (Lacks 6 new.now × (HoldsCount new.now.trees 0 × HasRowids (new.now.trees 0)))))) r
-    → Looks old new (λ _. IsEmptyStore new.now.trees) r
-emptied old new (Ok x) h = record {
-  inside = h.inside;
-  seen = λ schema. let s = h.seen schema in (s.0, empty_store new.now.trees s.1.0 s.1.1.0 s.1.1.1.0 s.1.1.1.1.0 s.1.1.1.1.1.0 s.1.1.1.1.1.1);
-}
-emptied old new (Err e) h = record { inside = h.inside; seen = tt }
-
--- the tables were made, and then looked at
-pub then_inside : {T U : Type 0} (a b c : State) (Sees : U → Type 0) (x : T) (r : Result U Error) → RunsInside a b (Ok x)
+-- a write, and then a look
+pub then_inside : {T U E F : Type 0} (a b c : State) (Sees : U → Type 0) (x : T) (r : Result U F) → RunsInside {T = T} {E = E} a b (Ok x)
     → Looks b c Sees r → RunsInside a c r
-then_inside a b c Sees x r first next = record { kept = keeps_then a b c first.kept next.inside.kept; within = next.inside.within }
-
-pub then_seen : (old new : State) (r : Result (Unit {0}) Error) → Looks old new (λ _. IsEmptyStore new.now.trees) r
-    → OnOk r (new.now.schema ≡ stable_schema → IsEmptyStore new.now.trees)
-then_seen old new (Ok x) h = λ schema. (h.seen schema).1
-then_seen old new (Err e) h = tt
+then_inside a b c Sees x r first next = record { kept = keeps_then a b c first.kept next.inside.kept; within = λ w. next.inside.within (first.within w) }

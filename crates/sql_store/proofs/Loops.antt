@@ -1,6 +1,6 @@
 -- Entries that are written one after the other.
-use Rattle.std.proofs.Common.{◌≡◌, ℕ, List, [], ◌∷◌, ◌++◌, Bool, true, false, Option, None, Some, cond, refl, sym, ap}
-use Rattle.std.proofs.Common.{◌∙◌, nat_cmp, Less, append_assoc}
+use Rattle.std.proofs.Common.{◌≡◌, ℕ, zero, suc, ◌<◌, ◌||◌, ◌==◌, List, [], ◌∷◌, ◌++◌, Bool, true, false, Option, None, Some, cond, refl, sym, ap}
+use Rattle.std.proofs.Common.{◌∙◌, nat_cmp, Less, append_assoc, arith, true≢false}
 use Rattle.std.specs.List.{AllByRecursion}
 use Rattle.std.specs.List.Sorted.{IsStrictlySortedBy}
 use Rattle.std.specs.Ordering.{is_eq, is_lt, eq_by_cmp}
@@ -11,31 +11,33 @@ use Rattle.std.specs.FinMap as map
 use Rattle.std.specs.FinMap.Entries.{below_all}
 use Rattle.std.proofs.lemmas.Bool.{and_from}
 use Rattle.std.proofs.lemmas.Map.Keys.{sorted_head, sorted_tail}
-use Rattle.values.specs.declared.content.Content.{Content}
-use Rattle.stable_store.specs.Stored.{Stored, Record, after_prepare, after_discard}
-use Rattle.sql_store.proofs.Recorded.{more}
+use Rattle.atomic_types.specs.declared.part.Part.{Part}
+use Rattle.stable_store.specs.Stored.{Stored, Record, after_discard}
+use Rattle.stable_store.specs.Numbers.{has_zero}
+use Rattle.store_contents.specs.Changes.{with_record}
+use Rattle.store_contents.proofs.Statements.{more}
 
-below : (es : List (ℕ × Content)) (x o : ℕ) (v : Content) (rest : List (ℕ × Content))
+below : (es : List (ℕ × Part)) (x o : ℕ) (v : Part) (rest : List (ℕ × Part))
     → AllByRecursion (λ y. nat_cmp x y ≡ Less) (keys_of (es ++ (o, v) ∷ rest)) → below_all nat_cmp x (more es o v) ≡ true
 below [] x o v rest h = and_from _ _ (ap is_lt h.0) refl
 below (e ∷ es) x o v rest h = and_from _ _ (ap is_lt h.0) (below es x o v rest h.1)
 
 -- the entries of a map up to one of them rise
-pub rising : (es : List (ℕ × Content)) (o : ℕ) (v : Content) (rest : List (ℕ × Content))
+pub rising : (es : List (ℕ × Part)) (o : ℕ) (v : Part) (rest : List (ℕ × Part))
     → IsStrictlySortedBy nat_cmp (keys_of (es ++ (o, v) ∷ rest)) → map.is_sorted nat_cmp (more es o v) ≡ true
 rising [] o v rest h = refl
 rising (e ∷ es) o v rest h =
     and_from _ _ (below es e.0 o v rest (sorted_head nat_cmp e.0 _ h)) (rising es o v rest (sorted_tail nat_cmp e.0 _ h))
 
-pub later : (es : List (ℕ × Content)) (o : ℕ) (v : Content) (left rest all : List (ℕ × Content)) → left ≡ (o, v) ∷ rest → es ++ left ≡ all
+pub later : (es : List (ℕ × Part)) (o : ℕ) (v : Part) (left rest all : List (ℕ × Part)) → left ≡ (o, v) ∷ rest → es ++ left ≡ all
     → more es o v ++ rest ≡ all
 later es o v left rest all next so_far = append_assoc es ((o, v) ∷ []) rest ∙ (ap (λ l. es ++ l) (sym next) ∙ so_far)
 
 -- a record in place of one that was taken away
-pub in_place : (n home : ℕ) (values : List (ℕ × Content)) (c : Stored)
-    → after_prepare n home values (after_discard n c) ≡ after_prepare n home values c
-in_place n home values c =
-    let r : Option Record = Some (record { home = home; values = values }) in
+pub in_place : (n home : ℕ) (parts : List (ℕ × Part)) (c : Stored)
+    → with_record n home parts (after_discard n c) ≡ with_record n home parts c
+in_place n home parts c =
+    let r : Option Record = Some (record { home = home; parts = parts }) in
     ap (λ p. record c { prepared = p }) (map.same_map nat_cmp_total map.nat_cmp-IsAntisymmetric _ _ (λ q.
     map.get-insert nat_cmp_total (map.remove c.prepared n) n _ q
     ∙ (ap (cond (eq_by_cmp nat_cmp q n) r) (map.get-remove nat_cmp_total c.prepared n q)
@@ -48,3 +50,24 @@ in_place n home values c =
 pub taken_away : (n : ℕ) (c : Stored) → map.get (after_discard n c).prepared n ≡ None
 taken_away n c =
     map.get-remove nat_cmp_total c.prepared n n ∙ ap (λ b. cond b None (map.get c.prepared n)) (ap is_eq (tied_itself nat_cmp_total n))
+
+-- ---- numbers from 1
+
+or_false : (a b : Bool) → (a || b) ≡ false → (a ≡ false) × (b ≡ false)
+or_false false b h = (refl, h)
+or_false true b h = absurd (true≢false h)
+
+above_zero : (n : ℕ) → (n == 0) ≡ false → 0 < n
+above_zero zero h = absurd (true≢false h)
+above_zero (suc n) h = omega arith
+
+-- no object of these has the number 0
+pub first_above : (o : ℕ) (v : Part) (rest : List (ℕ × Part)) → has_zero ((o, v) ∷ rest) ≡ false → 0 < o
+first_above o v rest h = above_zero o (or_false _ _ h).0
+
+pub rest_above : (o : ℕ) (v : Part) (rest : List (ℕ × Part)) → has_zero ((o, v) ∷ rest) ≡ false → has_zero rest ≡ false
+rest_above o v rest h = (or_false _ _ h).1
+
+pub one_above : (before : List (ℕ × Part)) (o : ℕ) (v : Part) (rest : List (ℕ × Part)) → has_zero (before ++ (o, v) ∷ rest) ≡ false → 0 < o
+one_above [] o v rest h = first_above o v rest h
+one_above (e ∷ before) o v rest h = one_above before o v rest (or_false _ _ h).1

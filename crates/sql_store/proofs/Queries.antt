@@ -1,27 +1,25 @@
--- What the queries mean under the schema of a store, and what a call of one leaves.
+-- What queries show of the tables of a store.
 use Rattle.std.proofs.Common.{◌≡◌, ◌⊎◌, inl, inr, ℕ, pos, negsuc, List, [], ◌∷◌, ◌++◌, map, codes, Bool, true, false, cond, flat_map, None}
 use Rattle.std.proofs.Common.{Some, Option, Ok, Err, IsPermutation, IsTrue, refl, sym, ap, subst, ◌∙◌, arith}
-use Rattle.std.specs.List.{list_all}
 use Rattle.std.proofs.lemmas.List.Sorted.{IsPermutation-sym}
 use Rattle.sqlite_trees.proofs.ListLemmas.{all-permutation}
 use Rattle.sqlite_rules.specs.Lists.{Has}
 use Rattle.sqlite_rules.proofs.ListLemmas.{all_has, all_from, has_right}
 use Rattle.sqlite_rules.proofs.ProbeLemmas.{has_mapped, mapped_has}
-use Rattle.sqlite.specs.declared.types.Value.TheVariants.{Null, Int, Text}
+use Rattle.sqlite.specs.declared.types.Value.TheVariants.{Null, Int}
 use Rattle.sqlite.specs.Order.{Row}
 use Rattle.sqlite.specs.Tree.{Trees}
-use Rattle.sqlite.specs.Term.{Term, lit, col, op2}
+use Rattle.sqlite.specs.Term.{Term, lit, col}
 use Rattle.sqlite.specs.Query.{Query, inner, end, IsAnswer, output, Output}
 use Rattle.sqlite.specs.Program.{overlay}
 use Rattle.sqlite.specs.Collation.TheVariants.{Binary}
+use Rattle.sqlite_value.specs.Keys.{ascending}
 use Rattle.sqlite_value.specs.declared.keys.Key.{Key}
-use Rattle.sqlite.specs.Command.TheVariants.{Select}
-use Rattle.sqlite_sql.specs.declared.ops.BinaryOp.TheVariants.{Compare}
-use Rattle.sqlite_sql.specs.declared.ops.CompareOp.TheVariants.{Eq}
-use Rattle.sqlite_sql.specs.Term.{holds, eval_all}
+use Rattle.sqlite_sql.specs.Term.{eval_all}
 use Rattle.sqlite_sql.specs.Query.{matches}
 use Rattle.sqlite_tied.specs.Compute.{everything}
-use Rattle.sqlite.specs.Listing.{understood, reads_listing}
+use Rattle.sqlite.specs.Effect.{Database, Reads, Answers}
+use Rattle.sqlite.specs.Listing.{understood}
 use Rattle.sqlite.specs.State.{State, Shown, FailsToQuery, CommitsShowing, Survives, IsUnchanged, IsRolledBack, HasCleanDisk, ShowsRows}
 use Rattle.sqlite.specs.State.{IsNotRun, FailsToShow}
 use Rattle.sqlite.specs.Clock.{timed}
@@ -30,29 +28,17 @@ use Rattle.sqlite_resolve.specs.declared.compiled.Compiled.{Compiled}
 use Rattle.sqlite.specs.declared.error.Error.{Error}
 use Rattle.sqlite.proofs.Callers.{IsPlain, command_of, reads_as, never_commits}
 use Rattle.stable_store.specs.declared.fault.StoreFault.{StoreFault}
-use Rattle.sql_store.specs.Tables.{stable_schema}
-use Rattle.sql_store.specs.Reading.{IsQuiet, Quiets, ShowsTheSame, Reads}
+use Rattle.store_tables.specs.Tables.{stable_schema}
+use Rattle.store_tables.proofs.Queries.{IsQuery, base_query, homes_query, values_query, deltas_query, decided_query}
+use Rattle.store_contents.specs.Holds.{IsViewOf, AreViews}
+use Rattle.store_contents.specs.Answered.{queries, answered}
+use Rattle.sql_store.specs.Reading.{IsQuiet, Quiets, ShowsTheSame, LooksUp, IsQueryText, IsAnswered, AreQueryTexts, AreAnswered}
 
-abbrev pub read_base_text : List ℕ
-read_base_text = codes "SELECT obj, val FROM base"
-
-abbrev pub read_homes_text : List ℕ
-read_homes_text = codes "SELECT top, home FROM prepared"
-
-abbrev pub read_values_text : List ℕ
-read_values_text = codes "SELECT top, obj, val FROM prepared_val"
-
-abbrev pub read_decided_text : List ℕ
-read_decided_text = codes "SELECT top FROM decided"
-
-abbrev pub read_count_text : List ℕ
-read_count_text = codes "SELECT v FROM meta WHERE k = 'count'"
-
--- these columns of the rows of a table that pass the tests, in some order
-abbrev pub ordered_query : List (Term × Key) → ℕ → List Term → List Term → Query
-ordered_query order tree filter project = record {
+-- these columns of the rows of a table, in some order
+abbrev pub ordered_query : List (Term × Key) → ℕ → List Term → Query
+ordered_query order tree project = record {
   from = inner tree end;
-  filter = filter;
+  filter = [];
   group = None;
   project = project;
   distinct = false;
@@ -62,43 +48,9 @@ ordered_query order tree filter project = record {
   offset = lit (Int (pos 0));
 }
 
-abbrev pub plain_query : ℕ → List Term → List Term → Query
-plain_query = ordered_query []
-
-abbrev pub is_count_term : List Term
-is_count_term = op2 (Compare Eq Binary) (col 1 1) (lit (Text (codes "count"))) ∷ []
-
--- what is known of a text that is such a query
-pub record IsQuery (sql : List ℕ) (q : Query) : Type 0 where
-  pub names : List (List ℕ)
-  pub is : command_of (understood stable_schema sql) ≡ Select (record { lets = []; body = q }) names
-  pub plain : IsPlain (understood stable_schema sql)
-  pub unlisted : reads_listing stable_schema sql ≡ false
-
-pub base_query : IsQuery read_base_text (plain_query 2 [] (col 1 0 ∷ col 1 2 ∷ []))
+pub numbers_query : IsQuery (codes "SELECT rowid, k, v FROM meta ORDER BY rowid") (ordered_query ((col 1 0, ascending Binary) ∷ []) 0 (col 1 0 ∷ col 1 1 ∷ col 1 2 ∷ []))
 unfolding understood everything
-base_query = record { names = codes "obj" ∷ codes "val" ∷ []; is = refl; plain = (refl, refl); unlisted = refl }
-
-pub homes_query : IsQuery read_homes_text (plain_query 3 [] (col 1 0 ∷ col 1 2 ∷ []))
-unfolding understood everything
-homes_query = record { names = codes "top" ∷ codes "home" ∷ []; is = refl; plain = (refl, refl); unlisted = refl }
-
-pub values_query : IsQuery read_values_text (plain_query 4 [] (col 1 1 ∷ col 1 2 ∷ col 1 3 ∷ []))
-unfolding understood everything
-values_query = record { names = codes "top" ∷ codes "obj" ∷ codes "val" ∷ []; is = refl; plain = (refl, refl); unlisted = refl }
-
-pub decided_query : IsQuery read_decided_text (plain_query 6 [] (col 1 0 ∷ []))
-unfolding understood everything
-decided_query = record { names = codes "top" ∷ []; is = refl; plain = (refl, refl); unlisted = refl }
-
-pub count_query : IsQuery read_count_text (plain_query 0 is_count_term (col 1 2 ∷ []))
-unfolding understood everything
-count_query = record { names = codes "v" ∷ []; is = refl; plain = (refl, refl); unlisted = refl }
-
--- the answer has what is shown of each row that passes, and nothing else
-pub record IsViewOf (keep : Row → Bool) (project : Row → Row) (answer table : List Row) : Type 0 where
-  pub each : (r : Row) → Has table r → keep r ≡ true → Has answer (project r)
-  pub from : (a : Row) → Has answer a → (r : Row) × Has table r × (keep r ≡ true) × (a ≡ project r)
+numbers_query = record { names = codes "rowid" ∷ codes "k" ∷ codes "v" ∷ []; is = refl; plain = (refl, refl); unlisted = refl }
 
 has_matched : {X Y : Type 0} (p : X → Bool) (f : X → Y) (xs : List X) (y : Y) → Has (flat_map (λ x. cond (p x) (f x ∷ []) []) xs) y
     → (x : X) × Has xs x × (p x ≡ true) × (y ≡ f x)
@@ -122,36 +74,66 @@ matched_has p f (z ∷ xs) x (inr later) passes =
 has_permuted : {X : Type 0} (xs ys : List X) (x : X) → IsPermutation xs ys → Has ys x → Has xs x
 has_permuted xs ys x same = all_has (Has xs) ys x (all-permutation (Has xs) xs ys same (all_from (Has xs) xs (λ e h. h)))
 
-pub viewed : (order : List (Term × Key)) (tree : ℕ) (filter project : List Term) (db : Trees) (found : List Row)
-    → IsAnswer (ordered_query order tree filter project) db [] found
-    → IsViewOf (λ r. list_all (holds ([] ∷ r ∷ [])) filter) (λ r. eval_all project ([] ∷ r ∷ [])) found (db tree)
-viewed order tree filter project db found answer =
-    let q = ordered_query order tree filter project in
-    let test = λ (r : Row). list_all (holds ([] ∷ r ∷ [])) filter in
+pub viewed : (order : List (Term × Key)) (tree : ℕ) (project : List Term) (db : Trees) (found : List Row)
+    → IsAnswer (ordered_query order tree project) db [] found
+    → IsViewOf (λ r. eval_all project ([] ∷ r ∷ [])) found (db tree)
+viewed order tree project db found answer =
+    let q = ordered_query order tree project in
+    let test = λ (r : Row). true in
     let env = λ (r : Row). [] ∷ r ∷ [] in
-    let all = matches db filter (inner tree end) ([] ∷ []) in
+    let all = matches db [] (inner tree end) ([] ∷ []) in
     let kept : answer.kept ≡ map (output q) all = answer.distinct ∙ ap (map (output q)) answer.grouped in
     record {
-      each = λ r h passes.
+      each = λ r h.
           let o = output q (env r) in
-          let there = subst (λ l. Has l o) (sym kept) (mapped_has (output q) all (env r) (matched_has test env (db tree) r h passes)) in
+          let there = subst (λ l. Has l o) (sym kept) (mapped_has (output q) all (env r) (matched_has test env (db tree) r h refl)) in
           subst (λ l. Has l (eval_all project (env r))) (sym answer.shown) (mapped_has (λ (k : Output). k.1) answer.ordered o (has_permuted answer.ordered answer.kept o (IsPermutation-sym _ _ answer.same) there));
       from = λ x h.
           let o = has_mapped (λ (k : Output). k.1) answer.ordered x (subst (λ l. Has l x) answer.shown h) in
           let e =
           has_mapped (output q) all o.0 (subst (λ l. Has l o.0) kept (has_permuted answer.kept answer.ordered o.0 answer.same o.1)) in
           let r = has_matched test env (db tree) e.0 e.1 in
-          (r.0, r.1, r.2, o.2 ∙ ap (λ (k : Output). k.1) (e.2 ∙ ap (output q) r.3));
+          (r.0, r.1, o.2 ∙ ap (λ (k : Output). k.1) (e.2 ∙ ap (output q) r.3));
     }
 
--- what a query of a store's tables shows of them
-pub shows : (sql : List ℕ) (tree : ℕ) (filter project : List Term) → IsQuery sql (plain_query tree filter project)
-    → (old new : State) (rows : List Row) → old.now.schema ≡ stable_schema
-    → Shown sql [] old new rows
-    → IsViewOf (λ r. list_all (holds ([] ∷ r ∷ [])) filter) (λ r. eval_all project ([] ∷ r ∷ [])) rows (overlay old.now.trees [] tree)
-shows sql tree filter project it old new rows has h =
-    viewed [] tree filter project (overlay old.now.trees []) rows
-    ((reads_as sql [] old new stable_schema has (Select (record { lets = []; body = plain_query tree filter project }) it.names) it.is it.plain it.unlisted rows h).answer Null)
+-- ---- the answers to the queries of a content
+
+-- the answer to a query of a known text
+pub answer_of : (sql : List ℕ) (q : Query) → IsQuery sql q → (d : Database) (rows : List Row) → IsAnswered d sql rows → IsAnswer q (overlay d.trees []) [] rows
+answer_of sql q it d rows h =
+    let read : Answers d (record { lets = []; body = q }) [] rows = subst (λ k. Reads k d [] rows) it.is h in
+    read.answer Null
+
+pub shows : (sql : List ℕ) (order : List (Term × Key)) (tree : ℕ) (project : List Term) → IsQuery sql (ordered_query order tree project)
+    → (d : Database) (rows : List Row) → IsAnswered d sql rows → IsViewOf (λ r. eval_all project ([] ∷ r ∷ [])) rows (overlay d.trees [] tree)
+shows sql order tree project it d rows h = viewed order tree project (overlay d.trees []) rows (answer_of sql (ordered_query order tree project) it d rows h)
+
+pub text_of : (sql : List ℕ) (q : Query) → IsQuery sql q → IsQueryText sql
+text_of sql q it = record { plain = it.plain; unlisted = it.unlisted }
+
+pub are_queries : AreQueryTexts queries
+are_queries = (
+  text_of _ _ numbers_query,
+  (text_of _ _ base_query, (text_of _ _ homes_query, (text_of _ _ values_query, (text_of _ _ deltas_query, (text_of _ _ decided_query, tt))))),
+)
+
+-- six answers show the tables
+pub views : (d : Database) (answers : List (List Row)) → AreAnswered d queries answers → AreViews (answered answers) d.trees
+views d [] h = absurd h
+views d (a ∷ []) h = absurd h.1
+views d (a ∷ b ∷ []) h = absurd h.1.1
+views d (a ∷ b ∷ c ∷ []) h = absurd h.1.1.1
+views d (a ∷ b ∷ c ∷ e ∷ []) h = absurd h.1.1.1.1
+views d (a ∷ b ∷ c ∷ e ∷ f ∷ []) h = absurd h.1.1.1.1.1
+views d (a ∷ b ∷ c ∷ e ∷ f ∷ k ∷ []) h = record {
+  numbers = shows _ ((col 1 0, ascending Binary) ∷ []) 0 (col 1 0 ∷ col 1 1 ∷ col 1 2 ∷ []) numbers_query d a h.0;
+  base = shows _ [] 2 (col 1 0 ∷ col 1 2 ∷ []) base_query d b h.1.0;
+  homes = shows _ [] 3 (col 1 0 ∷ col 1 2 ∷ []) homes_query d c h.1.1.0;
+  values = shows _ [] 4 (col 1 1 ∷ col 1 2 ∷ col 1 3 ∷ []) values_query d e h.1.1.1.0;
+  deltas = shows _ [] 7 (col 1 1 ∷ col 1 2 ∷ col 1 3 ∷ []) deltas_query d f h.1.1.1.1.0;
+  decided = shows _ [] 6 (col 1 0 ∷ []) decided_query d k h.1.1.1.1.1.0;
+}
+views d (a ∷ b ∷ c ∷ e ∷ f ∷ k ∷ l ∷ more) h = absurd h.1.1.1.1.1.1
 
 -- ---- what a call of a query leaves
 
@@ -196,29 +178,35 @@ same_after old new (inr back) quiet up =
     let q = quiet opened in
     record { was_open = opened; is_open = up; now = (back.undone up).0 ∙ sym q.settled; committed = (back.undone up).1; mode = back.autocommit ∙ sym q.mode }
 
-module _ (sql : List ℕ) (old new : State) (plain : IsPlain (understood stable_schema sql)) (quiet : Quiets old) (survives : Survives old new (CommitsShowing sql [] old)) where
+-- one query
+module _ (sql : List ℕ) (old new : State) (text : IsQueryText sql) (quiet : Quiets old) (survives : Survives old new (CommitsShowing sql [] old)) where
   was_clean : HasCleanDisk new → HasCleanDisk old
   was_clean clean = omega (arith, survives.clean)
 
   plainly : HasCleanDisk new → IsTrue old.is_open → IsPlain (understood old.now.schema sql)
-  plainly clean up = subst (λ s. IsPlain (understood s sql)) (sym (quiet (was_clean clean) up).schema) plain
+  plainly clean up = subst (λ s. IsPlain (understood s sql)) (sym (quiet (was_clean clean) up).schema) text.plain
 
   left : HasCleanDisk new → IsTrue old.is_open → (db : Trees) → new.may_leave db → old.may_leave db
   left clean up db may =
       elim (survives.crash clean db may) [ inl before ↦ before | inr made ↦ absurd (never_commits sql [] old db (plainly clean up) made) ]
 
-  pub answered : {T : Type 0} (rows : List Row) (Shows : Trees → T → Type 0) (x : T) → (HasCleanDisk new → Shown sql [] old new rows)
-      → (Shown sql [] old new rows → Shows old.now.trees x) → Reads old new Shows (Ok x)
-  answered rows Shows x shown so = record {
+  pub looked_up : {T : Type 0} (rows : List Row) (Shows : Database → T → Type 0) (x : T) → (HasCleanDisk new → Shown sql [] old new rows)
+      → (IsAnswered old.now sql rows → Shows old.now x) → LooksUp old new Shows (Ok x)
+  looked_up rows Shows x shown so = record {
     clean = was_clean;
-    ok = λ clean. (the_same old new (shown_same sql old new rows (plainly clean (was_open sql old new rows (shown clean))) (shown clean)), so (shown clean));
+    ok = λ clean.
+        let up = was_open sql old new rows (shown clean) in
+        let schema = (quiet (was_clean clean) up).schema in (
+          the_same old new (shown_same sql old new rows (plainly clean up) (shown clean)),
+          so (reads_as sql [] old new stable_schema schema (command_of (understood stable_schema sql)) refl text.plain text.unlisted rows (shown clean)),
+        );
     err = λ clean. tt;
     leaves = left;
   }
 
-  pub unanswered : {T : Type 0} (e : Error) (Shows : Trees → T → Type 0) (fault : StoreFault)
-      → (HasCleanDisk new → FailsToQuery sql [] old new e) → Reads old new Shows (Err fault)
-  unanswered e Shows fault fails = record {
+  pub not_looked_up : {T : Type 0} (e : Error) (Shows : Database → T → Type 0) (fault : StoreFault)
+      → (HasCleanDisk new → FailsToQuery sql [] old new e) → LooksUp old new Shows (Err fault)
+  not_looked_up e Shows fault fails = record {
     clean = was_clean;
     ok = λ clean. tt;
     err = λ clean up. same_after old new (failed_leaves sql old new e (fails clean)) (quiet (was_clean clean)) up;

@@ -1,87 +1,35 @@
 -- Tables whose rows have rowids of their own, from answers that rise.
-use Rattle.std.proofs.Common.{◌≡◌, ◌⊎◌, inl, inr, ℕ, ◌+◌, ◌≤◌, ℤ, List, [], ◌∷◌, ◌++◌, map, codes, Bool, true}
-use Rattle.std.proofs.Common.{false, cond, Option, None, Some}
-use Rattle.std.proofs.Common.{IfSome, IsTrue, is_some, Result, Ok, Err, refl, sym, ap, ◌∙◌, arith, true≢false, Ordering, Less}
-use Rattle.std.specs.List.{count_by}
+use Rattle.std.proofs.Common.{◌≡◌, inl, inr, ℕ, ◌+◌, ◌≤◌, List, [], ◌∷◌, map, codes, Bool, true}
+use Rattle.std.proofs.Common.{false, cond, IsTrue, refl, sym, ap, ◌∙◌, arith, Ordering, Less}
+use Rattle.std.specs.List.{count_by, AllByRecursion}
 use Rattle.std.specs.Ordering.{is_eq, ordering_reverse}
-use Rattle.std.specs.Cmp.{int_cmp_is}
 use Rattle.std.proofs.lemmas.Bool.{cases_Bool}
 use Rattle.std.proofs.lemmas.Cmp.{tied_itself}
 use Rattle.std.proofs.lemmas.List.Sorted.{sum_by-IsPermutation}
 use Rattle.std.proofs.lemmas.List.Sums.{sum_by-cons}
 use Rattle.std.proofs.lemmas.List.Concat.{flat_map_single}
 use Rattle.sqlite.specs.declared.types.Value.{Value}
-use Rattle.sqlite.specs.declared.types.Value.TheVariants.{Null, Int}
-use Rattle.sqlite.specs.Order.{Row, value_cmp}
-use Rattle.sqlite_value.proofs.OrderLemmas.{value_cmp_total, value_cmp-Int}
+use Rattle.sqlite.specs.Order.{Row}
+use Rattle.sqlite_value.specs.Order.{value_cmp}
+use Rattle.sqlite_value.proofs.OrderLemmas.{value_cmp_total}
 use Rattle.sqlite_trees.specs.Tree.{Trees, rowid, IsTable}
 use Rattle.sqlite_trees.specs.View.{is_int, IsShaped}
 use Rattle.sqlite_trees.specs.declared.store.Shape.TheVariants.{Table}
 use Rattle.sqlite_rules.specs.Lists.{Has}
-use Rattle.sqlite_rules.proofs.ListLemmas.{all_has, all_from, has_either}
-use Rattle.sqlite_catalog.proofs.ListFacts.{ascending_push}
-use Rattle.sql_store.specs.Rows.{HasRowids}
-use Rattle.sql_store.specs.Reading.{ShowsAbove, Quiets, Reads}
-use Rattle.stable_store.specs.declared.fault.StoreFault.{StoreFault}
-use Rattle.sql_store.proofs.Sequences.{then_reads, failed_reads}
-use Rattle.sql_store.proofs.Keys.{equal_is}
-use Rattle.sql_store.proofs.Shown.{has_last}
+use Rattle.sqlite_rules.proofs.ListLemmas.{all_has}
 use Rattle.sqlite.specs.Term.{col}
 use Rattle.sqlite.specs.Query.{Query, IsAnswer, output, Output}
 use Rattle.sqlite.specs.Collation.TheVariants.{Binary}
+use Rattle.sqlite.specs.Effect.{Database}
 use Rattle.sqlite.specs.Listing.{understood}
 use Rattle.sqlite.specs.Program.{overlay}
-use Rattle.sqlite.specs.Command.TheVariants.{Select}
-use Rattle.sqlite.specs.State.{State, Shown}
-use Rattle.sqlite.proofs.Callers.{reads_as}
-use Rattle.sql_store.specs.Tables.{stable_schema}
 use Rattle.sqlite_value.specs.Keys.{ascending}
 use Rattle.sqlite_tied.specs.Compute.{everything}
-use Rattle.sql_store.proofs.Queries.{IsQuery, ordered_query, viewed}
-
--- ---- rows that rise
-
--- an integer up to the last one
-abbrev pub IsUpTo : Option ℤ → Value → Type 0
-IsUpTo None v = ⊥
-IsUpTo (Some n) v = IsTrue (is_int v) × ((value_cmp v (Int n) ≡ Less) ⊎ (v ≡ Int n))
-
-abbrev pub AreUpTo : Option ℤ → List Row → Type 0
-AreUpTo last rows = (r : Row) → Has rows r → IsUpTo last (rowid r)
-
-below_next : (last : Option ℤ) (row : Row) (id : ℤ) (v : Value) → ShowsAbove last row id → IsUpTo last v → value_cmp v (Int id) ≡ Less
-below_next None row id v above low = absurd low
-below_next (Some n) row id v above low =
-    let up : value_cmp (Int n) (Int id) ≡ Less = value_cmp-Int n id ∙ sym (int_cmp_is n id Less above.1) in
-    elim low.1 [
-      | inl less ↦ value_cmp_total.trans v (Int n) (Int id) less up
-      | inr same ↦ ap (λ w. value_cmp w (Int id)) same ∙ up
-    ]
-
-ints_up_to : (last : Option ℤ) (v : Value) → IsUpTo last v → IsTrue (is_int v)
-ints_up_to None v low = absurd low
-ints_up_to (Some n) v low = low.0
-
-module _ (rows : List Row) (row : Row) (last : Option ℤ) (id : ℤ) (low : AreUpTo last rows) (above : ShowsAbove last row id) where
-  rises_on : IsTable rows → IsTable (rows ++ row ∷ [])
-  rises_on up = ascending_push (λ a b. value_cmp (rowid a) (rowid b) ≡ Less) rows row up (λ r h.
-      ap (value_cmp (rowid r)) above.0 ∙ below_next last row id (rowid r) above (low r h))
-
-  up_to_next : AreUpTo (Some id) (rows ++ row ∷ [])
-  up_to_next r h = elim (has_either rows (row ∷ []) r h) [
-    | inl old ↦ (ints_up_to last (rowid r) (low r old), inl (below_next last row id (rowid r) above (low r old)))
-    | inr new ↦ let is : rowid r ≡ Int id = ap rowid (has_last r row new) ∙ above.0 in (ap is_int is, inr is)
-  ]
-
--- one row more
-pub goes_on : (rows : List Row) (row : Row) (last next : Option ℤ) → is_some next ≡ true → IfSome next (ShowsAbove last row)
-    → IsTable rows × AreUpTo last rows → IsTable (rows ++ row ∷ []) × AreUpTo next (rows ++ row ∷ [])
-goes_on rows row last None is above so_far = absurd (true≢false (sym is))
-goes_on rows row last (Some id) is above so_far =
-    (rises_on rows row last id so_far.1 above so_far.0, up_to_next rows row last id so_far.1 above)
-
-pub all_rise : (rows : List Row) (last : Option ℤ) → IsTable rows → AreUpTo last rows → IsShaped Table rows
-all_rise rows last up low = (up, all_from (λ r. IsTrue (is_int (rowid r))) rows (λ r h. ints_up_to last (rowid r) (low r h)))
+use Rattle.store_tables.specs.Rows.{HasRowids, HaveRowids}
+use Rattle.store_tables.proofs.Keys.{equal_is}
+use Rattle.store_tables.proofs.Queries.{IsQuery}
+use Rattle.sql_store.specs.Reading.{IsAnswered, AreQueryTexts, AreAnswered}
+use Rattle.sql_store.proofs.Queries.{ordered_query, viewed, answer_of, text_of}
 
 -- ---- how often a rowid comes
 
@@ -145,7 +93,7 @@ rises_once v (r ∷ rows) up = elim (cases_Bool (is_eq (value_cmp (rowid r) v)))
 -- ---- the query of the rowids of a table, by their order
 
 abbrev pub rowids_query : ℕ → Query
-rowids_query tree = ordered_query ((col 1 0, ascending Binary) ∷ []) tree [] (col 1 0 ∷ [])
+rowids_query tree = ordered_query ((col 1 0, ascending Binary) ∷ []) tree (col 1 0 ∷ [])
 
 pub meta_rowids : IsQuery (codes "SELECT rowid FROM meta ORDER BY rowid") (rowids_query 0)
 unfolding understood everything
@@ -167,6 +115,27 @@ pub decided_rowids : IsQuery (codes "SELECT rowid FROM decided ORDER BY rowid") 
 unfolding understood everything
 decided_rowids = record { names = codes "top" ∷ []; is = refl; plain = (refl, refl); unlisted = refl }
 
+pub deltas_rowids : IsQuery (codes "SELECT rowid FROM prepared_delta ORDER BY rowid") (rowids_query 7)
+unfolding understood everything
+deltas_rowids = record { names = codes "rowid" ∷ []; is = refl; plain = (refl, refl); unlisted = refl }
+
+-- the queries of the rowids of each table
+abbrev pub rowids_queries : List (List ℕ)
+rowids_queries =
+    codes "SELECT rowid FROM meta ORDER BY rowid"
+    ∷ codes "SELECT rowid FROM base ORDER BY rowid"
+    ∷ codes "SELECT rowid FROM prepared ORDER BY rowid"
+    ∷ codes "SELECT rowid FROM prepared_val ORDER BY rowid"
+    ∷ codes "SELECT rowid FROM decided ORDER BY rowid"
+    ∷ codes "SELECT rowid FROM prepared_delta ORDER BY rowid"
+    ∷ []
+
+pub are_rowids_queries : AreQueryTexts rowids_queries
+are_rowids_queries = (
+  text_of _ _ meta_rowids,
+  (text_of _ _ base_rowids, (text_of _ _ homes_rowids, (text_of _ _ values_rowids, (text_of _ _ decided_rowids, (text_of _ _ deltas_rowids, tt))))),
+)
+
 -- an answer that rises shows the rowid of each row once
 module _ (tree : ℕ) (db : Trees) (found : List Row) (answer : IsAnswer (rowids_query tree) db [] found) (up : IsShaped Table found) where
   once : (v : Value) → count_by (λ r. is_eq (value_cmp (rowid r) v)) (db tree) ≤ 1
@@ -187,28 +156,34 @@ module _ (tree : ℕ) (db : Trees) (found : List Row) (answer : IsAnswer (rowids
   pub keyed : HasRowids (db tree)
   keyed = record {
     ints = λ r h. all_has (λ a. IsTrue (is_int (rowid a))) found (rowid r ∷ []) up.1
-        ((viewed ((col 1 0, ascending Binary) ∷ []) tree [] (col 1 0 ∷ []) db found answer).each r h refl);
+        ((viewed ((col 1 0, ascending Binary) ∷ []) tree (col 1 0 ∷ []) db found answer).each r h);
     apart = λ r s h k tie. counts_once (λ x. is_eq (value_cmp (rowid x) (rowid s))) (db tree) r s (once (rowid s)) h k (ap is_eq tie)
         (ap is_eq (tied_itself value_cmp_total (rowid s)));
   }
 
--- what a query of the rowids of a table of a store shows of them
-pub rowids_shown : (sql : List ℕ) (tree : ℕ) → IsQuery sql (rowids_query tree) → (old new : State) (rows : List Row)
-    → old.now.schema ≡ stable_schema
-    → Shown sql [] old new rows → IsShaped Table rows → HasRowids (overlay old.now.trees [] tree)
-rowids_shown sql tree it old new rows has h up =
-    let command = Select (record { lets = []; body = rowids_query tree }) it.names in
-    keyed tree (overlay old.now.trees []) rows ((reads_as sql [] old new stable_schema has command it.is it.plain it.unlisted rows h).answer Null) up
+keyed_by : (sql : List ℕ) (tree : ℕ) → IsQuery sql (rowids_query tree) → (d : Database) (rows : List Row) → IsAnswered d sql rows → IsShaped Table rows
+    → HasRowids (overlay d.trees [] tree)
+keyed_by sql tree it d rows h up = keyed tree (overlay d.trees []) rows (answer_of sql (rowids_query tree) it d rows h) up
 
-abbrev pub Keyed : ℕ → Trees → Unit {0} → Type 0
-Keyed tree db _ = HasRowids (overlay db [] tree)
-
--- what was read so, or not
-pub rowids_read : (sql : List ℕ) (tree : ℕ) → IsQuery sql (rowids_query tree) → (old new : State) (r : Result (Unit {0}) StoreFault)
-    → Quiets old
-    → Reads old new (λ _ _. (rows : List Row) × Shown sql [] old new rows × IsShaped Table rows) r → Reads old new (Keyed tree) r
-rowids_read sql tree it old new (Ok x) quiet h =
-    then_reads old new (λ _ _. (rows : List Row) × Shown sql [] old new rows × IsShaped Table rows) (Keyed tree) x (Ok x) quiet h
-    (λ q seen. rowids_shown sql tree it old new seen.0 q.schema seen.1 seen.2)
-rowids_read sql tree it old new (Err e) quiet h =
-    failed_reads old new (λ _ _. (rows : List Row) × Shown sql [] old new rows × IsShaped Table rows) (Keyed tree) e e (Err e) refl h
+-- six answers that rise show that each table has rowids
+pub all_keyed : (d : Database) (answers : List (List Row)) → AreAnswered d rowids_queries answers → AllByRecursion (IsShaped Table) answers → HaveRowids d.trees
+all_keyed d [] h up = absurd h
+all_keyed d (a ∷ []) h up = absurd h.1
+all_keyed d (a ∷ b ∷ []) h up = absurd h.1.1
+all_keyed d (a ∷ b ∷ c ∷ []) h up = absurd h.1.1.1
+all_keyed d (a ∷ b ∷ c ∷ e ∷ []) h up = absurd h.1.1.1.1
+all_keyed d (a ∷ b ∷ c ∷ e ∷ f ∷ []) h up = absurd h.1.1.1.1.1
+all_keyed d (a ∷ b ∷ c ∷ e ∷ f ∷ k ∷ []) h up = (
+  keyed_by _ 0 meta_rowids d a h.0 up.0,
+  (
+    keyed_by _ 2 base_rowids d b h.1.0 up.1.0,
+    (
+      keyed_by _ 3 homes_rowids d c h.1.1.0 up.1.1.0,
+      (
+        keyed_by _ 4 values_rowids d e h.1.1.1.0 up.1.1.1.0,
+        (keyed_by _ 6 decided_rowids d f h.1.1.1.1.0 up.1.1.1.1.0, (keyed_by _ 7 deltas_rowids d k h.1.1.1.1.1.0 up.1.1.1.1.1.0, tt)),
+      ),
+    ),
+  ),
+)
+all_keyed d (a ∷ b ∷ c ∷ e ∷ f ∷ k ∷ l ∷ more) h up = absurd h.1.1.1.1.1.1

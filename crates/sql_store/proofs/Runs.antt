@@ -1,7 +1,9 @@
 -- What a statement of known text leaves.
-use Rattle.std.proofs.Common.{◌≡◌, ◌⊎◌, inl, inr, ℕ, List, [], Bool, true, false, not, None, Option, Ok, Err, Result, refl, sym, ap}
-use Rattle.std.proofs.Common.{subst, subst₂, ◌∙◌, append-nil, IsTrue, OnOk, OnErr}
+use Rattle.std.proofs.Common.{◌≡◌, ◌⊎◌, inl, inr, ℕ, ◌≤◌, ℤ, pos, List, [], ◌∷◌, codes, Bool, true, false, not, cond, None, Option, Ok, Err, Result, refl, sym, ap, nat_cmp}
+use Rattle.std.proofs.Common.{subst, subst₂, ◌∙◌, append-nil, IsTrue, OnOk, OnErr, arith}
 use Rattle.std.proofs.lemmas.Bool.{cases_Bool}
+use Rattle.std.specs.FinMap as map
+use Rattle.sqlite.specs.declared.types.Value.TheVariants.{Int, Text}
 use Rattle.sqlite.specs.Order.{Row}
 use Rattle.sqlite.specs.Tree.{Trees}
 use Rattle.sqlite.specs.Schema.{Schema}
@@ -10,36 +12,33 @@ use Rattle.sqlite.specs.Command.TheVariants.{InsertOr, Insert, Update, Delete, C
 use Rattle.sqlite.specs.Command.TheVariants.{CreateView, DropTable, DropIndex, DropView, Begin, Rollback, Savepoint, RollbackTo, Nothing}
 use Rattle.sqlite_schema.specs.declared.command.Returning.{Returning}
 use Rattle.sqlite.specs.Does.{Tally, Does}
-use Rattle.sqlite.specs.Effect.{Database}
+use Rattle.sqlite.specs.Effect.{Database, IsDatabase}
 use Rattle.sqlite.specs.Listing.{understood}
 use Rattle.sqlite.specs.Clock.{timed}
 use Rattle.sqlite.specs.declared.error.Error.{Error}
-use Rattle.sqlite.specs.State.{State, mode_of, Executes, ExecutesIn, CommitsBy, MayCommit, text_of, IsUnchanged, IsRolledBack, shows_rows}
-use Rattle.sqlite.specs.State.{IsNotRun, Survives, RunsCommand, Runs}
-use Rattle.sqlite.specs.Effect.{IsDatabase}
-use Rattle.sqlite.specs.State.{Writes}
+use Rattle.sqlite.specs.State.{State, HasCleanDisk, mode_of, Executes, ExecutesIn, CommitsBy, MayCommit, text_of, IsUnchanged, IsRolledBack, shows_rows}
+use Rattle.sqlite.specs.State.{IsNotRun, Survives, RunsCommand, Runs, Writes}
 use Rattle.sqlite.proofs.Callers.{IsPlain, command_of, statement_of, runs_as}
-use Rattle.stable_store.specs.Stored.{Stored, after_decide, after_discard, after_prepare}
-use Rattle.sql_store.specs.Tables.{stable_schema}
-use Rattle.sql_store.specs.Rows.{Holds, IsStorable}
-use Rattle.sql_store.specs.Calls.{IsStore, IsAtRest, Stands, Carries, with_count, with_none_decided, after_put}
-use Rattle.sql_store.proofs.Texts.{record_text, record_command, record_is, record_plain, value_text, value_command, value_is, value_plain}
-use Rattle.sql_store.proofs.Texts.{decide_text, decide_command, decide_is, decide_plain, count_text, count_command, count_is, count_plain}
-use Rattle.sql_store.proofs.Texts.{base_text, base_command, base_is, base_plain, discard_text, discard_command, discard_is, discard_plain}
-use Rattle.sql_store.proofs.Texts.{forget_text, forget_command, forget_is, forget_plain}
-use Rattle.sql_store.proofs.Forgets.{forgets, after_forgets}
-use Rattle.sql_store.proofs.Discards.{discards}
-use Rattle.sql_store.proofs.Removed.{after_discards}
+use Rattle.sqlite_catalog.specs.Listing.{IsSound}
 use Rattle.values.specs.declared.content.Content.{Content}
-use Rattle.values.specs.Contents.{IsStoredContent, content_text}
-use Rattle.sql_store.proofs.Contents.{after_decides, after_counts, after_puts_base}
-use Rattle.sqlite.specs.declared.types.Value.TheVariants.{Int, Text}
-use Rattle.sqlite.specs.State.{HasCleanDisk}
-use Rattle.std.proofs.Common.{arith, pos, ◌∷◌, cond}
-use Rattle.sql_store.proofs.Decides.{plain_mode, decides, counts, puts_base, puts_home, puts_value}
-use Rattle.sql_store.proofs.Recorded.{more, after_puts_home, after_puts_value}
-use Rattle.std.specs.FinMap as map
-use Rattle.std.proofs.Common.{nat_cmp}
+use Rattle.values.specs.Contents.{IsStoredContent}
+use Rattle.values.specs.Totals.{IsCounter}
+use Rattle.atomic_types.specs.declared.part.Part.{Part}
+use Rattle.atomic_types.specs.declared.part.Part.TheVariants.{Value, Delta}
+use Rattle.part_texts.specs.PartTexts.{IsStoredPart, part_text}
+use Rattle.stable_store.specs.Stored.{Stored, after_decide, after_discard}
+use Rattle.store_tables.specs.Tables.{stable_schema}
+use Rattle.store_tables.specs.Texts.{decide_text, count_text, next_text, base_text, discard_text, record_text, value_text, delta_text, forget_text}
+use Rattle.store_tables.proofs.Texts.{decide_command, decide_is, decide_plain, number_command, count_is, count_plain, next_is, next_plain, base_command, base_is, base_plain}
+use Rattle.store_tables.proofs.Texts.{discard_command, discard_is, discard_plain, record_command, record_is, record_plain, value_command, value_is, value_plain, delta_command, delta_is, delta_plain, forget_command, forget_is, forget_plain}
+use Rattle.store_tables.proofs.Decides.{plain_mode, decides, puts_number, puts_base, puts_home, puts_value, puts_delta}
+use Rattle.store_tables.proofs.Discards.{discards}
+use Rattle.store_tables.proofs.Forgets.{forgets}
+use Rattle.store_contents.specs.Holds.{IsStore, greatest_next}
+use Rattle.store_contents.specs.Changes.{with_count, with_next, with_part, with_record, with_none_decided}
+use Rattle.store_contents.proofs.Tables.{InRange}
+use Rattle.store_contents.proofs.Statements.{more, after_decides, after_counts, after_raises, after_puts_base, after_puts_home, after_puts_value, after_puts_delta, after_discards, after_forgets}
+use Rattle.sql_store.specs.Steps.{IsAtRest, Stands, Carries}
 
 abbrev pub writes_rows : Command → Type 0
 writes_rows (InsertOr at way from clauses) = Unit {0}
@@ -157,21 +156,28 @@ pub not_true : (b : Bool) → true ≡ not b → b ≡ false
 not_true true h = h
 not_true false h = refl
 
+-- a database with the tables of a store, which holds this content
+abbrev pub IsStored : Database → Stored → Type 0
+IsStored d c = (d.schema ≡ stable_schema) × IsStore d.trees c
+
+sound_in : (d : Database) → d.schema ≡ stable_schema → IsDatabase d → IsSound stable_schema d.trees
+sound_in d is sound = subst (λ s. IsSound s d.trees) is sound
+
 -- What a statement makes of a store, wherever it runs.
 pub record Means (text : List ℕ) (command : Command) (params : Row) (f : Stored → Stored) (Needs : Stored → Type 0) : Type 0 where
   pub is : command_of (understood stable_schema text) ≡ command
   pub plain : IsPlain (understood stable_schema text)
   pub rows : writes_rows command
-  pub does : (limit : Option ℕ) (db after : Database) (tally : Tally) (c : Stored) → IsStore db c → Needs c → IsDatabase after
+  pub does : (limit : Option ℕ) (db after : Database) (tally : Tally) (c : Stored) → IsStored db c → Needs c → IsDatabase after
       → Does limit plain_mode params db (statement_of text (understood stable_schema text)) None command (Ok (tally, after))
-      → IsStore after (f c)
+      → IsStored after (f c)
 
 module _ (text : List ℕ) (command : Command) (params : Row) (f : Stored → Stored) (Needs : Stored → Type 0) (m : Means text command params f Needs) where
   -- what was written
-  pub runs_to : (old new : State) (count : ℕ) (c : Stored) → IsStore old.now c → Needs c → Executes text params old new (Ok count)
+  pub runs_to : (old new : State) (count : ℕ) → old.now.schema ≡ stable_schema → Executes text params old new (Ok count)
       → Writes old new None command (statement_of text (understood stable_schema text)) params count
-  runs_to old new count c store needs h =
-      wrote command m.rows (runs_as text params old new stable_schema store.schema command m.is m.plain count h)
+  runs_to old new count schema h =
+      wrote command m.rows (runs_as text params old new stable_schema schema command m.is m.plain count h)
     where
       wrote : (k : Command) → writes_rows k → Runs old new None k (statement_of text (understood stable_schema text)) params count
           → Writes old new None k (statement_of text (understood stable_schema text)) params count
@@ -187,38 +193,43 @@ module _ (text : List ℕ) (command : Command) (params : Row) (f : Stored → St
       → OnOk r (IsTrue old.is_open × IsTrue new.is_open × IsAtRest new (f c)) × OnErr r (IsTrue new.is_open → IsAtRest new c)
   carries old new c (Ok count) was needs mode h =
       let opened = ok_opens text params old new count mode h in
-      let store = (was opened).store in
-      let w = runs_to old new count c store needs h in
+      let rest = was opened in
+      let w = runs_to old new count rest.schema h in
       let committed : new.committed ≡ new.now = w.shown.committed_is ∙ ap (λ b. cond b old.committed new.now) mode in
-      ((opened, w.shown.is_open, record { store = m.does old.step_limit old.now new.now w.tally c store needs w.sound w.changed; mode = w.shown.mode ∙ mode; settled = sym committed }), tt)
+      let now = m.does old.step_limit old.now new.now w.tally c (rest.schema, rest.store) needs w.sound w.changed in
+      ((opened, w.shown.is_open, record { schema = now.0; store = now.1; mode = w.shown.mode ∙ mode; settled = sym committed }), tt)
   carries old new c (Err e) was needs mode h = (
     tt,
     λ up.
         let opened = err_opens text params old new e h up in
         let rest = was opened in
         let same : new.now ≡ old.now = err_keeps text params old new (Err e) (λ on. (was on).settled) h up in
-        record { store = subst (λ d. IsStore d c) (sym same) rest.store; mode = err_mode text params old new e mode h; settled = err_settled text params old new e h up rest.settled },
+        record {
+          schema = ap (λ (d : Database). d.schema) same ∙ rest.schema;
+          store = subst (λ (d : Database). IsStore d.trees c) (sym same) rest.store;
+          mode = err_mode text params old new e mode h;
+          settled = err_settled text params old new e h up rest.settled;
+        },
   )
 
   -- what a stop leaves
-  pub stops : (old : State) (c : Stored) (db : Trees) → IsStore old.now c → Needs c → CommitsBy text params old db
-      → Holds db (f c) × IsStorable (f c)
+  pub stops : (old : State) (c : Stored) (db : Trees) → IsStored old.now c → Needs c → CommitsBy text params old db → IsStore db (f c)
   stops old c db store needs h =
-      let made = commits_as text params old stable_schema store.schema command m.is m.plain m.rows db h in
+      let made = commits_as text params old stable_schema store.0 command m.is m.plain m.rows db h in
       let after = m.does old.step_limit old.now made.1 made.0 c store needs made.3 made.2 in
-      (subst (λ t. Holds t (f c)) (sym made.4) after.holds, after.storable)
+      subst (λ t. IsStore t (f c)) (sym made.4) after.1
 
   module _ (old new : State) (c : Stored) (stands : Stands old c) (needs : Needs c) (mode : old.in_transaction ≡ false)
       (law : IsTrue old.is_open → (db : Trees) → old.may_leave db → db ≡ old.committed.trees) (survives : Survives old new (CommitsBy text params old)) where
     was_clean : HasCleanDisk new → HasCleanDisk old
     was_clean clean = omega (arith, survives.clean)
 
-    leaves : HasCleanDisk new → IsTrue old.is_open → (db : Trees) → new.may_leave db → Holds db c ⊎ (Holds db (f c) × IsStorable (f c))
+    leaves : HasCleanDisk new → IsTrue old.is_open → (db : Trees) → new.may_leave db → IsStore db c ⊎ IsStore db (f c)
     leaves clean up db may =
         let rest = stands (was_clean clean) up in
         elim (survives.crash clean db may) [
-          | inl before ↦ inl (subst (λ t. Holds t c) (ap (λ (d : Database). d.trees) rest.settled ∙ sym (law up db before)) rest.store.holds)
-          | inr made ↦ inr (stops old c db rest.store needs made)
+          | inl before ↦ inl (subst (λ t. IsStore t c) (ap (λ (d : Database). d.trees) rest.settled ∙ sym (law up db before)) rest.store)
+          | inr made ↦ inr (stops old c db (rest.schema, rest.store) needs made)
         ]
 
     pub carried : {T : Type 0} (x : T) (count : ℕ) → (HasCleanDisk new → Executes text params old new (Ok count)) → Carries {T = T} {E = Error} old new c (f c) (Ok x)
@@ -243,42 +254,51 @@ unmoved s c after e stands law = record {
   clean = λ h. h;
   ok = λ _. tt;
   err = stands;
-  stop = λ clean up db may. inl (subst (λ t. Holds t c) (ap (λ (d : Database). d.trees) (stands clean up).settled ∙ sym (law up db may)) (stands clean up).store.holds);
+  stop = λ clean up db may. let rest = stands clean up in inl (subst (λ t. IsStore t c) (ap (λ (d : Database). d.trees) rest.settled ∙ sym (law up db may)) rest.store);
 }
 
 -- `decide`
-pub decide_means : (n : ℕ) → Means decide_text decide_command (Int (pos n) ∷ []) (after_decide n) (λ _. Unit {0})
-decide_means n = record {
+pub decide_means : (n : ℕ) → InRange n → Means decide_text decide_command (Int (pos n) ∷ []) (after_decide n) (λ _. Unit {0})
+decide_means n fits = record {
   is = decide_is;
   plain = decide_plain;
   rows = tt;
-  does = λ limit db after tally c store _ sound h.
-      let made = decides limit n db tally after (statement_of decide_text (understood stable_schema decide_text)) store.schema h in
-      after_decides n db after c store made.0 sound made.1;
+  does = λ limit db after tally c store needs sound h.
+      let made = decides limit n db tally after (statement_of decide_text (understood stable_schema decide_text)) store.0 h in
+      (made.0, after_decides n db.trees after.trees c fits store.1 (sound_in after made.0 sound) made.1);
 }
 
 -- the count
-pub count_means : (n : ℕ) → Means count_text count_command (Int (pos n) ∷ []) (with_count n) (λ _. Unit {0})
+pub count_means : (n : ℕ) → Means count_text (number_command 2 (codes "count")) (Int (pos n) ∷ []) (with_count n) (λ _. Unit {0})
 count_means n = record {
   is = count_is;
   plain = count_plain;
   rows = tt;
-  does = λ limit db after tally c store _ sound h.
-      let made = counts limit (pos n) db tally after (statement_of count_text (understood stable_schema count_text)) store.schema h in
-      after_counts n db after c store made.0 sound made.1;
+  does = λ limit db after tally c store needs sound h.
+      let made = puts_number limit 2 (codes "count") (pos n) db tally after (statement_of count_text (understood stable_schema count_text)) store.0 h in
+      (made.0, after_counts n db.trees after.trees c store.1 (sound_in after made.0 sound) made.1);
 }
 
--- a content of the base
-pub base_means : (n : ℕ) (v : Content) → IsStoredContent v
-    → Means base_text base_command (Int (pos n) ∷ Text (content_text v) ∷ []) (after_put n v) (λ _. Unit {0})
-base_means n v fits = record {
+-- the number of the next top action
+pub next_means : (n : ℕ) → 1 ≤ n → n ≤ greatest_next → Means next_text (number_command 3 (codes "next_top")) (Int (pos n) ∷ []) (with_next n) (λ _. Unit {0})
+next_means n low high = record {
+  is = next_is;
+  plain = next_plain;
+  rows = tt;
+  does = λ limit db after tally c store needs sound h.
+      let made = puts_number limit 3 (codes "next_top") (pos n) db tally after (statement_of next_text (understood stable_schema next_text)) store.0 h in
+      (made.0, after_raises n db.trees after.trees c low high store.1 (sound_in after made.0 sound) made.1);
+}
+
+-- a part of the base
+pub base_means : (n : ℕ) (p : Part) → IsStoredPart p → Means base_text base_command (Int (pos n) ∷ Text (part_text p) ∷ []) (with_part n p) (λ _. InRange n)
+base_means n p stored = record {
   is = base_is;
   plain = base_plain;
   rows = tt;
-  does = λ limit db after tally c store _ sound h.
-      let made =
-      puts_base limit n (content_text v) db tally after (statement_of base_text (understood stable_schema base_text)) store.schema h in
-      after_puts_base n v db after c fits store made.0 sound made.1;
+  does = λ limit db after tally c store needs sound h.
+      let made = puts_base limit n (part_text p) db tally after (statement_of base_text (understood stable_schema base_text)) store.0 h in
+      (made.0, after_puts_base n p db.trees after.trees c needs stored store.1 (sound_in after made.0 sound) made.1);
 }
 
 -- a record that goes
@@ -287,43 +307,55 @@ discard_means n = record {
   is = discard_is;
   plain = discard_plain;
   rows = tt;
-  does = λ limit db after tally c store _ sound h.
-      let made = discards limit n db tally after (statement_of discard_text (understood stable_schema discard_text)) store.schema store.placed.1.1.0 h in
-      after_discards n db after c store made.1 made.0 sound;
+  does = λ limit db after tally c store needs sound h.
+      let made = discards limit n db tally after (statement_of discard_text (understood stable_schema discard_text)) store.0 store.1.placed.1.1.0 h in
+      (made.0, after_discards n db.trees after.trees c store.1 (sound_in after made.0 sound) made.1);
 }
 
--- a record with no value yet
-pub record_means : (n home : ℕ)
-    → Means record_text record_command (Int (pos n) ∷ Int (pos home) ∷ []) (after_prepare n home []) (λ c. map.get c.prepared n ≡ None)
-record_means n home = record {
+-- a record with no parts yet
+pub record_means : (n home : ℕ) → InRange n → InRange home → Means record_text record_command (Int (pos n) ∷ Int (pos home) ∷ []) (with_record n home []) (λ c. map.get c.prepared n ≡ None)
+record_means n home fits home_fits = record {
   is = record_is;
   plain = record_plain;
   rows = tt;
-  does = λ limit db after tally c store none sound h.
-      let made = puts_home limit n home db tally after (statement_of record_text (understood stable_schema record_text)) store.schema h in
-      after_puts_home n home db after c none store made.0 sound made.1;
+  does = λ limit db after tally c store needs sound h.
+      let made = puts_home limit n home db tally after (statement_of record_text (understood stable_schema record_text)) store.0 h in
+      (made.0, after_puts_home n home db.trees after.trees c fits home_fits needs store.1 (sound_in after made.0 sound) made.1);
 }
 
 -- one value more of a record
-pub value_means : (n home o : ℕ) (v : Content) (before : List (ℕ × Content)) (c : Stored) → map.is_sorted nat_cmp (more before o v) ≡ true
-    → IsStoredContent v
-    → Means value_text value_command (Int (pos n) ∷ Int (pos o) ∷ Text (content_text v) ∷ []) (λ _. after_prepare n home (more before o v) c) (λ d. d ≡ after_prepare n home before c)
-value_means n home o v before c sorted fits = record {
+pub value_means : (n home o : ℕ) (k : Content) (before : List (ℕ × Part)) (c : Stored) → InRange n → InRange o → map.is_sorted nat_cmp (more before o (Value k)) ≡ true
+    → IsStoredContent k
+    → Means value_text value_command (Int (pos n) ∷ Int (pos o) ∷ Text (part_text (Value k)) ∷ []) (λ _. with_record n home (more before o (Value k)) c) (λ d. d ≡ with_record n home before c)
+value_means n home o k before c fits object_fits sorted stored = record {
   is = value_is;
   plain = value_plain;
   rows = tt;
   does = λ limit db after tally d store same sound h.
-      let made = puts_value limit n o (content_text v) db tally after (statement_of value_text (understood stable_schema value_text)) store.schema h in
-      after_puts_value n home o v before c sorted fits db after (subst (IsStore db) same store) made.1 made.0 sound;
+      let made = puts_value limit n o (part_text (Value k)) db tally after (statement_of value_text (understood stable_schema value_text)) store.0 h in
+      (made.0, after_puts_value n home o (Value k) before c fits object_fits sorted db.trees after.trees (subst (IsStore db.trees) same store.1) (sound_in after made.0 sound) k refl stored made.1);
+}
+
+-- one delta more of a record
+pub delta_means : (n home o : ℕ) (z : ℤ) (before : List (ℕ × Part)) (c : Stored) → InRange n → InRange o → map.is_sorted nat_cmp (more before o (Delta z)) ≡ true
+    → IsCounter z
+    → Means delta_text delta_command (Int (pos n) ∷ Int (pos o) ∷ Int z ∷ []) (λ _. with_record n home (more before o (Delta z)) c) (λ d. d ≡ with_record n home before c)
+delta_means n home o z before c fits object_fits sorted stored = record {
+  is = delta_is;
+  plain = delta_plain;
+  rows = tt;
+  does = λ limit db after tally d store same sound h.
+      let made = puts_delta limit n o z db tally after (statement_of delta_text (understood stable_schema delta_text)) store.0 h in
+      (made.0, after_puts_delta n home o (Delta z) before c fits object_fits sorted db.trees after.trees (subst (IsStore db.trees) same store.1) (sound_in after made.0 sound) z refl stored made.1);
 }
 
 -- nothing is decided any more
-pub forget_means : Means forget_text forget_command [] with_none_decided (λ _. Unit {0})
+pub forget_means : Means forget_text forget_command ([]) (with_none_decided) (λ _. Unit {0})
 forget_means = record {
   is = forget_is;
   plain = forget_plain;
   rows = tt;
-  does = λ limit db after tally c store _ sound h.
-      let made = forgets limit db tally after (statement_of forget_text (understood stable_schema forget_text)) store.schema h in
-      after_forgets db after c store made.0 sound made.1;
+  does = λ limit db after tally c store needs sound h.
+      let made = forgets limit db tally after (statement_of forget_text (understood stable_schema forget_text)) store.0 h in
+      (made.0, after_forgets db.trees after.trees c store.1 (sound_in after made.0 sound) made.1);
 }

@@ -1,6 +1,6 @@
-pub mod Tables
-pub mod Rows
-pub mod Calls
+pub mod Steps
+pub mod Mirror
 pub mod Views
 pub mod Reading
-pub mod Known
+pub mod Layouts
+pub mod Placed

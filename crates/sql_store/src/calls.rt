@@ -1,14 +1,17 @@
 //! The calls of a store, over its connection and its content in maps.
-
-ghost use Rattle.std.specs.Prelude.{◌≡◌, ◌≤◌, IfOk, OnErr};
+ghost use Rattle.std.specs.Prelude.{◌≡◌, ◌≤◌, ◌<◌, false, IfOk, IsErrOf};
 ghost use Rattle.sqlite.specs.Held.{state};
-ghost use Rattle.stable_store.specs.Stored.{after_prepare, after_install, after_discard, after_decide, after_bump, greatest_count};
+ghost use Rattle.stable_store.specs.Stored.{after_prepare, after_install, after_discard, after_decide, after_bump, after_save, greatest_count};
+ghost use Rattle.stable_store.specs.Numbers.{has_zero};
 ghost use Rattle.stable_store.specs.Calls.{Changes, IsRefused};
 ghost use Rattle.stable_store.specs.Held.{held};
-ghost use Rattle.sql_store.specs.Calls.{Stands, Carries, after_save};
+ghost use Rattle.stable_store.specs.declared.fault.StoreFault.TheVariants.{NotOurs};
+ghost use Rattle.sql_store.specs.Steps.{Stands, Carries};
 
-use crate::decoding::{fault_of, read_content};
+use crate::asking::read_content;
+use crate::faults::fault_of;
 use crate::{mirror, statements};
+use atomic_types::Part;
 use sqlite::{Alter, Connection};
 use stable_store::{GREATEST_COUNT, Kept, Prepared, StoreFault, laid};
 use std::alloc::Global;
@@ -21,21 +24,28 @@ pub(crate) fn prepare<A: Alter>(
     alloc: Global,
     top: u32,
     home: u32,
-    values: BTreeMap<u32, Content>,
+    parts: BTreeMap<u32, Part>,
 ) -> Result<(), StoreFault>
-    ensures changes { Changes (held kept.old) (after_prepare top home values.entries (held kept.old)) (held kept.new) result }
+    requires top { 0 < top }
+    requires home { 0 < home }
+    requires objects { has_zero parts.entries ≡ false }
+    ensures changes { Changes (held kept.old) (after_prepare top home parts.entries (held kept.old)) (held kept.new) result }
     ensures carries { Stands (state A.Store conn.old) (held kept.old)
         → Carries (state A.Store conn.old) (state A.Store conn.new) (held kept.old)
-        (after_prepare top home values.entries (held kept.old)) result }
+        (after_prepare top home parts.entries (held kept.old)) result }
+    ensures told { IsErrOf result NotOurs → ⊥ }
 {
-    let Ok(before) = kept.prepared.insert(top, Prepared { home, values }) else {
+    let Ok(before) = kept.prepared.insert(top, Prepared { home, parts }) else {
         return Err(StoreFault::Memory);
     };
     let Some(record) = kept.prepared.get(&top) else {
         unreachable!()
     };
-    match statements::prepare(conn, alloc, top, record) {
-        Ok(()) => Ok(()),
+    match statements::prepare(conn, alloc, top, record, kept.next_top) {
+        Ok(()) => {
+            kept.next_top = kept.next_top.max(u64::from(top) + 1);
+            Ok(())
+        }
         Err(error) => {
             mirror::put_record_back(&mut kept.prepared, top, before);
             Err(fault_of(error))
@@ -52,16 +62,20 @@ pub(crate) fn install<A: Alter>(
     ensures changes { Changes (held kept.old) (after_install top (held kept.old)) (held kept.new) result }
     ensures carries { Stands (state A.Store conn.old) (held kept.old)
         → Carries (state A.Store conn.old) (state A.Store conn.new) (held kept.old) (after_install top (held kept.old)) result }
+    ensures told { IsErrOf result NotOurs → ⊥ }
 {
     let Some(record) = kept.prepared.get(&top) else {
         return discard(conn, kept, top);
     };
-    let Ok(replaced) = laid::lay(alloc, &mut kept.base, &record.values) else {
+    let Ok(installed) = mirror::installed_over(alloc, &record.parts, &kept.base) else {
         return Err(StoreFault::Memory);
     };
-    match statements::install(conn, alloc, top, &record.values) {
+    let Ok(replaced) = laid::lay(alloc, &mut kept.base, &record.parts) else {
+        return Err(StoreFault::Memory);
+    };
+    match statements::install(conn, alloc, top, &installed) {
         Ok(()) => {
-            kept.prepared.remove(&top);
+            drop(kept.prepared.remove(&top));
             Ok(())
         }
         Err(error) => {
@@ -75,16 +89,21 @@ pub(crate) fn save<A: Alter>(
     conn: &mut Connection<A>,
     kept: &mut Kept,
     alloc: Global,
-    base: &BTreeMap<u32, Content>,
+    contents: &BTreeMap<u32, Content>,
 ) -> Result<(), StoreFault>
-    ensures changes { Changes (held kept.old) (after_save base.now.entries (held kept.old)) (held kept.new) result }
+    requires { has_zero contents.now.entries ≡ false }
+    ensures changes { Changes (held kept.old) (after_save contents.now.entries (held kept.old)) (held kept.new) result }
     ensures carries { Stands (state A.Store conn.old) (held kept.old)
-        → Carries (state A.Store conn.old) (state A.Store conn.new) (held kept.old) (after_save base.now.entries (held kept.old)) result }
+        → Carries (state A.Store conn.old) (state A.Store conn.new) (held kept.old) (after_save contents.now.entries (held kept.old)) result }
+    ensures told { IsErrOf result NotOurs → ⊥ }
 {
-    let Ok(replaced) = laid::lay(alloc, &mut kept.base, base) else {
+    let Ok(values) = mirror::values_of(alloc, contents) else {
         return Err(StoreFault::Memory);
     };
-    match statements::save(conn, alloc, base) {
+    let Ok(replaced) = laid::lay(alloc, &mut kept.base, &values) else {
+        return Err(StoreFault::Memory);
+    };
+    match statements::save(conn, alloc, &values) {
         Ok(()) => {
             kept.decided.clear();
             Ok(())
@@ -104,10 +123,11 @@ pub(crate) fn discard<A: Alter>(
     ensures changes { Changes (held kept.old) (after_discard top (held kept.old)) (held kept.new) result }
     ensures carries { Stands (state A.Store conn.old) (held kept.old)
         → Carries (state A.Store conn.old) (state A.Store conn.new) (held kept.old) (after_discard top (held kept.old)) result }
+    ensures told { IsErrOf result NotOurs → ⊥ }
 {
     match statements::discard(conn, top) {
         Ok(()) => {
-            kept.prepared.remove(&top);
+            drop(kept.prepared.remove(&top));
             Ok(())
         }
         Err(error) => Err(fault_of(error)),
@@ -119,9 +139,11 @@ pub(crate) fn decide<A: Alter>(
     kept: &mut Kept,
     top: u32,
 ) -> Result<(), StoreFault>
+    requires { 0 < top }
     ensures changes { Changes (held kept.old) (after_decide top (held kept.old)) (held kept.new) result }
     ensures carries { Stands (state A.Store conn.old) (held kept.old)
         → Carries (state A.Store conn.old) (state A.Store conn.new) (held kept.old) (after_decide top (held kept.old)) result }
+    ensures told { IsErrOf result NotOurs → ⊥ }
 {
     let Ok(added) = kept.decided.insert(top) else {
         return Err(StoreFault::Memory);
@@ -141,6 +163,7 @@ pub(crate) fn bump<A: Alter>(conn: &mut Connection<A>, kept: &mut Kept) -> Resul
     ensures changes { Changes (held kept.old) (after_bump (held kept.old)) (held kept.new) result }
     ensures carries { Stands (state A.Store conn.old) (held kept.old)
         → Carries (state A.Store conn.old) (state A.Store conn.new) (held kept.old) (after_bump (held kept.old)) result }
+    ensures told { IsErrOf result NotOurs → ⊥ }
     ensures spent { greatest_count ≤ (held kept.old).count → IsRefused result }
 {
     if kept.count >= GREATEST_COUNT {

@@ -1,12 +1,19 @@
 //! A guardian's stable store in the tables of a SQL database.
+//!
+//! `SqlStable` keeps the content in maps too, so that each answer comes from memory and a call touches only the rows that
+//! it changes; a call is one transaction. What the rows stand for is said in `store_contents`.
 #![tactic(auto)]
 
+mod asking;
+mod building;
 mod calls;
-mod decoding;
+mod faults;
+mod layout;
 mod mirror;
-mod rows;
-mod schema;
+mod opening;
+mod places;
 mod statements;
+mod steps;
 mod store;
 
 pub use store::SqlStable;

@@ -1,19 +1,20 @@
 -- What a call of a store in memory makes.
-use Rattle.std.proofs.Common.{◌≡◌, inr, ◌∙◌, Ok}
+use Rattle.std.proofs.Common.{◌≡◌, ℕ, true≢false, refl, ap, inr, ◌∙◌, Ok, Some}
 use Rattle.stable_store.specs.Stored.{Stored}
 use Rattle.stable_store.specs.Calls.{Makes}
-use Rattle.stable_store.specs.Plain.{plain_content, plain_failures}
-use Rattle.stable_store.specs.declared.plain.PlainStable.{PlainStable}
+use Rattle.stable_store.specs.Plain.{kept_in_memory}
 
-pub made : (old new : PlainStable) (after : Stored)
-    → plain_content new ≡ after → plain_failures new ≡ plain_failures old
-    → Makes {S = PlainStable} {T = Unit {0}} plain_content plain_failures (λ _. Unit {0}) (λ _. Unit {0})
-    (λ s c. c ≡ plain_content s) old new ⊥ after (Ok tt)
-made old new after is same = record {
+pub made : {T : Type 0} (x : T) (before now after : Stored) (failures : ℕ) (excuse : Type 0)
+    → now ≡ after
+    → Makes {T = T} (kept_in_memory before failures) (kept_in_memory now failures) excuse after (Ok x)
+made x before now after failures excuse is = record {
   changes = is;
-  cause = same;
+  cause = refl;
+  known = refl;
+  holds = refl;
+  none = λ e. absurd (true≢false e);
   honest = λ _. tt;
-  stop = λ _ _ c left. inr (left ∙ is);
-  rest = λ _ _ c left. left;
+  stop = λ _ _ left found. inr (found ∙ ap (λ c. Some c) is);
+  rest = λ _ _ left found. found;
   stands = λ _. (tt, tt);
 }

@@ -1,13 +1,14 @@
 -- Maps and sets of numbers, as lists of entries.
-use Rattle.std.proofs.Common.{◌≡◌, ℕ, List, [], ◌∷◌, Bool, true, false, ◌||◌, cond, Option, Some, None, option_map, IsSome, is_some, refl, sym, ap, subst, ◌∙◌, nat_cmp, true≢false, Ordering, Less, Equal, Greater}
+use Rattle.std.proofs.Common.{◌≡◌, ℕ, zero, suc, List, [], ◌∷◌, Bool, true, false, ◌||◌, ◌==◌, cond, Option, Some, None, option_map, IsSome, is_some, refl, sym, ap, subst, ◌∙◌, nat_cmp, true≢false, Ordering, Less, Equal, Greater, arith}
 use Rattle.std.specs.List.{list_any}
 use Rattle.std.specs.Map.{lookup}
 use Rattle.std.specs.Ordering.{eq_by_cmp, is_eq}
 use Rattle.std.specs.BTreeMap.{is_at}
-use Rattle.std.specs.Cmp.{nat_cmp_total}
+use Rattle.std.specs.Cmp.{nat_cmp_total, nat_cmp_is}
 use Rattle.std.proofs.lemmas.Cmp.{eq_by_cmp_equiv}
 use Rattle.std.specs.FinMap.{FinMap, from_entries, get, insert, remove, find, same_map, get_tied, get-from_entries, get-insert, get-remove, nat_cmp-IsAntisymmetric}
 use Rattle.std.specs.FinSet as set
+use Rattle.stable_store.specs.Numbers.{has_zero}
 use Rattle.stable_store.proofs.Ordered.{seen}
 
 back : (n q : ℕ) → is_at (nat_cmp n) q ≡ is_at (nat_cmp q) n
@@ -96,6 +97,20 @@ grown xs ys n h = set.same_set nat_cmp_total set.nat_cmp-IsAntisymmetric _ _ (λ
     ∙ ap (λ b. cond b true (list_any (is_at (nat_cmp q)) xs)) (back n q) ∙ as_or (is_at (nat_cmp q) n) _
     ∙ ap (λ b. eq_by_cmp nat_cmp q n || b) (sym (set.contains-from_list nat_cmp_total xs q))
     ∙ sym (set.contains-insert nat_cmp_total (set.from_list xs) n q))
+
+never_zero : (n : ℕ) → (suc n == 0) ≡ false
+never_zero n = grind arith
+
+zero_at : {X : Type 0} (n : ℕ) (v : X) (o : Option X) → is_some (cond (is_at (nat_cmp 0) n) (Some v) o) ≡ ((n == 0) || is_some o)
+zero_at zero v o = refl
+zero_at (suc n) v o =
+    ap (λ r. is_some (cond (is_eq r) (Some v) o)) (sym (nat_cmp_is 0 (suc n) Less (omega arith)))
+    ∙ ap (λ b. b || is_some o) (sym (never_zero n))
+
+-- what a look for the number 0 finds
+pub zero_found : {X : Type 0} (es : List (ℕ × X)) → is_some (lookup (is_at (nat_cmp 0)) es) ≡ has_zero es
+zero_found [] = refl
+zero_found (e ∷ es) = zero_at e.0 e.1 (lookup (is_at (nat_cmp 0)) es) ∙ ap (λ b. (e.0 == 0) || b) (zero_found es)
 
 -- where something is found, it is not so that nothing is
 pub found_something : {X : Type 0} (o : Option X) → IsSome o → ¬ (o ≡ None)

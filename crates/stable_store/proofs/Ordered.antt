@@ -33,22 +33,22 @@ keys_seen : {X Y : Type 0} (g : X → Y) (es : List (ℕ × X)) → keys_of (see
 keys_seen g [] = refl
 keys_seen g (e ∷ es) = ap (λ ks. e.0 ∷ ks) (keys_seen g es)
 
--- one entry more was copied, of those that were left
-pub copied_on : {X Y : Type 0} (g : X → Y) (all before after left rest : List (ℕ × X)) (k : ℕ) (v w : X)
-    → IsStrictlySortedBy nat_cmp (keys_of all) → seen g before ++ seen g left ≡ seen g all
-    → left ≡ (k, v) ∷ rest → after ≡ insert_entry nat_cmp before k w → g w ≡ g v
-    → seen g after ++ seen g rest ≡ seen g all
-copied_on g all before after left rest k v w sorted so_far next put same =
-    let parts : seen g before ++ (k, g v) ∷ seen g rest ≡ seen g all = ap (λ l. seen g before ++ seen g l) (sym next) ∙ so_far in
-    let keys : keys_of before ++ k ∷ keys_of (seen g rest) ≡ keys_of all =
-    ap (λ ks. ks ++ k ∷ keys_of (seen g rest)) (sym (keys_seen g before)) ∙ sym (map-append (λ e. e.0) (seen g before) _)
-    ∙ ap keys_of parts ∙ keys_seen g all in
+-- one entry more was put into a map, of those that were left
+pub put_on : {X Y Z : Type 0} (g : Y → Z) (h : X → Z) (all left rest : List (ℕ × X)) (before after : List (ℕ × Y)) (k : ℕ) (v : X) (w : Y)
+    → IsStrictlySortedBy nat_cmp (keys_of all) → seen g before ++ seen h left ≡ seen h all
+    → left ≡ (k, v) ∷ rest → after ≡ insert_entry nat_cmp before k w → g w ≡ h v
+    → seen g after ++ seen h rest ≡ seen h all
+put_on g h all left rest before after k v w sorted so_far next put same =
+    let parts : seen g before ++ (k, h v) ∷ seen h rest ≡ seen h all = ap (λ l. seen g before ++ seen h l) (sym next) ∙ so_far in
+    let keys : keys_of before ++ k ∷ keys_of (seen h rest) ≡ keys_of all =
+    ap (λ ks. ks ++ k ∷ keys_of (seen h rest)) (sym (keys_seen g before)) ∙ sym (map-append (λ e. e.0) (seen g before) _)
+    ∙ ap keys_of parts ∙ keys_seen h all in
     let last : insert_entry nat_cmp before k w ≡ before ++ (k, w) ∷ [] =
     put_last before k w _ (subst (IsStrictlySortedBy nat_cmp) (sym keys) sorted) in
-    ap (λ es. seen g es ++ seen g rest) (put ∙ last)
-    ∙ ap (λ es. es ++ seen g rest) (map-append _ before _)
-    ∙ append_assoc (seen g before) _ (seen g rest)
-    ∙ ap (λ y. seen g before ++ (k, y) ∷ seen g rest) same
+    ap (λ es. seen g es ++ seen h rest) (put ∙ last)
+    ∙ ap (λ es. es ++ seen h rest) (map-append _ before _)
+    ∙ append_assoc (seen g before) _ (seen h rest)
+    ∙ ap (λ y. seen g before ++ (k, y) ∷ seen h rest) same
     ∙ parts
 
 pub all_copied : {X : Type 0} (all before after left rest : List (ℕ × X)) (k : ℕ) (v w : X)
@@ -59,5 +59,15 @@ all_copied {X = X} all before after left rest k v w sorted so_far next put same 
     let as_seen : (es : List (ℕ × X)) → seen (λ x. x) es ≡ es = λ es. map-id es in
     let parts = (λ i. as_seen before i ++ as_seen left i) ∙ so_far ∙ sym (as_seen all) in
     (λ i. sym (as_seen after) i ++ sym (as_seen rest) i)
-    ∙ copied_on (λ x. x) all before after left rest k v w sorted parts next put same
+    ∙ put_on (λ x. x) (λ x. x) all left rest before after k v w sorted parts next put same
     ∙ as_seen all
+
+-- one more was made a part of
+pub all_seen : {X Y : Type 0} (h : X → Y) (all left rest : List (ℕ × X)) (before after : List (ℕ × Y)) (k : ℕ) (v : X) (w : Y)
+    → IsStrictlySortedBy nat_cmp (keys_of all) → before ++ seen h left ≡ seen h all
+    → left ≡ (k, v) ∷ rest → after ≡ insert_entry nat_cmp before k w → w ≡ h v
+    → after ++ seen h rest ≡ seen h all
+all_seen {Y = Y} h all left rest before after k v w sorted so_far next put same =
+    let as_seen : (es : List (ℕ × Y)) → seen (λ x. x) es ≡ es = λ es. map-id es in
+    ap (λ es. es ++ seen h rest) (sym (as_seen after))
+    ∙ put_on (λ x. x) h all left rest before after k v w sorted (ap (λ es. es ++ seen h left) (as_seen before) ∙ so_far) next put same

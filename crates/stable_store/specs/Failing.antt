@@ -1,7 +1,6 @@
 -- A store of which one call fails.
 use Rattle.std.specs.Prelude.{◌≡◌, ◌⊎◌, ◌+◌, ◌-◌, ◌==◌, ℕ, min, if◌then◌else◌, Result, IsErrOf}
-use Rattle.stable_store.specs.Stored.{Stored}
-use Rattle.stable_store.specs.Calls.{most_failures, Makes}
+use Rattle.stable_store.specs.Calls.{View, most_failures}
 use Rattle.stable_store.specs.declared.fault.StoreFault.{StoreFault}
 use Rattle.stable_store.specs.declared.fault.StoreFault.TheVariants.{Failed}
 
@@ -18,20 +17,13 @@ counted f = record f {
   failed = if f.calls_left == 1 then min (f.failed + 1) most_failures else f.failed;
 }
 
--- how many failures are counted, of so many of the inner store and so many more
-abbrev pub all_failures : ℕ → ℕ → ℕ
-all_failures inner failed = min (inner + failed) most_failures
+-- what is seen of it is what is seen of the inner store, with its own failures counted too
+abbrev pub failing_view : {S : Type 0} → (S → View) → Failing S → View
+failing_view seen f = record (seen f.inner) { failures = min ((seen f.inner).failures + f.failed) most_failures }
 
--- the inner store may fail, or the next call is the one that fails
-abbrev pub MayFail : {S : Type 0} → (S → Type 0) → Failing S → Type 0
-MayFail may_fail f = may_fail f.inner ⊎ (f.calls_left ≡ 1)
-
--- what is said of a call, with the inner store's content and failures
-abbrev pub MakesInside : {S T : Type 0} → (S → Stored) → (S → ℕ) → (S → Type 0) → (S → Type 0)
-    → (S → Stored → Type 0) → Failing S → Failing S → Type 0 → Stored → Result T StoreFault → Type 0
-MakesInside content failures is_honest is_up may_leave =
-    Makes (λ f. content f.inner) (λ f. all_failures (failures f.inner) f.failed) (λ f. is_honest f.inner) (λ f. is_up f.inner)
-    (λ f. may_leave f.inner)
+-- the inner store's failure is excused, or this was the call that fails
+abbrev pub IsFailing : {S : Type 0} → (S → S → Type 0) → Failing S → Failing S → Type 0
+IsFailing may_fail old new = may_fail old.inner new.inner ⊎ (old.calls_left ≡ 1)
 
 -- the call was counted, and failed if it was the one
 pub record TakesTurn {S T : Type 0} (old new : Failing S) (result : Result T StoreFault) : Type 0 where

@@ -1,4 +1,5 @@
 pub mod Stored
+pub mod Numbers
 pub mod Calls
 pub mod Held
 pub mod Undone

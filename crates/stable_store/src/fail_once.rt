@@ -1,6 +1,7 @@
 use crate::fault::StoreFault;
 use crate::kept::Kept;
 use crate::stable::Stable;
+use atomic_types::Part;
 use std::alloc::Global;
 use std::collections::BTreeMap;
 use std::marker::Model;
@@ -22,7 +23,7 @@ impl<S: Stable> Model for FailOnce<S> {
 
     ghost view = { λ a. record { inner = a.inner; calls_left = a.calls_left; failed = a.failed } };
 
-    ghost invariant = { λ a. Rests S.content S.is_honest S.is_up S.may_leave a.inner };
+    ghost invariant = { λ a. Rests (S.seen a.inner) };
 }
 
 impl<S: Stable> FailOnce<S> {
@@ -31,9 +32,9 @@ impl<S: Stable> FailOnce<S> {
     ghost use Rattle.stable_store.specs.Failing.{Failing, counted};
 
     /// A store whose call of this number fails with `Failed`, once, and is counted. Calls are counted from 1, all but
-    /// `failures`; with 0 none fails.
+    /// `kept` and `failures`; with 0 none fails.
     pub fn new(inner: S, call: u64) -> FailOnce<S>
-        requires { Rests S.content S.is_honest S.is_up S.may_leave inner }
+        requires { Rests (S.seen inner) }
         ensures { result ≡ record { inner = inner; calls_left = call; failed = 0 } }
     {
         FailOnce {
@@ -47,7 +48,7 @@ impl<S: Stable> FailOnce<S> {
     fn count_call(&mut self) -> bool
         ensures answer { IsTrue result ↔ (self.old.calls_left ≡ 1) }
         ensures counts { self.new ≡ counted self.old }
-        ensures rests { Rests S.content S.is_honest S.is_up S.may_leave self.new.inner }
+        ensures rests { Rests (S.seen self.new.inner) }
     {
         let fails = self.calls_left == 1;
         self.calls_left = self.calls_left.saturating_sub(1);
@@ -59,44 +60,43 @@ impl<S: Stable> FailOnce<S> {
 }
 
 impl<S: Stable> Stable for FailOnce<S> {
-    ghost use Rattle.std.specs.Prelude.{◌≡◌, ◌⊎◌, ◌≤◌, IfOk};
-    ghost use Rattle.stable_store.specs.Stored.{after_prepare, after_install, after_discard, after_decide, after_bump, greatest_count};
-    ghost use Rattle.stable_store.specs.Calls.{IsRefused};
+    ghost use Rattle.std.specs.Prelude.{◌≡◌, ◌⊎◌, ◌≤◌, false, IfOk, IsErrOf, IsTrue, Some, None, MatchOption};
+    ghost use Rattle.stable_store.specs.Stored.{after_prepare, after_install, after_discard, after_decide, after_bump, after_save, greatest_count};
+    ghost use Rattle.stable_store.specs.Numbers.{has_zero, is_misnumbered};
+    ghost use Rattle.stable_store.specs.Calls.{View, Makes, IsRefused, found};
     ghost use Rattle.stable_store.specs.Held.{held};
-    ghost use Rattle.stable_store.specs.Failing.{all_failures, MayFail, MakesInside, TakesTurn};
+    ghost use Rattle.stable_store.specs.Failing.{failing_view, IsFailing, TakesTurn};
+    ghost use Rattle.stable_store.specs.declared.fault.StoreFault.TheVariants.{NotOurs};
 
-    ghost content = { λ s. S.content s.inner };
+    ghost seen = { λ s. failing_view S.seen s };
 
-    ghost failures = { λ s. all_failures (S.failures s.inner) s.failed };
-
-    ghost may_fail = { λ s. MayFail S.may_fail s };
-
-    ghost is_honest = { λ s. S.is_honest s.inner };
-
-    ghost is_up = { λ s. S.is_up s.inner };
-
-    ghost may_leave = { λ s. S.may_leave s.inner };
+    ghost may_fail = { λ old new. IsFailing S.may_fail old new };
 
     fn prepare(
         &mut self,
         alloc: Global,
         top: u32,
         home: u32,
-        values: BTreeMap<u32, Content>,
+        parts: BTreeMap<u32, Part>,
     ) -> Result<(), StoreFault>
-        ensures makes { MakesInside S.content S.failures S.is_honest S.is_up S.may_leave self.old self.new
-            (MayFail S.may_fail self.old) (after_prepare top home values.entries (S.content self.old.inner)) result }
+        ensures makes { Makes (failing_view S.seen self.old) (failing_view S.seen self.new)
+            (IsFailing S.may_fail self.old self.new ⊎ IsTrue (is_misnumbered top home parts.entries))
+            (after_prepare top home parts.entries (S.seen self.old.inner).content) result }
+        ensures numbers { IsTrue (is_misnumbered top home parts.entries) → IsRefused result }
+        ensures ours { IsErrOf result NotOurs → (S.seen self.old.inner).holds_content ≡ false }
         ensures turn { TakesTurn self.old self.new result }
     {
         if self.count_call() {
             return Err(StoreFault::Failed);
         }
-        self.inner.prepare(alloc, top, home, values)
+        self.inner.prepare(alloc, top, home, parts)
     }
 
     fn install(&mut self, alloc: Global, top: u32) -> Result<(), StoreFault>
-        ensures makes { MakesInside S.content S.failures S.is_honest S.is_up S.may_leave self.old self.new
-            (MayFail S.may_fail self.old) (after_install top (S.content self.old.inner)) result }
+        ensures makes { Makes (failing_view S.seen self.old) (failing_view S.seen self.new)
+            (IsFailing S.may_fail self.old self.new)
+            (after_install top (S.seen self.old.inner).content) result }
+        ensures ours { IsErrOf result NotOurs → (S.seen self.old.inner).holds_content ≡ false }
         ensures turn { TakesTurn self.old self.new result }
     {
         if self.count_call() {
@@ -106,8 +106,10 @@ impl<S: Stable> Stable for FailOnce<S> {
     }
 
     fn discard(&mut self, top: u32) -> Result<(), StoreFault>
-        ensures makes { MakesInside S.content S.failures S.is_honest S.is_up S.may_leave self.old self.new
-            (MayFail S.may_fail self.old) (after_discard top (S.content self.old.inner)) result }
+        ensures makes { Makes (failing_view S.seen self.old) (failing_view S.seen self.new)
+            (IsFailing S.may_fail self.old self.new)
+            (after_discard top (S.seen self.old.inner).content) result }
+        ensures ours { IsErrOf result NotOurs → (S.seen self.old.inner).holds_content ≡ false }
         ensures turn { TakesTurn self.old self.new result }
     {
         if self.count_call() {
@@ -117,8 +119,11 @@ impl<S: Stable> Stable for FailOnce<S> {
     }
 
     fn decide(&mut self, top: u32) -> Result<(), StoreFault>
-        ensures makes { MakesInside S.content S.failures S.is_honest S.is_up S.may_leave self.old self.new
-            (MayFail S.may_fail self.old) (after_decide top (S.content self.old.inner)) result }
+        ensures makes { Makes (failing_view S.seen self.old) (failing_view S.seen self.new)
+            (IsFailing S.may_fail self.old self.new ⊎ (top ≡ 0))
+            (after_decide top (S.seen self.old.inner).content) result }
+        ensures numbers { top ≡ 0 → IsRefused result }
+        ensures ours { IsErrOf result NotOurs → (S.seen self.old.inner).holds_content ≡ false }
         ensures turn { TakesTurn self.old self.new result }
     {
         if self.count_call() {
@@ -128,10 +133,11 @@ impl<S: Stable> Stable for FailOnce<S> {
     }
 
     fn bump(&mut self) -> Result<(), StoreFault>
-        ensures makes { MakesInside S.content S.failures S.is_honest S.is_up S.may_leave self.old self.new
-            (MayFail S.may_fail self.old ⊎ (greatest_count ≤ (S.content self.old.inner).count))
-            (after_bump (S.content self.old.inner)) result }
-        ensures spent { greatest_count ≤ (S.content self.old.inner).count → IsRefused result }
+        ensures makes { Makes (failing_view S.seen self.old) (failing_view S.seen self.new)
+            (IsFailing S.may_fail self.old self.new ⊎ (greatest_count ≤ (S.seen self.old.inner).content.count))
+            (after_bump (S.seen self.old.inner).content) result }
+        ensures spent { greatest_count ≤ (S.seen self.old.inner).content.count → IsRefused result }
+        ensures ours { IsErrOf result NotOurs → (S.seen self.old.inner).holds_content ≡ false }
         ensures turn { TakesTurn self.old self.new result }
     {
         if self.count_call() {
@@ -140,16 +146,35 @@ impl<S: Stable> Stable for FailOnce<S> {
         self.inner.bump()
     }
 
+    fn save(&mut self, alloc: Global, contents: &BTreeMap<u32, Content>) -> Result<(), StoreFault>
+        ensures makes { Makes (failing_view S.seen self.old) (failing_view S.seen self.new)
+            (IsFailing S.may_fail self.old self.new ⊎ IsTrue (has_zero contents.now.entries))
+            (after_save contents.now.entries (S.seen self.old.inner).content) result }
+        ensures numbers { IsTrue (has_zero contents.now.entries) → IsRefused result }
+        ensures ours { IsErrOf result NotOurs → (S.seen self.old.inner).holds_content ≡ false }
+        ensures turn { TakesTurn self.old self.new result }
+    {
+        if self.count_call() {
+            return Err(StoreFault::Failed);
+        }
+        self.inner.save(alloc, contents)
+    }
+
     fn load(&mut self, alloc: Global) -> Result<Kept, StoreFault>
-        ensures makes { MakesInside S.content S.failures S.is_honest S.is_up S.may_leave self.old self.new
-            (MayFail S.may_fail self.old) (S.content self.old.inner) result }
-        ensures loaded { IfOk result (λ kept. held kept ≡ S.content self.old.inner) }
+        ensures makes { Makes (failing_view S.seen self.old) (failing_view S.seen self.new)
+            (IsFailing S.may_fail self.old self.new)
+            (S.seen self.old.inner).content result }
+        ensures loaded { IfOk result (λ kept. held kept ≡ (S.seen self.old.inner).content) }
         ensures turn { TakesTurn self.old self.new result }
     {
         if self.count_call() {
             return Err(StoreFault::Failed);
         }
         self.inner.load(alloc)
+    }
+
+    fn kept(&self) -> Option<&Kept> {
+        self.inner.kept()
     }
 
     fn failures(&self) -> u64 {

@@ -7,7 +7,7 @@ pub enum StoreFault {
     /// An allocation was refused.
     #[error("out of memory")]
     Memory,
-    /// The device or the database refused the call, or a limit was reached.
+    /// The device or the database refused the call, a limit was reached, or a number was 0.
     #[error("the store failed")]
     Failed,
     /// What the device returned is no content of a store.

@@ -1,32 +1,33 @@
 ghost use Rattle.std.specs.Prelude.{◌≡◌, IfOk};
-ghost use Rattle.values.specs.declared.content.Content.{Content};
 ghost use Rattle.stable_store.specs.Stored.{empty};
 ghost use Rattle.stable_store.specs.Held.{held, record_of, records_of};
 
+use atomic_types::Part;
 use std::alloc::{AllocError, Global};
 use std::collections::{BTreeMap, BTreeSet};
-use values::Content;
 
 /// The record of a prepared top action.
 #[derive(Drop)]
 pub struct Prepared {
     /// The number of the guardian that is its home.
     pub home: u32,
-    /// The content that it would install, by the number of the object.
-    pub values: BTreeMap<u32, Content>,
+    /// The value or the delta that it would install, by the number of the object.
+    pub parts: BTreeMap<u32, Part>,
 }
 
 /// A store's content, in maps.
 #[derive(Drop)]
 pub struct Kept {
-    /// The newest installed content of each object that has one, by the object's number.
-    pub base: BTreeMap<u32, Content>,
+    /// What is installed of each object that has something, by the object's number.
+    pub base: BTreeMap<u32, Part>,
     /// The record of each prepared top action, by its number.
     pub prepared: BTreeMap<u32, Prepared>,
     /// The numbers of the decided top actions.
     pub decided: BTreeSet<u32>,
     /// How many recoveries were counted.
     pub count: u64,
+    /// A number above those of all top actions that were ever prepared, from 1 to 4294967296.
+    pub next_top: u64,
 }
 
 impl Prepared {
@@ -36,7 +37,7 @@ impl Prepared {
     {
         Ok(Prepared {
             home: self.home,
-            values: copy_contents(alloc, &self.values)?,
+            parts: copy_parts(alloc, &self.parts)?,
         })
     }
 }
@@ -51,6 +52,7 @@ impl Kept {
             prepared: BTreeMap::new(alloc),
             decided: BTreeSet::new(alloc),
             count: 0,
+            next_top: 1,
         }
     }
 
@@ -59,24 +61,22 @@ impl Kept {
         ensures { IfOk result (λ copy. held copy ≡ held self.now) }
     {
         Ok(Kept {
-            base: copy_contents(alloc, &self.base)?,
+            base: copy_parts(alloc, &self.base)?,
             prepared: copy_records(alloc, &self.prepared)?,
             decided: self.decided.clone()?,
             count: self.count,
+            next_top: self.next_top,
         })
     }
 }
 
-/// The same contents of the same objects.
-fn copy_contents(
-    alloc: Global,
-    contents: &BTreeMap<u32, Content>,
-) -> Result<BTreeMap<u32, Content>, AllocError>
-    ensures { IfOk result (λ copy. copy.entries ≡ contents.now.entries) }
+/// The same parts of the same objects.
+fn copy_parts(alloc: Global, parts: &BTreeMap<u32, Part>) -> Result<BTreeMap<u32, Part>, AllocError>
+    ensures { IfOk result (λ copy. copy.entries ≡ parts.now.entries) }
 {
     let mut copy = BTreeMap::new(alloc);
-    for (&object, content) in contents {
-        drop(copy.insert(object, content.copy()?)?);
+    for (&object, part) in parts {
+        drop(copy.insert(object, part.copy()?)?);
     }
     Ok(copy)
 }

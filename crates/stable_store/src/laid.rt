@@ -1,32 +1,34 @@
-//! Contents that are laid over those of a map, all of them or none.
-ghost use Rattle.std.specs.Prelude.{◌≡◌, IsSome, IfOk, OnOk, OnErr};
+//! Parts that are laid over those of a map, all of them or none.
+ghost use Rattle.std.specs.Prelude.{◌≡◌, Option, IsSome, IfOk, OnOk, OnErr, option_copied};
 ghost use Rattle.std.specs.FinMap as map;
-ghost use Rattle.values.specs.declared.content.Content.{Content};
-ghost use Rattle.stable_store.specs.Stored.{laid};
-ghost use Rattle.stable_store.specs.Held.{contents_in};
+ghost use Rattle.atomic_types.specs.declared.part.Part.{Part};
+ghost use Rattle.atomic_types.specs.Parts.{over};
+ghost use Rattle.stable_store.specs.Stored.{laid, put_over, values_of};
+ghost use Rattle.stable_store.specs.Held.{parts_in};
 ghost use Rattle.stable_store.specs.Undone.{restored, undone, CanUndo};
 
+use atomic_types::Part;
 use std::alloc::{AllocError, Global};
 use std::collections::BTreeMap;
 use values::Content;
 
-/// What the objects of a base had that were given other contents, by the order in which they were.
-pub type Replaced = Vec<(u32, Option<Content>)>;
+/// What the objects of a base had that were given other parts, by the order in which they were.
+pub type Replaced = Vec<(u32, Option<Part>)>;
 
-/// Lays the contents over those of the base, and gives what the objects had. Where memory runs out the base is as it was.
+/// Installs the parts over the base, and gives what the objects had. Where memory runs out the base is as it was.
 pub fn lay(
     alloc: Global,
-    base: &mut BTreeMap<u32, Content>,
-    values: &BTreeMap<u32, Content>,
+    base: &mut BTreeMap<u32, Part>,
+    parts: &BTreeMap<u32, Part>,
 ) -> Result<Replaced, AllocError>
-    ensures ok { OnOk result (contents_in base.new ≡ laid values.now.entries (contents_in base.old)) }
-    ensures back { IfOk result (λ replaced. CanUndo replaced.items (contents_in base.new)
-        × (undone replaced.items (contents_in base.new) ≡ contents_in base.old)) }
-    ensures err { OnErr result (contents_in base.new ≡ contents_in base.old) }
+    ensures ok { OnOk result (parts_in base.new ≡ laid parts.now.entries (parts_in base.old)) }
+    ensures back { IfOk result (λ replaced. CanUndo replaced.items (parts_in base.new)
+        × (undone replaced.items (parts_in base.new) ≡ parts_in base.old)) }
+    ensures err { OnErr result (parts_in base.new ≡ parts_in base.old) }
 {
-    let mut replaced = Vec::with_capacity(alloc, values.len())?;
-    for (&object, content) in values {
-        match lay_one(base, object, content) {
+    let mut replaced = Vec::with_capacity(alloc, parts.len())?;
+    for (&object, part) in parts {
+        match lay_one(base, object, part) {
             Ok(before) => replaced.push_reserved((object, before)),
             Err(refused) => {
                 undo(base, replaced);
@@ -37,23 +39,54 @@ pub fn lay(
     Ok(replaced)
 }
 
-/// Lays one content over that of the base, and gives the one that the object had.
-fn lay_one(
-    base: &mut BTreeMap<u32, Content>,
-    object: u32,
-    content: &Content,
-) -> Result<Option<Content>, AllocError>
-    ensures before { IfOk result (λ before. before ≡ map.get (contents_in base.old) object) }
-    ensures ok { OnOk result (contents_in base.new ≡ map.insert (contents_in base.old) object content.now) }
-    ensures err { OnErr result (contents_in base.new ≡ contents_in base.old) }
+/// Installs the contents as values, as `lay` does.
+pub fn lay_values(
+    alloc: Global,
+    base: &mut BTreeMap<u32, Part>,
+    contents: &BTreeMap<u32, Content>,
+) -> Result<Replaced, AllocError>
+    ensures ok { OnOk result (parts_in base.new ≡ laid (values_of contents.now.entries) (parts_in base.old)) }
+    ensures back { IfOk result (λ replaced. CanUndo replaced.items (parts_in base.new)
+        × (undone replaced.items (parts_in base.new) ≡ parts_in base.old)) }
+    ensures err { OnErr result (parts_in base.new ≡ parts_in base.old) }
 {
-    Ok(base.insert(object, content.copy()?)?)
+    let mut values = BTreeMap::new(alloc);
+    for (&object, content) in contents {
+        drop(values.insert(object, Part::Value(content.copy()?))?);
+    }
+    lay(alloc, base, &values)
+}
+
+/// Installs one part over the base, and gives what the object had.
+fn lay_one(
+    base: &mut BTreeMap<u32, Part>,
+    object: u32,
+    part: &Part,
+) -> Result<Option<Part>, AllocError>
+    ensures before { IfOk result (λ before. before ≡ map.get (parts_in base.old) object) }
+    ensures ok { OnOk result (parts_in base.new ≡ put_over object part.now (parts_in base.old)) }
+    ensures err { OnErr result (parts_in base.new ≡ parts_in base.old) }
+{
+    let installed = part_over(part, base.get(&object))?;
+    Ok(base.insert(object, installed)?)
+}
+
+/// What stands in a base once this part is installed over what stood there.
+#[tactic(auto, using(atomic_types::specs::TypeLaws::wrapped))]
+pub fn part_over(part: &Part, before: Option<&Part>) -> Result<Part, AllocError>
+    ensures { IfOk result (λ installed. installed ≡ over part.now (option_copied before.entry)) }
+{
+    match (part, before) {
+        (Part::Delta(by), Some(Part::Delta(sum))) => Ok(Part::Delta(sum.wrapping_add(*by))),
+        (Part::Delta(_), Some(Part::Value(content))) => Ok(Part::Value(part.laid_on(content)?)),
+        _ => part.copy(),
+    }
 }
 
 /// Gives the objects back what they had, the last first. This takes no memory.
-pub fn undo(base: &mut BTreeMap<u32, Content>, mut replaced: Replaced)
-    requires { CanUndo replaced.items (contents_in base.old) }
-    ensures { contents_in base.new ≡ undone replaced.items (contents_in base.old) }
+pub fn undo(base: &mut BTreeMap<u32, Part>, mut replaced: Replaced)
+    requires { CanUndo replaced.items (parts_in base.old) }
+    ensures { parts_in base.new ≡ undone replaced.items (parts_in base.old) }
 {
     while let Some((object, before)) = replaced.pop() {
         restore(base, object, before);
@@ -61,13 +94,13 @@ pub fn undo(base: &mut BTreeMap<u32, Content>, mut replaced: Replaced)
 }
 
 /// Gives an object of the base back what it had. This takes no memory.
-fn restore(base: &mut BTreeMap<u32, Content>, object: u32, before: Option<Content>)
-    requires { IsSome (map.get (contents_in base.old) object) }
-    ensures { contents_in base.new ≡ restored object before (contents_in base.old) }
+fn restore(base: &mut BTreeMap<u32, Part>, object: u32, before: Option<Part>)
+    requires { IsSome (map.get (parts_in base.old) object) }
+    ensures { parts_in base.new ≡ restored object before (parts_in base.old) }
 {
     match before {
-        Some(content) => {
-            let replaced: Result<_, _> = base.insert(object, content);
+        Some(part) => {
+            let replaced: Result<_, _> = base.insert(object, part);
             drop(replaced.unwrap());
         }
         None => drop(base.remove(&object)),

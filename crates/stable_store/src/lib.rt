@@ -8,6 +8,7 @@ mod fail_once;
 mod fault;
 mod kept;
 pub mod laid;
+pub mod numbers;
 mod plain;
 mod stable;
 

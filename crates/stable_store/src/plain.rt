@@ -1,12 +1,14 @@
 use crate::fault::StoreFault;
 use crate::kept::{Kept, Prepared};
-use crate::laid::lay;
+use crate::laid::{lay, lay_values};
+use crate::numbers::{has_zero, is_misnumbered};
 use crate::stable::{GREATEST_COUNT, Stable};
+use atomic_types::Part;
 use std::alloc::Global;
 use std::collections::BTreeMap;
 use values::Content;
 
-/// A store in memory. No device can fail it, so it counts no failure but the `bump` that is refused.
+/// A store in memory. No device can fail it, so it counts no failure but the `bump` and the numbers that are refused.
 #[derive(Drop)]
 pub struct PlainStable {
     kept: Kept,
@@ -14,25 +16,38 @@ pub struct PlainStable {
 }
 
 impl PlainStable {
-    ghost use Rattle.std.specs.Prelude.{◌≡◌};
+    ghost use Rattle.std.specs.Prelude.{◌≡◌, ◌+◌, min, true};
     ghost use Rattle.stable_store.specs.Stored.{empty};
-    ghost use Rattle.stable_store.specs.Plain.{plain_content, plain_failures};
+    ghost use Rattle.stable_store.specs.Calls.{View, HasCounted};
+    ghost use Rattle.stable_store.specs.Plain.{plain_view};
+    ghost use Rattle.stable_store.specs.declared.fault.StoreFault.TheVariants.{Failed};
 
     /// An empty store, whose count is 0. This takes no memory.
     pub fn new(alloc: Global) -> PlainStable
-        ensures content { plain_content result ≡ empty }
-        ensures failures { plain_failures result ≡ 0 }
+        ensures content { (plain_view result).content ≡ empty }
+        ensures failures { (plain_view result).failures ≡ 0 }
     {
         PlainStable::from(Kept::new(alloc))
+    }
+
+    /// Counts a failure.
+    fn refuse(&mut self) -> StoreFault
+        ensures fault { result ≡ Failed }
+        ensures kept { self.new.kept ≡ self.old.kept }
+        ensures counted { HasCounted self.old.failures self.new.failures }
+    {
+        self.failures = self.failures.saturating_add(1);
+        StoreFault::Failed
     }
 }
 
 impl From<Kept> for PlainStable {
     ghost use Rattle.std.specs.Prelude.{◌≡◌};
+    ghost use Rattle.stable_store.specs.Calls.{View};
     ghost use Rattle.stable_store.specs.Held.{held};
-    ghost use Rattle.stable_store.specs.Plain.{plain_content, plain_failures};
+    ghost use Rattle.stable_store.specs.Plain.{plain_view};
 
-    ghost from_gives = { λ kept store. (plain_content store ≡ held kept) × (plain_failures store ≡ 0) };
+    ghost from_gives = { λ kept store. ((plain_view store).content ≡ held kept) × ((plain_view store).failures ≡ 0) };
 
     /// A store with this content, which has counted no failure. This takes no memory.
     fn from(kept: Kept) -> PlainStable {
@@ -41,29 +56,24 @@ impl From<Kept> for PlainStable {
 }
 
 impl Stable for PlainStable {
-    ghost use Rattle.std.specs.Prelude.{◌≡◌};
-    ghost use Rattle.stable_store.specs.Plain.{plain_content, plain_failures};
+    ghost use Rattle.stable_store.specs.Plain.{plain_view};
 
-    ghost content = { plain_content };
+    ghost seen = { plain_view };
 
-    ghost failures = { plain_failures };
-
-    ghost may_fail = { λ _. ⊥ };
-
-    ghost is_honest = { λ _. Unit {0} };
-
-    ghost is_up = { λ _. Unit {0} };
-
-    ghost may_leave = { λ s c. c ≡ plain_content s };
+    ghost may_fail = { λ _ _. ⊥ };
 
     fn prepare(
         &mut self,
         _alloc: Global,
         top: u32,
         home: u32,
-        values: BTreeMap<u32, Content>,
+        parts: BTreeMap<u32, Part>,
     ) -> Result<(), StoreFault> {
-        drop(self.kept.prepared.insert(top, Prepared { home, values })?);
+        if is_misnumbered(top, home, &parts) {
+            return Err(self.refuse());
+        }
+        drop(self.kept.prepared.insert(top, Prepared { home, parts })?);
+        self.kept.next_top = self.kept.next_top.max(u64::from(top) + 1);
         Ok(())
     }
 
@@ -71,7 +81,7 @@ impl Stable for PlainStable {
         let Some(record) = self.kept.prepared.get(&top) else {
             return Ok(());
         };
-        drop(lay(alloc, &mut self.kept.base, &record.values)?);
+        drop(lay(alloc, &mut self.kept.base, &record.parts)?);
         drop(self.kept.prepared.remove(&top));
         Ok(())
     }
@@ -82,21 +92,36 @@ impl Stable for PlainStable {
     }
 
     fn decide(&mut self, top: u32) -> Result<(), StoreFault> {
+        if top == 0 {
+            return Err(self.refuse());
+        }
         self.kept.decided.insert(top)?;
         Ok(())
     }
 
     fn bump(&mut self) -> Result<(), StoreFault> {
         if self.kept.count >= GREATEST_COUNT {
-            self.failures = self.failures.saturating_add(1);
-            return Err(StoreFault::Failed);
+            return Err(self.refuse());
         }
         self.kept.count += 1;
         Ok(())
     }
 
+    fn save(&mut self, alloc: Global, contents: &BTreeMap<u32, Content>) -> Result<(), StoreFault> {
+        if has_zero(contents) {
+            return Err(self.refuse());
+        }
+        drop(lay_values(alloc, &mut self.kept.base, contents)?);
+        self.kept.decided.clear();
+        Ok(())
+    }
+
     fn load(&mut self, alloc: Global) -> Result<Kept, StoreFault> {
         Ok(self.kept.copy(alloc)?)
+    }
+
+    fn kept(&self) -> Option<&Kept> {
+        Some(&self.kept)
     }
 
     fn failures(&self) -> u64 {

@@ -1,8 +1,6 @@
 //! The calls of a store.
-use crate::contents::{contents, number, write_kept};
+use crate::contents::{contents, number, parts, write_kept};
 use rows::{Row, RowFault, Words};
-use sql_store::SqlStable;
-use sqlite::Alter;
 use stable_store::{Stable, StoreFault};
 use std::alloc::Global;
 use std::fmt::Write;
@@ -35,9 +33,9 @@ impl<'a> Change<'a> {
 }
 
 /// Makes the change. Gives the fault with which it was refused; `Memory` where memory was.
-pub(crate) fn make<D: Alter + Drop>(
+pub(crate) fn make(
     alloc: Global,
-    store: &mut SqlStable<D>,
+    store: &mut impl Stable,
     change: Change<'_>,
 ) -> Result<Option<StoreFault>, RowFault> {
     let mut words = change.words;
@@ -60,12 +58,12 @@ fn prepare(
 ) -> Result<Option<StoreFault>, RowFault> {
     let top = number(&mut words)?;
     let home = number(&mut words)?;
-    refusal(store.prepare(alloc, top, home, contents(alloc, words)?))
+    refusal(store.prepare(alloc, top, home, parts(alloc, words)?))
 }
 
-fn save<D: Alter + Drop>(
+fn save(
     alloc: Global,
-    store: &mut SqlStable<D>,
+    store: &mut impl Stable,
     words: Words<'_>,
 ) -> Result<Option<StoreFault>, RowFault> {
     let base = contents(alloc, words)?;

@@ -3,30 +3,35 @@
 use crate::calls::{Change, load, make};
 use rows::{RowFault, Words};
 use sql_store::SqlStable;
-use sqlite::{Connection, Error, ErrorCode, FileStore, Files, Options};
+use sqlite::{Alter, Connection, Error, ErrorCode, FileStore, Files, Options};
 use sqlite_disk::{Crash, Disk, Fuse, Memory};
 use stable_store::{Stable, StoreFault};
 use std::alloc::Global;
 use std::io;
+use store_tables::is_known;
 
 pub(crate) type Device = Files<Fuse<Memory>>;
 
 pub(crate) type DeviceConnection = Connection<FileStore<Fuse<Memory>>>;
 
-/// A store in a device. It stands for its type, so that what is done with one is proved without what is known of files.
+/// A store in a database. It stands for its type, so that what is done with one is proved without what is known of files; and its calls are
+/// proved for every database, so that none of it is looked at where they are made of one type.
 #[derive(Drop)]
-pub(crate) struct DeviceStore {
-    store: SqlStable<FileStore<Fuse<Memory>>>,
+pub(crate) struct OpenStore<A: Alter + Drop> {
+    store: SqlStable<A>,
 }
 
-impl DeviceStore {
+/// A store in a device.
+pub(crate) type DeviceStore = OpenStore<FileStore<Fuse<Memory>>>;
+
+impl<A: Alter + Drop> OpenStore<A> {
     /// Of the database, which comes back where it is refused.
     pub(crate) fn new(
         alloc: Global,
-        conn: DeviceConnection,
-    ) -> Result<DeviceStore, (StoreFault, DeviceConnection)> {
+        conn: Connection<A>,
+    ) -> Result<OpenStore<A>, (StoreFault, Connection<A>)> {
         match SqlStable::new(alloc, conn) {
-            Ok(store) => Ok(DeviceStore { store }),
+            Ok(store) => Ok(OpenStore { store }),
             Err(refused) => Err(refused),
         }
     }
@@ -49,10 +54,17 @@ impl DeviceStore {
         self.store.failures()
     }
 
+    /// The database as the store leaves it.
+    fn into_connection(self) -> Connection<A> {
+        let OpenStore { store } = self;
+        store.into_connection()
+    }
+}
+
+impl DeviceStore {
     /// The device as the store leaves it, with no call more.
     pub(crate) fn into_device(self) -> Device {
-        let DeviceStore { store } = self;
-        device_of(store.into_connection())
+        device_of(self.into_connection())
     }
 }
 
@@ -162,6 +174,69 @@ pub(crate) fn open_copy(
     open_store(alloc, copy, failing.log_frames)
 }
 
+/// Opens the store in a copy of the device, of which one file fails after so many calls, and gives the device after a crash,
+/// and whether the store was opened.
+pub(crate) fn open_and_crash(
+    alloc: Global,
+    device: &Device,
+    failing: Failing,
+    calls: u64,
+) -> Result<(Device, bool), RowFault> {
+    let copy = copy(alloc, device, failing, calls).map_err(|_| RowFault::Memory)?;
+    let (mut left, is_open) = match connect(alloc, copy, failing.log_frames) {
+        Ok(conn) => match DeviceStore::new(alloc, conn) {
+            Ok(store) => (store.into_device(), true),
+            Err((_, conn)) => (device_of(conn), false),
+        },
+        Err((_, device)) => (device, false),
+    };
+    left.log.crash();
+    left.db.crash();
+    Ok((left, is_open))
+}
+
+/// Opens the store in a copy of the device. Gives the fault with which it was refused, and the device then, with no call more.
+pub(crate) fn open_and_close(
+    alloc: Global,
+    device: &Device,
+    log_frames: usize,
+) -> Result<(Option<StoreFault>, Device), RowFault> {
+    let failing = Failing {
+        is_log: false,
+        log_frames,
+    };
+    let copy = copy(alloc, device, failing, u64::MAX).map_err(|_| RowFault::Memory)?;
+    match connect(alloc, copy, log_frames) {
+        Ok(conn) => match DeviceStore::new(alloc, conn) {
+            Ok(store) => Ok((None, store.into_device())),
+            Err((fault, conn)) => Ok((Some(fault), device_of(conn))),
+        },
+        Err(_) => Err(RowFault::Memory),
+    }
+}
+
+/// Whether the database of a copy of the device has the tables of a store and nothing else.
+pub(crate) fn has_known_tables(
+    alloc: Global,
+    device: &Device,
+    log_frames: usize,
+) -> Result<bool, RowFault> {
+    let failing = Failing {
+        is_log: false,
+        log_frames,
+    };
+    let copy = copy(alloc, device, failing, u64::MAX).map_err(|_| RowFault::Memory)?;
+    match connect(alloc, copy, log_frames) {
+        Ok(conn) => Ok(is_known(conn.schema())),
+        Err(_) => Err(RowFault::Memory),
+    }
+}
+
+/// Whether both files have the same bytes.
+pub(crate) fn have_same_bytes(a: &Device, b: &Device) -> bool {
+    a.log.inner().bytes() == b.log.inner().bytes() && a.db.inner().bytes() == b.db.inner().bytes()
+}
+
 /// Makes a change in a store whose device does not fail.
 pub(crate) fn make_whole(
     alloc: Global,
@@ -176,9 +251,9 @@ pub(crate) fn make_whole(
 
 /// The changes of a store that is filled.
 const FILLING: [&str; 5] = [
-    r#"prepare 1 1 1={"record":{"a":1}}"#,
+    r#"prepare 1 1 1={"record":{"a":1}} 3={"delta":4}"#,
     "install 1",
-    r#"prepare 7 2 1={"record":{"b":"two"}} 2={"array":{"items":[3],"low":0,"of":"int"}}"#,
+    r#"prepare 7 2 1={"record":{"b":"two"}} 2={"array":{"items":[3],"low":0,"of":"int"}} 3={"delta":-9}"#,
     "decide 4",
     "bump",
 ];
@@ -189,6 +264,29 @@ pub(crate) fn filled(alloc: Global) -> Result<Device, RowFault> {
     let mut store = open_store(alloc, empty, 1)?;
     fill(alloc, &mut store)?;
     Ok(store.into_device())
+}
+
+/// The device of a database with these tables, which are filled by these statements.
+pub(crate) fn filled_tables(
+    alloc: Global,
+    tables: [&str; 2],
+    batch: &str,
+) -> Result<Device, RowFault> {
+    let [first, second] = tables;
+    let empty = device(alloc, &[]).map_err(|_| RowFault::Memory)?;
+    match connect(alloc, empty, 1) {
+        Ok(mut conn) => {
+            run_batch(&mut conn, first)?;
+            run_batch(&mut conn, second)?;
+            run_batch(&mut conn, batch)?;
+            Ok(device_of(conn))
+        }
+        Err(_) => Err(RowFault::Memory),
+    }
+}
+
+fn run_batch<A: Alter>(conn: &mut Connection<A>, batch: &str) -> Result<(), RowFault> {
+    conn.execute_batch(batch).map_err(|_| RowFault::Memory)
 }
 
 fn fill(alloc: Global, store: &mut DeviceStore) -> Result<(), RowFault> {

@@ -1,7 +1,8 @@
 //! What a stop of the device leaves: one of its two files fails from some call on, for each number of calls up to one that suffices.
 use crate::calls::Change;
 use crate::devices::{
-    CALLS, Device, DeviceStore, Failing, calls_to_open, crashed, make_whole, open_copy, open_store,
+    CALLS, Device, DeviceStore, Failing, calls_to_open, crashed, make_whole, open_and_crash,
+    open_copy, open_store,
 };
 use rows::{RowFault, Words};
 use stable_store::StoreFault;
@@ -218,4 +219,42 @@ fn stopped(
         Some(StoreFault::Failed) => Ok(store),
         _ => Err(RowFault::Unread),
     }
+}
+
+/// Writes the content that the store has once it is opened, and what is wrong where an opening that is stopped leaves
+/// another.
+pub(crate) fn write_openings(
+    alloc: Global,
+    device: &Device,
+    failing: Failing,
+    answer: &mut String,
+) -> Result<(), RowFault> {
+    let mut whole = String::new(alloc);
+    open_copy(alloc, device, failing, u64::MAX)?.load(alloc, &mut whole)?;
+    answer.push_str(whole.as_str())?;
+    for calls in 0..CALLS {
+        if is_opened(alloc, device, failing, calls, whole.as_str(), answer)? {
+            return Ok(());
+        }
+    }
+    answer.push_str("; no number of calls suffices")?;
+    Ok(())
+}
+
+/// Opens a copy that fails after so many calls, and then what a crash leaves of it. Gives whether nothing failed.
+fn is_opened(
+    alloc: Global,
+    device: &Device,
+    failing: Failing,
+    calls: u64,
+    whole: &str,
+    wrong: &mut String,
+) -> Result<bool, RowFault> {
+    let (left, is_open) = open_and_crash(alloc, device, failing, calls)?;
+    let mut found = String::new(alloc);
+    open_store(alloc, left, failing.log_frames)?.load(alloc, &mut found)?;
+    if found.as_str() != whole {
+        write!(wrong, "; found {} after {calls} calls", found.as_str())?;
+    }
+    Ok(is_open)
 }

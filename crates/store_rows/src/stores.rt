@@ -2,9 +2,9 @@
 use crate::calls::{Change, load, make};
 use crate::devices::{
     Device, DeviceConnection, DeviceStore, Failing, connect, crashed, device, device_of, filled,
-    open_store, read_frames,
+    filled_tables, has_known_tables, have_same_bytes, open_and_close, open_store, read_frames,
 };
-use crate::stops::{Trial, open_exhausted, shut, write_stops};
+use crate::stops::{Trial, open_exhausted, shut, write_openings, write_stops};
 use rows::{Row, RowFault, Subject, Words};
 use sql_store::SqlStable;
 use sqlite::{Connection, Error, ErrorCode, MemStore};
@@ -13,6 +13,7 @@ use stable_store::{Stable, StoreFault};
 use std::alloc::{AllocError, Global};
 use std::fmt::Write;
 use std::mem;
+use store_tables::is_known;
 
 /// What a section works on.
 #[derive(Drop)]
@@ -31,14 +32,21 @@ pub(crate) struct Stores {
     held: Held,
 }
 
-/// A database with a store's tables.
-const TABLES: &str = "CREATE TABLE meta(k TEXT PRIMARY KEY, v INTEGER NOT NULL);
+/// A database with a store's tables, of version 1.
+pub(crate) const FIRST_TABLES: &str = "CREATE TABLE meta(k TEXT PRIMARY KEY, v INTEGER NOT NULL);
     CREATE TABLE base(obj INTEGER PRIMARY KEY, val TEXT NOT NULL);
     CREATE TABLE prepared(top INTEGER PRIMARY KEY, home INTEGER NOT NULL);
     CREATE TABLE prepared_val(top INTEGER NOT NULL REFERENCES prepared(top) ON DELETE CASCADE,
         obj INTEGER NOT NULL, val TEXT NOT NULL, PRIMARY KEY(top, obj));
     CREATE TABLE decided(top INTEGER PRIMARY KEY);
     INSERT INTO meta VALUES ('version', 1), ('count', 3);";
+
+/// What version 2 has beside that.
+const SECOND_TABLES: &str =
+    "CREATE TABLE prepared_delta(top INTEGER NOT NULL REFERENCES prepared(top) ON DELETE CASCADE,
+        obj INTEGER NOT NULL, add_by INTEGER NOT NULL, PRIMARY KEY(top, obj));
+    UPDATE meta SET v = 2 WHERE k = 'version';
+    INSERT INTO meta VALUES ('next_top', 5);";
 
 /// Room for a fault, which is reserved before a call: once that is made, no memory is wanted to tell its answer.
 const ROOM: usize = 64;
@@ -54,14 +62,25 @@ impl Subject for Stores {
         match row.call {
             "load" => self.load(answer),
             "failures" => self.write_failures(answer),
-            "database" => self.make_database("", row.given, answer),
-            "tables" => self.make_database(TABLES, row.given, answer),
+            "database" => self.make_database(["", ""], row.given, answer),
+            "first_tables" => self.make_database([FIRST_TABLES, ""], row.given, answer),
+            "tables" => self.make_database([FIRST_TABLES, SECOND_TABLES], row.given, answer),
             "open" => self.open(answer),
             "close" => self.close(answer),
             "query" => self.query(row.given, answer),
-            "file" | "bytes" | "fill" | "stops" | "exhaust" | "shut" | "crash" | "restart" => {
-                self.work_device(row, answer)
-            }
+            "known" => self.write_known(row.words(), answer),
+            "file"
+            | "bytes"
+            | "fill"
+            | "fill_first"
+            | "fill_tables"
+            | "refused"
+            | "stops"
+            | "stop_openings"
+            | "exhaust"
+            | "shut"
+            | "crash"
+            | "restart" => { self.work_device(row, answer) }
             _ => self.change(row, answer),
         }
     }
@@ -97,7 +116,7 @@ impl Stores {
     /// Makes a database by these statements.
     fn make_database(
         &mut self,
-        tables: &str,
+        tables: [&str; 2],
         batch: &str,
         answer: &mut String,
     ) -> Result<(), RowFault> {
@@ -162,6 +181,18 @@ impl Stores {
         }
     }
 
+    /// Writes whether the database has the tables of a store and nothing else.
+    fn write_known(&self, mut words: Words<'_>, answer: &mut String) -> Result<(), RowFault> {
+        let is_known = match &self.held {
+            Held::Database(conn) => is_known(conn.schema()),
+            Held::Device(device) => {
+                has_known_tables(self.alloc, device, read_frames(&mut words)?)?
+            }
+            _ => return Err(RowFault::Unread),
+        };
+        Ok(write!(answer, "{is_known}")?)
+    }
+
     fn change(&mut self, row: &Row<'_>, answer: &mut String) -> Result<(), RowFault> {
         let change = Change::of(row);
         let fault = match &mut self.held {
@@ -190,8 +221,14 @@ impl Stores {
     }
 }
 
-fn fill_database(conn: &mut Connection<MemStore>, tables: &str, batch: &str) -> Result<(), Error> {
-    conn.execute_batch(tables)?;
+fn fill_database(
+    conn: &mut Connection<MemStore>,
+    tables: [&str; 2],
+    batch: &str,
+) -> Result<(), Error> {
+    let [first, second] = tables;
+    conn.execute_batch(first)?;
+    conn.execute_batch(second)?;
     conn.execute_batch(batch)
 }
 
@@ -207,7 +244,11 @@ impl Stores {
             "file" => self.lay_file(row.given, answer),
             "bytes" => self.write_bytes(answer),
             "fill" => self.fill(answer),
+            "fill_first" => self.fill_tables([FIRST_TABLES, ""], row.given, answer),
+            "fill_tables" => self.fill_tables([FIRST_TABLES, SECOND_TABLES], row.given, answer),
+            "refused" => self.refused(words, answer),
             "stops" => self.stop(words, answer),
+            "stop_openings" => self.stop_openings(words, answer),
             "exhaust" => self.exhaust(words, answer),
             "shut" => self.shut(words, answer),
             "crash" => self.crash(answer),
@@ -240,6 +281,36 @@ impl Stores {
         store.load(self.alloc, answer)?;
         self.held = Held::Device(filled(self.alloc)?);
         Ok(())
+    }
+
+    /// Makes a device with these tables, which are filled by these statements.
+    fn fill_tables(
+        &mut self,
+        tables: [&str; 2],
+        batch: &str,
+        answer: &mut String,
+    ) -> Result<(), RowFault> {
+        self.held = Held::Device(filled_tables(self.alloc, tables, batch)?);
+        tell(None, answer)
+    }
+
+    /// Opens the store in a copy of the device, and writes the fault with which it was refused, and whether both files have
+    /// the bytes that they had.
+    fn refused(&self, mut words: Words<'_>, answer: &mut String) -> Result<(), RowFault> {
+        let device = self.device()?;
+        let (fault, left) = open_and_close(self.alloc, device, read_frames(&mut words)?)?;
+        tell(fault, answer)?;
+        answer.push_str(match have_same_bytes(device, &left) {
+            true => ", unchanged",
+            false => ", changed",
+        })?;
+        Ok(())
+    }
+
+    /// Stops copies of the device while the store is opened, each at another call.
+    fn stop_openings(&self, mut words: Words<'_>, answer: &mut String) -> Result<(), RowFault> {
+        let failing = Failing::read(&mut words)?;
+        write_openings(self.alloc, self.device()?, failing, answer)
     }
 
     fn device(&self) -> Result<&Device, RowFault> {

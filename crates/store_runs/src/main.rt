@@ -2,10 +2,11 @@
 //!
 //! `store_runs PATH OBJECTS TIMES [WORD]`: PATH is a file that does not exist yet, or `:memory:`. Top actions 1 to TIMES are prepared,
 //! each with a record for each of the objects 1 to OBJECTS, and each is installed at once, unless WORD is `prepares`. Then one more is
-//! prepared and decided, and the count is raised.
+//! prepared, with a delta for one object more, and decided, and the count is raised.
 #![tactic(auto)]
 
 use anyhow::Error;
+use atomic_types::Part;
 use sql_store::SqlStable;
 use sqlite::{Alter, Connection};
 use stable_store::{Stable, StoreFault};
@@ -71,21 +72,21 @@ fn run<A: Alter + Drop>(alloc: Global, conn: Connection<A>, work: Work) -> Resul
         }
     }
     let last = work.times.saturating_add(1);
-    store.prepare(alloc, last, HOME, records(alloc, work.objects, last)?)?;
+    let mut parts = records(alloc, work.objects, last)?;
+    parts.insert(work.objects.saturating_add(1), Part::Delta(i64::from(last)))?;
+    store.prepare(alloc, last, HOME, parts)?;
     store.decide(last)?;
     store.bump()?;
     Ok(())
 }
 
 /// A record with the number for each object.
-fn records(alloc: Global, objects: u32, number: u32) -> Result<BTreeMap<u32, Content>, ValueFault> {
+fn records(alloc: Global, objects: u32, number: u32) -> Result<BTreeMap<u32, Part>, ValueFault> {
     let spelling = format!(in alloc; "{{\"record\":{{\"n\":{number}}}}}")?;
     let mut records = BTreeMap::new(alloc);
     for object in 1..=objects {
-        records.insert(
-            object,
-            Content::from_stored_spelling(alloc, spelling.as_str())?,
-        )?;
+        let content = Content::from_stored_spelling(alloc, spelling.as_str())?;
+        records.insert(object, Part::Value(content))?;
     }
     Ok(records)
 }

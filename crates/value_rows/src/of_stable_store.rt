@@ -1,17 +1,20 @@
 //! Calls of a store in memory, and of one of which a call fails.
 use crate::reading::{next_small_number, small_number, value_unread};
+use atomic_types::Part;
 use rows::{Row, RowFault, Words};
 use stable_store::{FailOnce, GREATEST_COUNT, Kept, PlainStable, Stable, StoreFault};
 use std::alloc::{AllocError, Global};
 use std::collections::BTreeMap;
 use values::Content;
 
-/// Three contents, each of which the rows call by its letter.
+/// Contents, each of which the rows call by its letter.
 const A: &str = "{\"record\":{\"n\":1}}";
 
 const B: &str = "{\"variant\":{\"tag\":\"t\",\"tags\":{\"t\":\"int\"},\"value\":2}}";
 
 const C: &str = "{\"array\":{\"items\":[\"x\"],\"low\":3,\"of\":\"text\"}}";
+
+const N: &str = "{\"counter\":10}";
 
 /// The bytes that the name of a fault takes at most.
 const ROOM: usize = 16;
@@ -29,7 +32,7 @@ impl Storing {
         Ok(Storing {
             alloc,
             store: PlainStable::new(alloc),
-            found: String::from_str(alloc, "count 0; base")?,
+            found: String::from_str(alloc, "count 0, next 1; base")?,
         })
     }
 
@@ -90,6 +93,10 @@ fn call<S: Stable>(
     if row.call == "prepare" {
         return prepare(alloc, store, row.words());
     }
+    if row.call == "save" {
+        let contents = read_contents(alloc, row.words().rest())?;
+        return Ok(store.save(alloc, &contents));
+    }
     if row.call == "bump" {
         return Ok(store.bump());
     }
@@ -102,7 +109,7 @@ fn call<S: Stable>(
     }
 }
 
-/// Prepares a top action with its home and its contents.
+/// Prepares a top action with its home and its parts.
 fn prepare<S: Stable>(
     alloc: Global,
     store: &mut S,
@@ -110,8 +117,30 @@ fn prepare<S: Stable>(
 ) -> Result<Result<(), StoreFault>, RowFault> {
     let top = next_small_number(&mut words)?;
     let home = next_small_number(&mut words)?;
-    let values = read_contents(alloc, words.rest())?;
-    Ok(store.prepare(alloc, top, home, values))
+    let parts = read_parts(alloc, words.rest())?;
+    Ok(store.prepare(alloc, top, home, parts))
+}
+
+/// Parts by object number, `3=B 1=A 2=-5`: values by their letters, and deltas.
+fn read_parts(alloc: Global, given: &str) -> Result<BTreeMap<u32, Part>, RowFault> {
+    let mut parts = BTreeMap::new(alloc);
+    for entry in given.split(' ') {
+        let (object, letter) = entry.split_once('=').ok_or(RowFault::Unread)?;
+        let part = read_part(alloc, letter)?;
+        drop(
+            parts
+                .insert(small_number(object)?, part)
+                .map_err(|_| RowFault::Memory)?,
+        );
+    }
+    Ok(parts)
+}
+
+fn read_part(alloc: Global, letter: &str) -> Result<Part, RowFault> {
+    match letter.parse::<i64>() {
+        Ok(by) => Ok(Part::Delta(by)),
+        Err(_) => Ok(Part::Value(content_of(alloc, letter)?)),
+    }
 }
 
 /// Contents by object number, `3=B 1=A`.
@@ -119,24 +148,18 @@ fn read_contents(alloc: Global, given: &str) -> Result<BTreeMap<u32, Content>, R
     let mut contents = BTreeMap::new(alloc);
     for entry in given.split(' ') {
         let (object, letter) = entry.split_once('=').ok_or(RowFault::Unread)?;
-        insert(alloc, &mut contents, small_number(object)?, letter)?;
+        let content = content_of(alloc, letter)?;
+        drop(
+            contents
+                .insert(small_number(object)?, content)
+                .map_err(|_| RowFault::Memory)?,
+        );
     }
     Ok(contents)
 }
 
-fn insert(
-    alloc: Global,
-    contents: &mut BTreeMap<u32, Content>,
-    object: u32,
-    letter: &str,
-) -> Result<(), RowFault> {
-    let content = Content::from_stored_spelling(alloc, spelling_of(letter)?).map_err(value_unread)?;
-    drop(
-        contents
-            .insert(object, content)
-            .map_err(|_| RowFault::Memory)?,
-    );
-    Ok(())
+fn content_of(alloc: Global, letter: &str) -> Result<Content, RowFault> {
+    Content::from_stored_spelling(alloc, spelling_of(letter)?).map_err(value_unread)
 }
 
 fn spelling_of(letter: &str) -> Result<&'static str, RowFault> {
@@ -144,16 +167,19 @@ fn spelling_of(letter: &str) -> Result<&'static str, RowFault> {
         "A" => Ok(A),
         "B" => Ok(B),
         "C" => Ok(C),
+        "N" => Ok(N),
         _ => Err(RowFault::Unread),
     }
 }
 
-fn letter_of(spelling: &str) -> &'static str {
+/// The letter of a content that has one, and else its spelling.
+fn letter_of<'a>(spelling: &'a str) -> &'a str {
     match spelling {
         A => "A",
         B => "B",
         C => "C",
-        _ => "another content",
+        N => "N",
+        _ => spelling,
     }
 }
 
@@ -164,16 +190,16 @@ fn line<S: Stable>(alloc: Global, store: &mut S) -> Result<String, StoreFault> {
 }
 
 fn line_of(alloc: Global, kept: &Kept) -> Result<String, AllocError> {
-    let mut text = format!(in alloc; "count {}; base", kept.count)?;
+    let mut text = format!(in alloc; "count {}, next {}; base", kept.count, kept.next_top)?;
     write_kept(alloc, kept, &mut text)?;
     Ok(text)
 }
 
 fn write_kept(alloc: Global, kept: &Kept, text: &mut String) -> Result<(), AllocError> {
-    write_contents(alloc, &kept.base, text)?;
+    write_parts(alloc, &kept.base, text)?;
     for (top, record) in &kept.prepared {
         write!(text, "; {top} of {}", record.home)?;
-        write_contents(alloc, &record.values, text)?;
+        write_parts(alloc, &record.parts, text)?;
     }
     for top in &kept.decided {
         write!(text, "; decided {top}")?;
@@ -181,17 +207,31 @@ fn write_kept(alloc: Global, kept: &Kept, text: &mut String) -> Result<(), Alloc
     Ok(())
 }
 
-/// Writes each object's number with the letter of its content.
-fn write_contents(
+/// Writes each object's number with its part.
+fn write_parts(
     alloc: Global,
-    contents: &BTreeMap<u32, Content>,
+    parts: &BTreeMap<u32, Part>,
     text: &mut String,
 ) -> Result<(), AllocError> {
-    for (object, content) in contents {
-        let spelling = content.text(alloc)?;
-        write!(text, " {object}={}", letter_of(spelling.as_str()))?;
+    for (object, part) in parts {
+        write_part(alloc, *object, part, text)?;
     }
     Ok(())
+}
+
+fn write_part(
+    alloc: Global,
+    object: u32,
+    part: &Part,
+    text: &mut String,
+) -> Result<(), AllocError> {
+    match part {
+        Part::Delta(by) => write!(text, " {object}={by}"),
+        Part::Value(content) => {
+            let spelling = content.text(alloc)?;
+            write!(text, " {object}={}", letter_of(spelling.as_str()))
+        }
+    }
 }
 
 /// Writes what a new store, of which the call of this number fails, answers to the calls one after another, and how many failures it
@@ -226,6 +266,7 @@ fn call_failing<S: Stable>(
         "discard" => store.discard(7),
         "decide" => store.decide(7),
         "bump" => store.bump(),
+        "save" => store.save(alloc, &BTreeMap::new(alloc)),
         "load" => store.load(alloc).map(|_| ()),
         _ => return Err(RowFault::Unread),
     })

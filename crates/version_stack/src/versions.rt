@@ -71,14 +71,18 @@ impl<T: Layered> Versions<T> {
         ensures top { result ≡ top_of self.now }
         ensures rising { RisesByAncestry self.now.versions }
     {
-        View::new(&self.content, &self.overlays)
+        View::new(&self.content, &self.overlays, *self.overlays.allocator())
     }
 
     /// The base. This takes no memory.
     pub fn base(&self) -> View<'_, T>
         ensures { result ≡ self.now.base }
     {
-        View::new(&self.content, &self.overlays[..self.settled])
+        View::new(
+            &self.content,
+            &self.overlays[..self.settled],
+            *self.overlays.allocator(),
+        )
     }
 
     /// The version of this owner. This takes no memory.
@@ -86,7 +90,18 @@ impl<T: Layered> Versions<T> {
         ensures { result ≡ version_at self.now.versions owner.now }
     {
         let end = rows::end_of(&self.owners, &self.ends, owner)?;
-        Some(View::new(&self.content, &self.overlays[..end]))
+        Some(View::new(
+            &self.content,
+            &self.overlays[..end],
+            *self.overlays.allocator(),
+        ))
+    }
+
+    /// The owners, each an ancestor of the next. This takes no memory.
+    pub fn owners(&self) -> &[Name]
+        ensures { result.now ≡ owners_of self.now.versions }
+    {
+        &self.owners
     }
 
     /// The owner of the lowest version, of which all others are descendants. This takes no memory.

@@ -1,9 +1,9 @@
 ghost use Rattle.std.specs.Prelude.{◌≡◌, IsTrue, IfOk};
-ghost use Rattle.atomic_types.specs.Operations.{is_read};
+ghost use Rattle.atomic_types.specs.Operations.{is_read, is_write};
 
-use atomic_types::{Op, Reply};
+use atomic_types::{Class, Op, Reply};
 use overlays::{Layered, content_of, read_through};
-use std::alloc::AllocError;
+use std::alloc::{AllocError, Global};
 use std::marker::Model;
 
 /// A content that is seen through overlays.
@@ -11,6 +11,7 @@ use std::marker::Model;
 pub struct View<'a, T: Layered> {
     content: &'a T,
     overlays: &'a [T::Overlay],
+    alloc: Global,
 }
 
 impl<'a, T: Layered> Model for View<'a, T> {
@@ -27,11 +28,15 @@ impl<'a, T: Layered> View<'a, T> {
     ghost use Rattle.overlays.specs.Overlays.{laid_all, AllFit};
 
     /// The content under these overlays, the lowest first.
-    pub(crate) fn new(content: &'a T, overlays: &'a [T::Overlay]) -> Self
+    pub(crate) fn new(content: &'a T, overlays: &'a [T::Overlay], alloc: Global) -> Self
         requires { AllFit T.laid T.fits content.now overlays.now }
         ensures { result ≡ laid_all T.laid content.entry.now overlays.entry.now }
     {
-        View { content, overlays }
+        View {
+            content,
+            overlays,
+            alloc,
+        }
     }
 
     /// Whether the operation belongs to the content.
@@ -48,6 +53,29 @@ impl<'a, T: Layered> View<'a, T> {
         ensures { IfOk result (λ r. r ≡ T.reply self.now op.now) }
     {
         read_through(self.content, self.overlays, op)
+    }
+
+    /// The reply to an operation of whatever class, with nothing changed. No content is put together for a read or a write. Fails only for
+    /// want of memory.
+    pub fn reply(&self, op: &Op) -> Result<Reply, AllocError>
+        requires { IsTrue (T.knows self.now op.now) }
+        ensures { IfOk result (λ r. r ≡ T.reply self.now op.now) }
+    {
+        match op.class() {
+            Class::Read => self.read(op),
+            Class::Write => self.write_aside(op),
+            Class::Add => self.content()?.apply(op),
+        }
+    }
+
+    // The reply to an operation that writes. It is noted in an overlay that is then dropped.
+    fn write_aside(&self, op: &Op) -> Result<Reply, AllocError>
+        requires known { IsTrue (T.knows self.now op.now) }
+        requires writes { IsTrue (is_write op.now) }
+        ensures { IfOk result (λ r. r ≡ T.reply self.now op.now) }
+    {
+        let mut overlay = T::nothing(self.alloc);
+        T::note(self.content, self.overlays, &mut overlay, op)
     }
 
     /// The content, put together.

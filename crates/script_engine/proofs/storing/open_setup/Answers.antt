@@ -1,9 +1,8 @@
 use Rattle.std.proofs.Common.{None, Some, ap, arith, get_or, length, map, subst, sym, ◌+◌, ◌<◌, ◌≡◌, ◌∙◌}
 use Rattle.std.proofs.lemmas.List.{length_push}
 use Rattle.stable_store.specs.Held.{held}
-use Rattle.sql_store.specs.Views.{found}
 use Rattle.script_laws.specs.Laws.{HasFewObjects}
-use Rattle.script_engine.specs.Storing.{Opens}
+use Rattle.script_engine.specs.Storing.{found_in, Opens}
 use Rattle.script_engine.proofs.Limits.{few_at, room_for}
 use Rattle.script_engine.proofs.Opening.{few_laid, found_at, none_in, one_more_opened, refused_at, some_in}
 use Rattle.script_engine.proofs.storing.open_setup.Goals as goal
@@ -14,8 +13,8 @@ returns-in_default g c =
     let all = c.as_slice-own-items.ensures in
     let lt : i < length c.args.script.now.guardians = subst (λ gs. i < length gs) all (omega (arith, c.loop-index-test.true)) in
     let item = subst (λ gs. c.own-item.result ≡ get_or gs i c.own-item.result) all c.own-item.is in
-    refused_at (map (found g.A.Store) c.args.stores.now) c.args.script.now.guardians i None c.own-item.result lt
-    (found_at (found g.A.Store) c.args.stores.now i c.index-stores-index.result None (omega (arith, lt, c.requires.count)) c.index-stores-index.is
+    refused_at (map (found_in g.S.Stable.seen) c.args.stores.now) c.args.script.now.guardians i None c.own-item.result lt
+    (found_at (found_in g.S.Stable.seen) c.args.stores.now i c.index-stores-index.result None (omega (arith, lt, c.requires.count)) c.index-stores-index.is
     c.in_default.ensures)
     item (λ contents opens. opens)
 
@@ -33,8 +32,8 @@ returns-in_default-2 g c =
     let all = c.as_slice-own-items.ensures in
     let lt : i < length c.args.script.now.guardians = subst (λ gs. i < length gs) all (omega (arith, c.loop-index-test.true)) in
     let item = subst (λ gs. c.own-item.result ≡ get_or gs i c.own-item.result) all c.own-item.is in
-    refused_at (map (found g.A.Store) c.args.stores.now) c.args.script.now.guardians i (Some (held c.in-Some.kept.now)) c.as_slice.result.now lt
-    (found_at (found g.A.Store) c.args.stores.now i c.index-stores-index.result _ (omega (arith, lt, c.requires.count)) c.index-stores-index.is
+    refused_at (map (found_in g.S.Stable.seen) c.args.stores.now) c.args.script.now.guardians i (Some (held c.in-Some.kept.now)) c.as_slice.result.now lt
+    (found_at (found_in g.S.Stable.seen) c.args.stores.now i c.index-stores-index.result _ (omega (arith, lt, c.requires.count)) c.index-stores-index.is
     c.in-Some.ensures)
     (subst (λ o. o ≡ get_or c.args.script.now.guardians i o) (sym c.as_slice.ensures) item)
     (none_in (λ contents. Opens (Some (held c.in-Some.kept.now)) c.as_slice.result.now contents.items) c.in_ok-contents.field-0 c.in_default-2.is
@@ -68,9 +67,9 @@ loop-index-preserved g c =
           ap length c.in_ok-add_guardian.ensures ∙ length_push c.loop-index.setup c.in-Some-2.contents.items
           ∙ ap (λ n. n + 1) c.loop-index.invariant.count;
       each =
-          one_more_opened (map (found g.A.Store) c.args.stores.now) c.args.script.now.guardians i (Some (held c.in-Some.kept.now)) c.as_slice.result.now
+          one_more_opened (map (found_in g.S.Stable.seen) c.args.stores.now) c.args.script.now.guardians i (Some (held c.in-Some.kept.now)) c.as_slice.result.now
           c.loop-index.setup c.add_guardian.new.setup c.in-Some-2.contents.items lt
-          (found_at (found g.A.Store) c.args.stores.now i c.index-stores-index.result _ (omega (arith, lt, c.requires.count)) c.index-stores-index.is
+          (found_at (found_in g.S.Stable.seen) c.args.stores.now i c.index-stores-index.result _ (omega (arith, lt, c.requires.count)) c.index-stores-index.is
           c.in-Some.ensures)
           (subst (λ o. o ≡ get_or c.args.script.now.guardians i o) (sym c.as_slice.ensures) item)
           (some_in _ (λ contents. Opens (Some (held c.in-Some.kept.now)) c.as_slice.result.now contents.items) c.in_ok-contents.field-0

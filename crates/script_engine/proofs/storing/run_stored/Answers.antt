@@ -1,9 +1,8 @@
 use Rattle.std.proofs.Common.{[], inr, length, map, refl, ◌∙◌, ℕ}
 use Rattle.std.specs.BTreeMap.{BTreeMap}
 use Rattle.values.specs.declared.content.Content.{Content}
-use Rattle.sql_store.specs.Views.{content, found}
 use Rattle.argus_engine.specs.declared.engine.Ended.TheVariants.{Done, Stopped}
-use Rattle.script_engine.specs.Storing.{refusal_line}
+use Rattle.script_engine.specs.Storing.{held_in, found_in, refusal_line}
 use Rattle.script_engine.proofs.Limits.{resolved}
 use Rattle.script_engine.proofs.Runs.{all_saved, always_so, count_run, done_told, front_stored, never_output, none_told, passed_on, silent, wants_memory, whole_saved, whole_stored}
 use Rattle.argus_engine.proofs.Judgements.{on_err}
@@ -11,13 +10,13 @@ use Rattle.script_engine.proofs.storing.run_stored.Goals as goal
 
 pub returns-in_err-finish-clause-begun : goal.returns-in_err-finish-clause-begun
 returns-in_err-finish-clause-begun g c =
-    let all = map (found g.A.Store) c.args.stores.now in
+    let all = map (found_in g.S.Stable.seen) c.args.stores.now in
     front_stored _ _ c.args.script.now all Stopped [] refusal_line (none_told c.args.script.now all c.in_ok-setup.field-0 c.in_default.is c.in_ok-setup.ensures)
     c.in_err-finish.ensures.front
 
 pub returns-in_default-clause-begun : goal.returns-in_default-clause-begun
 returns-in_default-clause-begun g c =
-    let all = map (found g.A.Store) c.args.stores.now in
+    let all = map (found_in g.S.Stable.seen) c.args.stores.now in
     whole_stored _ _ c.args.script.now all Stopped [] refusal_line (none_told c.args.script.now all c.in_ok-setup.field-0 c.in_default.is c.in_ok-setup.ensures)
     c.in_ok-finish.ensures.ok
 
@@ -26,26 +25,26 @@ run_clients-requires g c = resolved c.args.script.now c.requires.script
 
 pub save_all-requires : goal.save_all-requires
 save_all-requires g c =
-    count_run c.args.script.now (map (found g.A.Store) c.args.stores.now) c.in_ok-setup.field-0 c.in-Some.setup c.in_ok-outcome.outcome.ends.items
+    count_run c.args.script.now (map (found_in g.S.Stable.seen) c.args.stores.now) c.in_ok-setup.field-0 c.in-Some.setup c.in_ok-outcome.outcome.ends.items
     c.in_ok-outcome.outcome.bases.items c.as_slice-3.result.now (length c.args.stores.now) c.in-Some.is c.in_ok-setup.ensures c.in_ok-outcome.ensures
     c.as_slice-3.ensures.value c.requires.count
 
 pub returns-in_err-finish-2-clause-begun : goal.returns-in_err-finish-2-clause-begun
 returns-in_err-finish-2-clause-begun g c =
-    front_stored _ _ c.args.script.now (map (found g.A.Store) c.args.stores.now) Done (map (λ (b : BTreeMap ℕ Content). b.entries) c.in_ok-outcome.outcome.bases.items)
+    front_stored _ _ c.args.script.now (map (found_in g.S.Stable.seen) c.args.stores.now) Done (map (λ (b : BTreeMap ℕ Content). b.entries) c.in_ok-outcome.outcome.bases.items)
     c.as_str.result.now
-    (done_told c.args.script.now (map (found g.A.Store) c.args.stores.now) c.in_ok-setup.field-0 c.in-Some.setup c.in_ok-outcome.outcome.ends.items
+    (done_told c.args.script.now (map (found_in g.S.Stable.seen) c.args.stores.now) c.in_ok-setup.field-0 c.in-Some.setup c.in_ok-outcome.outcome.ends.items
     c.as_slice.result.now c.in_ok-outcome.outcome.bases.items c.as_slice-2.result.now c.as_str.result.now c.in-Some.is c.in_ok-setup.ensures
     c.in_ok-outcome.ensures (c.as_str.ensures.value ∙ c.in_ok-text.ensures) c.as_slice.ensures.value c.as_slice-2.ensures.value)
     c.in_err-finish-2.ensures.front
 
 pub returns-in_err-finish-2-clause-err : goal.returns-in_err-finish-2-clause-err
 returns-in_err-finish-2-clause-err g c =
-    let kept = all_saved (map (content g.A.Store) c.args.stores.now) c.in_ok-outcome.outcome.bases.items c.as_slice-3.result.now (map (content g.A.Store) c.save_all.new.stores) c.as_slice-3.ensures.value c.in_ok-save_all.ensures.ok in
+    let kept = all_saved (map (held_in g.S.Stable.seen) c.args.stores.now) c.in_ok-outcome.outcome.bases.items c.as_slice-3.result.now (map (held_in g.S.Stable.seen) c.save_all.new.stores) c.as_slice-3.ensures.value c.in_ok-save_all.ensures.ok in
     on_err c.from_residual-in_err-finish-2.result (inr (
       (map (λ (b : BTreeMap ℕ Content). b.entries) c.in_ok-outcome.outcome.bases.items),
       c.as_str.result.now,
-      done_told c.args.script.now (map (found g.A.Store) c.args.stores.now) c.in_ok-setup.field-0 c.in-Some.setup c.in_ok-outcome.outcome.ends.items
+      done_told c.args.script.now (map (found_in g.S.Stable.seen) c.args.stores.now) c.in_ok-setup.field-0 c.in-Some.setup c.in_ok-outcome.outcome.ends.items
           c.as_slice.result.now c.in_ok-outcome.outcome.bases.items c.as_slice-2.result.now c.as_str.result.now c.in-Some.is c.in_ok-setup.ensures
           c.in_ok-outcome.ensures (c.as_str.ensures.value ∙ c.in_ok-text.ensures) c.as_slice.ensures.value c.as_slice-2.ensures.value,
       kept.0,
@@ -54,9 +53,9 @@ returns-in_err-finish-2-clause-err g c =
 
 pub returns-clause-begun : goal.returns-clause-begun
 returns-clause-begun g c =
-    whole_stored _ _ c.args.script.now (map (found g.A.Store) c.args.stores.now) Done (map (λ (b : BTreeMap ℕ Content). b.entries) c.in_ok-outcome.outcome.bases.items)
+    whole_stored _ _ c.args.script.now (map (found_in g.S.Stable.seen) c.args.stores.now) Done (map (λ (b : BTreeMap ℕ Content). b.entries) c.in_ok-outcome.outcome.bases.items)
     c.as_str.result.now
-    (done_told c.args.script.now (map (found g.A.Store) c.args.stores.now) c.in_ok-setup.field-0 c.in-Some.setup c.in_ok-outcome.outcome.ends.items
+    (done_told c.args.script.now (map (found_in g.S.Stable.seen) c.args.stores.now) c.in_ok-setup.field-0 c.in-Some.setup c.in_ok-outcome.outcome.ends.items
     c.as_slice.result.now c.in_ok-outcome.outcome.bases.items c.as_slice-2.result.now c.as_str.result.now c.in-Some.is c.in_ok-setup.ensures
     c.in_ok-outcome.ensures (c.as_str.ensures.value ∙ c.in_ok-text.ensures) c.as_slice.ensures.value c.as_slice-2.ensures.value)
     c.in_ok-finish-2.ensures.ok
@@ -69,7 +68,7 @@ returns-in_err-text-clause-silent g c = silent c.from_residual-in_err-text.resul
 
 pub returns-in_err-finish-clause-untold : goal.returns-in_err-finish-clause-untold
 returns-in_err-finish-clause-untold g c =
-    let all = map (found g.A.Store) c.args.stores.now in
+    let all = map (found_in g.S.Stable.seen) c.args.stores.now in
     always_so c.from_residual-in_err-finish.result
     (Stopped, refusal_line, ([], none_told c.args.script.now all c.in_ok-setup.field-0 c.in_default.is c.in_ok-setup.ensures, refl))
 
@@ -89,10 +88,10 @@ returns-in_err-finish-2-clause-untold g c =
       c.as_str.result.now,
       (
         map (λ (b : BTreeMap ℕ Content). b.entries) c.in_ok-outcome.outcome.bases.items,
-        done_told c.args.script.now (map (found g.A.Store) c.args.stores.now) c.in_ok-setup.field-0 c.in-Some.setup c.in_ok-outcome.outcome.ends.items
+        done_told c.args.script.now (map (found_in g.S.Stable.seen) c.args.stores.now) c.in_ok-setup.field-0 c.in-Some.setup c.in_ok-outcome.outcome.ends.items
             c.as_slice.result.now c.in_ok-outcome.outcome.bases.items c.as_slice-2.result.now c.as_str.result.now c.in-Some.is c.in_ok-setup.ensures
             c.in_ok-outcome.ensures (c.as_str.ensures.value ∙ c.in_ok-text.ensures) c.as_slice.ensures.value c.as_slice-2.ensures.value,
-        whole_saved (map (content g.A.Store) c.args.stores.now) c.in_ok-outcome.outcome.bases.items c.as_slice-3.result.now
-            (map (content g.A.Store) c.save_all.new.stores) c.as_slice-3.ensures.value c.in_ok-save_all.ensures.ok,
+        whole_saved (map (held_in g.S.Stable.seen) c.args.stores.now) c.in_ok-outcome.outcome.bases.items c.as_slice-3.result.now
+            (map (held_in g.S.Stable.seen) c.save_all.new.stores) c.as_slice-3.ensures.value c.in_ok-save_all.ensures.ok,
       ),
     )

@@ -2,8 +2,8 @@ use Rattle.std.proofs.Common.{ap, arith, length, map, sym, ◌<◌, ◌≡◌, �
 use Rattle.std.proofs.lemmas.List.{get_or-map, length-map}
 use Rattle.std.specs.BTreeMap.{BTreeMap}
 use Rattle.values.specs.declared.content.Content.{Content}
-use Rattle.sql_store.specs.Views.{content}
 use Rattle.argus_engine.proofs.Judgements.{on_err}
+use Rattle.script_engine.specs.Storing.{held_in}
 use Rattle.script_engine.proofs.Saving.{none_changed, one_saved}
 use Rattle.script_engine.proofs.storing.save_all.Goals as goal
 
@@ -12,15 +12,15 @@ returns-in_err-save-clause-err g c =
     let within : c.loop-index.index < length c.loop-index.stores = omega (arith, c.loop-index-test.true, c.loop-index.auto.stores) in
     on_err c.from_residual.result (
       c.loop-index.index,
-      none_changed (content g.A.Store) c.loop-index.stores c.loop-index.index c.index-stores-index.result c.save.new.self within
-          c.in_err-save.ensures.changes
+      none_changed (held_in g.S.Stable.seen) c.loop-index.stores c.loop-index.index c.index-stores-index.result c.save.new.self within
+          c.in_err-save.ensures.makes.changes
           ∙ c.loop-index.invariant,
     )
 
 pub loop-index-preserved : goal.loop-index-preserved
 loop-index-preserved g c =
     let bases = map (λ (b : BTreeMap ℕ Content). b.entries) c.args.bases.now in
-    let at = content g.A.Store in
+    let at = held_in g.S.Stable.seen in
     let before : length (map at c.args.stores.now) ≡ length c.args.stores.now = length-map c.args.stores.now at in
     let entries : length bases ≡ length c.args.bases.now = length-map c.args.bases.now (λ (b : BTreeMap ℕ Content). b.entries) in
     let within : c.loop-index.index < length c.args.bases.now = omega (arith, c.requires, c.loop-index-test.true) in
@@ -29,4 +29,4 @@ loop-index-preserved g c =
     (omega (arith, c.loop-index-test.true, before))
     (ap (λ (b : BTreeMap ℕ Content). b.entries) c.base_at.ensures
     ∙ sym (get_or-map (λ (b : BTreeMap ℕ Content). b.entries) c.args.bases.now c.loop-index.index c.base_at.result.now c.base_at.result.now.entries within))
-    c.in_ok-save.ensures.changes c.loop-index.invariant
+    c.in_ok-save.ensures.makes.changes c.loop-index.invariant

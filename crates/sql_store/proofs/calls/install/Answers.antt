@@ -3,11 +3,12 @@ use Rattle.std.specs.FinMap.{get, remove}
 use Rattle.sqlite.specs.Held.{state}
 use Rattle.sqlite.specs.declared.error.Error.{Error}
 use Rattle.stable_store.specs.Stored.{installed}
-use Rattle.stable_store.specs.Held.{held, record_of, contents_in}
+use Rattle.stable_store.specs.Held.{held, record_of, parts_in}
 use Rattle.stable_store.specs.Calls.{Changes}
-use Rattle.sql_store.specs.Calls.{Carries}
+use Rattle.sql_store.specs.Steps.{Carries}
 use Rattle.stable_store.proofs.Maps.{taken_seen}
 use Rattle.sql_store.proofs.Back.{record_found}
+use Rattle.sql_store.proofs.Installs.{install_is, parts_above}
 use Rattle.sql_store.proofs.Made.{as_ok, as_err}
 use Rattle.sql_store.proofs.calls.install.Goals as goal
 
@@ -30,8 +31,8 @@ returns-in-Ok-install-clause-changes g c =
     let s = held c.args.kept.now in
     let found : get s.prepared c.args.top ≡ Some (record_of c.in-Some.record.now) =
     record_found c.args.kept.now.prepared.entries c.args.top ∙ ap (option_map record_of) (sym c.in-Some.ensures.value) in
-    let base : contents_in c.lay.new.base ≡ installed (get s.prepared c.args.top) s.base =
-    c.in-Ok.ensures.ok ∙ sym (ap (λ r. installed r s.base) found) in
+    let base : parts_in c.lay.new.base ≡ installed (get s.prepared c.args.top) s.base =
+    c.in-Ok-lay.ensures.ok ∙ sym (ap (λ r. installed r s.base) found) in
     let prepared = taken_seen record_of _ _ c.args.top c.remove.ensures.updates.0 in
     λ i. record s { base = base i; prepared = prepared i }
 
@@ -40,13 +41,17 @@ returns-in-Ok-install-clause-carries g c stands =
     let s = held c.args.kept.now in
     let found : get s.prepared c.args.top ≡ Some (record_of c.in-Some.record.now) =
     record_found c.args.kept.now.prepared.entries c.args.top ∙ ap (option_map record_of) (sym c.in-Some.ensures.value) in
-    as_ok (subst (λ a. Carries {T = Unit {0}} {E = Error} (state g.A.Store c.args.conn.now) (state g.A.Store c.install.new.conn) s a (Ok c.in-Ok-install.field-0))
-    (ap (λ r. record s { base = installed r s.base; prepared = remove s.prepared c.args.top }) (sym found)) (c.in-Ok-install.ensures s stands))
+    let old = state g.A.Store c.args.conn.now in
+    as_ok (subst (λ a. Carries {T = Unit {0}} {E = Error} old (state g.A.Store c.install.new.conn) s a (Ok c.in-Ok-install.field-0))
+    (install_is s c.args.top (record_of c.in-Some.record.now) found c.in-Ok.installed.entries c.in-Ok.ensures.put)
+    (c.in-Ok-install.ensures s (parts_above s c.args.top (record_of c.in-Some.record.now) found c.in-Ok.installed.entries c.in-Ok.ensures.put old stands c.in-Ok.ensures.above) stands))
 
-pub returns-in-Err-clause-carries : goal.returns-in-Err-clause-carries
-returns-in-Err-clause-carries g c stands =
+pub returns-clause-carries : goal.returns-clause-carries
+returns-clause-carries g c stands =
     let s = held c.args.kept.now in
     let found : get s.prepared c.args.top ≡ Some (record_of c.in-Some.record.now) =
     record_found c.args.kept.now.prepared.entries c.args.top ∙ ap (option_map record_of) (sym c.in-Some.ensures.value) in
-    as_err (subst (λ a. Carries {T = Unit {0}} {E = Error} (state g.A.Store c.args.conn.now) (state g.A.Store c.install.new.conn) s a (Err c.in-Err.error))
-    (ap (λ r. record s { base = installed r s.base; prepared = remove s.prepared c.args.top }) (sym found)) (c.in-Err.ensures s stands))
+    let old = state g.A.Store c.args.conn.now in
+    as_err (subst (λ a. Carries {T = Unit {0}} {E = Error} old (state g.A.Store c.install.new.conn) s a (Err c.in-Err.error))
+    (install_is s c.args.top (record_of c.in-Some.record.now) found c.in-Ok.installed.entries c.in-Ok.ensures.put)
+    (c.in-Err.ensures s (parts_above s c.args.top (record_of c.in-Some.record.now) found c.in-Ok.installed.entries c.in-Ok.ensures.put old stands c.in-Ok.ensures.above) stands))

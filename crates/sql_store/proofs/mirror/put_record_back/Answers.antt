@@ -1,7 +1,7 @@
 use Rattle.std.proofs.Common.{◌≡◌, Result, Ok, Err, IsOk, OnOk, OnErr, refl, sym, ap, subst, ◌∙◌, option_map}
 use Rattle.std.specs.FinMap.{from_entries}
 use Rattle.stable_store.specs.Held.{record_of, records_of}
-use Rattle.sql_store.specs.Calls.{with_record}
+use Rattle.sql_store.specs.Mirror.{record_back}
 use Rattle.stable_store.proofs.Maps.{get_is, lookup-seen, given_seen, taken_seen, found_something}
 use Rattle.sql_store.proofs.mirror.put_record_back.Goals as goal
 
@@ -23,9 +23,9 @@ pub returns-in-Some : goal.returns-in-Some
 returns-in-Some c =
     let updates = of_ok _ _ c.unwrap.ensures c.insert-replaced.ensures.updates in
     given_seen record_of _ _ c.args.top c.in-Some.record updates.0
-    ∙ ap (λ before. with_record c.args.top (option_map record_of before) (from_entries (records_of c.args.prepared.now.entries))) (sym c.in-Some.is)
+    ∙ ap (λ before. record_back c.args.top (option_map record_of before) (from_entries (records_of c.args.prepared.now.entries))) (sym c.in-Some.is)
 
 pub returns-in-None : goal.returns-in-None
 returns-in-None c =
     taken_seen record_of _ _ c.args.top c.remove.ensures.updates.0
-    ∙ ap (λ before. with_record c.args.top (option_map record_of before) (from_entries (records_of c.args.prepared.now.entries))) (sym c.in-None.is)
+    ∙ ap (λ before. record_back c.args.top (option_map record_of before) (from_entries (records_of c.args.prepared.now.entries))) (sym c.in-None.is)

@@ -1,17 +1,20 @@
-use Rattle.std.proofs.Common.{[], ◌∷◌, subst, subst₂}
+use Rattle.std.proofs.Common.{[], ◌∷◌, subst, subst₂, arith}
 use Rattle.sqlite.specs.Values.{bound_value}
 use Rattle.sqlite.specs.State.{Survives, Executes, CommitsBy}
 use Rattle.sqlite.specs.Held.{state}
-use Rattle.sql_store.proofs.Texts.{decide_text, decide_command}
 use Rattle.stable_store.specs.Stored.{after_decide}
 use Rattle.sql_store.proofs.Runs.{not_true, decide_means, carried, refused}
+use Rattle.store_contents.proofs.Tables.{InRange}
+use Rattle.store_tables.specs.Texts.{decide_text}
+use Rattle.store_tables.proofs.Texts.{decide_command}
 use Rattle.sql_store.proofs.statements.decide.Goals as goal
 
 pub returns-in-Ok : goal.returns-in-Ok
 returns-in-Ok g c k stands =
     let old = state g.A.Store c.args.conn.now in
     let new = state g.A.Store c.execute.new.self in
-    carried decide_text decide_command _ (after_decide c.args.top) _ (decide_means c.args.top) old new k stands tt
+    let fits : InRange c.args.top = (omega arith, omega arith) in
+    carried decide_text decide_command _ (after_decide c.args.top) _ (decide_means c.args.top fits) old new k stands tt
     (not_true _ c.if-not-is_autocommit.ensures.value) (λ up db may. g.met.A.Store.settled c.args.conn.now.store db up may)
     (subst (λ v. Survives old new (CommitsBy decide_text (bound_value v ∷ []) old)) c.number.ensures c.execute.ensures.survives) _ _
     (λ clean. subst₂ (λ v r. Executes decide_text (bound_value v ∷ []) old new r) c.number.ensures c.in-Ok.is (c.execute.ensures.runs clean))
@@ -20,7 +23,8 @@ pub returns-in-Err : goal.returns-in-Err
 returns-in-Err g c k stands =
     let old = state g.A.Store c.args.conn.now in
     let new = state g.A.Store c.execute.new.self in
-    refused decide_text decide_command _ (after_decide c.args.top) _ (decide_means c.args.top) old new k stands tt
+    let fits : InRange c.args.top = (omega arith, omega arith) in
+    refused decide_text decide_command _ (after_decide c.args.top) _ (decide_means c.args.top fits) old new k stands tt
     (not_true _ c.if-not-is_autocommit.ensures.value) (λ up db may. g.met.A.Store.settled c.args.conn.now.store db up may)
     (subst (λ v. Survives old new (CommitsBy decide_text (bound_value v ∷ []) old)) c.number.ensures c.execute.ensures.survives) _
     (λ clean. subst₂ (λ v r. Executes decide_text (bound_value v ∷ []) old new r) c.number.ensures c.in-Err.is (c.execute.ensures.runs clean))

@@ -2,9 +2,10 @@ use Rattle.std.proofs.Common.{[], ◌∷◌, subst, subst₂}
 use Rattle.sqlite.specs.Values.{bound_value}
 use Rattle.sqlite.specs.State.{Survives, Executes, CommitsBy}
 use Rattle.sqlite.specs.Held.{state}
-use Rattle.sql_store.proofs.Texts.{discard_text, discard_command}
 use Rattle.stable_store.specs.Stored.{after_discard}
 use Rattle.sql_store.proofs.Runs.{not_true, discard_means, carried, refused}
+use Rattle.store_tables.specs.Texts.{discard_text}
+use Rattle.store_tables.proofs.Texts.{discard_command}
 use Rattle.sql_store.proofs.statements.discard.Goals as goal
 
 pub returns-in-Ok : goal.returns-in-Ok

@@ -1,34 +1,35 @@
 use Rattle.std.proofs.Common.{◌≡◌, Ok, Err, true, subst, rules}
 use Rattle.sqlite.specs.Held.{state}
 use Rattle.sqlite.proofs.Callers.{survives_begin}
-use Rattle.sql_store.specs.Calls.{Carries, Steps, after_save}
+use Rattle.store_contents.specs.Changes.{with_base, all_put, with_none_decided}
+use Rattle.sql_store.specs.Steps.{Carries, Steps}
 use Rattle.sql_store.proofs.Inside.{committed, rolled, begin_sees, begin_steps}
 use Rattle.sql_store.proofs.statements.save.Goals as goal
 
 pub returns-in-Ok : goal.returns-in-Ok
-returns-in-Ok g c k stands =
+returns-in-Ok g c k above stands =
     let at = state g.A.Store in
     let old = c.args.conn.now in
-    let mid = c.save_contents.new.tx.conn.now in
+    let mid = c.save_values.new.tx.conn.now in
     let last = c.commit.new.self.0 in
     let begun = c.transaction-tx.ensures.begun in
-    let ran = survives_begin g.A.Store old (at mid) _ (rw begun at c.save_contents.ensures.survives) in
-    let part : Steps (at (record old { in_transaction = true })) (at mid) (after_save c.args.base.now.entries k) (Ok c.in-Ok.field-0) = (rw begun at c.in-Ok.ensures.steps) k (begin_sees g.A.Store old k stands) in
+    let ran = survives_begin g.A.Store old (at mid) _ (rw begun at c.save_values.ensures.survives) in
+    let part : Steps (at (record old { in_transaction = true })) (at mid) (with_base (all_put c.args.values.now.entries k.base) (with_none_decided k)) (Ok c.in-Ok.field-0) = (rw begun at c.in-Ok.ensures.steps) k above (begin_sees g.A.Store old k stands) in
     let same : last ≡ c.conn-1.given.0 = search rules in
-    subst (λ h. Carries (at old) (at h) k (after_save c.args.base.now.entries k) c.commit.result) same
-    (committed (at old) (at mid) (at last) k (after_save c.args.base.now.entries k) stands (λ up db may. g.met.A.Store.settled old.store db up may) ran c.in-Ok.field-0 c.commit.result
-    (begin_steps g.A.Store old (at mid) (after_save c.args.base.now.entries k) (Ok c.in-Ok.field-0) part) c.commit.ensures.ended c.commit.ensures.ok c.commit.ensures.err c.commit.ensures.survives)
+    subst (λ h. Carries (at old) (at h) k (with_base (all_put c.args.values.now.entries k.base) (with_none_decided k)) c.commit.result) same
+    (committed (at old) (at mid) (at last) k (with_base (all_put c.args.values.now.entries k.base) (with_none_decided k)) stands (λ up db may. g.met.A.Store.settled old.store db up may) ran c.in-Ok.field-0 c.commit.result
+    (begin_steps g.A.Store old (at mid) (with_base (all_put c.args.values.now.entries k.base) (with_none_decided k)) (Ok c.in-Ok.field-0) part) c.commit.ensures.ended c.commit.ensures.ok c.commit.ensures.err c.commit.ensures.survives)
 
 pub returns-in-Err : goal.returns-in-Err
-returns-in-Err g c k stands =
+returns-in-Err g c k above stands =
     let at = state g.A.Store in
     let old = c.args.conn.now in
-    let mid = c.save_contents.new.tx.conn.now in
+    let mid = c.save_values.new.tx.conn.now in
     let last = c.rollback.new.self.0 in
     let begun = c.transaction-tx.ensures.begun in
-    let ran = survives_begin g.A.Store old (at mid) _ (rw begun at c.save_contents.ensures.survives) in
-    let part : Steps (at (record old { in_transaction = true })) (at mid) (after_save c.args.base.now.entries k) (Err c.in-Err.error) = (rw begun at c.in-Err.ensures.steps) k (begin_sees g.A.Store old k stands) in
+    let ran = survives_begin g.A.Store old (at mid) _ (rw begun at c.save_values.ensures.survives) in
+    let part : Steps (at (record old { in_transaction = true })) (at mid) (with_base (all_put c.args.values.now.entries k.base) (with_none_decided k)) (Err c.in-Err.error) = (rw begun at c.in-Err.ensures.steps) k above (begin_sees g.A.Store old k stands) in
     let same : last ≡ c.conn-in-Err-1.given.0 = search rules in
-    subst (λ h. Carries {T = Unit {0}} (at old) (at h) k (after_save c.args.base.now.entries k) (Err c.in-Err.error)) same
-    (rolled (at old) (at mid) (at last) k (after_save c.args.base.now.entries k) stands (λ up db may. g.met.A.Store.settled old.store db up may) ran c.in-Err.error c.in-Err.error
-    (begin_steps g.A.Store old (at mid) (after_save c.args.base.now.entries k) (Err c.in-Err.error) part) c.rollback.ensures.ended c.rollback.ensures.undone c.rollback.ensures.survives)
+    subst (λ h. Carries {T = Unit {0}} (at old) (at h) k (with_base (all_put c.args.values.now.entries k.base) (with_none_decided k)) (Err c.in-Err.error)) same
+    (rolled (at old) (at mid) (at last) k (with_base (all_put c.args.values.now.entries k.base) (with_none_decided k)) stands (λ up db may. g.met.A.Store.settled old.store db up may) ran c.in-Err.error c.in-Err.error
+    (begin_steps g.A.Store old (at mid) (with_base (all_put c.args.values.now.entries k.base) (with_none_decided k)) (Err c.in-Err.error) part) c.rollback.ensures.ended c.rollback.ensures.undone c.rollback.ensures.survives)

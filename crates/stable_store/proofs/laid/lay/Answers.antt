@@ -2,8 +2,8 @@ use Rattle.std.proofs.Common.{◌≡◌, ◌≤◌, ◌+◌, IsSome, length, vec
 use Rattle.std.specs.FinMap as map
 use Rattle.std.specs.Map.Iter.{deref_pair}
 use Rattle.std.proofs.lemmas.Map.Iter.{rest_more}
-use Rattle.stable_store.specs.Stored.{laid}
-use Rattle.stable_store.specs.Held.{contents_in}
+use Rattle.stable_store.specs.Stored.{laid, put_over}
+use Rattle.stable_store.specs.Held.{parts_in}
 use Rattle.stable_store.specs.Undone.{restored, undone, CanUndo}
 use Rattle.stable_store.proofs.Maps.{found_inserted}
 use Rattle.stable_store.proofs.WayBack.{restored_laid, undone_last, CanUndo-push}
@@ -11,15 +11,15 @@ use Rattle.stable_store.proofs.laid.lay.Goals as goal
 
 pub loop-object-preserved : goal.loop-object-preserved
 loop-object-preserved c =
-    let base = contents_in c.loop-object.base in
-    let now = contents_in c.lay_one.new.base in
+    let base = parts_in c.loop-object.base in
+    let now = parts_in c.lay_one.new.base in
     let object = c.in-Some.field-0-0.now in
     let replaced = c.loop-object.replaced.items in
     let pushed = c.push_reserved.ensures.items in
-    let taken = rest_more deref_pair _ _ _ (c.in-Some.field-0-0, c.in-Some.content) c.in-Some.is c.next.ensures.steps in
+    let taken = rest_more deref_pair _ _ _ (c.in-Some.field-0-0, c.in-Some.part) c.in-Some.is c.next.ensures.steps in
     let room : vec_len c.push_reserved.new.self + length c.next.new.self ≤ vec_capacity c.push_reserved.new.self =
     omega (arith, c.push_reserved.ensures.len, c.push_reserved.ensures.capacity, ap length taken, c.loop-object.invariant.3) in
-    let is_laid : now ≡ map.insert base object c.in-Some.content.now = c.in-Ok.ensures.ok in
+    let is_laid : now ≡ put_over object c.in-Some.part.now base = c.in-Ok.ensures.ok in
     let undone_is : restored object c.in-Ok.before now ≡ base =
     ap (restored object c.in-Ok.before) is_laid ∙ restored_laid base _ _ _ c.in-Ok.ensures.before in
     let here : IsSome (map.get now object) =

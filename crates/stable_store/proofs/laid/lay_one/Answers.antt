@@ -1,6 +1,7 @@
 use Rattle.std.proofs.Common.{sym, ap, ◌∙◌}
 use Rattle.std.specs.FinMap as map
-use Rattle.stable_store.specs.Held.{contents_in}
+use Rattle.atomic_types.specs.Parts.{over}
+use Rattle.stable_store.specs.Held.{parts_in}
 use Rattle.stable_store.proofs.Maps.{get_is, given}
 use Rattle.stable_store.proofs.laid.lay_one.Goals as goal
 
@@ -10,4 +11,5 @@ returns-clause-before c = c.in_ok-insert.ensures.old ∙ sym (get_is _ c.args.ob
 pub returns-clause-ok : goal.returns-clause-ok
 returns-clause-ok c =
     given _ _ _ _ c.in_ok-insert.ensures.updates.0
-    ∙ ap (map.insert (contents_in c.args.base.now) c.args.object) c.in_ok-copy.ensures.same
+    ∙ ap (map.insert (parts_in c.args.base.now) c.args.object)
+    (c.in_ok-installed.ensures ∙ ap (over c.args.part.now) (c.get.ensures.value ∙ sym (get_is _ c.args.object)))

@@ -1,5 +1,5 @@
 use Rattle.std.proofs.Common.{◌≡◌, Result, Ok, Err, IsOk, OnOk, OnErr, refl, sym, ap, subst, ◌∙◌}
-use Rattle.stable_store.specs.Held.{contents_in}
+use Rattle.stable_store.specs.Held.{parts_in}
 use Rattle.stable_store.specs.Undone.{restored}
 use Rattle.stable_store.proofs.Maps.{get_is, given, taken, found_something}
 use Rattle.stable_store.proofs.laid.restore.Goals as goal
@@ -20,10 +20,10 @@ unwrap-requires c =
 pub returns-in-Some : goal.returns-in-Some
 returns-in-Some c =
     let updates = of_ok _ _ c.unwrap.ensures c.insert-replaced.ensures.updates in
-    given _ _ c.args.object c.in-Some.content updates.0
-    ∙ ap (λ before. restored c.args.object before (contents_in c.args.base.now)) (sym c.in-Some.is)
+    given _ _ c.args.object c.in-Some.part updates.0
+    ∙ ap (λ before. restored c.args.object before (parts_in c.args.base.now)) (sym c.in-Some.is)
 
 pub returns-in-None : goal.returns-in-None
 returns-in-None c =
     taken _ _ c.args.object c.remove.ensures.updates.0
-    ∙ ap (λ before. restored c.args.object before (contents_in c.args.base.now)) (sym c.in-None.is)
+    ∙ ap (λ before. restored c.args.object before (parts_in c.args.base.now)) (sym c.in-None.is)

@@ -4,6 +4,7 @@ use Rattle.run_model.specs.LocalHistories.{events_there, names_guardian}
 use Rattle.layer_contracts.specs.Guardians.{GuardianState}
 use Rattle.layer_contracts.specs.Forests.{ForestState}
 use Rattle.layer_contracts.specs.Messages.{carried_of}
+use Rattle.lent_steps.proofs.Agreed.{agrees_at}
 use Rattle.lent_steps.proofs.Owing.{owed_at}
 use Rattle.lent_steps.proofs.lent.Lent.brought_to.Goals as goal
 
@@ -20,5 +21,6 @@ returns g c =
     record {
       named = named;
       carried = c.in_ok-message.ensures;
+      agrees = agrees_at f a b x e (carried_of c.in_ok-message.field-0) c.requires.opening c.requires.one.past c.requires.one.number c.in_ok-message.ensures c.requires.answered.agrees named;
       owed = owed_at f a b x e (carried_of c.in_ok-message.field-0) c.requires.opening c.requires.one.past c.in_ok-message.ensures c.requires.answered named;
     }

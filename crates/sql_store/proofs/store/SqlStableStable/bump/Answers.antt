@@ -1,11 +1,12 @@
-use Rattle.std.proofs.Common.{◌⊎◌, inl, ◌≤◌, Ok, Err, sym, subst}
+use Rattle.std.proofs.Common.{◌⊎◌, inl, ◌≤◌, Ok, Err, refl, sym, subst}
 use Rattle.sqlite.specs.Held.{state}
-use Rattle.stable_store.specs.Stored.{after_bump, greatest_count}
 use Rattle.stable_store.specs.Held.{held}
-use Rattle.stable_store.specs.Calls.{Makes, IsExcused, IsRefused}
-use Rattle.sql_store.specs.Calls.{IsAtRest}
-use Rattle.sql_store.specs.Views.{View, content, failures, is_honest, is_up, may_leave}
-use Rattle.sql_store.proofs.Made.{made_ok, made_err, excused_more}
+use Rattle.stable_store.specs.Stored.{after_bump, greatest_count}
+use Rattle.stable_store.specs.Calls.{Makes, IsRefused}
+use Rattle.stable_store.specs.declared.fault.StoreFault.TheVariants.{NotOurs}
+use Rattle.sql_store.specs.Steps.{IsAtRest}
+use Rattle.sql_store.specs.Views.{sql_view}
+use Rattle.sql_store.proofs.Made.{Shelf, shelf, made_ok, made_err, untouched, excused_more, excused_as}
 use Rattle.sql_store.proofs.store.SqlStableStable.bump.Goals as goal
 
 pub invariant_of-self-in-Ok : goal.invariant_of-self-in-Ok
@@ -20,28 +21,32 @@ pub returns-in-Ok-clause-makes : goal.returns-in-Ok-clause-makes
 returns-in-Ok-clause-makes g c =
     let s = c.self.inside in
     let at = g.A.Store in
-    let new : View at = (c.bump.new.kept, (c.bump.new.conn, (s.failures, (s.is_known, s.holds_content)))) in
-    subst (λ (old : View at). Makes {S = View at} {T = Unit {0}} (content at) (failures at) (is_honest at) (is_up at) (may_leave at) old new (Unit {0} ⊎ (greatest_count ≤ (content at old).count)) (after_bump (content at old)) (Ok tt)) c.self.view_is
-    (made_ok at c.one_spelling.ensures.stored (λ h up db may. g.met.A.Store.settled h.store db up may) s.kept s.conn c.bump.new.conn s.failures s.is_known s.holds_content c.if-not-self.false
-    (after_bump (held s.kept)) (λ known. c.self.invariant known c.if-not-self.false) c.bump.new.kept (Unit {0} ⊎ (greatest_count ≤ (held s.kept).count)) tt
-    (λ known. c.in-Ok.ensures.carries (c.self.invariant known c.if-not-self.false)) c.in-Ok.ensures.changes)
+    let was = shelf at s.kept s.conn s.failures s.is_known s.holds_content in
+    let now = shelf at c.bump.new.kept c.bump.new.conn s.failures s.is_known s.holds_content in
+    subst (λ (old : Shelf at). Makes {T = Unit {0}} (sql_view at old) (sql_view at now) (Unit {0} ⊎ (greatest_count ≤ (sql_view at old).content.count)) (after_bump (sql_view at old).content) (Ok tt)) c.self.view_is
+    (made_ok at c.one_content_is_held.ensures (λ h up db may. g.met.A.Store.settled h.store db up may) was now c.if-not-self.false refl refl (after_bump (held s.kept)) (λ known. c.self.invariant known c.if-not-self.false) (Unit {0} ⊎ (greatest_count ≤ (held s.kept).count)) tt
+    (λ known. c.in-Ok.ensures.carries (c.self.invariant known c.if-not-self.false)) c.in-Ok.ensures.changes refl)
 
 pub returns-in-Err-clause-makes : goal.returns-in-Err-clause-makes
 returns-in-Err-clause-makes g c =
     let s = c.self.inside in
     let at = g.A.Store in
-    let new : View at = (c.bump.new.kept, (c.bump.new.conn, (c.count_fault-in-Err.new.failures, (s.is_known, s.holds_content)))) in
-    subst (λ (old : View at). Makes {S = View at} {T = Unit {0}} (content at) (failures at) (is_honest at) (is_up at) (may_leave at) old new (Unit {0} ⊎ (greatest_count ≤ (content at old).count)) (after_bump (content at old)) (Err c.count_fault-in-Err.result)) c.self.view_is
-    (made_err at c.one_spelling.ensures.stored (λ h up db may. g.met.A.Store.settled h.store db up may) s.kept s.conn c.bump.new.conn s.failures s.is_known s.holds_content c.if-not-self.false
-    (after_bump (held s.kept)) (λ known. c.self.invariant known c.if-not-self.false) c.bump.new.kept (Unit {0} ⊎ (greatest_count ≤ (held s.kept).count)) c.count_fault-in-Err.new.failures c.in-Err.fault c.count_fault-in-Err.result
-    (λ known. c.in-Err.ensures.carries (c.self.invariant known c.if-not-self.false)) c.in-Err.ensures.changes
-    (excused_more (Unit {0}) _ inl _ _ _ (subst (IsExcused (Unit {0}) s.failures c.count_fault-in-Err.new.failures) (sym c.count_fault-in-Err.ensures.same) c.count_fault-in-Err.ensures.counts)))
+    let told = c.count_fault-in-Err in
+    let was = shelf at s.kept s.conn s.failures s.is_known s.holds_content in
+    let now = shelf at c.bump.new.kept c.bump.new.conn told.new.failures s.is_known s.holds_content in
+    let counted = excused_as (Unit {0}) s.failures told.new.failures c.in-Err.fault told.result told.ensures.same told.ensures.counts in
+    subst (λ (old : Shelf at). Makes {T = Unit {0}} (sql_view at old) (sql_view at now) (Unit {0} ⊎ (greatest_count ≤ (sql_view at old).content.count)) (after_bump (sql_view at old).content) (Err c.count_fault-in-Err.result)) c.self.view_is
+    (made_err at c.one_content_is_held.ensures (λ h up db may. g.met.A.Store.settled h.store db up may) was now c.if-not-self.false refl refl (after_bump (held s.kept)) (λ known. c.self.invariant known c.if-not-self.false) (Unit {0} ⊎ (greatest_count ≤ (held s.kept).count)) c.in-Err.fault told.result
+    (λ known. c.in-Err.ensures.carries (c.self.invariant known c.if-not-self.false)) c.in-Err.ensures.changes (excused_more (Unit {0}) (Unit {0} ⊎ (greatest_count ≤ (held s.kept).count)) inl _ _ _ (counted)))
 
-pub returns-in-Ok-clause-spent : goal.returns-in-Ok-clause-spent
-returns-in-Ok-clause-spent g c =
-    subst (λ (old : View g.A.Store). greatest_count ≤ (content g.A.Store old).count → IsRefused {T = Unit {0}} (Ok tt)) c.self.view_is c.in-Ok.ensures.spent
-
-pub returns-in-Err-clause-spent : goal.returns-in-Err-clause-spent
-returns-in-Err-clause-spent g c =
-    subst (λ (old : View g.A.Store). greatest_count ≤ (content g.A.Store old).count → IsRefused {T = Unit {0}} (Err c.count_fault-in-Err.result)) c.self.view_is
-    (subst (λ f. greatest_count ≤ (held c.self.inside.kept).count → IsRefused {T = Unit {0}} (Err f)) (sym c.count_fault-in-Err.ensures.same) c.in-Err.ensures.spent)
+pub returns-then-not-self-clause-makes : goal.returns-then-not-self-clause-makes
+returns-then-not-self-clause-makes g c =
+    let s = c.self.inside in
+    let at = g.A.Store in
+    let told = c.count_fault in
+    let was = shelf at s.kept s.conn s.failures s.is_known s.holds_content in
+    let now = shelf at s.kept s.conn told.new.failures s.is_known s.holds_content in
+    let counted = excused_as (Unit {0}) s.failures told.new.failures NotOurs told.result told.ensures.same told.ensures.counts in
+    subst (λ (old : Shelf at). Makes {T = Unit {0}} (sql_view at old) (sql_view at now) (Unit {0} ⊎ (greatest_count ≤ (sql_view at old).content.count)) (after_bump (sql_view at old).content) (Err c.count_fault.result)) c.self.view_is
+    (untouched at c.one_content_is_held.ensures (λ h up db may. g.met.A.Store.settled h.store db up may) was now refl refl refl refl (after_bump (held s.kept)) c.self.invariant (Unit {0} ⊎ (greatest_count ≤ (held s.kept).count)) told.result (excused_more (Unit {0}) (Unit {0} ⊎ (greatest_count ≤ (held s.kept).count)) inl _ _ _ (counted))
+    (λ _. subst (λ f. IsRefused {T = Unit {0}} (Err f)) (sym told.ensures.same) tt))

@@ -1,0 +1,15 @@
+pub mod Holding
+pub mod Untouched
+pub mod Numbers
+pub mod Places
+pub mod Room
+pub mod Committing
+pub mod Aborting
+pub mod Turning
+pub mod Operated
+pub mod Crashed
+pub mod Begun
+pub mod Parted
+pub mod SoFar
+pub mod Making
+pub mod Counting

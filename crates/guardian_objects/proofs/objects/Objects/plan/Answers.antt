@@ -1,0 +1,73 @@
+use Rattle.std.proofs.Common.{[], ap, arith, length, map, subst, sym, take, ◌+◌, ◌++◌, ◌<◌, ◌∙◌, ◌∷◌, ◌≡◌}
+use Rattle.std.specs.List.{AllByRecursion}
+use Rattle.std.specs.List.Sorted.{IsStrictlySortedBy}
+use Rattle.std.proofs.lemmas.List.{take_all, take_more}
+use Rattle.action_names.specs.Names.{name_cmp}
+use Rattle.guardian_objects.specs.Outcomes.{HasRoomFor, outcomes_of}
+use Rattle.guardian_objects.proofs.Room.{each_last, each_weaker, roomier_fits, roomier_keeps, roomier_more, roomier_same, roomier_some}
+use Rattle.guardian_objects.proofs.Turning.{same_names}
+use Rattle.guardian_objects.proofs.SoFar.{next_planned, none_planned, one_planned}
+use Rattle.guardian_objects.proofs.objects.Objects.plan.Goals as goal
+
+pub loop-action-init : goal.loop-action-init
+loop-action-init c = record {
+  roomier = roomier_same c.args.self.now;
+  room = none_planned (HasRoomFor c.args.self.now) c.in_ok-tellings.tellings.items c.in_ok-tellings.ensures.items;
+  outcomes = ap (λ l. outcomes_of l) c.in_ok-tellings.ensures.items;
+  planned = λ g here told. none_planned _ c.in_ok-tellings.tellings.items c.in_ok-tellings.ensures.items;
+}
+
+pub plan_one-requires : goal.plan_one-requires
+plan_one-requires c = record { shown = roomier_some c.args.self.now c.loop-action.self c.loop-action.invariant.roomier c.requires.shown }
+
+pub loop-action-preserved : goal.loop-action-preserved
+loop-action-preserved c =
+    let outcomes = c.args.outcomes.now in
+    let i = c.loop-action.action-index in
+    let x = c.loop-action-item.result in
+    let t = c.in_ok-plan_one.field-0 in
+    let lt : i < length outcomes = omega (arith, c.loop-action-test.true) in
+    let more : take (i + 1) outcomes ≡ take i outcomes ++ x ∷ [] = take_more outcomes i x lt ∙ ap (λ y. take i outcomes ++ y ∷ []) (sym c.loop-action-item.is) in
+    record {
+      roomier = roomier_more c.args.self.now c.loop-action.self c.plan_one.new.self c.loop-action.invariant.roomier c.plan_one.ensures.roomier;
+      room = subst (λ l. AllByRecursion (HasRoomFor c.plan_one.new.self) l) (sym c.in_ok-push.ensures.items)
+          (each_last (HasRoomFor c.plan_one.new.self) c.loop-action.tellings.items t
+          (each_weaker (HasRoomFor c.loop-action.self) (HasRoomFor c.plan_one.new.self) c.loop-action.tellings.items
+          (λ u had. roomier_fits c.loop-action.self c.plan_one.new.self c.plan_one.ensures.roomier u had) c.loop-action.invariant.room) c.in_ok-plan_one.ensures.room);
+      outcomes = one_planned c.loop-action.tellings.items c.push.new.self.items t (take i outcomes) (take (i + 1) outcomes) x c.in_ok-push.ensures.items more
+          c.in_ok-plan_one.ensures.action c.in_ok-plan_one.ensures.committed c.loop-action.invariant.outcomes;
+      planned = λ g here told.
+          next_planned here c.loop-action.tellings.items c.push.new.self.items t x c.in_ok-push.ensures.items c.in_ok-plan_one.ensures.action c.in_ok-plan_one.ensures.committed
+          (λ committed. c.in_ok-plan_one.ensures.next g here told committed) (c.loop-action.invariant.planned g here told);
+    }
+
+pub returns-in_err-tellings-clause-same : goal.returns-in_err-tellings-clause-same
+returns-in_err-tellings-clause-same c = λ opening here are. are
+
+pub returns-in_err-plan_one-clause-same : goal.returns-in_err-plan_one-clause-same
+returns-in_err-plan_one-clause-same c =
+    roomier_keeps c.args.self.now c.plan_one.new.self (roomier_more c.args.self.now c.loop-action.self c.plan_one.new.self c.loop-action.invariant.roomier c.plan_one.ensures.roomier)
+
+pub returns-in_err-push-clause-same : goal.returns-in_err-push-clause-same
+returns-in_err-push-clause-same c =
+    roomier_keeps c.args.self.now c.plan_one.new.self (roomier_more c.args.self.now c.loop-action.self c.plan_one.new.self c.loop-action.invariant.roomier c.plan_one.ensures.roomier)
+
+pub returns-clause-same : goal.returns-clause-same
+returns-clause-same c = roomier_keeps c.args.self.now c.loop-action.self c.loop-action.invariant.roomier
+
+pub returns-clause-fits : goal.returns-clause-fits
+returns-clause-fits c =
+    let outcomes = c.args.outcomes.now in
+    let all : take c.loop-action.action-index outcomes ≡ outcomes = take_all c.loop-action.action-index outcomes (omega (arith, c.loop-action-test.false)) in
+    record {
+      rising = subst (λ l. IsStrictlySortedBy name_cmp l)
+          (ap (λ l. map (λ x. x.0) l) (sym (c.loop-action.invariant.outcomes ∙ all)) ∙ same_names c.loop-action.tellings.items) c.requires.rising;
+      room = c.loop-action.invariant.room;
+    }
+
+pub returns-clause-outcomes : goal.returns-clause-outcomes
+returns-clause-outcomes c =
+    c.loop-action.invariant.outcomes ∙ take_all c.loop-action.action-index c.args.outcomes.now (omega (arith, c.loop-action-test.false))
+
+pub returns-clause-planned : goal.returns-clause-planned
+returns-clause-planned c = λ g here told. c.loop-action.invariant.planned g here told

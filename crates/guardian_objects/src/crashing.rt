@@ -1,0 +1,68 @@
+//! A crash of the guardian.
+ghost use Rattle.std.specs.Prelude.{◌≡◌, ◌∷◌, [], ℕ, List, length, IsTrue, is_some};
+ghost use Rattle.action_names.specs.Names.{Name, is_top};
+ghost use Rattle.run_model.specs.declared.step.ObjectId.{ObjectId};
+ghost use Rattle.run_model.specs.declared.step.Step.TheVariants as steps;
+ghost use Rattle.run_model.specs.LocalReadings.{LocalEvent, prepared_here};
+ghost use Rattle.run_model.specs.Openings.{Opening};
+ghost use Rattle.local_agreement.specs.Crashes.{LeavesSafe};
+ghost use Rattle.guardian_objects.specs.Objects.{AreObjects};
+ghost use Rattle.guardian_objects.specs.Crashes.{HaveCrashed};
+
+use crate::objects::Objects;
+use action_names::Name;
+use atomic_object::Object;
+use held_objects::Holding;
+use holders::Survivors;
+
+/// Who still holds something at these objects.
+#[derive(Clone, Copy)]
+struct Still<'a> {
+    objects: &'a [Object],
+}
+
+impl<'a> Holding for Still<'a> {
+    ghost use Rattle.guardian_objects.specs.Objects.{holds_at};
+
+    ghost holds = { λ s a n. holds_at s.objects.now a n };
+
+    fn holds(&self, holder: &Name, number: u32) -> bool {
+        let Some(place) = (number as usize).checked_sub(1) else {
+            return false;
+        };
+        match self.objects.get(place) {
+            Some(object) => object.is_concerned(holder, true),
+            None => false,
+        }
+    }
+}
+
+impl Objects {
+    /// The guardian crashes: of each object what belongs to the base is left, and what the survivors wrote and added, which are the top actions of
+    /// which the store has a record. It looks at all that is held. This cannot fail.
+    pub fn crash<S: Survivors>(&mut self, survivors: &S)
+        requires tops { (a : Name) → IsTrue (S.stays survivors.now a) → IsTrue (is_top a) }
+        ensures crashed { (opening : Opening) (here : List LocalEvent) (c : LocalEvent) → AreObjects opening here self.old
+            → ((x : ObjectId) → x.guardian ≡ self.old.guardian → LeavesSafe opening here x)
+            → ((a : Name) → S.stays survivors.now a ≡ is_some (prepared_here opening self.old.guardian a here))
+            → c.event.step ≡ steps.Crash self.old.guardian → c.carried.outcomes ≡ [] → c.carried.restored ≡ []
+            → AreObjects opening (c ∷ here) self.new }
+        ensures guardian { self.new.guardian ≡ self.old.guardian }
+        ensures count { length self.new.objects ≡ length self.old.objects }
+    {
+        crash_all(&mut self.objects, survivors);
+        self.held.retain(&Still {
+            objects: &self.objects,
+        });
+    }
+}
+
+// Each object crashes.
+fn crash_all<S: Survivors>(objects: &mut Vec<Object>, survivors: &S)
+    requires tops { (a : Name) → IsTrue (S.stays survivors.now a) → IsTrue (is_top a) }
+    ensures { HaveCrashed (S.stays survivors.now) objects.old.items objects.new.items }
+{
+    for object in objects.iter_mut() {
+        object.crash(survivors);
+    }
+}

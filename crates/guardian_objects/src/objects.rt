@@ -1,0 +1,168 @@
+//! The objects, and what is asked of them.
+ghost use Rattle.std.specs.Prelude.{◌≡◌, ◌≤◌, ◌&&◌, ◌∷◌, [], ℕ, List, length, nat_le, true, Some, IsTrue, IsFalse, IfOk, IfSome, IsNone, OnErr};
+ghost use Rattle.std.specs.Option.{option_copied};
+ghost use Rattle.action_names.specs.Names.{Name, is_ancestor};
+ghost use Rattle.values.specs.declared.content.Content.{Content};
+ghost use Rattle.run_model.specs.Keeping.{Standing};
+ghost use Rattle.run_model.specs.Answers.{is_concerned_by, operated_by};
+ghost use Rattle.run_model.specs.LocalReadings.{LocalEvent, count_here, standing_here, told_committed_here};
+ghost use Rattle.run_model.specs.Openings.{Opening, first_content, opening_in};
+ghost use Rattle.run_model.specs.Versions.{base_by};
+ghost use Rattle.held_objects.specs.Held.{has_number, IsRising};
+ghost use Rattle.object_laws.specs.Shown.{Shows};
+ghost use Rattle.atomic_object.specs.Kept.{Kept, seen};
+ghost use Rattle.guardian_objects.specs.Objects.{AreObjects, IsAsked, Keeps, Operates, object_at, object_of};
+ghost use Rattle.guardian_objects.specs.Operations.{IsAnsweredBy, IsShownAt, StaysHeld};
+ghost use Rattle.guardian_objects.specs.Turns.{AreChanged};
+
+use action_names::Name;
+use atomic_object::Object;
+use atomic_types::Op;
+use held_objects::HeldObjects;
+use run_model::{Answer, ObjectId};
+use std::alloc::{AllocError, Global};
+use std::marker::Model;
+use values::Content;
+use version_stack::View;
+
+/// The objects of one guardian, numbered from 1.
+#[derive(Drop)]
+pub struct Objects {
+    pub(crate) alloc: Global,
+    pub(crate) guardian: u32,
+    pub(crate) objects: Vec<Object>,
+    pub(crate) held: HeldObjects,
+}
+
+impl Model for Objects {
+    ghost use Rattle.guardian_objects.specs.Objects.{Indexed};
+
+    ghost Value = { Indexed };
+
+    ghost view = { λ a. record { guardian = a.guardian; objects = a.objects.items; held = a.held } };
+}
+
+impl Objects {
+    /// The guardian's objects with their first contents, of which nobody holds anything. Fails only for want of memory.
+    pub fn new(
+        alloc: Global,
+        opening: &run_model::Opening,
+        guardian: u32,
+    ) -> Result<Objects, AllocError>
+        requires { 1 ≤ guardian }
+        ensures guardian { IfOk result (λ objects. objects.guardian ≡ guardian) }
+        ensures objects { IfOk result (λ objects. AreObjects (opening_in opening.now) [] objects) }
+    {
+        let count = opening.setup().objects(guardian).len();
+        let held = HeldObjects::new(alloc);
+        let mut objects = Vec::with_capacity(alloc, count)?;
+        for place in 0..count {
+            let number = place as u32 + 1;
+            let content = opening.first_content(ObjectId { guardian, number })?;
+            let object = Object::new(alloc, content);
+            objects.push(object)?;
+        }
+        Ok(Objects {
+            alloc,
+            guardian,
+            objects,
+            held,
+        })
+    }
+
+    /// The number of the guardian.
+    pub fn guardian(&self) -> u32
+        ensures { result ≡ self.now.guardian }
+    {
+        self.guardian
+    }
+
+    /// What belongs to the base of the object of this number; none where there is no such object. This takes no memory.
+    pub fn base(&self, number: u32) -> Option<View<'_, Content>>
+        ensures base { IfSome result (λ base. (opening : Opening) (here : List LocalEvent) → AreObjects opening here self.now
+            → base ≡ base_by (first_content opening (object_of self.now number)) (standing_here here (object_of self.now number))) }
+        ensures none { IsNone result → (1 ≤ number) → (number ≤ length self.now.objects) → ⊥ }
+    {
+        Some(self.object(number)?.base())
+    }
+
+    // The object of this number, if there is one.
+    pub(crate) fn object(&self, number: u32) -> Option<&Object>
+        ensures { option_copied result ≡ object_at self.now.objects number }
+    {
+        let place = (number as usize).checked_sub(1)?;
+        self.objects.get(place)
+    }
+
+    /// At which objects the holder holds something, rising: those that a telling of its commit changes. This takes no memory.
+    pub fn objects_of(&self, holder: &Name) -> &[u32]
+        ensures objects { (opening : Opening) (here : List LocalEvent) (n : ℕ) → AreObjects opening here self.now → has_number result.now n
+            ≡ (nat_le 1 n && (nat_le n (length self.now.objects) && is_concerned_by true (standing_here here (object_of self.now n)) holder.now)) }
+        ensures rising { IsRising result.now }
+    {
+        self.held.objects_of(holder)
+    }
+
+    /// How many objects a telling of the outcome changes, of an action that was not told committed. It looks at those alone. Fails only for want
+    /// of memory.
+    pub fn told_count(&self, action: &Name, committed: bool) -> Result<u64, AllocError>
+        ensures { IfOk result (λ count. (opening : Opening) (here : List LocalEvent) → AreObjects opening here self.now
+            → IsFalse (told_committed_here action.now here) → count ≡ count_here opening self.now.guardian action.now committed here) }
+    {
+        if committed {
+            let own = self.held.objects_of(action).len();
+            return Ok(own as u64);
+        }
+        let numbers = self.held.objects_below(action)?;
+        let below = numbers.len();
+        Ok(below as u64)
+    }
+
+    /// What an operation on the object of this number would be answered, with nothing changed. Fails only for want of memory.
+    pub fn answer(&self, action: &Name, number: u32, op: &Op) -> Result<Answer, AllocError>
+        requires { IsAsked self.now number op.now }
+        ensures { IfOk result (λ answer. (opening : Opening) (here : List LocalEvent) → AreObjects opening here self.now
+            → answer ≡ operated_by (first_content opening (object_of self.now number)) (standing_here here (object_of self.now number)) action.now op.now) }
+    {
+        // The action has numbers, as the depth of its name says.
+        let _depth = action.depth();
+        self.objects[number as usize - 1].answer(action, op)
+    }
+
+    /// Makes the operation on the object of this number, where it need not wait. After any answer but `Granted`, and after want of memory, the
+    /// objects are those of the same history.
+    pub fn op(&mut self, action: &Name, number: u32, op: &Op) -> Result<Answer, AllocError>
+        requires { IsAsked self.old number op.now }
+        ensures answers { IfOk result (λ answer. (opening : Opening) (here : List LocalEvent) → AreObjects opening here self.old
+            → answer ≡ operated_by (first_content opening (object_of self.old number)) (standing_here here (object_of self.old number)) action.now op.now) }
+        ensures operates { IfOk result (λ answer. Operates action.now number op.now answer self.old self.new) }
+        ensures guardian { self.new.guardian ≡ self.old.guardian }
+        ensures count { length self.new.objects ≡ length self.old.objects }
+        ensures err { OnErr result (Keeps self.old self.new) }
+    {
+        self.held.make_room(action)?;
+        match self.op_at(action, number, op)? {
+            Answer::Granted(reply) => {
+                self.held.insert(action, number);
+                Ok(Answer::Granted(reply))
+            }
+            answer => Ok(answer),
+        }
+    }
+
+    // Makes the operation on the object of this number, with nothing noted.
+    fn op_at(&mut self, action: &Name, number: u32, op: &Op) -> Result<Answer, AllocError>
+        requires { IsShownAt self.old.objects number op.now }
+        ensures named { IsTrue (is_ancestor action.now action.now) }
+        ensures answers { IfOk result (λ answer. (k : Kept) (c : Content) (s : Standing) → object_at self.old.objects number ≡ Some k → Shows c s (seen k)
+            → answer ≡ operated_by c s action.now op.now) }
+        ensures answered { IfOk result (λ answer. AreChanged (IsAnsweredBy action.now op.now answer) (number ∷ []) self.old.objects self.new.objects) }
+        ensures guardian { self.new.guardian ≡ self.old.guardian }
+        ensures held { self.new.held ≡ self.old.held }
+        ensures err { OnErr result (AreChanged StaysHeld (number ∷ []) self.old.objects self.new.objects) }
+    {
+        // The action has numbers, as the depth of its name says.
+        let _depth = action.depth();
+        self.objects[number as usize - 1].op(action, op)
+    }
+}

@@ -1,0 +1,245 @@
+//! Outcomes of actions, which the objects are told.
+ghost use Rattle.std.specs.Prelude.{◌≡◌, ◌≤◌, ◌∷◌, [], ℕ, List, length, IsTrue, IsFalse, IsSome, IfOk, OnOk};
+ghost use Rattle.std.specs.Option.{IfSome, option_copied as name_of};
+ghost use Rattle.action_names.specs.Names.{Name, is_ancestor, parent_of};
+ghost use Rattle.run_model.specs.LocalReadings.{LocalEvent, told_committed_here};
+ghost use Rattle.run_model.specs.Openings.{Opening};
+ghost use Rattle.run_model.specs.Telling.{holder_by};
+ghost use Rattle.atomic_object.specs.Staying.{OutcomesRise};
+ghost use Rattle.held_objects.specs.Held.{HasRoomBelow};
+ghost use Rattle.tellings.specs.Hearing.{AreTold};
+ghost use Rattle.guardian_objects.specs.Objects.{AreObjects, AreSome, Keeps, object_at};
+ghost use Rattle.guardian_objects.specs.Outcomes.{ArePlanned, Fits, HasRoomFor, IsHearing, OnlyTells, outcomes_of};
+ghost use Rattle.guardian_objects.specs.Turns.{Aborts, AreChanged, Commits, HasRoomAt, HasRoomOf, Hears, IsHeard, IsReady, IsRoomier, KeepsReady, MayCommitAt};
+
+use crate::objects::Objects;
+use action_names::Name;
+use std::alloc::AllocError;
+use tellings::Tellings;
+
+/// One outcome: which objects it concerns, and for a commit the next holder.
+#[derive(Drop)]
+pub(crate) struct Telling {
+    pub(crate) action: Name,
+    pub(crate) committed: bool,
+    /// To whom what the action holds is handed on; nobody where that is the base, or the action aborted.
+    pub(crate) to: Option<Name>,
+    /// The objects at which the action or a descendant holds something, rising, each with a copy of the next holder's name.
+    pub(crate) at: Vec<(u32, Option<Name>)>,
+}
+
+/// Outcomes that are to be told, in copies, for which there is room.
+#[derive(Drop)]
+pub struct Planned {
+    pub(crate) tellings: Vec<Telling>,
+}
+
+impl Objects {
+    /// Copies outcomes, which rise by name, finds the next holders, and makes room for what they are handed. Whether or not there is memory for it,
+    /// the objects are those of the same history.
+    pub fn plan(
+        &mut self,
+        outcomes: &[(Name, bool)],
+        told: &Tellings,
+    ) -> Result<Planned, AllocError>
+        requires shown { AreSome self.old }
+        requires rising { OutcomesRise outcomes.now }
+        ensures same { Keeps self.old self.new }
+        ensures guardian { self.new.guardian ≡ self.old.guardian }
+        ensures count { length self.new.objects ≡ length self.old.objects }
+        ensures fits { IfOk result (λ planned. Fits self.new planned.tellings.items) }
+        ensures outcomes { IfOk result (λ planned. outcomes_of planned.tellings.items ≡ outcomes.now) }
+        ensures planned { IfOk result (λ planned. (g : ℕ) (here : List LocalEvent) → AreTold g here told.now → ArePlanned here planned.tellings.items) }
+    {
+        let mut tellings = Vec::with_capacity(self.alloc, outcomes.len())?;
+        for (action, committed) in outcomes {
+            tellings.push(self.plan_one(action, *committed, told)?)?;
+        }
+        Ok(Planned { tellings })
+    }
+
+    /// Tells the objects the outcomes that an event brings, the last of them first, so that descendants come before their ancestors. It looks at the
+    /// objects alone that the outcomes concern. This cannot fail.
+    pub fn tell(&mut self, planned: Planned)
+        requires fits { Fits self.old planned.tellings.items }
+        requires heard { IsHearing self.old planned.tellings.items }
+        ensures told { (opening : Opening) (here : List LocalEvent) (c : LocalEvent) → AreObjects opening here self.old
+            → ArePlanned here planned.tellings.items → outcomes_of planned.tellings.items ≡ c.carried.outcomes → OnlyTells c here
+            → AreObjects opening (c ∷ here) self.new }
+        ensures guardian { self.new.guardian ≡ self.old.guardian }
+        ensures count { length self.new.objects ≡ length self.old.objects }
+    {
+        let mut tellings = planned.tellings;
+        while let Some(telling) = tellings.pop() {
+            self.tell_one(telling);
+        }
+    }
+}
+
+// Making room.
+impl Objects {
+    // Copies one outcome, and makes room for what the next holder is handed.
+    fn plan_one(
+        &mut self,
+        action: &Name,
+        committed: bool,
+        told: &Tellings,
+    ) -> Result<Telling, AllocError>
+        requires shown { AreSome self.old }
+        ensures roomier { IsRoomier self.old self.new }
+        ensures room { IfOk result (λ telling. HasRoomFor self.new telling) }
+        ensures action { IfOk result (λ telling. telling.action ≡ action.now) }
+        ensures committed { IfOk result (λ telling. telling.committed ≡ committed) }
+        ensures next { IfOk result (λ telling. (g : ℕ) (here : List LocalEvent) → AreTold g here told.now → IsTrue committed
+            → telling.to ≡ holder_by (λ b. told_committed_here b here) (parent_of action.now)) }
+    {
+        let to = next_holder(action, committed, told)?;
+        let at = self.make_room(action, to.as_ref())?;
+        let copy = action.copy()?;
+        Ok(Telling {
+            action: copy,
+            committed,
+            to,
+            at,
+        })
+    }
+
+    // Makes room for what the next holder is handed of what the action and its descendants hold, and gives the objects at which that is.
+    fn make_room(
+        &mut self,
+        action: &Name,
+        to: Option<&Name>,
+    ) -> Result<Vec<(u32, Option<Name>)>, AllocError>
+        requires shown { AreSome self.old }
+        ensures roomier { IsRoomier self.old self.new }
+        ensures room { IfOk result (λ at. HasRoomAt self.new action.now (name_of to.entry) at.items) }
+    {
+        let numbers = self.held.objects_below(action)?;
+        self.make_room_below(to)?;
+        let mut at = Vec::with_capacity(self.alloc, numbers.len())?;
+        for &number in &numbers {
+            at.push((number, self.make_room_at(number, to)?))?;
+        }
+        Ok(at)
+    }
+
+    // Makes room in the index for all that the next holder and its descendants have.
+    fn make_room_below(&mut self, to: Option<&Name>) -> Result<(), AllocError>
+        ensures roomier { IsRoomier self.old self.new }
+        ensures objects { self.new.objects ≡ self.old.objects }
+        ensures room { OnOk result (IfSome (name_of to.entry) (λ h. HasRoomBelow self.new.held h)) }
+    {
+        match to {
+            Some(next) => self.held.make_room_below(next),
+            None => Ok(()),
+        }
+    }
+
+    // Makes room for the next holder at the object of this number, and copies its name.
+    fn make_room_at(&mut self, number: u32, to: Option<&Name>) -> Result<Option<Name>, AllocError>
+        requires { (1 ≤ number) × (number ≤ length self.old.objects) }
+        ensures roomier { IsRoomier self.old self.new }
+        ensures copied { IfOk result (λ next. next ≡ name_of to.entry) }
+        ensures room { OnOk result (HasRoomOf self.new (name_of to.entry) number) }
+    {
+        let Some(next) = to else {
+            return Ok(None);
+        };
+        self.objects[number as usize - 1].make_room(next)?;
+        Ok(Some(next.copy()?))
+    }
+}
+
+// To whom an action that committed hands on what it holds.
+fn next_holder(action: &Name, committed: bool, told: &Tellings) -> Result<Option<Name>, AllocError>
+    ensures { IfOk result (λ to. (g : ℕ) (here : List LocalEvent) → AreTold g here told.now → IsTrue committed
+        → to ≡ holder_by (λ b. told_committed_here b here) (parent_of action.now)) }
+{
+    if !committed {
+        return Ok(None);
+    }
+    told.next_holder(action)
+}
+
+// Telling one outcome.
+impl Objects {
+    fn tell_one(&mut self, telling: Telling)
+        requires ready { IsReady self.old telling }
+        requires heard { IsHeard self.old telling }
+        ensures told { Hears telling self.old self.new }
+        ensures ready { KeepsReady telling self.old self.new }
+        ensures guardian { self.new.guardian ≡ self.old.guardian }
+        ensures count { length self.new.objects ≡ length self.old.objects }
+    {
+        if telling.committed {
+            self.hand_on(telling);
+        } else {
+            self.drop_below(telling);
+        }
+    }
+
+    // Hands on what the action holds.
+    fn hand_on(&mut self, telling: Telling)
+        requires committed { IsTrue telling.committed }
+        requires ready { IsReady self.old telling }
+        requires heard { IsHeard self.old telling }
+        ensures told { Hears telling self.old self.new }
+        ensures ready { KeepsReady telling self.old self.new }
+        ensures guardian { self.new.guardian ≡ self.old.guardian }
+        ensures count { length self.new.objects ≡ length self.old.objects }
+    {
+        let Telling {
+            action,
+            to,
+            mut at,
+            ..
+        } = telling;
+        // It has numbers, as its depth says.
+        let _depth = action.depth();
+        while let Some((number, next)) = at.pop() {
+            self.hand_on_at(number, &action, next);
+        }
+        self.held.hand_on(&action, to.as_ref());
+    }
+
+    // Hands on what the action holds at the object of this number.
+    fn hand_on_at(&mut self, number: u32, action: &Name, to: Option<Name>)
+        requires named { IsTrue (is_ancestor action.now action.now) }
+        requires there { MayCommitAt self.old.objects action.now to number }
+        ensures objects { AreChanged (Commits action.now to) (number ∷ []) self.old.objects self.new.objects }
+        ensures guardian { self.new.guardian ≡ self.old.guardian }
+        ensures held { self.new.held ≡ self.old.held }
+    {
+        self.objects[number as usize - 1].told_commit(action, to);
+    }
+
+    // Drops what the action and its descendants hold.
+    fn drop_below(&mut self, telling: Telling)
+        requires aborted { IsFalse telling.committed }
+        requires ready { IsReady self.old telling }
+        requires heard { IsHeard self.old telling }
+        ensures told { Hears telling self.old self.new }
+        ensures ready { KeepsReady telling self.old self.new }
+        ensures guardian { self.new.guardian ≡ self.old.guardian }
+        ensures count { length self.new.objects ≡ length self.old.objects }
+    {
+        let Telling { action, mut at, .. } = telling;
+        // It has numbers, as its depth says.
+        let _depth = action.depth();
+        while let Some((number, _)) = at.pop() {
+            self.drop_below_at(number, &action);
+        }
+        self.held.drop_below(&action);
+    }
+
+    // Drops what the action and its descendants hold at the object of this number.
+    fn drop_below_at(&mut self, number: u32, action: &Name)
+        requires named { IsTrue (is_ancestor action.now action.now) }
+        requires there { IsSome (object_at self.old.objects number) }
+        ensures objects { AreChanged (Aborts action.now) (number ∷ []) self.old.objects self.new.objects }
+        ensures guardian { self.new.guardian ≡ self.old.guardian }
+        ensures held { self.new.held ≡ self.old.held }
+    {
+        self.objects[number as usize - 1].told_abort(action);
+    }
+}

@@ -1,0 +1,5 @@
+pub mod Numbers
+pub mod Rows
+pub mod Counts
+pub mod Descendants
+pub mod Changes

@@ -1,0 +1,23 @@
+ghost use Rattle.std.specs.Prelude.{◌≡◌, IfOk, IsTrue};
+ghost use Rattle.run_model.specs.LocalReadings.{told_committed_here};
+ghost use Rattle.local_agreement.specs.Laws.{Agrees};
+ghost use Rattle.layer_contracts.specs.Guardians.{stamped};
+ghost use Rattle.layer_contracts.specs.Messages.{carried_of};
+
+use crate::guardian::Guardian;
+use crate::message::Message;
+use run_model::{Event, Name};
+use std::alloc::AllocError;
+
+/// A guardian that can tell by itself whether an event agrees with its history. Under a lock of its own it has nothing else to go by; in a world
+/// the laws of runs say it.
+pub trait Judging: Guardian {
+    /// Whether it was ever told that the action committed.
+    fn was_told_committed(&self, action: &Name) -> bool
+        ensures { result ≡ told_committed_here action.now (Self.state self.now).past };
+
+    /// Whether the event with this message agrees with the guardian's history. In doubt the answer is no. Fails only for want of memory.
+    fn agrees(&self, event: &Event, message: &Message) -> Result<bool, AllocError>
+        ensures { IfOk result (λ yes. IsTrue yes → Agrees (Self.state self.now).opening (Self.state self.now).number
+            (stamped 0 (record { event = event.now; carried = carried_of message.now })) (Self.state self.now).past) };
+}

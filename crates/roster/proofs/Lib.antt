@@ -1,0 +1,9 @@
+pub mod Names
+pub mod Changed
+pub mod Written
+pub mod Added
+pub mod Counted
+pub mod Events
+pub mod Entering
+pub mod Readings
+pub mod Planning

@@ -1,0 +1,11 @@
+use Rattle.roster.proofs.Readings.{gone_other, gone_own}
+use Rattle.roster.specs.Tables.{table}
+use Rattle.roster.proofs.roster.Roster.is_gone.Goals as goal
+
+pub returns-then-home-self : goal.returns-then-home-self
+returns-then-home-self c = λ g here is.
+    gone_own g here (table c.args.self.now) is c.args.action.now c.home-home.result c.life-life.result c.home-home.ensures c.life-life.ensures c.if-home-self.true
+
+pub returns-else-home-self : goal.returns-else-home-self
+returns-else-home-self c = λ g here is.
+    gone_other g here (table c.args.self.now) is c.args.action.now c.home-home.result c.home-home.ensures c.if-home-self.false

@@ -1,0 +1,75 @@
+-- What a plan has for an event, and when there is room for it.
+use Rattle.std.specs.Prelude.{◌≡◌, ◌+◌, ◌<◌, ◌≤◌, ◌^◌, ℕ, List, Vec, false, map, Option, Some, None, MatchOption, IsTrue, slice_get, vec_capacity, vec_len}
+use Rattle.std.specs.List.{AllByRecursion}
+use Rattle.std.specs.FinMap as tree
+use Rattle.std.specs.declared.alloc.Global.{Global}
+use Rattle.action_names.specs.Deps.{Deps, lesser}
+use Rattle.action_names.specs.Names.{IsName, Name, has_name}
+use Rattle.holders.specs.Held.{names_of}
+use Rattle.run_model.specs.declared.history.Event.{Event}
+use Rattle.run_model.specs.declared.step.Step.{Step}
+use Rattle.run_model.specs.declared.step.Step.TheVariants.{Commit}
+use Rattle.run_model.specs.Actions.{home_in, maker_in, names_begun}
+use Rattle.run_model.specs.LocalReadings.{least_of}
+use Rattle.roster.specs.Steps.{above, closed_in, ended_in, turn_in}
+use Rattle.roster.specs.Tables.{Table, home_at, life_in, placed, row_at, said}
+use Rattle.roster.specs.declared.entry.Entry.{Entry}
+use Rattle.roster.specs.declared.entry.Row.{Row}
+use Rattle.roster.specs.declared.roster.Roster.{Roster}
+
+-- dependencies as messages carry them
+abbrev pub Came : Type 0
+Came = List (Name × List (ℕ × ℕ))
+
+abbrev pub came_in : List (Name × Vec (ℕ × ℕ) Global) → Came
+came_in dependencies = map (λ (d : Name × Vec (ℕ × ℕ) Global). (d.0, d.1.items)) dependencies
+
+-- there is room for the rows of what begins
+pub record FitsBegun (roster : Roster) (begun : List (Name × Row)) (count : ℕ) : Type 0 where
+  pub rows : vec_len roster.rows + count ≤ vec_capacity roster.rows
+  pub places : AllByRecursion (λ (x : Name × Row). IsTrue (has_name roster.places.room x.0)) begun
+
+-- the row at the place can count so many things more that its action made
+abbrev pub CanCount : List Row → Option ℕ → ℕ → Type 0
+CanCount rows None n = Unit {0}
+CanCount rows (Some at) n = MatchOption (slice_get rows at) (Unit {0}) (λ row. row.unended + n < 2 ^ 64)
+
+-- there is room for the entry
+pub record FitsEntry (roster : Roster) (entry : Entry) : Type 0 where
+  pub begun : FitsBegun roster entry.begun.items (vec_len entry.begun)
+  pub count : CanCount roster.rows.items entry.maker (vec_len entry.begun)
+
+-- a commit leaves the row at the place, where there is one, with the lesser of its dependencies and of those that came
+abbrev pub IsLeft : Table → Option ℕ → (ℕ → Option ℕ) → Option (ℕ × Deps) → Type 0
+IsLeft t at came None = at ≡ None
+IsLeft t at came (Some m) =
+    (at ≡ Some m.0) × ((h : ℕ) → tree.get m.1 h ≡ lesser (said (λ row. tree.get row.depends h) None (row_at t at)) (came h))
+
+abbrev pub IsMerged : Table → Step → Came → Option (ℕ × Deps) → Type 0
+IsMerged t (Commit a) came merged = IsLeft t (placed t (above a)) (λ h. least_of came a h) merged
+IsMerged t _ came merged = merged ≡ None
+
+-- the row is as this step begins the action
+pub record IsBorn (t : Table) (step : Step) (came : Came) (b : Name) (row : Row) : Type 0 where
+  pub home : row.home ≡ home_in step (λ a. home_at t a)
+  pub life : row.life ≡ life_in t row.home
+  pub maker : row.maker ≡ placed t (maker_in step)
+  pub depends : (h : ℕ) → tree.get row.depends h ≡ least_of came b h
+  pub ended : row.ended ≡ false
+  pub closed : row.closed ≡ false
+  pub unended : row.unended ≡ 0
+
+-- these are the rows of what the event begins
+pub record AreBorn (t : Table) (e : Event) (came : Came) (begun : List (Name × Row)) : Type 0 where
+  pub names : names_of begun ≡ names_begun e.answer
+  pub named : AllByRecursion (λ (x : Name × Row). IsName x.0) begun
+  pub rows : AllByRecursion (λ (x : Name × Row). IsBorn t e.step came x.0 x.1) begun
+
+-- the entry is that of an event which brings these dependencies
+pub record IsEntry (t : Table) (e : Event) (came : Came) (entry : Entry) : Type 0 where
+  pub ended : entry.ended ≡ placed t (ended_in e.step)
+  pub closed : entry.closed ≡ placed t (closed_in e.step)
+  pub merged : IsMerged t e.step came entry.merged
+  pub maker : entry.maker ≡ placed t (maker_in e.step)
+  pub begun : AreBorn t e came entry.begun.items
+  pub turn : entry.turn ≡ turn_in e.step

@@ -1,0 +1,140 @@
+//! What an event makes of actions at a guardian.
+ghost use Rattle.std.specs.Prelude.{◌≡◌, ◌==◌, ℕ, IfOk, OnOk, if◌then◌else◌, None, Some};
+ghost use Rattle.std.specs.FinMap as map;
+ghost use Rattle.std.specs.Option.{option_map};
+ghost use Rattle.run_model.specs.Actions.{maker_in, names_begun};
+ghost use Rattle.run_model.specs.LocalReadings.{beside, least_of};
+ghost use Rattle.run_model.specs.Telling.{or_else};
+
+use run_model::{Answer, Deps, Name, Step};
+use std::alloc::{AllocError, Global};
+
+/// What is kept of an action that began here. Others are named by the places of their rows.
+#[derive(Drop)]
+pub struct Row {
+    pub(crate) home: u32,
+    /// How often its home had crashed when it began, as far as the guardian knows.
+    pub(crate) life: u64,
+    /// Who made it, if that began here too.
+    pub(crate) maker: Option<usize>,
+    pub(crate) depends: Deps,
+    pub(crate) ended: bool,
+    pub(crate) closed: bool,
+    /// How many of the things that it made have not ended.
+    pub(crate) unended: u64,
+}
+
+/// What an event makes of the guardian that keeps it.
+#[derive(Clone, Copy, Debug, PartialEq, Eq)]
+pub enum Turn {
+    Stays,
+    Crashes,
+    Recovers,
+}
+
+/// What an event makes of a roster, in copies.
+#[derive(Drop)]
+pub struct Entry {
+    /// The place of the action that it ends.
+    pub(crate) ended: Option<usize>,
+    /// The place of the action that it closes.
+    pub(crate) closed: Option<usize>,
+    /// The place of the parent of an action that commits, and on what the parent depends then.
+    pub(crate) merged: Option<(usize, Deps)>,
+    /// The place of who makes what begins.
+    pub(crate) maker: Option<usize>,
+    pub(crate) begun: Vec<(Name, Row)>,
+    pub(crate) turn: Turn,
+}
+
+ghost use Rattle.roster.specs.Steps.{closed_in, ended_in, turn_in};
+ghost use Rattle.roster.specs.Entries.{came_in};
+
+/// The action that the step ends.
+pub(crate) fn ended_in(step: &Step) -> Option<&Name>
+    ensures { option_map (λ name. name.now) result ≡ ended_in step.now }
+{
+    match step {
+        Step::Commit(action) | Step::Decide(action) | Step::Abort(action) => Some(action),
+        _ => None,
+    }
+}
+
+/// The action whose closing step it is.
+pub(crate) fn closed_in(step: &Step) -> Option<&Name>
+    ensures { option_map (λ name. name.now) result ≡ closed_in step.now }
+{
+    match step {
+        Step::Commit(action) | Step::Close(action) => Some(action),
+        _ => None,
+    }
+}
+
+/// Who makes what the step begins.
+pub(crate) fn maker_in(step: &Step) -> Option<&Name>
+    ensures { option_map (λ name. name.now) result ≡ maker_in step.now }
+{
+    match step {
+        Step::NestedTop(action) | Step::Call(action, _) | Step::Arms(action, _) => Some(action),
+        _ => None,
+    }
+}
+
+/// What becomes of the guardian that keeps the step. Of crashes and recoveries it keeps its own.
+pub(crate) fn turn_in(step: &Step) -> Turn
+    ensures { result ≡ turn_in step.now }
+{
+    match step {
+        Step::Crash(_) => Turn::Crashes,
+        Step::Recover(_) => Turn::Recovers,
+        _ => Turn::Stays,
+    }
+}
+
+/// The names that the answer begins.
+pub(crate) fn names_in(answer: &Answer) -> &[Name]
+    ensures { result.now ≡ names_begun answer.now }
+{
+    match answer {
+        Answer::Began(names) => names.as_slice(),
+        _ => &[],
+    }
+}
+
+/// What came of the action's dependencies: the first that came under its name.
+pub(crate) fn depends_in(
+    alloc: Global,
+    dependencies: &[(Name, Vec<(u32, u64)>)],
+    action: &Name,
+) -> Result<Deps, AllocError>
+    ensures { IfOk result (λ depends. (h : ℕ) → map.get depends h ≡ least_of (came_in dependencies.now) action.now h) }
+{
+    for (name, entries) in dependencies {
+        if name == action {
+            return depends_of(alloc, entries);
+        }
+    }
+    Ok(Deps::new(alloc))
+}
+
+// The dependencies with these entries, of which the first of a guardian counts.
+fn depends_of(alloc: Global, entries: &[(u32, u64)]) -> Result<Deps, AllocError>
+    ensures { IfOk result (λ depends. (h : ℕ) → map.get depends h ≡ beside entries.now h) }
+{
+    let mut depends = Deps::new(alloc);
+    for (guardian, incarnation) in entries {
+        add_first(&mut depends, *guardian, *incarnation)?;
+    }
+    Ok(depends)
+}
+
+// Adds a dependency on a guardian that has none yet.
+fn add_first(depends: &mut Deps, guardian: u32, incarnation: u64) -> Result<(), AllocError>
+    ensures { OnOk result ((h : ℕ) → map.get depends.new h ≡ or_else (map.get depends.old h) (if guardian == h then Some incarnation else None)) }
+{
+    if depends.get(guardian).is_some() {
+        return Ok(());
+    }
+    depends.lower(guardian, incarnation)?;
+    Ok(())
+}

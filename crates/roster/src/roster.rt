@@ -1,0 +1,466 @@
+//! Actions by name, and how their guardian stands.
+ghost use Rattle.std.specs.Prelude.{◌≡◌, ◌+◌, ◌<◌, ◌≤◌, ◌^◌, [], ◌∷◌, ℕ, List, IfOk, OnOk, IsTrue, None, Some, vec_capacity, vec_len};
+ghost use Rattle.std.specs.FinMap as map;
+ghost use Rattle.std.specs.List.{AllByRecursion};
+ghost use Rattle.std.specs.Option.{option_and_then, option_map};
+ghost use Rattle.action_names.specs.Deps.{lesser};
+ghost use Rattle.action_names.specs.Names.{has_name};
+ghost use Rattle.holders.specs.Held.{names_of};
+ghost use Rattle.run_model.specs.Actions.{crashes, home_in, is_begun, is_busy, is_done, is_down, is_gone, maker_in, names_begun};
+ghost use Rattle.run_model.specs.LocalReadings.{LocalEvent, dependency_here, events_here, is_at_home, least_of};
+ghost use Rattle.local_agreement.specs.Actions.{AgreesOnActions};
+
+use crate::entry::{
+    Entry, Row, Turn, closed_in, depends_in, ended_in, maker_in, names_in, turn_in,
+};
+use holders::Holders;
+use run_model::{Deps, Event, Name, Step};
+use std::alloc::{AllocError, Global};
+
+/// Which actions are at home at one guardian, and what the guardian's own history says of them and of itself.
+#[derive(Drop)]
+pub struct Roster {
+    alloc: Global,
+    guardian: u32,
+    crashes: u64,
+    down: bool,
+    rows: Vec<Row>,
+    places: Holders<usize>,
+}
+
+impl Roster {
+    ghost use Rattle.roster.specs.Entries.{FitsEntry, IsEntry, came_in};
+    ghost use Rattle.roster.specs.Rosters.{IsRoster, crashes_of};
+    ghost use Rattle.roster.specs.Tables.{table};
+
+    /// The roster of the guardian before anything happened. This takes no memory.
+    pub fn new(alloc: Global, guardian: u32) -> Roster
+        ensures { IsRoster guardian [] (table result) }
+    {
+        Roster {
+            alloc,
+            guardian,
+            crashes: 0,
+            down: false,
+            rows: Vec::new(alloc),
+            places: Holders::new(alloc),
+        }
+    }
+
+    /// Whether the action is at home here. This takes no memory, as no reading below does.
+    pub fn is_there(&self, action: &Name) -> bool
+        ensures { (g : ℕ) (here : List LocalEvent) → IsRoster g here (table self.now) → result ≡ is_at_home g action.now here }
+    {
+        match self.row(action) {
+            Some(row) => row.home == self.guardian,
+            None => false,
+        }
+    }
+
+    /// Whether the action has ended or is closed.
+    pub fn is_done(&self, action: &Name) -> bool
+        ensures { (g : ℕ) (here : List LocalEvent) → IsRoster g here (table self.now) → result ≡ is_done action.now (events_here here) }
+    {
+        match self.row(action) {
+            Some(row) => row.ended || row.closed,
+            None => false,
+        }
+    }
+
+    /// Whether something that the action made has not ended, where the action began here.
+    pub fn is_busy(&self, action: &Name) -> bool
+        ensures { (g : ℕ) (here : List LocalEvent) → IsRoster g here (table self.now) → IsTrue (is_begun action.now (events_here here))
+            → result ≡ is_busy action.now (events_here here) }
+    {
+        match self.row(action) {
+            Some(row) => row.unended > 0,
+            None => false,
+        }
+    }
+
+    /// Whether the guardian crashed since the action began here, where the action is at home. Of others' crashes a guardian keeps none.
+    pub fn is_gone(&self, action: &Name) -> bool
+        ensures { (g : ℕ) (here : List LocalEvent) → IsRoster g here (table self.now) → result ≡ is_gone action.now (events_here here) }
+    {
+        let home = self.home(action);
+        let life = self.life(action);
+        home == self.guardian && life < self.crashes
+    }
+
+    /// Whether the guardian is down.
+    pub fn is_down(&self) -> bool
+        ensures { (g : ℕ) (here : List LocalEvent) → IsRoster g here (table self.now) → result ≡ is_down g (events_here here) }
+    {
+        self.down
+    }
+
+    /// How often the guardian has crashed.
+    pub fn crashes(&self) -> u64
+        ensures { (g : ℕ) (here : List LocalEvent) → IsRoster g here (table self.now) → result ≡ crashes g (events_here here) }
+    {
+        self.crashes
+    }
+
+    /// On which guardians an action depends that began here; nothing is kept of another.
+    pub fn dependencies(&self, action: &Name) -> Option<&Deps>
+        ensures { (g : ℕ) (here : List LocalEvent) → IsRoster g here (table self.now)
+            → (h : ℕ) → option_and_then (λ depends. map.get depends.now h) result ≡ dependency_here action.now h here }
+    {
+        Some(&self.row(action)?.depends)
+    }
+
+    /// Copies what an event makes of the roster, with the dependencies that its messages brought, and makes room for it. Whether or not there is
+    /// memory for it, the roster is that of the same history.
+    pub fn plan(
+        &mut self,
+        event: &Event,
+        dependencies: &[(Name, Vec<(u32, u64)>)],
+    ) -> Result<Entry, AllocError>
+        ensures same { (g : ℕ) (here : List LocalEvent) → IsRoster g here (table self.old) → IsRoster g here (table self.new) }
+        ensures crashes { crashes_of self.new ≡ crashes_of self.old }
+        ensures fits { IfOk result (FitsEntry self.new) }
+        ensures planned { IfOk result (IsEntry (table self.new) event.now (came_in dependencies.now)) }
+    {
+        let step = &event.step;
+        let ended = self.placed(ended_in(step));
+        let closed = self.placed(closed_in(step));
+        let merged = self.plan_merge(step, dependencies)?;
+        let maker = self.placed(maker_in(step));
+        let begun = self.plan_begun(event, dependencies)?;
+        self.plan_count(maker, begun.len())?;
+        Ok(Entry {
+            ended,
+            closed,
+            merged,
+            maker,
+            begun,
+            turn: turn_in(step),
+        })
+    }
+
+    /// Enters an event for which there is room. This cannot fail.
+    pub fn enter(&mut self, entry: Entry)
+        requires fits { FitsEntry self.old entry }
+        requires count { crashes_of self.old + 1 < 2 ^ 64 }
+        ensures { (g : ℕ) (here : List LocalEvent) (c : LocalEvent) → IsRoster g here (table self.old) → AgreesOnActions g c here
+            → IsEntry (table self.old) c.event c.carried.dependencies entry → IsRoster g (c ∷ here) (table self.new) }
+    {
+        let Entry {
+            ended,
+            closed,
+            merged,
+            maker,
+            begun,
+            turn,
+        } = entry;
+        self.count_more(maker, begun.len());
+        self.add_all(begun);
+        self.end(ended);
+        self.close(closed);
+        self.merge(merged);
+        self.turn(turn);
+    }
+}
+
+impl Roster {
+    ghost use Rattle.roster.specs.Entries.{AreBorn, CanCount, FitsBegun, IsBorn, IsLeft, IsMerged, came_in};
+    ghost use Rattle.roster.specs.Steps.{above};
+    ghost use Rattle.roster.specs.Rosters.{crashes_of};
+    ghost use Rattle.roster.specs.Tables.{added, all_added, changed_at, ended, home_at, life_at, life_in, maker_left, merged, more_by, one_less, place_of, placed, row_at, row_of, said, table, turned, with_closed, with_ended};
+
+    // The place of the action's row.
+    fn place(&self, action: &Name) -> Option<usize>
+        ensures { result ≡ place_of (table self.now) action.now }
+    {
+        self.places.get(action).copied()
+    }
+
+    fn placed(&self, action: Option<&Name>) -> Option<usize>
+        ensures { result ≡ placed (table self.now) (option_map (λ name. name.now) action.entry) }
+    {
+        self.place(action?)
+    }
+
+    fn row_at(&self, at: Option<usize>) -> Option<&Row>
+        ensures { option_map (λ row. row.now) result ≡ row_at (table self.now) at }
+    {
+        self.rows.get(at?)
+    }
+
+    fn row(&self, action: &Name) -> Option<&Row>
+        ensures { option_map (λ row. row.now) result ≡ row_of (table self.now) action.now }
+    {
+        self.row_at(self.place(action))
+    }
+
+    // The home of the action, and 0 where it did not begin here.
+    fn home(&self, action: &Name) -> u32
+        ensures { result ≡ home_at (table self.now) action.now }
+    {
+        match self.row(action) {
+            Some(row) => row.home,
+            None => 0,
+        }
+    }
+
+    // How often its home had crashed when the action began, and 0 where it did not begin here.
+    fn life(&self, action: &Name) -> u64
+        ensures { result ≡ life_at (table self.now) action.now }
+    {
+        match self.row(action) {
+            Some(row) => row.life,
+            None => 0,
+        }
+    }
+
+    // The home of what the step begins.
+    fn home_in(&self, step: &Step) -> u32
+        ensures { result ≡ home_in step.now (λ a. home_at (table self.now) a) }
+    {
+        match step {
+            Step::Top(guardian) | Step::Call(_, guardian) => *guardian,
+            Step::NestedTop(action) | Step::Arms(action, _) => self.home(action),
+            _ => 0,
+        }
+    }
+
+    // How often the guardian has crashed, of whose crashes the own alone are counted.
+    fn life_in(&self, guardian: u32) -> u64
+        ensures { result ≡ life_in (table self.now) guardian }
+    {
+        if guardian == self.guardian {
+            self.crashes
+        } else {
+            0
+        }
+    }
+
+    // The place of the parent of an action that commits, if the parent has a row, and on what it depends then.
+    fn plan_merge(
+        &self,
+        step: &Step,
+        dependencies: &[(Name, Vec<(u32, u64)>)],
+    ) -> Result<Option<(usize, Deps)>, AllocError>
+        ensures { IfOk result (IsMerged (table self.now) step.now (came_in dependencies.now)) }
+    {
+        match step {
+            Step::Commit(action) => self.plan_left(action, dependencies),
+            _ => Ok(None),
+        }
+    }
+
+    fn plan_left(
+        &self,
+        action: &Name,
+        dependencies: &[(Name, Vec<(u32, u64)>)],
+    ) -> Result<Option<(usize, Deps)>, AllocError>
+        ensures { IfOk result (IsLeft (table self.now) (placed (table self.now) (above action.now)) (λ h. least_of (came_in dependencies.now) action.now h)) }
+    {
+        let place = self.parent_place(action)?;
+        let Some(at) = place else {
+            return Ok(None);
+        };
+        let came = depends_in(self.alloc, dependencies, action)?;
+        let depends = self.left_with(at, came)?;
+        Ok(Some((at, depends)))
+    }
+
+    // The place of the action's parent, if it has one that has a row.
+    fn parent_place(&self, action: &Name) -> Result<Option<usize>, AllocError>
+        ensures { IfOk result (λ at. at ≡ placed (table self.now) (above action.now)) }
+    {
+        let parent = action.parent()?;
+        match parent {
+            Some(parent) => Ok(self.place(&parent)),
+            None => Ok(None),
+        }
+    }
+
+    // On what the action at the place depends, once what came is merged into that.
+    fn left_with(&self, at: usize, came: Deps) -> Result<Deps, AllocError>
+        ensures { IfOk result (λ depends. (h : ℕ) → map.get depends h
+            ≡ lesser (said (λ row. map.get row.depends h) None (row_at (table self.now) (Some at))) (map.get came h)) }
+    {
+        let Some(row) = self.row_at(Some(at)) else {
+            return Ok(came);
+        };
+        let mut depends = row.depends.copy()?;
+        depends.merge(&came)?;
+        Ok(depends)
+    }
+
+    // The rows of what the event begins, and room for them.
+    fn plan_begun(
+        &mut self,
+        event: &Event,
+        dependencies: &[(Name, Vec<(u32, u64)>)],
+    ) -> Result<Vec<(Name, Row)>, AllocError>
+        ensures same { table self.new ≡ table self.old }
+        ensures fits { IfOk result (λ begun. FitsBegun self.new begun.items (vec_len begun)) }
+        ensures born { IfOk result (λ begun. AreBorn (table self.old) event.now (came_in dependencies.now) begun.items) }
+    {
+        let names = names_in(&event.answer);
+        self.rows.reserve(names.len())?;
+        let mut begun = Vec::with_capacity(self.alloc, names.len())?;
+        for name in names {
+            self.places.make_room(name)?;
+            let row = self.born(&event.step, name, dependencies)?;
+            begun.push((name.copy()?, row))?;
+        }
+        Ok(begun)
+    }
+
+    // The row of an action that the step begins.
+    fn born(
+        &self,
+        step: &Step,
+        action: &Name,
+        dependencies: &[(Name, Vec<(u32, u64)>)],
+    ) -> Result<Row, AllocError>
+        ensures { IfOk result (IsBorn (table self.now) step.now (came_in dependencies.now) action.now) }
+    {
+        let home = self.home_in(step);
+        let life = self.life_in(home);
+        let maker = self.placed(maker_in(step));
+        let depends = depends_in(self.alloc, dependencies, action)?;
+        Ok(Row {
+            home,
+            life,
+            maker,
+            depends,
+            ended: false,
+            closed: false,
+            unended: 0,
+        })
+    }
+
+    // Sees to it that the action at the place can count so many things more. Fails where they are too many to be counted.
+    fn plan_count(&self, at: Option<usize>, more: usize) -> Result<(), AllocError>
+        ensures { OnOk result (CanCount self.now.rows.items at more) }
+    {
+        let Some(row) = self.row_at(at) else {
+            return Ok(());
+        };
+        row.unended.checked_add(more as u64).ok_or(AllocError)?;
+        Ok(())
+    }
+
+    // So many things more that the action at the place made have not ended.
+    fn count_more(&mut self, at: Option<usize>, more: usize)
+        requires { CanCount self.old.rows.items at more }
+        ensures counted { table self.new ≡ changed_at (more_by more) at (table self.old) }
+        ensures len { vec_len self.new.rows ≡ vec_len self.old.rows }
+        ensures capacity { vec_capacity self.new.rows ≡ vec_capacity self.old.rows }
+        ensures places { self.new.places ≡ self.old.places }
+    {
+        let Some(at) = at else {
+            return;
+        };
+        if let Some(row) = self.rows.get_mut(at) {
+            row.unended += more as u64;
+        }
+    }
+
+    // Puts in the rows of what begins, for which there is room.
+    fn add_all(&mut self, mut begun: Vec<(Name, Row)>)
+        requires { FitsBegun self.old begun.items (vec_len begun) }
+        ensures { table self.new ≡ all_added begun.items (table self.old) }
+    {
+        while let Some((name, row)) = begun.pop() {
+            self.add(&name, row);
+        }
+    }
+
+    // Puts in one row, for which there is room.
+    fn add(&mut self, name: &Name, row: Row)
+        requires room { vec_len self.old.rows < vec_capacity self.old.rows }
+        requires place { IsTrue (has_name self.old.places.room name.now) }
+        ensures added { table self.new ≡ added (name.now, row) (table self.old) }
+        ensures len { vec_len self.new.rows ≡ vec_len self.old.rows + 1 }
+        ensures capacity { vec_capacity self.new.rows ≡ vec_capacity self.old.rows }
+        ensures places { self.new.places.room ≡ self.old.places.room }
+    {
+        let place = self.rows.len();
+        self.places.put(name, place);
+        self.rows.push_reserved(row);
+    }
+
+    // The action at the place ends: where it had not, its maker has one thing less that has not.
+    fn end(&mut self, at: Option<usize>)
+        ensures { table self.new ≡ ended at (table self.old) }
+    {
+        let maker = self.maker_left(at);
+        self.set_ended(at);
+        self.count_less(maker);
+    }
+
+    // The place of the maker of the action at the place, if that has not ended.
+    fn maker_left(&self, at: Option<usize>) -> Option<usize>
+        ensures { result ≡ said maker_left None (row_at (table self.now) at) }
+    {
+        let row = self.row_at(at)?;
+        if row.ended { None } else { row.maker }
+    }
+
+    fn set_ended(&mut self, at: Option<usize>)
+        ensures { table self.new ≡ changed_at with_ended at (table self.old) }
+    {
+        let Some(at) = at else {
+            return;
+        };
+        if let Some(row) = self.rows.get_mut(at) {
+            row.ended = true;
+        }
+    }
+
+    // One thing less that the action at the place made has not ended.
+    fn count_less(&mut self, at: Option<usize>)
+        ensures { table self.new ≡ changed_at one_less at (table self.old) }
+    {
+        let Some(at) = at else {
+            return;
+        };
+        if let Some(row) = self.rows.get_mut(at) {
+            row.unended = row.unended.saturating_sub(1);
+        }
+    }
+
+    // The action at the place is closed.
+    fn close(&mut self, at: Option<usize>)
+        ensures { table self.new ≡ changed_at with_closed at (table self.old) }
+    {
+        let Some(at) = at else {
+            return;
+        };
+        if let Some(row) = self.rows.get_mut(at) {
+            row.closed = true;
+        }
+    }
+
+    // The action at the place is left with these dependencies.
+    fn merge(&mut self, parent: Option<(usize, Deps)>)
+        ensures { table self.new ≡ merged parent (table self.old) }
+    {
+        let Some((at, depends)) = parent else {
+            return;
+        };
+        if let Some(row) = self.rows.get_mut(at) {
+            row.depends = depends;
+        }
+    }
+
+    // What an event makes of the guardian.
+    fn turn(&mut self, turn: Turn)
+        requires { crashes_of self.old + 1 < 2 ^ 64 }
+        ensures { table self.new ≡ turned turn (table self.old) }
+    {
+        match turn {
+            Turn::Stays => {}
+            Turn::Crashes => {
+                self.crashes += 1;
+                self.down = true;
+            }
+            Turn::Recovers => self.down = false,
+        }
+    }
+}

@@ -1,0 +1,38 @@
+use Rattle.std.proofs.Common.{◌≡◌, Vec, Global, IfOk, Err, rules, subst}
+use Rattle.std.proofs.lemmas.Result.{err_from_is_err_and}
+use Rattle.sqlite.specs.Held.{state}
+use Rattle.sqlite.specs.Order.{Row}
+use Rattle.stable_store.specs.Held.{held}
+use Rattle.store_contents.specs.Answered.{answered, queries, rows_of}
+use Rattle.store_contents.specs.Holds.{Holds, tables_of}
+use Rattle.store_contents.proofs.Viewed.{held_by}
+use Rattle.sql_store.specs.Reading.{AreAnswered}
+use Rattle.sql_store.proofs.Queries.{are_queries, views}
+use Rattle.sql_store.proofs.Sequences.{then_reads, failed_reads, ok_leads}
+use Rattle.sql_store.proofs.Outside.{stays_any, stays_err}
+use Rattle.sql_store.proofs.asking.read_content.Goals as goal
+
+pub returns-in_err-answers-clause-looks : goal.returns-in_err-answers-clause-looks
+returns-in_err-answers-clause-looks g c quiet =
+    let p = err_from_is_err_and c.from_residual.result c.from_residual.ensures.1 in
+    failed_reads (state g.A.Store c.args.conn.now) (state g.A.Store c.answers.new.conn) (λ d (all : Vec (Vec Row Global) Global). AreAnswered d queries (rows_of all.items))
+    (λ d kept. Holds 1 (tables_of d.trees) (held kept)) _ p.0 c.from_residual.result p.1 (c.in_err-answers.ensures.looks are_queries quiet)
+
+pub returns-clause-looks : goal.returns-clause-looks
+returns-clause-looks g c quiet =
+    let same : c.deref.result.now ≡ c.in_ok-answers.field-0.items = search rules in
+    let old = state g.A.Store c.args.conn.now in
+    let new = state g.A.Store c.answers.new.conn in
+    then_reads old new (λ d (all : Vec (Vec Row Global) Global). AreAnswered d queries (rows_of all.items)) (λ d kept. Holds 1 (tables_of d.trees) (held kept))
+    c.in_ok-answers.field-0 c.content_of.result quiet (c.in_ok-answers.ensures.looks are_queries quiet)
+    (λ q shown. ok_leads c.content_of.result (λ k. Holds 0 (answered (rows_of c.in_ok-answers.field-0.items)) (held k)) (λ k. Holds 1 (tables_of old.now.trees) (held k))
+    (λ k h. held_by (answered (rows_of c.in_ok-answers.field-0.items)) old.now.trees (held k) (views old.now (rows_of c.in_ok-answers.field-0.items) shown) h)
+    (subst (λ xs. IfOk c.content_of.result (λ k. Holds 0 (answered (rows_of xs)) (held k))) same c.content_of.ensures))
+
+pub returns-in_err-answers-clause-outside : goal.returns-in_err-answers-clause-outside
+returns-in_err-answers-clause-outside g c =
+    let p = err_from_is_err_and c.from_residual.result c.from_residual.ensures.1 in
+    stays_err (state g.A.Store c.args.conn.now) (state g.A.Store c.answers.new.conn) (Err c.in_err-answers.field-0.0) p.0 c.from_residual.result p.1 c.in_err-answers.ensures.outside
+
+pub returns-clause-outside : goal.returns-clause-outside
+returns-clause-outside g c = stays_any (state g.A.Store c.args.conn.now) (state g.A.Store c.answers.new.conn) c.in_ok-answers.field-0 c.content_of.result c.in_ok-answers.ensures.outside

@@ -1,0 +1,38 @@
+use Rattle.std.proofs.Common.{Err, sym, ◌∙◌, true≢false}
+use Rattle.std.proofs.lemmas.Result.{err_from_is_err_and}
+use Rattle.sqlite.specs.Held.{state}
+use Rattle.stable_store.specs.declared.kept.Kept.{Kept}
+use Rattle.stable_store.specs.Held.{held}
+use Rattle.store_contents.specs.Holds.{Holds, tables_of}
+use Rattle.store_tables.specs.Rows.{HaveRowids}
+use Rattle.sql_store.specs.Reading.{IsLaidOut}
+use Rattle.sql_store.proofs.Sequences.{weaker_reads, and_checks, failed_reads}
+use Rattle.sql_store.proofs.Outside.{stays_then, stays_err}
+use Rattle.sql_store.proofs.asking.read_store.Goals as goal
+
+pub returns-in_err-check_rowids-clause-looks : goal.returns-in_err-check_rowids-clause-looks
+returns-in_err-check_rowids-clause-looks g c known quiet =
+    let p = err_from_is_err_and c.from_residual.result c.from_residual.ensures.1 in
+    failed_reads (state g.A.Store c.args.conn.now) (state g.A.Store c.check_rowids.new.conn) (λ d (_ : Unit {0}). HaveRowids d.trees)
+    (λ d kept. IsLaidOut d.trees (held kept)) _ p.0 c.from_residual.result p.1 (c.in_err-check_rowids.ensures.looks quiet)
+
+pub returns-clause-looks : goal.returns-clause-looks
+returns-clause-looks g c known quiet =
+    let old = state g.A.Store c.args.conn.now in
+    let mid = state g.A.Store c.check_rowids.new.conn in
+    let new = state g.A.Store c.read_content-2.new.conn in
+    weaker_reads old new (λ d (k : Kept). HaveRowids d.trees × Holds 1 (tables_of d.trees) (held k)) (λ d k. IsLaidOut d.trees (held k)) c.read_content-2.result (λ d k h. h)
+    (and_checks old mid new (λ d (_ : Unit {0}). HaveRowids d.trees) (λ d k. Holds 1 (tables_of d.trees) (held k)) c.in_ok-check_rowids.field-0 c.read_content-2.result quiet (c.in_ok-check_rowids.ensures.looks quiet) c.read_content-2.ensures.looks)
+
+pub returns-then-not-is_known-clause-looks : goal.returns-then-not-is_known-clause-looks
+returns-then-not-is_known-clause-looks g c known quiet = absurd (true≢false (sym known ∙ c.if-not-is_known.true))
+
+pub returns-in_err-check_rowids-clause-outside : goal.returns-in_err-check_rowids-clause-outside
+returns-in_err-check_rowids-clause-outside g c =
+    let p = err_from_is_err_and c.from_residual.result c.from_residual.ensures.1 in
+    stays_err (state g.A.Store c.args.conn.now) (state g.A.Store c.check_rowids.new.conn) (Err c.in_err-check_rowids.field-0.0) p.0 c.from_residual.result p.1 c.in_err-check_rowids.ensures.outside
+
+pub returns-clause-outside : goal.returns-clause-outside
+returns-clause-outside g c =
+    stays_then (state g.A.Store c.args.conn.now) (state g.A.Store c.check_rowids.new.conn) (state g.A.Store c.read_content-2.new.conn) c.in_ok-check_rowids.field-0 c.read_content-2.result
+    c.in_ok-check_rowids.ensures.outside c.read_content-2.ensures.outside

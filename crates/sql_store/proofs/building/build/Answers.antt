@@ -1,0 +1,21 @@
+use Rattle.std.proofs.Common.{Ok}
+use Rattle.sqlite.specs.Held.{state}
+use Rattle.sql_store.proofs.Looking.{clean_before}
+use Rattle.sql_store.proofs.ReadBack.{built_runs, built_seen}
+use Rattle.sql_store.proofs.building.build.Goals as goal
+
+pub returns-clause-runs : goal.returns-clause-runs
+returns-clause-runs g c clean within =
+    let a = state g.A.Store c.args.tx.now.conn.now in
+    let b = state g.A.Store c.write_tables.new.tx.conn.now in
+    let d = state g.A.Store c.read_back.new.tx.conn.now in
+    built_runs a b d within (clean_before b d _ c.read_back.ensures.survives clean) c.in_ok-write_tables.field-0 (Ok c.in_ok-found.found)
+    c.in_ok-write_tables.ensures.works.runs (c.in_ok-found.ensures.looks clean)
+
+pub returns-clause-made : goal.returns-clause-made
+returns-clause-made g c clean within =
+    let a = state g.A.Store c.args.tx.now.conn.now in
+    let b = state g.A.Store c.write_tables.new.tx.conn.now in
+    let d = state g.A.Store c.read_back.new.tx.conn.now in
+    built_seen a b d within (clean_before b d _ c.read_back.ensures.survives clean) c.in_ok-write_tables.field-0 (Ok c.in_ok-found.found)
+    c.in_ok-write_tables.ensures.works.runs (c.in_ok-found.ensures.looks clean)

@@ -1,0 +1,89 @@
+use Rattle.std.proofs.Common.{◌≡◌, IfOk, IsTrue, Some, option_map, Ok, sym, subst, ◌∙◌}
+use Rattle.sqlite.specs.Held.{state}
+use Rattle.stable_store.specs.Held.{held}
+use Rattle.sql_store.specs.declared.layout.Layout.{Layout}
+use Rattle.sql_store.specs.declared.layout.Layout.TheVariants.{Nothing, First, Second}
+use Rattle.sql_store.specs.Layouts.{IsLayout}
+use Rattle.sql_store.proofs.Found.{settled_alone, is_new, is_second, stands_still, on_err, err_leads}
+use Rattle.sql_store.proofs.opening.open.Goals as goal
+
+pub returns-in-Nothing-clause-fresh : goal.returns-in-Nothing-clause-fresh
+returns-in-Nothing-clause-fresh g c clean schema =
+    subst (λ k. IfOk c.lay_out.result (λ it. option_map held it.kept ≡ Some k)) c.new.ensures (c.lay_out.ensures.as_given (λ e. cc))
+
+pub returns-in-First-clause-fresh : goal.returns-in-First-clause-fresh
+returns-in-First-clause-fresh g c clean schema =
+    let a = state g.A.Store c.args.conn.now in
+    let b = state g.A.Store c.layout_of.new.conn in
+    let settled = settled_alone a c.is_autocommit.result c.is_autocommit.ensures.value c.if-not-is_autocommit.false c.is_autocommit.ensures.settled in
+    let new = is_new a b c.in_ok-layout_of.field-0 (c.in_ok-layout_of.ensures.looks settled) (c.migrate.ensures.clean clean) schema in
+    absurd (let e : ◌≡◌ {A = Layout} First Nothing = sym c.in-First.is ∙ new in cc)
+
+pub returns-in-Second-clause-fresh : goal.returns-in-Second-clause-fresh
+returns-in-Second-clause-fresh g c clean schema =
+    let a = state g.A.Store c.args.conn.now in
+    let b = state g.A.Store c.layout_of.new.conn in
+    let settled = settled_alone a c.is_autocommit.result c.is_autocommit.ensures.value c.if-not-is_autocommit.false c.is_autocommit.ensures.settled in
+    let new = is_new a b c.in_ok-layout_of.field-0 (c.in_ok-layout_of.ensures.looks settled) (c.take.ensures.clean clean) schema in
+    absurd (let e : ◌≡◌ {A = Layout} Second Nothing = sym c.in-Second.is ∙ new in cc)
+
+pub returns-in-Nothing-clause-held : goal.returns-in-Nothing-clause-held
+returns-in-Nothing-clause-held g c clean k stands =
+    let a = state g.A.Store c.args.conn.now in
+    let b = state g.A.Store c.layout_of.new.conn in
+    let settled = settled_alone a c.is_autocommit.result c.is_autocommit.ensures.value c.if-not-is_autocommit.false c.is_autocommit.ensures.settled in
+    let second = is_second a b c.in_ok-layout_of.field-0 (c.in_ok-layout_of.ensures.looks settled) (c.lay_out.ensures.clean clean) k stands in
+    absurd (let e : ◌≡◌ {A = Layout} Nothing Second = sym c.in-Nothing.is ∙ second in cc)
+
+pub returns-in-First-clause-held : goal.returns-in-First-clause-held
+returns-in-First-clause-held g c clean k stands =
+    let a = state g.A.Store c.args.conn.now in
+    let b = state g.A.Store c.layout_of.new.conn in
+    let settled = settled_alone a c.is_autocommit.result c.is_autocommit.ensures.value c.if-not-is_autocommit.false c.is_autocommit.ensures.settled in
+    let second = is_second a b c.in_ok-layout_of.field-0 (c.in_ok-layout_of.ensures.looks settled) (c.migrate.ensures.clean clean) k stands in
+    absurd (let e : ◌≡◌ {A = Layout} First Second = sym c.in-First.is ∙ second in cc)
+
+pub returns-in-Second-clause-held : goal.returns-in-Second-clause-held
+returns-in-Second-clause-held g c clean k stands =
+    let a = state g.A.Store c.args.conn.now in
+    let b = state g.A.Store c.layout_of.new.conn in
+    let settled = settled_alone a c.is_autocommit.result c.is_autocommit.ensures.value c.if-not-is_autocommit.false c.is_autocommit.ensures.settled in
+    c.take.ensures.held clean k (stands_still a b k (λ d l. IsLayout d.schema l) (Ok c.in_ok-layout_of.field-0) stands (c.in_ok-layout_of.ensures.looks settled))
+
+pub returns-in_err-layout_of-clause-refused : goal.returns-in_err-layout_of-clause-refused
+returns-in_err-layout_of-clause-refused g c clean schema =
+    let a = state g.A.Store c.args.conn.now in
+    let b = state g.A.Store c.layout_of.new.conn in
+    let settled = settled_alone a c.is_autocommit.result c.is_autocommit.ensures.value c.if-not-is_autocommit.false c.is_autocommit.ensures.settled in
+    on_err c.from_residual.result (IsTrue b.is_open → b.now ≡ a.now) (λ up. ((c.in_err-layout_of.ensures.looks settled).err clean up).now)
+
+pub returns-in-Nothing-clause-refused : goal.returns-in-Nothing-clause-refused
+returns-in-Nothing-clause-refused g c clean schema =
+    let a = state g.A.Store c.args.conn.now in
+    let b = state g.A.Store c.layout_of.new.conn in
+    let d = state g.A.Store c.lay_out.new.conn in
+    let settled = settled_alone a c.is_autocommit.result c.is_autocommit.ensures.value c.if-not-is_autocommit.false c.is_autocommit.ensures.settled in
+    let same = ((c.in_ok-layout_of.ensures.looks settled).ok (c.lay_out.ensures.clean clean)).0.now in
+    err_leads c.lay_out.result (IsTrue d.is_open → d.now ≡ b.now) (IsTrue d.is_open → d.now ≡ a.now) (λ h up. h up ∙ same) (c.lay_out.ensures.refused clean)
+
+pub returns-in-First-clause-refused : goal.returns-in-First-clause-refused
+returns-in-First-clause-refused g c clean schema =
+    let a = state g.A.Store c.args.conn.now in
+    let b = state g.A.Store c.layout_of.new.conn in
+    let settled = settled_alone a c.is_autocommit.result c.is_autocommit.ensures.value c.if-not-is_autocommit.false c.is_autocommit.ensures.settled in
+    let new = is_new a b c.in_ok-layout_of.field-0 (c.in_ok-layout_of.ensures.looks settled) (c.migrate.ensures.clean clean) schema in
+    absurd (let e : ◌≡◌ {A = Layout} First Nothing = sym c.in-First.is ∙ new in cc)
+
+pub returns-in-Second-clause-refused : goal.returns-in-Second-clause-refused
+returns-in-Second-clause-refused g c clean schema =
+    let a = state g.A.Store c.args.conn.now in
+    let b = state g.A.Store c.layout_of.new.conn in
+    let settled = settled_alone a c.is_autocommit.result c.is_autocommit.ensures.value c.if-not-is_autocommit.false c.is_autocommit.ensures.settled in
+    let new = is_new a b c.in_ok-layout_of.field-0 (c.in_ok-layout_of.ensures.looks settled) (c.take.ensures.clean clean) schema in
+    absurd (let e : ◌≡◌ {A = Layout} Second Nothing = sym c.in-Second.is ∙ new in cc)
+
+pub returns-in-Others-clause-refused : goal.returns-in-Others-clause-refused
+returns-in-Others-clause-refused g c clean schema up =
+    let a = state g.A.Store c.args.conn.now in
+    let settled = settled_alone a c.is_autocommit.result c.is_autocommit.ensures.value c.if-not-is_autocommit.false c.is_autocommit.ensures.settled in
+    ((c.in_ok-layout_of.ensures.looks settled).ok clean).0.now

@@ -1,9 +1,0 @@
-use Rattle.std.proofs.Common.{take}
-use Rattle.std.specs.FinMap.{from_entries}
-use Rattle.stable_store.specs.Held.{records_of}
-use Rattle.sql_store.specs.Reading.{AreValuesOf}
-use Rattle.sql_store.proofs.rows.put_values.Given as goal
-
-abbrev pub invariant-loop-row : goal.invariant-loop-row
-invariant-loop-row l =
-    AreValuesOf (take l.row-index l.rows) (from_entries (records_of l.initial.records.entries)) (from_entries (records_of l.records.entries))

@@ -1,0 +1,40 @@
+use Rattle.std.proofs.Common.{[], ◌∷◌, IsTrue, refl, ap, subst, subst₂, ◌∙◌, arith, pos}
+use Rattle.sqlite.specs.declared.types.Value.TheVariants.{Int, Text}
+use Rattle.sqlite_value.specs.Value.{owned}
+use Rattle.sqlite.specs.Values.{bound_value}
+use Rattle.sqlite.specs.State.{HasCleanDisk, ExecutesInside}
+use Rattle.sqlite.specs.Held.{state}
+use Rattle.sql_store.specs.Steps.{Steps}
+use Rattle.sql_store.proofs.Inside.{steps, step_ok, step_err}
+use Rattle.atomic_types.specs.declared.part.Part.TheVariants.{Value}
+use Rattle.store_contents.specs.Changes.{with_record}
+use Rattle.store_contents.proofs.Statements.{more}
+use Rattle.sql_store.proofs.Runs.{value_means}
+use Rattle.store_contents.proofs.Tables.{InRange}
+use Rattle.store_tables.specs.Texts.{value_text}
+use Rattle.store_tables.proofs.Texts.{value_command}
+use Rattle.sql_store.proofs.steps.put_value.Goals as goal
+
+pub returns-in-Ok-execute-clause-steps : goal.returns-in-Ok-execute-clause-steps
+returns-in-Ok-execute-clause-steps g c low home before k sorted sees =
+    let s = c.args.tx.now.conn.now in
+    let t = c.execute.new.self.conn.now in
+    let fits : InRange c.args.top = (omega arith, omega arith) in
+    let object_fits : InRange c.args.object = (low, omega arith) in
+    let it : Steps (state g.A.Store s) (state g.A.Store t) (with_record c.args.top home (more before c.args.object (Value c.args.content.now)) k) c.execute.result =
+    steps g.A.Store value_text value_command _ (λ _. with_record c.args.top home (more before c.args.object (Value c.args.content.now)) k) _ (value_means c.args.top home c.args.object c.args.content.now before k fits object_fits sorted c.in-Ok.ensures.fits) s t (with_record c.args.top home before k) (λ _ _. refl) sees
+    (λ h. omega (arith, c.execute.ensures.survives.clean)) c.execute.result c.execute.ensures.ended
+    (subst (λ v2. HasCleanDisk (state g.A.Store t) → IsTrue (state g.A.Store s).in_transaction → ExecutesInside 0 value_text (bound_value (Int (pos c.args.top)) ∷ bound_value (Int (pos c.args.object)) ∷ bound_value v2 ∷ []) (state g.A.Store s) (state g.A.Store t) c.execute.result) (c.words.ensures ∙ ap Text c.in-Ok.ensures.text) (subst₂ (λ v0 v1. HasCleanDisk (state g.A.Store t) → IsTrue (state g.A.Store s).in_transaction → ExecutesInside 0 value_text (bound_value v0 ∷ bound_value v1 ∷ bound_value (owned c.words.result) ∷ []) (state g.A.Store s) (state g.A.Store t) c.execute.result) c.number.ensures c.number-2.ensures c.execute.ensures.runs)) in
+    step_ok (subst (Steps (state g.A.Store s) (state g.A.Store t) (with_record c.args.top home (more before c.args.object (Value c.args.content.now)) k)) c.in-Ok-execute.is it)
+
+pub returns-clause-steps : goal.returns-clause-steps
+returns-clause-steps g c low home before k sorted sees =
+    let s = c.args.tx.now.conn.now in
+    let t = c.execute.new.self.conn.now in
+    let fits : InRange c.args.top = (omega arith, omega arith) in
+    let object_fits : InRange c.args.object = (low, omega arith) in
+    let it : Steps (state g.A.Store s) (state g.A.Store t) (with_record c.args.top home (more before c.args.object (Value c.args.content.now)) k) c.execute.result =
+    steps g.A.Store value_text value_command _ (λ _. with_record c.args.top home (more before c.args.object (Value c.args.content.now)) k) _ (value_means c.args.top home c.args.object c.args.content.now before k fits object_fits sorted c.in-Ok.ensures.fits) s t (with_record c.args.top home before k) (λ _ _. refl) sees
+    (λ h. omega (arith, c.execute.ensures.survives.clean)) c.execute.result c.execute.ensures.ended
+    (subst (λ v2. HasCleanDisk (state g.A.Store t) → IsTrue (state g.A.Store s).in_transaction → ExecutesInside 0 value_text (bound_value (Int (pos c.args.top)) ∷ bound_value (Int (pos c.args.object)) ∷ bound_value v2 ∷ []) (state g.A.Store s) (state g.A.Store t) c.execute.result) (c.words.ensures ∙ ap Text c.in-Ok.ensures.text) (subst₂ (λ v0 v1. HasCleanDisk (state g.A.Store t) → IsTrue (state g.A.Store s).in_transaction → ExecutesInside 0 value_text (bound_value v0 ∷ bound_value v1 ∷ bound_value (owned c.words.result) ∷ []) (state g.A.Store s) (state g.A.Store t) c.execute.result) c.number.ensures c.number-2.ensures c.execute.ensures.runs)) in
+    step_err (subst (Steps (state g.A.Store s) (state g.A.Store t) (with_record c.args.top home (more before c.args.object (Value c.args.content.now)) k)) c.in-Err.is it)

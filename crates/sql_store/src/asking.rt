@@ -1,0 +1,104 @@
+//! Reading the tables.
+ghost use Rattle.std.specs.Prelude.{◌≡◌, ◌<◌, false, IfOk, IsTrue, length, map};
+ghost use Rattle.sqlite.specs.Held.{state};
+ghost use Rattle.sqlite.specs.State.{HasCleanDisk};
+ghost use Rattle.stable_store.specs.Held.{held};
+ghost use Rattle.store_contents.specs.Answered.{rows_of};
+ghost use Rattle.store_contents.specs.Holds.{Holds, tables_of};
+ghost use Rattle.store_tables.specs.Rows.{HaveRowids};
+ghost use Rattle.sql_store.specs.Reading.{IsQueryText, IsAnswered, AreQueryTexts, AreAnswered, Quiets, LooksUp, StaysOut, IsLaidOut};
+
+use crate::faults::fault_of;
+use crate::layout::{READ_COUNT, number_named};
+use sqlite::{Alter, Connection, Row};
+use stable_store::{Kept, StoreFault};
+use std::alloc::Global;
+use store_contents::{FIRST_QUERIES, QUERIES, ROWIDS, all_rise, content_of, first_content_of};
+
+/// The rows that a query with no parameters answers.
+pub(crate) fn answer<A: Alter>(
+    conn: &mut Connection<A>,
+    query: &str,
+) -> Result<Vec<Row>, StoreFault>
+    ensures outside { StaysOut (state A.Store conn.old) (state A.Store conn.new) result }
+    ensures looks { IsQueryText query.now → Quiets (state A.Store conn.old)
+        → LooksUp (state A.Store conn.old) (state A.Store conn.new) (λ d rows. IsAnswered d query.now rows.items) result }
+{
+    match conn.query_all(query, &[]) {
+        Ok(rows) => Ok(rows),
+        Err(error) => Err(fault_of(error)),
+    }
+}
+
+/// The rows that each of these queries answers.
+fn answers<A: Alter>(
+    conn: &mut Connection<A>,
+    alloc: Global,
+    queries: &[&str],
+) -> Result<Vec<Vec<Row>>, StoreFault>
+    requires { 0 < length queries.now }
+    ensures outside { StaysOut (state A.Store conn.old) (state A.Store conn.new) result }
+    ensures looks { AreQueryTexts (map (λ q. q.now) queries.now) → Quiets (state A.Store conn.old)
+        → LooksUp (state A.Store conn.old) (state A.Store conn.new)
+        (λ d answers. AreAnswered d (map (λ q. q.now) queries.now) (rows_of answers.items)) result }
+{
+    let mut answers = Vec::new(alloc);
+    for query in queries {
+        answers.push(answer(conn, query)?)?;
+    }
+    Ok(answers)
+}
+
+/// The content of the tables. `NotOurs` where they hold none. The database stays as it is.
+pub(crate) fn read_content<A: Alter>(
+    conn: &mut Connection<A>,
+    alloc: Global,
+) -> Result<Kept, StoreFault>
+    ensures outside { StaysOut (state A.Store conn.old) (state A.Store conn.new) result }
+    ensures looks { Quiets (state A.Store conn.old)
+        → LooksUp (state A.Store conn.old) (state A.Store conn.new) (λ d kept. Holds 1 (tables_of d.trees) (held kept)) result }
+{
+    content_of(alloc, &answers(conn, alloc, &QUERIES)?)
+}
+
+/// `NotOurs` where a table has a row with no rowid of its own.
+fn check_rowids<A: Alter>(conn: &mut Connection<A>, alloc: Global) -> Result<(), StoreFault>
+    ensures outside { StaysOut (state A.Store conn.old) (state A.Store conn.new) result }
+    ensures looks { Quiets (state A.Store conn.old)
+        → LooksUp (state A.Store conn.old) (state A.Store conn.new) (λ d _. HaveRowids d.trees) result }
+{
+    match all_rise(&answers(conn, alloc, &ROWIDS)?) {
+        true => Ok(()),
+        false => Err(StoreFault::NotOurs),
+    }
+}
+
+/// The content of the tables. `NotOurs` where they hold none, and, in a schema that is known, where a row has no rowid of
+/// its own. The database stays as it is.
+pub(crate) fn read_store<A: Alter>(
+    conn: &mut Connection<A>,
+    alloc: Global,
+    is_known: bool,
+) -> Result<Kept, StoreFault>
+    ensures outside { StaysOut (state A.Store conn.old) (state A.Store conn.new) result }
+    ensures looks { IsTrue is_known → Quiets (state A.Store conn.old)
+        → LooksUp (state A.Store conn.old) (state A.Store conn.new) (λ d kept. IsLaidOut d.trees (held kept)) result }
+{
+    if !is_known {
+        return read_content(conn, alloc);
+    }
+    check_rowids(conn, alloc)?;
+    read_content(conn, alloc)
+}
+
+/// The content of tables of version 1. `NotOurs` where they hold none. The database stays as it is.
+pub(crate) fn read_first<A: Alter>(
+    conn: &mut Connection<A>,
+    alloc: Global,
+) -> Result<Kept, StoreFault>
+    ensures clean { HasCleanDisk (state A.Store conn.new) → HasCleanDisk (state A.Store conn.old) }
+    ensures mode { (state A.Store conn.old).in_transaction ≡ false → (state A.Store conn.new).in_transaction ≡ false }
+{
+    let count = number_named(conn, READ_COUNT)?;
+    first_content_of(alloc, &answers(conn, alloc, &FIRST_QUERIES)?, count)
+}

@@ -1,0 +1,36 @@
+//! Errors of the database, and the faults that they are to a caller.
+ghost use Rattle.std.specs.Prelude.{◌≡◌, ◌≢◌};
+ghost use Rattle.stable_store.specs.declared.fault.StoreFault.TheVariants.{NotOurs};
+ghost use Rattle.stable_store.specs.Calls.{IsExcused};
+
+use sqlite::{Error, ErrorCode};
+use sqlite_resolve::CompileError;
+use stable_store::StoreFault;
+
+/// The error of a call where another transaction is under way.
+pub(crate) const BUSY: Error = Error::SqliteFailure(ErrorCode::TransactionState);
+
+/// Want of memory.
+pub(crate) const WANT: Error = Error::SqliteFailure(ErrorCode::OutOfMemory);
+
+/// The fault of a statement that the database refused.
+pub(crate) fn fault_of(error: Error) -> StoreFault
+    ensures { result ≢ NotOurs }
+{
+    match error {
+        Error::SqliteFailure(ErrorCode::OutOfMemory)
+        | Error::SqlInputError(CompileError::OutOfMemory) => StoreFault::Memory,
+        _ => StoreFault::Failed,
+    }
+}
+
+/// The fault of a call. All but want of memory are counted.
+pub(crate) fn count_fault(failures: &mut u64, fault: StoreFault) -> StoreFault
+    ensures same { result ≡ fault }
+    ensures counts { IsExcused (Unit {0}) failures.old failures.new fault }
+{
+    if fault != StoreFault::Memory {
+        *failures = failures.saturating_add(1);
+    }
+    fault
+}

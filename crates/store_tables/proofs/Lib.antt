@@ -1,0 +1,12 @@
+pub mod Texts
+pub mod Queries
+pub mod Keys
+pub mod Finds
+pub mod Parts
+pub mod Decides
+pub mod Means
+pub mod Placed
+pub mod Cascade
+pub mod Discards
+pub mod Forgets
+pub mod Items

@@ -1,0 +1,34 @@
+use Rattle.store_tables.proofs.Texts.{decide_plain, count_plain, next_plain, base_plain, discard_plain, record_plain, value_plain, delta_plain, forget_plain}
+use Rattle.store_tables.proofs.Queries.{meta_query}
+use Rattle.store_tables.proofs.Decides.{puts_number, puts_delta}
+use Rattle.store_tables.proofs.Means.{row_put}
+use Rattle.store_tables.proofs.Discards.{discards}
+use Rattle.store_tables.proofs.Forgets.{forgets}
+use Rattle.store_tables.proofs.meaning.statements_stand_alone.Goals as goal
+
+pub returns-clause-decide : goal.returns-clause-decide
+returns-clause-decide c = decide_plain
+
+pub returns-clause-count : goal.returns-clause-count
+returns-clause-count c = count_plain
+
+pub returns-clause-next_top : goal.returns-clause-next_top
+returns-clause-next_top c = next_plain
+
+pub returns-clause-base : goal.returns-clause-base
+returns-clause-base c = base_plain
+
+pub returns-clause-discard : goal.returns-clause-discard
+returns-clause-discard c = discard_plain
+
+pub returns-clause-home : goal.returns-clause-home
+returns-clause-home c = record_plain
+
+pub returns-clause-value : goal.returns-clause-value
+returns-clause-value c = value_plain
+
+pub returns-clause-delta : goal.returns-clause-delta
+returns-clause-delta c = delta_plain
+
+pub returns-clause-forget : goal.returns-clause-forget
+returns-clause-forget c = forget_plain
