@@ -1,0 +1,7 @@
+pub mod Agreed
+pub mod Operated
+pub mod Held
+pub mod Sound
+pub mod Planned
+pub mod Readings
+pub mod Kept

@@ -1,0 +1,17 @@
+//! What one guardian keeps in memory: its own history, and whatever is read off that history when a step asks.
+//!
+//! An event comes in two calls. `plan` copies it and makes room, and may lack memory. `keep`, `crash` or `operate` then makes all parts those of the
+//! history with the event in front; of these `operate` alone can fail, and has changed nothing then. The guardian above uses that what it reads here
+//! is what the definitions of `run_model` say of the events that were kept.
+#![tactic(auto)]
+
+mod keeping;
+mod memory;
+mod objects;
+mod plan;
+mod planning;
+mod preparing;
+mod reading;
+
+pub use memory::Memory;
+pub use plan::Plan;

@@ -1,0 +1,89 @@
+//! The memory of a guardian.
+ghost use Rattle.std.specs.Prelude.{◌≡◌, ◌≤◌, [], IfOk};
+ghost use Rattle.std.specs.Arc.{arc_value};
+ghost use Rattle.run_model.specs.Openings.{opening_in};
+ghost use Rattle.guardian_memory.specs.Memories.{state_of};
+
+use guardian_objects::Objects;
+use local_histories::LocalHistory;
+use orphans::Lists;
+use roster::Roster;
+use run_model::Opening;
+use std::alloc::{AllocError, Global};
+use std::marker::Model;
+use std::sync::Arc;
+use tellings::Tellings;
+
+/// What one guardian keeps in memory. All its parts are those of one history.
+#[derive(Drop)]
+pub struct Memory {
+    pub(crate) alloc: Global,
+    pub(crate) opening: Arc<Opening, Global>,
+    pub(crate) number: u32,
+    /// The events that name the guardian.
+    pub(crate) history: LocalHistory,
+    /// Of which outcomes it was told.
+    pub(crate) told: Tellings,
+    /// Which aborts and crashes it knows of.
+    pub(crate) lists: Lists,
+    /// The actions that began here.
+    pub(crate) roster: Roster,
+    pub(crate) objects: Objects,
+}
+
+impl Model for Memory {
+    ghost use Rattle.std.specs.Arc.{arc_value};
+    ghost use Rattle.std.specs.Coded.{codes};
+    ghost use Rattle.tellings.specs.contracts.tellings.Tellings as of_tellings;
+    ghost use Rattle.orphans.specs.contracts.lists.Lists as of_lists;
+    ghost use Rattle.roster.specs.contracts.roster.Roster as of_roster;
+    ghost use Rattle.guardian_memory.specs.Memories.{InMemory, IsSound};
+
+    ghost Value = { InMemory };
+
+    ghost coded = { Prim.hlevel (codes, of_tellings.the_row.coded, of_lists.the_row.coded, of_roster.the_row.coded) };
+
+    ghost view = { λ a. record {
+      opening = arc_value a.opening;
+      number = a.number;
+      history = a.history;
+      told = a.told;
+      lists = a.lists;
+      roster = a.roster;
+      objects = a.objects;
+    } };
+
+    ghost invariant = { λ a. IsSound (record {
+      opening = arc_value a.opening;
+      number = a.number;
+      history = a.history;
+      told = a.told;
+      lists = a.lists;
+      roster = a.roster;
+      objects = a.objects;
+    }) };
+}
+
+impl Memory {
+    /// The memory of a guardian to which nothing has happened. Fails only for want of memory.
+    pub fn new(
+        alloc: Global,
+        opening: Arc<Opening, Global>,
+        number: u32,
+    ) -> Result<Memory, AllocError>
+        requires { 1 ≤ number }
+        ensures { IfOk result (λ memory. state_of memory ≡ record { opening = opening_in (arc_value opening); number = number; past = [] }) }
+    {
+        let objects = Objects::new(alloc, &opening, number)?;
+        Ok(Memory {
+            alloc,
+            opening,
+            number,
+            history: LocalHistory::new(alloc),
+            told: Tellings::new(alloc),
+            lists: Lists::new(alloc, number),
+            roster: Roster::new(alloc, number),
+            objects,
+        })
+    }
+}

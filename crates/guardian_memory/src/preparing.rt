@@ -1,0 +1,32 @@
+//! What a yes vote writes to the stable store.
+ghost use Rattle.std.specs.Prelude.{◌≡◌, ◌∷◌, IfOk, IsTrue};
+ghost use Rattle.run_model.specs.LocalReadings.{standing_here};
+ghost use Rattle.run_model.specs.StableContent.{parts_by};
+ghost use Rattle.run_model.specs.Visibility.{votes_yes};
+ghost use Rattle.layer_contracts.specs.Guardians.{stamped};
+ghost use Rattle.guardian_memory.specs.Memories.{state_of};
+ghost use Rattle.guardian_memory.specs.Plans.{FitsPlan, news_of};
+
+use crate::memory::Memory;
+use crate::plan::Plan;
+use atomic_types::Part;
+use run_model::Name;
+use std::alloc::AllocError;
+use std::collections::BTreeMap;
+
+impl Memory {
+    /// What the top action will hold once the guardian has kept its yes vote on it, by the number of the object. It is read before anything
+    /// changes. Fails only for want of memory.
+    pub fn parts(&self, top: &Name, plan: &Plan) -> Result<BTreeMap<u32, Part>, AllocError>
+        requires fits { FitsPlan self.now plan.now }
+        requires vote { IsTrue (votes_yes (news_of plan.now).event.step (news_of plan.now).event.answer (state_of self.now).number top.now) }
+        ensures { IfOk result (λ parts. parts.entries ≡ parts_by (state_of self.now).opening (state_of self.now).number
+            (λ x. standing_here (stamped 0 (news_of plan.now) ∷ (state_of self.now).past) x) top.now) }
+    {
+        if self.told.is_committed(top) {
+            // What was told committed holds nothing.
+            return Ok(BTreeMap::new(self.alloc));
+        }
+        self.objects.parts_once_told(top, plan.outcomes())
+    }
+}
