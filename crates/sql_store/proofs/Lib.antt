@@ -7,6 +7,9 @@ mod Known
 mod Back
 mod Loads
 mod Loops
+mod Waits
+mod Pairs
+mod Puts
 mod Over
 mod Installs
 mod Made

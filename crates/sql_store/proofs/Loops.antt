@@ -15,19 +15,22 @@ use Rattle.atomic_types.specs.declared.part.Part.{Part}
 use Rattle.stable_store.specs.Stored.{Stored, Record, after_discard}
 use Rattle.stable_store.specs.Numbers.{has_zero}
 use Rattle.store_contents.specs.Changes.{with_record}
-use Rattle.store_contents.proofs.Statements.{more}
+use Rattle.store_contents.proofs.Statements.{more, front_rises}
 
-below : (es : List (ℕ × Part)) (x o : ℕ) (v : Part) (rest : List (ℕ × Part))
-    → AllByRecursion (λ y. nat_cmp x y ≡ Less) (keys_of (es ++ (o, v) ∷ rest)) → below_all nat_cmp x (more es o v) ≡ true
-below [] x o v rest h = and_from _ _ (ap is_lt h.0) refl
-below (e ∷ es) x o v rest h = and_from _ _ (ap is_lt h.0) (below es x o v rest h.1)
+below_keys : (es : List (ℕ × Part)) (x : ℕ) → AllByRecursion (λ y. nat_cmp x y ≡ Less) (keys_of es) → below_all nat_cmp x es ≡ true
+below_keys [] x h = refl
+below_keys (e ∷ es) x h = and_from _ _ (ap is_lt h.0) (below_keys es x h.1)
 
--- the entries of a map up to one of them rise
+-- the entries of a map rise
+pub all_rise : (es : List (ℕ × Part)) → IsStrictlySortedBy nat_cmp (keys_of es) → map.is_sorted nat_cmp es ≡ true
+all_rise [] h = refl
+all_rise (e ∷ es) h = and_from _ _ (below_keys es e.0 (sorted_head nat_cmp e.0 _ h)) (all_rise es (sorted_tail nat_cmp e.0 _ h))
+
+-- and so do those up to one of them
 pub rising : (es : List (ℕ × Part)) (o : ℕ) (v : Part) (rest : List (ℕ × Part))
     → IsStrictlySortedBy nat_cmp (keys_of (es ++ (o, v) ∷ rest)) → map.is_sorted nat_cmp (more es o v) ≡ true
-rising [] o v rest h = refl
-rising (e ∷ es) o v rest h =
-    and_from _ _ (below es e.0 o v rest (sorted_head nat_cmp e.0 _ h)) (rising es o v rest (sorted_tail nat_cmp e.0 _ h))
+rising es o v rest h =
+    front_rises (more es o v) rest (ap (map.is_sorted nat_cmp) (append_assoc es ((o, v) ∷ []) rest) ∙ all_rise (es ++ (o, v) ∷ rest) h)
 
 pub later : (es : List (ℕ × Part)) (o : ℕ) (v : Part) (left rest all : List (ℕ × Part)) → left ≡ (o, v) ∷ rest → es ++ left ≡ all
     → more es o v ++ rest ≡ all
@@ -53,7 +56,7 @@ taken_away n c =
 
 -- ---- numbers from 1
 
-or_false : (a b : Bool) → (a || b) ≡ false → (a ≡ false) × (b ≡ false)
+pub or_false : (a b : Bool) → (a || b) ≡ false → (a ≡ false) × (b ≡ false)
 or_false false b h = (refl, h)
 or_false true b h = absurd (true≢false h)
 
@@ -67,7 +70,3 @@ first_above o v rest h = above_zero o (or_false _ _ h).0
 
 pub rest_above : (o : ℕ) (v : Part) (rest : List (ℕ × Part)) → has_zero ((o, v) ∷ rest) ≡ false → has_zero rest ≡ false
 rest_above o v rest h = (or_false _ _ h).1
-
-pub one_above : (before : List (ℕ × Part)) (o : ℕ) (v : Part) (rest : List (ℕ × Part)) → has_zero (before ++ (o, v) ∷ rest) ≡ false → 0 < o
-one_above [] o v rest h = first_above o v rest h
-one_above (e ∷ before) o v rest h = one_above before o v rest (or_false _ _ h).1

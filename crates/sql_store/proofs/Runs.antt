@@ -1,9 +1,10 @@
 -- What a statement of known text leaves.
 use Rattle.std.proofs.Common.{◌≡◌, ◌⊎◌, inl, inr, ℕ, ◌≤◌, ℤ, pos, List, [], ◌∷◌, codes, Bool, true, false, not, cond, None, Option, Ok, Err, Result, refl, sym, ap, nat_cmp}
-use Rattle.std.proofs.Common.{subst, subst₂, ◌∙◌, append-nil, IsTrue, OnOk, OnErr, arith}
+use Rattle.std.proofs.Common.{subst, subst₂, ◌∙◌, ◌++◌, append-nil, IsTrue, OnOk, OnErr, arith, ◌<◌, suc, length, map as each}
+use Rattle.std.specs.List.{AllByRecursion}
 use Rattle.std.proofs.lemmas.Bool.{cases_Bool}
 use Rattle.std.specs.FinMap as map
-use Rattle.sqlite.specs.declared.types.Value.TheVariants.{Int, Text}
+use Rattle.sqlite.specs.declared.types.Value.TheVariants.{Int}
 use Rattle.sqlite.specs.Order.{Row}
 use Rattle.sqlite.specs.Tree.{Trees}
 use Rattle.sqlite.specs.Schema.{Schema}
@@ -20,24 +21,22 @@ use Rattle.sqlite.specs.State.{State, HasCleanDisk, mode_of, Executes, ExecutesI
 use Rattle.sqlite.specs.State.{IsNotRun, Survives, RunsCommand, Runs, Writes}
 use Rattle.sqlite.proofs.Callers.{IsPlain, command_of, statement_of, runs_as}
 use Rattle.sqlite_catalog.specs.Listing.{IsSound}
-use Rattle.values.specs.declared.content.Content.{Content}
-use Rattle.values.specs.Contents.{IsStoredContent}
 use Rattle.values.specs.Totals.{IsCounter}
 use Rattle.atomic_types.specs.declared.part.Part.{Part}
-use Rattle.atomic_types.specs.declared.part.Part.TheVariants.{Value, Delta}
-use Rattle.part_texts.specs.PartTexts.{IsStoredPart, part_text}
+use Rattle.atomic_types.specs.declared.part.Part.TheVariants.{Delta}
 use Rattle.stable_store.specs.Stored.{Stored, after_decide, after_discard}
 use Rattle.store_tables.specs.Tables.{stable_schema}
-use Rattle.store_tables.specs.Texts.{decide_text, count_text, next_text, base_text, discard_text, record_text, value_text, delta_text, forget_text}
-use Rattle.store_tables.proofs.Texts.{decide_command, decide_is, decide_plain, number_command, count_is, count_plain, next_is, next_plain, base_command, base_is, base_plain}
-use Rattle.store_tables.proofs.Texts.{discard_command, discard_is, discard_plain, record_command, record_is, record_plain, value_command, value_is, value_plain, delta_command, delta_is, delta_plain, forget_command, forget_is, forget_plain}
-use Rattle.store_tables.proofs.Decides.{plain_mode, decides, puts_number, puts_base, puts_home, puts_value, puts_delta}
+use Rattle.store_tables.specs.Texts.{decide_text, count_text, next_text, discard_text, record_text, delta_text, forget_text}
+use Rattle.store_tables.proofs.Texts.{decide_command, decide_is, decide_plain, number_command, count_is, count_plain, next_is, next_plain, base_command}
+use Rattle.store_tables.proofs.Texts.{discard_command, discard_is, discard_plain, record_command, record_is, record_plain, value_command, delta_command, delta_is, delta_plain, forget_command, forget_is, forget_plain}
+use Rattle.store_tables.proofs.Decides.{plain_mode, cells, decides, puts_number, puts_base, puts_home, puts_values, puts_delta}
 use Rattle.store_tables.proofs.Discards.{discards}
 use Rattle.store_tables.proofs.Forgets.{forgets}
 use Rattle.store_contents.specs.Holds.{IsStore, greatest_next}
-use Rattle.store_contents.specs.Changes.{with_count, with_next, with_part, with_record, with_none_decided}
+use Rattle.store_contents.specs.Changes.{with_count, with_next, with_base, all_put, with_record, with_none_decided}
 use Rattle.store_contents.proofs.Tables.{InRange}
-use Rattle.store_contents.proofs.Statements.{more, after_decides, after_counts, after_raises, after_puts_base, after_puts_home, after_puts_value, after_puts_delta, after_discards, after_forgets}
+use Rattle.store_contents.proofs.Statements.{more, spelled, FitsBase, FitsRecord, after_decides, after_counts, after_raises, after_puts_base, after_puts_home}
+use Rattle.store_contents.proofs.Statements.{after_puts_values, after_puts_delta, after_discards, after_forgets}
 use Rattle.sql_store.specs.Steps.{IsAtRest, Stands, Carries}
 
 abbrev pub writes_rows : Command → Type 0
@@ -290,15 +289,21 @@ next_means n low high = record {
       (made.0, after_raises n db.trees after.trees c low high store.1 (sound_in after made.0 sound) made.1);
 }
 
--- a part of the base
-pub base_means : (n : ℕ) (p : Part) → IsStoredPart p → Means base_text base_command (Int (pos n) ∷ Text (part_text p) ∷ []) (with_part n p) (λ _. InRange n)
-base_means n p stored = record {
-  is = base_is;
-  plain = base_plain;
+each_length : (es : List (ℕ × Part)) → length (each spelled es) ≡ length es
+each_length [] = refl
+each_length (e ∷ es) = ap suc (each_length es)
+
+-- parts of the base
+pub base_means : (text : List ℕ) (count : ℕ) (es : List (ℕ × Part)) → command_of (understood stable_schema text) ≡ base_command count
+    → IsPlain (understood stable_schema text) → length es ≡ count
+    → Means text (base_command count) (cells (each spelled es)) (λ c. with_base (all_put es c.base) c) (λ _. AllByRecursion FitsBase es)
+base_means text count es is plain many = record {
+  is = is;
+  plain = plain;
   rows = tt;
   does = λ limit db after tally c store needs sound h.
-      let made = puts_base limit n (part_text p) db tally after (statement_of base_text (understood stable_schema base_text)) store.0 h in
-      (made.0, after_puts_base n p db.trees after.trees c needs stored store.1 (sound_in after made.0 sound) made.1);
+      let made = puts_base limit count (each spelled es) db tally after (statement_of text (understood stable_schema text)) (each_length es ∙ many) store.0 h in
+      (made.0, after_puts_base es db.trees after.trees c needs store.1 (sound_in after made.0 sound) made.1);
 }
 
 -- a record that goes
@@ -323,17 +328,19 @@ record_means n home fits home_fits = record {
       (made.0, after_puts_home n home db.trees after.trees c fits home_fits needs store.1 (sound_in after made.0 sound) made.1);
 }
 
--- one value more of a record
-pub value_means : (n home o : ℕ) (k : Content) (before : List (ℕ × Part)) (c : Stored) → InRange n → InRange o → map.is_sorted nat_cmp (more before o (Value k)) ≡ true
-    → IsStoredContent k
-    → Means value_text value_command (Int (pos n) ∷ Int (pos o) ∷ Text (part_text (Value k)) ∷ []) (λ _. with_record n home (more before o (Value k)) c) (λ d. d ≡ with_record n home before c)
-value_means n home o k before c fits object_fits sorted stored = record {
-  is = value_is;
-  plain = value_plain;
+-- values more of a record
+pub value_means : (text : List ℕ) (count n home : ℕ) (before es : List (ℕ × Part)) (c : Stored)
+    → command_of (understood stable_schema text) ≡ value_command count → IsPlain (understood stable_schema text) → length es ≡ count → 0 < count → InRange n
+    → AllByRecursion FitsRecord es → map.is_sorted nat_cmp (before ++ es) ≡ true
+    → Means text (value_command count) (Int (pos n) ∷ cells (each spelled es)) (λ _. with_record n home (before ++ es) c) (λ d. d ≡ with_record n home before c)
+value_means text count n home before es c is plain many some fits fit sorted = record {
+  is = is;
+  plain = plain;
   rows = tt;
   does = λ limit db after tally d store same sound h.
-      let made = puts_value limit n o (part_text (Value k)) db tally after (statement_of value_text (understood stable_schema value_text)) store.0 h in
-      (made.0, after_puts_value n home o (Value k) before c fits object_fits sorted db.trees after.trees (subst (IsStore db.trees) same store.1) (sound_in after made.0 sound) k refl stored made.1);
+      let made =
+      puts_values limit n count (each spelled es) db tally after (statement_of text (understood stable_schema text)) (each_length es ∙ many) some store.0 h in
+      (made.0, after_puts_values n home c fits es before db.trees after.trees fit sorted (subst (IsStore db.trees) same store.1) (sound_in after made.0 sound) made.1);
 }
 
 -- one delta more of a record

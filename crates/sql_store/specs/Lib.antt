@@ -4,3 +4,4 @@ pub mod Views
 pub mod Reading
 pub mod Layouts
 pub mod Placed
+pub mod Waiting

@@ -8,11 +8,8 @@ use Rattle.sqlite.specs.Given.{IsPlain}
 use Rattle.sqlite.specs.Listing.{understood, reads_listing}
 use Rattle.sqlite.specs.State.{State, HasCleanDisk, KeepsCommit, Survives}
 use Rattle.sqlite_catalog.specs.Listing.{IsSound}
-use Rattle.stable_store.specs.Stored.{Stored}
 use Rattle.stable_store.specs.declared.fault.StoreFault.{StoreFault}
 use Rattle.store_tables.specs.Tables.{stable_schema}
-use Rattle.store_tables.specs.Rows.{HaveRowids}
-use Rattle.store_contents.specs.Holds.{Holds, tables_of}
 
 -- ---- answers
 
@@ -81,10 +78,6 @@ pub record StaysOut {T : Type 0} (old new : State) (result : Result T StoreFault
 -- so it was found out whether the database has the tables of a store alone
 abbrev pub Knows : State → Bool → Type 0
 Knows s known = HasCleanDisk s → IsTrue s.is_open → (IsTrue known → s.now.schema ≡ stable_schema) × (s.now.schema ≡ stable_schema → IsTrue known)
-
--- the rows have rowids of their own, and hold this content
-abbrev pub IsLaidOut : Trees → Stored → Type 0
-IsLaidOut db c = HaveRowids db × Holds 1 (tables_of db) c
 
 -- Within a transaction nothing was committed, and after `Ok` it is still under way.
 pub record RunsInside {T E : Type 0} (old new : State) (result : Result T E) : Type 0 where

@@ -4,9 +4,9 @@ ghost use Rattle.sqlite.specs.Held.{state};
 ghost use Rattle.sqlite.specs.State.{HasCleanDisk};
 ghost use Rattle.stable_store.specs.Held.{held};
 ghost use Rattle.store_contents.specs.Answered.{rows_of};
-ghost use Rattle.store_contents.specs.Holds.{Holds, tables_of};
+ghost use Rattle.store_contents.specs.Holds.{Holds, IsLaidOut, tables_of};
 ghost use Rattle.store_tables.specs.Rows.{HaveRowids};
-ghost use Rattle.sql_store.specs.Reading.{IsQueryText, IsAnswered, AreQueryTexts, AreAnswered, Quiets, LooksUp, StaysOut, IsLaidOut};
+ghost use Rattle.sql_store.specs.Reading.{IsQueryText, IsAnswered, AreQueryTexts, AreAnswered, Quiets, LooksUp, StaysOut};
 
 use crate::faults::fault_of;
 use crate::layout::{READ_COUNT, number_named};

@@ -6,12 +6,13 @@ ghost use Rattle.stable_store.specs.Held.{held};
 ghost use Rattle.store_tables.specs.Tables.{stable_schema};
 ghost use Rattle.store_contents.specs.Answered.{rows_of};
 ghost use Rattle.sql_store.specs.declared.layout.Layout.TheVariants.{Second};
-ghost use Rattle.sql_store.specs.Reading.{RunsInside, Works, Looks, IsLaidOut, IsQueryText, IsAnswered, AreQueryTexts, AreAnswered};
+ghost use Rattle.store_contents.specs.Holds.{IsLaidOut};
+ghost use Rattle.sql_store.specs.Reading.{RunsInside, Works, Looks, IsQueryText, IsAnswered, AreQueryTexts, AreAnswered};
 
 use crate::faults::fault_of;
 use crate::layout::Layout;
 use crate::mirror::are_same;
-use crate::steps::{amount, great_number, number};
+use crate::parameters::{amount, great_number, number};
 use atomic_types::Part;
 use sqlite::types::ValueRef;
 use sqlite::{Alter, Row, Transaction};

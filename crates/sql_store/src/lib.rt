@@ -8,12 +8,16 @@ mod asking;
 mod building;
 mod calls;
 mod faults;
+mod installing;
 mod layout;
 mod mirror;
 mod opening;
+mod parameters;
 mod places;
+mod preparing;
 mod statements;
 mod steps;
 mod store;
+mod waiting;
 
 pub use store::SqlStable;

@@ -7,7 +7,8 @@ ghost use Rattle.stable_store.specs.Held.{held};
 ghost use Rattle.store_tables.specs.Tables.{no_schema, stable_schema};
 ghost use Rattle.sql_store.specs.declared.layout.Layout.TheVariants.{Second};
 ghost use Rattle.sql_store.specs.Steps.{Stands};
-ghost use Rattle.sql_store.specs.Reading.{Quiets, LooksUp, Knows, IsLaidOut};
+ghost use Rattle.store_contents.specs.Holds.{IsLaidOut};
+ghost use Rattle.sql_store.specs.Reading.{Quiets, LooksUp, Knows};
 
 use crate::asking::{read_first, read_store};
 use crate::building::build;

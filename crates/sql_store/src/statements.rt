@@ -7,7 +7,8 @@ ghost use Rattle.sql_store.specs.Steps.{While, Stands, Carries};
 ghost use Rattle.store_contents.specs.Changes.{with_count, with_base, with_none_decided, all_put};
 
 use crate::faults::BUSY;
-use crate::steps::{great_number, install_record, number, put_record, save_values};
+use crate::parameters::{great_number, number};
+use crate::steps::{install_record, put_record, save_values};
 use atomic_types::Part;
 use sqlite::{Alter, Connection, Error};
 use stable_store::Prepared;

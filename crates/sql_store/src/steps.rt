@@ -1,56 +1,21 @@
 //! The statements that write, each within a transaction.
-ghost use Rattle.std.specs.Prelude.{◌≡◌, ◌≤◌, ◌<◌, ◌+◌, max, ℕ, pos, true, false, List, [], ◌∷◌, ◌++◌, None, string_bytes, IsTrue};
-ghost use Rattle.std.specs.Ordering.{nat_cmp};
-ghost use Rattle.std.specs.FinMap.{get, is_sorted};
-ghost use Rattle.sqlite_value.specs.Value.{owned};
-ghost use Rattle.sqlite.specs.declared.types.Value.TheVariants.{Int, Text};
+ghost use Rattle.std.specs.Prelude.{◌≡◌, ◌≤◌, ◌<◌, ◌+◌, max, ℕ, false, [], None};
+ghost use Rattle.std.specs.FinMap.{get};
 ghost use Rattle.sqlite.specs.State.{Survives};
 ghost use Rattle.sqlite.specs.Held.{state};
-ghost use Rattle.atomic_types.specs.declared.part.Part.{Part as Spec};
-ghost use Rattle.atomic_types.specs.declared.part.Part.TheVariants.{Value, Delta};
 ghost use Rattle.stable_store.specs.Stored.{Stored, after_discard, after_prepare};
 ghost use Rattle.stable_store.specs.Numbers.{has_zero};
+ghost use Rattle.store_contents.specs.Changes.{with_base, with_record, with_next, with_none_decided, all_put};
 ghost use Rattle.sql_store.specs.Steps.{While, Sees, Stays, Steps};
-ghost use Rattle.store_contents.specs.Changes.{with_base, with_part, with_record, with_next, with_none_decided, all_put};
 
-use crate::faults::WANT;
+use crate::installing::put_base;
+use crate::parameters::{great_number, number};
+use crate::preparing::put_parts;
 use atomic_types::Part;
-use part_texts::part_text;
-use sqlite::types::ValueRef;
 use sqlite::{Alter, Error, Transaction};
 use stable_store::Prepared;
 use std::alloc::Global;
 use std::collections::BTreeMap;
-use values::Content;
-
-/// A text as a parameter.
-fn words(text: &String) -> ValueRef<'_>
-    ensures { owned result ≡ Text (string_bytes text.now) }
-{
-    ValueRef::Text(text.as_bytes())
-}
-
-/// A number as a parameter.
-pub(crate) fn number(n: u32) -> ValueRef<'static>
-    ensures { owned result ≡ Int (pos n) }
-{
-    ValueRef::Int(i64::from(n))
-}
-
-/// A delta as a parameter.
-pub(crate) fn amount(by: i64) -> ValueRef<'static>
-    ensures { owned result ≡ Int by }
-{
-    ValueRef::Int(by)
-}
-
-/// A count as a parameter.
-pub(crate) fn great_number(n: u64) -> ValueRef<'static>
-    requires { n ≤ 9223372036854775807 }
-    ensures { owned result ≡ Int (pos n) }
-{
-    ValueRef::Int(n as i64)
-}
 
 /// Writes a record in place of the one that the top action had, and raises the next top action's number above it.
 pub(crate) fn put_record<A: Alter>(
@@ -175,107 +140,6 @@ fn add_record<A: Alter>(tx: &mut Transaction<'_, A>, top: u32, home: u32) -> Res
     }
 }
 
-/// Writes the parts of a record that has none.
-fn put_parts<A: Alter>(
-    tx: &mut Transaction<'_, A>,
-    alloc: Global,
-    top: u32,
-    parts: &BTreeMap<u32, Part>,
-) -> Result<(), Error>
-    requires top { 0 < top }
-    requires objects { has_zero parts.now.entries ≡ false }
-    ensures same { tx.new.conn.ghost_name ≡ tx.old.conn.ghost_name }
-    ensures survives { Survives (state A.Store tx.old.conn.now) (state A.Store tx.new.conn.now) (λ _. ⊥) }
-    ensures steps { (home : ℕ) (c : Stored) → Stays (state A.Store tx.old.conn.now) (with_record top home [] c)
-        → Steps (state A.Store tx.old.conn.now) (state A.Store tx.new.conn.now) (with_record top home parts.now.entries c) result }
-{
-    let _rising = parts.len();
-    for (&object, part) in parts {
-        match put_part(tx, alloc, top, object, part) {
-            Ok(()) => {}
-            Err(error) => return Err(error),
-        }
-    }
-    Ok(())
-}
-
-/// Writes one part more of a record.
-fn put_part<A: Alter>(
-    tx: &mut Transaction<'_, A>,
-    alloc: Global,
-    top: u32,
-    object: u32,
-    part: &Part,
-) -> Result<(), Error>
-    requires top { 0 < top }
-    ensures same { tx.new.conn.ghost_name ≡ tx.old.conn.ghost_name }
-    ensures survives { Survives (state A.Store tx.old.conn.now) (state A.Store tx.new.conn.now) (λ _. ⊥) }
-    ensures steps { 0 < object → (home : ℕ) (before : List (ℕ × Spec)) (c : Stored)
-        → is_sorted nat_cmp (before ++ (object, part.now) ∷ []) ≡ true
-        → Sees (state A.Store tx.old.conn.now) (with_record top home before c)
-        → Steps (state A.Store tx.old.conn.now) (state A.Store tx.new.conn.now)
-        (with_record top home (before ++ (object, part.now) ∷ []) c) result }
-{
-    match part {
-        Part::Value(content) => put_value(tx, alloc, top, object, content),
-        Part::Delta(by) => put_delta(tx, top, object, *by),
-    }
-}
-
-/// Writes one value more of a record.
-fn put_value<A: Alter>(
-    tx: &mut Transaction<'_, A>,
-    alloc: Global,
-    top: u32,
-    object: u32,
-    content: &Content,
-) -> Result<(), Error>
-    requires top { 0 < top }
-    ensures same { tx.new.conn.ghost_name ≡ tx.old.conn.ghost_name }
-    ensures survives { Survives (state A.Store tx.old.conn.now) (state A.Store tx.new.conn.now) (λ _. ⊥) }
-    ensures steps { 0 < object → (home : ℕ) (before : List (ℕ × Spec)) (c : Stored)
-        → is_sorted nat_cmp (before ++ (object, Value content.now) ∷ []) ≡ true
-        → Sees (state A.Store tx.old.conn.now) (with_record top home before c)
-        → Steps (state A.Store tx.old.conn.now) (state A.Store tx.new.conn.now)
-        (with_record top home (before ++ (object, Value content.now) ∷ []) c) result }
-{
-    let Ok(text) = content.text(alloc) else {
-        return Err(WANT);
-    };
-    match tx.execute(
-        "INSERT INTO prepared_val VALUES (?1, ?2, ?3)",
-        &[number(top), number(object), words(&text)],
-    ) {
-        Ok(_) => Ok(()),
-        Err(error) => Err(error),
-    }
-}
-
-/// Writes one delta more of a record.
-fn put_delta<A: Alter>(
-    tx: &mut Transaction<'_, A>,
-    top: u32,
-    object: u32,
-    by: i64,
-) -> Result<(), Error>
-    requires top { 0 < top }
-    ensures same { tx.new.conn.ghost_name ≡ tx.old.conn.ghost_name }
-    ensures survives { Survives (state A.Store tx.old.conn.now) (state A.Store tx.new.conn.now) (λ _. ⊥) }
-    ensures steps { 0 < object → (home : ℕ) (before : List (ℕ × Spec)) (c : Stored)
-        → is_sorted nat_cmp (before ++ (object, Delta by) ∷ []) ≡ true
-        → Sees (state A.Store tx.old.conn.now) (with_record top home before c)
-        → Steps (state A.Store tx.old.conn.now) (state A.Store tx.new.conn.now)
-        (with_record top home (before ++ (object, Delta by) ∷ []) c) result }
-{
-    match tx.execute(
-        "INSERT INTO prepared_delta VALUES (?1, ?2, ?3)",
-        &[number(top), number(object), amount(by)],
-    ) {
-        Ok(_) => Ok(()),
-        Err(error) => Err(error),
-    }
-}
-
 /// Deletes a record, and writes what its objects have then.
 pub(crate) fn install_record<A: Alter>(
     tx: &mut Transaction<'_, A>,
@@ -321,50 +185,6 @@ fn delete_decided<A: Alter>(tx: &mut Transaction<'_, A>) -> Result<(), Error>
         → Steps (state A.Store tx.old.conn.now) (state A.Store tx.new.conn.now) (with_none_decided c) result }
 {
     match tx.execute("DELETE FROM decided", &[]) {
-        Ok(_) => Ok(()),
-        Err(error) => Err(error),
-    }
-}
-
-/// Writes parts into the base, each in place of what its object had.
-fn put_base<A: Alter>(
-    tx: &mut Transaction<'_, A>,
-    alloc: Global,
-    parts: &BTreeMap<u32, Part>,
-) -> Result<(), Error>
-    ensures same { tx.new.conn.ghost_name ≡ tx.old.conn.ghost_name }
-    ensures survives { Survives (state A.Store tx.old.conn.now) (state A.Store tx.new.conn.now) (λ _. ⊥) }
-    ensures steps { (c : Stored) → While (state A.Store tx.old.conn.now) (has_zero parts.now.entries ≡ false) → Stays (state A.Store tx.old.conn.now) c
-        → Steps (state A.Store tx.old.conn.now) (state A.Store tx.new.conn.now) (with_base (all_put parts.now.entries c.base) c) result }
-{
-    for (&object, part) in parts {
-        match put_installed(tx, alloc, object, part) {
-            Ok(()) => {}
-            Err(error) => return Err(error),
-        }
-    }
-    Ok(())
-}
-
-/// Writes one part into the base.
-fn put_installed<A: Alter>(
-    tx: &mut Transaction<'_, A>,
-    alloc: Global,
-    object: u32,
-    part: &Part,
-) -> Result<(), Error>
-    ensures same { tx.new.conn.ghost_name ≡ tx.old.conn.ghost_name }
-    ensures survives { Survives (state A.Store tx.old.conn.now) (state A.Store tx.new.conn.now) (λ _. ⊥) }
-    ensures steps { (c : Stored) → While (state A.Store tx.old.conn.now) (0 < object) → Sees (state A.Store tx.old.conn.now) c
-        → Steps (state A.Store tx.old.conn.now) (state A.Store tx.new.conn.now) (with_part object part.now c) result }
-{
-    let Ok(text) = part_text(alloc, part) else {
-        return Err(WANT);
-    };
-    match tx.execute(
-        "INSERT OR REPLACE INTO base VALUES (?1, ?2)",
-        &[number(object), words(&text)],
-    ) {
         Ok(_) => Ok(()),
         Err(error) => Err(error),
     }

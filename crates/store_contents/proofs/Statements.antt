@@ -5,8 +5,10 @@ use Rattle.std.specs.Cmp.{nat_cmp_total}
 use Rattle.std.specs.FinMap as map
 use Rattle.std.specs.FinMap.Entries.{below_all, find-append}
 use Rattle.std.specs.FinSet as set
-use Rattle.std.proofs.lemmas.Bool.{and_parts}
-use Rattle.sqlite.specs.declared.types.Value.TheVariants.{Null, Int}
+use Rattle.std.specs.List.{AllByRecursion}
+use Rattle.std.proofs.Common.{map as each, append_assoc, append-nil}
+use Rattle.std.proofs.lemmas.Bool.{and_parts, and_from}
+use Rattle.sqlite.specs.declared.types.Value.TheVariants.{Null, Int, Text}
 use Rattle.sqlite.specs.Order.{Row, column}
 use Rattle.sqlite.specs.Tree.{Trees}
 use Rattle.sqlite.specs.Edit.{id_in}
@@ -14,8 +16,6 @@ use Rattle.sqlite_trees.specs.Tree.{rowid}
 use Rattle.sqlite_rules.specs.Edit.{next_rowid}
 use Rattle.sqlite_rules.specs.Lists.{Has}
 use Rattle.sqlite_catalog.specs.Listing.{IsSound}
-use Rattle.values.specs.declared.content.Content.{Content}
-use Rattle.values.specs.Contents.{IsStoredContent}
 use Rattle.values.specs.Totals.{IsCounter}
 use Rattle.atomic_types.specs.declared.part.Part.{Part}
 use Rattle.atomic_types.specs.declared.part.Part.TheVariants.{Value, Delta}
@@ -24,21 +24,33 @@ use Rattle.stable_store.specs.Stored.{Stored, Record, after_decide, after_discar
 use Rattle.store_tables.specs.Tables.{stable_schema, meta}
 use Rattle.store_tables.specs.Rows.{HasRowids, HaveRowids}
 use Rattle.store_tables.proofs.Keys.{tied_id}
-use Rattle.store_tables.proofs.Parts.{ReplacesRow, PutsRow}
-use Rattle.store_tables.proofs.Decides.{decided_table, base_table, pair_row, number_row, home_row, value_row, delta_row}
+use Rattle.store_tables.proofs.Parts.{ReplacesRow, PutsRow, InTurn, made_of}
+use Rattle.store_tables.proofs.Decides.{decided_table, base_table, pair_row, number_row, home_row, value_row, delta_row, ReplacesPart, PutsValue}
 use Rattle.store_tables.proofs.Placed.{placed_put, placed_left, ints}
 use Rattle.store_tables.proofs.Discards.{Discards}
 use Rattle.store_tables.proofs.Forgets.{Forgets}
 use Rattle.store_contents.specs.Listed.{Lists}
 use Rattle.store_contents.specs.Shown.{ShowsPart, ShowsHome, ShowsRecord, ShowsTop, ShowsNumber, IsValueText, IsAddedBy, IsValue, IsDelta}
 use Rattle.store_contents.specs.Parts.{HasBase, HasHome, HasPart, IsDecided, AreRising}
-use Rattle.store_contents.specs.Holds.{IsStore, Holds, tables_of, numbers, greatest_next}
+use Rattle.store_contents.specs.Holds.{IsStore, IsLaidOut, Holds, tables_of, numbers, greatest_next}
 use Rattle.store_contents.specs.Grown.{Adds, HaveSameHomes}
-use Rattle.store_contents.specs.Changes.{with_count, with_next, with_part, with_record, with_none_decided}
+use Rattle.store_contents.specs.Changes.{with_count, with_next, with_part, with_base, all_put, with_record, with_none_decided}
 use Rattle.store_contents.proofs.Numbers.{itself, not_some}
 use Rattle.store_contents.proofs.Listed.{Stays, same, renamed, grown, taken, left_was, left_stays}
 use Rattle.store_contents.proofs.Tables.{Others, same_numbers, same_base, same_homes, same_values, same_decided, same_deltas, placed_after, InRange, number_of, decided_put, base_put, count_put, next_put}
 use Rattle.store_contents.proofs.Records.{home_adds, part_stays, part_was, part_adds, homes_same, still_rising, homes_to, homes_back, kind_adds, kind_stays, kind_was, home_taken, parts_taken, rising_left}
+
+-- ---- a store, and what its rows alone are
+
+laid : (db : Trees) (c : Stored) → IsStore db c → IsLaidOut db c
+laid db c was = (was.placed, was.holds)
+
+sound_store : (db : Trees) (c : Stored) → IsSound stable_schema db → IsLaidOut db c → IsStore db c
+sound_store db c sound was = record { sound = sound; placed = was.0; holds = was.1 }
+
+-- an object with the text of its part
+abbrev pub spelled : ℕ × Part → ℕ × List ℕ
+spelled e = (e.0, part_text e.1)
 
 -- ---- the statements that replace a row
 
@@ -64,17 +76,14 @@ after_decides n db after c fits was sound made =
       };
     }
 
-pub after_puts_base : (n : ℕ) (p : Part) (db after : Trees) (c : Stored) → InRange n → IsStoredPart p → IsStore db c
-    → IsSound stable_schema after
-    → ReplacesRow base_table (pair_row n (part_text p)) (pair_row n (part_text p)) db after → IsStore after (with_part n p c)
-after_puts_base n p db after c fits stored was sound made =
+part_laid : (n : ℕ) (p : Part) (db after : Trees) (c : Stored) → InRange n → IsStoredPart p → IsLaidOut db c → ReplacesPart (n, part_text p) db after
+    → IsLaidOut after (with_part n p c)
+part_laid n p db after c fits stored was made =
     let others = made.puts.others in
-    let h = was.holds in
-    let placed : HasRowids (db 2) = was.placed.1.0 in
-    record {
-      sound = sound;
-      placed = placed_after 2 db after others (subst HasRowids (sym made.puts.rows) (placed_put (pair_row n (part_text p)) (db 2) made.gone (pos n) refl made.puts.free placed)) was.placed;
-      holds = record {
+    let h = was.1 in
+    let placed : HasRowids (db 2) = was.0.1.0 in (
+      placed_after 2 db after others (subst HasRowids (sym made.puts.rows) (placed_put (pair_row n (part_text p)) (db 2) made.gone (pos n) refl made.puts.free placed)) was.0,
+      record {
         numbered = same ShowsNumber (db 0) (after 0) (Has (numbers c.count c.next_top)) (same_numbers 2 db after others (λ e. omega (arith, e))) h.numbered;
         next_low = h.next_low;
         next_high = h.next_high;
@@ -84,8 +93,24 @@ after_puts_base n p db after c fits stored was sound made =
         deltas = same (ShowsRecord IsAddedBy 1) (db 7) (after 7) _ (same_deltas 2 db after others (λ e. omega (arith, e))) h.deltas;
         rising = h.rising;
         decided = same ShowsTop (db 6) (after 6) (IsDecided c.decided) (same_decided 2 db after others (λ e. omega (arith, e))) h.decided;
-      };
-    }
+      },
+    )
+
+-- a part that the base may have
+abbrev pub FitsBase : ℕ × Part → Type 0
+FitsBase e = InRange e.0 × IsStoredPart e.1
+
+parts_laid : (es : List (ℕ × Part)) (db after : Trees) (c : Stored) → AllByRecursion FitsBase es → IsLaidOut db c
+    → InTurn (λ e. ReplacesPart (spelled e)) es db after → IsLaidOut after (with_base (all_put es c.base) c)
+parts_laid [] db after c fit was made = subst (λ t. IsLaidOut t c) (sym made) was
+parts_laid (e ∷ es) db after c fit was made =
+    parts_laid es made.0 after (with_part e.0 e.1 c) fit.1 (part_laid e.0 e.1 db made.0 c fit.0.0 fit.0.1 was made.1) made.2
+
+pub after_puts_base : (es : List (ℕ × Part)) (db after : Trees) (c : Stored) → AllByRecursion FitsBase es → IsStore db c
+    → IsSound stable_schema after → InTurn ReplacesPart (each spelled es) db after → IsStore after (with_base (all_put es c.base) c)
+after_puts_base es db after c fit was sound made =
+    sound_store after (with_base (all_put es c.base) c) sound
+    (parts_laid es db after c fit (laid db c was) (made_of ReplacesPart spelled es db after made))
 
 -- one of the three numbers
 module _ (db after : Trees) (c : Stored) (count next : ℕ) (others : Others 0 db after) (was : IsStore db c) (sound : IsSound stable_schema after) (placed : HasRowids (after 0))
@@ -173,6 +198,14 @@ not_before (e ∷ es) o p h =
 abbrev pub more : List (ℕ × Part) → ℕ → Part → List (ℕ × Part)
 more es o p = es ++ (o, p) ∷ []
 
+value_text_of : (p : Part) → IsStoredPart p → IsValue p → IsValueText (Text (part_text p)) p
+value_text_of (Value k) stored kind = record { is = refl; stored = stored }
+value_text_of (Delta z) stored kind = absurd kind
+
+no_delta : (p : Part) → IsValue p → IsDelta p → ⊥
+no_delta (Value k) kind other = other
+no_delta (Delta z) kind other = kind
+
 module _ (n home o : ℕ) (p : Part) (before : List (ℕ × Part)) (c : Stored) (fits : InRange n) (object_fits : InRange o) (sorted : map.is_sorted nat_cmp (more before o p) ≡ true) where
   abbrev had : Record
   had = record { home = home; parts = before }
@@ -211,18 +244,16 @@ module _ (n home o : ℕ) (p : Part) (before : List (ℕ × Part)) (c : Stored) 
   same_home = homes_same from.prepared to.prepared n has is had was_there refl o p absent found
 
   -- a table that holds parts of another kind
-  module _ (db after : Trees) (was : IsStore db from) (sound : IsSound stable_schema after) where
+  module _ (db after : Trees) (was : IsLaidOut db from) where
     abbrev h : Holds 1 (tables_of db) from
-    h = was.holds
+    h = was.1
 
-    pub after_puts_value : (k : Content) → p ≡ Value k → IsStoredContent k → PutsRow 4 (value_row (Int (next_rowid (db 4))) n o (part_text p)) [] db after → IsStore after to
-    after_puts_value k kind stored puts =
+    value_laid : IsStoredPart p → IsValue p → PutsValue n (o, part_text p) db after → IsLaidOut after to
+    value_laid stored kind puts =
         let others = puts.others in
-        let row = value_row (Int (next_rowid (db 4))) n o (part_text p) in
-        record {
-          sound = sound;
-          placed = placed_after 4 db after others (subst HasRowids (sym puts.rows) (placed_put row (db 4) [] (next_rowid (db 4)) refl puts.free was.placed.1.1.1.0)) was.placed;
-          holds = record {
+        let row = value_row (Int (next_rowid (db 4))) n o (part_text p) in (
+          placed_after 4 db after others (subst HasRowids (sym puts.rows) (placed_put row (db 4) [] (next_rowid (db 4)) refl puts.free was.0.1.1.1.0)) was.0,
+          record {
             numbered = same ShowsNumber (db 0) (after 0) (Has (numbers c.count c.next_top)) (same_numbers 4 db after others (λ e. omega (arith, e))) h.numbered;
             next_low = h.next_low;
             next_high = h.next_high;
@@ -230,24 +261,22 @@ module _ (n home o : ℕ) (p : Part) (before : List (ℕ × Part)) (c : Stored) 
             homes = renamed (ShowsHome 1) (after 3) (HasHome from.prepared) (HasHome to.prepared) (homes_to from.prepared to.prepared same_home) (homes_back from.prepared to.prepared same_home)
                 (same (ShowsHome 1) (db 3) (after 3) (HasHome from.prepared) (same_homes 4 db after others (λ e. omega (arith, e))) h.homes);
             values = grown (ShowsRecord IsValueText 1) (db 4) (after 4) row (λ e. HasPart from.prepared e × IsValue e.1.1) (λ e. HasPart to.prepared e × IsValue e.1.1) (n, (o, p)) puts.rows puts.free
-                (record { top = number_of n fits; object = number_of o object_fits; part = subst (λ q. IsValueText (column row 3) q) (sym kind) (record { is = ap (λ q. column (value_row (Int (next_rowid (db 4))) n o (part_text q)) 3) kind; stored = stored }) })
-                (kind_adds from.prepared to.prepared n o p adds_part IsValue (subst IsValue (sym kind) tt)) h.values;
+                (record { top = number_of n fits; object = number_of o object_fits; part = value_text_of p stored kind })
+                (kind_adds from.prepared to.prepared n o p adds_part IsValue kind) h.values;
             deltas = renamed (ShowsRecord IsAddedBy 1) (after 7) (λ e. HasPart from.prepared e × IsDelta e.1.1) (λ e. HasPart to.prepared e × IsDelta e.1.1)
-                (kind_stays from.prepared to.prepared n o p adds_part IsDelta) (kind_was from.prepared to.prepared n o p adds_part IsDelta (λ d. subst IsDelta kind d))
+                (kind_stays from.prepared to.prepared n o p adds_part IsDelta) (kind_was from.prepared to.prepared n o p adds_part IsDelta (no_delta p kind))
                 (same (ShowsRecord IsAddedBy 1) (db 7) (after 7) _ (same_deltas 4 db after others (λ e. omega (arith, e))) h.deltas);
             rising = still_rising from.prepared to.prepared n has is sorted h.rising;
             decided = same ShowsTop (db 6) (after 6) (IsDecided c.decided) (same_decided 4 db after others (λ e. omega (arith, e))) h.decided;
-          };
-        }
+          },
+        )
 
-    pub after_puts_delta : (z : ℤ) → p ≡ Delta z → IsCounter z → PutsRow 7 (delta_row (Int (next_rowid (db 7))) n o z) [] db after → IsStore after to
-    after_puts_delta z kind stored puts =
+    delta_laid : (z : ℤ) → p ≡ Delta z → IsCounter z → PutsRow 7 (delta_row (Int (next_rowid (db 7))) n o z) [] db after → IsLaidOut after to
+    delta_laid z kind stored puts =
         let others = puts.others in
-        let row = delta_row (Int (next_rowid (db 7))) n o z in
-        record {
-          sound = sound;
-          placed = placed_after 7 db after others (subst HasRowids (sym puts.rows) (placed_put row (db 7) [] (next_rowid (db 7)) refl puts.free was.placed.1.1.1.1.1.0)) was.placed;
-          holds = record {
+        let row = delta_row (Int (next_rowid (db 7))) n o z in (
+          placed_after 7 db after others (subst HasRowids (sym puts.rows) (placed_put row (db 7) [] (next_rowid (db 7)) refl puts.free was.0.1.1.1.1.1.0)) was.0,
+          record {
             numbered = same ShowsNumber (db 0) (after 0) (Has (numbers c.count c.next_top)) (same_numbers 7 db after others (λ e. omega (arith, e))) h.numbered;
             next_low = h.next_low;
             next_high = h.next_high;
@@ -262,8 +291,52 @@ module _ (n home o : ℕ) (p : Part) (before : List (ℕ × Part)) (c : Stored) 
                 (same (ShowsRecord IsValueText 1) (db 4) (after 4) _ (same_values 7 db after others (λ e. omega (arith, e))) h.values);
             rising = still_rising from.prepared to.prepared n has is sorted h.rising;
             decided = same ShowsTop (db 6) (after 6) (IsDecided c.decided) (same_decided 7 db after others (λ e. omega (arith, e))) h.decided;
-          };
-        }
+          },
+        )
+
+  pub after_puts_delta : (db after : Trees) → IsStore db from → IsSound stable_schema after → (z : ℤ) → p ≡ Delta z → IsCounter z
+      → PutsRow 7 (delta_row (Int (next_rowid (db 7))) n o z) [] db after → IsStore after to
+  after_puts_delta db after was sound z kind stored puts =
+      sound_store after to sound (delta_laid db after (laid db from was) z kind stored puts)
+
+-- ---- values of a record
+
+-- a value that a record may have
+abbrev pub FitsRecord : ℕ × Part → Type 0
+FitsRecord e = InRange e.0 × IsStoredPart e.1 × IsValue e.1
+
+front_below : (xs ys : List (ℕ × Part)) (k : ℕ) → below_all nat_cmp k (xs ++ ys) ≡ true → below_all nat_cmp k xs ≡ true
+front_below [] ys k h = refl
+front_below (x ∷ xs) ys k h =
+    let both = and_parts (is_lt (nat_cmp k x.0)) (below_all nat_cmp k (xs ++ ys)) h in and_from _ _ both.0 (front_below xs ys k both.1)
+
+-- the first of entries that rise do so too
+pub front_rises : (xs ys : List (ℕ × Part)) → map.is_sorted nat_cmp (xs ++ ys) ≡ true → map.is_sorted nat_cmp xs ≡ true
+front_rises [] ys h = refl
+front_rises (x ∷ xs) ys h =
+    let both = and_parts (below_all nat_cmp x.0 (xs ++ ys)) (map.is_sorted nat_cmp (xs ++ ys)) h in
+    and_from _ _ (front_below xs ys x.0 both.0) (front_rises xs ys both.1)
+
+module _ (n home : ℕ) (c : Stored) (fits : InRange n) where
+  values_laid : (es before : List (ℕ × Part)) (db after : Trees) → AllByRecursion FitsRecord es → map.is_sorted nat_cmp (before ++ es) ≡ true
+      → IsLaidOut db (with_record n home before c) → InTurn (λ e. PutsValue n (spelled e)) es db after
+      → IsLaidOut after (with_record n home (before ++ es) c)
+  values_laid [] before db after fit sorted was made =
+      subst (λ l. IsLaidOut after (with_record n home l c)) (sym (append-nil before)) (subst (λ t. IsLaidOut t (with_record n home before c)) (sym made) was)
+  values_laid (e ∷ es) before db after fit sorted was made =
+      let next = more before e.0 e.1 in
+      let all : next ++ es ≡ before ++ e ∷ es = append_assoc before (e ∷ []) es in
+      let rises : map.is_sorted nat_cmp (next ++ es) ≡ true = ap (map.is_sorted nat_cmp) all ∙ sorted in
+      let one = value_laid n home e.0 e.1 before c fits fit.0.0 (front_rises next es rises) db made.0 was fit.0.1 fit.0.2 made.1 in
+      subst (λ l. IsLaidOut after (with_record n home l c)) all (values_laid es next made.0 after fit.1 rises one made.2)
+
+  pub after_puts_values : (es before : List (ℕ × Part)) (db after : Trees) → AllByRecursion FitsRecord es → map.is_sorted nat_cmp (before ++ es) ≡ true
+      → IsStore db (with_record n home before c) → IsSound stable_schema after → InTurn (PutsValue n) (each spelled es) db after
+      → IsStore after (with_record n home (before ++ es) c)
+  after_puts_values es before db after fit sorted was sound made =
+      let begun = with_record n home before c in
+      sound_store after (with_record n home (before ++ es) c) sound
+      (values_laid es before db after fit sorted (laid db begun was) (made_of (PutsValue n) spelled es db after made))
 
 -- ---- the statements that delete
 

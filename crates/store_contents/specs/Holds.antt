@@ -42,6 +42,10 @@ pub record Holds (first : ℕ) (t : Tables) (c : Stored) : Type 0 where
   pub rising : AreRising c.prepared
   pub decided : Lists ShowsTop t.decided (IsDecided c.decided)
 
+-- the rows have rowids of their own, and hold this content
+abbrev pub IsLaidOut : Trees → Stored → Type 0
+IsLaidOut db c = HaveRowids db × Holds 1 (tables_of db) c
+
 -- a database with the tables of a store alone, which hold this content and nothing else
 pub record IsStore (db : Trees) (c : Stored) : Type 0 where
   pub sound : IsSound stable_schema db

@@ -1,12 +1,12 @@
--- What one row that is written makes of the trees.
+-- What rows that are written make of the trees, one after the other.
 use Rattle.std.proofs.Common.{◌≡◌, ◌≢◌, ◌⊎◌, inl, inr, ℕ, ℤ, List, [], ◌∷◌, true, false, not, ◌&&◌, Option, Some, None, Ok, Err}
-use Rattle.std.proofs.Common.{Result, sym, ap, subst, ◌∙◌}
+use Rattle.std.proofs.Common.{Result, refl, sym, ap, subst, ◌∙◌, map, eq-eqb, ne_eqb}
 use Rattle.std.specs.List.{AllByRecursion}
 use Rattle.std.proofs.lemmas.Bool.{and_parts, not-true}
 use Rattle.sqlite.specs.Order.{Row}
 use Rattle.sqlite.specs.Table.{Table}
 use Rattle.sqlite.specs.Tree.{Trees}
-use Rattle.sqlite_trees.specs.Tree.{rowid, put_row}
+use Rattle.sqlite_trees.specs.Tree.{rowid, put_row, with_tree}
 use Rattle.sqlite.specs.Source.{Source}
 use Rattle.sqlite_schema.specs.declared.command.Conflict.TheVariants.{Replace}
 use Rattle.sqlite_schema.specs.declared.schema.Keys.TheVariants.{Enforced}
@@ -16,6 +16,7 @@ use Rattle.sqlite_rules.specs.declared.error.Refusal.TheVariants.{Violates, Mism
 use Rattle.sqlite.specs.Rowids.TheVariants.{Chosen, Given}
 use Rattle.sqlite.specs.Cast.{cast_row}
 use Rattle.sqlite.specs.Edit.{Edit, edit_of, id_in, with_rowid, taken_by, Applies}
+use Rattle.sqlite_rules.specs.Edit.{numbered, put_all, are_fresh}
 use Rattle.sqlite_rules.proofs.ListLemmas.{all_has, all_from}
 use Rattle.sqlite_rules.proofs.ActionLemmas.{no_works}
 use Rattle.sqlite_rules.proofs.ProbeLemmas.{has_mapped, mapped_has}
@@ -26,7 +27,7 @@ use Rattle.sqlite_rules.specs.Keys.{AreConflicts, conflicts}
 use Rattle.sqlite_rules.specs.Lists.{Has}
 use Rattle.sqlite.specs.Effect.{IsSource}
 use Rattle.sqlite.specs.Rows.{Written, Task, Tries, TriesEach, Puts, Clears, Judged, Inserts, InsertsOr, mended, stamped, nothing}
-use Rattle.sqlite.specs.Rows.{count_of}
+use Rattle.sqlite.specs.Rows.{count_of, higher, joined}
 use Rattle.sqlite.proofs.Callers.{one_step}
 use Rattle.store_tables.specs.Tables.{stable_schema}
 
@@ -61,15 +62,60 @@ pub record ReplacesRow (table : Table) (new row : Row) (db next : Trees) : Type 
   pub way : AreInTheWay table (db table.tree) new gone
   pub puts : PutsRow table.tree row gone db next
 
+-- ---- one after the other
+
+-- what each thing of a list makes of the trees, over what the ones before it made of them
+abbrev pub InTurn : {X : Type 0} → (X → Trees → Trees → Type 0) → List X → Trees → Trees → Type 0
+InTurn Step [] db next = next ≡ db
+InTurn Step (x ∷ more) db next = (mid : Trees) × Step x db mid × InTurn Step more mid next
+
+pub alone : {X : Type 0} (Step : X → Trees → Trees → Type 0) (x : X) (db next : Trees) → InTurn Step (x ∷ []) db next → Step x db next
+alone Step x db next h = subst (Step x db) (sym h.2) h.1
+
+-- the same steps, in other words
+pub turned : {X : Type 0} (Was Is : X → Trees → Trees → Type 0) → ((x : X) (db next : Trees) → Was x db next → Is x db next) → (xs : List X)
+    → (db next : Trees) → InTurn Was xs db next → InTurn Is xs db next
+turned Was Is leads [] db next h = h
+turned Was Is leads (x ∷ more) db next h = (h.0, leads x db h.0 h.1, turned Was Is leads more h.0 next h.2)
+
+-- steps of what the things of a list are made into
+pub made_of : {X Y : Type 0} (Step : Y → Trees → Trees → Type 0) (f : X → Y) (xs : List X) (db next : Trees) → InTurn Step (map f xs) db next
+    → InTurn (λ x. Step (f x)) xs db next
+made_of Step f [] db next h = h
+made_of Step f (x ∷ more) db next h = (h.0, h.1, made_of Step f more h.0 next h.2)
+
+with_same : (db : Trees) (tree : ℕ) (rows : List Row) → with_tree db tree rows tree ≡ rows
+with_same db tree rows = rw (eq-eqb tree tree refl) refl
+
+with_other : (db : Trees) (tree u : ℕ) (rows : List Row) → u ≢ tree → with_tree db tree rows u ≡ db u
+with_other db tree u rows other = rw (ne_eqb u tree other) refl
+
+-- the first of new rows has a rowid that was free
+fresh_parts : (rows : List Row) (row : Row) (more : List Row) → are_fresh rows (row ∷ more) ≡ true
+    → (is_taken rows row ≡ false) × (are_fresh (put_row row rows) more ≡ true)
+fresh_parts rows row more h =
+    let both = and_parts (not (is_taken rows row)) (are_fresh (put_row row rows) more) h in (not-true _ both.0, both.1)
+
+abbrev pub uncounted : Table → Table
+uncounted t = record t { is_counted = false }
+
+-- the row of these columns goes into the table
+abbrev pub PutsNext : Table → Row → Trees → Trees → Type 0
+PutsNext t columns db next = PutsRow t.tree (with_rowid Chosen (db t.tree) (cast_row (uncounted t) columns)) [] db next
+
+abbrev pub new_row : Table → Row → Trees → Row
+new_row t columns db = with_rowid Chosen (db t.tree) (cast_row (uncounted t) (mended Replace (uncounted t) columns))
+
+-- and in place of those that stood in its way
+abbrev pub ReplacesNext : Table → Row → Trees → Trees → Type 0
+ReplacesNext t columns db next = ReplacesRow (uncounted t) (new_row t columns db) (cast_row (uncounted t) (new_row t columns db)) db next
+
 module _ (limit : Option ℕ) (t : Table) (params : Row) where
   abbrev table : Table
-  table = record t { is_counted = false }
+  table = uncounted t
 
   abbrev pub task : Task
   task = record { limit = limit; keys = Enforced; schema = stable_schema; table = table; params = params }
-
-  free_row : (rows : List Row) (row : Row) → (not (is_taken rows row) && true) ≡ true → is_taken rows row ≡ false
-  free_row rows row h = not-true _ (and_parts _ _ h).0
 
   step : (db next : Trees) (edit : Edit) → works stable_schema Enforced 0 edit.table.tree (taken_by db edit) edit.news ≡ []
       → Writes stable_schema Enforced db edit (Ok next) → Applies stable_schema Enforced db edit next
@@ -81,20 +127,49 @@ module _ (limit : Option ℕ) (t : Table) (params : Row) where
       let edit = edit_of db table [] Given 0 (new ∷ []) in
       let a = step db made.0 edit (no_works stable_schema Enforced 0 t.tree edit.news) made.1 in
       let trees : one.trees ≡ made.0 = ap (λ (it : Written). it.trees) (same_value made.2) in
-      subst (PutsRow t.tree (cast_row table new) [] db) (sym trees) (record { rows = a.rows; free = free_row (db t.tree) (cast_row table new) a.fresh; others = a.tables })
+      subst (PutsRow t.tree (cast_row table new) [] db) (sym trees) (record { rows = a.rows; free = (fresh_parts (db t.tree) (cast_row table new) [] a.fresh).0; others = a.tables })
 
-  pub inserted : (from : Source) (source : Row) (db : Trees) (done : Written)
-      → ((rows : List Row) → IsSource (record { schema = stable_schema; trees = db }) (stamped table params) from rows → rows ≡ source ∷ [])
-      → Inserts task from db (Ok done) → PutsRow t.tree (with_rowid Chosen (db t.tree) (cast_row table source)) [] db done.trees
-  inserted from source db done one h =
+  -- rows that one edit puts in go in one after the other
+  in_turn : (first : Row) (more : List Row) (db next : Trees)
+      → are_fresh (db t.tree) (numbered Chosen (db t.tree) (map (cast_row table) (first ∷ more))) ≡ true
+      → next t.tree ≡ put_all (db t.tree) (numbered Chosen (db t.tree) (map (cast_row table) (first ∷ more)))
+      → AllByRecursion (λ u. u.tree ≢ t.tree → next u.tree ≡ db u.tree) stable_schema.tables
+      → InTurn (PutsNext t) (first ∷ more) db next
+  in_turn first [] db next fresh rows others =
+      let row = with_rowid Chosen (db t.tree) (cast_row table first) in
+      (next, record { rows = rows; free = (fresh_parts (db t.tree) row [] fresh).0; others = others }, refl)
+  in_turn first (second ∷ more) db next fresh rows others =
+      let row = with_rowid Chosen (db t.tree) (cast_row table first) in
+      let put = put_row row (db t.tree) in
+      let mid = with_tree db t.tree put in
+      let here : put ≡ mid t.tree = sym (with_same db t.tree put) in
+      let rest = λ (at : List Row). numbered Chosen at (map (cast_row table) (second ∷ more)) in
+      let parts = fresh_parts (db t.tree) row (rest put) fresh in
+      let stays = λ (u : Table). λ (apart : u.tree ≢ t.tree). with_other db t.tree u.tree put apart in (
+        mid,
+        record { rows = sym here; free = parts.0; others = all_from (λ u. u.tree ≢ t.tree → mid u.tree ≡ db u.tree) stable_schema.tables (λ u _ apart. stays u apart) },
+        in_turn second more mid next (subst (λ at. are_fresh at (rest at) ≡ true) here parts.1) (subst (λ at. next t.tree ≡ put_all at (rest at)) here rows)
+            (all_from (λ u. u.tree ≢ t.tree → next u.tree ≡ mid u.tree) stable_schema.tables (λ u h apart.
+            all_has (λ v. v.tree ≢ t.tree → next v.tree ≡ db v.tree) stable_schema.tables u others h apart ∙ sym (stays u apart))),
+      )
+
+  pub inserted_each : (from : Source) (first : Row) (more : List Row) (db : Trees) (done : Written)
+      → ((rows : List Row) → IsSource (record { schema = stable_schema; trees = db }) (stamped table params) from rows → rows ≡ first ∷ more)
+      → Inserts task from db (Ok done) → InTurn (PutsNext t) (first ∷ more) db done.trees
+  inserted_each from first more db done are h =
       let given = went h in
       let written = went (went given.2).2 in
       let counted = went written.2 in
-      let row = with_rowid Chosen (db t.tree) (cast_row table source) in
       let trees : done.trees ≡ written.0 = ap (λ (it : Written). it.trees) (same_value counted.2) ∙ same_value counted.1 in
-      let put = subst (λ rows. Writes stable_schema Enforced db (edit_of db table [] Chosen 0 rows) (Ok written.0)) (one given.0 given.1) written.1 in
-      let a = step db written.0 (edit_of db table [] Chosen 0 (source ∷ [])) (no_works stable_schema Enforced 0 t.tree (row ∷ [])) put in
-      subst (PutsRow t.tree row [] db) (sym trees) (record { rows = a.rows; free = free_row (db t.tree) row a.fresh; others = a.tables })
+      let edit = edit_of db table [] Chosen 0 (first ∷ more) in
+      let put = subst (λ rows. Writes stable_schema Enforced db (edit_of db table [] Chosen 0 rows) (Ok written.0)) (are given.0 given.1) written.1 in
+      let a = step db written.0 edit (no_works stable_schema Enforced 0 t.tree edit.news) put in
+      subst (InTurn (PutsNext t) (first ∷ more) db) (sym trees) (in_turn first more db written.0 a.fresh a.rows a.tables)
+
+  pub inserted : (from : Source) (source : Row) (db : Trees) (done : Written)
+      → ((rows : List Row) → IsSource (record { schema = stable_schema; trees = db }) (stamped table params) from rows → rows ≡ source ∷ [])
+      → Inserts task from db (Ok done) → PutsNext t source db done.trees
+  inserted from source db done one h = alone (PutsNext t) source db done.trees (inserted_each from source [] db done one h)
 
   in_the_way : (db : Trees) (new : Row) (found : List Row) → AreConflicts None stable_schema.indexes table (db t.tree) new found
       → AreInTheWay table (db t.tree) new (ids_of found)
@@ -148,18 +223,27 @@ module _ (limit : Option ℕ) (t : Table) (params : Row) where
     tried db new one (inl refused) = absurd (let e = refused.1 in cc)
     tried db new one (inr h) = judged db new one h.0 h.2
 
-    pub replaced : (from : Source) (source : Row) (db : Trees) (done : Written)
-        → ((rows : List Row) → IsSource (record { schema = stable_schema; trees = db }) (stamped table params) from rows → rows ≡ source ∷ [])
-        → InsertsOr task Replace [] from db (Ok done)
-        → ReplacesRow table (with_rowid Chosen (db t.tree) (cast_row table (mended Replace table source))) (cast_row table (with_rowid Chosen (db t.tree) (cast_row table (mended Replace table source)))) db done.trees
-    replaced from source db done one h =
+    each_tried : (rows : List Row) (top : ℤ) (done : Written) (all : Written × ℤ) → TriesEach task Replace [] rows top done (Ok all)
+        → InTurn (ReplacesNext t) rows done.trees all.0.trees
+    each_tried [] top done all h = ap (λ (p : Written × ℤ). p.0.trees) (same_value h)
+    each_tried (row ∷ more) top done all h =
+        let new = new_row t row done.trees in
+        let one = went h in
+        (one.0.trees, tried done.trees new one.0 one.1, each_tried more (higher top new) (joined done one.0) all one.2)
+
+    pub replaced_each : (from : Source) (sources : List Row) (db : Trees) (done : Written)
+        → ((rows : List Row) → IsSource (record { schema = stable_schema; trees = db }) (stamped table params) from rows → rows ≡ sources)
+        → InsertsOr task Replace [] from db (Ok done) → InTurn (ReplacesNext t) sources db done.trees
+    replaced_each from sources db done are h =
         let given = went h in
         let counter = went given.2 in
         let all = went counter.2 in
         let counted = went all.2 in
-        let each =
-        went (subst (λ rows. TriesEach task Replace [] rows (count_of counter.0) (nothing db) (Ok all.0)) (one given.0 given.1) all.1) in
-        let new = with_rowid Chosen (db t.tree) (cast_row table (mended Replace table source)) in
-        let same : all.0.0.trees ≡ each.0.trees = ap (λ (p : Written × ℤ). p.0.trees) (same_value each.2) in
-        let trees : done.trees ≡ each.0.trees = ap (λ (it : Written). it.trees) (same_value counted.2) ∙ (same_value counted.1 ∙ same) in
-        subst (ReplacesRow table new (cast_row table new) db) (sym trees) (tried db new each.0 each.1)
+        let each = subst (λ rows. TriesEach task Replace [] rows (count_of counter.0) (nothing db) (Ok all.0)) (are given.0 given.1) all.1 in
+        let trees : done.trees ≡ all.0.0.trees = ap (λ (it : Written). it.trees) (same_value counted.2) ∙ same_value counted.1 in
+        subst (InTurn (ReplacesNext t) sources db) (sym trees) (each_tried sources (count_of counter.0) (nothing db) all.0 each)
+
+    pub replaced : (from : Source) (source : Row) (db : Trees) (done : Written)
+        → ((rows : List Row) → IsSource (record { schema = stable_schema; trees = db }) (stamped table params) from rows → rows ≡ source ∷ [])
+        → InsertsOr task Replace [] from db (Ok done) → ReplacesNext t source db done.trees
+    replaced from source db done one h = alone (ReplacesNext t) source db done.trees (replaced_each from (source ∷ []) db done one h)

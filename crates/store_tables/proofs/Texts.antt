@@ -1,5 +1,5 @@
 -- What the texts mean under the schema of a store.
-use Rattle.std.proofs.Common.{◌≡◌, ℕ, List, [], ◌∷◌, codes, false, pos, negsuc, None, refl}
+use Rattle.std.proofs.Common.{◌≡◌, ℕ, zero, suc, List, [], ◌∷◌, codes, false, pos, negsuc, None, refl}
 use Rattle.sqlite.specs.Command.{Command}
 use Rattle.sqlite.specs.Command.TheVariants.{Insert, InsertOr, Delete}
 use Rattle.sqlite.specs.Source.TheVariants.{Values}
@@ -14,16 +14,21 @@ use Rattle.sqlite_tied.specs.Compute.{everything}
 use Rattle.sqlite.specs.Listing.{understood}
 use Rattle.sqlite.proofs.Callers.{IsPlain, command_of}
 use Rattle.store_tables.specs.Tables.{stable_schema}
-use Rattle.store_tables.specs.Texts.{decide_text, count_text, next_text, base_text, discard_text, record_text, value_text, delta_text, forget_text}
+use Rattle.store_tables.specs.Texts.{decide_text, count_text, next_text, base_text, base_run_text, discard_text, record_text, value_text, value_run_text}
+use Rattle.store_tables.specs.Texts.{delta_text, forget_text}
 
 abbrev pub key_terms : List Term
 key_terms = col 0 0 ∷ lit Null ∷ []
 
-abbrev pub pair_terms : List Term
-pair_terms = col 0 0 ∷ lit Null ∷ col 0 1 ∷ []
+-- rows of a key and a column, two parameters each from a place on
+abbrev pub pair_terms : ℕ → ℕ → List Term
+pair_terms zero at = []
+pair_terms (suc rows) at = col 0 at ∷ lit Null ∷ col 0 (suc at) ∷ pair_terms rows (suc (suc at))
 
-abbrev pub value_terms : List Term
-value_terms = lit Null ∷ col 0 0 ∷ col 0 1 ∷ col 0 2 ∷ []
+-- rows of a record's parts, which have the first parameter and two each from a place on
+abbrev pub part_terms : ℕ → ℕ → List Term
+part_terms zero at = []
+part_terms (suc rows) at = lit Null ∷ col 0 0 ∷ col 0 at ∷ col 0 (suc at) ∷ part_terms rows (suc (suc at))
 
 -- a number of `meta`, in its place
 abbrev pub number_terms : ℕ → List ℕ → List Term
@@ -35,17 +40,17 @@ number_command place name = InsertOr 0 Replace (Values (number_terms place name)
 abbrev pub decide_command : Command
 decide_command = InsertOr 4 Replace (Values key_terms 2) []
 
-abbrev pub base_command : Command
-base_command = InsertOr 1 Replace (Values pair_terms 3) []
+abbrev pub base_command : ℕ → Command
+base_command rows = InsertOr 1 Replace (Values (pair_terms rows 0) 3) []
 
 abbrev pub record_command : Command
-record_command = Insert 2 (Values pair_terms 3)
+record_command = Insert 2 (Values (pair_terms 1 0) 3)
 
-abbrev pub value_command : Command
-value_command = Insert 3 (Values value_terms 4)
+abbrev pub value_command : ℕ → Command
+value_command rows = Insert 3 (Values (part_terms rows 1) 4)
 
 abbrev pub delta_command : Command
-delta_command = Insert 5 (Values value_terms 4)
+delta_command = Insert 5 (Values (part_terms 1 1) 4)
 
 -- the rows of `prepared` with the key of the first parameter
 abbrev pub discard_query : Query
@@ -97,13 +102,21 @@ pub count_plain : IsPlain (understood stable_schema count_text)
 unfolding understood everything
 count_plain = (refl, refl)
 
-pub base_is : command_of (understood stable_schema base_text) ≡ base_command
+pub base_is : command_of (understood stable_schema base_text) ≡ base_command 1
 unfolding understood everything
 base_is = refl
 
 pub base_plain : IsPlain (understood stable_schema base_text)
 unfolding understood everything
 base_plain = (refl, refl)
+
+pub base_run_is : command_of (understood stable_schema base_run_text) ≡ base_command 16
+unfolding understood everything
+base_run_is = refl
+
+pub base_run_plain : IsPlain (understood stable_schema base_run_text)
+unfolding understood everything
+base_run_plain = (refl, refl)
 
 pub discard_is : command_of (understood stable_schema discard_text) ≡ discard_command
 unfolding understood everything
@@ -121,13 +134,21 @@ pub record_plain : IsPlain (understood stable_schema record_text)
 unfolding understood everything
 record_plain = (refl, refl)
 
-pub value_is : command_of (understood stable_schema value_text) ≡ value_command
+pub value_is : command_of (understood stable_schema value_text) ≡ value_command 1
 unfolding understood everything
 value_is = refl
 
 pub value_plain : IsPlain (understood stable_schema value_text)
 unfolding understood everything
 value_plain = (refl, refl)
+
+pub value_run_is : command_of (understood stable_schema value_run_text) ≡ value_command 16
+unfolding understood everything
+value_run_is = refl
+
+pub value_run_plain : IsPlain (understood stable_schema value_run_text)
+unfolding understood everything
+value_run_plain = (refl, refl)
 
 pub forget_is : command_of (understood stable_schema forget_text) ≡ forget_command
 unfolding understood everything

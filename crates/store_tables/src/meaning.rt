@@ -10,9 +10,11 @@ pub fn statements_stand_alone()
     ensures count { IsPlain (understood stable_schema text.count_text) }
     ensures next_top { IsPlain (understood stable_schema text.next_text) }
     ensures base { IsPlain (understood stable_schema text.base_text) }
+    ensures base_run { IsPlain (understood stable_schema text.base_run_text) }
     ensures discard { IsPlain (understood stable_schema text.discard_text) }
     ensures home { IsPlain (understood stable_schema text.record_text) }
     ensures value { IsPlain (understood stable_schema text.value_text) }
+    ensures value_run { IsPlain (understood stable_schema text.value_run_text) }
     ensures delta { IsPlain (understood stable_schema text.delta_text) }
     ensures forget { IsPlain (understood stable_schema text.forget_text) }
 {}

@@ -9,8 +9,8 @@ use Rattle.stable_store.specs.declared.fault.StoreFault.TheVariants.{NotOurs}
 use Rattle.stable_store.specs.declared.kept.Kept.{Kept}
 use Rattle.stable_store.specs.Held.{held}
 use Rattle.store_contents.specs.Answered.{answered, queries, rows_of}
-use Rattle.store_contents.specs.Holds.{Holds}
-use Rattle.sql_store.specs.Reading.{AreAnswered, IsLaidOut, Looks}
+use Rattle.store_contents.specs.Holds.{Holds, IsLaidOut}
+use Rattle.sql_store.specs.Reading.{AreAnswered, Looks}
 use Rattle.sql_store.proofs.Looking.{clean_before, looks_err, then_looks}
 use Rattle.sql_store.proofs.Queries.{are_queries}
 use Rattle.sql_store.proofs.Rowids.{rowids_queries, are_rowids_queries}

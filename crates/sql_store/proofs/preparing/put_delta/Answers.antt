@@ -15,7 +15,7 @@ use Rattle.sql_store.proofs.Runs.{delta_means}
 use Rattle.store_contents.proofs.Tables.{InRange}
 use Rattle.store_tables.specs.Texts.{delta_text}
 use Rattle.store_tables.proofs.Texts.{delta_command}
-use Rattle.sql_store.proofs.steps.put_delta.Goals as goal
+use Rattle.sql_store.proofs.preparing.put_delta.Goals as goal
 
 pub returns-in-Ok-clause-steps : goal.returns-in-Ok-clause-steps
 returns-in-Ok-clause-steps g c low home before k sorted sees =
