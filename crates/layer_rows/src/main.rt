@@ -1,14 +1,22 @@
-//! Rows of calls of `two_phase`, `orphans`, `tellings` and `action_forest`, a module a crate. The first word of a section's name is the crate that its rows call.
+//! Rows of calls of `two_phase`, `orphans`, `tellings`, `action_forest`, `roster`, `held_objects` and `local_histories`, a module a crate. The first
+//! word of a section's name is the crate that its rows call.
 #![tactic(auto)]
 
+mod events;
 mod of_action_forest;
+mod of_held_objects;
+mod of_local_histories;
 mod of_orphans;
+mod of_roster;
 mod of_tellings;
 mod of_two_phase;
 mod reading;
 
 use of_action_forest::Growing;
+use of_held_objects::Indexing;
+use of_local_histories::Recording;
 use of_orphans::Knowing;
+use of_roster::Rostering;
 use of_tellings::Hearing;
 use of_two_phase::Voting;
 use rows::{Row, RowFault, Subject};
@@ -30,6 +38,9 @@ enum Section {
     Orphans(Knowing),
     Tellings(Hearing),
     ActionForest(Growing),
+    Roster(Rostering),
+    HeldObjects(Indexing),
+    LocalHistories(Recording),
     Unknown,
 }
 
@@ -58,6 +69,9 @@ impl Subject for Tested {
             Section::Orphans(knowing) => knowing.answer(row, answer),
             Section::Tellings(hearing) => hearing.answer(row, answer),
             Section::ActionForest(growing) => growing.answer(row, answer),
+            Section::Roster(rostering) => rostering.answer(row, answer),
+            Section::HeldObjects(indexing) => indexing.answer(row, answer),
+            Section::LocalHistories(recording) => recording.answer(row, answer),
             Section::Unknown => Err(RowFault::Unread),
         }
     }
@@ -70,6 +84,9 @@ fn new_section(alloc: Global, called: &str) -> Result<Section, AllocError> {
         "orphans" => Section::Orphans(Knowing::new(alloc)?),
         "tellings" => Section::Tellings(Hearing::new(alloc)),
         "action_forest" => Section::ActionForest(Growing::new(alloc)?),
+        "roster" => Section::Roster(Rostering::new(alloc)),
+        "held_objects" => Section::HeldObjects(Indexing::new(alloc)),
+        "local_histories" => Section::LocalHistories(Recording::new(alloc)),
         _ => Section::Unknown,
     })
 }

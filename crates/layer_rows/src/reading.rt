@@ -57,7 +57,7 @@ pub(crate) fn deps(alloc: Global, words: Words<'_>) -> Result<Deps, RowFault> {
 }
 
 /// A word `GUARDIAN:INCARNATION`.
-fn dependency(word: &str) -> Result<(u32, u64), RowFault> {
+pub(crate) fn dependency(word: &str) -> Result<(u32, u64), RowFault> {
     let (guardian, incarnation) = word.split_once(':').ok_or(RowFault::Unread)?;
     let least = incarnation.parse().map_err(|_| RowFault::Unread)?;
     Ok((small_number(guardian)?, least))
@@ -65,8 +65,12 @@ fn dependency(word: &str) -> Result<(u32, u64), RowFault> {
 
 /// The names that are left in a row.
 pub(crate) fn names(alloc: Global, words: Words<'_>) -> Result<Names, RowFault> {
+    names_in(alloc, words.rest())
+}
+
+pub(crate) fn names_in(alloc: Global, text: &str) -> Result<Names, RowFault> {
     let mut names = Names::new(alloc);
-    for word in words.rest().split_whitespace() {
+    for word in text.split_whitespace() {
         let action = name(alloc, word)?;
         names.push(action).map_err(|_| RowFault::Memory)?;
     }
@@ -87,7 +91,7 @@ pub(crate) fn read_outcomes(
 }
 
 /// An outcome `NAME:committed` or `NAME:aborted`.
-fn read_outcome(alloc: Global, word: &str) -> Result<(Name, bool), RowFault> {
+pub(crate) fn read_outcome(alloc: Global, word: &str) -> Result<(Name, bool), RowFault> {
     let (told, outcome) = word.split_once(':').ok_or(RowFault::Unread)?;
     let committed = match outcome {
         "committed" => true,

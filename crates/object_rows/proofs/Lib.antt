@@ -4,3 +4,5 @@ pub mod Versions
 pub mod Upward
 pub mod Standings
 pub mod GivenBack
+pub mod Guarded
+pub mod Outcomes

@@ -1,2 +1,4 @@
+pub mod Guardians
 pub mod Layers
+pub mod Outcomes
 pub mod Stands

@@ -1,9 +1,10 @@
-//! Rows of calls of the crates of which objects are made, `holders`, `moss_locks`, `deltas`, `overlays`, `version_stack` and `atomic_object`, a module a crate. The
-//! first word of a section's name is the crate that its rows call.
+//! Rows of calls of the crates of which objects are made, `holders`, `moss_locks`, `deltas`, `overlays`, `version_stack` and `atomic_object`, and of
+//! `guardian_objects`, a module a crate. The first word of a section's name is the crate that its rows call.
 #![tactic(auto)]
 
 mod of_atomic_object;
 mod of_deltas;
+mod of_guardian_objects;
 mod of_holders;
 mod of_moss_locks;
 mod of_overlays;
@@ -14,6 +15,7 @@ mod writing;
 
 use of_atomic_object::Acting;
 use of_deltas::Adding;
+use of_guardian_objects::Serving;
 use of_holders::Holding;
 use of_moss_locks::Locking;
 use of_overlays::Overlaying;
@@ -39,6 +41,7 @@ enum Section {
     Overlays(Overlaying),
     VersionStack(Stacking),
     AtomicObject(Acting),
+    GuardianObjects(Serving),
     Unknown,
 }
 
@@ -69,6 +72,7 @@ impl Subject for Tested {
             Section::Overlays(overlaying) => overlaying.answer(row, answer),
             Section::VersionStack(stacking) => stacking.answer(row, answer),
             Section::AtomicObject(acting) => acting.answer(row, answer),
+            Section::GuardianObjects(serving) => serving.answer(row, answer),
             Section::Unknown => Err(RowFault::Unread),
         }
     }
@@ -83,6 +87,7 @@ fn new_section(alloc: Global, called: &str) -> Section {
         "overlays" => Section::Overlays(Overlaying::new(alloc)),
         "version_stack" => Section::VersionStack(Stacking::new(alloc)),
         "atomic_object" => Section::AtomicObject(Acting::new(alloc)),
+        "guardian_objects" => Section::GuardianObjects(Serving::new(alloc)),
         _ => Section::Unknown,
     }
 }

@@ -1,15 +1,14 @@
 //! Calls of one atomic object.
 mod holder;
-mod prepared;
 mod reopening;
 mod showing;
 
-use crate::reading::{content, name, op};
-use crate::writing::write_content;
+use crate::reading::{content, name, op, outcomes};
+use crate::surviving::Prepared;
+use crate::writing::{write_content, write_part};
 use action_names::Name;
 use atomic_object::Object;
 use atomic_types::Part;
-use prepared::Prepared;
 use rows::{Row, RowFault, Words, again};
 use showing::Showing;
 use std::alloc::{AllocError, Global};
@@ -81,6 +80,7 @@ impl Acting {
         };
         match row.call {
             "op" => operate(alloc, showing, row.words(), answer),
+            "answer" => write_answer(alloc, showing, row.words(), answer),
             "room" => Ok(showing.make_room(&name(alloc, row.given)?)?),
             "commit" => commit(showing, &name(alloc, row.given)?, answer),
             "abort" => abort(showing, &name(alloc, row.given)?, answer),
@@ -107,6 +107,20 @@ fn operate(
     let op = op(alloc, words)?;
     match showing.op(&action, &op)? {
         Some(answered) => Ok(again!(answered.write_to(answer))?),
+        None => refuse(answer),
+    }
+}
+
+/// `NAME OP`: what the operation would be answered.
+fn write_answer(
+    alloc: Global,
+    showing: &Showing,
+    mut words: Words<'_>,
+    answer: &mut String,
+) -> Result<(), RowFault> {
+    let action = name(alloc, words.word()?)?;
+    match showing.answer(&action, &op(alloc, words)?)? {
+        Some(answered) => Ok(answered.write_to(answer)?),
         None => refuse(answer),
     }
 }
@@ -141,7 +155,8 @@ fn ask(alloc: Global, object: &Object, row: &Row<'_>, answer: &mut String) -> Re
     match row.call {
         "knows" => write!(answer, "{}", object.knows(&op(alloc, row.words())?))?,
         "base" => write_content(alloc, &object.base().content()?, answer)?,
-        "part" => write_part(alloc, object, &name(alloc, row.given)?, answer)?,
+        "part" => write_held(alloc, object, &name(alloc, row.given)?, answer)?,
+        "part_once_told" => write_once_told(alloc, object, row.words(), answer)?,
         "commit_concerns" => write_concern(object, &name(alloc, row.given)?, true, answer)?,
         "abort_concerns" => write_concern(object, &name(alloc, row.given)?, false, answer)?,
         _ => return Err(RowFault::Unread),
@@ -150,15 +165,31 @@ fn ask(alloc: Global, object: &Object, row: &Row<'_>, answer: &mut String) -> Re
 }
 
 /// Writes what the action holds, to be prepared.
-fn write_part(
+fn write_held(
     alloc: Global,
     object: &Object,
     action: &Name,
     answer: &mut String,
 ) -> Result<(), AllocError> {
-    match object.part(action)? {
-        Some(Part::Value(content)) => write_content(alloc, &content, answer),
-        Some(Part::Delta(by)) => write!(answer, "delta {by}"),
+    write_if_any(alloc, &object.part(action)?, answer)
+}
+
+/// `NAME OUTCOME ..`: writes what the top action will hold once these outcomes are told.
+fn write_once_told(
+    alloc: Global,
+    object: &Object,
+    mut words: Words<'_>,
+    answer: &mut String,
+) -> Result<(), RowFault> {
+    let top = name(alloc, words.word()?)?;
+    let outcomes = outcomes(alloc, words)?;
+    let part = object.part_once_told(&top, &outcomes)?;
+    Ok(write_if_any(alloc, &part, answer)?)
+}
+
+fn write_if_any(alloc: Global, part: &Option<Part>, answer: &mut String) -> Result<(), AllocError> {
+    match part {
+        Some(part) => write_part(alloc, part, answer),
         None => answer.push_str("none"),
     }
 }

@@ -1,6 +1,6 @@
 //! Calls of what actions add to a counter that own no version of it.
 use crate::reading::{int, name};
-use crate::surviving::Survivor;
+use crate::surviving::{Prepared, Survivor};
 use action_names::Name;
 use deltas::Deltas;
 use rows::{Row, RowFault, Words};
@@ -38,6 +38,7 @@ impl Adding {
             "of" => self.of(row.given, answer),
             "sum" => Ok(write!(answer, "{}", self.deltas.sum())?),
             "sum_beside" => self.sum_beside(row.given, answer),
+            "sum_left" => self.sum_left(row.given, answer),
             _ => Err(RowFault::Unread),
         }
     }
@@ -54,6 +55,12 @@ impl Adding {
         }
         let owner = name(self.alloc, given)?;
         Ok(write!(answer, "{}", self.deltas.sum_beside(Some(&owner)))?)
+    }
+
+    /// How much those of these actions add that are top actions, if any of them adds.
+    fn sum_left(&self, given: &str, answer: &mut String) -> Result<(), RowFault> {
+        let left = Prepared::read(self.alloc, given)?;
+        Ok(write!(answer, "{:?}", self.deltas.sum_left(&left))?)
     }
 
     fn add(&mut self, mut words: Words<'_>) -> Result<(), RowFault> {

@@ -1,11 +1,12 @@
-//! Who survives a crash in a row: one action.
-ghost use Rattle.action_names.specs.Names.{same_name};
+//! Who survives a crash in a row.
+ghost use Rattle.std.specs.Prelude.{◌&&◌};
+ghost use Rattle.action_names.specs.Names.{has_name, is_top, same_name};
 
 use crate::reading::name;
-use action_names::Name;
+use action_names::{Name, Names};
 use holders::Survivors;
 use rows::RowFault;
-use std::alloc::Global;
+use std::alloc::{AllocError, Global};
 
 /// The one action that survives.
 #[derive(Drop)]
@@ -26,5 +27,38 @@ impl Survivors for Survivor {
 
     fn stays(&self, holder: &Name) -> bool {
         self.action == *holder
+    }
+}
+
+/// Names of actions. The top actions among them had prepared, and survive.
+#[derive(Drop)]
+pub(crate) struct Prepared {
+    names: Names,
+}
+
+impl Prepared {
+    /// The actions of these names, of which there may be none.
+    pub(crate) fn read(alloc: Global, given: &str) -> Result<Prepared, RowFault> {
+        let mut prepared = Prepared {
+            names: Names::new(alloc),
+        };
+        for word in given.split(' ') {
+            if !word.is_empty() {
+                prepared.push(name(alloc, word)?)?;
+            }
+        }
+        Ok(prepared)
+    }
+
+    fn push(&mut self, name: Name) -> Result<(), AllocError> {
+        Ok(self.names.push(name)?)
+    }
+}
+
+impl Survivors for Prepared {
+    ghost stays = { λ prepared a. is_top a && has_name prepared.names a };
+
+    fn stays(&self, holder: &Name) -> bool {
+        holder.is_top() && self.names.contains(holder)
     }
 }

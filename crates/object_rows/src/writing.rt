@@ -1,6 +1,6 @@
 //! How answers are written that calls of several kinds give.
 use action_names::Name;
-use atomic_types::Reply;
+use atomic_types::{Part, Reply};
 use std::alloc::{AllocError, Global};
 use values::Content;
 
@@ -24,6 +24,18 @@ pub(crate) fn write_content(
     answer: &mut String,
 ) -> Result<(), AllocError> {
     answer.push_str(content.text(alloc)?.as_str())
+}
+
+/// Writes what an action holds, to be prepared: a content, or what it adds.
+pub(crate) fn write_part(
+    alloc: Global,
+    part: &Part,
+    answer: &mut String,
+) -> Result<(), AllocError> {
+    match part {
+        Part::Value(content) => write_content(alloc, content, answer),
+        Part::Delta(by) => write!(answer, "delta {by}"),
+    }
 }
 
 /// Appends the name, and a blank before it unless it is the first word.

@@ -4,7 +4,7 @@ ghost use Rattle.std.specs.List.{list_all};
 ghost use Rattle.action_names.specs.Names.{has_name, is_top};
 
 use crate::of_atomic_object::holder::{make_room_for, next_holder, own_ancestor};
-use crate::of_atomic_object::prepared::Prepared;
+use crate::surviving::Prepared;
 use action_names::{Name, Names};
 use atomic_object::Object;
 use atomic_types::Op;
@@ -79,6 +79,15 @@ impl Showing {
         }
         own_ancestor(action);
         Ok(Some(self.object.op(action, op)?))
+    }
+
+    /// What the operation of the action would be answered, where `op` makes it.
+    pub(crate) fn answer(&self, action: &Name, op: &Op) -> Result<Option<Answer>, AllocError> {
+        if self.told.contains(action) || !self.object.knows(op) {
+            return Ok(None);
+        }
+        own_ancestor(action);
+        Ok(Some(self.object.answer(action, op)?))
     }
 
     /// Makes room for what the holder may be handed.

@@ -18,7 +18,8 @@ pub(super) fn ask(
     match row.call {
         "lowest" => Ok(write!(answer, "{:?}", versions.lowest())?),
         "top_owner" => Ok(write!(answer, "{:?}", versions.top_owner())?),
-        "content" | "knows" | "read" => ask_version(alloc, versions, row, answer),
+        "owners" => Ok(write!(answer, "{:?}", versions.owners())?),
+        "content" | "knows" | "read" | "reply" => ask_version(alloc, versions, row, answer),
         _ => ask_of_action(alloc, versions, row, answer),
     }
 }
@@ -59,6 +60,7 @@ fn ask_version(
     let op = op(alloc, words)?;
     match row.call {
         "knows" => Ok(write!(answer, "{}", version.knows(&op))?),
+        "reply" => Ok(reply(alloc, &version, &op, answer)?),
         _ => Ok(read(alloc, &version, &op, answer)?),
     }
 }
@@ -87,6 +89,19 @@ fn read(
         return answer.push_str("refused");
     }
     write_reply(alloc, &version.read(op)?, answer)
+}
+
+/// Writes the reply to an operation of whatever class.
+fn reply(
+    alloc: Global,
+    version: &View<'_, Content>,
+    op: &Op,
+    answer: &mut String,
+) -> Result<(), AllocError> {
+    if !version.knows(op) {
+        return answer.push_str("refused");
+    }
+    write_reply(alloc, &version.reply(op)?, answer)
 }
 
 /// Writes the content, put together.
