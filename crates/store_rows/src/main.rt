@@ -10,13 +10,18 @@
 mod calls;
 mod contents;
 mod devices;
+mod files;
+mod machines;
+mod memory;
 mod stops;
 mod stores;
 
+use files::Device;
+use memory::InMemory;
 use std::io;
 use stores::Stores;
 
 fn main(rt: HostRuntime) -> io::Result<()> {
-    let mut stores = Stores::new(rt.alloc());
+    let mut stores: Stores<InMemory, Device> = Stores::new(rt.alloc());
     rows::run(&rt, &mut stores)
 }

@@ -1,9 +1,7 @@
 //! What a stop of the device leaves: one of its two files fails from some call on, for each number of calls up to one that suffices.
 use crate::calls::Change;
-use crate::devices::{
-    CALLS, Device, DeviceStore, Failing, calls_to_open, crashed, make_whole, open_and_crash,
-    open_copy, open_store,
-};
+use crate::devices::{CALLS, calls_to_open, make_whole, open_and_crash, open_copy, open_store};
+use crate::machines::{Failing, Keeper, Machine};
 use rows::{RowFault, Words};
 use stable_store::StoreFault;
 use std::alloc::Global;
@@ -11,8 +9,8 @@ use std::fmt::Write;
 
 /// A change that is made in copies of a device, each of which fails after another number of calls.
 #[derive(Clone, Copy, Drop)]
-pub(crate) struct Trial<'a> {
-    device: &'a Device,
+pub(crate) struct Trial<'a, M: Machine> {
+    machine: &'a M,
     failing: Failing,
     change: Change<'a>,
 }
@@ -24,35 +22,40 @@ struct Contents {
     after: String,
 }
 
-impl<'a> Trial<'a> {
+impl<'a, M: Machine> Trial<'a, M> {
     /// The trial of the words of a `Failing` and of the change after them.
-    pub(crate) fn read(device: &'a Device, words: Words<'a>) -> Result<Trial<'a>, RowFault> {
+    pub(crate) fn read(machine: &'a M, words: Words<'a>) -> Result<Trial<'a, M>, RowFault> {
         let mut words = words;
         let failing = Failing::read(&mut words)?;
         let change = Change::read(words.rest());
         Ok(Trial {
-            device,
+            machine,
             failing,
             change,
         })
     }
 
     /// The store in a copy that fails after so many calls.
-    fn open(&self, alloc: Global, calls: u64) -> Result<DeviceStore, RowFault> {
-        open_copy(alloc, self.device, self.failing, calls)
+    fn open(&self, alloc: Global, calls: u64) -> Result<M, RowFault> {
+        open_copy(alloc, self.machine, self.failing, calls)
     }
 
     fn contents(&self, alloc: Global) -> Result<Contents, RowFault> {
-        Contents::of(alloc, self.open(alloc, u64::MAX)?, self.change)
+        let mut store = self.open(alloc, u64::MAX)?;
+        Contents::of(alloc, &mut store, self.change)
     }
 }
 
 impl Contents {
-    fn of(alloc: Global, mut store: DeviceStore, change: Change<'_>) -> Result<Contents, RowFault> {
+    fn of<K: Keeper>(
+        alloc: Global,
+        store: &mut K,
+        change: Change<'_>,
+    ) -> Result<Contents, RowFault> {
         let mut before = String::new(alloc);
         let mut after = String::new(alloc);
         store.load(alloc, &mut before)?;
-        make_whole(alloc, &mut store, change)?;
+        make_whole(alloc, store, change)?;
         store.load(alloc, &mut after)?;
         Ok(Contents { before, after })
     }
@@ -68,9 +71,9 @@ impl Contents {
 }
 
 /// Writes the contents before and after the change, and what is wrong where a stop leaves another than these.
-pub(crate) fn write_stops(
+pub(crate) fn write_stops<M: Machine>(
     alloc: Global,
-    trial: &Trial<'_>,
+    trial: &Trial<'_, M>,
     answer: &mut String,
 ) -> Result<(), RowFault> {
     let contents = trial.contents(alloc)?;
@@ -84,13 +87,13 @@ pub(crate) fn write_stops(
 }
 
 /// Lets the file fail after each number of calls, from the first of the change up to one that suffices.
-fn stop_each(
+fn stop_each<M: Machine>(
     alloc: Global,
-    trial: &Trial<'_>,
+    trial: &Trial<'_, M>,
     contents: &Contents,
     wrong: &mut String,
 ) -> Result<(), RowFault> {
-    let first = calls_to_open(alloc, trial.device, trial.failing)?;
+    let first = calls_to_open(alloc, trial.machine, trial.failing)?;
     for calls in first..CALLS {
         let told = wrong.len();
         let suffices = survives(alloc, trial, trial.open(alloc, calls)?, contents, wrong)?;
@@ -109,29 +112,29 @@ fn stop_each(
 }
 
 /// Changes the store, and opens it again after a crash. Gives whether nothing failed.
-fn survives(
+fn survives<M: Machine>(
     alloc: Global,
-    trial: &Trial<'_>,
-    mut store: DeviceStore,
+    trial: &Trial<'_, M>,
+    mut store: M,
     contents: &Contents,
     wrong: &mut String,
 ) -> Result<bool, RowFault> {
     let is_made = make_checked(alloc, &mut store, trial.change, contents, wrong)?;
-    let again = open_store(alloc, crashed(store), trial.failing.log_frames)?;
-    check_found(alloc, again, contents, is_made, wrong)?;
+    let mut again = open_store(alloc, store.crash(), trial.failing.log_frames)?;
+    check_found(alloc, &mut again, contents, is_made, wrong)?;
     Ok(is_made)
 }
 
 /// Makes the change, and looks at the store, which goes on. Gives whether nothing failed.
-fn make_checked(
+fn make_checked<K: Keeper>(
     alloc: Global,
-    store: &mut DeviceStore,
+    store: &mut K,
     change: Change<'_>,
     contents: &Contents,
     wrong: &mut String,
 ) -> Result<bool, RowFault> {
     let fault = store.make(alloc, change)?;
-    check_failures(store.failures(), fault, wrong)?;
+    check_failures(store.failures()?, fault, wrong)?;
     check_loaded(alloc, store, contents.kept(fault.is_none()), wrong)?;
     Ok(fault.is_none())
 }
@@ -150,16 +153,17 @@ fn check_failures(
 }
 
 /// The store, which goes on, contains this, or does not load, and that is counted once.
-fn check_loaded(
+fn check_loaded<K: Keeper>(
     alloc: Global,
-    store: &mut DeviceStore,
+    store: &mut K,
     kept: &str,
     wrong: &mut String,
 ) -> Result<(), RowFault> {
-    let before = store.failures();
+    let before = store.failures()?;
     let mut found = String::new(alloc);
     store.load(alloc, &mut found)?;
-    let is_refused = found.as_str() == "Failed" && store.failures().checked_sub(before) == Some(1);
+    let counted = store.failures()?.checked_sub(before);
+    let is_refused = found.as_str() == "Failed" && counted == Some(1);
     if !is_refused && found.as_str() != kept {
         write!(wrong, "; goes on with {}", found.as_str())?;
     }
@@ -167,9 +171,9 @@ fn check_loaded(
 }
 
 /// After a crash the store has what was kept, or has what it would after a change that was refused.
-fn check_found(
+fn check_found<K: Keeper>(
     alloc: Global,
-    mut store: DeviceStore,
+    store: &mut K,
     contents: &Contents,
     is_made: bool,
     wrong: &mut String,
@@ -183,18 +187,18 @@ fn check_found(
 }
 
 /// A store whose device has just enough calls left to open it.
-pub(crate) fn open_exhausted(
+pub(crate) fn open_exhausted<M: Machine>(
     alloc: Global,
-    device: &Device,
+    machine: &M,
     failing: Failing,
-) -> Result<DeviceStore, RowFault> {
-    let calls = calls_to_open(alloc, device, failing)?;
-    open_copy(alloc, device, failing, calls)
+) -> Result<M, RowFault> {
+    let calls = calls_to_open(alloc, machine, failing)?;
+    open_copy(alloc, machine, failing, calls)
 }
 
 /// A store whose database was closed in the change: a sync failed. `Unread` where no sync of the change fails.
-pub(crate) fn shut(alloc: Global, trial: &Trial<'_>) -> Result<DeviceStore, RowFault> {
-    let first = calls_to_open(alloc, trial.device, trial.failing)?;
+pub(crate) fn shut<M: Machine>(alloc: Global, trial: &Trial<'_, M>) -> Result<M, RowFault> {
+    let first = calls_to_open(alloc, trial.machine, trial.failing)?;
     for calls in first..CALLS {
         if is_shut(alloc, trial, calls)? {
             return stopped(alloc, trial.open(alloc, calls)?, trial.change);
@@ -204,17 +208,13 @@ pub(crate) fn shut(alloc: Global, trial: &Trial<'_>) -> Result<DeviceStore, RowF
 }
 
 /// Whether a sync fails after so many calls.
-fn is_shut(alloc: Global, trial: &Trial<'_>, calls: u64) -> Result<bool, RowFault> {
+fn is_shut<M: Machine>(alloc: Global, trial: &Trial<'_, M>, calls: u64) -> Result<bool, RowFault> {
     let store = stopped(alloc, trial.open(alloc, calls)?, trial.change)?;
-    Ok(!store.into_device().may_be_used())
+    Ok(store.close().is_shut())
 }
 
 /// The store after a change that is refused.
-fn stopped(
-    alloc: Global,
-    mut store: DeviceStore,
-    change: Change<'_>,
-) -> Result<DeviceStore, RowFault> {
+fn stopped<K: Keeper>(alloc: Global, mut store: K, change: Change<'_>) -> Result<K, RowFault> {
     match store.make(alloc, change)? {
         Some(StoreFault::Failed) => Ok(store),
         _ => Err(RowFault::Unread),
@@ -223,17 +223,17 @@ fn stopped(
 
 /// Writes the content that the store has once it is opened, and what is wrong where an opening that is stopped leaves
 /// another.
-pub(crate) fn write_openings(
+pub(crate) fn write_openings<M: Machine>(
     alloc: Global,
-    device: &Device,
+    machine: &M,
     failing: Failing,
     answer: &mut String,
 ) -> Result<(), RowFault> {
     let mut whole = String::new(alloc);
-    open_copy(alloc, device, failing, u64::MAX)?.load(alloc, &mut whole)?;
+    open_copy(alloc, machine, failing, u64::MAX)?.load(alloc, &mut whole)?;
     answer.push_str(whole.as_str())?;
     for calls in 0..CALLS {
-        if is_opened(alloc, device, failing, calls, whole.as_str(), answer)? {
+        if is_opened(alloc, machine, failing, calls, whole.as_str(), answer)? {
             return Ok(());
         }
     }
@@ -242,15 +242,15 @@ pub(crate) fn write_openings(
 }
 
 /// Opens a copy that fails after so many calls, and then what a crash leaves of it. Gives whether nothing failed.
-fn is_opened(
+fn is_opened<M: Machine>(
     alloc: Global,
-    device: &Device,
+    machine: &M,
     failing: Failing,
     calls: u64,
     whole: &str,
     wrong: &mut String,
 ) -> Result<bool, RowFault> {
-    let (left, is_open) = open_and_crash(alloc, device, failing, calls)?;
+    let (left, is_open) = open_and_crash(alloc, machine, failing, calls)?;
     let mut found = String::new(alloc);
     open_store(alloc, left, failing.log_frames)?.load(alloc, &mut found)?;
     if found.as_str() != whole {

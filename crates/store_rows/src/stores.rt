@@ -1,35 +1,29 @@
 //! What the rows of a section work on, and their calls.
-use crate::calls::{Change, load, make};
-use crate::devices::{
-    Device, DeviceConnection, DeviceStore, Failing, connect, crashed, device, device_of, filled,
-    filled_tables, has_known_tables, have_same_bytes, open_and_close, open_store, read_frames,
-};
+use crate::calls::Change;
+use crate::devices::{filled, has_known_tables, open_and_close, open_store};
+use crate::machines::{Database, Failing, Keeper, Machine, Refusal, read_frames};
 use crate::stops::{Trial, open_exhausted, shut, write_openings, write_stops};
 use rows::{Row, RowFault, Subject, Words};
-use sql_store::SqlStable;
-use sqlite::{Connection, Error, ErrorCode, MemStore};
+use sqlite::{Error, ErrorCode};
 use sqlite_resolve::CompileError;
-use stable_store::{Stable, StoreFault};
+use stable_store::StoreFault;
 use std::alloc::{AllocError, Global};
 use std::fmt::Write;
 use std::mem;
-use store_tables::is_known;
 
 /// What a section works on.
 #[derive(Drop)]
-enum Held {
+enum Held<D: Database, M: Machine> {
     Nothing,
-    Database(Connection<MemStore>),
-    Store(SqlStable<MemStore>),
-    Device(Device),
-    DeviceStore(DeviceStore),
+    Database(D),
+    Device(M),
 }
 
-/// The subject of the rows.
+/// The subject of the rows, over databases in memory and devices.
 #[derive(Drop)]
-pub(crate) struct Stores {
+pub(crate) struct Stores<D: Database, M: Machine> {
     alloc: Global,
-    held: Held,
+    held: Held<D, M>,
 }
 
 /// A database with a store's tables, of version 1.
@@ -51,7 +45,7 @@ const SECOND_TABLES: &str =
 /// Room for a fault, which is reserved before a call: once that is made, no memory is wanted to tell its answer.
 const ROOM: usize = 64;
 
-impl Subject for Stores {
+impl<D: Database, M: Machine> Subject for Stores<D, M> {
     fn begin(&mut self, _section: &str) -> Result<(), AllocError> {
         self.held = Held::Nothing;
         Ok(())
@@ -104,9 +98,19 @@ fn tell_error(error: Error, answer: &mut String) -> Result<(), RowFault> {
     }
 }
 
+/// Writes `done`, or what refused a call.
+fn tell_refusal(refusal: Option<Refusal>, answer: &mut String) -> Result<(), RowFault> {
+    match refusal {
+        None => tell(None, answer),
+        Some(Refusal::Open) => Err(RowFault::Unread),
+        Some(Refusal::Database(error)) => tell_error(error, answer),
+        Some(Refusal::Store(fault)) => tell(Some(fault), answer),
+    }
+}
+
 /// The calls over a database in memory.
-impl Stores {
-    pub(crate) fn new(alloc: Global) -> Stores {
+impl<D: Database, M: Machine> Stores<D, M> {
+    pub(crate) fn new(alloc: Global) -> Stores<D, M> {
         Stores {
             alloc,
             held: Held::Nothing,
@@ -120,18 +124,23 @@ impl Stores {
         batch: &str,
         answer: &mut String,
     ) -> Result<(), RowFault> {
-        let mut conn = Connection::open_in_memory(self.alloc)?;
-        if let Err(error) = fill_database(&mut conn, tables, batch) {
-            return tell_error(error, answer);
+        match D::with_tables(self.alloc, tables, batch) {
+            Ok(database) => {
+                self.held = Held::Database(database);
+                tell(None, answer)
+            }
+            Err(error) => tell_error(error, answer),
         }
-        self.held = Held::Database(conn);
-        tell(None, answer)
     }
 
     /// Opens the store of the database, which stays where it is refused.
     fn open(&mut self, answer: &mut String) -> Result<(), RowFault> {
         match mem::replace(&mut self.held, Held::Nothing) {
-            Held::Database(conn) => self.open_database(conn, answer),
+            Held::Database(database) => {
+                let (database, refusal) = database.open(self.alloc);
+                self.held = Held::Database(database);
+                tell_refusal(refusal, answer)
+            }
             held => {
                 self.held = held;
                 Err(RowFault::Unread)
@@ -139,29 +148,17 @@ impl Stores {
         }
     }
 
-    fn open_database(
-        &mut self,
-        conn: Connection<MemStore>,
-        answer: &mut String,
-    ) -> Result<(), RowFault> {
-        match SqlStable::new(self.alloc, conn) {
-            Ok(store) => {
-                self.held = Held::Store(store);
-                tell(None, answer)
-            }
-            Err((fault, conn)) => {
-                self.held = Held::Database(conn);
-                tell(Some(fault), answer)
-            }
-        }
-    }
-
     /// Gives the database back that a store is in.
     fn close(&mut self, answer: &mut String) -> Result<(), RowFault> {
         match mem::replace(&mut self.held, Held::Nothing) {
-            Held::Store(store) => {
-                self.held = Held::Database(store.into_connection());
-                tell(None, answer)
+            Held::Database(database) => {
+                let was_open = database.is_open();
+                self.held = Held::Database(database.close());
+                if was_open {
+                    tell(None, answer)
+                } else {
+                    Err(RowFault::Unread)
+                }
             }
             held => {
                 self.held = held;
@@ -172,23 +169,23 @@ impl Stores {
 
     /// Writes the one number that a query shows.
     fn query(&mut self, query: &str, answer: &mut String) -> Result<(), RowFault> {
-        let Held::Database(conn) = &mut self.held else {
+        let Held::Database(database) = &mut self.held else {
             return Err(RowFault::Unread);
         };
-        match shown_number(conn, query) {
+        match database.shown_number(query) {
             Ok(number) => Ok(write!(answer, "{number}")?),
-            Err(error) => tell_error(error, answer),
+            Err(refusal) => tell_refusal(Some(refusal), answer),
         }
     }
 
     /// Writes whether the database has the tables of a store and nothing else.
     fn write_known(&self, mut words: Words<'_>, answer: &mut String) -> Result<(), RowFault> {
         let is_known = match &self.held {
-            Held::Database(conn) => is_known(conn.schema()),
+            Held::Database(database) => database.is_known()?,
             Held::Device(device) => {
                 has_known_tables(self.alloc, device, read_frames(&mut words)?)?
             }
-            _ => return Err(RowFault::Unread),
+            Held::Nothing => return Err(RowFault::Unread),
         };
         Ok(write!(answer, "{is_known}")?)
     }
@@ -196,48 +193,33 @@ impl Stores {
     fn change(&mut self, row: &Row<'_>, answer: &mut String) -> Result<(), RowFault> {
         let change = Change::of(row);
         let fault = match &mut self.held {
-            Held::Store(store) => make(self.alloc, store, change)?,
-            Held::DeviceStore(store) => store.make(self.alloc, change)?,
-            _ => return Err(RowFault::Unread),
+            Held::Database(database) => database.make(self.alloc, change)?,
+            Held::Device(device) => device.make(self.alloc, change)?,
+            Held::Nothing => return Err(RowFault::Unread),
         };
         tell(fault, answer)
     }
 
     fn load(&mut self, answer: &mut String) -> Result<(), RowFault> {
         match &mut self.held {
-            Held::Store(store) => load(self.alloc, store, answer),
-            Held::DeviceStore(store) => store.load(self.alloc, answer),
-            _ => Err(RowFault::Unread),
+            Held::Database(database) => database.load(self.alloc, answer),
+            Held::Device(device) => device.load(self.alloc, answer),
+            Held::Nothing => Err(RowFault::Unread),
         }
     }
 
     fn write_failures(&self, answer: &mut String) -> Result<(), RowFault> {
         let failures = match &self.held {
-            Held::Store(store) => store.failures(),
-            Held::DeviceStore(store) => store.failures(),
-            _ => return Err(RowFault::Unread),
+            Held::Database(database) => database.failures()?,
+            Held::Device(device) => device.failures()?,
+            Held::Nothing => return Err(RowFault::Unread),
         };
         Ok(write!(answer, "{failures}")?)
     }
 }
 
-fn fill_database(
-    conn: &mut Connection<MemStore>,
-    tables: [&str; 2],
-    batch: &str,
-) -> Result<(), Error> {
-    let [first, second] = tables;
-    conn.execute_batch(first)?;
-    conn.execute_batch(second)?;
-    conn.execute_batch(batch)
-}
-
-fn shown_number(conn: &mut Connection<MemStore>, query: &str) -> Result<i64, Error> {
-    conn.query_row(query, &[])?.get(0)
-}
-
 /// The calls over a device.
-impl Stores {
+impl<D: Database, M: Machine> Stores<D, M> {
     fn work_device(&mut self, row: &Row<'_>, answer: &mut String) -> Result<(), RowFault> {
         let words = row.words();
         match row.call {
@@ -259,17 +241,13 @@ impl Stores {
 
     /// Lays this text into a database file.
     fn lay_file(&mut self, text: &str, answer: &mut String) -> Result<(), RowFault> {
-        let device = device(self.alloc, text.as_bytes()).map_err(|_| RowFault::Memory)?;
-        self.held = Held::Device(device);
+        self.held = Held::Device(M::with_bytes(self.alloc, text.as_bytes())?);
         tell(None, answer)
     }
 
     /// Writes the database file's text.
     fn write_bytes(&self, answer: &mut String) -> Result<(), RowFault> {
-        let Held::Device(device) = &self.held else {
-            return Err(RowFault::Unread);
-        };
-        match str::from_utf8(device.db.inner().bytes()) {
+        match str::from_utf8(self.device()?.database()?) {
             Ok(text) => Ok(answer.push_str(text)?),
             Err(_) => Err(RowFault::Unread),
         }
@@ -277,8 +255,8 @@ impl Stores {
 
     /// Makes a device with a store that is filled, and writes the content.
     fn fill(&mut self, answer: &mut String) -> Result<(), RowFault> {
-        let mut store = open_store(self.alloc, filled(self.alloc)?, 1)?;
-        store.load(self.alloc, answer)?;
+        let device: M = filled(self.alloc)?;
+        open_store(self.alloc, device, 1)?.load(self.alloc, answer)?;
         self.held = Held::Device(filled(self.alloc)?);
         Ok(())
     }
@@ -290,7 +268,7 @@ impl Stores {
         batch: &str,
         answer: &mut String,
     ) -> Result<(), RowFault> {
-        self.held = Held::Device(filled_tables(self.alloc, tables, batch)?);
+        self.held = Held::Device(M::with_tables(self.alloc, tables, batch)?);
         tell(None, answer)
     }
 
@@ -300,7 +278,7 @@ impl Stores {
         let device = self.device()?;
         let (fault, left) = open_and_close(self.alloc, device, read_frames(&mut words)?)?;
         tell(fault, answer)?;
-        answer.push_str(match have_same_bytes(device, &left) {
+        answer.push_str(match left.has_bytes_of(device) {
             true => ", unchanged",
             false => ", changed",
         })?;
@@ -313,7 +291,7 @@ impl Stores {
         write_openings(self.alloc, self.device()?, failing, answer)
     }
 
-    fn device(&self) -> Result<&Device, RowFault> {
+    fn device(&self) -> Result<&M, RowFault> {
         match &self.held {
             Held::Device(device) => Ok(device),
             _ => Err(RowFault::Unread),
@@ -330,7 +308,7 @@ impl Stores {
     fn exhaust(&mut self, mut words: Words<'_>, answer: &mut String) -> Result<(), RowFault> {
         let failing = Failing::read(&mut words)?;
         let store = open_exhausted(self.alloc, self.device()?, failing)?;
-        self.held = Held::DeviceStore(store);
+        self.held = Held::Device(store);
         tell(None, answer)
     }
 
@@ -338,60 +316,33 @@ impl Stores {
     fn shut(&mut self, words: Words<'_>, answer: &mut String) -> Result<(), RowFault> {
         let trial = Trial::read(self.device()?, words)?;
         let store = shut(self.alloc, &trial)?;
-        self.held = Held::DeviceStore(store);
+        self.held = Held::Device(store);
         tell(Some(StoreFault::Failed), answer)
     }
 
     /// Crashes the store's machine, and leaves its device, which does not fail any more.
     fn crash(&mut self, answer: &mut String) -> Result<(), RowFault> {
-        match mem::replace(&mut self.held, Held::Nothing) {
-            Held::DeviceStore(store) => {
-                self.held = Held::Device(crashed(store));
-                tell(None, answer)
-            }
-            held => {
-                self.held = held;
-                Err(RowFault::Unread)
-            }
+        if !self.device()?.is_open() {
+            return Err(RowFault::Unread);
         }
+        if let Held::Device(device) = mem::replace(&mut self.held, Held::Nothing) {
+            self.held = Held::Device(device.crash());
+        }
+        tell(None, answer)
     }
 
     /// Opens the store of the device, whose files stay where they are refused.
     fn restart(&mut self, mut words: Words<'_>, answer: &mut String) -> Result<(), RowFault> {
         let log_frames = read_frames(&mut words)?;
         match mem::replace(&mut self.held, Held::Nothing) {
-            Held::Device(device) => self.open_device(device, log_frames, answer),
+            Held::Device(device) => {
+                let (device, refusal) = device.open(self.alloc, log_frames);
+                self.held = Held::Device(device);
+                tell_refusal(refusal, answer)
+            }
             held => {
                 self.held = held;
                 Err(RowFault::Unread)
-            }
-        }
-    }
-
-    fn open_device(
-        &mut self,
-        device: Device,
-        log_frames: usize,
-        answer: &mut String,
-    ) -> Result<(), RowFault> {
-        match connect(self.alloc, device, log_frames) {
-            Ok(conn) => self.open_files(conn, answer),
-            Err((error, device)) => {
-                self.held = Held::Device(device);
-                tell_error(error, answer)
-            }
-        }
-    }
-
-    fn open_files(&mut self, conn: DeviceConnection, answer: &mut String) -> Result<(), RowFault> {
-        match DeviceStore::new(self.alloc, conn) {
-            Ok(store) => {
-                self.held = Held::DeviceStore(store);
-                tell(None, answer)
-            }
-            Err((fault, conn)) => {
-                self.held = Held::Device(device_of(conn));
-                tell(Some(fault), answer)
             }
         }
     }
