@@ -1,5 +1,5 @@
 -- Who holds something of an object: its locks say it, and what each call makes of it.
-use Rattle.std.proofs.Common.{Bool, List, None, Option, Some, [], ap, ap₂, arith, cond, false, filter, inl, inr, not, refl, subst, sym, true, ◌&&◌, ◌∙◌, ◌∷◌, ◌≡◌, ◌||◌}
+use Rattle.std.proofs.Common.{Bool, List, None, Option, Some, [], ap, ap₂, arith, cond, false, filter, inl, inr, not, refl, subst, sym, true, ◌&&◌, ◌∙◌, ◌∷◌, ◌≡◌, ◌||◌, ◌⊎◌}
 use Rattle.std.proofs.lemmas.Bool.{and_right, false_from_ne_true, false≢true, or_cases, or_from, or_left, or_right}
 use Rattle.std.specs.List.{list_any}
 use Rattle.action_names.specs.Names.{IsName, Name, ancestors, has_name, is_ancestor, parent_of, same_name}
@@ -317,3 +317,16 @@ below_to locks a h = elim (or_cases (has_below locks.readers a) _ h) [
 -- so where no abort of a is a concern, neither is its commit
 pub not_below : (locks : Locks) (a : Name) → is_ancestor a a ≡ true → is_concerned false locks a ≡ false → is_concerned true locks a ≡ false
 not_below locks a own none = false_from_ne_true _ (λ h. clash (below_from locks a a own h) none)
+
+-- somebody holds something, or nobody does
+pub somebody : (locks : Locks) → ((b : Name) × (is_concerned true locks b ≡ true)) ⊎ ((b : Name) → is_concerned true locks b ≡ false)
+somebody locks = of locks.readers locks.writers locks.adders
+  where
+    of : (readers writers adders : List Name) → ((b : Name) × ((has_name readers b || (has_name writers b || has_name adders b)) ≡ true))
+        ⊎ ((b : Name) → (has_name readers b || (has_name writers b || has_name adders b)) ≡ false)
+    of [] [] [] = inr (λ b. refl)
+    of [] [] (b ∷ adders) = inl (b, or_left (same_name b b) (has_name adders b) (same_name_self b))
+    of [] (b ∷ writers) adders =
+        inl (b, or_left (has_name (b ∷ writers) b) (has_name adders b) (or_left (same_name b b) (has_name writers b) (same_name_self b)))
+    of (b ∷ readers) writers adders =
+        inl (b, or_left (has_name (b ∷ readers) b) (has_name writers b || has_name adders b) (or_left (same_name b b) (has_name readers b) (same_name_self b)))

@@ -108,6 +108,18 @@ changed_one changes os n p k l e lt there change = record {
         of : n ≡ suc m → (n == suc m) ≡ true
         of r = eq-eqb n (suc m) r
 
+-- where there is no object of the number, nothing is changed
+pub changed_nowhere : (changes : Kept → Kept → Type 0) (os : List Kept) (n : ℕ) → ((k : Kept) → object_at os n ≡ Some k → ⊥) → AreChanged changes (n ∷ []) os os
+changed_nowhere changes os n none = record {
+  count = refl;
+  changed = λ m x y h before after. absurd (none x (ap (λ i. object_at os i) (eqb-true n m (one (n == m) h)) ∙ before));
+  others = λ m h. refl;
+}
+  where
+    one : (t : Bool) → (t || false) ≡ true → t ≡ true
+    one true q = refl
+    one false q = absurd (false≢true q)
+
 -- the object of the number that was written
 pub written_there : (os : List Kept) (n p : ℕ) (l : Kept) → n ≡ suc p → p < length os → object_at (set os p l) n ≡ Some l
 written_there os n p l e lt = ap (λ m. object_at (set os p l) m) e ∙ get_written os p l lt

@@ -1,28 +1,29 @@
--- An outcome that does not concern an object leaves it as it is.
-use Rattle.std.proofs.Common.{Bool, List, None, Option, Some, [], ap, ap₂, cond, false, filter, not, refl, sym, true, ◌&&◌, ◌∙◌, ◌∷◌, ◌≡◌, ◌||◌}
+-- An outcome that does not concern an object leaves it as it is, and so does a crash where nobody holds anything of it.
+use Rattle.std.proofs.Common.{Bool, List, None, Option, Some, [], ap, ap₂, cond, false, filter, not, refl, sym, true, ℤ, ◌&&◌, ◌∙◌, ◌∷◌, ◌≡◌, ◌||◌}
 use Rattle.std.specs.Prelude.{is_some}
 use Rattle.std.proofs.lemmas.Bool.{false_from_ne_true, false≢true, or_left, or_parts, or_right}
 use Rattle.std.specs.BTreeSet.{insert_key}
-use Rattle.action_names.specs.Names.{Name, has_name, is_ancestor, name_cmp, parent_of, same_name}
+use Rattle.action_names.specs.Names.{Name, has_name, is_ancestor, is_top, name_cmp, parent_of, same_name}
 use Rattle.values.specs.declared.content.Content.{Content}
 use Rattle.atomic_types.specs.Operations.{is_write_class}
 use Rattle.run_model.specs.Actions.{is_exactly}
-use Rattle.run_model.specs.Keeping.{Standing}
+use Rattle.run_model.specs.Keeping.{Performed, Standing}
 use Rattle.run_model.specs.Telling.{holder_by}
 use Rattle.run_model.specs.Versions.{is_held_above}
 use Rattle.run_laws.proofs.Names.{any_name, clash, same_name_self, same_name_true}
 use Rattle.local_laws.proofs.Acts.{acts_by, after_acts}
 use Rattle.object_model.specs.Deltas.{delta_at, with_more}
 use Rattle.object_model.specs.Locks as locks
-use Rattle.object_model.specs.Objects.{IsPassed, IsUndone, Seen, is_next, next_delta, owns, with_delta}
+use Rattle.object_model.specs.Objects.{IsCrashed, IsPassed, IsUndone, Seen, is_next, next_delta, owns, with_delta}
 use Rattle.object_model.specs.Stacks.{inherited, owners_of}
-use Rattle.object_laws.specs.Changes.{told_too, undone}
+use Rattle.object_laws.specs.Changes.{crashed, told_too, undone}
 use Rattle.object_laws.specs.Laws.{is_concerned}
 use Rattle.object_laws.specs.Shown.{Shows, only_if}
 use Rattle.object_laws.proofs.Held.{held, holds, sum_acts, to_acts}
-use Rattle.object_laws.proofs.Leaving.{undone_shows}
+use Rattle.object_laws.proofs.Leaving.{crashed_shows, undone_shows}
 use Rattle.object_laws.proofs.Passing.{passed_shows}
 use Rattle.object_laws.proofs.Topmost.{has_owner}
+use Rattle.atomic_object.specs.Ways.{AreLeft}
 use Rattle.atomic_object.proofs.Passing.{owner_adds_nothing}
 
 -- ---- who has no lock
@@ -154,3 +155,42 @@ module _ (c : Content) (s : Standing) (object : Seen) (shows : Shows c s object)
     -- a telling that a aborted changes nothing where neither a nor a descendant holds anything
     pub abort_leaves : is_ancestor a a ≡ true → s.told a ≡ false → Shows c (undone (λ b. same_name b a) s) object
     abort_leaves own untold = undone_shows c s object object a shows own untold nothing_dropped
+
+  -- ---- a crash
+
+  module _ (none : (b : Name) → is_concerned true object.locks b ≡ false) where
+    nobody : (names : List Name) → ((b : Name) → has_name names b ≡ false) → names ≡ []
+    nobody [] h = refl
+    nobody (b ∷ names) h = absurd (clash (or_left (same_name b b) (has_name names b) (same_name_self b)) (h b))
+
+    no_versions : (vs : List (Name × Content)) → ((b : Name) → has_name (owners_of vs) b ≡ false) → vs ≡ []
+    no_versions [] h = refl
+    no_versions (v ∷ vs) h = absurd (clash (or_left (same_name v.0 v.0) (has_name (owners_of vs) v.0) (same_name_self v.0)) (h v.0))
+
+    nothing_lost : (stays : Name → Bool) → IsCrashed stays object object
+    nothing_lost stays = record {
+      base = refl;
+      versions = versions ∙ sym (ap (λ vs. filter (λ v. stays v.0) vs) versions);
+      deltas = λ b. either (stays b) (delta_at object.deltas b) (no_delta b (unadded b (none b)));
+      rising = shows.names_rise;
+      locks = λ i. record {
+        readers = nobody object.locks.readers (λ b. unread b (none b)) i;
+        writers = left object.locks.writers (nobody object.locks.writers (λ b. unwritten b (none b))) i;
+        adders = left object.locks.adders (nobody object.locks.adders (λ b. unadded b (none b))) i;
+      };
+    }
+      where
+        versions : object.stack.versions ≡ []
+        versions = no_versions object.stack.versions (λ b. has_owner object.stack.versions b ∙ no_version b (unwritten b (none b)))
+
+        either : (t : Bool) (o : Option ℤ) → o ≡ None → o ≡ cond t o None
+        either true o e = refl
+        either false o e = e
+
+        left : (names : List Name) → names ≡ [] → names ≡ filter stays names
+        left names e = e ∙ sym (ap (λ l. filter stays l) e)
+
+    -- a crash changes nothing where nobody holds anything
+    pub crash_leaves : (outlives : Performed → Bool) (stays : Name → Bool) → ((a : Name) → stays a ≡ true → is_top a ≡ true) → AreLeft outlives stays s
+        → Shows c (crashed outlives s) object
+    crash_leaves outlives stays tops left = crashed_shows c s object object outlives stays shows tops left.0 left.1 (nothing_lost stays)

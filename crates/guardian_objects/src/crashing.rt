@@ -7,12 +7,13 @@ ghost use Rattle.run_model.specs.LocalReadings.{LocalEvent, prepared_here};
 ghost use Rattle.run_model.specs.Openings.{Opening};
 ghost use Rattle.local_agreement.specs.Crashes.{LeavesSafe};
 ghost use Rattle.guardian_objects.specs.Objects.{AreObjects};
-ghost use Rattle.guardian_objects.specs.Crashes.{HaveCrashed};
+ghost use Rattle.guardian_objects.specs.Crashes.{HasCrashed, HaveCrashed};
+ghost use Rattle.guardian_objects.specs.Turns.{AreChanged};
 
 use crate::objects::Objects;
 use action_names::Name;
 use atomic_object::Object;
-use held_objects::Holding;
+use held_objects::{HeldObjects, Holding};
 use holders::Survivors;
 
 /// Who still holds something at these objects.
@@ -50,19 +51,42 @@ impl Objects {
         ensures guardian { self.new.guardian ≡ self.old.guardian }
         ensures count { length self.new.objects ≡ length self.old.objects }
     {
-        crash_all(&mut self.objects, survivors);
+        crash_held(&mut self.objects, &self.held, survivors);
         self.held.retain(&Still {
             objects: &self.objects,
         });
     }
 }
 
-// Each object crashes.
-fn crash_all<S: Survivors>(objects: &mut Vec<Object>, survivors: &S)
+// Each object at which somebody holds something crashes, once for each holder: a crash right after a crash changes nothing.
+fn crash_held<S: Survivors>(objects: &mut [Object], held: &HeldObjects, survivors: &S)
     requires tops { (a : Name) → IsTrue (S.stays survivors.now a) → IsTrue (is_top a) }
-    ensures { HaveCrashed (S.stays survivors.now) objects.old.items objects.new.items }
+    ensures { HaveCrashed (S.stays survivors.now) held.now objects.old objects.new }
 {
-    for object in objects.iter_mut() {
-        object.crash(survivors);
+    for row in held.rows() {
+        crash_row(objects, row, survivors);
+    }
+}
+
+// The objects of these numbers crash.
+fn crash_row<S: Survivors>(objects: &mut [Object], numbers: &[u32], survivors: &S)
+    requires tops { (a : Name) → IsTrue (S.stays survivors.now a) → IsTrue (is_top a) }
+    ensures { AreChanged (HasCrashed (S.stays survivors.now)) numbers.now objects.old objects.new }
+{
+    for &number in numbers {
+        crash_at(objects, number, survivors);
+    }
+}
+
+// The object of this number crashes, if there is one.
+fn crash_at<S: Survivors>(objects: &mut [Object], number: u32, survivors: &S)
+    requires tops { (a : Name) → IsTrue (S.stays survivors.now a) → IsTrue (is_top a) }
+    ensures { AreChanged (HasCrashed (S.stays survivors.now)) (number ∷ []) objects.old objects.new }
+{
+    let Some(place) = (number as usize).checked_sub(1) else {
+        return;
+    };
+    if place < objects.len() {
+        objects[place].crash(survivors);
     }
 }

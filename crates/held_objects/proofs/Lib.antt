@@ -3,3 +3,4 @@ pub mod Rows
 pub mod Counts
 pub mod Descendants
 pub mod Changes
+pub mod Somebody

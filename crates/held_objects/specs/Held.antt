@@ -47,6 +47,10 @@ has_object held a n = has_number (objects_at held a) n
 abbrev pub has_room : Rows → Name → Bool
 has_room held a = nat_lt (length (objects_at held a)) (room_at held a)
 
+-- somebody holds something at the object
+abbrev pub IsHeld : Rows → ℕ → Type 0
+IsHeld held n = (b : Name) × IsTrue (has_object held b n)
+
 -- the action or a descendant holds something at the object
 abbrev pub HoldsBelow : Rows → Name → ℕ → Type 0
 HoldsBelow held a n = (b : Name) × IsTrue (is_ancestor a b) × IsTrue (has_object held b n)
@@ -75,6 +79,11 @@ row_of v = record { objects = v.items; room = vec_capacity v }
 
 abbrev pub rows_in : {Z : Type 0} → List (Name × Vec ℕ Z) → Rows
 rows_in {Z} es = map (λ (e : Name × Vec ℕ Z). (e.0, row_of e.1)) es
+
+-- whether one of the rows has the number
+abbrev pub is_in_row : {Z : Type 0} → List (Vec ℕ Z) → ℕ → Bool
+is_in_row [] n = false
+is_in_row (row ∷ rows) n = has_number row.items n || is_in_row rows n
 
 -- the names rise, and so do the objects of each
 pub record IsOrderly {Z : Type 0} (es : List (Name × Vec ℕ Z)) : Type 0 where

@@ -2,13 +2,14 @@
 ghost use Rattle.std.specs.Prelude.{◌≡◌, ◌↔◌, ◌||◌, ◌&&◌, ◌==◌, ◌≤◌, ◌+◌, ℕ, not, false, [], length, filter, IsTrue, IfOk, OnOk, OnErr, IfSome, if◌then◌else◌};
 ghost use Rattle.std.specs.Option.{option_copied as name_of};
 ghost use Rattle.action_names.specs.Names.{Name, same_name, is_ancestor, is_proper_ancestor};
-ghost use Rattle.held_objects.specs.Held.{IsRising, has_number, has_object, objects_at, room_at, has_room, HoldsBelow, HasRoomBelow, count_below, is_name_of, rows_in};
+ghost use Rattle.held_objects.specs.Held.{IsRising, has_number, has_object, objects_at, room_at, has_room, HoldsBelow, HasRoomBelow, IsHeld, count_below, is_in_row, is_name_of, rows_in};
 
 use crate::holding::Holding;
 use crate::rising;
 use action_names::Name;
 use std::alloc::{AllocError, Global};
 use std::collections::BTreeMap;
+use std::collections::btree_map::Values;
 use std::marker::Model;
 
 /// At which objects each holder holds something, and for how many more there is room.
@@ -65,6 +66,14 @@ impl HeldObjects {
             rising::insert_all(&mut below, objects);
         }
         Ok(below)
+    }
+
+    /// The objects at which somebody holds something: a row for each holder, so that an object at which several do comes once for each. This takes no
+    /// memory.
+    pub fn rows(&self) -> Values<'_, Name, Vec<u32>>
+        ensures { (n : ℕ) → IsTrue (is_in_row result n) ↔ IsHeld self.now n }
+    {
+        self.rows.values()
     }
 
     /// Makes room for one more object of the holder. What is held stays, and so does all room. After want of memory nothing is changed.
