@@ -1,0 +1,4 @@
+pub mod Asked
+pub mod Told
+pub mod Recorded
+pub mod Whole

@@ -1,0 +1,81 @@
+-- The memory and the store of a guardian, once an event is kept and the store holds what it asks for.
+use Rattle.std.proofs.Common.{List, [], ap, false, subst, sym, true, ℕ, ◌∙◌, ◌∷◌, ◌≡◌}
+use Rattle.run_model.specs.declared.step.Step.{Step}
+use Rattle.run_model.specs.declared.step.Step.TheVariants.{Abort, Arms, Call, Close, Commit, Crash, Decide, NestedTop, Op, Prepare, Recover, Tell, Top}
+use Rattle.run_model.specs.LocalReadings.{LocalEvent}
+use Rattle.run_model.specs.Openings.{Opening, opening_in}
+use Rattle.local_laws.specs.Owed.{IsLocalRun, IsOwed, begins, goes_on}
+use Rattle.local_agreement.specs.Outcomes.{AgreesOnVotes}
+use Rattle.layer_contracts.specs.Guardians.{News, kept, stamped}
+use Rattle.layer_contracts.specs.Messages.{may_fail}
+use Rattle.stable_store.specs.Calls.{Rests, View}
+use Rattle.stored_laws.specs.Stored.{AreStored, after_event}
+use Rattle.stored_laws.proofs.Following.{nothing_is_stored, store_follows}
+use Rattle.guardian_memory.specs.Memories.{InMemory, state_of}
+use Rattle.guardian_memory.specs.Plans.{FitsPlan, news_of}
+use Rattle.guardian_memory.specs.declared.plan.Plan.{Plan}
+use Rattle.guardian.specs.Guardians.{InParts, IsSettled, IsWhole}
+use Rattle.guardian.proofs.Asked.{stamp_alike}
+
+-- ---- a stamp changes nothing
+
+owed_at : (opening : Opening) (g n : ℕ) (news : News) (here : List LocalEvent) (step : Step) → IsOwed opening g (stamped 0 news) here step
+    → IsOwed opening g (stamped n news) here step
+owed_at opening g n news here (Top h) owed = owed
+owed_at opening g n news here (NestedTop a) owed = owed
+owed_at opening g n news here (Call a h) owed = owed
+owed_at opening g n news here (Arms a kinds) owed = owed
+owed_at opening g n news here (Op a x wanted) owed = owed
+owed_at opening g n news here (Commit a) owed = owed
+owed_at opening g n news here (Close a) owed = owed
+owed_at opening g n news here (Prepare h t) owed = owed
+owed_at opening g n news here (Decide t) owed = owed
+owed_at opening g n news here (Abort a) owed = owed
+owed_at opening g n news here (Tell h a) owed = owed
+owed_at opening g n news here (Crash h) owed = owed
+owed_at opening g n news here (Recover h) owed = owed
+
+votes_at : (g n : ℕ) (news : News) (here : List LocalEvent) → AgreesOnVotes g (stamped 0 news) here → AgreesOnVotes g (stamped n news) here
+votes_at g n news here v = record { top = v.top; first = v.first; sender = v.sender }
+
+module _ {S : Type 0} (seen : S → View) where
+  -- nothing has happened
+  pub whole_first : (opening : Opening) (g : ℕ) (m : InMemory) (s : S) → state_of m ≡ record { opening = opening; number = g; past = [] }
+      → (seen s).holds_content ≡ true → Rests (seen s) → IsSettled opening g (seen s).content → IsWhole seen (record { memory = m; store = s })
+  whole_first opening g m s is found rests settled = record {
+    found = found;
+    rests = rests;
+    stored =
+        subst (λ st. AreStored st.opening st.number st.past (seen s).content) (sym is)
+        (nothing_is_stored opening g (seen s).content settled.base settled.prepared settled.decided settled.count settled.next_top);
+    run = subst (λ st. IsLocalRun st.opening st.number [] st.past) (sym is) begins;
+  }
+
+  -- an event is kept, and the store holds what it asks for
+  pub whole_next : (m : InMemory) (s : S) (p : Plan) (n : ℕ) (m' : InMemory) (s' : S) → IsWhole seen (record { memory = m; store = s }) → FitsPlan m p
+      → state_of m' ≡ kept (state_of m) (stamped n (news_of p)) → (seen s').holds_content ≡ true → Rests (seen s')
+      → (seen s').content ≡ after_event (opening_in m.opening) m.number (stamped 0 (news_of p)) m.history.events (seen s).content
+      → IsWhole seen (record { memory = m'; store = s' })
+  whole_next m s p n m' s' whole fits is found rests content =
+      let opening = opening_in m.opening in
+      let here = m.history.events in
+      let c = stamped n (news_of p) in record {
+        found = found;
+        rests = rests;
+        stored =
+            subst (λ st. AreStored st.opening st.number st.past (seen s').content) (sym is)
+            (subst (λ held. AreStored opening m.number (c ∷ here) held) (stamp_alike opening m.number n (news_of p) here (seen s).content ∙ sym content)
+            (store_follows opening m.number c here (seen s).content whole.stored (votes_at m.number n (news_of p) here fits.agrees.votes)));
+        run =
+            subst (λ st. IsLocalRun st.opening st.number [] st.past) (sym is)
+            (goes_on c (owed_at opening m.number n (news_of p) here p.event.step fits.owed) fits.agrees.given whole.run);
+      }
+
+-- ---- as the fields say
+
+module _ {S : Type 0} (m : InMemory) (s : S) (now : InParts S) where
+  pub fits_within : (p : Plan) → record { memory = m; store = s } ≡ now → FitsPlan now.memory p → FitsPlan m p
+  fits_within p is fits = subst (λ (g : InParts S). FitsPlan g.memory p) (sym is) fits
+
+  pub quiet_within : (step : Step) → record { memory = m; store = s } ≡ now → may_fail step now.memory.number ≡ false → may_fail step m.number ≡ false
+  quiet_within step is quiet = ap (λ (g : InParts S). may_fail step g.memory.number) is ∙ quiet

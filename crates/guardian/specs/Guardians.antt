@@ -1,0 +1,36 @@
+-- A guardian as contracts see it, and when its memory and its store are of one history.
+use Rattle.std.specs.Prelude.{◌≡◌, ℕ, [], ◌∷◌, true}
+use Rattle.std.specs.FinMap as map
+use Rattle.std.specs.FinSet as set
+use Rattle.run_model.specs.Openings.{Opening}
+use Rattle.stable_store.specs.Calls.{Rests, View}
+use Rattle.stable_store.specs.Stored.{Stored}
+use Rattle.local_laws.specs.Owed.{IsLocalRun}
+use Rattle.stored_laws.specs.Stored.{AreStored}
+use Rattle.layer_contracts.specs.Guardians.{GuardianState}
+use Rattle.guardian_memory.specs.Memories.{InMemory, state_of}
+
+-- the memory and the store
+pub record InParts (S : Type 0) : Type 0 where
+  pub memory : InMemory
+  pub store : S
+
+-- its opening, its number and its own history
+abbrev pub state_in : {S : Type 0} → InParts S → GuardianState
+state_in g = state_of g.memory
+
+-- The store has a content, which is what the guardian's own history says; and a stop now would leave it. Each reply, own vote and count in that history
+-- is the one of the events before it.
+pub record IsWhole {S : Type 0} (seen : S → View) (g : InParts S) : Type 0 where
+  pub found : (seen g.store).holds_content ≡ true
+  pub rests : Rests (seen g.store)
+  pub stored : AreStored (state_in g).opening (state_in g).number (state_in g).past (seen g.store).content
+  pub run : IsLocalRun (state_in g).opening (state_in g).number [] (state_in g).past
+
+-- The store holds what the opening says that it held, and nothing is prepared there.
+pub record IsSettled (opening : Opening) (g : ℕ) (s : Stored) : Type 0 where
+  pub base : (n : ℕ) → map.get s.base n ≡ (opening.stores g).base n
+  pub prepared : s.prepared ≡ map.empty
+  pub decided : (n : ℕ) → set.contains s.decided n ≡ (opening.stores g).decided (n ∷ [])
+  pub count : s.count ≡ (opening.stores g).count
+  pub next_top : s.next_top ≡ (opening.stores g).next_top

@@ -1,0 +1,2 @@
+pub mod Guardians
+pub mod Writes

@@ -1,0 +1,105 @@
+//! The guardian, and what is asked of it beside what steps ask.
+ghost use Rattle.std.specs.Prelude.{◌≡◌, ◌≤◌, ◌&&◌, ℕ, [], true, IfOk, IfErr, IfSome, IsNone, length, nat_le};
+ghost use Rattle.std.specs.Arc.{arc_value};
+ghost use Rattle.run_model.specs.Answers.{is_concerned_by};
+ghost use Rattle.run_model.specs.Openings.{first_content, objects_at, opening_in};
+ghost use Rattle.run_model.specs.LocalReadings.{standing_here};
+ghost use Rattle.run_model.specs.Versions.{base_by};
+ghost use Rattle.held_objects.specs.Held.{IsRising, has_number};
+ghost use Rattle.stable_store.specs.Calls.{Rests};
+ghost use Rattle.guardian_memory.specs.Memories.{own_object};
+ghost use Rattle.guardian.specs.Guardians.{IsSettled, state_in};
+
+use guardian_memory::Memory;
+use run_model::{Content, Name, Opening};
+use stable_store::Stable;
+use std::alloc::{AllocError, Global};
+use std::marker::Model;
+use std::sync::Arc;
+use version_stack::View;
+
+/// A guardian over a stable store.
+#[derive(Drop)]
+pub struct Guardian<S: Stable> {
+    pub(crate) alloc: Global,
+    pub(crate) memory: Memory,
+    pub(crate) store: S,
+}
+
+impl<S: Stable> Model for Guardian<S> {
+    ghost use Rattle.std.specs.Coded.{codes};
+    ghost use Rattle.tellings.specs.contracts.tellings.Tellings as of_tellings;
+    ghost use Rattle.orphans.specs.contracts.lists.Lists as of_lists;
+    ghost use Rattle.roster.specs.contracts.roster.Roster as of_roster;
+    ghost use Rattle.guardian.specs.Guardians.{InParts, IsWhole};
+
+    ghost Value = { InParts S };
+
+    ghost coded = { Prim.hlevel (codes, of_tellings.the_row.coded, of_lists.the_row.coded, of_roster.the_row.coded) };
+
+    ghost view = { λ a. record { memory = a.memory; store = a.store } };
+
+    ghost invariant = { λ a. IsWhole S.seen (record { memory = a.memory; store = a.store }) };
+}
+
+impl<S: Stable> Guardian<S> {
+    /// The guardian of this number, to which nothing has happened since the opening. Its store holds what the opening says that it held, and nothing is
+    /// prepared there. Fails only for want of memory, and then gives the store back.
+    pub fn new(
+        alloc: Global,
+        opening: Arc<Opening, Global>,
+        number: u32,
+        store: S,
+    ) -> Result<Guardian<S>, (AllocError, S)>
+        requires number { 1 ≤ number }
+        requires found { (S.seen store).holds_content ≡ true }
+        requires rests { Rests (S.seen store) }
+        requires settled { IsSettled (opening_in (arc_value opening)) number (S.seen store).content }
+        ensures state { IfOk result (λ guardian. state_in guardian ≡ record { opening = opening_in (arc_value opening); number = number; past = [] }) }
+        ensures store { IfOk result (λ guardian. guardian.store ≡ store) }
+        ensures back { IfErr result (λ refused. refused.1 ≡ store) }
+    {
+        match Memory::new(alloc, opening, number) {
+            Ok(memory) => Ok(Guardian {
+                alloc,
+                memory,
+                store,
+            }),
+            Err(refused) => Err((refused, store)),
+        }
+    }
+
+    /// The store.
+    pub fn store(&self) -> &S
+        ensures { result.now ≡ self.now.store }
+    {
+        &self.store
+    }
+
+    /// The store, which the guardian leaves as it is.
+    pub fn into_store(self) -> S
+        ensures { result ≡ self.store }
+    {
+        let Guardian { store, .. } = self;
+        store
+    }
+
+    /// What belongs to the base of the object of this number; none where there is no such object. This takes no memory.
+    pub fn base(&self, number: u32) -> Option<View<'_, Content>>
+        ensures base { IfSome result (λ base. base ≡ base_by (first_content (state_in self.now).opening (own_object (state_in self.now) number))
+            (standing_here (state_in self.now).past (own_object (state_in self.now) number))) }
+        ensures none { IsNone result → (1 ≤ number) → (number ≤ length (objects_at (state_in self.now).opening.setup (state_in self.now).number)) → ⊥ }
+    {
+        self.memory.base(number)
+    }
+
+    /// At which objects the holder holds something, rising: those that a telling of its commit changes. This takes no memory.
+    pub fn objects_of(&self, holder: &Name) -> &[u32]
+        ensures objects { (n : ℕ) → has_number result.now n
+            ≡ (nat_le 1 n && (nat_le n (length (objects_at (state_in self.now).opening.setup (state_in self.now).number))
+            && is_concerned_by true (standing_here (state_in self.now).past (own_object (state_in self.now) n)) holder.now)) }
+        ensures rising { IsRising result.now }
+    {
+        self.memory.objects_of(holder)
+    }
+}

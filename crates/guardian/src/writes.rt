@@ -1,0 +1,134 @@
+//! What an event asks of the guardian's store.
+ghost use Rattle.std.specs.Prelude.{◌≡◌, ◌∷◌, Bool, true, IfOk, IsOk, IsTrue, IsFalse};
+ghost use Rattle.run_model.specs.declared.step.Step.TheVariants as steps;
+ghost use Rattle.run_model.specs.LocalReadings.{outcome_in, says_committed};
+ghost use Rattle.stable_store.specs.Calls.{Makes};
+ghost use Rattle.stable_store.specs.Stored.{Stored, after_bump};
+ghost use Rattle.stored_laws.specs.Stored.{after_event};
+ghost use Rattle.layer_contracts.specs.Guardians.{stamped};
+ghost use Rattle.guardian_memory.specs.Memories.{state_of};
+ghost use Rattle.guardian_memory.specs.Plans.{FitsPlan, news_of};
+ghost use Rattle.guardian.specs.Guardians.{IsWhole};
+ghost use Rattle.guardian.specs.Writes.{is_nothing, told_stored, written};
+
+use crate::records::recorded_in;
+use atomic_types::Part;
+use guardian_memory::{Memory, Plan};
+use holders::Survivors;
+use run_model::{Answer, Name, Step};
+use stable_store::{Stable, StoreFault};
+use std::alloc::{AllocError, Global};
+use std::collections::BTreeMap;
+
+/// What an event asks of the store. Top actions go by their numbers.
+#[derive(Drop)]
+pub(crate) enum Write {
+    Nothing,
+    Prepare {
+        top: u32,
+        home: u32,
+        parts: BTreeMap<u32, Part>,
+    },
+    Install(u32),
+    Discard(u32),
+    Decide(u32),
+    /// That the content can be read, and then that the recovery is counted.
+    Recover,
+}
+
+impl Write {
+    /// What the event of the plan asks for, read before anything changes. Fails only for want of memory.
+    pub(crate) fn of<S: Stable>(
+        memory: &Memory,
+        store: &S,
+        plan: &Plan,
+    ) -> Result<Write, AllocError>
+        requires fits { FitsPlan memory.now plan.now }
+        requires whole { IsWhole S.seen (record { memory = memory.now; store = store.now }) }
+        ensures { IfOk result (λ write. written write (S.seen store.now).content
+            ≡ after_event (state_of memory.now).opening (state_of memory.now).number (stamped 0 (news_of plan.now)) (state_of memory.now).past (S.seen store.now).content) }
+    {
+        let number = memory.number();
+        match &plan.event().step {
+            Step::Prepare(voter, top) if *voter == number => Write::of_vote(memory, plan, top),
+            Step::Tell(told, action) if *told == number => Ok(Write::of_telling(
+                store, plan, action,
+            )),
+            Step::Decide(top) if top.is_top() => Ok(Write::Decide(top.last())),
+            Step::Recover(guardian) if *guardian == number => Ok(Write::Recover),
+            _ => Ok(Write::Nothing),
+        }
+    }
+
+    // A yes vote prepares what the top action will hold.
+    fn of_vote(memory: &Memory, plan: &Plan, top: &Name) -> Result<Write, AllocError>
+        requires fits { FitsPlan memory.now plan.now }
+        requires vote { (news_of plan.now).event.step ≡ steps.Prepare (state_of memory.now).number top.now }
+        ensures { (s : Stored) → IfOk result (λ write. written write s
+            ≡ after_event (state_of memory.now).opening (state_of memory.now).number (stamped 0 (news_of plan.now)) (state_of memory.now).past s) }
+    {
+        match plan.event().answer {
+            Answer::VoteYes => Ok(Write::Prepare {
+                top: top.last(),
+                home: plan.sender().unwrap_or(0),
+                parts: memory.parts(top, plan)?,
+            }),
+            _ => Ok(Write::Nothing),
+        }
+    }
+
+    // A telling installs or discards what its top action has prepared.
+    fn of_telling<S: Stable>(store: &S, plan: &Plan, action: &Name) -> Write
+        requires found { (S.seen store.now).holds_content ≡ true }
+        ensures { written result (S.seen store.now).content ≡ told_stored action.now (says_committed (outcome_in (news_of plan.now).carried.outcomes action.now)) (S.seen store.now).content }
+    {
+        if !recorded_in(store).stays(action) {
+            return Write::Nothing;
+        }
+        if is_committed(plan.outcomes(), action) {
+            Write::Install(action.last())
+        } else {
+            Write::Discard(action.last())
+        }
+    }
+
+    /// Makes the call of the store, if there is one. It makes its whole change or none.
+    pub(crate) fn perform<S: Stable>(self, alloc: Global, store: &mut S) -> Result<(), StoreFault>
+        ensures none { IsTrue (is_nothing self) → (store.new ≡ store.old) × IsOk result }
+        ensures makes { IsFalse (is_nothing self) → Makes (S.seen store.old) (S.seen store.new) (Unit {0}) (written self (S.seen store.old).content) result }
+    {
+        match self {
+            Write::Nothing => Ok(()),
+            Write::Prepare { top, home, parts } => store.prepare(alloc, top, home, parts),
+            Write::Install(top) => store.install(alloc, top),
+            Write::Discard(top) => store.discard(top),
+            Write::Decide(top) => store.decide(top),
+            Write::Recover => recover(alloc, store),
+        }
+    }
+}
+
+// Reads the content, and then counts the recovery.
+fn recover<S: Stable>(alloc: Global, store: &mut S) -> Result<(), StoreFault>
+    ensures { Makes (S.seen store.old) (S.seen store.new) (Unit {0}) (after_bump (S.seen store.old).content) result }
+{
+    match store.load(alloc) {
+        Ok(content) => {
+            drop(content);
+            store.bump()
+        }
+        Err(fault) => Err(fault),
+    }
+}
+
+// Whether the outcomes say of the action that it committed; the first that is said of it counts.
+fn is_committed(outcomes: &[(Name, bool)], action: &Name) -> bool
+    ensures { result ≡ says_committed (outcome_in outcomes.now action.now) }
+{
+    for (told, committed) in outcomes {
+        if told == action {
+            return *committed;
+        }
+    }
+    false
+}
