@@ -1,4 +1,5 @@
 pub mod Asked
 pub mod Told
 pub mod Recorded
+pub mod Stores
 pub mod Whole

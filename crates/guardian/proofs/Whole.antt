@@ -1,5 +1,5 @@
 -- The memory and the store of a guardian, once an event is kept and the store holds what it asks for.
-use Rattle.std.proofs.Common.{List, [], ap, false, subst, sym, true, ℕ, ◌∙◌, ◌∷◌, ◌≡◌}
+use Rattle.std.proofs.Common.{List, None, Some, [], ap, false, subst, sym, true, ℕ, ◌∙◌, ◌∷◌, ◌≡◌}
 use Rattle.run_model.specs.declared.step.Step.{Step}
 use Rattle.run_model.specs.declared.step.Step.TheVariants.{Abort, Arms, Call, Close, Commit, Crash, Decide, NestedTop, Op, Prepare, Recover, Tell, Top}
 use Rattle.run_model.specs.LocalReadings.{LocalEvent}
@@ -9,13 +9,16 @@ use Rattle.local_agreement.specs.Outcomes.{AgreesOnVotes}
 use Rattle.layer_contracts.specs.Guardians.{News, kept, stamped}
 use Rattle.layer_contracts.specs.Messages.{may_fail}
 use Rattle.stable_store.specs.Calls.{Rests, View}
-use Rattle.stored_laws.specs.Stored.{AreStored, after_event}
+use Rattle.stored_laws.specs.Stored.{AreStored}
 use Rattle.stored_laws.proofs.Following.{nothing_is_stored, store_follows}
 use Rattle.guardian_memory.specs.Memories.{InMemory, state_of}
 use Rattle.guardian_memory.specs.Plans.{FitsPlan, news_of}
 use Rattle.guardian_memory.specs.declared.plan.Plan.{Plan}
 use Rattle.guardian.specs.Guardians.{InParts, IsSettled, IsWhole}
+use Rattle.layer_contracts.specs.Stores.{LeavesStore}
 use Rattle.guardian.proofs.Asked.{stamp_alike}
+use Rattle.layer_contracts.specs.declared.guardian.Fault.{Fault}
+use Rattle.guardian.proofs.Stores.{made_of, refused_of}
 
 -- ---- a stamp changes nothing
 
@@ -43,33 +46,45 @@ module _ {S : Type 0} (seen : S → View) where
   pub whole_first : (opening : Opening) (g : ℕ) (m : InMemory) (s : S) → state_of m ≡ record { opening = opening; number = g; past = [] }
       → (seen s).holds_content ≡ true → Rests (seen s) → IsSettled opening g (seen s).content → IsWhole seen (record { memory = m; store = s })
   whole_first opening g m s is found rests settled = record {
-    found = found;
-    rests = rests;
-    stored =
-        subst (λ st. AreStored st.opening st.number st.past (seen s).content) (sym is)
-        (nothing_is_stored opening g (seen s).content settled.base settled.prepared settled.decided settled.count settled.next_top);
+    store = record {
+      found = found;
+      rests = rests;
+      stored =
+          subst (λ st. AreStored st.opening st.number st.past (seen s).content) (sym is)
+          (nothing_is_stored opening g (seen s).content settled.base settled.prepared settled.decided settled.count settled.next_top);
+    };
     run = subst (λ st. IsLocalRun st.opening st.number [] st.past) (sym is) begins;
   }
 
   -- an event is kept, and the store holds what it asks for
   pub whole_next : (m : InMemory) (s : S) (p : Plan) (n : ℕ) (m' : InMemory) (s' : S) → IsWhole seen (record { memory = m; store = s }) → FitsPlan m p
-      → state_of m' ≡ kept (state_of m) (stamped n (news_of p)) → (seen s').holds_content ≡ true → Rests (seen s')
-      → (seen s').content ≡ after_event (opening_in m.opening) m.number (stamped 0 (news_of p)) m.history.events (seen s).content
+      → state_of m' ≡ kept (state_of m) (stamped n (news_of p)) → LeavesStore (state_of m) (news_of p) (seen s) (seen s') None
       → IsWhole seen (record { memory = m'; store = s' })
-  whole_next m s p n m' s' whole fits is found rests content =
+  whole_next m s p n m' s' whole fits is leaves =
       let opening = opening_in m.opening in
       let here = m.history.events in
-      let c = stamped n (news_of p) in record {
-        found = found;
-        rests = rests;
-        stored =
-            subst (λ st. AreStored st.opening st.number st.past (seen s').content) (sym is)
-            (subst (λ held. AreStored opening m.number (c ∷ here) held) (stamp_alike opening m.number n (news_of p) here (seen s).content ∙ sym content)
-            (store_follows opening m.number c here (seen s).content whole.stored (votes_at m.number n (news_of p) here fits.agrees.votes)));
+      let c = stamped n (news_of p) in
+      let now = made_of (state_of m) (news_of p) (seen s) (seen s') whole.store leaves in record {
+        store = record {
+          found = now.found;
+          rests = now.rests;
+          stored =
+              subst (λ st. AreStored st.opening st.number st.past (seen s').content) (sym is)
+              (subst (λ held. AreStored opening m.number (c ∷ here) held) (stamp_alike opening m.number n (news_of p) here (seen s).content ∙ sym now.content)
+              (store_follows opening m.number c here (seen s).content whole.store.stored (votes_at m.number n (news_of p) here fits.agrees.votes)));
+        };
         run =
             subst (λ st. IsLocalRun st.opening st.number [] st.past) (sym is)
             (goes_on c (owed_at opening m.number n (news_of p) here p.event.step fits.owed) fits.agrees.given whole.run);
       }
+
+  -- no event is kept, and the store refused
+  pub whole_still : (m : InMemory) (s : S) (news : News) (s' : S) (fault : Fault) → IsWhole seen (record { memory = m; store = s })
+      → LeavesStore (state_of m) news (seen s) (seen s') (Some fault) → IsWhole seen (record { memory = m; store = s' })
+  whole_still m s news s' fault whole leaves = record {
+    store = refused_of (state_of m) news (seen s) (seen s') fault whole.store leaves;
+    run = whole.run;
+  }
 
 -- ---- as the fields say
 

@@ -1,13 +1,13 @@
 -- A guardian as contracts see it, and when its memory and its store are of one history.
-use Rattle.std.specs.Prelude.{◌≡◌, ℕ, [], ◌∷◌, true}
+use Rattle.std.specs.Prelude.{◌≡◌, ℕ, [], ◌∷◌}
 use Rattle.std.specs.FinMap as map
 use Rattle.std.specs.FinSet as set
 use Rattle.run_model.specs.Openings.{Opening}
-use Rattle.stable_store.specs.Calls.{Rests, View}
+use Rattle.stable_store.specs.Calls.{View}
 use Rattle.stable_store.specs.Stored.{Stored}
 use Rattle.local_laws.specs.Owed.{IsLocalRun}
-use Rattle.stored_laws.specs.Stored.{AreStored}
 use Rattle.layer_contracts.specs.Guardians.{GuardianState}
+use Rattle.layer_contracts.specs.Stores.{IsStoreOf}
 use Rattle.guardian_memory.specs.Memories.{InMemory, state_of}
 
 -- the memory and the store
@@ -19,12 +19,9 @@ pub record InParts (S : Type 0) : Type 0 where
 abbrev pub state_in : {S : Type 0} → InParts S → GuardianState
 state_in g = state_of g.memory
 
--- The store has a content, which is what the guardian's own history says; and a stop now would leave it. Each reply, own vote and count in that history
--- is the one of the events before it.
+-- The store is that of the guardian's own history. And each reply, own vote and count in that history is the one of the events before it.
 pub record IsWhole {S : Type 0} (seen : S → View) (g : InParts S) : Type 0 where
-  pub found : (seen g.store).holds_content ≡ true
-  pub rests : Rests (seen g.store)
-  pub stored : AreStored (state_in g).opening (state_in g).number (state_in g).past (seen g.store).content
+  pub store : IsStoreOf (state_in g) (seen g.store)
   pub run : IsLocalRun (state_in g).opening (state_in g).number [] (state_in g).past
 
 -- The store holds what the opening says that it held, and nothing is prepared there.

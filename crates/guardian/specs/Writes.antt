@@ -3,8 +3,12 @@ use Rattle.std.specs.Prelude.{Bool, true, false, if◌then◌else◌, Option, So
 use Rattle.action_names.specs.Names.{Name, last_of}
 use Rattle.stable_store.specs.Held.{held}
 use Rattle.stable_store.specs.Stored.{Stored, after_bump, after_decide, after_discard, after_install, after_prepare}
+use Rattle.stable_store.specs.declared.fault.StoreFault.{StoreFault}
+use Rattle.stable_store.specs.declared.fault.StoreFault.TheVariants as call
 use Rattle.stable_store.specs.declared.kept.Kept.{Kept}
 use Rattle.stored_laws.specs.Stored.{has_record}
+use Rattle.layer_contracts.specs.declared.guardian.Fault.{Fault}
+use Rattle.layer_contracts.specs.declared.guardian.Fault.TheVariants.{Memory, Stable}
 use Rattle.guardian.specs.declared.writes.Write.{Write}
 use Rattle.guardian.specs.declared.writes.Write.TheVariants.{Nothing, Prepare, Install, Discard, Decide, Recover}
 
@@ -31,3 +35,9 @@ told_stored a committed s =
 abbrev pub is_recorded : Option Kept → Name → Bool
 is_recorded None a = false
 is_recorded (Some kept) a = has_record (held kept) a
+
+-- what the guardian answers where the store's call was refused so
+abbrev pub fault_by : StoreFault → Fault
+fault_by call.Memory = Memory
+fault_by call.Failed = Stable
+fault_by call.NotOurs = Stable

@@ -1,12 +1,13 @@
 //! What steps ask of a guardian.
-ghost use Rattle.std.specs.Prelude.{◌≡◌, true, IsFalse, IsTrue, OnErr, OnOk};
+ghost use Rattle.std.specs.Prelude.{◌≡◌, true, IsFalse, IsTrue};
 ghost use Rattle.standing_laws.specs.Laws.{is_crash};
 ghost use Rattle.layer_contracts.specs.Guardians.{kept, stamped};
-ghost use Rattle.stable_store.specs.Calls.{Rests};
-ghost use Rattle.stored_laws.specs.Stored.{AreStored, after_event};
+ghost use Rattle.layer_contracts.specs.Stores.{LeavesStore, fault_in};
+ghost use Rattle.stored_laws.specs.Stored.{AreStored};
 ghost use Rattle.guardian_memory.specs.Memories.{state_of};
 ghost use Rattle.guardian_memory.specs.Plans.{FitsPlan, is_operation, news_of};
 ghost use Rattle.guardian.specs.Guardians.{IsWhole};
+ghost use Rattle.guardian.specs.Writes.{fault_by};
 
 use crate::guardian::Guardian;
 use crate::records::recorded_in;
@@ -22,6 +23,8 @@ impl<S: Stable> layer_contracts::Guardian for Guardian<S> {
     ghost use Rattle.guardian.specs.Guardians.{state_in};
 
     ghost state = { λ g. state_in g };
+
+    ghost stored = { λ g. S.seen g.store };
 
     type Plan = Plan;
 
@@ -98,7 +101,9 @@ impl<S: Stable> layer_contracts::Guardian for Guardian<S> {
         if let Step::Op(_, _, _) = &plan.event().step {
             return Ok(self.memory.operate(plan, stamp)?);
         }
-        write(self.alloc, &self.memory, &mut self.store, &plan)?;
+        if let Err(fault) = write(self.alloc, &self.memory, &mut self.store, &plan) {
+            return Err(fault);
+        }
         let drawn = stamp();
         keep(&mut self.memory, &self.store, plan, drawn);
         Ok(drawn)
@@ -124,20 +129,24 @@ fn keep<S: Stable>(memory: &mut Memory, store: &S, plan: Plan, stamp: u64)
     }
 }
 
-// Writes to the store what the event asks for, before the memory takes it over. After an error the store's content is what it was.
+// Writes to the store what the event asks for, before the memory takes it over.
 fn write<S: Stable>(alloc: Global, memory: &Memory, store: &mut S, plan: &Plan) -> Result<(), Fault>
     requires fits { FitsPlan memory.now plan.now }
     requires whole { IsWhole S.seen (record { memory = memory.now; store = store.old }) }
-    ensures ok { OnOk result ((S.seen store.new).content ≡ after_event (state_of memory.now).opening (state_of memory.now).number
-        (stamped 0 (news_of plan.now)) (state_of memory.now).past (S.seen store.old).content) }
-    ensures err { OnErr result ((S.seen store.new).content ≡ (S.seen store.old).content) }
-    ensures found { (S.seen store.new).holds_content ≡ true }
-    ensures rests { Rests (S.seen store.new) }
+    ensures { LeavesStore (state_of memory.now) (news_of plan.now) (S.seen store.old) (S.seen store.new) (fault_in result) }
 {
     let write = Write::of(memory, store, plan)?;
     match write.perform(alloc, store) {
         Ok(()) => Ok(()),
-        Err(StoreFault::Memory) => Err(Fault::Memory),
-        Err(StoreFault::Failed | StoreFault::NotOurs) => Err(Fault::Stable),
+        Err(fault) => Err(fault_of(fault)),
+    }
+}
+
+fn fault_of(fault: StoreFault) -> Fault
+    ensures { result ≡ fault_by fault }
+{
+    match fault {
+        StoreFault::Memory => Fault::Memory,
+        StoreFault::Failed | StoreFault::NotOurs => Fault::Stable,
     }
 }

@@ -1,10 +1,11 @@
 //! What an event asks of the guardian's store.
-ghost use Rattle.std.specs.Prelude.{◌≡◌, ◌∷◌, Bool, true, IfOk, IsOk, IsTrue, IsFalse};
+ghost use Rattle.std.specs.Prelude.{◌≡◌, ◌∷◌, Bool, true, not, IfOk, IsOk, IsTrue, IsFalse};
 ghost use Rattle.run_model.specs.declared.step.Step.TheVariants as steps;
 ghost use Rattle.run_model.specs.LocalReadings.{outcome_in, says_committed};
 ghost use Rattle.stable_store.specs.Calls.{Makes};
 ghost use Rattle.stable_store.specs.Stored.{Stored, after_bump};
-ghost use Rattle.stored_laws.specs.Stored.{after_event};
+ghost use Rattle.run_model.specs.Visibility.{votes_yes};
+ghost use Rattle.stored_laws.specs.Stored.{after_event, asks_store, has_record};
 ghost use Rattle.layer_contracts.specs.Guardians.{stamped};
 ghost use Rattle.guardian_memory.specs.Memories.{state_of};
 ghost use Rattle.guardian_memory.specs.Plans.{FitsPlan, news_of};
@@ -45,8 +46,9 @@ impl Write {
     ) -> Result<Write, AllocError>
         requires fits { FitsPlan memory.now plan.now }
         requires whole { IsWhole S.seen (record { memory = memory.now; store = store.now }) }
-        ensures { IfOk result (λ write. written write (S.seen store.now).content
+        ensures written { IfOk result (λ write. written write (S.seen store.now).content
             ≡ after_event (state_of memory.now).opening (state_of memory.now).number (stamped 0 (news_of plan.now)) (state_of memory.now).past (S.seen store.now).content) }
+        ensures asked { IfOk result (λ write. is_nothing write ≡ not (asks_store (state_of memory.now).number (stamped 0 (news_of plan.now)) (S.seen store.now).content)) }
     {
         let number = memory.number();
         match &plan.event().step {
@@ -64,8 +66,10 @@ impl Write {
     fn of_vote(memory: &Memory, plan: &Plan, top: &Name) -> Result<Write, AllocError>
         requires fits { FitsPlan memory.now plan.now }
         requires vote { (news_of plan.now).event.step ≡ steps.Prepare (state_of memory.now).number top.now }
-        ensures { (s : Stored) → IfOk result (λ write. written write s
+        ensures written { (s : Stored) → IfOk result (λ write. written write s
             ≡ after_event (state_of memory.now).opening (state_of memory.now).number (stamped 0 (news_of plan.now)) (state_of memory.now).past s) }
+        ensures asked { IfOk result (λ write. is_nothing write ≡ not (votes_yes (news_of plan.now).event.step (news_of plan.now).event.answer
+            (state_of memory.now).number top.now)) }
     {
         match plan.event().answer {
             Answer::VoteYes => Ok(Write::Prepare {
@@ -80,7 +84,9 @@ impl Write {
     // A telling installs or discards what its top action has prepared.
     fn of_telling<S: Stable>(store: &S, plan: &Plan, action: &Name) -> Write
         requires found { (S.seen store.now).holds_content ≡ true }
-        ensures { written result (S.seen store.now).content ≡ told_stored action.now (says_committed (outcome_in (news_of plan.now).carried.outcomes action.now)) (S.seen store.now).content }
+        ensures written { written result (S.seen store.now).content
+            ≡ told_stored action.now (says_committed (outcome_in (news_of plan.now).carried.outcomes action.now)) (S.seen store.now).content }
+        ensures asked { is_nothing result ≡ not (has_record (S.seen store.now).content action.now) }
     {
         if !recorded_in(store).stays(action) {
             return Write::Nothing;

@@ -8,7 +8,9 @@ ghost use Rattle.run_model.specs.LocalReadings.{events_here, is_at_home, is_orph
 ghost use Rattle.local_laws.specs.Owed.{IsOwed};
 ghost use Rattle.local_agreement.specs.Laws.{Agrees};
 ghost use Rattle.layer_contracts.specs.Guardians.{GuardianState, News, count_told, kept, stamped};
+ghost use Rattle.stable_store.specs.Calls.{View};
 ghost use Rattle.layer_contracts.specs.Messages.{carried_of, may_fail};
+ghost use Rattle.layer_contracts.specs.Stores.{IsStoreOf, LeavesStore, Stays, fault_in};
 
 use crate::message::Message;
 use run_model::{Answer, Event, Name, Names, ObjectId, Op, Opening};
@@ -37,6 +39,9 @@ pub trait Guardian: Drop {
     /// Its opening, its number and its own history.
     ghost state: { Self → GuardianState };
 
+    /// Its stable store.
+    ghost stored: { Self → View };
+
     /// What one event changes here, made of copies and of room.
     type Plan: Drop;
 
@@ -49,8 +54,10 @@ pub trait Guardian: Drop {
     fn opening(&self) -> &Opening
         ensures { opening_in result.now ≡ (state self.now).opening };
 
+    /// The number of the guardian, whose store is at each moment that of its own history.
     fn number(&self) -> u32
-        ensures { result ≡ (state self.now).number };
+        ensures number { result ≡ (state self.now).number }
+        ensures whole { IsStoreOf (state self.now) (stored self.now) };
 
     /// Whether the action is on its roster: it was begun, and is at home here.
     fn is_there(&self, action: &Name) -> bool
@@ -114,7 +121,7 @@ pub trait Guardian: Drop {
         ensures { IfOk result (λ counts. counts.items ≡ unsent_counts (state self.now).number (state to.now).number (state self.now).past (state to.now).past) };
 
     /// Makes room for an event and computes what it changes, where it brings what this guardian's own history asks of it, and agrees with that
-    /// history. With memory and without, the guardian's history is the one that it was.
+    /// history. With memory and without, the guardian's history and its store are what they were.
     fn plan(&mut self, event: &Event, message: Message) -> Result<Self::Plan, AllocError>
         requires accepted { IsTrue (is_accepted event.now.answer) }
         requires owed { IsOwed (state self.old).opening (state self.old).number
@@ -122,21 +129,24 @@ pub trait Guardian: Drop {
         requires agrees { Agrees (state self.old).opening (state self.old).number
             (stamped 0 (record { event = event.now; carried = carried_of message })) (state self.old).past }
         ensures same { state self.new ≡ state self.old }
+        ensures store { Stays (stored self.old) (stored self.new) }
         ensures fits { IfOk result (λ plan. fits plan self.new) }
         ensures planned { IfOk result (λ plan. planned plan ≡ record { event = event.now; carried = carried_of message }) };
 
     /// Carries a plan out whose event writes to the stable store, or is an operation: first the store's call, or the object's, then the stamp,
-    /// then the changes, which cannot fail.
+    /// then the changes, which cannot fail. `Stable` comes of the store, which has counted one failure more and is as it was.
     fn carry_out<F: FnOnce() -> u64>(&mut self, plan: Self::Plan, stamp: F) -> Result<u64, Fault>
         requires stamp { F.pre stamp }
         requires fits { fits plan self.old }
         ensures ok { IfOk result (λ n. F.post stamp n) }
         ensures kept { IfOk result (λ n. state self.new ≡ kept (state self.old) (stamped n (planned plan))) }
-        ensures err { OnErr result (state self.new ≡ state self.old) };
+        ensures err { OnErr result (state self.new ≡ state self.old) }
+        ensures store { LeavesStore (state self.old) (planned plan) (stored self.old) (stored self.new) (fault_in result) };
 
     /// Carries a plan out whose event neither writes to this guardian's store nor is an operation. This cannot fail.
     fn install(&mut self, plan: Self::Plan, stamp: u64)
         requires fits { fits plan self.old }
         requires quiet { IsFalse (may_fail (planned plan).event.step (state self.old).number) }
-        ensures { state self.new ≡ kept (state self.old) (stamped stamp (planned plan)) };
+        ensures kept { state self.new ≡ kept (state self.old) (stamped stamp (planned plan)) }
+        ensures store { Stays (stored self.old) (stored self.new) };
 }

@@ -1,7 +1,7 @@
 //! The calls of a guardian and of the forest of actions, as steps use them: what their contracts say.
 //!
 //! A guardian's contract speaks of its own history alone, and the forest's of the registry's. Steps over these traits are made in
-//! `lent_steps`; the bodies are still to come.
+//! `lent_steps`; the bodies are in `guardian` and `registry`.
 #![tactic(auto)]
 
 mod forest;

@@ -93,7 +93,7 @@ carried_at [] = nothing_carried
 carried_at (c ∷ here) = c.carried
 
 -- what is carried by what was lent is what the run carries
-carried_there : (past : List Event) (f : ForestState) (e : Event) (low high g : ℕ) (a b : GuardianState)
+pub carried_there : (past : List Event) (f : ForestState) (e : Event) (low high g : ℕ) (a b : GuardianState)
     → f ≡ forest_of f.opening past → IsRun f.opening (e ∷ past) → Names f e.step low high → a ≡ standing f.opening past low → b ≡ standing f.opening past high
     → names_guardian e.step (events_there (registry_history f.opening (numbered past))) g ≡ true
     → names_guardian e.step (events_of (numbered past)) g ≡ true

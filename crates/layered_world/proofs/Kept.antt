@@ -16,6 +16,8 @@ use Rattle.local_laws.proofs.Outcomes.{history_named, local_event}
 use Rattle.local_laws.proofs.Owing.{local_runs, newest_owed}
 use Rattle.local_laws.proofs.Registry.{registry_same}
 use Rattle.local_laws.proofs.Growing.{names_same}
+use Rattle.stable_store.specs.Calls.{View}
+use Rattle.layer_contracts.specs.Stores.{IsStoreOf}
 use Rattle.layer_contracts.specs.Guardians.{GuardianState, after_step, lent_two, stamped}
 use Rattle.layer_contracts.specs.Forests.{ForestState}
 use Rattle.lent_steps.specs.Keeping.{IsDone, is_operation}
@@ -38,6 +40,17 @@ inside past f e low high g h r n k =
     ∙ sym (names_same (events_there (registry_history f.opening (numbered past))) (events_of (numbered past)) g (registry_same f.opening (numbered past) (runs f.opening past r.2)) e.step)
     ∙ named past f e low high g h r n k)
 
+-- both of those that the event names have a place among the guardians
+pub place_of : {X : Type 0} {stored : X → View} (state : X → GuardianState) (past : List Event) (f : ForestState) (gs : List X) (e : Event) (low high g : ℕ)
+    → IsWorld state stored f.opening past f gs → IsRun f.opening (e ∷ past) → Names f e.step low high → ((low == g) || (high == g)) ≡ true
+    → (1 ≤ g) × (g ≤ length gs) × (g - 1 < length gs)
+place_of state past f gs e low high g w r n k =
+    let i = inside past f e low high g w.forest r n k in
+    let l : 1 ≤ g = i.low in
+    let h : g ≤ length gs = subst (λ m. g ≤ m) (sym w.count) i.high in
+    let lt : g - 1 < length gs = omega (arith, l, h) in
+    (l, h, lt)
+
 -- the history of the longer run owes nothing of the event
 owed_there : (opening : Opening) (s : Stamped) (run : List Stamped) (g : ℕ) → IsRun opening (events_of (s ∷ run)) → names_guardian s.1.step (events_of run) g ≡ true
     → IsOwed opening g (local_event opening s run g) (local_history opening run g) s.1.step
@@ -54,8 +67,8 @@ owed_operation opening g c d here there (Op a x wanted) o e h k =
 owed_operation opening g c d here there _ o e h k = absurd (false≢true o)
 
 -- an answered event may be kept
-pub ready : {X : Type 0} (state : X → GuardianState) (past : List Event) (f : ForestState) (gs : List X) (e : Event) (low high : ℕ)
-    → IsWorld state f.opening past f gs → Names f e.step low high → IsRun f.opening (e ∷ past) → 1 ≤ low → 1 ≤ high → IsReady state f low high e gs
+pub ready : {X : Type 0} {stored : X → View} (state : X → GuardianState) (past : List Event) (f : ForestState) (gs : List X) (e : Event) (low high : ℕ)
+    → IsWorld state stored f.opening past f gs → Names f e.step low high → IsRun f.opening (e ∷ past) → 1 ≤ low → 1 ≤ high → IsReady state f low high e gs
 ready state past f gs e low high w n r l k = record {
   each = λ a b sa sb.
       let x = stands state f.opening past f gs low a w l sa in
@@ -89,10 +102,11 @@ after_is past f e lent x x' p h k q grown =
     ∙ ap (λ reg. after_step (standing f.opening past p) (length (e ∷ past), e) reg lent) (there_is past f h)
     ∙ ap (λ l. record { opening = f.opening; number = p; past = l }) grown
 
-pub more : {X : Type 0} (state : X → GuardianState) (past : List Event) (f f' : ForestState) (gs gs' : List X) (e : Event) (low high : ℕ)
-    → IsWorld state f.opening past f gs → Names f e.step low high → IsRun f.opening (e ∷ past) → 1 ≤ low → 1 ≤ high → low ≤ length gs → high ≤ length gs
-    → length gs' ≡ length gs → IsKeptAt state low high (length (e ∷ past)) e f f' gs gs' → IsWorld state f.opening (e ∷ past) f' gs'
-more {X} state past f f' gs gs' e low high w n r l1 l2 h1 h2 len k =
+pub more : {X : Type 0} {stored : X → View} (state : X → GuardianState) (past : List Event) (f f' : ForestState) (gs gs' : List X) (e : Event) (low high : ℕ)
+    → IsWorld state stored f.opening past f gs → Names f e.step low high → IsRun f.opening (e ∷ past) → 1 ≤ low → 1 ≤ high → low ≤ length gs → high ≤ length gs
+    → length gs' ≡ length gs → IsKeptAt state low high (length (e ∷ past)) e f f' gs gs'
+    → ((i : ℕ) (x : X) → slice_get gs' i ≡ Some x → IsStoreOf (state x) (stored x)) → IsWorld state stored f.opening (e ∷ past) f' gs'
+more {X} {stored} state past f f' gs gs' e low high w n r l1 l2 h1 h2 len k whole =
     let lt1 : low - 1 < length gs = omega arith in
     let lt2 : high - 1 < length gs = omega arith in
     let a = there gs (low - 1) lt1 in
@@ -105,7 +119,7 @@ more {X} state past f f' gs gs' e low high w n r l1 l2 h1 h2 len k =
     s = (length (e ∷ past), e)
 
     of : (a b a' b' : X) → slice_get gs (low - 1) ≡ Some a → slice_get gs (high - 1) ≡ Some b → slice_get gs' (low - 1) ≡ Some a' → slice_get gs' (high - 1) ≡ Some b'
-        → IsWorld state f.opening (e ∷ past) f' gs'
+        → IsWorld state stored f.opening (e ∷ past) f' gs'
     of a b a' b' sa sb sa' sb' =
         let done = k.two a b a' b' sa sb sa' sb' in
         let x = stands state f.opening past f gs low a w l1 sa in
@@ -127,6 +141,7 @@ more {X} state past f f' gs gs' e low high w n r l1 l2 h1 h2 len k =
               (ap (λ reg. registry_after f.opening s reg lent) (there_is past f w.forest) ∙ grown.0);
           count = len ∙ w.count;
           each = λ i z q. each_of i z q a' b' sa' sb' first second (cases_eq i (low - 1)) (cases_eq i (high - 1));
+          stores = whole;
         }
       where
         each_of : (i : ℕ) (z : X) → slice_get gs' i ≡ Some z → (a' b' : X) → slice_get gs' (low - 1) ≡ Some a' → slice_get gs' (high - 1) ≡ Some b'
@@ -150,15 +165,17 @@ more {X} state past f f' gs gs' e low high w n r l1 l2 h1 h2 len k =
             apart : (p : ℕ) → (i ≡ p - 1 → ⊥) → p ≡ i + 1 → ⊥
             apart p m t = let back : i ≡ p - 1 = omega arith in m back
 
-pub same : {X : Type 0} (state : X → GuardianState) (past : List Event) (f f' : ForestState) (gs gs' : List X)
-    → IsWorld state f.opening past f gs → length gs' ≡ length gs → AreSame state f f' gs gs' → IsWorld state f.opening past f' gs'
-same state past f f' gs gs' w len k = record {
+pub same : {X : Type 0} {stored : X → View} (state : X → GuardianState) (past : List Event) (f f' : ForestState) (gs gs' : List X)
+    → IsWorld state stored f.opening past f gs → length gs' ≡ length gs → AreSame state f f' gs gs'
+    → ((i : ℕ) (x : X) → slice_get gs' i ≡ Some x → IsStoreOf (state x) (stored x)) → IsWorld state stored f.opening past f' gs'
+same state past f f' gs gs' w len k whole = record {
   is_run = w.is_run;
   forest = k.forest ∙ w.forest;
   count = len ∙ w.count;
   each = λ i z q.
       let p = there gs i (before i z q) in
       k.each i p.0 z p.1 q ∙ w.each i p.0 p.1;
+  stores = whole;
 }
   where
     before : (i : ℕ) (z : _) → slice_get gs' i ≡ Some z → i < length gs

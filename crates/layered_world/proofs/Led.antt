@@ -9,6 +9,7 @@ use Rattle.run_model.specs.LocalReadings.{LocalEvent}
 use Rattle.run_model.specs.Openings.{Opening}
 use Rattle.run_model.specs.Runs.{IsRun}
 use Rattle.local_laws.proofs.Lending.{lent_answers}
+use Rattle.stable_store.specs.Calls.{View}
 use Rattle.layer_contracts.specs.Guardians.{GuardianState, lent_two}
 use Rattle.layer_contracts.specs.Forests.{ForestState}
 use Rattle.lent_steps.specs.Lending.{nobody}
@@ -76,8 +77,8 @@ answers_alone past f step low high r e n o p =
     of g (inr q) = out_at (length f.opening.setup) high g p q
 
 -- the guardian of a number
-pub stands : {X : Type 0} (state : X → GuardianState) (opening : Opening) (past : List Event) (f : ForestState) (gs : List X) (n : ℕ) (x : X)
-    → IsWorld state opening past f gs → 1 ≤ n → slice_get gs (n - 1) ≡ Some x → state x ≡ standing opening past n
+pub stands : {X : Type 0} {stored : X → View} (state : X → GuardianState) (opening : Opening) (past : List Event) (f : ForestState) (gs : List X) (n : ℕ) (x : X)
+    → IsWorld state stored opening past f gs → 1 ≤ n → slice_get gs (n - 1) ≡ Some x → state x ≡ standing opening past n
 stands state opening past f gs n x w l s =
     let e : (n - 1) + 1 ≡ n = omega arith in
     w.each (n - 1) x s ∙ ap (λ k. standing opening past k) e

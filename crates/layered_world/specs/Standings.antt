@@ -1,14 +1,22 @@
 -- What a world is: its history is a run, and its forest and its guardians stand where that run leads them.
-use Rattle.std.specs.Prelude.{◌≡◌, ◌<◌, ◌⊎◌, ◌≢◌, ◌-◌, ℕ, ◌+◌, ◌==◌, ◌||◌, List, length, Some, slice_get}
+use Rattle.std.specs.Prelude.{◌≡◌, ◌<◌, ◌⊎◌, ◌≢◌, ◌-◌, ℕ, Bool, ◌+◌, ◌==◌, ◌&&◌, ◌||◌, List, length, Option, Some, slice_get}
 use Rattle.run_model.specs.declared.history.Event.{Event}
 use Rattle.run_model.specs.declared.step.Step.{Step}
 use Rattle.run_model.specs.Openings.{Opening}
-use Rattle.run_model.specs.Runs.{IsRun}
+use Rattle.run_model.specs.Answers.{answer_of}
+use Rattle.run_model.specs.Runs.{IsRun, is_accepted}
+use Rattle.run_model.specs.LocalReadings.{LocalEvent}
+use Rattle.stable_store.specs.Calls.{View}
+use Rattle.stable_store.specs.Stored.{Stored}
+use Rattle.stored_laws.specs.Stored.{after_event, asks_store}
+use Rattle.local_agreement.specs.Laws.{kept_event}
 use Rattle.run_model.specs.LocalHistories.{events_there, local_history, names_guardian, registry_history, numbered}
 use Rattle.layer_contracts.specs.Guardians.{GuardianState}
 use Rattle.layer_contracts.specs.Forests.{ForestState}
+use Rattle.layer_contracts.specs.Stores.{IsStoreOf, Leaves}
+use Rattle.layer_contracts.specs.declared.guardian.Fault.{Fault}
 use Rattle.lent_steps.specs.Lending.{OneOpening}
-use Rattle.lent_steps.specs.Keeping.{IsAnswered, IsDone}
+use Rattle.lent_steps.specs.Keeping.{IsAnswered, IsDone, StoreLeft}
 
 -- where the run leads guardian g
 abbrev pub standing : Opening → List Event → ℕ → GuardianState
@@ -18,12 +26,38 @@ standing opening past g = record { opening = opening; number = g; past = local_h
 abbrev pub forest_of : Opening → List Event → ForestState
 forest_of opening past = record { opening = opening; registry = registry_history opening (numbered past) }
 
--- guardians are values of any type, each with the state that contracts see; they stand from number 1 on
-pub record IsWorld {X : Type 0} (state : X → GuardianState) (opening : Opening) (past : List Event) (f : ForestState) (guardians : List X) : Type 0 where
+-- guardians are values of any type, each with the state and the store that contracts see; they stand from number 1 on
+pub record IsWorld {X : Type 0} (state : X → GuardianState) (stored : X → View) (opening : Opening) (past : List Event) (f : ForestState) (guardians : List X)
+    : Type 0 where
   pub is_run : IsRun opening past
   pub forest : f ≡ forest_of opening past
   pub count : length guardians ≡ length opening.setup
   pub each : (i : ℕ) (x : X) → slice_get guardians i ≡ Some x → state x ≡ standing opening past (i + 1)
+  pub stores : (i : ℕ) (x : X) → slice_get guardians i ≡ Some x → IsStoreOf (state x) (stored x)
+
+-- the step, with the answer that it has then
+abbrev pub event_next : Opening → Step → List Event → Event
+event_next opening step past = record { step = step; answer = answer_of opening step past }
+
+-- the event as guardian g keeps it, but for its stamp
+abbrev pub brought : Opening → Event → List Event → ℕ → LocalEvent
+brought opening e past g = kept_event opening (0, e) (numbered past) g
+
+-- the step is accepted, names g, and asks g's store for a call
+abbrev pub asks_of : Opening → Step → List Event → ℕ → Stored → Bool
+asks_of opening step past g s =
+    let e = event_next opening step past in
+    is_accepted e.answer && (names_guardian step past g && asks_store g (brought opening e past g) s)
+
+-- what g's store holds then
+abbrev pub content_then : Opening → Step → List Event → ℕ → Stored → Stored
+content_then opening step past g s =
+    after_event opening g (brought opening (event_next opening step past) past g) (local_history opening (numbered past) g) s
+
+-- What a step leaves of the stores: each has made the call that the step asks of it, or refused it, and is as it was where none is asked.
+pub record StoresLeft {X : Type 0} (stored : X → View) (opening : Opening) (past : List Event) (step : Step) (before after : List X) (fault : Option Fault) : Type 0 where
+  pub each : (i : ℕ) (x y : X) → slice_get before i ≡ Some x → slice_get after i ≡ Some y
+      → Leaves (asks_of opening step past (i + 1) (stored x).content) (content_then opening step past (i + 1) (stored x).content) (stored x) (stored y) fault
 
 -- no guardian of the setup has this number
 abbrev pub IsOut : ℕ → ℕ → Type 0
@@ -43,6 +77,19 @@ pub record IsKeptAt {X : Type 0} (state : X → GuardianState) (low high n : ℕ
   pub two : (a b a' b' : X) → slice_get before (low - 1) ≡ Some a → slice_get before (high - 1) ≡ Some b
       → slice_get after (low - 1) ≡ Some a' → slice_get after (high - 1) ≡ Some b' → IsDone f (state a) (state b) e n f' (state a') (state b')
   pub others : (i : ℕ) → i ≢ low - 1 → i ≢ high - 1 → slice_get after i ≡ slice_get before i
+
+-- and what it leaves of the stores of those two; nobody else is touched
+pub record IsLeftAt {X : Type 0} (state : X → GuardianState) (stored : X → View) (f : ForestState) (low high : ℕ) (e : Event) (before after : List X)
+    (fault : Option Fault) : Type 0 where
+  pub first : (a b x : X) → slice_get before (low - 1) ≡ Some a → slice_get before (high - 1) ≡ Some b → slice_get after (low - 1) ≡ Some x
+      → StoreLeft f (state a) (state b) e (state a) (stored a) (stored x) fault
+  pub second : (a b x : X) → slice_get before (low - 1) ≡ Some a → slice_get before (high - 1) ≡ Some b → slice_get after (high - 1) ≡ Some x
+      → StoreLeft f (state a) (state b) e (state b) (stored b) (stored x) fault
+  pub others : (i : ℕ) → i ≢ low - 1 → i ≢ high - 1 → slice_get after i ≡ slice_get before i
+
+-- the store of the guardian of this number is that of its history
+pub record IsWholeAt {X : Type 0} (state : X → GuardianState) (stored : X → View) (number : ℕ) (guardians : List X) : Type 0 where
+  pub at : (x : X) → slice_get guardians (number - 1) ≡ Some x → IsStoreOf (state x) (stored x)
 
 -- all stand as they did
 pub record AreSame {X : Type 0} (state : X → GuardianState) (f f' : ForestState) (before after : List X) : Type 0 where

@@ -4,7 +4,8 @@ ghost use Rattle.run_model.specs.Runs.{IsRun, history_after, is_accepted};
 ghost use Rattle.run_model.specs.LocalHistories.{answer_lent};
 ghost use Rattle.layer_contracts.specs.Guardians.{lent_two};
 ghost use Rattle.lent_steps.specs.Lending.{OneOpening, nobody};
-ghost use Rattle.layered_world.specs.Standings.{AreSame, IsKeptAt, IsOut, IsReady, IsWorld, Names};
+ghost use Rattle.layer_contracts.specs.Stores.{fault_in};
+ghost use Rattle.layered_world.specs.Standings.{AreSame, IsKeptAt, IsLeftAt, IsOut, IsReady, IsWholeAt, IsWorld, Names, StoresLeft};
 
 use layer_contracts::{Fault, Forest, Guardian};
 use lent_steps::{answer_alone, answer_two, keep_one, keep_two, named};
@@ -12,7 +13,8 @@ use run_model::{Answer, Event, History, Step};
 use std::alloc::{AllocError, Global};
 
 /// Makes one step of a world and gives its answer. An accepted step is in the history from then on, and with the forest and the guardians
-/// that it names; one that is refused or waits changes nothing. After an error nothing has changed.
+/// that it names; one that is refused or waits changes nothing. After an error nothing has changed. At most one store is called: `Stable` comes of it,
+/// and then it has counted one failure more.
 pub fn step<R: Forest, G: Guardian>(
     alloc: Global,
     forest: &mut R,
@@ -20,11 +22,12 @@ pub fn step<R: Forest, G: Guardian>(
     history: &mut History,
     step: &Step,
 ) -> Result<Answer, Fault>
-    requires { IsWorld G.state (R.state forest.old).opening history.old (R.state forest.old) guardians.old }
+    requires { IsWorld G.state G.stored (R.state forest.old).opening history.old (R.state forest.old) guardians.old }
     ensures answer { IfOk result (λ answer. answer ≡ answer_of (R.state forest.old).opening step.now history.old) }
     ensures after { IfOk result (λ answer. history.new ≡ history_after step.now answer history.old) }
     ensures err { OnErr result (history.new ≡ history.old) }
-    ensures world { IsWorld G.state (R.state forest.old).opening history.new (R.state forest.new) guardians.new }
+    ensures world { IsWorld G.state G.stored (R.state forest.old).opening history.new (R.state forest.new) guardians.new }
+    ensures stores { StoresLeft G.stored (R.state forest.old).opening history.old step.now guardians.old guardians.new (fault_in result) }
 {
     let (low, high) = places(forest, step);
     let answer = answer_at(alloc, forest, guardians, history, low, high, step)?;
@@ -70,7 +73,7 @@ fn answer_at<R: Forest, G: Guardian>(
     high: u32,
     step: &Step,
 ) -> Result<Answer, AllocError>
-    requires world { IsWorld G.state (R.state forest.now).opening _history.now (R.state forest.now) guardians.now }
+    requires world { IsWorld G.state G.stored (R.state forest.now).opening _history.now (R.state forest.now) guardians.now }
     requires names { Names (R.state forest.now) step.now low high }
     ensures { IfOk result (λ answer. answer ≡ answer_of (R.state forest.now).opening step.now _history.now) }
 {
@@ -96,17 +99,20 @@ fn keep<R: Forest, G: Guardian>(
     high: u32,
     event: &Event,
 ) -> Result<(), Fault>
-    requires world { IsWorld G.state (R.state forest.old).opening history.old (R.state forest.old) guardians.old }
+    requires world { IsWorld G.state G.stored (R.state forest.old).opening history.old (R.state forest.old) guardians.old }
     requires names { Names (R.state forest.old) event.now.step low high }
     requires ordered { low ≤ high }
     requires more { IsRun (R.state forest.old).opening (event.now ∷ history.old) }
     ensures ok { OnOk result (history.new ≡ event.now ∷ history.old) }
     ensures err { OnErr result (history.new ≡ history.old) }
-    ensures world { IsWorld G.state (R.state forest.old).opening history.new (R.state forest.new) guardians.new }
+    ensures world { IsWorld G.state G.stored (R.state forest.old).opening history.new (R.state forest.new) guardians.new }
+    ensures stores { StoresLeft G.stored (R.state forest.old).opening history.old event.now.step guardians.old guardians.new (fault_in result) }
 {
     let number = history.next_stamp();
     record(history, event)?;
     let kept = keep_at(alloc, forest, guardians, low, high, event, number);
+    ask_number(guardians, low);
+    ask_number(guardians, high);
     if kept.is_err() {
         history.pop();
     }
@@ -120,6 +126,15 @@ fn record(history: &mut History, event: &Event) -> Result<(), AllocError>
 {
     history.push(event.copy()?)?;
     Ok(())
+}
+
+/// Asks a guardian for its number: its store is that of its history.
+fn ask_number<G: Guardian>(guardians: &[G], number: u32)
+    requires first { 1 ≤ number }
+    requires last { number ≤ length guardians.now }
+    ensures { IsWholeAt G.state G.stored number guardians.now }
+{
+    guardians[number as usize - 1].number();
 }
 
 /// Keeps an event at the two guardians of these numbers, or at one.
@@ -138,6 +153,7 @@ fn keep_at<R: Forest, G: Guardian>(
     requires ready { IsReady G.state (R.state forest.old) low high event.now guardians.old }
     ensures ok { OnOk result (IsKeptAt G.state low high number event.now (R.state forest.old) (R.state forest.new) guardians.old guardians.new) }
     ensures err { OnErr result (AreSame G.state (R.state forest.old) (R.state forest.new) guardians.old guardians.new) }
+    ensures stores { IsLeftAt G.state G.stored (R.state forest.old) low high event.now guardians.old guardians.new (fault_in result) }
 {
     if low == high {
         keep_one(

@@ -4,3 +4,4 @@ pub mod New
 pub mod Left
 pub mod Own
 pub mod Agreed
+pub mod Stores

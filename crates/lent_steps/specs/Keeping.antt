@@ -1,5 +1,5 @@
 -- What an accepted step leaves of what it was lent.
-use Rattle.std.specs.Prelude.{◌≡◌, ℕ, Bool, true, false, ◌==◌, ◌||◌, IsTrue}
+use Rattle.std.specs.Prelude.{◌≡◌, ℕ, Bool, true, false, ◌&&◌, ◌==◌, ◌||◌, Option, IsTrue}
 use Rattle.run_model.specs.declared.step.Step.{Step}
 use Rattle.run_model.specs.declared.step.Step.TheVariants.{Op}
 use Rattle.run_model.specs.declared.answer.Answer.{Answer}
@@ -9,8 +9,12 @@ use Rattle.run_model.specs.LocalReadings.{Carried, nothing_carried}
 use Rattle.run_model.specs.LocalHistories.{answer_lent, carried_lent, events_there, home_lent, life_lent, names_guardian, registry_after, takes_registry}
 use Rattle.local_laws.specs.Owed.{IsOwed}
 use Rattle.local_agreement.specs.Laws.{Agrees}
+use Rattle.stable_store.specs.Calls.{View}
+use Rattle.stored_laws.specs.Stored.{after_event, asks_store}
 use Rattle.layer_contracts.specs.Guardians.{GuardianState, News, after_step, kept, lent_two, stamped}
 use Rattle.layer_contracts.specs.Forests.{ForestState, RegistryNews, begun_at}
+use Rattle.layer_contracts.specs.Stores.{Leaves}
+use Rattle.layer_contracts.specs.declared.guardian.Fault.{Fault}
 
 abbrev pub is_operation : Step → Bool
 is_operation (Op a x wanted) = true
@@ -47,6 +51,16 @@ pub record IsPlannedAt (f : ForestState) (a b : GuardianState) (e : Event) (x : 
 pub record IsPlannedThere (f : ForestState) (home life : ℕ) (e : Event) (news : RegistryNews) : Type 0 where
   pub takes : takes_registry e.step ≡ true
   pub planned : news ≡ record { event = e; begun = begun_at f home life e.answer }
+
+-- what the event brings to x, of those lent
+abbrev pub news_to : ForestState → GuardianState → GuardianState → Event → GuardianState → News
+news_to f a b e x = record { event = e; carried = carried_lent f.opening e x.number f.registry (lent_two a b) }
+
+-- What a step leaves of the store of x, of those lent. Where the event does not name x, or asks nothing of its store, that is as it was.
+abbrev pub StoreLeft : ForestState → GuardianState → GuardianState → Event → GuardianState → View → View → Option Fault → Type 0
+StoreLeft f a b e x old new fault =
+    Leaves (names_guardian e.step (events_there f.registry) x.number && asks_store x.number (stamped 0 (news_to f a b e x)) old.content)
+    (after_event x.opening x.number (stamped 0 (news_to f a b e x)) x.past old.content) old new fault
 
 -- the forest and two guardians after the event, with its stamp
 pub record IsDone (f : ForestState) (a b : GuardianState) (e : Event) (n : ℕ) (f' : ForestState) (a' b' : GuardianState) : Type 0 where

@@ -6,6 +6,7 @@ ghost use Rattle.run_model.specs.Runs.{is_accepted};
 ghost use Rattle.local_laws.specs.Owed.{IsOwed};
 ghost use Rattle.layer_contracts.specs.Guardians.{kept, stamped};
 ghost use Rattle.layer_contracts.specs.Messages.{carried_of};
+ghost use Rattle.layer_contracts.specs.Stores.{Stays};
 ghost use Rattle.lent_steps.specs.Keeping.{IsOperated, is_operation};
 
 use crate::fault::LockedFault;
@@ -69,7 +70,7 @@ impl<'a, G: Guardian> ReadsAction for Here<'a, G> {
 }
 
 /// An operation of an action on the guardian's roster, answered and kept by the guardian alone. One that is refused or waits changes nothing, and
-/// so does a fault: want of memory, or one that does not agree with the guardian's history. An action that is not on the roster is no action here: whether there is one elsewhere the forest knows.
+/// so does a fault: want of memory, or one that does not agree with the guardian's history. The guardian's store is as it was in each case. An action that is not on the roster is no action here: whether there is one elsewhere the forest knows.
 pub fn operate<G: Judging, F: FnOnce() -> u64>(
     alloc: Global,
     guardian: &mut G,
@@ -84,6 +85,7 @@ pub fn operate<G: Judging, F: FnOnce() -> u64>(
     ensures kept { IfOk result (λ answer. IsOperated (λ n. F.post stamp n) (steps.Op action.now object operation.now) answer (G.state guardian.old)
         (G.state guardian.new)) }
     ensures err { OnErr result (G.state guardian.new ≡ G.state guardian.old) }
+    ensures store { Stays (G.stored guardian.old) (G.stored guardian.new) }
 {
     let answer = answer_here(guardian, action, object, operation)?;
     if !answer.is_accepted() {
@@ -140,6 +142,7 @@ fn keep_operation<G: Judging, F: FnOnce() -> u64>(
     ensures ok { OnOk result ((n : ℕ) × F.post stamp n × (G.state guardian.new ≡ kept (G.state guardian.old)
         (stamped n (record { event = event.now; carried = nothing_carried })))) }
     ensures err { OnErr result (G.state guardian.new ≡ G.state guardian.old) }
+    ensures store { Stays (G.stored guardian.old) (G.stored guardian.new) }
 {
     let nothing = no_message(alloc);
     if !guardian.agrees(event, &nothing)? {

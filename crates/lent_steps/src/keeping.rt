@@ -1,14 +1,15 @@
 //! What an accepted step leaves of the forest and of the guardians that it was lent.
-ghost use Rattle.std.specs.Prelude.{◌≡◌, ◌==◌, ◌∷◌, ℕ, Bool, true, false, IfOk, OnErr, IsTrue, IsFalse, MatchOption, is_none};
+ghost use Rattle.std.specs.Prelude.{◌≡◌, ◌==◌, ◌&&◌, ◌∷◌, ℕ, Bool, true, false, IfOk, OnErr, IsTrue, IsFalse, MatchOption, is_none, is_some};
 ghost use Rattle.run_model.specs.Runs.{is_accepted};
 ghost use Rattle.run_model.specs.LocalHistories.{answer_lent, carried_lent, events_there, home_lent, life_lent, names_guardian, registry_after, takes_registry};
 ghost use Rattle.layer_contracts.specs.Guardians.{after_step, kept, lent_two, stamped};
 ghost use Rattle.local_agreement.specs.Laws.{Agrees};
+ghost use Rattle.layer_contracts.specs.Stores.{LeavesStore, Stays, fault_in};
 ghost use Rattle.layer_contracts.specs.Messages.{carried_of, may_fail};
 ghost use Rattle.layer_contracts.specs.Forests.{entered, stamped_there};
 ghost use Rattle.local_laws.specs.Owed.{IsOwed};
 ghost use Rattle.lent_steps.specs.Lending.{IsOneOf, OneOpening};
-ghost use Rattle.lent_steps.specs.Keeping.{IsAnswered, IsBrought, IsDone, IsPlannedThere};
+ghost use Rattle.lent_steps.specs.Keeping.{IsAnswered, IsBrought, IsDone, IsPlannedThere, StoreLeft};
 
 use crate::lent::Lent;
 use crate::names::{home_of_new, named, takes_registry};
@@ -55,6 +56,7 @@ fn plan_at<G: Guardian>(
     requires agrees { MatchOption brought (Unit {0}) (λ message. Agrees (G.state guardian.old).opening (G.state guardian.old).number
         (stamped 0 (record { event = event.now; carried = carried_of message })) (G.state guardian.old).past) }
     ensures same { G.state guardian.new ≡ G.state guardian.old }
+    ensures store { Stays (G.stored guardian.old) (G.stored guardian.new) }
     ensures fits { IfOk result (λ planned. MatchOption planned (Unit {0}) (λ plan. G.fits plan guardian.new)) }
     ensures planned { IfOk result (λ planned. MatchOption brought (is_none planned ≡ true) (λ message. MatchOption planned ⊥
         (λ plan. G.planned plan ≡ record { event = event.now; carried = carried_of message }))) }
@@ -96,6 +98,13 @@ fn may_fail(step: &Step, guardian: u32) -> bool
     }
 }
 
+/// Whether there is a plan whose changes at this guardian may fail though there is room.
+fn plan_may_fail<G: Guardian>(plan: &Option<G::Plan>, step: &Step, guardian: &G) -> bool
+    ensures { result ≡ (is_some plan.now && may_fail step.now (G.state guardian.now).number) }
+{
+    plan.is_some() && may_fail(step, guardian.number())
+}
+
 fn carry_out<G: Guardian, F: FnOnce() -> u64>(
     guardian: &mut G,
     plan: Option<G::Plan>,
@@ -107,6 +116,8 @@ fn carry_out<G: Guardian, F: FnOnce() -> u64>(
     ensures kept { IfOk result (λ n. MatchOption plan (G.state guardian.new ≡ G.state guardian.old)
         (λ plan. G.state guardian.new ≡ kept (G.state guardian.old) (stamped n (G.planned plan)))) }
     ensures err { OnErr result (G.state guardian.new ≡ G.state guardian.old) }
+    ensures store { MatchOption plan (Stays (G.stored guardian.old) (G.stored guardian.new))
+        (λ plan. LeavesStore (G.state guardian.old) (G.planned plan) (G.stored guardian.old) (G.stored guardian.new) (fault_in result)) }
 {
     match plan {
         Some(plan) => guardian.carry_out(plan, stamp),
@@ -117,8 +128,9 @@ fn carry_out<G: Guardian, F: FnOnce() -> u64>(
 fn install<G: Guardian>(guardian: &mut G, plan: Option<G::Plan>, stamp: u64)
     requires fits { MatchOption plan (Unit {0}) (λ plan. G.fits plan guardian.old) }
     requires quiet { MatchOption plan (Unit {0}) (λ plan. IsFalse (may_fail (G.planned plan).event.step (G.state guardian.old).number)) }
-    ensures { MatchOption plan (G.state guardian.new ≡ G.state guardian.old)
+    ensures kept { MatchOption plan (G.state guardian.new ≡ G.state guardian.old)
         (λ plan. G.state guardian.new ≡ kept (G.state guardian.old) (stamped stamp (G.planned plan))) }
+    ensures store { Stays (G.stored guardian.old) (G.stored guardian.new) }
 {
     if let Some(plan) = plan {
         guardian.install(plan, stamp);
@@ -155,7 +167,14 @@ pub fn keep_two<R: Forest, G: Guardian, F: FnOnce() -> u64>(
     ensures forest_same { OnErr result (R.state forest.new ≡ R.state forest.old) }
     ensures first_same { OnErr result (G.state first.new ≡ G.state first.old) }
     ensures second_same { OnErr result (G.state second.new ≡ G.state second.old) }
+    ensures first_store { StoreLeft (R.state forest.old) (G.state first.old) (G.state second.old) event.now
+        (G.state first.old) (G.stored first.old) (G.stored first.new) (fault_in result) }
+    ensures second_store { StoreLeft (R.state forest.old) (G.state first.old) (G.state second.old) event.now
+        (G.state second.old) (G.stored second.old) (G.stored second.new) (fault_in result) }
 {
+    // The stores of both are those of their histories.
+    first.number();
+    second.number();
     let lent = Lent {
         alloc,
         forest: &*forest,
@@ -169,7 +188,7 @@ pub fn keep_two<R: Forest, G: Guardian, F: FnOnce() -> u64>(
     let there = plan_there(forest, event, home, life)?;
     let one = plan_at(first, event, to_first)?;
     let other = plan_at(second, event, to_second)?;
-    if one.is_some() && may_fail(&event.step, first.number()) {
+    if plan_may_fail(&one, &event.step, &*first) {
         let number = carry_out(first, one, stamp)?;
         install(second, other, number);
         install_there(forest, there, number);
@@ -198,7 +217,11 @@ pub fn keep_one<R: Forest, G: Guardian, F: FnOnce() -> u64>(
         (R.state forest.new) (G.state guardian.new) (G.state guardian.new)) }
     ensures forest_same { OnErr result (R.state forest.new ≡ R.state forest.old) }
     ensures guardian_same { OnErr result (G.state guardian.new ≡ G.state guardian.old) }
+    ensures store { StoreLeft (R.state forest.old) (G.state guardian.old) (G.state guardian.old) event.now
+        (G.state guardian.old) (G.stored guardian.old) (G.stored guardian.new) (fault_in result) }
 {
+    // Its store is that of its history.
+    guardian.number();
     let lent = Lent {
         alloc,
         forest: &*forest,

@@ -4,7 +4,7 @@ use crate::devices::{CALLS, calls_to_open, make_whole, open_and_crash, open_copy
 use crate::machines::{Failing, Keeper, Machine};
 use rows::{RowFault, Words};
 use stable_store::StoreFault;
-use std::alloc::Global;
+use std::alloc::{AllocError, Global};
 use std::fmt::Write;
 
 /// A change that is made in copies of a device, each of which fails after another number of calls.
@@ -60,6 +60,15 @@ impl Contents {
         Ok(Contents { before, after })
     }
 
+    fn tell(&self, answer: &mut String) -> Result<(), AllocError> {
+        write!(
+            answer,
+            "{} then {}",
+            self.before.as_str(),
+            self.after.as_str()
+        )
+    }
+
     /// What is kept where the change was made, or was refused.
     fn kept(&self, is_made: bool) -> &str {
         if is_made {
@@ -77,13 +86,23 @@ pub(crate) fn write_stops<M: Machine>(
     answer: &mut String,
 ) -> Result<(), RowFault> {
     let contents = trial.contents(alloc)?;
-    write!(
-        answer,
-        "{} then {}",
-        contents.before.as_str(),
-        contents.after.as_str()
-    )?;
+    contents.tell(answer)?;
     stop_each(alloc, trial, &contents, answer)
+}
+
+/// The same of the one stop after so many calls.
+pub(crate) fn write_stop<M: Machine>(
+    alloc: Global,
+    trial: &Trial<'_, M>,
+    calls: u64,
+    answer: &mut String,
+) -> Result<(), RowFault> {
+    let contents = trial.contents(alloc)?;
+    contents.tell(answer)?;
+    if survives(alloc, trial, trial.open(alloc, calls)?, &contents, answer)? {
+        answer.push_str("; not stopped")?;
+    }
+    Ok(())
 }
 
 /// Lets the file fail after each number of calls, from the first of the change up to one that suffices.
@@ -229,8 +248,7 @@ pub(crate) fn write_openings<M: Machine>(
     failing: Failing,
     answer: &mut String,
 ) -> Result<(), RowFault> {
-    let mut whole = String::new(alloc);
-    open_copy(alloc, machine, failing, u64::MAX)?.load(alloc, &mut whole)?;
+    let whole = whole_content(alloc, machine, failing)?;
     answer.push_str(whole.as_str())?;
     for calls in 0..CALLS {
         if is_opened(alloc, machine, failing, calls, whole.as_str(), answer)? {
@@ -239,6 +257,33 @@ pub(crate) fn write_openings<M: Machine>(
     }
     answer.push_str("; no number of calls suffices")?;
     Ok(())
+}
+
+/// The same of the one opening that is stopped after so many calls.
+pub(crate) fn write_opening<M: Machine>(
+    alloc: Global,
+    machine: &M,
+    failing: Failing,
+    calls: u64,
+    answer: &mut String,
+) -> Result<(), RowFault> {
+    let whole = whole_content(alloc, machine, failing)?;
+    answer.push_str(whole.as_str())?;
+    if is_opened(alloc, machine, failing, calls, whole.as_str(), answer)? {
+        answer.push_str("; not stopped")?;
+    }
+    Ok(())
+}
+
+/// The content of the store once a copy of the device is opened that does not fail.
+fn whole_content<M: Machine>(
+    alloc: Global,
+    machine: &M,
+    failing: Failing,
+) -> Result<String, RowFault> {
+    let mut whole = String::new(alloc);
+    open_copy(alloc, machine, failing, u64::MAX)?.load(alloc, &mut whole)?;
+    Ok(whole)
 }
 
 /// Opens a copy that fails after so many calls, and then what a crash leaves of it. Gives whether nothing failed.

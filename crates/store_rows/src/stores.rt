@@ -2,7 +2,9 @@
 use crate::calls::Change;
 use crate::devices::{filled, has_known_tables, open_and_close, open_store};
 use crate::machines::{Database, Failing, Keeper, Machine, Refusal, read_frames};
-use crate::stops::{Trial, open_exhausted, shut, write_openings, write_stops};
+use crate::stops::{
+    Trial, open_exhausted, shut, write_opening, write_openings, write_stop, write_stops,
+};
 use rows::{Row, RowFault, Subject, Words};
 use sqlite::{Error, ErrorCode};
 use sqlite_resolve::CompileError;
@@ -70,7 +72,9 @@ impl<D: Database, M: Machine> Subject for Stores<D, M> {
             | "fill_tables"
             | "refused"
             | "stops"
+            | "stop_after"
             | "stop_openings"
+            | "stop_opening_after"
             | "exhaust"
             | "shut"
             | "crash"
@@ -230,7 +234,9 @@ impl<D: Database, M: Machine> Stores<D, M> {
             "fill_tables" => self.fill_tables([FIRST_TABLES, SECOND_TABLES], row.given, answer),
             "refused" => self.refused(words, answer),
             "stops" => self.stop(words, answer),
+            "stop_after" => self.stop_after(words, answer),
             "stop_openings" => self.stop_openings(words, answer),
+            "stop_opening_after" => self.stop_opening_after(words, answer),
             "exhaust" => self.exhaust(words, answer),
             "shut" => self.shut(words, answer),
             "crash" => self.crash(answer),
@@ -291,6 +297,17 @@ impl<D: Database, M: Machine> Stores<D, M> {
         write_openings(self.alloc, self.device()?, failing, answer)
     }
 
+    /// Stops a copy of the device while the store is opened, after so many calls.
+    fn stop_opening_after(
+        &self,
+        mut words: Words<'_>,
+        answer: &mut String,
+    ) -> Result<(), RowFault> {
+        let calls = words.number()?;
+        let failing = Failing::read(&mut words)?;
+        write_opening(self.alloc, self.device()?, failing, calls, answer)
+    }
+
     fn device(&self) -> Result<&M, RowFault> {
         match &self.held {
             Held::Device(device) => Ok(device),
@@ -302,6 +319,13 @@ impl<D: Database, M: Machine> Stores<D, M> {
     fn stop(&self, words: Words<'_>, answer: &mut String) -> Result<(), RowFault> {
         let trial = Trial::read(self.device()?, words)?;
         write_stops(self.alloc, &trial, answer)
+    }
+
+    /// Stops a copy of the device in a change, after so many calls.
+    fn stop_after(&self, mut words: Words<'_>, answer: &mut String) -> Result<(), RowFault> {
+        let calls = words.number()?;
+        let trial = Trial::read(self.device()?, words)?;
+        write_stop(self.alloc, &trial, calls, answer)
     }
 
     /// Opens a copy of the device, which from then on fails.

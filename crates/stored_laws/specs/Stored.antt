@@ -1,5 +1,5 @@
 -- When a store holds what a guardian's own history says, and which call of the store an event asks for.
-use Rattle.std.specs.Prelude.{◌≡◌, ℕ, Bool, ◌&&◌, ◌==◌, List, [], ◌∷◌, option_map, is_some, if◌then◌else◌, IsTrue}
+use Rattle.std.specs.Prelude.{◌≡◌, ℕ, Bool, false, ◌&&◌, ◌==◌, List, [], ◌∷◌, option_map, is_some, if◌then◌else◌, IsTrue}
 use Rattle.std.specs.FinMap as map
 use Rattle.std.specs.FinSet as set
 use Rattle.action_names.specs.Names.{Name, is_top, last_of}
@@ -28,6 +28,17 @@ pub record AreStored (opening : Opening) (g : ℕ) (here : List LocalEvent) (s :
 -- the top action has a record
 abbrev pub has_record : Stored → Name → Bool
 has_record s t = is_top t && is_some (map.get s.prepared (last_of t))
+
+-- the event asks for a call of the store of g: a yes vote, a telling of a top action that has a record, a decision, a recovery
+abbrev pub asks_store : ℕ → LocalEvent → Stored → Bool
+asks_store g c s = of c.event.step
+  where
+    of : Step → Bool
+    of (Prepare h t) = votes_yes c.event.step c.event.answer g t
+    of (Tell h a) = (h == g) && has_record s a
+    of (Decide t) = is_top t
+    of (Recover h) = h == g
+    of _ = false
 
 -- What a store holds after the one call that an event asks of it, if it asks for one: a yes vote prepares what the top action holds then, a telling of a
 -- prepared top action installs or discards its record, a decision is kept, a recovery counted.

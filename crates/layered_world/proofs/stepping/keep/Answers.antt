@@ -1,49 +1,125 @@
-use Rattle.std.proofs.Common.{ap, arith, drop, length, subst, sym, ◌∙◌, ◌∷◌, ◌≡◌, ◌≤◌}
+use Rattle.std.proofs.Common.{ap, arith, drop, length, subst, sym, ◌∙◌, ◌∷◌, ◌≡◌}
 use Rattle.std.proofs.lemmas.Bool.{or_left, or_right}
 use Rattle.run_laws.proofs.Names.{eqb_self}
 use Rattle.layer_contracts.specs.Forests.{ForestState}
-use Rattle.layered_world.specs.Standings.{IsKeptAt, IsWorld}
-use Rattle.layered_world.proofs.Kept.{inside, more, ready, same}
+use Rattle.layer_contracts.specs.Stores.{fault_in}
+use Rattle.lent_steps.proofs.Stores.{with_fault}
+use Rattle.layered_world.specs.Standings.{IsKeptAt, IsWorld, StoresLeft}
+use Rattle.layered_world.proofs.Kept.{more, place_of, ready, same}
 use Rattle.layered_world.proofs.Places.{from_err, from_ok}
+use Rattle.layered_world.proofs.Stores.{stores_kept, stores_refused, stores_whole}
 use Rattle.layered_world.proofs.stepping.keep.Goals as goal
 
 pub keep_at-kept-requires-clause-first : goal.keep_at-kept-requires-clause-first
 keep_at-kept-requires-clause-first g c =
     let f : ForestState = g.R.Forest.state c.args.forest.now in
-    (inside c.args.history.now f c.args.event.now c.args.low c.args.high c.args.low c.requires.world.forest c.requires.more c.requires.names (or_left _ _ (eqb_self c.args.low))).low
+    (place_of g.G.Guardian.state c.args.history.now f c.args.guardians.now c.args.event.now c.args.low c.args.high c.args.low
+    c.requires.world c.requires.more c.requires.names (or_left _ _ (eqb_self c.args.low))).0
 
 pub keep_at-kept-requires-clause-last : goal.keep_at-kept-requires-clause-last
 keep_at-kept-requires-clause-last g c =
     let f : ForestState = g.R.Forest.state c.args.forest.now in
-    let i = (inside c.args.history.now f c.args.event.now c.args.low c.args.high c.args.high c.requires.world.forest c.requires.more c.requires.names (or_right _ _ (eqb_self c.args.high))).high in
-    subst (λ n. c.args.high ≤ n) (sym c.requires.world.count) i
+    (place_of g.G.Guardian.state c.args.history.now f c.args.guardians.now c.args.event.now c.args.low c.args.high c.args.high
+    c.requires.world c.requires.more c.requires.names (or_right _ _ (eqb_self c.args.high))).1
 
 pub keep_at-kept-requires-clause-ready : goal.keep_at-kept-requires-clause-ready
 keep_at-kept-requires-clause-ready g c =
     let f : ForestState = g.R.Forest.state c.args.forest.now in
+    let low = place_of g.G.Guardian.state c.args.history.now f c.args.guardians.now c.args.event.now c.args.low c.args.high c.args.low
+    c.requires.world c.requires.more c.requires.names (or_left _ _ (eqb_self c.args.low)) in
+    let high = place_of g.G.Guardian.state c.args.history.now f c.args.guardians.now c.args.event.now c.args.low c.args.high c.args.high
+    c.requires.world c.requires.more c.requires.names (or_right _ _ (eqb_self c.args.high)) in
     ready g.G.Guardian.state c.args.history.now f c.args.guardians.now c.args.event.now c.args.low c.args.high c.requires.world c.requires.names c.requires.more
-    (inside c.args.history.now f c.args.event.now c.args.low c.args.high c.args.low c.requires.world.forest c.requires.more c.requires.names (or_left _ _ (eqb_self c.args.low))).low
-    (inside c.args.history.now f c.args.event.now c.args.low c.args.high c.args.high c.requires.world.forest c.requires.more c.requires.names (or_right _ _ (eqb_self c.args.high))).low
+    low.0 high.0
+
+pub ask_number-requires-clause-first : goal.ask_number-requires-clause-first
+ask_number-requires-clause-first g c =
+    let f : ForestState = g.R.Forest.state c.args.forest.now in
+    (place_of g.G.Guardian.state c.args.history.now f c.args.guardians.now c.args.event.now c.args.low c.args.high c.args.low
+    c.requires.world c.requires.more c.requires.names (or_left _ _ (eqb_self c.args.low))).0
+
+pub ask_number-requires-clause-last : goal.ask_number-requires-clause-last
+ask_number-requires-clause-last g c =
+    let f : ForestState = g.R.Forest.state c.args.forest.now in
+    let low = place_of g.G.Guardian.state c.args.history.now f c.args.guardians.now c.args.event.now c.args.low c.args.high c.args.low
+    c.requires.world c.requires.more c.requires.names (or_left _ _ (eqb_self c.args.low)) in
+    omega (arith, c.keep_at-kept.auto.guardians, low.1)
+
+pub ask_number-requires-2-clause-first : goal.ask_number-requires-2-clause-first
+ask_number-requires-2-clause-first g c =
+    let f : ForestState = g.R.Forest.state c.args.forest.now in
+    (place_of g.G.Guardian.state c.args.history.now f c.args.guardians.now c.args.event.now c.args.low c.args.high c.args.high
+    c.requires.world c.requires.more c.requires.names (or_right _ _ (eqb_self c.args.high))).0
+
+pub ask_number-requires-2-clause-last : goal.ask_number-requires-2-clause-last
+ask_number-requires-2-clause-last g c =
+    let f : ForestState = g.R.Forest.state c.args.forest.now in
+    let high = place_of g.G.Guardian.state c.args.history.now f c.args.guardians.now c.args.event.now c.args.low c.args.high c.args.high
+    c.requires.world c.requires.more c.requires.names (or_right _ _ (eqb_self c.args.high)) in
+    omega (arith, c.keep_at-kept.auto.guardians, high.1)
+
+pub returns-in_err-record-clause-stores : goal.returns-in_err-record-clause-stores
+returns-in_err-record-clause-stores g c =
+    let f : ForestState = g.R.Forest.state c.args.forest.now in
+    with_fault c.from_residual.result _ (λ fault. StoresLeft g.G.Guardian.stored f.opening c.args.history.now c.args.event.now.step c.args.guardians.now c.args.guardians.now fault)
+    c.from_residual.ensures.1
+    (stores_refused g.G.Guardian.stored f.opening c.args.history.now c.args.event.now.step c.args.guardians.now g.G.Guardian.state f c.requires.world)
+
+pub returns-then-is_err-clause-stores : goal.returns-then-is_err-clause-stores
+returns-then-is_err-clause-stores g c =
+    let f : ForestState = g.R.Forest.state c.args.forest.now in
+    let low = place_of g.G.Guardian.state c.args.history.now f c.args.guardians.now c.args.event.now c.args.low c.args.high c.args.low
+    c.requires.world c.requires.more c.requires.names (or_left _ _ (eqb_self c.args.low)) in
+    let high = place_of g.G.Guardian.state c.args.history.now f c.args.guardians.now c.args.event.now c.args.low c.args.high c.args.high
+    c.requires.world c.requires.more c.requires.names (or_right _ _ (eqb_self c.args.high)) in
+    stores_kept g.G.Guardian.state c.args.history.now f c.args.guardians.now c.keep_at-kept.new.guardians c.args.event.now c.args.low c.args.high
+    (fault_in c.keep_at-kept.result) c.requires.world c.requires.names c.requires.more low.0 high.0 c.keep_at-kept.ensures.stores low.2 high.2
+
+pub returns-else-is_err-clause-stores : goal.returns-else-is_err-clause-stores
+returns-else-is_err-clause-stores g c =
+    let f : ForestState = g.R.Forest.state c.args.forest.now in
+    let low = place_of g.G.Guardian.state c.args.history.now f c.args.guardians.now c.args.event.now c.args.low c.args.high c.args.low
+    c.requires.world c.requires.more c.requires.names (or_left _ _ (eqb_self c.args.low)) in
+    let high = place_of g.G.Guardian.state c.args.history.now f c.args.guardians.now c.args.event.now c.args.low c.args.high c.args.high
+    c.requires.world c.requires.more c.requires.names (or_right _ _ (eqb_self c.args.high)) in
+    stores_kept g.G.Guardian.state c.args.history.now f c.args.guardians.now c.keep_at-kept.new.guardians c.args.event.now c.args.low c.args.high
+    (fault_in c.keep_at-kept.result) c.requires.world c.requires.names c.requires.more low.0 high.0 c.keep_at-kept.ensures.stores low.2 high.2
 
 pub returns-then-is_err-clause-world : goal.returns-then-is_err-clause-world
 returns-then-is_err-clause-world g c =
     let f : ForestState = g.R.Forest.state c.args.forest.now in
-    let len : length c.keep_at-kept.new.guardians ≡ length c.args.guardians.now = omega (arith, c.keep_at-kept.auto.guardians) in
+    let f' : ForestState = g.R.Forest.state c.keep_at-kept.new.forest in
+    let gs = c.args.guardians.now in
+    let gs' = c.keep_at-kept.new.guardians in
+    let len : length gs' ≡ length gs = omega (arith, c.keep_at-kept.auto.guardians) in
     let k = from_err c.keep_at-kept.result _ c.keep_at-kept.ensures.err (sym c.is_err.ensures.value ∙ c.if-is_err.true) in
-    subst (λ h. IsWorld g.G.Guardian.state f.opening h (g.R.Forest.state c.keep_at-kept.new.forest) c.keep_at-kept.new.guardians)
+    let low = place_of g.G.Guardian.state c.args.history.now f gs c.args.event.now c.args.low c.args.high c.args.low
+    c.requires.world c.requires.more c.requires.names (or_left _ _ (eqb_self c.args.low)) in
+    let high = place_of g.G.Guardian.state c.args.history.now f gs c.args.event.now c.args.low c.args.high c.args.high
+    c.requires.world c.requires.more c.requires.names (or_right _ _ (eqb_self c.args.high)) in
+    subst (λ h. IsWorld g.G.Guardian.state g.G.Guardian.stored f.opening h f' gs')
     (sym (c.pop.ensures ∙ ap (λ past. drop 1 past) c.in_ok-record.ensures.ok))
-    (same g.G.Guardian.state c.args.history.now f (g.R.Forest.state c.keep_at-kept.new.forest) c.args.guardians.now c.keep_at-kept.new.guardians c.requires.world len k)
+    (same g.G.Guardian.state c.args.history.now f f' gs gs' c.requires.world len k
+    (stores_whole g.G.Guardian.state c.args.history.now f gs gs' c.args.event.now c.args.low c.args.high (fault_in c.keep_at-kept.result)
+    c.requires.world c.requires.names c.requires.more low.0 high.0 c.keep_at-kept.ensures.stores c.ask_number.ensures.at c.ask_number-2.ensures.at))
 
 pub returns-else-is_err-clause-world : goal.returns-else-is_err-clause-world
 returns-else-is_err-clause-world g c =
     let f : ForestState = g.R.Forest.state c.args.forest.now in
-    let len : length c.keep_at-kept.new.guardians ≡ length c.args.guardians.now = omega (arith, c.keep_at-kept.auto.guardians) in
+    let f' : ForestState = g.R.Forest.state c.keep_at-kept.new.forest in
+    let gs = c.args.guardians.now in
+    let gs' = c.keep_at-kept.new.guardians in
+    let len : length gs' ≡ length gs = omega (arith, c.keep_at-kept.auto.guardians) in
     let number : c.next_stamp-number.result ≡ length (c.args.event.now ∷ c.args.history.now) = c.next_stamp-number.ensures in
     let k = from_ok c.keep_at-kept.result _ c.keep_at-kept.ensures.ok (sym c.is_err.ensures.value ∙ c.if-is_err.false) in
-    let l1 = inside c.args.history.now f c.args.event.now c.args.low c.args.high c.args.low c.requires.world.forest c.requires.more c.requires.names (or_left _ _ (eqb_self c.args.low)) in
-    let l2 = inside c.args.history.now f c.args.event.now c.args.low c.args.high c.args.high c.requires.world.forest c.requires.more c.requires.names (or_right _ _ (eqb_self c.args.high)) in
-    subst (λ h. IsWorld g.G.Guardian.state f.opening h (g.R.Forest.state c.keep_at-kept.new.forest) c.keep_at-kept.new.guardians)
+    let low = place_of g.G.Guardian.state c.args.history.now f gs c.args.event.now c.args.low c.args.high c.args.low
+    c.requires.world c.requires.more c.requires.names (or_left _ _ (eqb_self c.args.low)) in
+    let high = place_of g.G.Guardian.state c.args.history.now f gs c.args.event.now c.args.low c.args.high c.args.high
+    c.requires.world c.requires.more c.requires.names (or_right _ _ (eqb_self c.args.high)) in
+    subst (λ h. IsWorld g.G.Guardian.state g.G.Guardian.stored f.opening h f' gs')
     (sym c.in_ok-record.ensures.ok)
-    (more g.G.Guardian.state c.args.history.now f (g.R.Forest.state c.keep_at-kept.new.forest) c.args.guardians.now c.keep_at-kept.new.guardians c.args.event.now c.args.low c.args.high
-    c.requires.world c.requires.names c.requires.more l1.low l2.low (subst (λ n. c.args.low ≤ n) (sym c.requires.world.count) l1.high) (subst (λ n. c.args.high ≤ n) (sym c.requires.world.count) l2.high)
-    len (subst (λ n. IsKeptAt g.G.Guardian.state c.args.low c.args.high n c.args.event.now f (g.R.Forest.state c.keep_at-kept.new.forest) c.args.guardians.now c.keep_at-kept.new.guardians) number k))
+    (more g.G.Guardian.state c.args.history.now f f' gs gs' c.args.event.now c.args.low c.args.high
+    c.requires.world c.requires.names c.requires.more low.0 high.0 low.1 high.1 len
+    (subst (λ n. IsKeptAt g.G.Guardian.state c.args.low c.args.high n c.args.event.now f f' gs gs') number k)
+    (stores_whole g.G.Guardian.state c.args.history.now f gs gs' c.args.event.now c.args.low c.args.high (fault_in c.keep_at-kept.result)
+    c.requires.world c.requires.names c.requires.more low.0 high.0 c.keep_at-kept.ensures.stores c.ask_number.ensures.at c.ask_number-2.ensures.at))

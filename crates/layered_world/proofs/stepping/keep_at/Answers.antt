@@ -1,8 +1,11 @@
-use Rattle.std.proofs.Common.{ap, arith, length, sym, ◌++◌, ◌-◌, ◌<◌, ◌∙◌, ◌≡◌, rules, slice_get}
+use Rattle.std.proofs.Common.{None, Some, ap, arith, length, set, sym, ◌++◌, ◌-◌, ◌<◌, ◌∙◌, ◌≡◌, rules, slice_get}
 use Rattle.std.proofs.lemmas.Bool.{ne_eqb}
 use Rattle.layer_contracts.specs.Forests.{ForestState}
 use Rattle.layered_world.proofs.Kept.{differ, kept_then, same_at}
 use Rattle.layered_world.proofs.Places.{back_at, front_at, on_err}
+use Rattle.lent_steps.proofs.Stores.{with_fault}
+use Rattle.layered_world.specs.Standings.{IsLeftAt}
+use Rattle.layered_world.proofs.Stores.{left_one, left_two}
 use Rattle.layered_world.proofs.stepping.keep_at.Goals as goal
 
 pub keep_two-requires-clause-sound : goal.keep_two-requires-clause-sound
@@ -58,3 +61,43 @@ returns-clause-ok g c =
     kept_then g.G.Guardian.state c.args.low c.args.high c.in_ok-keep_two.field-0 c.args.number c.args.event.now f (g.R.Forest.state c.keep_two.new.forest) c.args.guardians.now
     c.split_at_mut-left.result.0.now c.split_at_mut-left.result.1.now c.keep_two.new.first c.keep_two.new.second c.index-left-low.result c.index-right-0.result
     c.split_at_mut-left.ensures.value c.split_at_mut-left.ensures.front_len lt lt2 same c.in_ok-keep_two.ensures.done
+
+pub returns-in_err-keep_two-clause-stores : goal.returns-in_err-keep_two-clause-stores
+returns-in_err-keep_two-clause-stores g c =
+    let lt : c.args.low - 1 < length c.split_at_mut-left.result.0.now = omega (arith, c.split_at_mut-left.ensures.front_len) in
+    let lt2 : 0 < length c.split_at_mut-left.result.1.now = omega (arith, c.split_at_mut-left.ensures.back_len) in
+    let f : ForestState = g.R.Forest.state c.args.forest.now in
+    let after = set c.split_at_mut-left.result.0.now (c.args.low - 1) c.keep_two.new.first ++ set c.split_at_mut-left.result.1.now 0 c.keep_two.new.second in
+    with_fault c.from_residual-in_err-keep_two.result c.in_err-keep_two.field-0.0
+    (λ fault. IsLeftAt g.G.Guardian.state g.G.Guardian.stored f c.args.low c.args.high c.args.event.now c.args.guardians.now after fault)
+    c.from_residual-in_err-keep_two.ensures.1
+    (left_two g.G.Guardian.state g.G.Guardian.stored c.args.low c.args.high c.args.event.now f (Some c.in_err-keep_two.field-0.0) c.args.guardians.now
+    c.split_at_mut-left.result.0.now c.split_at_mut-left.result.1.now c.keep_two.new.first c.keep_two.new.second c.index-left-low.result c.index-right-0.result
+    c.split_at_mut-left.ensures.value c.split_at_mut-left.ensures.front_len lt lt2 c.in_err-keep_two.ensures.first_store c.in_err-keep_two.ensures.second_store)
+
+pub returns-clause-stores : goal.returns-clause-stores
+returns-clause-stores g c =
+    let lt : c.args.low - 1 < length c.split_at_mut-left.result.0.now = omega (arith, c.split_at_mut-left.ensures.front_len) in
+    let lt2 : 0 < length c.split_at_mut-left.result.1.now = omega (arith, c.split_at_mut-left.ensures.back_len) in
+    let f : ForestState = g.R.Forest.state c.args.forest.now in
+    left_two g.G.Guardian.state g.G.Guardian.stored c.args.low c.args.high c.args.event.now f None c.args.guardians.now
+    c.split_at_mut-left.result.0.now c.split_at_mut-left.result.1.now c.keep_two.new.first c.keep_two.new.second c.index-left-low.result c.index-right-0.result
+    c.split_at_mut-left.ensures.value c.split_at_mut-left.ensures.front_len lt lt2 c.in_ok-keep_two.ensures.first_store c.in_ok-keep_two.ensures.second_store
+
+pub returns-in_err-keep_one-clause-stores : goal.returns-in_err-keep_one-clause-stores
+returns-in_err-keep_one-clause-stores g c =
+    let lt : c.args.low - 1 < length c.args.guardians.now = omega (arith, c.requires.first, c.requires.ordered, c.requires.last) in
+    let f : ForestState = g.R.Forest.state c.args.forest.now in
+    let after = set c.args.guardians.now (c.args.low - 1) c.keep_one.new.guardian in
+    with_fault c.from_residual.result c.in_err-keep_one.field-0.0
+    (λ fault. IsLeftAt g.G.Guardian.state g.G.Guardian.stored f c.args.low c.args.high c.args.event.now c.args.guardians.now after fault)
+    c.from_residual.ensures.1
+    (left_one g.G.Guardian.state g.G.Guardian.stored c.args.low c.args.high c.args.event.now f (Some c.in_err-keep_one.field-0.0) c.args.guardians.now
+    c.keep_one.new.guardian c.index-guardians-low.result c.if-low-high.true lt c.in_err-keep_one.ensures.store)
+
+pub returns-then-low-high-clause-stores : goal.returns-then-low-high-clause-stores
+returns-then-low-high-clause-stores g c =
+    let lt : c.args.low - 1 < length c.args.guardians.now = omega (arith, c.requires.first, c.requires.ordered, c.requires.last) in
+    let f : ForestState = g.R.Forest.state c.args.forest.now in
+    left_one g.G.Guardian.state g.G.Guardian.stored c.args.low c.args.high c.args.event.now f None c.args.guardians.now
+    c.keep_one.new.guardian c.index-guardians-low.result c.if-low-high.true lt c.in_ok-keep_one.ensures.store

@@ -6,4 +6,4 @@ use Rattle.lent_steps.proofs.here.HereReadsAction.home.Goals as goal
 pub returns : goal.returns
 returns g c =
     let x : GuardianState = g.G.Guardian.state c.args.self.now.guardian.now in
-    c.number.ensures ∙ sym (home_here x.number c.args._action.now x.past c.requires.begun)
+    c.number.ensures.number ∙ sym (home_here x.number c.args._action.now x.past c.requires.begun)

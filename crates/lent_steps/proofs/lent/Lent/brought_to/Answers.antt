@@ -17,7 +17,7 @@ returns g c =
     let e : Event = c.args.event.now in
     let yes : c.is_named.result ≡ true = grind arith in
     let named : names_guardian e.step (events_there f.registry) x.number ≡ true =
-    ap (λ k. names_guardian e.step (events_there f.registry) k) (sym c.number.ensures) ∙ sym c.is_named.ensures ∙ yes in
+    ap (λ k. names_guardian e.step (events_there f.registry) k) (sym c.number.ensures.number) ∙ sym c.is_named.ensures ∙ yes in
     record {
       named = named;
       carried = c.in_ok-message.ensures;

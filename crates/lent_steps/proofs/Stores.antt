@@ -1,0 +1,138 @@
+-- What is left of the store of a guardian that was lent: by the plan that was carried out for it, by one that was installed, and where none was.
+use Rattle.std.proofs.Common.{Err, IsErrAnd, MatchOption, None, Ok, OnOk, Option, Result, Some, ap, ap₂, false, refl, subst, sym, true, is_some, ℕ, ◌&&◌, ◌==◌, ◌∙◌, ◌≡◌, ◌⊎◌, Bool, IsFalse}
+use Rattle.std.proofs.lemmas.Bool.{false≢true}
+use Rattle.run_model.specs.declared.history.Event.{Event}
+use Rattle.run_model.specs.declared.step.Step.{Step}
+use Rattle.run_model.specs.declared.step.Step.TheVariants.{Op}
+use Rattle.run_model.specs.LocalHistories.{events_there, names_guardian}
+use Rattle.run_model.specs.LocalReadings.{LocalEvent}
+use Rattle.stable_store.specs.Calls.{Changes, Counts, IsTrusted, View}
+use Rattle.stable_store.specs.Stored.{Stored}
+use Rattle.stored_laws.specs.Stored.{after_event, asks_store}
+use Rattle.layer_contracts.specs.Forests.{ForestState}
+use Rattle.layer_contracts.specs.Guardians.{GuardianState, News, stamped}
+use Rattle.layer_contracts.specs.Messages.{may_fail}
+use Rattle.layer_contracts.specs.Stores.{IsStoreOf, Leaves, LeavesStore, Stays, call_of, fault_in}
+use Rattle.layer_contracts.specs.declared.guardian.Fault.{Fault}
+use Rattle.layer_contracts.specs.declared.guardian.Fault.TheVariants.{Memory, Stable}
+use Rattle.layer_contracts.proofs.Stores.{left_alone, quiet_event, refused_before, stays_then}
+use Rattle.lent_steps.specs.Keeping.{IsPlannedAt, StoreLeft, is_operation, news_to}
+use Rattle.lent_steps.proofs.Left.{quiet_plan}
+
+-- ---- a call of a store that is as it was
+
+stands_from : (a b c : View) (fault : Option Fault) → Stays a b → OnOk (call_of fault) (IsTrusted c → b.is_up × c.is_up)
+    → OnOk (call_of fault) (IsTrusted c → a.is_up × c.is_up)
+stands_from a b c None stays h = λ trusted. let u = h trusted in (stays.down u.0, u.1)
+stands_from a b c (Some Memory) stays h = tt
+stands_from a b c (Some Stable) stays h = tt
+
+pub leaves_from : (asks : Bool) (after : Stored) (a b c : View) (fault : Option Fault) → Stays a b → Leaves asks after b c fault → Leaves asks after a c fault
+leaves_from false after a b c fault stays left = stays_then a b c stays left
+leaves_from true after a b c fault stays made = record {
+  changes = subst (λ s. Changes s after c.content (call_of fault)) stays.content made.changes;
+  cause = subst (λ n. Counts (Unit {0}) n c.failures (call_of fault)) stays.failures made.cause;
+  known = made.known ∙ stays.known;
+  holds = made.holds ∙ stays.holds;
+  none = λ none. made.none (stays.holds ∙ none);
+  honest = λ h. stays.honest (made.honest h);
+  stop = λ trusted up left leaves. subst (λ s. (left ≡ Some s) ⊎ (left ≡ Some after)) stays.content (made.stop trusted (stays.up up) left leaves);
+  rest = made.rest;
+  stands = stands_from a b c fault stays made.stands;
+}
+
+store_from : (x : GuardianState) (news : News) (old mid new : View) (fault : Option Fault) → Stays old mid → LeavesStore x news mid new fault
+    → LeavesStore x news old new fault
+store_from x news old mid new fault stays left =
+    leaves_from (asks_store x.number (stamped 0 news) old.content) (after_event x.opening x.number (stamped 0 news) x.past old.content) old mid new fault stays
+    (subst (λ s. Leaves (asks_store x.number (stamped 0 news) s) (after_event x.opening x.number (stamped 0 news) x.past s) mid new fault) stays.content left)
+
+-- ---- the fault of a call that is handed on
+
+pub with_fault : {T : Type 0} (r : Result T Fault) (fault : Fault) (P : Option Fault → Type 0) → IsErrAnd r (λ y. y ≡ fault) → P (Some fault) → P (fault_in r)
+with_fault (Ok x) fault P is p = absurd is
+with_fault (Err y) fault P is p = subst (λ z. P (Some z)) (sym is) p
+
+-- ---- what a step leaves of the store of x, of those lent
+
+module _ (f : ForestState) (a b x : GuardianState) (e : Event) (old : View) where
+  abbrev asks : Bool
+  asks = asks_store x.number (stamped 0 (news_to f a b e x)) old.content
+
+  abbrev content_after : Stored
+  content_after = after_event x.opening x.number (stamped 0 (news_to f a b e x)) x.past old.content
+
+  abbrev names_it : Bool
+  names_it = names_guardian e.step (events_there f.registry) x.number
+
+  -- want of memory came before anything was carried out
+  pub left_refused : (new : View) → Stays old new → IsStoreOf x old → StoreLeft f a b e x old new (Some Memory)
+  left_refused new stays whole = refused_before (names_it && asks) content_after old new stays whole.found whole.rests
+
+  pub left_early : {T : Type 0} (r : Result T Fault) (new : View) → IsErrAnd r (λ y. y ≡ Memory) → Stays old new → IsStoreOf x old
+      → StoreLeft f a b e x old new (fault_in r)
+  left_early r new is stays whole = with_fault r Memory (λ fault. StoreLeft f a b e x old new fault) is (left_refused new stays whole)
+
+  left_unnamed : (new : View) (fault : Option Fault) → names_it ≡ false → Stays old new → StoreLeft f a b e x old new fault
+  left_unnamed new fault other stays = left_alone (names_it && asks) content_after old new fault (ap (λ t. t && asks) other) stays
+
+  -- a plan was carried out for the guardian as it was when room was made, or there was none
+  pub left_carried : {P : Type 0} (y : GuardianState) (mid new : View) (fault : Option Fault) (o : Option P) (planned : P → News) → y ≡ x → Stays old mid
+      → MatchOption o (names_it ≡ false) (λ plan. IsPlannedAt f a b e x (planned plan))
+      → MatchOption o (Stays mid new) (λ plan. LeavesStore y (planned plan) mid new fault)
+      → StoreLeft f a b e x old new fault
+  left_carried y mid new fault None planned same stays q h = left_unnamed new fault q (stays_then old mid new stays h)
+  left_carried y mid new fault (Some plan) planned same stays q h =
+      let carried : LeavesStore x (news_to f a b e x) mid new fault =
+      subst (λ s. LeavesStore s (news_to f a b e x) mid new fault) same (subst (λ news. LeavesStore y news mid new fault) q.planned h) in
+      subst (λ t. Leaves (t && asks) content_after old new fault) (sym q.named) (store_from x (news_to f a b e x) old mid new fault stays carried)
+
+  -- a plan was installed, or is still to be, which asks for nothing; or there is none
+  pub left_quiet : {P : Type 0} (y : GuardianState) (new : View) (fault : Option Fault) (o : Option P) (planned : P → News) → y ≡ x
+      → MatchOption o (names_it ≡ false) (λ plan. IsPlannedAt f a b e x (planned plan))
+      → MatchOption o (Unit {0}) (λ plan. IsFalse (may_fail (planned plan).event.step y.number))
+      → Stays old new → StoreLeft f a b e x old new fault
+  left_quiet y new fault None planned same q quiet stays = left_unnamed new fault q stays
+  left_quiet y new fault (Some plan) planned same q quiet stays =
+      let silent : may_fail e.step x.number ≡ false =
+      sym (ap₂ (λ news s. may_fail news.event.step s.number) q.planned same) ∙ quiet in
+      left_alone (names_it && asks) content_after old new fault
+      (ap₂ (λ t u. t && u) q.named (quiet_event x.number (stamped 0 (news_to f a b e x)) old.content silent)) stays
+
+-- ---- which of two plans asks for nothing
+
+-- the one that was not carried out first, as it cannot fail
+pub quiet_here : {P : Type 0} (f : ForestState) (a b x : GuardianState) (e : Event) (n : ℕ) (o : Option P) (planned : P → News)
+    → (is_some o && may_fail e.step n) ≡ false
+    → MatchOption o (names_guardian e.step (events_there f.registry) x.number ≡ false) (λ plan. IsPlannedAt f a b e x (planned plan))
+    → MatchOption o (Unit {0}) (λ plan. IsFalse (may_fail (planned plan).event.step n))
+quiet_here f a b x e n None planned h q = tt
+quiet_here f a b x e n (Some plan) planned h q = ap (λ news. may_fail news.event.step n) q.planned ∙ h
+
+-- the other one, where the first may fail
+pub quiet_other : {P : Type 0} (f : ForestState) (a b x y x' y' : GuardianState) (e : Event) (o p : Option P) (planned : P → News) → x' ≡ x → y' ≡ y
+    → (is_some o && may_fail e.step x'.number) ≡ true → (x.number == y.number) ≡ false
+    → MatchOption o (names_guardian e.step (events_there f.registry) x.number ≡ false) (λ plan. IsPlannedAt f a b e x (planned plan))
+    → MatchOption p (names_guardian e.step (events_there f.registry) y.number ≡ false) (λ plan. IsPlannedAt f a b e y (planned plan))
+    → MatchOption p (Unit {0}) (λ plan. IsFalse (may_fail (planned plan).event.step y'.number))
+quiet_other f a b x y x' y' e None p planned same also h d q r = absurd (false≢true h)
+quiet_other f a b x y x' y' e (Some plan) p planned same also h d q r =
+    subst (λ s. MatchOption p (Unit {0}) (λ plan. IsFalse (may_fail (planned plan).event.step s.number))) (sym also)
+    (quiet_plan f a b x y e p planned q.named (ap (λ s. may_fail e.step s.number) (sym same) ∙ h) d r)
+
+-- ---- an operation
+
+-- An operation asks its store for nothing.
+operation_asks : (g : ℕ) (c : LocalEvent) (s : Stored) → is_operation c.event.step ≡ true → asks_store g c s ≡ false
+operation_asks g c s is = of c.event.step is
+  where
+    of : (step : Step) → is_operation step ≡ true
+        → asks_store g (record { stamp = c.stamp; event = record { step = step; answer = c.event.answer }; carried = c.carried }) s ≡ false
+    of (Op a x wanted) h = refl
+    of _ h = absurd (false≢true h)
+
+pub operation_stays : (x : GuardianState) (news : News) (old new : View) (fault : Option Fault) → is_operation news.event.step ≡ true
+    → LeavesStore x news old new fault → Stays old new
+operation_stays x news old new fault is left =
+    subst (λ t. Leaves t (after_event x.opening x.number (stamped 0 news) x.past old.content) old new fault)
+    (operation_asks x.number (stamped 0 news) old.content is) left

@@ -1,0 +1,97 @@
+-- When actions and votes are those of a history, and what an event changes there.
+use Rattle.std.specs.Prelude.{◌≡◌, ◌<◌, ◌||◌, ℕ, suc, Bool, true, false, List, [], MatchOption, IsFalse, IsTrue, is_none, length, slice_get}
+use Rattle.action_names.specs.Deps.{Deps}
+use Rattle.action_names.specs.Names.{Name}
+use Rattle.run_model.specs.declared.answer.Answer.{Answer}
+use Rattle.run_model.specs.declared.answer.Answer.TheVariants.{Began, VoteYes}
+use Rattle.run_model.specs.declared.history.Event.{Event}
+use Rattle.run_model.specs.declared.step.Step.{Step}
+use Rattle.run_model.specs.declared.step.Step.TheVariants as step
+use Rattle.run_model.specs.Actions.{home_in, home_of, is_begun, maker_in, names_begun}
+use Rattle.run_model.specs.LocalHistories.{RegistryEvent, dependency_there, events_there}
+use Rattle.run_model.specs.Openings.{Opening}
+use Rattle.run_model.specs.Runs.{is_accepted}
+use Rattle.run_model.specs.Visibility.{has_prepared}
+use Rattle.layer_contracts.specs.Forests.{entered}
+use Rattle.action_forest.specs.Events.{IsUnended}
+use Rattle.action_forest.specs.Forests.{IsCommitmentOf, IsForest}
+use Rattle.action_forest.specs.Rooms.{AreBorn, FitsBegun}
+use Rattle.action_forest.specs.Trees.{trees}
+use Rattle.action_forest.specs.declared.forest.Begun.{Begun}
+use Rattle.registry.specs.Polls.{AreBallots, FitsBallots, IsAlone, IsVoteOn}
+use Rattle.registry.specs.declared.actions.Actions.{Actions}
+use Rattle.registry.specs.declared.plan.Change.{Change}
+use Rattle.registry.specs.declared.plan.Change.TheVariants as change
+
+-- for each guardian up to n the dependencies on it alone
+abbrev pub AreAlone : ℕ → List Deps → Type 0
+AreAlone n all = (i : ℕ) → i < n → MatchOption (slice_get all i) ⊥ (IsAlone (suc i))
+
+-- the actions and the votes are those of the history
+pub record AreActions (opening : Opening) (registry : List RegistryEvent) (actions : Actions) : Type 0 where
+  pub forest : IsForest opening registry (trees actions.forest)
+  pub ballots : AreBallots (events_there registry) actions.ballots
+  pub alone : AreAlone (length opening.setup) actions.alone.items
+
+-- at each opening and registry's history of which the actions and votes are
+abbrev pub AtEachOf : Actions → (Opening → List RegistryEvent → Type 0) → Type 0
+AtEachOf actions holds = (opening : Opening) (registry : List RegistryEvent) → AreActions opening registry actions → holds opening registry
+
+-- whether the guardian voted yes on t, if t depends on it
+abbrev pub is_ready_there : Name → List RegistryEvent → ℕ → Bool
+is_ready_there t registry g = is_none (dependency_there t g registry) || has_prepared g t (events_there registry)
+
+-- the event was accepted, with the answer that some guardians' histories have it be
+pub record IsEntered (opening : Opening) (registry : List RegistryEvent) (e : Event) : Type 0 where
+  pub accepted : IsTrue (is_accepted e.answer)
+  pub answered : entered (record { opening = opening; registry = registry }) e
+
+-- whether the step is one that closes or ends an action and takes no room
+abbrev pub is_ending : Step → Bool
+is_ending (step.Close t) = true
+is_ending (step.Decide t) = true
+is_ending (step.Abort a) = true
+is_ending _ = false
+
+-- what such a step asks of the action
+abbrev pub MayEnd : List RegistryEvent → Step → Type 0
+MayEnd registry (step.Close t) = IsTrue (is_begun t (events_there registry))
+MayEnd registry (step.Decide t) = IsUnended (events_there registry) t
+MayEnd registry (step.Abort a) = IsUnended (events_there registry) a
+MayEnd registry _ = ⊥
+
+-- whether the step takes room though it begins nothing
+abbrev pub takes_room : Step → Bool
+takes_room (step.Commit a) = true
+takes_room (step.Prepare g t) = true
+takes_room _ = false
+
+abbrev pub is_yes_vote : Answer → Bool
+is_yes_vote VoteYes = true
+is_yes_vote _ = false
+
+-- these are the actions that the step begins under these names, at its home in this life of it
+pub record AreBegun (opening : Opening) (registry : List RegistryEvent) (step : Step) (names : List Name) (home life : ℕ) (actions : Actions) (begun : Begun) : Type 0 where
+  pub at_home : home ≡ home_in step (λ a. home_of a (events_there registry))
+  pub born : AreBorn opening registry (maker_in step) home life (trees actions.forest) names begun
+
+abbrev pub FitsNames : Opening → List RegistryEvent → Step → List Name → ℕ → ℕ → Actions → Change → Type 0
+FitsNames opening registry step names home life actions (change.Begin begun) = AreBegun opening registry step names home life actions begun
+FitsNames opening registry step names home life actions _ = ⊥
+
+-- the change is what the event changes
+abbrev pub FitsChange : Opening → List RegistryEvent → Event → ℕ → ℕ → Actions → Change → Type 0
+FitsChange opening registry e home life actions (change.Begin begun) =
+    (names : List Name) × (e.answer ≡ Began names) × AreBegun opening registry e.step names home life actions begun
+FitsChange opening registry e home life actions (change.Commit commitment) =
+    (a : Name) × (e.step ≡ step.Commit a) × IsCommitmentOf (trees actions.forest) a commitment
+FitsChange opening registry e home life actions (change.Vote v) =
+    (g : ℕ) × (t : Name) × (e.step ≡ step.Prepare g t) × IsVoteOn g t (is_yes_vote e.answer) v
+FitsChange opening registry e home life actions change.Other = IsFalse (takes_room e.step) × (names_begun e.answer ≡ [])
+
+-- there is room for the change
+abbrev pub HasRoomFor : Actions → Change → Type 0
+HasRoomFor actions (change.Begin begun) = FitsBegun actions.forest begun
+HasRoomFor actions (change.Commit commitment) = Unit {0}
+HasRoomFor actions (change.Vote v) = FitsBallots actions.ballots v
+HasRoomFor actions change.Other = Unit {0}

@@ -1,0 +1,4 @@
+pub mod Keeping
+pub mod Polls
+pub mod Following
+pub mod Registries

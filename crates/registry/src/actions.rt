@@ -1,0 +1,204 @@
+//! The actions and the votes on them.
+ghost use Rattle.std.specs.Prelude.{◌≡◌, ◌∷◌, ◌≤◌, [], ℕ, List, IfOk, IsFalse, length};
+ghost use Rattle.std.specs.List.{list_all};
+ghost use Rattle.std.specs.Option.{option_map};
+ghost use Rattle.run_model.specs.declared.history.Event.{Event};
+ghost use Rattle.run_model.specs.Actions.{home_in, home_of, maker_in};
+ghost use Rattle.run_model.specs.Lists.{guardians_of};
+ghost use Rattle.run_model.specs.LocalHistories.{RegistryEvent, events_there};
+ghost use Rattle.run_model.specs.Openings.{opening_in};
+ghost use Rattle.run_model.specs.Visibility.{has_prepared};
+ghost use Rattle.limits.specs.Limits.{max_guardians};
+ghost use Rattle.action_forest.specs.Events.{done};
+ghost use Rattle.action_forest.specs.Forests.{AtEach, IsForest};
+ghost use Rattle.action_forest.specs.Trees.{trees};
+ghost use Rattle.registry.specs.Keeping.{event_after};
+ghost use Rattle.registry.specs.Following.{AreAlone, is_yes_vote};
+ghost use Rattle.registry.specs.Polls.{IsAlone};
+
+use crate::ballots::Ballots;
+use crate::plan::Change;
+use action_forest::Forest;
+use run_model::{Answer, Deps, Event, Name, Names, Opening, Step};
+use std::alloc::{AllocError, Global};
+
+/// The actions of a world and the votes on its top actions.
+#[derive(Drop)]
+pub struct Actions {
+    pub(crate) forest: Forest,
+    pub(crate) ballots: Ballots,
+    /// For each guardian the dependencies on it alone, by which ballots are asked of one guardian's vote.
+    alone: Vec<Deps>,
+}
+
+impl Actions {
+    ghost use Rattle.registry.specs.Following.{AreActions, AtEachOf, FitsChange, FitsNames, HasRoomFor, IsEntered, MayEnd, is_ending, is_ready_there};
+
+    /// No action was begun. Fails only for want of memory.
+    pub(crate) fn new(alloc: Global, opening: &Opening) -> Result<Actions, AllocError>
+        ensures { IfOk result (AreActions (opening_in opening.now) []) }
+    {
+        Ok(Actions {
+            forest: Forest::new(alloc, opening),
+            ballots: Ballots::new(alloc),
+            alone: each_alone(alloc, opening.setup().guardians())?,
+        })
+    }
+
+    /// Whether all participants of the top action voted yes.
+    pub(crate) fn is_ready(&self, opening: &Opening, top: &Name) -> bool
+        ensures { (registry : List RegistryEvent) → AreActions (opening_in opening.now) registry self.now
+            → result ≡ list_all (is_ready_there top.now registry) (guardians_of (opening_in opening.now)) }
+    {
+        for index in 0..opening.setup().guardians() {
+            if !self.is_ready_at(opening, top, index as u32 + 1) {
+                return false;
+            }
+        }
+        true
+    }
+
+    // Whether the guardian, where it is a participant of the top action, voted yes.
+    fn is_ready_at(&self, opening: &Opening, top: &Name, guardian: u32) -> bool
+        requires low { 1 ≤ guardian }
+        requires high { guardian ≤ length opening.now.setup }
+        ensures { (registry : List RegistryEvent) → AreActions (opening_in opening.now) registry self.now
+            → result ≡ is_ready_there top.now registry guardian }
+    {
+        let dependency = self.forest.dependency(top.components(), guardian);
+        dependency.is_none() || self.has_prepared(opening, top, guardian)
+    }
+
+    // Whether the guardian voted yes on the top action.
+    fn has_prepared(&self, opening: &Opening, top: &Name, guardian: u32) -> bool
+        requires low { 1 ≤ guardian }
+        requires high { guardian ≤ length opening.now.setup }
+        ensures { (registry : List RegistryEvent) → AreActions (opening_in opening.now) registry self.now
+            → result ≡ has_prepared guardian top.now (events_there registry) }
+    {
+        match self.alone.get(guardian as usize - 1) {
+            Some(alone) => self.ballots.has_prepared(opening, alone, top),
+            None => false,
+        }
+    }
+
+    /// Makes room for an event and computes what it changes. What it begins begins at this home in this life of it. With memory and without, the
+    /// actions and votes stay what they were.
+    pub(crate) fn plan(&mut self, event: &Event, home: u32, life: u64) -> Result<Change, AllocError>
+        ensures same { AtEachOf self.old (λ opening registry. AreActions opening registry self.new) }
+        ensures room { IfOk result (HasRoomFor self.new) }
+        ensures fits { AtEachOf self.old (λ opening registry. IfOk result (FitsChange opening registry event.now home life self.new)) }
+    {
+        if let Answer::Began(names) = &event.answer {
+            return self.plan_begin(&event.step, names, home, life);
+        }
+        match &event.step {
+            Step::Commit(action) => Ok(Change::Commit(self.forest.plan_commit(action)?)),
+            Step::Prepare(guardian, top) => {
+                let yes = is_yes(&event.answer);
+                let vote = self.ballots.plan_vote(*guardian, top, yes)?;
+                Ok(Change::Vote(vote))
+            }
+            _ => Ok(Change::Other),
+        }
+    }
+
+    // Makes room for what the step begins. At another home than the step's nothing begins, so there is no room for it there.
+    fn plan_begin(
+        &mut self,
+        step: &Step,
+        names: &Names,
+        home: u32,
+        life: u64,
+    ) -> Result<Change, AllocError>
+        ensures same { AtEachOf self.old (λ opening registry. AreActions opening registry self.new) }
+        ensures room { IfOk result (HasRoomFor self.new) }
+        ensures fits { AtEachOf self.old (λ opening registry. IfOk result (FitsNames opening registry step.now names.now home life self.new)) }
+    {
+        if home != self.home_by(step) {
+            return Err(AllocError);
+        }
+        let begun = self.forest.plan_begin(names, maker_in(step), home, life)?;
+        Ok(Change::Begin(begun))
+    }
+
+    // The home of what the step begins.
+    fn home_by(&self, step: &Step) -> u32
+        ensures { AtEach (trees self.now.forest) (λ opening registry. result ≡ home_in step.now (λ a. home_of a (events_there registry))) }
+    {
+        match step {
+            Step::Top(guardian) | Step::Call(_, guardian) => *guardian,
+            Step::NestedTop(maker) | Step::Arms(maker, _) => self.forest.home(maker.components()),
+            _ => 0,
+        }
+    }
+
+    /// Carries out what an event of this step changes, for which there is room. This cannot fail.
+    pub(crate) fn apply(&mut self, change: Change, step: &Step, stamp: u64)
+        requires { HasRoomFor self.old change }
+        ensures { AtEachOf self.old (λ opening registry. (e : Event) (home life : ℕ) → IsEntered opening registry e
+            → FitsChange opening registry e home life self.old change → step.now ≡ e.step
+            → AreActions opening (event_after opening registry stamp e home life ∷ registry) self.new) }
+    {
+        match change {
+            Change::Begin(begun) => self.forest.begin(begun),
+            Change::Commit(commitment) => self.forest.commit(commitment, stamp),
+            Change::Vote(vote) => self.ballots.note(vote),
+            Change::Other => self.end(step, stamp),
+        }
+    }
+
+    // Closes or ends the action that the step closes or ends, if that takes no room.
+    fn end(&mut self, step: &Step, stamp: u64)
+        ensures ballots { self.new.ballots ≡ self.old.ballots }
+        ensures alone { self.new.alone ≡ self.old.alone }
+        ensures other { IsFalse (is_ending step.now) → trees self.new.forest ≡ trees self.old.forest }
+        ensures ended { AtEach (trees self.old.forest) (λ opening registry. MayEnd registry step.now
+            → IsForest opening (done stamp step.now ∷ registry) (trees self.new.forest)) }
+    {
+        match step {
+            Step::Close(top) => self.forest.close(top, stamp),
+            Step::Decide(top) => self.forest.decide(top),
+            Step::Abort(action) => self.forest.abort(action),
+            _ => {}
+        }
+    }
+}
+
+// Whether the answer is a vote to commit.
+fn is_yes(answer: &Answer) -> bool
+    ensures { result ≡ is_yes_vote answer.now }
+{
+    matches!(answer, Answer::VoteYes)
+}
+
+// Who makes what the step begins.
+fn maker_in(step: &Step) -> Option<&Name>
+    ensures { option_map (λ name. name.now) result ≡ maker_in step.now }
+{
+    match step {
+        Step::NestedTop(maker) | Step::Call(maker, _) | Step::Arms(maker, _) => Some(maker),
+        _ => None,
+    }
+}
+
+// For each guardian up to this one the dependencies on it alone.
+fn each_alone(alloc: Global, guardians: usize) -> Result<Vec<Deps>, AllocError>
+    requires { guardians ≤ max_guardians }
+    ensures { IfOk result (λ all. AreAlone guardians all.items) }
+{
+    let mut all = Vec::with_capacity(alloc, guardians)?;
+    for index in 0..guardians {
+        all.push(alone(alloc, index as u32 + 1)?)?;
+    }
+    Ok(all)
+}
+
+// The dependencies on this guardian alone.
+fn alone(alloc: Global, guardian: u32) -> Result<Deps, AllocError>
+    ensures { IfOk result (IsAlone guardian) }
+{
+    let mut alone = Deps::new(alloc);
+    alone.lower(guardian, 0)?;
+    Ok(alone)
+}

@@ -1,0 +1,166 @@
+//! The registry.
+ghost use Rattle.std.specs.Prelude.{◌≡◌, [], IfOk};
+ghost use Rattle.std.specs.Arc.{arc_value};
+ghost use Rattle.run_model.specs.Openings.{opening_in};
+
+use crate::actions::Actions;
+use crate::hearing::Told;
+use crate::history::{Entry, History};
+use crate::plan::Plan;
+use layer_contracts::{Forest, Guardian};
+use run_model::{Event, Name, Opening};
+use std::alloc::{AllocError, Global};
+use std::marker::Model;
+use std::sync::Arc;
+
+/// The actions of a world and the votes on its top actions: what the registry's history says of them.
+#[derive(Drop)]
+pub struct Registry {
+    opening: Arc<Opening, Global>,
+    history: History,
+    actions: Actions,
+}
+
+impl Model for Registry {
+    ghost use Rattle.std.specs.Arc.{arc_value};
+    ghost use Rattle.std.specs.Coded.{codes};
+    ghost use Rattle.run_model.specs.Openings.{opening_in};
+    ghost use Rattle.registry.specs.contracts.actions.Actions as of_actions;
+    ghost use Rattle.registry.specs.Following.{AreActions};
+    ghost use Rattle.registry.specs.Keeping.{registry_in};
+    ghost use Rattle.registry.specs.Registries.{InRegistry};
+
+    ghost Value = { InRegistry };
+
+    ghost coded = { Prim.hlevel (codes, of_actions.the_row.coded) };
+
+    ghost view = { λ a. record { opening = arc_value a.opening; history = a.history; actions = a.actions } };
+
+    ghost invariant = { λ a. AreActions (opening_in (arc_value a.opening)) (registry_in (opening_in (arc_value a.opening)) a.history.entries) a.actions };
+}
+
+impl Registry {
+    ghost use Rattle.registry.specs.Registries.{state_of};
+
+    /// The registry of a world in which nothing happened. Fails only for want of memory.
+    pub fn new(alloc: Global, opening: Arc<Opening, Global>) -> Result<Registry, AllocError>
+        ensures { IfOk result (λ registry. state_of registry ≡ record { opening = opening_in (arc_value opening); registry = [] }) }
+    {
+        let actions = Actions::new(alloc, &opening)?;
+        Ok(Registry {
+            opening,
+            history: History::new(alloc),
+            actions,
+        })
+    }
+}
+
+impl Forest for Registry {
+    ghost use Rattle.registry.specs.Registries.{FitsPlan, news_of, state_of};
+
+    ghost state = { state_of };
+
+    type Plan = Plan;
+
+    ghost planned = { news_of };
+
+    ghost fits = { FitsPlan };
+
+    fn opening(&self) -> &Opening {
+        &self.opening
+    }
+
+    fn is_begun(&self, action: &Name) -> bool {
+        self.actions.forest.is_begun(action.components())
+    }
+
+    fn is_ended(&self, action: &Name) -> bool {
+        self.actions.forest.is_ended(action.components())
+    }
+
+    fn is_done(&self, action: &Name) -> bool {
+        self.actions.forest.is_done(action.components())
+    }
+
+    fn is_closed(&self, action: &Name) -> bool {
+        self.actions.forest.is_closed(action.components())
+    }
+
+    fn is_committed(&self, action: &Name) -> bool {
+        self.actions.forest.is_committed(action.components())
+    }
+
+    fn is_busy(&self, action: &Name) -> bool {
+        self.actions.forest.is_busy(action.components())
+    }
+
+    fn home(&self, path: &[u32]) -> u32 {
+        self.actions.forest.home(path)
+    }
+
+    fn maker(&self, action: &Name) -> Option<&Name> {
+        self.actions.forest.maker(action.components())
+    }
+
+    fn next(&self, path: &[u32]) -> u64 {
+        self.actions.forest.next(path)
+    }
+
+    fn has_voted(&self, guardian: u32, top: &Name) -> bool {
+        self.actions.ballots.has_voted(guardian, top)
+    }
+
+    fn is_ready(&self, top: &Name) -> bool {
+        self.actions.is_ready(&self.opening, top)
+    }
+
+    fn dependency(&self, action: &Name, guardian: u32) -> Option<u64> {
+        self.actions
+            .forest
+            .dependency(action.components(), guardian)
+    }
+
+    fn dependencies(&self, action: &Name) -> Result<Vec<(u32, u64)>, AllocError> {
+        self.actions.forest.dependencies(action.components())
+    }
+
+    fn new_dependencies(
+        &self,
+        action: &Name,
+        home: u32,
+        life: u64,
+    ) -> Result<Vec<(u32, u64)>, AllocError> {
+        self.actions.forest.new_dependencies(action, home, life)
+    }
+
+    fn outcomes_below<G: Guardian>(
+        &self,
+        top: &Name,
+        at: &G,
+    ) -> Result<Vec<(Name, bool)>, AllocError> {
+        let told = Told { guardian: at };
+        self.actions.forest.outcomes_below(top.components(), &told)
+    }
+
+    fn plan(&mut self, event: &Event, home: u32, life: u64) -> Result<Plan, AllocError> {
+        self.history.make_room()?;
+        let change = self.actions.plan(event, home, life)?;
+        Plan::of(event, home, life, change)
+    }
+
+    fn install(&mut self, plan: Plan, stamp: u64) {
+        let Plan {
+            event,
+            home,
+            life,
+            change,
+        } = plan;
+        self.actions.apply(change, &event.step, stamp);
+        self.history.push(Entry {
+            stamp,
+            event,
+            home,
+            life,
+        });
+    }
+}
