@@ -1,8 +1,9 @@
 //! What steps ask of a guardian.
-ghost use Rattle.std.specs.Prelude.{◌≡◌, true, IsFalse, IsTrue};
+ghost use Rattle.std.specs.Prelude.{◌≡◌, true, IsErrOf, IsFalse, IsTrue};
 ghost use Rattle.standing_laws.specs.Laws.{is_crash};
 ghost use Rattle.layer_contracts.specs.Guardians.{kept, stamped};
-ghost use Rattle.layer_contracts.specs.Stores.{LeavesStore, fault_in};
+ghost use Rattle.layer_contracts.specs.Stores.{CountsFailure, LeavesStore, fault_in};
+ghost use Rattle.layer_contracts.specs.declared.guardian.Fault.TheVariants.{Stable};
 ghost use Rattle.stored_laws.specs.Stored.{AreStored};
 ghost use Rattle.guardian_memory.specs.Memories.{state_of};
 ghost use Rattle.guardian_memory.specs.Plans.{FitsPlan, is_operation, news_of};
@@ -133,7 +134,8 @@ fn keep<S: Stable>(memory: &mut Memory, store: &S, plan: Plan, stamp: u64)
 fn write<S: Stable>(alloc: Global, memory: &Memory, store: &mut S, plan: &Plan) -> Result<(), Fault>
     requires fits { FitsPlan memory.now plan.now }
     requires whole { IsWhole S.seen (record { memory = memory.now; store = store.old }) }
-    ensures { LeavesStore (state_of memory.now) (news_of plan.now) (S.seen store.old) (S.seen store.new) (fault_in result) }
+    ensures leaves { LeavesStore (state_of memory.now) (news_of plan.now) (S.seen store.old) (S.seen store.new) (fault_in result) }
+    ensures cause { IsErrOf result Stable → CountsFailure (S.seen store.old) (S.seen store.new) }
 {
     let write = Write::of(memory, store, plan)?;
     match write.perform(alloc, store) {

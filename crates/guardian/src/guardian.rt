@@ -7,7 +7,7 @@ ghost use Rattle.run_model.specs.LocalReadings.{standing_here};
 ghost use Rattle.run_model.specs.Versions.{base_by};
 ghost use Rattle.held_objects.specs.Held.{IsRising, has_number};
 ghost use Rattle.stable_store.specs.Calls.{Rests};
-ghost use Rattle.guardian_memory.specs.Memories.{own_object};
+ghost use Rattle.guardian_memory.specs.Memories.{own_object, state_of};
 ghost use Rattle.guardian.specs.Guardians.{IsSettled, state_in};
 
 use guardian_memory::Memory;
@@ -60,12 +60,24 @@ impl<S: Stable> Guardian<S> {
         ensures back { IfErr result (λ refused. refused.1 ≡ store) }
     {
         match Memory::new(alloc, opening, number) {
-            Ok(memory) => Ok(Guardian {
-                alloc,
-                memory,
-                store,
-            }),
+            Ok(memory) => Ok(Guardian::over(alloc, memory, store)),
             Err(refused) => Err((refused, store)),
+        }
+    }
+
+    /// The same, where the memory of the guardian is there. This takes no memory.
+    pub fn over(alloc: Global, memory: Memory, store: S) -> Guardian<S>
+        requires first { (state_of memory).past ≡ [] }
+        requires found { (S.seen store).holds_content ≡ true }
+        requires rests { Rests (S.seen store) }
+        requires settled { IsSettled (state_of memory).opening (state_of memory).number (S.seen store).content }
+        ensures state { state_in result ≡ state_of memory }
+        ensures store { result.store ≡ store }
+    {
+        Guardian {
+            alloc,
+            memory,
+            store,
         }
     }
 

@@ -1,4 +1,4 @@
-ghost use Rattle.std.specs.Prelude.{◌≡◌, ◌≤◌, ◌==◌, ℕ, Bool, true, false, IsTrue, IsFalse, List, [], ◌∷◌, IfOk, OnErr, length};
+ghost use Rattle.std.specs.Prelude.{◌≡◌, ◌≤◌, ◌==◌, ℕ, Bool, true, false, IsTrue, IsFalse, IsErrOf, List, [], ◌∷◌, IfOk, OnErr, length};
 ghost use Rattle.atomic_types.specs.Objects.{knows};
 ghost use Rattle.run_model.specs.Actions.{crashes, is_busy, is_done, is_down, is_gone};
 ghost use Rattle.run_model.specs.Answers.{operated_by};
@@ -10,7 +10,8 @@ ghost use Rattle.local_agreement.specs.Laws.{Agrees};
 ghost use Rattle.layer_contracts.specs.Guardians.{GuardianState, News, count_told, kept, stamped};
 ghost use Rattle.stable_store.specs.Calls.{View};
 ghost use Rattle.layer_contracts.specs.Messages.{carried_of, may_fail};
-ghost use Rattle.layer_contracts.specs.Stores.{IsStoreOf, LeavesStore, Stays, fault_in};
+ghost use Rattle.layer_contracts.specs.Stores.{CountsFailure, IsStoreOf, LeavesStore, Stays, fault_in};
+ghost use Rattle.layer_contracts.specs.declared.guardian.Fault.TheVariants.{Stable};
 
 use crate::message::Message;
 use run_model::{Answer, Event, Name, Names, ObjectId, Op, Opening};
@@ -141,7 +142,8 @@ pub trait Guardian: Drop {
         ensures ok { IfOk result (λ n. F.post stamp n) }
         ensures kept { IfOk result (λ n. state self.new ≡ kept (state self.old) (stamped n (planned plan))) }
         ensures err { OnErr result (state self.new ≡ state self.old) }
-        ensures store { LeavesStore (state self.old) (planned plan) (stored self.old) (stored self.new) (fault_in result) };
+        ensures store { LeavesStore (state self.old) (planned plan) (stored self.old) (stored self.new) (fault_in result) }
+        ensures cause { IsErrOf result Stable → CountsFailure (stored self.old) (stored self.new) };
 
     /// Carries a plan out whose event neither writes to this guardian's store nor is an operation. This cannot fail.
     fn install(&mut self, plan: Self::Plan, stamp: u64)

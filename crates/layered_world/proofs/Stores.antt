@@ -1,5 +1,5 @@
 -- What a step of a world leaves of the stores.
-use Rattle.std.proofs.Common.{List, Option, Some, ap, ap₂, arith, Bool, false, get_or, inl, inr, length, set, subst, sym, true, ℕ, ◌&&◌, ◌++◌, ◌+◌, ◌-◌, ◌<◌, ◌==◌, ◌∙◌, ◌∷◌, ◌≡◌, ◌≤◌, ◌||◌, ◌⊎◌, slice_get}
+use Rattle.std.proofs.Common.{Err, IsErrAnd, List, Ok, Option, Result, Some, ap, ap₂, refl, arith, Bool, false, get_or, inl, inr, length, set, subst, sym, true, ℕ, ◌&&◌, ◌++◌, ◌+◌, ◌-◌, ◌<◌, ◌==◌, ◌∙◌, ◌∷◌, ◌≡◌, ◌≤◌, ◌||◌, ◌⊎◌, slice_get}
 use Rattle.std.proofs.lemmas.Bool.{cases_eq, ne_eqb, or_left, or_right}
 use Rattle.std.proofs.lemmas.Option.{slice_get-get_or}
 use Rattle.run_model.specs.declared.history.Event.{Event}
@@ -16,12 +16,12 @@ use Rattle.stable_store.specs.Calls.{View}
 use Rattle.stored_laws.specs.Stored.{after_event, asks_store}
 use Rattle.layer_contracts.specs.Forests.{ForestState}
 use Rattle.layer_contracts.specs.Guardians.{GuardianState, lent_two}
-use Rattle.layer_contracts.specs.Stores.{IsStoreOf, Leaves}
+use Rattle.layer_contracts.specs.Stores.{CountsFailure, IsStoreOf, Leaves}
 use Rattle.layer_contracts.specs.declared.guardian.Fault.{Fault}
-use Rattle.layer_contracts.specs.declared.guardian.Fault.TheVariants.{Memory}
+use Rattle.layer_contracts.specs.declared.guardian.Fault.TheVariants.{Memory, Stable}
 use Rattle.layer_contracts.proofs.Stores.{left_alone, refused_before, stays_same}
 use Rattle.lent_steps.specs.Keeping.{StoreLeft}
-use Rattle.layered_world.specs.Standings.{IsLeftAt, IsWholeAt, IsWorld, Names, StoresLeft, asks_of, brought, content_then, event_next, forest_of, standing}
+use Rattle.layered_world.specs.Standings.{HasFailed, IsLeftAt, IsWholeAt, IsWorld, Names, StoresLeft, asks_of, brought, content_then, event_next, forest_of, standing}
 use Rattle.layered_world.proofs.Agreed.{carried_there}
 use Rattle.layered_world.proofs.Led.{numbered_events, runs, stands, there_is}
 use Rattle.layered_world.proofs.Places.{back_at, front_at, set_apart, set_back, set_front, set_other, set_there, some_eq, there}
@@ -193,3 +193,28 @@ module _ {X : Type 0} (state : X → GuardianState) (stored : X → View) (low h
 pub whole_at : {X : Type 0} (state : X → GuardianState) (stored : X → View) (number : ℕ) (gs : List X) (y : X) → slice_get gs (number - 1) ≡ Some y
     → IsStoreOf (state y) (stored y) → IsWholeAt state stored number gs
 whole_at state stored number gs y s whole = record { at = λ x q. subst (λ z. IsStoreOf (state z) (stored z)) (some_eq y x (sym s ∙ q)) whole }
+
+-- ---- whose store failed
+
+-- what was handed on as a failure was one
+pub stable_from : {T U : Type 0} (r : Result T Fault) (fault : Fault) → IsErrAnd r (λ y. y ≡ fault) → r ≡ Err Stable → (s : Result U Fault) → s ≡ Err fault
+    → s ≡ Err Stable
+stable_from (Ok x) fault is h s e = absurd is
+stable_from (Err y) fault is h s e = same (Err y) y fault s refl h is e
+  where
+    same : {T U : Type 0} (r : Result T Fault) (y z : Fault) (s : Result U Fault) → r ≡ Err y → r ≡ Err Stable → y ≡ z → s ≡ Err z → s ≡ Err Stable
+    same r y z s e h is f = cc
+
+module _ {X : Type 0} (stored : X → View) (gs : List X) (low : ℕ) where
+  -- it is that of one element
+  pub one_failed : (a' d : X) → low - 1 < length gs → CountsFailure (stored (get_or gs (low - 1) d)) (stored a') → HasFailed stored gs (set gs (low - 1) a')
+  one_failed a' d lt counts = (low - 1, get_or gs (low - 1) d, a', slice_get-get_or gs (low - 1) d lt, set_there gs (low - 1) a' lt, counts)
+
+  -- or of one of two elements of what was split
+  pub two_failed : (left right : List X) (a' b' d d' : X) → gs ≡ left ++ right → low - 1 < length left → 0 < length right
+      → CountsFailure (stored (get_or left (low - 1) d)) (stored a') ⊎ CountsFailure (stored (get_or right 0 d')) (stored b')
+      → HasFailed stored gs (set left (low - 1) a' ++ set right 0 b')
+  two_failed left right a' b' d d' g lt lt2 (inl counts) =
+      (low - 1, get_or left (low - 1) d, a', ap (λ l. slice_get l (low - 1)) g ∙ front_at left right (low - 1) d lt, set_front left (set right 0 b') (low - 1) a' lt, counts)
+  two_failed left right a' b' d d' g lt lt2 (inr counts) =
+      (length left, get_or right 0 d', b', ap (λ l. slice_get l (length left)) g ∙ back_at left right d' lt2, set_back left right (low - 1) a' b' lt2, counts)

@@ -13,7 +13,7 @@ use Rattle.local_agreement.specs.Laws.{kept_event}
 use Rattle.run_model.specs.LocalHistories.{events_there, local_history, names_guardian, registry_history, numbered}
 use Rattle.layer_contracts.specs.Guardians.{GuardianState}
 use Rattle.layer_contracts.specs.Forests.{ForestState}
-use Rattle.layer_contracts.specs.Stores.{IsStoreOf, Leaves}
+use Rattle.layer_contracts.specs.Stores.{CountsFailure, IsStoreOf, Leaves}
 use Rattle.layer_contracts.specs.declared.guardian.Fault.{Fault}
 use Rattle.lent_steps.specs.Lending.{OneOpening}
 use Rattle.lent_steps.specs.Keeping.{IsAnswered, IsDone, StoreLeft}
@@ -58,6 +58,11 @@ content_then opening step past g s =
 pub record StoresLeft {X : Type 0} (stored : X → View) (opening : Opening) (past : List Event) (step : Step) (before after : List X) (fault : Option Fault) : Type 0 where
   pub each : (i : ℕ) (x y : X) → slice_get before i ≡ Some x → slice_get after i ≡ Some y
       → Leaves (asks_of opening step past (i + 1) (stored x).content) (content_then opening step past (i + 1) (stored x).content) (stored x) (stored y) fault
+
+-- the store of one of them counted one failure more
+abbrev pub HasFailed : {X : Type 0} → (X → View) → List X → List X → Type 0
+HasFailed {X} stored before after =
+    (i : ℕ) × (x : X) × (y : X) × (slice_get before i ≡ Some x) × (slice_get after i ≡ Some y) × CountsFailure (stored x) (stored y)
 
 -- no guardian of the setup has this number
 abbrev pub IsOut : ℕ → ℕ → Type 0

@@ -1,11 +1,12 @@
-ghost use Rattle.std.specs.Prelude.{◌≡◌, ◌≤◌, ◌<◌, ℕ, ◌-◌, ◌==◌, ◌||◌, List, ◌∷◌, length, IsTrue, IfOk, OnOk, OnErr, MatchOption, Some, slice_get};
+ghost use Rattle.std.specs.Prelude.{◌≡◌, ◌≤◌, ◌<◌, ℕ, ◌-◌, ◌==◌, ◌||◌, List, ◌∷◌, length, IsErrOf, IsTrue, IfOk, OnOk, OnErr, MatchOption, Some, slice_get};
 ghost use Rattle.run_model.specs.Answers.{answer_of};
 ghost use Rattle.run_model.specs.Runs.{IsRun, history_after, is_accepted};
 ghost use Rattle.run_model.specs.LocalHistories.{answer_lent};
 ghost use Rattle.layer_contracts.specs.Guardians.{lent_two};
 ghost use Rattle.lent_steps.specs.Lending.{OneOpening, nobody};
 ghost use Rattle.layer_contracts.specs.Stores.{fault_in};
-ghost use Rattle.layered_world.specs.Standings.{AreSame, IsKeptAt, IsLeftAt, IsOut, IsReady, IsWholeAt, IsWorld, Names, StoresLeft};
+ghost use Rattle.layer_contracts.specs.declared.guardian.Fault.TheVariants.{Stable};
+ghost use Rattle.layered_world.specs.Standings.{AreSame, HasFailed, IsKeptAt, IsLeftAt, IsOut, IsReady, IsWholeAt, IsWorld, Names, StoresLeft};
 
 use layer_contracts::{Fault, Forest, Guardian};
 use lent_steps::{answer_alone, answer_two, keep_one, keep_two, named};
@@ -28,6 +29,7 @@ pub fn step<R: Forest, G: Guardian>(
     ensures err { OnErr result (history.new ≡ history.old) }
     ensures world { IsWorld G.state G.stored (R.state forest.old).opening history.new (R.state forest.new) guardians.new }
     ensures stores { StoresLeft G.stored (R.state forest.old).opening history.old step.now guardians.old guardians.new (fault_in result) }
+    ensures cause { IsErrOf result Stable → HasFailed G.stored guardians.old guardians.new }
 {
     let (low, high) = places(forest, step);
     let answer = answer_at(alloc, forest, guardians, history, low, high, step)?;
@@ -107,6 +109,7 @@ fn keep<R: Forest, G: Guardian>(
     ensures err { OnErr result (history.new ≡ history.old) }
     ensures world { IsWorld G.state G.stored (R.state forest.old).opening history.new (R.state forest.new) guardians.new }
     ensures stores { StoresLeft G.stored (R.state forest.old).opening history.old event.now.step guardians.old guardians.new (fault_in result) }
+    ensures cause { IsErrOf result Stable → HasFailed G.stored guardians.old guardians.new }
 {
     let number = history.next_stamp();
     record(history, event)?;
@@ -154,6 +157,7 @@ fn keep_at<R: Forest, G: Guardian>(
     ensures ok { OnOk result (IsKeptAt G.state low high number event.now (R.state forest.old) (R.state forest.new) guardians.old guardians.new) }
     ensures err { OnErr result (AreSame G.state (R.state forest.old) (R.state forest.new) guardians.old guardians.new) }
     ensures stores { IsLeftAt G.state G.stored (R.state forest.old) low high event.now guardians.old guardians.new (fault_in result) }
+    ensures cause { IsErrOf result Stable → HasFailed G.stored guardians.old guardians.new }
 {
     if low == high {
         keep_one(

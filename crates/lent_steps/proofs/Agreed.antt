@@ -13,7 +13,7 @@ use Rattle.run_model.specs.Openings.{Opening}
 use Rattle.run_model.specs.Refusals.{checks_by, first_refusal}
 use Rattle.local_agreement.specs.Laws.{Agrees}
 use Rattle.layer_contracts.specs.Forests.{ForestState}
-use Rattle.layer_contracts.specs.Guardians.{GuardianState, count_told, lent_two, stamped}
+use Rattle.layer_contracts.specs.Guardians.{GuardianState, lent_two, stamped}
 use Rattle.lent_steps.specs.Keeping.{AgreesTwo}
 use Rattle.lent_steps.specs.Lending.{IsTellable, OneOpening, facts_two, results_told}
 use Rattle.lent_steps.proofs.Left.{first_lent, second_lent}

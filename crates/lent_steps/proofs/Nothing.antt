@@ -1,14 +1,13 @@
 -- What is read where nobody is lent.
-use Rattle.std.proofs.Common.{length, ◌≡◌, Bool, true, false, List, [], ◌∷◌, ℕ, Option, Some, None, ap, ap₂, cond, refl, sym, ◌∙◌, ◌||◌, count_by}
+use Rattle.std.proofs.Common.{length, ◌≡◌, Bool, true, false, List, [], ◌∷◌, ℕ, None, ap, ap₂, refl, sym, ◌∙◌, ◌||◌, count_by}
 use Rattle.std.proofs.lemmas.Bool.{not-false}
 use Rattle.std.specs.List.{list_any}
 use Rattle.action_names.specs.Names.{Name, ancestors}
 use Rattle.atomic_types.specs.Operations as op
 use Rattle.atomic_types.specs.Objects.{knows}
-use Rattle.run_model.specs.declared.answer.Refusal.{Refusal}
 use Rattle.run_model.specs.declared.step.ObjectId.{ObjectId}
 use Rattle.run_model.specs.declared.step.Step.TheVariants.{Op}
-use Rattle.run_model.specs.Refusals.{Check, Facts, checks_by, first_refusal}
+use Rattle.run_model.specs.Refusals.{Facts, checks_by, first_refusal}
 use Rattle.run_model.specs.Openings.{Opening, objects_at, first_content}
 use Rattle.run_model.specs.Lists.{guardians_of, is_below, up_to}
 use Rattle.run_model.specs.LocalReadings.{count_here, dependency_here, is_orphan_here, known_crashes_here}

@@ -6,7 +6,7 @@ use Rattle.run_model.specs.declared.answer.Answer.{Answer}
 use Rattle.run_model.specs.declared.history.Event.{Event}
 use Rattle.run_model.specs.Runs.{is_accepted}
 use Rattle.run_model.specs.LocalReadings.{Carried, nothing_carried}
-use Rattle.run_model.specs.LocalHistories.{answer_lent, carried_lent, events_there, home_lent, life_lent, names_guardian, registry_after, takes_registry}
+use Rattle.run_model.specs.LocalHistories.{answer_lent, carried_lent, events_there, names_guardian, registry_after, takes_registry}
 use Rattle.local_laws.specs.Owed.{IsOwed}
 use Rattle.local_agreement.specs.Laws.{Agrees}
 use Rattle.stable_store.specs.Calls.{View}

@@ -1,10 +1,11 @@
 //! What an accepted step leaves of the forest and of the guardians that it was lent.
-ghost use Rattle.std.specs.Prelude.{◌≡◌, ◌==◌, ◌&&◌, ◌∷◌, ℕ, Bool, true, false, IfOk, OnErr, IsTrue, IsFalse, MatchOption, is_none, is_some};
+ghost use Rattle.std.specs.Prelude.{◌≡◌, ◌==◌, ◌&&◌, ◌∷◌, ℕ, Bool, true, false, ◌⊎◌, IfOk, OnErr, IsErrOf, IsTrue, IsFalse, MatchOption, is_none, is_some};
 ghost use Rattle.run_model.specs.Runs.{is_accepted};
 ghost use Rattle.run_model.specs.LocalHistories.{answer_lent, carried_lent, events_there, home_lent, life_lent, names_guardian, registry_after, takes_registry};
 ghost use Rattle.layer_contracts.specs.Guardians.{after_step, kept, lent_two, stamped};
 ghost use Rattle.local_agreement.specs.Laws.{Agrees};
-ghost use Rattle.layer_contracts.specs.Stores.{LeavesStore, Stays, fault_in};
+ghost use Rattle.layer_contracts.specs.Stores.{CountsFailure, LeavesStore, Stays, fault_in};
+ghost use Rattle.layer_contracts.specs.declared.guardian.Fault.TheVariants.{Stable};
 ghost use Rattle.layer_contracts.specs.Messages.{carried_of, may_fail};
 ghost use Rattle.layer_contracts.specs.Forests.{entered, stamped_there};
 ghost use Rattle.local_laws.specs.Owed.{IsOwed};
@@ -118,6 +119,7 @@ fn carry_out<G: Guardian, F: FnOnce() -> u64>(
     ensures err { OnErr result (G.state guardian.new ≡ G.state guardian.old) }
     ensures store { MatchOption plan (Stays (G.stored guardian.old) (G.stored guardian.new))
         (λ plan. LeavesStore (G.state guardian.old) (G.planned plan) (G.stored guardian.old) (G.stored guardian.new) (fault_in result)) }
+    ensures cause { IsErrOf result Stable → CountsFailure (G.stored guardian.old) (G.stored guardian.new) }
 {
     match plan {
         Some(plan) => guardian.carry_out(plan, stamp),
@@ -171,6 +173,7 @@ pub fn keep_two<R: Forest, G: Guardian, F: FnOnce() -> u64>(
         (G.state first.old) (G.stored first.old) (G.stored first.new) (fault_in result) }
     ensures second_store { StoreLeft (R.state forest.old) (G.state first.old) (G.state second.old) event.now
         (G.state second.old) (G.stored second.old) (G.stored second.new) (fault_in result) }
+    ensures cause { IsErrOf result Stable → CountsFailure (G.stored first.old) (G.stored first.new) ⊎ CountsFailure (G.stored second.old) (G.stored second.new) }
 {
     // The stores of both are those of their histories.
     first.number();
@@ -219,6 +222,7 @@ pub fn keep_one<R: Forest, G: Guardian, F: FnOnce() -> u64>(
     ensures guardian_same { OnErr result (G.state guardian.new ≡ G.state guardian.old) }
     ensures store { StoreLeft (R.state forest.old) (G.state guardian.old) (G.state guardian.old) event.now
         (G.state guardian.old) (G.stored guardian.old) (G.stored guardian.new) (fault_in result) }
+    ensures cause { IsErrOf result Stable → CountsFailure (G.stored guardian.old) (G.stored guardian.new) }
 {
     // Its store is that of its history.
     guardian.number();

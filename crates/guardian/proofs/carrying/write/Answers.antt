@@ -8,8 +8,8 @@ use Rattle.guardian_memory.specs.Plans.{news_of}
 use Rattle.guardian.proofs.Stores.{answers, fault_of, memory_in}
 use Rattle.guardian.proofs.carrying.write.Goals as goal
 
-pub returns-in_err-write : goal.returns-in_err-write
-returns-in_err-write g c =
+pub returns-in_err-write-clause-leaves : goal.returns-in_err-write-clause-leaves
+returns-in_err-write-clause-leaves g c =
     let m = state_of c.args.memory.now in
     let news = news_of c.args.plan.now in
     let s = g.S.Stable.seen c.args.store.now in
@@ -17,13 +17,13 @@ returns-in_err-write g c =
     (refused_before (asks_store m.number (stamped 0 news) s.content) (after_event m.opening m.number (stamped 0 news) m.past s.content) s s (stays_same s)
     c.requires.whole.store.found c.requires.whole.store.rests)
 
-pub returns-in-Ok : goal.returns-in-Ok
-returns-in-Ok g c =
+pub returns-in-Ok-clause-leaves : goal.returns-in-Ok-clause-leaves
+returns-in-Ok-clause-leaves g c =
     answers g.S.Stable.seen (state_of c.args.memory.now) (news_of c.args.plan.now) c.args.store.now c.perform.new.store c.in_ok-write.write c.perform.result None
     c.in_ok-write.ensures.asked c.in_ok-write.ensures.written c.perform.ensures.none c.perform.ensures.makes (ap fault_of c.in-Ok.is)
 
-pub returns-in-Err : goal.returns-in-Err
-returns-in-Err g c =
+pub returns-in-Err-clause-leaves : goal.returns-in-Err-clause-leaves
+returns-in-Err-clause-leaves g c =
     answers g.S.Stable.seen (state_of c.args.memory.now) (news_of c.args.plan.now) c.args.store.now c.perform.new.store c.in_ok-write.write c.perform.result
     (Some c.fault_of.result) c.in_ok-write.ensures.asked c.in_ok-write.ensures.written c.perform.ensures.none c.perform.ensures.makes
     (ap fault_of c.in-Err.is ∙ ap (λ f. Some f) (sym c.fault_of.ensures))

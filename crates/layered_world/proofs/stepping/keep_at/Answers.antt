@@ -1,11 +1,11 @@
-use Rattle.std.proofs.Common.{None, Some, ap, arith, length, set, sym, ◌++◌, ◌-◌, ◌<◌, ◌∙◌, ◌≡◌, rules, slice_get}
+use Rattle.std.proofs.Common.{Err, None, Some, ap, arith, refl, length, set, sym, ◌++◌, ◌-◌, ◌<◌, ◌∙◌, ◌≡◌, rules, slice_get}
 use Rattle.std.proofs.lemmas.Bool.{ne_eqb}
 use Rattle.layer_contracts.specs.Forests.{ForestState}
 use Rattle.layered_world.proofs.Kept.{differ, kept_then, same_at}
 use Rattle.layered_world.proofs.Places.{back_at, front_at, on_err}
 use Rattle.lent_steps.proofs.Stores.{with_fault}
 use Rattle.layered_world.specs.Standings.{IsLeftAt}
-use Rattle.layered_world.proofs.Stores.{left_one, left_two}
+use Rattle.layered_world.proofs.Stores.{left_one, left_two, one_failed, stable_from, two_failed}
 use Rattle.layered_world.proofs.stepping.keep_at.Goals as goal
 
 pub keep_two-requires-clause-sound : goal.keep_two-requires-clause-sound
@@ -101,3 +101,21 @@ returns-then-low-high-clause-stores g c =
     let f : ForestState = g.R.Forest.state c.args.forest.now in
     left_one g.G.Guardian.state g.G.Guardian.stored c.args.low c.args.high c.args.event.now f None c.args.guardians.now
     c.keep_one.new.guardian c.index-guardians-low.result c.if-low-high.true lt c.in_ok-keep_one.ensures.store
+
+pub returns-in_err-keep_two-clause-cause : goal.returns-in_err-keep_two-clause-cause
+returns-in_err-keep_two-clause-cause g c =
+    λ is.
+    let lt : c.args.low - 1 < length c.split_at_mut-left.result.0.now = omega (arith, c.split_at_mut-left.ensures.front_len) in
+    let lt2 : 0 < length c.split_at_mut-left.result.1.now = omega (arith, c.split_at_mut-left.ensures.back_len) in
+    two_failed g.G.Guardian.stored c.args.guardians.now c.args.low c.split_at_mut-left.result.0.now c.split_at_mut-left.result.1.now c.keep_two.new.first c.keep_two.new.second
+    c.index-left-low.result c.index-right-0.result c.split_at_mut-left.ensures.value lt lt2
+    (c.in_err-keep_two.ensures.cause
+    (stable_from c.from_residual-in_err-keep_two.result c.in_err-keep_two.field-0.0 c.from_residual-in_err-keep_two.ensures.1 is (Err c.in_err-keep_two.field-0.0) refl))
+
+pub returns-in_err-keep_one-clause-cause : goal.returns-in_err-keep_one-clause-cause
+returns-in_err-keep_one-clause-cause g c =
+    λ is.
+    let lt : c.args.low - 1 < length c.args.guardians.now = omega (arith, c.requires.first, c.requires.ordered, c.requires.last) in
+    one_failed g.G.Guardian.stored c.args.guardians.now c.args.low c.keep_one.new.guardian c.index-guardians-low.result lt
+    (c.in_err-keep_one.ensures.cause
+    (stable_from c.from_residual.result c.in_err-keep_one.field-0.0 c.from_residual.ensures.1 is (Err c.in_err-keep_one.field-0.0) refl))

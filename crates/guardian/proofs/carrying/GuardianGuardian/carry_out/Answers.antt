@@ -22,11 +22,11 @@ invariant_of-self-in-Op g c =
 pub invariant_of-self-in-Err : goal.invariant_of-self-in-Err
 invariant_of-self-in-Err g c =
     whole_still g.S.Stable.seen c.self.inside.memory c.self.inside.store (news_of c.args.plan) c.write.new.store c.in-Err.fault c.self.invariant
-    c.in-Err.ensures
+    c.in-Err.ensures.leaves
 
 pub invariant_of-self-2 : goal.invariant_of-self-2
 invariant_of-self-2 g c =
     let m = c.self.inside.memory in
     let s = c.self.inside.store in
     whole_next g.S.Stable.seen m s c.args.plan c.stamp-drawn.result c.keep.new.memory c.write.new.store c.self.invariant
-    (fits_within m s c.args.self.now c.args.plan c.self.view_is c.requires.fits) c.keep.ensures c.in_default-write.ensures
+    (fits_within m s c.args.self.now c.args.plan c.self.view_is c.requires.fits) c.keep.ensures c.in_default-write.ensures.leaves
