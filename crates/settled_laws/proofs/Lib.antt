@@ -1,0 +1,10 @@
+pub mod NewTops
+pub mod Laying
+pub mod Guardians
+pub mod Records
+pub mod Resting
+pub mod Ordered
+pub mod Seen
+pub mod Numbers
+pub mod Opened
+pub mod Stops

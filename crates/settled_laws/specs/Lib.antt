@@ -1,0 +1,5 @@
+pub mod Settled
+pub mod Numbers
+pub mod Laws
+pub mod Opened
+pub mod Examples

@@ -1,0 +1,3 @@
+pub mod Running
+pub mod First
+pub mod Reading

@@ -1,0 +1,56 @@
+use Rattle.std.proofs.Common.{IfOk, ap, arith, drop, length, subst, sym, take, ◌++◌, ◌≡◌}
+use Rattle.std.specs.Arc.{arc_value}
+use Rattle.run_laws.specs.Laws.{OrphanWhereRefused}
+use Rattle.run_laws.proofs.Serving.{runs_are_served}
+use Rattle.run_model.specs.Answers.{answer_of}
+use Rattle.run_model.specs.Openings.{opening_in}
+use Rattle.run_model.specs.Runs.{IsRun}
+use Rattle.guardian.specs.Guardians.{InParts}
+use Rattle.registry.specs.Registries.{state_of}
+use Rattle.stable_store.specs.Calls.{View}
+use Rattle.layer_contracts.specs.Stores.{fault_in}
+use Rattle.layered_world.specs.Standings.{HasFailed, StoresLeft}
+use Rattle.stable_world.specs.Worlds.{seen_of}
+use Rattle.stable_world.proofs.Reading.{back_is}
+use Rattle.stable_world.proofs.Running.{step_orphans}
+use Rattle.stable_world.proofs.world.World.step.Goals as goal
+
+pub returns-clause-orphans : goal.returns-clause-orphans
+returns-clause-orphans g c =
+    let lists = arc_value c.self.inside.opening in
+    let same : (state_of c.self.inside.registry).opening ≡ opening_in lists = ap (λ f. f.opening) c.self.invariant.forest in
+    subst (λ w. IfOk c.step.result (λ answer. OrphanWhereRefused c.args.step.now answer w.run.past)) c.self.view_is
+    (step_orphans (record { lists = lists; past = c.self.inside.history }) c.args.step.now c.step.result c.self.invariant.is_run
+    (subst (λ o. IfOk c.step.result (λ answer. answer ≡ answer_of o c.args.step.now c.self.inside.history)) same c.step.ensures.answer))
+
+pub returns-clause-served : goal.returns-clause-served
+returns-clause-served g c =
+    let lists = arc_value c.self.inside.opening in
+    let same : (state_of c.self.inside.registry).opening ≡ opening_in lists = ap (λ f. f.opening) c.self.invariant.forest in
+    runs_are_served _ _ (subst (λ o. IsRun o c.step.new.history) same c.step.ensures.world.is_run)
+
+pub returns-clause-stores : goal.returns-clause-stores
+returns-clause-stores g c =
+    let stored : InParts _ → View = λ x. seen_of g.S.Stable.seen x in
+    let lists = arc_value c.self.inside.opening in
+    let past = c.self.inside.history in
+    let step = c.args.step.now in
+    let same : (state_of c.self.inside.registry).opening ≡ opening_in lists = ap (λ f. f.opening) c.self.invariant.forest in
+    let new = c.step.new.guardians in
+    let back = back_is c.self.inside.guardians.len new (drop (length new) c.self.inside.guardians.items) (omega (arith, c.step.auto.guardians, c.deref_mut.ensures.len)) in
+    let fault = fault_in c.step.result in
+    subst (λ w. StoresLeft stored (opening_in w.run.lists) w.run.past step w.guardians
+    (take c.self.inside.guardians.len (new ++ drop (length new) c.self.inside.guardians.items)) fault) c.self.view_is
+    (subst (λ gs. StoresLeft stored (opening_in lists) past step c.self.inside.guardians.items gs fault) (sym back)
+    (subst (λ o. StoresLeft stored o past step c.self.inside.guardians.items new fault) same
+    (subst (λ gs. StoresLeft stored (state_of c.self.inside.registry).opening past step gs new fault) c.deref_mut.ensures.value c.step.ensures.stores)))
+
+pub returns-clause-cause : goal.returns-clause-cause
+returns-clause-cause g c =
+    λ is.
+    let stored : InParts _ → View = λ x. seen_of g.S.Stable.seen x in
+    let new = c.step.new.guardians in
+    let back = back_is c.self.inside.guardians.len new (drop (length new) c.self.inside.guardians.items) (omega (arith, c.step.auto.guardians, c.deref_mut.ensures.len)) in
+    subst (λ w. HasFailed stored w.guardians (take c.self.inside.guardians.len (new ++ drop (length new) c.self.inside.guardians.items))) c.self.view_is
+    (subst (λ gs. HasFailed stored c.self.inside.guardians.items gs) (sym back)
+    (subst (λ gs. HasFailed stored gs new) c.deref_mut.ensures.value (c.step.ensures.cause is)))

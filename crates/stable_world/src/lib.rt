@@ -1,0 +1,13 @@
+//! The world of guardians over stable stores: it is given steps, one after another, and answers each as the definitions say.
+//!
+//! Its guardians know their own histories alone, and reach their stores by the trait `Stable`; what a step leaves of each store is said with its
+//! answer. How a step is made of them is the business of `layered_world`.
+#![tactic(auto)]
+
+mod beginning;
+mod world;
+
+pub use guardian::Guardian;
+pub use layer_contracts::Fault;
+pub use run_model::{Answer, Event, Held, History, Opening, Part, Setup, Step};
+pub use world::World;
