@@ -1,3 +1,4 @@
 pub mod Running
 pub mod First
 pub mod Reading
+pub mod Stops

@@ -9,7 +9,9 @@ ghost use Rattle.layer_contracts.specs.Stores.{IsStoreOf, fault_in};
 ghost use Rattle.layer_contracts.specs.declared.guardian.Fault.TheVariants.{Stable};
 ghost use Rattle.guardian.specs.Guardians.{state_in};
 ghost use Rattle.layered_world.specs.Standings.{HasFailed, IsOut, StoresLeft, standing};
+ghost use Rattle.settled_stores.specs.Runs.{AreOfRun};
 ghost use Rattle.stable_world.specs.Running.{Ran, RanBefore};
+ghost use Rattle.stable_world.specs.Stops.{IsKeptBetweenSteps, IsKeptThroughStops, StayUp, contents_of};
 ghost use Rattle.stable_world.specs.Worlds.{AreOpened, seen_of, store_in};
 
 use crate::beginning::{Beginning, empty_stores, guardians};
@@ -136,6 +138,9 @@ impl<S: Stable> World<S> {
         ensures stores { StoresLeft (λ g. seen_of S.seen g) (opening_in self.old.run.lists) self.old.run.past step.now self.old.guardians
             self.new.guardians (fault_in result) }
         ensures cause { IsErrOf result Stable → HasFailed (λ g. seen_of S.seen g) self.old.guardians self.new.guardians }
+        ensures stop { IsKeptThroughStops (λ g. seen_of S.seen g) (opening_in self.old.run.lists) self.old.run.past step.now self.old.guardians
+            self.new.guardians }
+        ensures up { OnOk result (StayUp (λ g. seen_of S.seen g) self.old.guardians self.new.guardians) }
     {
         layered_world::step(
             self.alloc,
@@ -162,10 +167,13 @@ impl<S: Stable> World<S> {
         Ok(())
     }
 
-    /// What has happened: the accepted steps with their answers. This takes no memory.
+    /// What has happened: the accepted steps with their answers. The stores are those of this run, and a stop now leaves them so. This takes
+    /// no memory.
     pub fn history(&self) -> &History
         ensures past { result.now ≡ self.now.run.past }
         ensures served { IsServed (opening_in self.now.run.lists) self.now.run.past }
+        ensures stores { AreOfRun (opening_in self.now.run.lists) self.now.run.past (contents_of (λ g. seen_of S.seen g) self.now.guardians) }
+        ensures stop { IsKeptBetweenSteps (λ g. seen_of S.seen g) (opening_in self.now.run.lists) self.now.run.past self.now.guardians }
     {
         &self.history
     }

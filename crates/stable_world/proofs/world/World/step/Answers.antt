@@ -1,18 +1,20 @@
-use Rattle.std.proofs.Common.{IfOk, ap, arith, drop, length, subst, sym, take, ◌++◌, ◌≡◌}
+use Rattle.std.proofs.Common.{IfOk, OnOk, ap, arith, drop, length, subst, sym, take, ◌++◌, ◌≡◌, ◌∙◌}
 use Rattle.std.specs.Arc.{arc_value}
 use Rattle.run_laws.specs.Laws.{OrphanWhereRefused}
 use Rattle.run_laws.proofs.Serving.{runs_are_served}
 use Rattle.run_model.specs.Answers.{answer_of}
 use Rattle.run_model.specs.Openings.{opening_in}
 use Rattle.run_model.specs.Runs.{IsRun}
-use Rattle.guardian.specs.Guardians.{InParts}
+use Rattle.guardian.specs.Guardians.{InParts, state_in}
 use Rattle.registry.specs.Registries.{state_of}
 use Rattle.stable_store.specs.Calls.{View}
 use Rattle.layer_contracts.specs.Stores.{fault_in}
 use Rattle.layered_world.specs.Standings.{HasFailed, StoresLeft}
+use Rattle.stable_world.specs.Stops.{IsKeptThroughStops, StayUp}
 use Rattle.stable_world.specs.Worlds.{seen_of}
 use Rattle.stable_world.proofs.Reading.{back_is}
 use Rattle.stable_world.proofs.Running.{step_orphans}
+use Rattle.stable_world.proofs.Stops.{kept_through_stops, stay_up}
 use Rattle.stable_world.proofs.world.World.step.Goals as goal
 
 pub returns-clause-orphans : goal.returns-clause-orphans
@@ -54,3 +56,40 @@ returns-clause-cause g c =
     subst (λ w. HasFailed stored w.guardians (take c.self.inside.guardians.len (new ++ drop (length new) c.self.inside.guardians.items))) c.self.view_is
     (subst (λ gs. HasFailed stored c.self.inside.guardians.items gs) (sym back)
     (subst (λ gs. HasFailed stored gs new) c.deref_mut.ensures.value (c.step.ensures.cause is)))
+
+pub returns-clause-stop : goal.returns-clause-stop
+returns-clause-stop g c =
+    let stored : InParts _ → View = λ x. seen_of g.S.Stable.seen x in
+    let lists = arc_value c.self.inside.opening in
+    let past = c.self.inside.history in
+    let step = c.args.step.now in
+    let same : (state_of c.self.inside.registry).opening ≡ opening_in lists = ap (λ f. f.opening) c.self.invariant.forest in
+    let new = c.step.new.guardians in
+    let gs = c.self.inside.guardians.items in
+    let count = c.step.ensures.world.count ∙ ap (λ o. length o.setup) same ∙ sym c.self.invariant.count in
+    let back = back_is c.self.inside.guardians.len new (drop (length new) gs) (omega (arith, c.step.auto.guardians, c.deref_mut.ensures.len)) in
+    let fault = fault_in c.step.result in
+    subst (λ w. IsKeptThroughStops stored (opening_in w.run.lists) w.run.past step w.guardians (take c.self.inside.guardians.len (new ++ drop (length new) gs)))
+    c.self.view_is
+    (subst (λ news. IsKeptThroughStops stored (opening_in lists) past step gs news) (sym back)
+    (kept_through_stops (λ x. state_in x) stored (opening_in lists) past step _ gs new c.self.invariant count fault
+    (subst (λ o. StoresLeft stored o past step gs new fault) same
+    (subst (λ gs. StoresLeft stored (state_of c.self.inside.registry).opening past step gs new fault) c.deref_mut.ensures.value c.step.ensures.stores))))
+
+pub returns-clause-up : goal.returns-clause-up
+returns-clause-up g c =
+    let stored : InParts _ → View = λ x. seen_of g.S.Stable.seen x in
+    let lists = arc_value c.self.inside.opening in
+    let past = c.self.inside.history in
+    let step = c.args.step.now in
+    let same : (state_of c.self.inside.registry).opening ≡ opening_in lists = ap (λ f. f.opening) c.self.invariant.forest in
+    let new = c.step.new.guardians in
+    let gs = c.self.inside.guardians.items in
+    let count = c.step.ensures.world.count ∙ ap (λ o. length o.setup) same ∙ sym c.self.invariant.count in
+    let back = back_is c.self.inside.guardians.len new (drop (length new) gs) (omega (arith, c.step.auto.guardians, c.deref_mut.ensures.len)) in
+    let fault = fault_in c.step.result in
+    subst (λ w. OnOk c.step.result (StayUp stored w.guardians (take c.self.inside.guardians.len (new ++ drop (length new) gs)))) c.self.view_is
+    (subst (λ news. OnOk c.step.result (StayUp stored gs news)) (sym back)
+    (stay_up (λ x. state_in x) stored (opening_in lists) past step _ gs new c.self.invariant count c.step.result
+    (subst (λ o. StoresLeft stored o past step gs new fault) same
+    (subst (λ gs. StoresLeft stored (state_of c.self.inside.registry).opening past step gs new fault) c.deref_mut.ensures.value c.step.ensures.stores))))

@@ -1,0 +1,10 @@
+pub mod Places
+pub mod Entries
+pub mod Settling
+pub mod Held
+pub mod Settled
+pub mod Opened
+pub mod Following
+pub mod Stops
+pub mod Examples
+pub mod ByHand

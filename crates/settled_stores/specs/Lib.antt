@@ -1,0 +1,5 @@
+pub mod Runs
+pub mod Opened
+pub mod Following
+pub mod Laws
+pub mod Examples

@@ -1,0 +1,11 @@
+pub mod Entries
+pub mod Settled
+pub mod Places
+pub mod Stops
+pub mod InTurn
+pub mod Promised
+pub mod Reading
+pub mod Alike
+pub mod Belongs
+pub mod Ready
+pub mod Said
