@@ -18,8 +18,9 @@ use action_names::Name;
 use atomic_types::Reply;
 use script_model::{Arm, Checked, HandlerCall, Statement};
 use sqlite_items::Items;
-use std::alloc::{AllocError, Global};
-use world::World;
+use stable_store::Stable;
+use stable_world::{Fault, World};
+use std::alloc::Global;
 
 /// How many statements and turns of `repeat` an activity may begin.
 pub(crate) const BUDGET: u32 = 100_000;
@@ -57,25 +58,26 @@ impl<'s> Activity<'s> {
         true
     }
 
-    /// Runs a body as the action and ends the action. After an error the action has ended, or its abort wanted memory too.
+    /// Runs a body as the action and ends the action. After an error the action has ended, or its abort
+    /// failed too.
     #[cycle(activity)]
     #[tactic(auto, using(crate::proofs::Ways::steps))]
-    pub(crate) fn run(
+    pub(crate) fn run<S: Stable>(
         &mut self,
-        world: &mut World,
+        world: &mut World<S>,
         action: &mut OpenAction,
         frames: &mut Frames,
         body: &[Statement],
-    ) -> Result<Flow, AllocError>
+    ) -> Result<Flow, Fault>
         requires script { IsResolved self.old.script.now }
         requires body { IsBody self.old.script.now (sizes frames.old) body.now }
-        requires run { IsRun (opening_in world.old.lists) world.old.past }
-        requires open { IsOpen action.old.name world.old }
-        ensures goes_on { GoesOn world.old world.new [] }
-        ensures others { CommitsAmong (action.old.name ∷ []) world.old world.new }
-        ensures told { IfOk result (λ flow. commits flow ≡ is_committed action.old.name world.new.past) }
-        ensures ended { OnOk result (IsTrue (is_ended action.old.name world.new.past)) }
-        ensures ends { OnOk result (EndsAll world.old world.new) }
+        requires run { IsRun (opening_in world.old.run.lists) world.old.run.past }
+        requires open { IsOpen action.old.name world.old.run }
+        ensures goes_on { GoesOn world.old.run world.new.run [] }
+        ensures others { CommitsAmong (action.old.name ∷ []) world.old.run world.new.run }
+        ensures told { IfOk result (λ flow. commits flow ≡ is_committed action.old.name world.new.run.past) }
+        ensures ended { OnOk result (IsTrue (is_ended action.old.name world.new.run.past)) }
+        ensures ends { OnOk result (EndsAll world.old.run world.new.run) }
         ensures left { self.new.left ≤ self.old.left }
         ensures script { self.new.script.now ≡ self.old.script.now }
         ensures name { action.new.name ≡ action.old.name }
@@ -92,19 +94,19 @@ impl<'s> Activity<'s> {
 
     #[cycle(activity)]
     #[tactic(auto, using(crate::proofs::Ways::turns))]
-    fn body(
+    fn body<S: Stable>(
         &mut self,
-        world: &mut World,
+        world: &mut World<S>,
         action: &mut OpenAction,
         frames: &mut Frames,
         body: &[Statement],
-    ) -> Result<Flow, AllocError>
+    ) -> Result<Flow, Fault>
         requires script { IsResolved self.old.script.now }
         requires body { IsBody self.old.script.now (sizes frames.old) body.now }
-        requires run { IsRun (opening_in world.old.lists) world.old.past }
-        ensures goes_on { GoesOn world.old world.new [] }
-        ensures commits { CommitsNone world.old world.new }
-        ensures ends { OnOk result (EndsAll world.old world.new) }
+        requires run { IsRun (opening_in world.old.run.lists) world.old.run.past }
+        ensures goes_on { GoesOn world.old.run world.new.run [] }
+        ensures commits { CommitsNone world.old.run world.new.run }
+        ensures ends { OnOk result (EndsAll world.old.run world.new.run) }
         ensures frames { IfOk result (λ flow. WhereEnded flow (Within (sizes frames.old) (sizes frames.new))) }
         ensures left { self.new.left ≤ self.old.left }
         ensures each { IfOk result (λ flow. WhereEnded flow (self.new.left + length body.now ≤ self.old.left)) }
@@ -127,19 +129,19 @@ impl<'s> Activity<'s> {
     /// A body within another: what it binds newly is forgotten at its end.
     #[cycle(activity)]
     #[tactic(auto, using(crate::proofs::Ways::steps))]
-    fn inner(
+    fn inner<S: Stable>(
         &mut self,
-        world: &mut World,
+        world: &mut World<S>,
         action: &mut OpenAction,
         frames: &mut Frames,
         body: &[Statement],
-    ) -> Result<Flow, AllocError>
+    ) -> Result<Flow, Fault>
         requires script { IsResolved self.old.script.now }
         requires body { IsBody self.old.script.now (sizes frames.old) body.now }
-        requires run { IsRun (opening_in world.old.lists) world.old.past }
-        ensures goes_on { GoesOn world.old world.new [] }
-        ensures commits { CommitsNone world.old world.new }
-        ensures ends { OnOk result (EndsAll world.old world.new) }
+        requires run { IsRun (opening_in world.old.run.lists) world.old.run.past }
+        ensures goes_on { GoesOn world.old.run world.new.run [] }
+        ensures commits { CommitsNone world.old.run world.new.run }
+        ensures ends { OnOk result (EndsAll world.old.run world.new.run) }
         ensures frames { IfOk result (λ flow. WhereEnded flow (sizes frames.new ≡ sizes frames.old)) }
         ensures left { self.new.left ≤ self.old.left }
         ensures script { self.new.script.now ≡ self.old.script.now }
@@ -154,19 +156,19 @@ impl<'s> Activity<'s> {
 
     #[cycle(activity)]
     #[tactic(auto, using(crate::proofs::Ways::steps, crate::proofs::Resolving::statements))]
-    fn statement(
+    fn statement<S: Stable>(
         &mut self,
-        world: &mut World,
+        world: &mut World<S>,
         action: &mut OpenAction,
         frames: &mut Frames,
         statement: &Statement,
-    ) -> Result<Flow, AllocError>
+    ) -> Result<Flow, Fault>
         requires script { IsResolved self.old.script.now }
         requires statement { IsStatement self.old.script.now (sizes frames.old) statement.now }
-        requires run { IsRun (opening_in world.old.lists) world.old.past }
-        ensures goes_on { GoesOn world.old world.new [] }
-        ensures commits { CommitsNone world.old world.new }
-        ensures ends { OnOk result (EndsAll world.old world.new) }
+        requires run { IsRun (opening_in world.old.run.lists) world.old.run.past }
+        ensures goes_on { GoesOn world.old.run world.new.run [] }
+        ensures commits { CommitsNone world.old.run world.new.run }
+        ensures ends { OnOk result (EndsAll world.old.run world.new.run) }
         ensures frames { IfOk result (λ flow. WhereEnded flow (sizes frames.new ≡ (asked statement.now).after (sizes frames.old))) }
         ensures left { self.new.left ≤ self.old.left }
         ensures script { self.new.script.now ≡ self.old.script.now }
@@ -205,19 +207,19 @@ impl<'s> Activity<'s> {
     /// What a statement does where it signals: its body for that, without which the innermost action aborts.
     #[cycle(activity)]
     #[tactic(auto, using(crate::proofs::Ways::turns))]
-    fn run_signals(
+    fn run_signals<S: Stable>(
         &mut self,
-        world: &mut World,
+        world: &mut World<S>,
         action: &mut OpenAction,
         frames: &mut Frames,
         signals: &Option<Items<Statement>>,
-    ) -> Result<Flow, AllocError>
+    ) -> Result<Flow, Fault>
         requires script { IsResolved self.old.script.now }
         requires signals { SignalsHold self.old.script.now (sizes frames.old) signals.now }
-        requires run { IsRun (opening_in world.old.lists) world.old.past }
-        ensures goes_on { GoesOn world.old world.new [] }
-        ensures commits { CommitsNone world.old world.new }
-        ensures ends { OnOk result (EndsAll world.old world.new) }
+        requires run { IsRun (opening_in world.old.run.lists) world.old.run.past }
+        ensures goes_on { GoesOn world.old.run world.new.run [] }
+        ensures commits { CommitsNone world.old.run world.new.run }
+        ensures ends { OnOk result (EndsAll world.old.run world.new.run) }
         ensures frames { IfOk result (λ flow. WhereEnded flow (sizes frames.new ≡ sizes frames.old)) }
         ensures unheard { signals.now ≡ None → IfOk result (λ flow. flow ≡ Aborted) }
         ensures left { self.new.left ≤ self.old.left }
@@ -233,20 +235,20 @@ impl<'s> Activity<'s> {
 
     #[cycle(activity)]
     #[tactic(auto, using(crate::proofs::Ways::turns))]
-    fn repeat(
+    fn repeat<S: Stable>(
         &mut self,
-        world: &mut World,
+        world: &mut World<S>,
         action: &mut OpenAction,
         frames: &mut Frames,
         turns: u32,
         body: &[Statement],
-    ) -> Result<Flow, AllocError>
+    ) -> Result<Flow, Fault>
         requires script { IsResolved self.old.script.now }
         requires body { IsBody self.old.script.now (sizes frames.old) body.now }
-        requires run { IsRun (opening_in world.old.lists) world.old.past }
-        ensures goes_on { GoesOn world.old world.new [] }
-        ensures commits { CommitsNone world.old world.new }
-        ensures ends { OnOk result (EndsAll world.old world.new) }
+        requires run { IsRun (opening_in world.old.run.lists) world.old.run.past }
+        ensures goes_on { GoesOn world.old.run world.new.run [] }
+        ensures commits { CommitsNone world.old.run world.new.run }
+        ensures ends { OnOk result (EndsAll world.old.run world.new.run) }
         ensures frames { IfOk result (λ flow. WhereEnded flow (sizes frames.new ≡ sizes frames.old)) }
         ensures left { self.new.left ≤ self.old.left }
         ensures turns { IfOk result (λ flow. WhereEnded flow (self.new.left + turns ≤ self.old.left)) }
@@ -269,21 +271,21 @@ impl<'s> Activity<'s> {
     /// A handler call: the handler's body as a subaction at its guardian.
     #[cycle(activity)]
     #[tactic(auto, using(crate::proofs::Ways::children))]
-    fn call(
+    fn call<S: Stable>(
         &mut self,
-        world: &mut World,
+        world: &mut World<S>,
         action: &mut OpenAction,
         frames: &mut Frames,
         call: &HandlerCall,
         signals: &Option<Items<Statement>>,
-    ) -> Result<Flow, AllocError>
+    ) -> Result<Flow, Fault>
         requires script { IsResolved self.old.script.now }
         requires call { IsCall self.old.script.now (sizes frames.old) call.now }
         requires signals { SignalsFollow self.old.script.now (sizes frames.old) call.now.binding signals.now }
-        requires run { IsRun (opening_in world.old.lists) world.old.past }
-        ensures goes_on { GoesOn world.old world.new [] }
-        ensures commits { CommitsNone world.old world.new }
-        ensures ends { OnOk result (EndsAll world.old world.new) }
+        requires run { IsRun (opening_in world.old.run.lists) world.old.run.past }
+        ensures goes_on { GoesOn world.old.run world.new.run [] }
+        ensures commits { CommitsNone world.old.run world.new.run }
+        ensures ends { OnOk result (EndsAll world.old.run world.new.run) }
         ensures frames { IfOk result (λ flow. WhereEnded flow (sizes frames.new ≡ frames_after (sizes frames.old) call.now.binding)) }
         ensures left { self.new.left ≤ self.old.left }
         ensures script { self.new.script.now ≡ self.old.script.now }
@@ -322,21 +324,21 @@ impl<'s> Activity<'s> {
     /// A nested top action, over a copy of the variables; where it aborts, the statement's body for that runs.
     #[cycle(activity)]
     #[tactic(auto, using(crate::proofs::Ways::children))]
-    fn top_action(
+    fn top_action<S: Stable>(
         &mut self,
-        world: &mut World,
+        world: &mut World<S>,
         action: &mut OpenAction,
         frames: &mut Frames,
         body: &[Statement],
         signals: &[Statement],
-    ) -> Result<Flow, AllocError>
+    ) -> Result<Flow, Fault>
         requires script { IsResolved self.old.script.now }
         requires body { IsBody self.old.script.now (sizes frames.old) body.now }
         requires signals { IsBody self.old.script.now (sizes frames.old) signals.now }
-        requires run { IsRun (opening_in world.old.lists) world.old.past }
-        ensures goes_on { GoesOn world.old world.new [] }
-        ensures commits { CommitsNone world.old world.new }
-        ensures ends { OnOk result (EndsAll world.old world.new) }
+        requires run { IsRun (opening_in world.old.run.lists) world.old.run.past }
+        ensures goes_on { GoesOn world.old.run world.new.run [] }
+        ensures commits { CommitsNone world.old.run world.new.run }
+        ensures ends { OnOk result (EndsAll world.old.run world.new.run) }
         ensures frames { IfOk result (λ flow. WhereEnded flow (sizes frames.new ≡ sizes frames.old)) }
         ensures left { self.new.left ≤ self.old.left }
         ensures script { self.new.script.now ≡ self.old.script.now }
@@ -358,19 +360,19 @@ impl<'s> Activity<'s> {
     /// Arms are begun together; where one returns or is left, those that have not run are aborted.
     #[cycle(activity)]
     #[tactic(auto, using(crate::proofs::Ways::together))]
-    fn coenter(
+    fn coenter<S: Stable>(
         &mut self,
-        world: &mut World,
+        world: &mut World<S>,
         action: &mut OpenAction,
         frames: &mut Frames,
         arms: &[Arm],
-    ) -> Result<Flow, AllocError>
+    ) -> Result<Flow, Fault>
         requires script { IsResolved self.old.script.now }
         requires arms { AreArms self.old.script.now (sizes frames.old) arms.now }
-        requires run { IsRun (opening_in world.old.lists) world.old.past }
-        ensures goes_on { GoesOn world.old world.new [] }
-        ensures commits { CommitsNone world.old world.new }
-        ensures ends { OnOk result (EndsAll world.old world.new) }
+        requires run { IsRun (opening_in world.old.run.lists) world.old.run.past }
+        ensures goes_on { GoesOn world.old.run world.new.run [] }
+        ensures commits { CommitsNone world.old.run world.new.run }
+        ensures ends { OnOk result (EndsAll world.old.run world.new.run) }
         ensures frames { IfOk result (λ flow. WhereEnded flow (sizes frames.new ≡ sizes frames.old)) }
         ensures left { self.new.left ≤ self.old.left }
         ensures script { self.new.script.now ≡ self.old.script.now }
@@ -391,23 +393,23 @@ impl<'s> Activity<'s> {
     /// the last is that of the next arm.
     #[cycle(activity)]
     #[tactic(auto, using(crate::proofs::Ways::arms))]
-    fn run_arms(
+    fn run_arms<S: Stable>(
         &mut self,
-        world: &mut World,
+        world: &mut World<S>,
         action: &mut OpenAction,
         frames: &mut Frames,
         arms: &[Arm],
         waiting: &mut Vec<Name>,
-    ) -> Result<Flow, AllocError>
+    ) -> Result<Flow, Fault>
         requires script { IsResolved self.old.script.now }
         requires arms { AreArms self.old.script.now (sizes frames.old) arms.now }
         requires each { length waiting.old.items ≡ length arms.now }
-        requires run { IsRun (opening_in world.old.lists) world.old.past }
-        requires waiting { AreWaiting waiting.old.items world.old }
-        ensures goes_on { GoesOn world.old world.new [] }
-        ensures others { CommitsAmong waiting.old.items world.old world.new }
-        ensures ran { OnOk result (HaveRun waiting.old.items waiting.new.items world.new) }
-        ensures ends { OnOk result (EndsAll world.old world.new) }
+        requires run { IsRun (opening_in world.old.run.lists) world.old.run.past }
+        requires waiting { AreWaiting waiting.old.items world.old.run }
+        ensures goes_on { GoesOn world.old.run world.new.run [] }
+        ensures others { CommitsAmong waiting.old.items world.old.run world.new.run }
+        ensures ran { OnOk result (HaveRun waiting.old.items waiting.new.items world.new.run) }
+        ensures ends { OnOk result (EndsAll world.old.run world.new.run) }
         ensures frames { sizes frames.new ≡ sizes frames.old }
         ensures left { self.new.left ≤ self.old.left }
         ensures script { self.new.script.now ≡ self.old.script.now }
@@ -441,7 +443,7 @@ fn wait() -> Flow
 }
 
 /// Whether an action that came to this end committed.
-fn has_committed(ended: &Result<Flow, AllocError>) -> bool
+fn has_committed(ended: &Result<Flow, Fault>) -> bool
     ensures { result ≡ has_committed ended.now }
 {
     matches!(ended, Ok(Flow::Ended) | Ok(Flow::Returned(_)))

@@ -9,24 +9,25 @@ use crate::open_action::OpenAction;
 use action_names::Name;
 use run_model::{Answer, ArmKind, ArmKinds, Step};
 use script_model::{Arm, Statement};
-use std::alloc::{AllocError, Global};
-use world::World;
+use stable_store::Stable;
+use stable_world::{Fault, World};
+use std::alloc::Global;
 
 /// Begins the arms together, and gives their names, that of the first arm last; none where that is refused.
-pub(crate) fn begin_arms(
+pub(crate) fn begin_arms<S: Stable>(
     alloc: Global,
-    world: &mut World,
+    world: &mut World<S>,
     action: &OpenAction,
     arms: &[Arm],
-) -> Result<Option<Vec<Name>>, AllocError>
-    requires { IsRun (opening_in world.old.lists) world.old.past }
-    ensures goes_on { GoesOn world.old world.new [] }
-    ensures commits { CommitsNone world.old world.new }
-    ensures together { IfOk result (λ found. IsAfter (Arms action.now.name (kinds arms.now)) world.old world.new) }
+) -> Result<Option<Vec<Name>>, Fault>
+    requires { IsRun (opening_in world.old.run.lists) world.old.run.past }
+    ensures goes_on { GoesOn world.old.run world.new.run [] }
+    ensures commits { CommitsNone world.old.run world.new.run }
+    ensures together { IfOk result (λ found. IsAfter (Arms action.now.name (kinds arms.now)) world.old.run world.new.run) }
     ensures each { IfOk result (λ found. IfSome found (λ names. length names.items ≡ length arms.now)) }
-    ensures began { IfOk result (λ found. IfSome found (λ names. HaveBegun names.items world.old world.new)) }
+    ensures began { IfOk result (λ found. IfSome found (λ names. HaveBegun names.items world.old.run world.new.run)) }
     ensures distinct { IfOk result (λ found. IfSome found (λ names. AreDistinct names.items)) }
-    ensures refused { IfOk result (λ found. found ≡ None → world.new ≡ world.old) }
+    ensures refused { IfOk result (λ found. found ≡ None → world.new.run ≡ world.old.run) }
 {
     let mut kinds = ArmKinds::new(alloc);
     for arm in arms {

@@ -14,9 +14,10 @@ use crate::flow::{Flow, Reach};
 use action_names::{Name, Names};
 use atomic_types::Op;
 use run_model::{Answer, ObjectId, Refusal, Step};
+use stable_store::Stable;
+use stable_world::{Fault, World};
 use std::alloc::{AllocError, Global};
 use std::collections::BTreeSet;
-use world::World;
 
 /// Guardians that an action has to do with, in rising number.
 #[derive(Drop)]
@@ -75,38 +76,45 @@ impl OpenAction {
     }
 
     /// Begins a subaction of it at a guardian.
-    pub(crate) fn begin_call(&self, world: &mut World, guardian: u32) -> Result<Called, AllocError>
-        requires { IsRun (opening_in world.old.lists) world.old.past }
-        ensures goes_on { GoesOn world.old world.new [] }
-        ensures commits { CommitsNone world.old world.new }
-        ensures began { IfOk result (λ c. HaveBegun (called c) world.old world.new) }
+    pub(crate) fn begin_call<S: Stable>(
+        &self,
+        world: &mut World<S>,
+        guardian: u32,
+    ) -> Result<Called, Fault>
+        requires { IsRun (opening_in world.old.run.lists) world.old.run.past }
+        ensures goes_on { GoesOn world.old.run world.new.run [] }
+        ensures commits { CommitsNone world.old.run world.new.run }
+        ensures began { IfOk result (λ c. HaveBegun (called c) world.old.run world.new.run) }
     {
         let answer = make(world, Step::Call(self.name.copy()?, guardian))?;
         Ok(what_came(answer))
     }
 
     /// Begins a nested top action that it starts; none where that is refused.
-    pub(crate) fn begin_nested(&self, world: &mut World) -> Result<Option<Name>, AllocError>
-        requires { IsRun (opening_in world.old.lists) world.old.past }
-        ensures goes_on { GoesOn world.old world.new [] }
-        ensures commits { CommitsNone world.old world.new }
-        ensures began { IfOk result (λ found. HaveBegun (named_by found) world.old world.new) }
+    pub(crate) fn begin_nested<S: Stable>(
+        &self,
+        world: &mut World<S>,
+    ) -> Result<Option<Name>, Fault>
+        requires { IsRun (opening_in world.old.run.lists) world.old.run.past }
+        ensures goes_on { GoesOn world.old.run world.new.run [] }
+        ensures commits { CommitsNone world.old.run world.new.run }
+        ensures began { IfOk result (λ found. HaveBegun (named_by found) world.old.run world.new.run) }
     {
         let answer = make(world, Step::NestedTop(self.name.copy()?))?;
         Ok(begun_by(answer))
     }
 
     /// Makes an operation on an object of its home.
-    pub(crate) fn perform(
+    pub(crate) fn perform<S: Stable>(
         &self,
-        world: &mut World,
+        world: &mut World<S>,
         object: u32,
         operation: Op,
-    ) -> Result<Answer, AllocError>
-        requires { IsRun (opening_in world.old.lists) world.old.past }
-        ensures goes_on { GoesOn world.old world.new [] }
-        ensures commits { CommitsNone world.old world.new }
-        ensures ends { EndsAll world.old world.new }
+    ) -> Result<Answer, Fault>
+        requires { IsRun (opening_in world.old.run.lists) world.old.run.past }
+        ensures goes_on { GoesOn world.old.run world.new.run [] }
+        ensures commits { CommitsNone world.old.run world.new.run }
+        ensures ends { EndsAll world.old.run world.new.run }
     {
         let object = ObjectId {
             guardian: self.home,
@@ -132,15 +140,15 @@ impl OpenAction {
     }
 
     /// Ends it as its body ended, and says how: where it cannot commit it aborts. After an error it has ended, or its abort
-    /// wanted memory too.
-    pub(crate) fn end(&self, world: &mut World, flow: Flow) -> Result<Flow, AllocError>
-        requires run { IsRun (opening_in world.old.lists) world.old.past }
-        requires open { IsOpen self.now.name world.old }
-        ensures goes_on { GoesOn world.old world.new [] }
-        ensures others { CommitsAmong (self.now.name ∷ []) world.old world.new }
-        ensures told { IfOk result (λ end. commits end ≡ is_committed self.now.name world.new.past) }
-        ensures ended { OnOk result (IsTrue (is_ended self.now.name world.new.past)) }
-        ensures ends { EndsAll world.old world.new }
+    /// failed too.
+    pub(crate) fn end<S: Stable>(&self, world: &mut World<S>, flow: Flow) -> Result<Flow, Fault>
+        requires run { IsRun (opening_in world.old.run.lists) world.old.run.past }
+        requires open { IsOpen self.now.name world.old.run }
+        ensures goes_on { GoesOn world.old.run world.new.run [] }
+        ensures others { CommitsAmong (self.now.name ∷ []) world.old.run world.new.run }
+        ensures told { IfOk result (λ end. commits end ≡ is_committed self.now.name world.new.run.past) }
+        ensures ended { OnOk result (IsTrue (is_ended self.now.name world.new.run.past)) }
+        ensures ends { EndsAll world.old.run world.new.run }
     {
         match self.try_end(world, wants_commit(&flow)) {
             Ok(true) => Ok(flow),
@@ -153,15 +161,15 @@ impl OpenAction {
     }
 
     /// Commits it where that is wanted; where it cannot, and else, aborts it. Whether it has committed.
-    fn try_end(&self, world: &mut World, wanted: bool) -> Result<bool, AllocError>
-        requires run { IsRun (opening_in world.old.lists) world.old.past }
-        requires open { IsOpen self.now.name world.old }
-        ensures goes_on { GoesOn world.old world.new [] }
-        ensures others { CommitsAmong (self.now.name ∷ []) world.old world.new }
-        ensures told { IfOk result (λ done. done ≡ is_committed self.now.name world.new.past) }
+    fn try_end<S: Stable>(&self, world: &mut World<S>, wanted: bool) -> Result<bool, Fault>
+        requires run { IsRun (opening_in world.old.run.lists) world.old.run.past }
+        requires open { IsOpen self.now.name world.old.run }
+        ensures goes_on { GoesOn world.old.run world.new.run [] }
+        ensures others { CommitsAmong (self.now.name ∷ []) world.old.run world.new.run }
+        ensures told { IfOk result (λ done. done ≡ is_committed self.now.name world.new.run.past) }
         ensures wanted { IfOk result (λ done. IsTrue done → IsTrue wanted) }
-        ensures ended { OnOk result (IsTrue (is_ended self.now.name world.new.past)) }
-        ensures ends { EndsAll world.old world.new }
+        ensures ended { OnOk result (IsTrue (is_ended self.now.name world.new.run.past)) }
+        ensures ends { EndsAll world.old.run world.new.run }
     {
         if wanted {
             self.commit_or_abort(world)
@@ -171,14 +179,14 @@ impl OpenAction {
         }
     }
 
-    fn commit_or_abort(&self, world: &mut World) -> Result<bool, AllocError>
-        requires run { IsRun (opening_in world.old.lists) world.old.past }
-        requires open { IsOpen self.now.name world.old }
-        ensures goes_on { GoesOn world.old world.new [] }
-        ensures others { CommitsAmong (self.now.name ∷ []) world.old world.new }
-        ensures told { IfOk result (λ done. done ≡ is_committed self.now.name world.new.past) }
-        ensures ended { OnOk result (IsTrue (is_ended self.now.name world.new.past)) }
-        ensures ends { EndsAll world.old world.new }
+    fn commit_or_abort<S: Stable>(&self, world: &mut World<S>) -> Result<bool, Fault>
+        requires run { IsRun (opening_in world.old.run.lists) world.old.run.past }
+        requires open { IsOpen self.now.name world.old.run }
+        ensures goes_on { GoesOn world.old.run world.new.run [] }
+        ensures others { CommitsAmong (self.now.name ∷ []) world.old.run world.new.run }
+        ensures told { IfOk result (λ done. done ≡ is_committed self.now.name world.new.run.past) }
+        ensures ended { OnOk result (IsTrue (is_ended self.now.name world.new.run.past)) }
+        ensures ends { EndsAll world.old.run world.new.run }
     {
         if self.commit(world)? {
             return Ok(true);
@@ -202,14 +210,14 @@ impl OpenAction {
     }
 
     /// Commits it, and tells so; whether that succeeded.
-    fn commit(&self, world: &mut World) -> Result<bool, AllocError>
-        requires run { IsRun (opening_in world.old.lists) world.old.past }
-        requires open { IsOpen self.now.name world.old }
-        ensures goes_on { GoesOn world.old world.new [] }
-        ensures others { CommitsAmong (self.now.name ∷ []) world.old world.new }
-        ensures told { IfOk result (λ done. done ≡ is_committed self.now.name world.new.past) }
-        ensures homes { IfOk result (λ done. IsTrue done → AreTold self.now.reached.homes self.now.name world.new) }
-        ensures ends { EndsAll world.old world.new }
+    fn commit<S: Stable>(&self, world: &mut World<S>) -> Result<bool, Fault>
+        requires run { IsRun (opening_in world.old.run.lists) world.old.run.past }
+        requires open { IsOpen self.now.name world.old.run }
+        ensures goes_on { GoesOn world.old.run world.new.run [] }
+        ensures others { CommitsAmong (self.now.name ∷ []) world.old.run world.new.run }
+        ensures told { IfOk result (λ done. done ≡ is_committed self.now.name world.new.run.past) }
+        ensures homes { IfOk result (λ done. IsTrue done → AreTold self.now.reached.homes self.now.name world.new.run) }
+        ensures ends { EndsAll world.old.run world.new.run }
     {
         if !self.try_commit(world)? {
             return Ok(false);
@@ -219,13 +227,13 @@ impl OpenAction {
     }
 
     /// Commits it; whether that succeeded.
-    fn try_commit(&self, world: &mut World) -> Result<bool, AllocError>
-        requires run { IsRun (opening_in world.old.lists) world.old.past }
-        requires open { IsOpen self.now.name world.old }
-        ensures goes_on { GoesOn world.old world.new [] }
-        ensures others { CommitsAmong (self.now.name ∷ []) world.old world.new }
-        ensures told { IfOk result (λ done. done ≡ is_committed self.now.name world.new.past) }
-        ensures ends { EndsAll world.old world.new }
+    fn try_commit<S: Stable>(&self, world: &mut World<S>) -> Result<bool, Fault>
+        requires run { IsRun (opening_in world.old.run.lists) world.old.run.past }
+        requires open { IsOpen self.now.name world.old.run }
+        ensures goes_on { GoesOn world.old.run world.new.run [] }
+        ensures others { CommitsAmong (self.now.name ∷ []) world.old.run world.new.run }
+        ensures told { IfOk result (λ done. done ≡ is_committed self.now.name world.new.run.past) }
+        ensures ends { EndsAll world.old.run world.new.run }
     {
         if self.name.is_top() {
             self.commit_top(world)
@@ -235,14 +243,14 @@ impl OpenAction {
     }
 
     /// Commits it by two phases; false at the first participant that does not vote yes.
-    fn commit_top(&self, world: &mut World) -> Result<bool, AllocError>
-        requires run { IsRun (opening_in world.old.lists) world.old.past }
-        requires open { IsOpen self.now.name world.old }
-        ensures goes_on { GoesOn world.old world.new [] }
-        ensures others { CommitsAmong (self.now.name ∷ []) world.old world.new }
-        ensures told { IfOk result (λ done. done ≡ is_committed self.now.name world.new.past) }
-        ensures held { IfOk result (λ done. done ≡ false → IsHeld self.now.reached.participants self.now.name world.old world.new) }
-        ensures ends { EndsAll world.old world.new }
+    fn commit_top<S: Stable>(&self, world: &mut World<S>) -> Result<bool, Fault>
+        requires run { IsRun (opening_in world.old.run.lists) world.old.run.past }
+        requires open { IsOpen self.now.name world.old.run }
+        ensures goes_on { GoesOn world.old.run world.new.run [] }
+        ensures others { CommitsAmong (self.now.name ∷ []) world.old.run world.new.run }
+        ensures told { IfOk result (λ done. done ≡ is_committed self.now.name world.new.run.past) }
+        ensures held { IfOk result (λ done. done ≡ false → IsHeld self.now.reached.participants self.now.name world.old.run world.new.run) }
+        ensures ends { EndsAll world.old.run world.new.run }
     {
         if !try_step(world, Step::Close(self.name.copy()?))? {
             return Ok(false);
@@ -256,13 +264,13 @@ impl OpenAction {
     }
 
     /// Aborts it, and tells so.
-    pub(crate) fn abort(&self, world: &mut World) -> Result<(), AllocError>
-        requires { IsRun (opening_in world.old.lists) world.old.past }
-        ensures goes_on { GoesOn world.old world.new [] }
-        ensures commits { CommitsNone world.old world.new }
-        ensures ended { OnOk result (EndsThese (self.now.name ∷ []) world.old world.new) }
-        ensures told { OnOk result (AreTold self.now.reached.homes self.now.name world.new) }
-        ensures ends { EndsAll world.old world.new }
+    pub(crate) fn abort<S: Stable>(&self, world: &mut World<S>) -> Result<(), Fault>
+        requires { IsRun (opening_in world.old.run.lists) world.old.run.past }
+        ensures goes_on { GoesOn world.old.run world.new.run [] }
+        ensures commits { CommitsNone world.old.run world.new.run }
+        ensures ended { OnOk result (EndsThese (self.now.name ∷ []) world.old.run world.new.run) }
+        ensures told { OnOk result (AreTold self.now.reached.homes self.now.name world.new.run) }
+        ensures ends { EndsAll world.old.run world.new.run }
     {
         try_step(world, Step::Abort(self.name.copy()?))?;
         tell(world, &self.name, &self.reached.homes)
@@ -270,12 +278,16 @@ impl OpenAction {
 
     /// Aborts arms of it that have not run, of which the last is the first to be aborted, and tells so. Also after an error the others are
     /// aborted.
-    pub(crate) fn abort_arms(&self, world: &mut World, arms: &[Name]) -> Result<(), AllocError>
-        requires { IsRun (opening_in world.old.lists) world.old.past }
-        ensures goes_on { GoesOn world.old world.new [] }
-        ensures commits { CommitsNone world.old world.new }
-        ensures ended { OnOk result (EndsThese arms.now world.old world.new) }
-        ensures ends { EndsAll world.old world.new }
+    pub(crate) fn abort_arms<S: Stable>(
+        &self,
+        world: &mut World<S>,
+        arms: &[Name],
+    ) -> Result<(), Fault>
+        requires { IsRun (opening_in world.old.run.lists) world.old.run.past }
+        ensures goes_on { GoesOn world.old.run world.new.run [] }
+        ensures commits { CommitsNone world.old.run world.new.run }
+        ensures ended { OnOk result (EndsThese arms.now world.old.run world.new.run) }
+        ensures ends { EndsAll world.old.run world.new.run }
     {
         let mut fault = Ok(());
         for arm in arms.iter().rev() {
@@ -286,12 +298,12 @@ impl OpenAction {
 }
 
 /// Aborts an action that has done nothing yet, and tells its home.
-fn abort_at_home(world: &mut World, action: &Name, home: u32) -> Result<(), AllocError>
-    requires { IsRun (opening_in world.old.lists) world.old.past }
-    ensures goes_on { GoesOn world.old world.new [] }
-    ensures commits { CommitsNone world.old world.new }
-    ensures ended { OnOk result (EndsThese (action.now ∷ []) world.old world.new) }
-    ensures ends { EndsAll world.old world.new }
+fn abort_at_home<S: Stable>(world: &mut World<S>, action: &Name, home: u32) -> Result<(), Fault>
+    requires { IsRun (opening_in world.old.run.lists) world.old.run.past }
+    ensures goes_on { GoesOn world.old.run world.new.run [] }
+    ensures commits { CommitsNone world.old.run world.new.run }
+    ensures ended { OnOk result (EndsThese (action.now ∷ []) world.old.run world.new.run) }
+    ensures ends { EndsAll world.old.run world.new.run }
 {
     try_step(world, Step::Abort(action.copy()?))?;
     try_step(world, Step::Tell(home, action.copy()?))?;
@@ -299,12 +311,16 @@ fn abort_at_home(world: &mut World, action: &Name, home: u32) -> Result<(), Allo
 }
 
 /// Tells the outcome of an action to guardians, in rising number. Those that are down refuse it.
-fn tell(world: &mut World, action: &Name, guardians: &BTreeSet<u32>) -> Result<(), AllocError>
-    requires { IsRun (opening_in world.old.lists) world.old.past }
-    ensures goes_on { GoesOn world.old world.new [] }
-    ensures commits { CommitsNone world.old world.new }
-    ensures told { OnOk result (AreTold guardians.now action.now world.new) }
-    ensures ends { EndsAll world.old world.new }
+fn tell<S: Stable>(
+    world: &mut World<S>,
+    action: &Name,
+    guardians: &BTreeSet<u32>,
+) -> Result<(), Fault>
+    requires { IsRun (opening_in world.old.run.lists) world.old.run.past }
+    ensures goes_on { GoesOn world.old.run world.new.run [] }
+    ensures commits { CommitsNone world.old.run world.new.run }
+    ensures told { OnOk result (AreTold guardians.now action.now world.new.run) }
+    ensures ends { EndsAll world.old.run world.new.run }
 {
     for guardian in guardians {
         try_step(world, Step::Tell(*guardian, action.copy()?))?;
@@ -336,13 +352,13 @@ fn begun_by(answer: Answer) -> Option<Name>
 }
 
 /// Asks a guardian for its vote on a top action; whether that is yes.
-fn prepare(world: &mut World, guardian: u32, top: &Name) -> Result<bool, AllocError>
-    requires { IsRun (opening_in world.old.lists) world.old.past }
-    ensures goes_on { GoesOn world.old world.new [] }
-    ensures commits { CommitsNone world.old world.new }
-    ensures after { OnOk result (IsAfter (Prepare guardian top.now) world.old world.new) }
-    ensures yes { IfOk result (λ yes. yes ≡ is_yes (answer_of (opening_in world.old.lists) (Prepare guardian top.now) world.old.past)) }
-    ensures ends { EndsAll world.old world.new }
+fn prepare<S: Stable>(world: &mut World<S>, guardian: u32, top: &Name) -> Result<bool, Fault>
+    requires { IsRun (opening_in world.old.run.lists) world.old.run.past }
+    ensures goes_on { GoesOn world.old.run world.new.run [] }
+    ensures commits { CommitsNone world.old.run world.new.run }
+    ensures after { OnOk result (IsAfter (Prepare guardian top.now) world.old.run world.new.run) }
+    ensures yes { IfOk result (λ yes. yes ≡ is_yes (answer_of (opening_in world.old.run.lists) (Prepare guardian top.now) world.old.run.past)) }
+    ensures ends { EndsAll world.old.run world.new.run }
 {
     let vote = make(world, Step::Prepare(guardian, top.copy()?))?;
     Ok(is_yes(vote))
@@ -355,15 +371,15 @@ fn is_yes(answer: Answer) -> bool
 }
 
 /// Makes a step; whether it was done.
-fn try_step(world: &mut World, step: Step) -> Result<bool, AllocError>
-    requires run { IsRun (opening_in world.old.lists) world.old.past }
+fn try_step<S: Stable>(world: &mut World<S>, step: Step) -> Result<bool, Fault>
+    requires run { IsRun (opening_in world.old.run.lists) world.old.run.past }
     requires step { IsNoTop step }
-    ensures goes_on { GoesOn world.old world.new [] }
-    ensures commits { CommitsBy step world.old world.new }
-    ensures after { OnOk result (IsAfter step world.old world.new) }
-    ensures done { IfOk result (λ done. done ≡ is_made (answer_of (opening_in world.old.lists) step world.old.past)) }
-    ensures aborts { OnOk result ((a : Name) → step ≡ Abort a → IsTrue (is_begun a world.old.past) → IsTrue (is_ended a world.new.past)) }
-    ensures ends { maker_in step ≡ None → EndsAll world.old world.new }
+    ensures goes_on { GoesOn world.old.run world.new.run [] }
+    ensures commits { CommitsBy step world.old.run world.new.run }
+    ensures after { OnOk result (IsAfter step world.old.run world.new.run) }
+    ensures done { IfOk result (λ done. done ≡ is_made (answer_of (opening_in world.old.run.lists) step world.old.run.past)) }
+    ensures aborts { OnOk result ((a : Name) → step ≡ Abort a → IsTrue (is_begun a world.old.run.past) → IsTrue (is_ended a world.new.run.past)) }
+    ensures ends { maker_in step ≡ None → EndsAll world.old.run world.new.run }
 {
     let answer = make(world, step)?;
     Ok(is_done(answer))
@@ -401,17 +417,17 @@ pub(crate) fn only(names: Names) -> Name
 }
 
 /// Makes a step that begins no top action of its own accord.
-fn make(world: &mut World, step: Step) -> Result<Answer, AllocError>
-    requires run { IsRun (opening_in world.old.lists) world.old.past }
+fn make<S: Stable>(world: &mut World<S>, step: Step) -> Result<Answer, Fault>
+    requires run { IsRun (opening_in world.old.run.lists) world.old.run.past }
     requires step { IsNoTop step }
-    ensures goes_on { GoesOn world.old world.new [] }
-    ensures commits { CommitsBy step world.old world.new }
-    ensures answer { IfOk result (λ answer. answer ≡ answer_of (opening_in world.old.lists) step world.old.past) }
-    ensures after { IfOk result (λ answer. world.new ≡ world_after world.old step answer) }
-    ensures err { OnErr result (world.new ≡ world.old) }
-    ensures began { IfOk result (λ answer. HaveBegun (names_begun answer) world.old world.new) }
-    ensures aborts { OnOk result ((a : Name) → step ≡ Abort a → IsTrue (is_begun a world.old.past) → IsTrue (is_ended a world.new.past)) }
-    ensures ends { maker_in step ≡ None → EndsAll world.old world.new }
+    ensures goes_on { GoesOn world.old.run world.new.run [] }
+    ensures commits { CommitsBy step world.old.run world.new.run }
+    ensures answer { IfOk result (λ answer. answer ≡ answer_of (opening_in world.old.run.lists) step world.old.run.past) }
+    ensures after { IfOk result (λ answer. world.new.run ≡ world_after world.old.run step answer) }
+    ensures err { OnErr result (world.new.run ≡ world.old.run) }
+    ensures began { IfOk result (λ answer. HaveBegun (names_begun answer) world.old.run world.new.run) }
+    ensures aborts { OnOk result ((a : Name) → step ≡ Abort a → IsTrue (is_begun a world.old.run.past) → IsTrue (is_ended a world.new.run.past)) }
+    ensures ends { maker_in step ≡ None → EndsAll world.old.run world.new.run }
 {
     world.step(&step)
 }

@@ -10,8 +10,9 @@ use crate::open_action::OpenAction;
 use atomic_types::Reply;
 use run_model::Answer;
 use script_model::{Binding, ObjectCall};
+use stable_store::Stable;
+use stable_world::{Fault, World};
 use std::alloc::AllocError;
-use world::World;
 
 /// What came of an operation.
 #[derive(Drop)]
@@ -23,24 +24,24 @@ pub(crate) enum Outcome {
 }
 
 /// Makes an operation, and binds what it replies.
-pub(crate) fn perform(
-    world: &mut World,
+pub(crate) fn perform<S: Stable>(
+    world: &mut World<S>,
     action: &OpenAction,
     frames: &mut Frames,
     call: &ObjectCall,
-) -> Result<Outcome, AllocError>
-    requires run { IsRun (opening_in world.old.lists) world.old.past }
+) -> Result<Outcome, Fault>
+    requires run { IsRun (opening_in world.old.run.lists) world.old.run.past }
     requires call { IsOp (sizes frames.old) call.now }
-    ensures goes_on { GoesOn world.old world.new [] }
-    ensures commits { CommitsNone world.old world.new }
-    ensures ends { EndsAll world.old world.new }
+    ensures goes_on { GoesOn world.old.run world.new.run [] }
+    ensures commits { CommitsNone world.old.run world.new.run }
+    ensures ends { EndsAll world.old.run world.new.run }
     ensures frames { IfOk result (λ done. IsOutcome done call.now.binding (sizes frames.old) (sizes frames.new)) }
 {
     let Some(operation) = frames.operation(&call.operation)? else {
         return Ok(Outcome::Refused);
     };
     match action.perform(world, call.object, operation)? {
-        Answer::Granted(reply) => bind(frames, call.binding, reply),
+        Answer::Granted(reply) => Ok(bind(frames, call.binding, reply)?),
         Answer::Waits(_) => Ok(Outcome::Waits),
         _ => Ok(Outcome::Refused),
     }

@@ -14,22 +14,23 @@ use crate::open_action::{OpenAction, Reached, only};
 use action_names::Name;
 use run_model::{Answer, Step};
 use script_model::{Checked, Client};
-use std::alloc::{AllocError, Global};
-use world::World;
+use stable_store::Stable;
+use stable_world::{Fault, World};
+use std::alloc::Global;
 
 /// Runs the clients of a script one after another, each to its end, and gives how they ended, in their order. The arms of a `coenter` are
 /// begun together and run in order. An operation that would wait aborts the enclosing top action.
 ///
-/// `Err` comes for want of memory alone. A client that lacks memory aborts its open actions, outwards, as far as there is memory for that,
-/// and the others are run all the same.
-pub fn run_serial(
+/// `Err` comes for want of memory, or where the store of a guardian failed. A client to which that happens aborts its open actions,
+/// outwards, as far as that succeeds, and the others are run all the same; the last such fault is answered.
+pub fn run_serial<S: Stable>(
     alloc: Global,
-    world: &mut World,
+    world: &mut World<S>,
     script: &Checked,
-) -> Result<Vec<ClientEnd>, AllocError>
+) -> Result<Vec<ClientEnd>, Fault>
     requires { IsResolved script.now }
-    ensures ok { IfOk result (λ ends. AreRun script.now.clients world.old world.new ends.items) }
-    ensures err { OnErr result ((tops : List names.Name) × GoesOn world.old world.new tops) }
+    ensures ok { IfOk result (λ ends. AreRun script.now.clients world.old.run world.new.run ends.items) }
+    ensures err { OnErr result ((tops : List names.Name) × GoesOn world.old.run world.new.run tops) }
 {
     // so that what happened before is known to be a run
     let _ = world.history();
@@ -38,7 +39,10 @@ pub fn run_serial(
     let mut fault = Ok(());
     for client in clients {
         match run_client(alloc, world, script, client) {
-            Ok(end) => ends.push(end)?,
+            Ok(end) => {
+                ends.reserve(1)?;
+                ends.push_reserved(end);
+            }
             Err(error) => fault = Err(error),
         }
     }
@@ -46,18 +50,18 @@ pub fn run_serial(
     Ok(ends)
 }
 
-fn run_client(
+fn run_client<S: Stable>(
     alloc: Global,
-    world: &mut World,
+    world: &mut World<S>,
     script: &Checked,
     client: &Client,
-) -> Result<ClientEnd, AllocError>
+) -> Result<ClientEnd, Fault>
     requires script { IsResolved script.now }
     requires client { IsTrue (is_resolved_client script.now client.now) }
-    requires run { IsRun (opening_in world.old.lists) world.old.past }
-    ensures ok { IfOk result (λ end. ClientRan client.now.home world.old world.new end) }
-    ensures commits { CommitsNone world.old world.new }
-    ensures err { OnErr result ((tops : List names.Name) × GoesOn world.old world.new tops) }
+    requires run { IsRun (opening_in world.old.run.lists) world.old.run.past }
+    ensures ok { IfOk result (λ end. ClientRan client.now.home world.old.run world.new.run end) }
+    ensures commits { CommitsNone world.old.run world.new.run }
+    ensures err { OnErr result ((tops : List names.Name) × GoesOn world.old.run world.new.run tops) }
 {
     let reached = Reached::new(alloc, client.home)?;
     let Some(name) = begin_top(world, client.home)? else {
@@ -71,10 +75,10 @@ fn run_client(
 }
 
 /// Begins a top action at a guardian; none where that is refused.
-fn begin_top(world: &mut World, home: u32) -> Result<Option<Name>, AllocError>
-    requires { IsRun (opening_in world.old.lists) world.old.past }
-    ensures made { IfOk result (λ found. TopMade home world.old world.new found) }
-    ensures err { OnErr result (world.new ≡ world.old) }
+fn begin_top<S: Stable>(world: &mut World<S>, home: u32) -> Result<Option<Name>, Fault>
+    requires { IsRun (opening_in world.old.run.lists) world.old.run.past }
+    ensures made { IfOk result (λ found. TopMade home world.old.run world.new.run found) }
+    ensures err { OnErr result (world.new.run ≡ world.old.run) }
 {
     match world.step(&Step::Top(home))? {
         Answer::Began(names) => Ok(Some(only(names))),

@@ -1,24 +1,65 @@
 //! Running a command on files.
 
-use crate::stores::open_stores;
+ghost use Rattle.std.specs.Prelude.{◌≡◌, length};
+
+use crate::stores::{open_stores, stores_in};
 use argus_engine::{Ended, Fault, check_script, explain_text, read_script, steps as answer_steps};
 use command_line::request::{Check, Run, Steps};
 use run_model::{Setup, SetupFault};
 use script_engine::{run_script, run_stored};
+use stable_store::Stable;
+use stable_world::{Refused, World};
 use std::process::ExitCode;
 use std::{fs, io};
-use world::World;
 
 /// The file that is standard input.
 const STANDARD_INPUT: &str = "-";
 
-/// Makes the steps of a file in a new world of the setup, and writes their answers to standard output, and after them what is to be
-/// explained. The status is 1 where the setup is none, or a line is no step; then nothing is explained.
+/// Makes the steps of a file in a world of the setup, and writes their answers to standard output, and after them what is to be
+/// explained. The world is a new one, in memory or over new stores in a folder, or one that goes on from the stores there. The status is 1 where
+/// the setup is none, where the stores cannot be used, or a line is no step; then nothing is explained.
 pub fn steps(rt: &HostRuntime, given: &Steps<'_>) -> Result<ExitCode, Fault> {
     let Some(setup) = read_setup(rt, given.setup)? else {
         return refuse(rt, "error setup");
     };
-    let mut world = World::new(rt.alloc(), setup)?;
+    match given.store {
+        None if given.reopen => refuse(rt, "error store"),
+        None => answer(rt, World::in_memory(rt.alloc(), setup)?, given),
+        Some(folder) => match stores_in(rt, folder, setup.guardians(), given.reopen)? {
+            Some(stores) => answer_over(rt, setup, stores, given),
+            None => refuse(rt, "error store"),
+        },
+    }
+}
+
+/// Makes the steps in a world over these stores, new ones or those that a stop left.
+fn answer_over<S: Stable>(
+    rt: &HostRuntime,
+    setup: Setup,
+    stores: Vec<S>,
+    given: &Steps<'_>,
+) -> Result<ExitCode, Fault>
+    requires { length stores.items ≡ length setup }
+{
+    let opened = if given.reopen {
+        World::reopen(rt.alloc(), setup, stores)
+    } else {
+        World::begin(rt.alloc(), setup, stores)
+    };
+    match opened {
+        Ok(world) => answer(rt, world, given),
+        Err((Refused::NotOurs, _)) => refuse(rt, "error store"),
+        Err((Refused::Memory, _)) => Err(Fault::Memory),
+        Err((Refused::Stable, _)) => Err(Fault::Store),
+    }
+}
+
+/// Makes the steps in the world, and writes what is to be written of them.
+fn answer<S: Stable>(
+    rt: &HostRuntime,
+    mut world: World<S>,
+    given: &Steps<'_>,
+) -> Result<ExitCode, Fault> {
     match (answer_file(rt, &mut world, given.file)?, given.explain) {
         (Ended::Stopped, _) => Ok(ExitCode::FAILURE),
         (Ended::Done, None) => Ok(ExitCode::SUCCESS),
@@ -72,7 +113,11 @@ fn refuse(rt: &HostRuntime, why: &str) -> Result<ExitCode, Fault> {
 }
 
 /// Makes the steps of a file in the world, and writes their answers.
-fn answer_file(rt: &HostRuntime, world: &mut World, file: &str) -> Result<Ended, Fault> {
+fn answer_file<S: Stable>(
+    rt: &HostRuntime,
+    world: &mut World<S>,
+    file: &str,
+) -> Result<Ended, Fault> {
     if file == STANDARD_INPUT {
         let mut input = rt.reader();
         return answer_steps(rt.alloc(), world, &mut input, &mut io::writer(rt));

@@ -1,4 +1,4 @@
-//! The files in which the objects of a script are kept: `gN.db` of the folder for guardian N.
+//! The files in which guardians keep their stores: `gN.db` of the folder for guardian N.
 
 ghost use Rattle.std.specs.Prelude.{◌≡◌, IfOk, IfSome, length};
 
@@ -8,6 +8,8 @@ use script_engine::can_open;
 use sql_store::SqlStable;
 use sqlite::{Connection, Error, ErrorCode, File, FileStore};
 use stable_store::StoreFault;
+use std::fs;
+use std::io::ErrorKind;
 
 /// A store in a file.
 pub type FileStable = SqlStable<FileStore<File>>;
@@ -33,6 +35,55 @@ pub fn open_stores(
         stores.push(store)?;
     }
     Ok(Some(stores))
+}
+
+/// The stores of so many guardians, in order, in files of the folder: new ones, or where they are to be opened again those that are there. `None`
+/// where a file is there that is to be made, or is not there and is to be opened again, and where a file holds no store.
+pub fn stores_in(
+    rt: &HostRuntime,
+    folder: &str,
+    guardians: usize,
+    reopen: bool,
+) -> Result<Option<Vec<FileStable>>, Fault>
+    ensures { IfOk result (λ found. IfSome found (λ stores. length stores.items ≡ guardians)) }
+{
+    if !all_are_so(rt, folder, guardians, reopen)? {
+        return Ok(None);
+    }
+    let mut stores = Vec::new(rt.alloc());
+    for index in 0..guardians {
+        let path = format!(in rt.alloc(); "{folder}/g{}.db", index + 1)?;
+        let Some(store) = open_store(rt, path.as_str())? else {
+            return Ok(None);
+        };
+        stores.push(store)?;
+    }
+    Ok(Some(stores))
+}
+
+/// Whether the files of so many guardians are all there, or none of them is.
+fn all_are_so(
+    rt: &HostRuntime,
+    folder: &str,
+    guardians: usize,
+    are_there: bool,
+) -> Result<bool, Fault> {
+    for index in 0..guardians {
+        let path = format!(in rt.alloc(); "{folder}/g{}.db", index + 1)?;
+        if is_there(rt, path.as_str())? != are_there {
+            return Ok(false);
+        }
+    }
+    Ok(true)
+}
+
+/// Whether there is a file of this path.
+fn is_there(rt: &HostRuntime, path: &str) -> Result<bool, Fault> {
+    match fs::exists(rt, path) {
+        Ok(is_there) => Ok(is_there),
+        Err(error) if error.kind() == ErrorKind::OutOfMemory => Err(Fault::Memory),
+        Err(_) => Err(Fault::Store),
+    }
 }
 
 /// The store in a file; `None` where the file has none.

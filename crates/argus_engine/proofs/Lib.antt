@@ -4,3 +4,4 @@ pub mod Progressed
 pub mod Bytes
 pub mod Explanations
 pub mod Judgements
+pub mod Stepped

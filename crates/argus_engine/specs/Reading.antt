@@ -13,7 +13,7 @@ use Rattle.run_model.specs.Reading.{Lacks}
 use Rattle.argus_engine.specs.declared.reading.Line.{Line}
 use Rattle.argus_engine.specs.declared.reading.Line.TheVariants as line
 use Rattle.argus_engine.specs.declared.engine.Fault.{Fault}
-use Rattle.argus_engine.specs.declared.engine.Fault.TheVariants.{Memory, Input}
+use Rattle.argus_engine.specs.declared.engine.Fault.TheVariants.{Memory, Input, Store}
 use Rattle.argus_engine.specs.declared.engine.Next.{Next}
 use Rattle.argus_engine.specs.declared.engine.Next.TheVariants.{Answered, NoStep, End}
 use Rattle.argus_engine.specs.Serving.{Gives, step_lines}
@@ -25,6 +25,14 @@ FacesNoStep input = (text : List ℕ) × Gives input text × (text ≢ []) × (B
 -- want of memory, or a fault of the reader
 abbrev pub IsOfReader : Fault → Type 0
 IsOfReader fault = (fault ≡ Memory) ⊎ (fault ≡ Input)
+
+-- want of memory, or a fault of a guardian's store
+abbrev pub IsOfStep : Fault → Type 0
+IsOfStep fault = (fault ≡ Memory) ⊎ (fault ≡ Store)
+
+-- a fault of the reader, or of the step that was read
+abbrev pub IsOfReaderOrStep : Fault → Type 0
+IsOfReaderOrStep fault = (fault ≡ Input) ⊎ IsOfStep fault
 
 -- what was read: a line with its line feed, or the front of something else, or nothing
 abbrev pub ReadsLine : Option (List ℕ) → Option (List ℕ) → List ℕ → Line → Type 0

@@ -13,6 +13,8 @@ use Rattle.argus_engine.specs.declared.engine.Fault.TheVariants.{Memory, Output,
 use Rattle.stable_store.specs.declared.fault.StoreFault.{StoreFault}
 use Rattle.run_model.specs.Openings.{opening_in}
 use Rattle.stable_store.specs.declared.fault.StoreFault.TheVariants as store
+use Rattle.layer_contracts.specs.declared.guardian.Fault.{Fault as StepFault}
+use Rattle.layer_contracts.specs.declared.guardian.Fault.TheVariants as of_step
 
 -- the bytes of a reader, where they are known, are this text
 abbrev pub Gives : Option (List ℕ) → List ℕ → Type 0
@@ -67,6 +69,11 @@ abbrev pub fault_of : StoreFault → Fault
 fault_of store.Memory = Memory
 fault_of store.Failed = Store
 fault_of store.NotOurs = Store
+
+-- and what the fault of a step is
+abbrev pub fault_of_step : StepFault → Fault
+fault_of_step of_step.Memory = Memory
+fault_of_step of_step.Stable = Store
 
 -- What was written is a beginning of what belongs to all that the reader gives; and it is a beginning of what belongs to some
 -- beginning of it.

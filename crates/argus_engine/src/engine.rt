@@ -1,18 +1,19 @@
-ghost use Rattle.std.specs.Prelude.{◌≡◌, ◌≢◌, IfErr, IfOk, OnOk, OnErr, string_bytes, ◌++◌, ◌∷◌, []};
+ghost use Rattle.std.specs.Prelude.{◌≡◌, IfErr, IfOk, IsErrOf, OnOk, OnErr, string_bytes, ◌++◌, ◌∷◌, []};
 ghost use Rattle.run_model.specs.Texts.{answer_text};
 ghost use Rattle.run_model.specs.Transcripts.{error_text, line_feed};
 ghost use Rattle.argus_engine.specs.Serving.{Answers, BeginsAnswers, Writes};
-ghost use Rattle.argus_engine.specs.Reading.{AnswersLine, GoesOn, IsOfReader};
+ghost use Rattle.argus_engine.specs.Reading.{AnswersLine, GoesOn, IsOfReaderOrStep, IsOfStep};
+ghost use Rattle.argus_engine.specs.Stepping.{FailsAtStore, HasMade};
 ghost use Rattle.argus_engine.specs.declared.engine.Fault.TheVariants.{Store};
 
 use crate::reading::{Line, read_line};
 use crate::writing::{finish, send_if_full};
 use run_model::{Answer, Step};
-use stable_store::StoreFault;
+use stable_store::{Stable, StoreFault};
+use stable_world::World;
 use std::alloc::{AllocError, AllocFailed, Global};
 use std::io::{BufReader, Read, Write};
 use thiserror::Error;
-use world::World;
 
 /// How the engine came to its end.
 #[derive(Clone, Copy, Debug, PartialEq, Eq, Drop)]
@@ -76,6 +77,20 @@ impl From<StoreFault> for Fault {
     }
 }
 
+impl From<stable_world::Fault> for Fault {
+    ghost use Rattle.std.specs.Prelude.{◌≡◌};
+    ghost use Rattle.argus_engine.specs.Serving.{fault_of_step};
+
+    ghost from_gives = { λ fault e. e ≡ fault_of_step fault };
+
+    fn from(fault: stable_world::Fault) -> Fault {
+        match fault {
+            stable_world::Fault::Memory => Fault::Memory,
+            stable_world::Fault::Stable => Fault::Store,
+        }
+    }
+}
+
 /// What came of looking for one more line.
 #[derive(Clone, Copy, Drop)]
 pub(crate) enum Next {
@@ -87,20 +102,22 @@ pub(crate) enum Next {
 /// Reads steps to the end or to the first line that is no step, makes each in the world, and writes the line of each
 /// answer, or `error` with the line's number, after which nothing more is written. A line is ended by a line feed and has
 /// at most 8,192 bytes before it. After a fault a beginning was written of the answers that belong to the input, and of those
-/// that belong to some beginning of it; of the world it is then said that its setup is the same and its history a run.
-pub fn steps<R: Read, W: Write>(
+/// that belong to some beginning of it; of the world it is then said that its setup is the same and its history a run. `Store` comes only
+/// where a step failed at the store of a guardian, which then has counted one failure more; the world and the contents of the stores are as the
+/// steps before left them.
+pub fn steps<S: Stable, R: Read, W: Write>(
     alloc: Global,
-    world: &mut World,
+    world: &mut World<S>,
     reader: &mut R,
     writer: &mut W,
 ) -> Result<Ended, Fault>
     ensures ok { IfOk result (λ ended. Writes (W.contents writer.old) (W.contents writer.new)
-        (λ written. Answers (R.remaining reader.old) world.old world.new written ended)) }
+        (λ written. Answers (R.remaining reader.old) world.old.run world.new.run written ended)) }
     // also after a fault
     ensures begun { Writes (W.contents writer.old) (W.contents writer.new)
-        (λ written. BeginsAnswers (R.remaining reader.old) world.old written) }
-    ensures setup { world.new.lists ≡ world.old.lists }
-    ensures fault { IfErr result (λ fault. fault ≢ Store) }
+        (λ written. BeginsAnswers (R.remaining reader.old) world.old.run written) }
+    ensures setup { world.new.run.lists ≡ world.old.run.lists }
+    ensures cause { IsErrOf result Store → FailsAtStore S.seen world.old world.new }
 {
     let Ok(mut buffered) = BufReader::new(alloc, reader) else {
         return Err(Fault::Memory);
@@ -114,20 +131,20 @@ pub fn steps<R: Read, W: Write>(
 }
 
 /// Answers line after line. Answers that are not yet written are left in the text, also after a fault.
-fn answer_all<R: Read, W: Write>(
+fn answer_all<S: Stable, R: Read, W: Write>(
     alloc: Global,
-    world: &mut World,
+    world: &mut World<S>,
     reader: &mut R,
     writer: &mut W,
     answers: &mut String,
 ) -> Result<Ended, Fault>
     requires { string_bytes answers.old ≡ [] }
     ensures ok { IfOk result (λ ended. Writes (W.contents writer.old) (W.contents writer.new)
-        (λ sent. Answers (R.remaining reader.old) world.old world.new (sent ++ string_bytes answers.new) ended)) }
+        (λ sent. Answers (R.remaining reader.old) world.old.run world.new.run (sent ++ string_bytes answers.new) ended)) }
     ensures begun { Writes (W.contents writer.old) (W.contents writer.new)
-        (λ sent. BeginsAnswers (R.remaining reader.old) world.old (sent ++ string_bytes answers.new)) }
-    ensures setup { world.new.lists ≡ world.old.lists }
-    ensures fault { IfErr result (λ fault. fault ≢ Store) }
+        (λ sent. BeginsAnswers (R.remaining reader.old) world.old.run (sent ++ string_bytes answers.new)) }
+    ensures setup { world.new.run.lists ≡ world.old.run.lists }
+    ensures cause { IsErrOf result Store → FailsAtStore S.seen world.old world.new }
 {
     let mut line = Vec::new(alloc);
     for number in 1..u64::MAX {
@@ -146,18 +163,20 @@ fn answer_all<R: Read, W: Write>(
 
 /// Reads one line, makes its step and appends the line of its answer. After a fault the text is as it was.
 #[tactic(auto, using(crate::proofs::Bytes::line_is_no_step))]
-fn answer_next<R: Read>(
+fn answer_next<S: Stable, R: Read>(
     alloc: Global,
-    world: &mut World,
+    world: &mut World<S>,
     reader: &mut R,
     line: &mut Vec<u8>,
     answers: &mut String,
 ) -> Result<Next, Fault>
-    ensures ok { IfOk result (λ next. GoesOn (R.remaining reader.old) (R.remaining reader.new) world.old world.new
+    ensures ok { IfOk result (λ next. GoesOn (R.remaining reader.old) (R.remaining reader.new) world.old.run world.new.run
         (string_bytes answers.old) (string_bytes answers.new) next) }
     ensures err { OnErr result (string_bytes answers.new ≡ string_bytes answers.old) }
-    ensures setup { world.new.lists ≡ world.old.lists }
-    ensures fault { IfErr result IsOfReader }
+    ensures setup { world.new.run.lists ≡ world.old.run.lists }
+    ensures made { OnOk result (HasMade S.seen world.old world.new) }
+    ensures fault { IfErr result IsOfReaderOrStep }
+    ensures cause { IsErrOf result Store → FailsAtStore S.seen world.old world.new }
 {
     match read_line(reader, line)? {
         Line::Whole => match answer_line(alloc, world, line, answers)? {
@@ -170,16 +189,19 @@ fn answer_next<R: Read>(
 }
 
 /// Makes the step that the line spells and appends the line of its answer; `false` where the line spells no step. After a
-/// refusal of memory the text is as it was.
-fn answer_line(
+/// fault the text is as it was.
+fn answer_line<S: Stable>(
     alloc: Global,
-    world: &mut World,
+    world: &mut World<S>,
     line: &[u8],
     answers: &mut String,
-) -> Result<bool, AllocError>
-    ensures ok { IfOk result (AnswersLine line.now world.old world.new (string_bytes answers.old) (string_bytes answers.new)) }
+) -> Result<bool, Fault>
+    ensures ok { IfOk result (AnswersLine line.now world.old.run world.new.run (string_bytes answers.old) (string_bytes answers.new)) }
     ensures err { OnErr result (string_bytes answers.new ≡ string_bytes answers.old) }
-    ensures setup { world.new.lists ≡ world.old.lists }
+    ensures setup { world.new.run.lists ≡ world.old.run.lists }
+    ensures made { OnOk result (HasMade S.seen world.old world.new) }
+    ensures fault { IfErr result IsOfStep }
+    ensures cause { IsErrOf result Store → FailsAtStore S.seen world.old world.new }
 {
     let Some(step) = Step::read(alloc, line)? else {
         return Ok(false);

@@ -23,10 +23,10 @@ optional id = record (new_rule id) { long = Some id; value_names = 1 }
 abbrev pub flag : Text → Rule
 flag id = record (new_rule id) { long = Some id; action = Some SetTrue }
 
--- `steps [--explain ACTION] SETUP FILE`
+-- `steps [--explain ACTION] [--store DIR] [--reopen] SETUP FILE`
 abbrev pub steps_app : App
-steps_app = with_rule (with_rule (with_rule (new_app (codes "steps")) (needed (codes "SETUP"))) (needed (codes "FILE")))
-    (optional (codes "explain"))
+steps_app = with_rule (with_rule (with_rule (with_rule (with_rule (new_app (codes "steps")) (needed (codes "SETUP"))) (needed (codes "FILE")))
+    (optional (codes "explain"))) (optional (codes "store"))) (flag (codes "reopen"))
 
 -- `check SCRIPT`
 abbrev pub check_app : App
@@ -45,18 +45,20 @@ bare_app =
 abbrev pub argus_app : App
 argus_app = with_subcommand (with_subcommand (with_subcommand bare_app steps_app.top) check_app.top) run_app.top
 
+-- the flag is set where its value is `true`
+abbrev pub IsFlag : Text → List Row → Bool → Type 0
+IsFlag id rows is_set = IsTrue is_set ↔ (one_of id rows ≡ Some (codes "true"))
+
 -- what the command is given stands in the rows of the subcommand
 pub record IsStepsGiven (rows : List Row) (given : Steps) : Type 0 where
   pub setup : first_of (codes "SETUP") rows ≡ Some given.setup.now
   pub file : first_of (codes "FILE") rows ≡ Some given.file.now
   pub explain : first_of (codes "explain") rows ≡ option_map (λ word. word.now) given.explain
+  pub store : first_of (codes "store") rows ≡ option_map (λ word. word.now) given.store
+  pub reopen : IsFlag (codes "reopen") rows given.reopen
 
 pub record IsCheckGiven (rows : List Row) (given : Check) : Type 0 where
   pub script : first_of (codes "SCRIPT") rows ≡ Some given.script.now
-
--- the flag is set where its value is `true`
-abbrev pub IsFlag : Text → List Row → Bool → Type 0
-IsFlag id rows is_set = IsTrue is_set ↔ (one_of id rows ≡ Some (codes "true"))
 
 pub record IsRunGiven (rows : List Row) (given : Run) : Type 0 where
   pub script : first_of (codes "SCRIPT") rows ≡ Some given.script.now

@@ -57,6 +57,8 @@ fn steps_given<'a>(found: &ArgMatches<'a>) -> Option<request::Steps<'a>>
         setup: found.get_str("SETUP")?,
         file: found.get_str("FILE")?,
         explain: found.get_str("explain"),
+        store: found.get_str("store"),
+        reopen: is_set(found, "reopen"),
     })
 }
 
@@ -123,6 +125,17 @@ fn steps<'a>(alloc: Global) -> Result<clap::Command<'a>, AllocError>
             "explain",
             "ACTION",
             "Writes, after the answers, what the action sees, by place in the serial order",
+        ))?
+        .arg(optional(
+            alloc,
+            "store",
+            "DIR",
+            "Keeps the stable store of guardian N in DIR/gN.db, a new file",
+        ))?
+        .arg(flag(
+            alloc,
+            "reopen",
+            "Goes on from the stores in DIR after a stop, in place of making new ones",
         ))
 }
 

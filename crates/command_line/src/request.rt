@@ -20,6 +20,10 @@ pub struct Steps<'a> {
     pub file: &'a str,
     /// The action to explain after the answers.
     pub explain: Option<&'a str>,
+    /// The folder that keeps the guardians' stores; with none they last as long as the run.
+    pub store: Option<&'a str>,
+    /// Whether the stores that are there are opened again; else they are made.
+    pub reopen: bool,
 }
 
 /// What the checking of a script is given.

@@ -11,8 +11,9 @@ use crate::stores::{Database, keep_database, run_in_memory, run_over_stores};
 use crate::text::unescaped_text;
 use rows::{Row, RowFault, Subject};
 use run_model::Setup;
+use stable_store::PlainStable;
+use stable_world::World;
 use std::alloc::{AllocError, Global};
-use world::World;
 
 /// What the rows of a section have given, and its world.
 #[derive(Drop)]
@@ -29,13 +30,13 @@ pub(crate) struct Examples {
     /// The databases of the stores.
     pub(crate) databases: Vec<Database>,
     /// The world in which steps are made.
-    pub(crate) world: World,
+    pub(crate) world: World<PlainStable>,
 }
 
 impl Examples {
     /// Nothing is given, and the world has no guardian.
     pub(crate) fn new(alloc: Global) -> Result<Examples, AllocError> {
-        let world = World::new(alloc, Setup::new(alloc))?;
+        let world = World::in_memory(alloc, Setup::new(alloc))?;
         Ok(Examples {
             alloc,
             setup: String::new(alloc),

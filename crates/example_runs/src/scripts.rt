@@ -5,6 +5,7 @@ ghost use Rattle.script_engine.specs.Running.{IsFit};
 
 use crate::examples::Examples;
 use crate::pieces::Writer;
+use crate::stepping::fault_of_step;
 use crate::text::unescaped_text;
 use activities::run_serial;
 use argus_engine::{Ended, Fault, check_script, read_script, steps};
@@ -13,8 +14,8 @@ use run_model::History;
 use script::{Checked, ScriptFault, check, read};
 use script_engine::{run_script, setup_of};
 use script_model::{FaultKind, Pointer};
+use stable_world::World;
 use std::alloc::{AllocError, Global};
-use world::World;
 
 /// The steps of a run and their answers, a line each.
 #[derive(Drop)]
@@ -126,13 +127,13 @@ pub(crate) fn remake_steps(examples: &Examples, answer: &mut String) -> Result<(
 }
 
 /// What a run of the script makes.
-fn made(alloc: Global, script: &Checked) -> Result<Lines, AllocError>
+fn made(alloc: Global, script: &Checked) -> Result<Lines, RowFault>
     requires fits { IsFit script.now }
     requires resolved { IsResolved script.now }
 {
-    let mut world = World::new(alloc, setup_of(alloc, script)?)?;
-    run_serial(alloc, &mut world, script)?;
-    lines_of(alloc, world.history())
+    let mut world = World::in_memory(alloc, setup_of(alloc, script)?)?;
+    run_serial(alloc, &mut world, script).map_err(fault_of_step)?;
+    Ok(lines_of(alloc, world.history())?)
 }
 
 fn lines_of(alloc: Global, history: &History) -> Result<Lines, AllocError> {
@@ -151,7 +152,7 @@ fn lines_of(alloc: Global, history: &History) -> Result<Lines, AllocError> {
 fn answers_again(alloc: Global, script: &Checked, made: &str) -> Result<Vec<u8>, Fault>
     requires { IsFit script.now }
 {
-    let mut world = World::new(alloc, setup_of(alloc, script)?)?;
+    let mut world = World::in_memory(alloc, setup_of(alloc, script)?)?;
     let mut reader = made.as_bytes();
     let mut written = Vec::new(alloc);
     steps(alloc, &mut world, &mut reader, &mut written)?;

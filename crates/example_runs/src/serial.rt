@@ -1,12 +1,13 @@
 //! Rows of what `run_serial` makes and leaves.
 use crate::examples::Examples;
 use crate::scripts::script_of;
-use crate::stepping::world_of;
+use crate::stepping::{fault_of_step, world_of};
 use activities::{ClientEnd, run_serial};
 use rows::{Row, RowFault, Words};
 use run_model::{Answer, ObjectId, Step};
+use stable_store::{PlainStable, Stable};
+use stable_world::World;
 use std::alloc::{AllocError, Global};
-use world::World;
 
 /// `serial COUNT`: how the clients of the section's script end in so many runs in one new world, which the section then has.
 pub(crate) fn run_clients(
@@ -20,11 +21,15 @@ pub(crate) fn run_clients(
 }
 
 /// A new world after so many runs of the section's script.
-fn world_after(examples: &Examples, count: u64, answer: &mut String) -> Result<World, RowFault> {
+fn world_after(
+    examples: &Examples,
+    count: u64,
+    answer: &mut String,
+) -> Result<World<PlainStable>, RowFault> {
     let script = script_of(examples.alloc, examples.script.as_str())?;
     let mut world = world_of(examples.alloc, examples.setup.as_str())?;
     for _ in 0..count {
-        let ends = run_serial(examples.alloc, &mut world, &script)?;
+        let ends = run_serial(examples.alloc, &mut world, &script).map_err(fault_of_step)?;
         push_ends(ends.as_slice(), answer)?;
     }
     Ok(world)
@@ -114,9 +119,9 @@ pub(crate) fn probe_locks(
     Err(RowFault::Memory)
 }
 
-fn push_probes(
+fn push_probes<S: Stable>(
     alloc: Global,
-    world: &mut World,
+    world: &mut World<S>,
     probes: &str,
     answer: &mut String,
 ) -> Result<(), RowFault> {
@@ -131,9 +136,9 @@ fn push_probes(
 }
 
 /// Writes the answer of a new top action's operation, given as it stands behind the action's name.
-fn push_probe(
+fn push_probe<S: Stable>(
     alloc: Global,
-    world: &mut World,
+    world: &mut World<S>,
     guardian: u32,
     operation: &str,
     answer: &mut String,
@@ -142,17 +147,19 @@ fn push_probe(
     let Some(step) = Step::read(alloc, line.as_bytes())? else {
         return Err(RowFault::Unread);
     };
-    Ok(world.step(&step)?.write_to(answer)?)
+    let given = world.step(&step).map_err(fault_of_step)?;
+    Ok(given.write_to(answer)?)
 }
 
 /// The line of an operation by a new top action.
-fn operation_line(
+fn operation_line<S: Stable>(
     alloc: Global,
-    world: &mut World,
+    world: &mut World<S>,
     guardian: u32,
     operation: &str,
 ) -> Result<String, RowFault> {
-    let Answer::Began(names) = world.step(&Step::Top(guardian))? else {
+    let begun = world.step(&Step::Top(guardian)).map_err(fault_of_step)?;
+    let Answer::Began(names) = begun else {
         return Err(RowFault::Unread);
     };
     let mut line = String::from_str(alloc, "op")?;

@@ -5,9 +5,10 @@ use crate::text::{escape, unescaped, unescaped_text};
 use argus_engine::{Fault, explain_text, steps};
 use rows::{Row, RowFault, Words};
 use run_model::{Answer, Setup, SetupFault, Step};
+use stable_store::{PlainStable, Stable};
+use stable_world::World;
 use std::alloc::{AllocError, Global};
 use std::str;
-use world::World;
 
 /// `setup DOCUMENT`: the section has this setup, and a new world of it.
 pub(crate) fn keep_setup(examples: &mut Examples, document: &str) -> Result<(), RowFault> {
@@ -18,9 +19,9 @@ pub(crate) fn keep_setup(examples: &mut Examples, document: &str) -> Result<(), 
 }
 
 /// A new world of a setup's document.
-pub(crate) fn world_of(alloc: Global, document: &str) -> Result<World, RowFault> {
+pub(crate) fn world_of(alloc: Global, document: &str) -> Result<World<PlainStable>, RowFault> {
     match Setup::read(alloc, document.as_bytes()) {
-        Ok(setup) => Ok(World::new(alloc, setup)?),
+        Ok(setup) => Ok(World::in_memory(alloc, setup)?),
         Err(SetupFault::Memory) => Err(RowFault::Memory),
         Err(SetupFault::Bad) => Err(RowFault::Unread),
     }
@@ -46,17 +47,25 @@ pub(crate) fn lengthen_steps(
     Ok(())
 }
 
+/// What a row says of the fault of a step: a store that failed was not asked for.
+pub(crate) fn fault_of_step(fault: stable_world::Fault) -> RowFault {
+    match fault {
+        stable_world::Fault::Memory => RowFault::Memory,
+        stable_world::Fault::Stable => RowFault::Unread,
+    }
+}
+
 /// `step LINE`: the answer of the section's world to the step.
-pub(crate) fn make_step(
+pub(crate) fn make_step<S: Stable>(
     alloc: Global,
-    world: &mut World,
+    world: &mut World<S>,
     line: &str,
     answer: &mut String,
 ) -> Result<(), RowFault> {
     let Some(step) = Step::read(alloc, line.as_bytes())? else {
         return Err(RowFault::Unread);
     };
-    let given = world.step(&step)?;
+    let given = world.step(&step).map_err(fault_of_step)?;
     // the step is made: only its answer's text can be asked for once more
     if given.write_to(answer).is_err() {
         given.write_to(answer)?;
@@ -69,7 +78,7 @@ pub(crate) fn list_answers(examples: &Examples, answer: &mut String) -> Result<(
     let list = list_of(examples.alloc, examples.steps.as_slice())?;
     let mut world = world_of(examples.alloc, examples.setup.as_str())?;
     let mut answers: Vec<Answer> = Vec::new(examples.alloc);
-    run_list(&mut world, list.as_slice(), &mut answers)?;
+    run_list(&mut world, list.as_slice(), &mut answers).map_err(fault_of_step)?;
     for given in &answers {
         let line = given.text(examples.alloc)?;
         escape(line.as_str(), answer)?;
@@ -93,14 +102,18 @@ fn list_of(alloc: Global, lines: &[u8]) -> Result<Vec<Step>, RowFault> {
 
 /// Makes the steps one after another, and appends their answers. Where memory was refused, the steps that have an
 /// answer are made, and only the others are asked again.
-fn run_list(world: &mut World, list: &[Step], answers: &mut Vec<Answer>) -> Result<(), AllocError> {
+fn run_list<S: Stable>(
+    world: &mut World<S>,
+    list: &[Step],
+    answers: &mut Vec<Answer>,
+) -> Result<(), stable_world::Fault> {
     let before = answers.len();
     if world.run(list, answers).is_ok() {
         return Ok(());
     }
     match list.get(answers.len() - before..) {
         Some(left) => world.run(left, answers),
-        None => Err(AllocError),
+        None => Err(stable_world::Fault::Memory),
     }
 }
 

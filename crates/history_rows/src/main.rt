@@ -1,5 +1,5 @@
-//! Tests of `run_model`, `history_facts` and `plain_tables`, as rows of data. In a section a setup and an opening are put together and a
-//! history grows, row by row; other rows read and write steps and answers, ask what the history says, or ask the tables of the world that makes its steps.
+//! Tests of `run_model` and `history_facts`, and of worlds that are opened again from stores, as rows of data. In a section a setup and an opening
+//! are put together and a history grows, row by row; other rows read and write steps and answers, or ask what the history says.
 #![tactic(auto)]
 
 mod answers;
@@ -9,7 +9,6 @@ mod past;
 mod reading;
 mod setups;
 mod steps;
-mod tables;
 mod telling;
 
 use openings::Openings;
@@ -56,7 +55,6 @@ impl Subject for HistoryRows {
             "opening" => self.openings.answer(alloc, &self.setup, words, answer),
             "fact" => facts::answer(alloc, &self.opening()?, self.past.history(), words, answer),
             "told" => telling::answer(alloc, self.past.history(), words, answer),
-            "table" => tables::answer(alloc, self.opening()?, self.past.history(), words, answer),
             _ => answer_alone(alloc, row, answer),
         }
     }

@@ -1,4 +1,4 @@
-//! An opening that is put together part by part, and a world that goes on from it.
+//! An opening that is put together part by part.
 ghost use Rattle.std.specs.Prelude.{◌≤◌, IsTrue, length};
 ghost use Rattle.run_model.specs.Openings.{objects_at};
 
@@ -6,7 +6,6 @@ use crate::{reading, setups};
 use rows::{RowFault, Words, again};
 use run_model::{Content, Held, ObjectId, Opening, Part, Setup, Step};
 use std::alloc::{AllocError, Global};
-use world::World;
 
 /// A part of an object, as the store of its guardian held it.
 #[derive(Drop)]
@@ -15,12 +14,11 @@ struct HeldPart {
     part: Part,
 }
 
-/// What the stores of a section's guardians held, the first number of a top action, and the world that goes on from it, once it began.
+/// What the stores of a section's guardians held, and the first number of a top action.
 #[derive(Drop)]
 pub(crate) struct Openings {
     parts: Vec<HeldPart>,
     first_top: u64,
-    world: Option<World>,
 }
 
 impl Openings {
@@ -28,7 +26,6 @@ impl Openings {
         Openings {
             parts: Vec::new(alloc),
             first_top: 1,
-            world: None,
         }
     }
 
@@ -67,9 +64,6 @@ impl Openings {
             "content" => self.write_content(alloc, setup, read_object(&mut words)?, answer),
             "has" => self.write_has(alloc, setup, read_object(&mut words)?, answer),
             "knows" => self.write_knows(alloc, setup, words.rest(), answer),
-            "world" => self.begin(alloc, setup, answer),
-            "step" => self.step(alloc, words.rest(), answer),
-            "base" => self.write_base(alloc, read_object(&mut words)?, answer),
             _ => Err(RowFault::Unread),
         }
     }
@@ -155,42 +149,6 @@ impl Openings {
         }
         let knows = opening.knows(object, &operation);
         Ok(write!(answer, "{knows}")?)
-    }
-
-    /// `world`: begins a world over the opening.
-    fn begin(&mut self, alloc: Global, setup: &Setup, answer: &mut String) -> Result<(), RowFault> {
-        answer.push_str("begun")?;
-        let opening = self.opening(alloc, setup)?;
-        self.world = Some(World::over(alloc, opening)?);
-        Ok(())
-    }
-
-    /// `step STEP`: makes the step in the world, and gives its answer.
-    fn step(&mut self, alloc: Global, step: &str, answer: &mut String) -> Result<(), RowFault> {
-        let step = reading::step(alloc, step)?;
-        let Some(world) = &mut self.world else {
-            return Err(RowFault::Unread);
-        };
-        answer.reserve(64)?;
-        let said = again!(world.step(&step))?;
-        Ok(answer.push_str(again!(said.text(alloc))?.as_str())?)
-    }
-
-    /// `base GUARDIAN NUMBER`: the base of the object in the world.
-    fn write_base(
-        &self,
-        alloc: Global,
-        object: ObjectId,
-        answer: &mut String,
-    ) -> Result<(), RowFault> {
-        let Some(world) = &self.world else {
-            return Err(RowFault::Unread);
-        };
-        if !is_there(world.opening(), object) {
-            return Err(RowFault::Unread);
-        }
-        let content = again!(world.base(object))?;
-        write_text(alloc, &content, answer)
     }
 }
 

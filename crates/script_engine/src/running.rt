@@ -11,11 +11,12 @@ use activities::{ClientEnd, run_serial};
 use argus_engine::{Fault, finish};
 use run_model::{ObjectId, Setup, SetupFault};
 use script::Checked;
+use stable_store::Stable;
+use stable_world::World;
 use std::alloc::{AllocError, Global};
 use std::collections::BTreeMap;
 use std::io::Write;
 use values::Content;
-use world::World;
 
 /// How a script was run: how its clients ended, and the bases that they left, of each guardian in order, by the number of the object.
 #[derive(Drop)]
@@ -74,7 +75,8 @@ pub(crate) fn add_guardian(setup: &mut Setup, contents: Vec<Content>) -> Result<
     }
 }
 
-/// Runs a script's clients in a new world of the setup.
+/// Runs a script's clients in a new world of the setup, in memory. A store in memory fails no call that a guardian makes of it, so an error is want of
+/// memory.
 pub(crate) fn run_clients(
     alloc: Global,
     setup: Setup,
@@ -83,15 +85,20 @@ pub(crate) fn run_clients(
     requires { IsResolved script.now }
     ensures { IfOk result (λ it. WasRun script.now setup it.ends.items (map (λ base. base.entries) it.bases.items)) }
 {
-    let mut world = World::new(alloc, setup)?;
-    let ends = run_serial(alloc, &mut world, script)?;
+    let mut world = World::in_memory(alloc, setup)?;
+    let Ok(ends) = run_serial(alloc, &mut world, script) else {
+        return Err(AllocError);
+    };
     let bases = bases(alloc, &world)?;
     Ok(Outcome { ends, bases })
 }
 
 /// The bases of all objects, of each guardian in order.
-fn bases(alloc: Global, world: &World) -> Result<Vec<BTreeMap<u32, Content>>, AllocError>
-    ensures { IfOk result (λ found. map (λ base. base.entries) found.items ≡ all_bases world.now) }
+fn bases<S: Stable>(
+    alloc: Global,
+    world: &World<S>,
+) -> Result<Vec<BTreeMap<u32, Content>>, AllocError>
+    ensures { IfOk result (λ found. map (λ base. base.entries) found.items ≡ all_bases world.now.run) }
 {
     let mut found = Vec::new(alloc);
     for index in 0..world.setup().guardians() {
@@ -101,13 +108,13 @@ fn bases(alloc: Global, world: &World) -> Result<Vec<BTreeMap<u32, Content>>, Al
 }
 
 /// The bases of a guardian's objects, by number.
-fn bases_at(
+fn bases_at<S: Stable>(
     alloc: Global,
-    world: &World,
+    world: &World<S>,
     guardian: u32,
 ) -> Result<BTreeMap<u32, Content>, AllocError>
     requires { 1 ≤ guardian }
-    ensures { IfOk result (λ found. found.entries ≡ bases_at world.now guardian) }
+    ensures { IfOk result (λ found. found.entries ≡ bases_at world.now.run guardian) }
 {
     let mut found = BTreeMap::new(alloc);
     for index in 0..world.setup().objects(guardian).len() {

@@ -40,16 +40,16 @@ memories_more opening ms ms' m e each new i x h = elim (at_end ms m i x (sym (ap
   | inr p ↦ ap memory_state (sym p.1) ∙ new ∙ ap (λ n. standing opening [] (n + 1)) (sym p.0)
 ]
 
+pub nothing_settled : (setup : Setup) (g : ℕ) → IsSettled (fresh setup) g empty
+nothing_settled setup g = record { base = λ n. get-empty nat_cmp n; prepared = refl; decided = λ n. contains-empty nat_cmp n; count = refl; next_top = refl }
+
 -- stores in memory that are empty
 pub opened_empty : (setup : Setup) (stores : List PlainStable) → AreEmpty stores → AreOpened plain_view (fresh setup) stores
 opened_empty setup stores h = record {
   found = λ i s p. refl;
   rests = λ i s p trusted up left leaves. leaves;
-  settled = λ i s p. subst (λ content. IsSettled (fresh setup) (i + 1) content) (sym (h i s p)) (nothing (i + 1));
+  settled = λ i s p. subst (λ content. IsSettled (fresh setup) (i + 1) content) (sym (h i s p)) (nothing_settled setup (i + 1));
 }
-  where
-    nothing : (g : ℕ) → IsSettled (fresh setup) g empty
-    nothing g = record { base = λ n. get-empty nat_cmp n; prepared = refl; decided = λ n. contains-empty nat_cmp n; count = refl; next_top = refl }
 
 module _ {S : Type 0} where
   -- the memory and the store that come in one turn

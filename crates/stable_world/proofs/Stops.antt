@@ -28,12 +28,12 @@ use Rattle.stable_world.specs.Stops.{AreLeftWithin, AreTrusted, AreUp, IsKeptBet
 
 -- ---- lists place by place
 
-both_of : (a b : Bool) → (a && b) ≡ true → (a ≡ true) × (b ≡ true)
+pub both_of : (a b : Bool) → (a && b) ≡ true → (a ≡ true) × (b ≡ true)
 both_of true true h = (refl, refl)
 both_of true false h = absurd (false≢true h)
 both_of false b h = absurd (false≢true h)
 
-all_at : {X : Type 0} (P : X → Type 0) (xs : List X) (i : ℕ) (x : X) → AllByRecursion P xs → slice_get xs i ≡ Some x → P x
+pub all_at : {X : Type 0} (P : X → Type 0) (xs : List X) (i : ℕ) (x : X) → AllByRecursion P xs → slice_get xs i ≡ Some x → P x
 all_at {X = X} P [] i x h at = absurd (let q : ◌≡◌ {A = Option X} None (Some x) = at in cc)
 all_at P (y ∷ xs) zero x h at = subst P (same_Some y x at) h.0
 all_at P (y ∷ xs) (suc i) x h at = all_at P xs i x h.1 at
@@ -49,7 +49,7 @@ zip_at R (a ∷ xs) [] i x y h at there = elim h [ ]
 zip_at R (a ∷ xs) (b ∷ ys) zero x y h at there = subst (λ z. R x z) (same_Some b y there) (subst (λ z. R z b) (same_Some a x at) h.0)
 zip_at R (a ∷ xs) (b ∷ ys) (suc i) x y h at there = zip_at R xs ys i x y h.1 at there
 
-zip_count : {X Y : Type 0} (R : X → Y → Type 0) (xs : List X) (ys : List Y) → AllZip R xs ys → length ys ≡ length xs
+pub zip_count : {X Y : Type 0} (R : X → Y → Type 0) (xs : List X) (ys : List Y) → AllZip R xs ys → length ys ≡ length xs
 zip_count R [] [] h = refl
 zip_count R [] (y ∷ ys) h = elim h [ ]
 zip_count R (x ∷ xs) [] h = elim h [ ]

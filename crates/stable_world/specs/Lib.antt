@@ -1,3 +1,4 @@
 pub mod Worlds
 pub mod Running
 pub mod Stops
+pub mod GoingOn

@@ -5,9 +5,11 @@
 #![tactic(auto)]
 
 mod beginning;
+mod reopening;
 mod world;
 
 pub use guardian::Guardian;
 pub use layer_contracts::Fault;
 pub use run_model::{Answer, Event, Held, History, Opening, Part, Setup, Step};
+pub use store_settling::Refused;
 pub use world::World;

@@ -202,12 +202,13 @@ module _ {S : Type 0} (seen : S → View) where
   pub record AreRead (old now : List S) (i : ℕ) : Type 0 where
     pub left : drop i now ≡ drop i old
     pub same : contents seen now ≡ contents seen old
+    pub rest : AllByRecursion (λ s. Rests (seen s)) (take i now)
     pub kept : AllZip (KeepsItself seen) old now
     pub goes : AllZip (GoesOn seen) old now
 
   pub none_read : (stores : List S) → AreRead stores stores 0
   none_read stores =
-      record { left = refl; same = refl; kept = zip_with_itself (KeepsItself seen) (itself seen) stores; goes = zip_with_itself (GoesOn seen) (goes_itself seen) stores }
+      record { left = refl; same = refl; rest = tt; kept = zip_with_itself (KeepsItself seen) (itself seen) stores; goes = zip_with_itself (GoesOn seen) (goes_itself seen) stores }
 
   module _ (old now : List S) (i : ℕ) (d made : S) (within : i < length now) (a : AreRead old now i) where
     abbrev read : S
@@ -223,6 +224,9 @@ module _ {S : Type 0} (seen : S → View) where
     one_read {T} excuse x makes = record {
       left = rest_less old now i made a.left;
       same = same_put now i d made within makes.changes ∙ a.same;
+      rest =
+          subst (λ ss. AllByRecursion (λ s. Rests (seen s)) ss) (sym (take_more_set now i made within))
+          (each_append (λ s. Rests (seen s)) (take i now) (made ∷ []) a.rest (makes.rest, tt));
       kept =
           zip_put (KeepsItself seen) old now i d made within_old a.kept
           (subst (λ s. KeepsItself seen s made) read_is (keeps_by {T = T} read made excuse (seen read).content (Ok x) makes makes.changes));
@@ -241,6 +245,9 @@ module _ {S : Type 0} (seen : S → View) where
 
   pub all_read : (old now : List S) (i : ℕ) → AreRead old now i → Called seen {T = Unit {0}} (KeepsItself seen) old now (Ok tt)
   all_read old now i a = called_well (KeepsItself seen) old now tt a.kept a.goes (ap bases_then a.same)
+
+  pub read_rest : (old now : List S) (i : ℕ) → length now ≤ i → AreRead old now i → AllByRecursion (λ s. Rests (seen s)) now
+  read_rest old now i past a = subst (λ ss. AllByRecursion (λ s. Rests (seen s)) ss) (take_all i now past) a.rest
 
   pub same_refused : (old now : List S) (i : ℕ) (d made : S) → i < length now → AreRead old now i → (seen made).content ≡ (seen (get_or now i d)).content
       → contents seen (set now i made) ≡ contents seen old

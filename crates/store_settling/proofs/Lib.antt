@@ -9,3 +9,4 @@ pub mod Alike
 pub mod Belongs
 pub mod Ready
 pub mod Said
+pub mod Nothing

@@ -17,10 +17,11 @@ use Rattle.stable_store.specs.Stored.{Record, Stored}
 abbrev pub alike_each : {X : Type 0} → (X → X → Bool) → List X → List X → Bool
 alike_each same xs ys = (length xs == length ys) && list_all (λ p. same p.0 p.1) (zip xs ys)
 
--- a field of the same name and kind, and a tag
+-- a field of the same name and kind
 abbrev pub same_field : Field → Field → Bool
 same_field f g = same_bytes f.name g.name && same_kind (kind_of f.value) (kind_of g.value)
 
+-- a tag of the same name and kind
 abbrev pub same_tag : Tag → Tag → Bool
 same_tag t u = same_bytes t.name u.name && same_kind t.kind u.kind
 
@@ -32,6 +33,7 @@ same_type (content.Variant v) (content.Variant w) = alike_each same_tag v.tags w
 same_type (content.Counter m) (content.Counter n) = true
 same_type _ _ = false
 
+-- it counts
 abbrev pub is_counter : Content → Bool
 is_counter (content.Counter n) = true
 is_counter _ = false
@@ -47,6 +49,7 @@ abbrev pub object_at : List Content → ℕ → Option Content
 object_at objects zero = None
 object_at objects (suc n) = slice_get objects n
 
+-- each part suits its object
 abbrev pub all_suit : List Content → List (ℕ × Part) → Bool
 all_suit objects parts = list_all (λ p. suits (object_at objects p.0) p.1) parts
 

@@ -4,6 +4,7 @@ use Rattle.stable_store.specs.declared.fault.StoreFault.TheVariants as call
 use Rattle.store_settling.specs.declared.refused.Refused.{Refused}
 use Rattle.store_settling.specs.declared.refused.Refused.TheVariants.{Memory, Stable, NotOurs}
 
+-- why a system is not opened where a store answers this fault
 abbrev pub refused_by : StoreFault → Refused
 refused_by call.Memory = Memory
 refused_by call.Failed = Stable

@@ -5,3 +5,4 @@ pub mod Finding
 pub mod Belonging
 pub mod Opened
 pub mod Saying
+pub mod Beginning

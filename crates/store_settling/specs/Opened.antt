@@ -39,6 +39,7 @@ module _ {S : Type 0} (seen : S → View) where
   abbrev pub CountsOneMore : S → S → Type 0
   CountsOneMore old new = (seen new).content.count ≡ (seen old).content.count + 1
 
+  -- no recovery more
   abbrev pub CountsNone : S → S → Type 0
   CountsNone old new = (seen new).content.count ≡ (seen old).content.count
 
@@ -57,8 +58,8 @@ module _ {S : Type 0} (seen : S → View) where
     pub goes : AllZip (GoesOn seen) old new
     pub stops : KeepsBases seen old new
 
-  -- The stores were not opened. A recovery is counted at one only once no store has a record. They are those of other guardians (`NotOurs`) where one holds no content, or what one contains does not belong there, or
-  -- what its device returned is none, which is counted; then each contains what it did.
+  -- The stores were not opened. They are those of others (`NotOurs`) where one holds no content, or what one contains does not belong there, or what its
+  -- device returned is none, which is counted; then each contains what it did. A recovery was counted at one of them only once none had a record.
   pub record AreRefused (setup : Setup) (old new : List S) (why : Refused) : Type 0 where
     pub bases : bases_then (contents seen new) ≡ bases_then (contents seen old)
     pub kept : AllZip (OpensItself seen) old new

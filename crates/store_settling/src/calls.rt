@@ -15,6 +15,7 @@ use std::alloc::Global;
 pub(crate) fn load_all<S: Stable>(alloc: Global, stores: &mut [S]) -> Result<(), Refused>
     ensures same { contents S.seen stores.new ≡ contents S.seen stores.old }
     ensures called { Called S.seen (KeepsItself S.seen) stores.old stores.new result }
+    ensures rest { OnOk result (AllByRecursion (λ s. Rests (S.seen s)) stores.new) }
 {
     for store in stores.iter_mut() {
         drop(store.load(alloc)?);

@@ -1,8 +1,9 @@
-//! What opens the stores of one system again after a stop.
+//! What opens the stores of one system, new ones or those that a stop left.
 //!
 //! A record that is left is installed where the store of its home has decided, and else discarded.
 #![tactic(auto)]
 
+mod beginning;
 mod calls;
 mod checking;
 mod opening;
@@ -10,6 +11,7 @@ mod refused;
 mod settling;
 mod types;
 
+pub use beginning::begin_stores;
 pub use opening::open_stores;
 pub use refused::Refused;
 pub use settling::settle;

@@ -1,7 +1,7 @@
-//! The world of guardians: it is given steps, one after another, and answers each as the definitions say.
+//! The world of guardians in memory: it is given steps, one after another, and answers each as the definitions say.
 //!
-//! What happened is its opening and its history, which is always a run; how the answers are found is the business of the
-//! crates below. The engine of the program and every service stand on `World::step` and `World::run`.
+//! What happened is its opening and its history, which is always a run; how the answers are found is the business of
+//! `stable_world`, whose stores are here in memory alone. A service that needs no other stores stands on this one.
 #![tactic(auto)]
 
 mod world;

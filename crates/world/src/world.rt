@@ -1,49 +1,40 @@
-ghost use Rattle.std.specs.Prelude.{◌≡◌, ◌≤◌, [], length, IfOk, OnOk, OnErr};
+ghost use Rattle.std.specs.Prelude.{◌≡◌, ◌≤◌, length, IfOk, OnOk, OnErr};
 ghost use Rattle.run_model.specs.Answers.{answer_of};
 ghost use Rattle.run_model.specs.Openings.{fresh, objects_at, opening_in};
 ghost use Rattle.run_model.specs.Runs.{World, new_world, world_after};
 ghost use Rattle.run_model.specs.Versions.{base_of};
 ghost use Rattle.run_laws.specs.Laws.{OrphanWhereRefused};
 ghost use Rattle.run_laws.specs.Serving.{IsServed};
-ghost use Rattle.world.specs.Running.{Ran, RanBefore};
+ghost use Rattle.stable_world.specs.Running.{Ran, RanBefore};
 
-use plain_world::PlainWorld;
 use run_model::{Answer, Content, History, ObjectId, Opening, Setup, Step};
+use stable_store::PlainStable;
+use stable_world::Fault;
 use std::alloc::{AllocError, Global};
 use std::marker::Model;
 
-/// Guardians, their objects and the actions on them.
+/// Guardians, their objects and the actions on them. Their stores are in memory and end with the world.
 #[derive(Drop)]
 pub struct World {
-    plain: PlainWorld,
+    layers: stable_world::World<PlainStable>,
 }
 
 impl Model for World {
-    ghost use Rattle.run_model.specs.Openings.{opening_in};
-    ghost use Rattle.run_model.specs.Runs.{World, IsRun};
+    ghost use Rattle.run_model.specs.Runs.{World};
 
     ghost Value = { World };
 
-    ghost view = { λ a. a.plain };
-
-    ghost invariant = { λ a. IsRun (opening_in a.plain.lists) a.plain.past };
+    ghost view = { λ a. a.layers.run };
 }
 
 impl World {
-    /// The guardians of the setup, to whom nothing has happened, with empty stores.
+    /// The guardians of the setup, to whom nothing has happened, with empty stores. Fails only for want of memory.
     pub fn new(alloc: Global, setup: Setup) -> Result<World, AllocError>
         ensures new { IfOk result (λ world. world ≡ new_world setup) }
         ensures fresh { IfOk result (λ world. opening_in world.lists ≡ fresh setup) }
     {
-        World::over(alloc, Opening::fresh(alloc, setup))
-    }
-
-    /// The guardians of the opening, to whom nothing has happened since.
-    pub fn over(alloc: Global, opening: Opening) -> Result<World, AllocError>
-        ensures { IfOk result (λ world. world ≡ record { lists = opening; past = [] }) }
-    {
         Ok(World {
-            plain: PlainWorld::new(alloc, opening)?,
+            layers: stable_world::World::in_memory(alloc, setup)?,
         })
     }
 
@@ -56,7 +47,10 @@ impl World {
         ensures served { IsServed (opening_in self.new.lists) self.new.past }
         ensures err { OnErr result (self.new ≡ self.old) }
     {
-        self.plain.step(step)
+        match self.layers.step(step) {
+            Ok(answer) => Ok(answer),
+            Err(fault) => Err(refused(fault)),
+        }
     }
 
     /// Makes the steps one after another, and appends their answers. Where memory runs out, the world and the answers are those of the
@@ -66,14 +60,10 @@ impl World {
         ensures served { IsServed (opening_in self.new.lists) self.new.past }
         ensures err { OnErr result (RanBefore self.old self.new steps.now answers.old.items answers.new.items) }
     {
-        // so that what happened before is known to be a run
-        let _ = &self.plain;
-        for step in steps {
-            answers.reserve(1)?;
-            let answer = self.step(step)?;
-            answers.push(answer)?;
+        match self.layers.run(steps, answers) {
+            Ok(()) => Ok(()),
+            Err(fault) => Err(refused(fault)),
         }
-        Ok(())
     }
 
     /// What has happened: the accepted steps with their answers. This takes no memory.
@@ -81,7 +71,7 @@ impl World {
         ensures past { result.now ≡ self.now.past }
         ensures served { IsServed (opening_in self.now.lists) self.now.past }
     {
-        self.plain.history()
+        self.layers.history()
     }
 
     /// The base of an object: its content without what an action holds of it.
@@ -91,20 +81,25 @@ impl World {
         requires there { object.number ≤ length (objects_at self.now.lists.setup object.guardian) }
         ensures { IfOk result (λ content. content ≡ base_of (opening_in self.now.lists) object self.now.past) }
     {
-        self.plain.base(object)
+        self.layers.base(object)
     }
 
     /// The setup of its opening: the guardians, and what their objects held where their stores held nothing.
     pub fn setup(&self) -> &Setup
         ensures { result.now ≡ self.now.lists.setup }
     {
-        self.plain.opening().setup()
+        self.layers.setup()
     }
 
     /// The opening from which it began.
     pub fn opening(&self) -> &Opening
         ensures { result.now ≡ self.now.lists }
     {
-        self.plain.opening()
+        self.layers.opening()
     }
+}
+
+// A store in memory has no device that could fail, so what comes of one is want of memory.
+fn refused(_fault: Fault) -> AllocError {
+    AllocError
 }

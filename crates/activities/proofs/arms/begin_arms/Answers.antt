@@ -9,42 +9,42 @@ use Rattle.run_model.specs.Openings.{opening_in}
 use Rattle.activities.proofs.arms.begin_arms.Goals as goal
 
 pub returns-in-Began-clause-goes_on : goal.returns-in-Began-clause-goes_on
-returns-in-Began-clause-goes_on c =
-    step_goes c.args.world.now c.step.new.self (Arms c.in_ok-copy.field-0 c.loop-arm.kinds) c.step.result c.requires tt
+returns-in-Began-clause-goes_on g c =
+    step_goes c.args.world.now.run c.step.new.self.run (Arms c.in_ok-copy.field-0 c.loop-arm.kinds) c.step.result c.requires tt
     c.step.ensures.answer c.step.ensures.after c.step.ensures.err
 
 pub returns-in-Began-clause-each : goal.returns-in-Began-clause-each
-returns-in-Began-clause-each c =
+returns-in-Began-clause-each g c =
     let all : c.loop-arm.kinds ≡ kinds c.args.arms.now =
     c.loop-arm.invariant ∙ ap kinds (take_all c.loop-arm.arm-index c.args.arms.now (omega arith)) in
     let turned : c.reverse.new.self.items ≡ reverse c.in-Began.names = c.reverse.ensures.items ∙ ap reverse c.into_vec-names.ensures in
     ap length turned ∙ length-reverse c.in-Began.names
-    ∙ arms_begin_each (opening_in c.args.world.now.lists) c.in_ok-copy.field-0 c.loop-arm.kinds c.args.world.now.past c.in-Began.names
+    ∙ arms_begin_each (opening_in c.args.world.now.run.lists) c.in_ok-copy.field-0 c.loop-arm.kinds c.args.world.now.run.past c.in-Began.names
     (sym c.in-Began.is ∙ c.in_ok-names.ensures.answer)
     ∙ ap length all ∙ length-map c.args.arms.now kind_of
 
 pub returns-in-Began-clause-began : goal.returns-in-Began-clause-began
-returns-in-Began-clause-began c =
-    arms_begun c.args.world.now c.step.new.self c.in_ok-copy.field-0 c.loop-arm.kinds c.in_ok-names.field-0 c.in-Began.names
+returns-in-Began-clause-began g c =
+    arms_begun c.args.world.now.run c.step.new.self.run c.in_ok-copy.field-0 c.loop-arm.kinds c.in_ok-names.field-0 c.in-Began.names
     c.reverse.new.self.items c.requires c.in_ok-names.ensures.answer c.in_ok-names.ensures.after c.in-Began.is
     (c.reverse.ensures.items ∙ ap reverse c.into_vec-names.ensures)
 
 pub returns-in-Began-clause-distinct : goal.returns-in-Began-clause-distinct
-returns-in-Began-clause-distinct c =
+returns-in-Began-clause-distinct g c =
     subst AreDistinct (sym (c.reverse.ensures.items ∙ ap reverse c.into_vec-names.ensures))
-    (arms_distinct (opening_in c.args.world.now.lists) c.in_ok-copy.field-0 c.loop-arm.kinds c.args.world.now.past c.in-Began.names c.requires
+    (arms_distinct (opening_in c.args.world.now.run.lists) c.in_ok-copy.field-0 c.loop-arm.kinds c.args.world.now.run.past c.in-Began.names c.requires
     (sym c.in-Began.is ∙ c.in_ok-names.ensures.answer))
 
 pub returns : goal.returns
-returns c = record {
+returns g c = record {
   goes_on =
-      step_goes c.args.world.now c.step.new.self (Arms c.in_ok-copy.field-0 c.loop-arm.kinds) c.step.result c.requires tt
+      step_goes c.args.world.now.run c.step.new.self.run (Arms c.in_ok-copy.field-0 c.loop-arm.kinds) c.step.result c.requires tt
       c.step.ensures.answer c.step.ensures.after c.step.ensures.err;
   commits = λ a h.
-      step_commits_by c.args.world.now c.step.new.self (Arms c.in_ok-copy.field-0 c.loop-arm.kinds) c.step.result c.step.ensures.after
+      step_commits_by c.args.world.now.run c.step.new.self.run (Arms c.in_ok-copy.field-0 c.loop-arm.kinds) c.step.result c.step.ensures.after
       c.step.ensures.err a h refl;
   together =
-      together c.args.world.now c.step.new.self c.in_ok-copy.field-0 c.args.action.now.name c.loop-arm.kinds (kinds c.args.arms.now)
+      together c.args.world.now.run c.step.new.self.run c.in_ok-copy.field-0 c.args.action.now.name c.loop-arm.kinds (kinds c.args.arms.now)
       c.in_ok-names.field-0 c.in_ok-names.ensures.answer c.in_ok-names.ensures.after
       c.in_ok-copy.ensures.ok.1 (c.loop-arm.invariant ∙ ap kinds (take_all c.loop-arm.arm-index c.args.arms.now (omega arith)));
   each = tt;
@@ -52,6 +52,6 @@ returns c = record {
   distinct = tt;
   refused = λ e.
       c.in_ok-names.ensures.after
-      ∙ arms_refused c.args.world.now c.in_ok-copy.field-0 c.loop-arm.kinds c.in_ok-names.field-0 c.in_ok-names.ensures.answer
+      ∙ arms_refused c.args.world.now.run c.in_ok-copy.field-0 c.loop-arm.kinds c.in_ok-names.field-0 c.in_ok-names.ensures.answer
       (λ names. c.in_default.not-Began names);
 }

@@ -3,4 +3,4 @@ use Rattle.activities.specs.Bodies.{kinds}
 use Rattle.activities.proofs.arms.begin_arms.Given as goal
 
 abbrev pub invariant-loop-arm : goal.invariant-loop-arm
-invariant-loop-arm l = l.kinds ≡ kinds (take l.arm-index l.arms)
+invariant-loop-arm g l = l.kinds ≡ kinds (take l.arm-index l.arms)

@@ -4,35 +4,35 @@ use Rattle.activities.proofs.Going.{commits_through, ends_one, ends_through, goe
 use Rattle.activities.proofs.open_action.abort_at_home.Goals as goal
 
 pub returns-clause-goes_on : goal.returns-clause-goes_on
-returns-clause-goes_on c =
-    goes_through c.args.world.now c.try_step.new.world c.try_step-2.new.world [] [] c.try_step.ensures.goes_on c.try_step-2.ensures.goes_on
+returns-clause-goes_on g c =
+    goes_through c.args.world.now.run c.try_step.new.world.run c.try_step-2.new.world.run [] [] c.try_step.ensures.goes_on c.try_step-2.ensures.goes_on
 
 pub returns-clause-commits : goal.returns-clause-commits
-returns-clause-commits c =
-    commits_through c.args.world.now c.try_step.new.world c.try_step-2.new.world [] c.try_step.ensures.goes_on
+returns-clause-commits g c =
+    commits_through c.args.world.now.run c.try_step.new.world.run c.try_step-2.new.world.run [] c.try_step.ensures.goes_on
     (λ a h. c.try_step.ensures.commits a h refl) (λ a h. c.try_step-2.ensures.commits a h refl)
 
 pub returns-clause-ended : goal.returns-clause-ended
-returns-clause-ended c =
-    ends_one c.args.action.now c.args.world.now c.try_step-2.new.world
-    (λ b. still_ended c.try_step.new.world c.try_step-2.new.world [] c.args.action.now c.try_step-2.ensures.goes_on
+returns-clause-ended g c =
+    ends_one c.args.action.now c.args.world.now.run c.try_step-2.new.world.run
+    (λ b. still_ended c.try_step.new.world.run c.try_step-2.new.world.run [] c.args.action.now c.try_step-2.ensures.goes_on
     (c.in_ok-try_step.ensures.aborts c.args.action.now (ap (λ a. Abort a) c.in_ok-copy.ensures.ok.1) b))
 
 pub returns-clause-ends : goal.returns-clause-ends
-returns-clause-ends c =
-    ends_through c.args.world.now c.try_step.new.world c.try_step-2.new.world [] c.try_step-2.ensures.goes_on (c.try_step.ensures.ends refl)
+returns-clause-ends g c =
+    ends_through c.args.world.now.run c.try_step.new.world.run c.try_step-2.new.world.run [] c.try_step-2.ensures.goes_on (c.try_step.ensures.ends refl)
     (c.try_step-2.ensures.ends refl)
 
 pub returns-in_err-try_step-2-clause-goes_on : goal.returns-in_err-try_step-2-clause-goes_on
-returns-in_err-try_step-2-clause-goes_on c =
-    goes_through c.args.world.now c.try_step.new.world c.try_step-2.new.world [] [] c.try_step.ensures.goes_on c.try_step-2.ensures.goes_on
+returns-in_err-try_step-2-clause-goes_on g c =
+    goes_through c.args.world.now.run c.try_step.new.world.run c.try_step-2.new.world.run [] [] c.try_step.ensures.goes_on c.try_step-2.ensures.goes_on
 
 pub returns-in_err-try_step-2-clause-commits : goal.returns-in_err-try_step-2-clause-commits
-returns-in_err-try_step-2-clause-commits c =
-    commits_through c.args.world.now c.try_step.new.world c.try_step-2.new.world [] c.try_step.ensures.goes_on
+returns-in_err-try_step-2-clause-commits g c =
+    commits_through c.args.world.now.run c.try_step.new.world.run c.try_step-2.new.world.run [] c.try_step.ensures.goes_on
     (λ a h. c.try_step.ensures.commits a h refl) (λ a h. c.try_step-2.ensures.commits a h refl)
 
 pub returns-in_err-try_step-2-clause-ends : goal.returns-in_err-try_step-2-clause-ends
-returns-in_err-try_step-2-clause-ends c =
-    ends_through c.args.world.now c.try_step.new.world c.try_step-2.new.world [] c.try_step-2.ensures.goes_on (c.try_step.ensures.ends refl)
+returns-in_err-try_step-2-clause-ends g c =
+    ends_through c.args.world.now.run c.try_step.new.world.run c.try_step-2.new.world.run [] c.try_step-2.ensures.goes_on (c.try_step.ensures.ends refl)
     (c.try_step-2.ensures.ends refl)

@@ -3,23 +3,23 @@ use Rattle.activities.proofs.Steps.{abort_result_ends, result_begins, step_ends}
 use Rattle.activities.proofs.open_action.make.Goals as goal
 
 pub returns-clause-goes_on : goal.returns-clause-goes_on
-returns-clause-goes_on c =
-    step_goes c.args.world.now c.step.new.self c.args.step c.step.result c.requires.run c.requires.step c.step.ensures.answer
+returns-clause-goes_on g c =
+    step_goes c.args.world.now.run c.step.new.self.run c.args.step c.step.result c.requires.run c.requires.step c.step.ensures.answer
     c.step.ensures.after c.step.ensures.err
 
 pub returns-clause-commits : goal.returns-clause-commits
-returns-clause-commits c =
-    step_commits_by c.args.world.now c.step.new.self c.args.step c.step.result c.step.ensures.after c.step.ensures.err
+returns-clause-commits g c =
+    step_commits_by c.args.world.now.run c.step.new.self.run c.args.step c.step.result c.step.ensures.after c.step.ensures.err
 
 pub returns-clause-began : goal.returns-clause-began
-returns-clause-began c =
-    result_begins c.args.world.now c.step.new.self c.args.step c.step.result c.requires.run c.step.ensures.answer c.step.ensures.after
+returns-clause-began g c =
+    result_begins c.args.world.now.run c.step.new.self.run c.args.step c.step.result c.requires.run c.step.ensures.answer c.step.ensures.after
 
 pub returns-clause-ends : goal.returns-clause-ends
-returns-clause-ends c =
-    step_ends c.args.world.now c.step.new.self c.args.step c.step.result c.requires.step c.step.ensures.answer c.step.ensures.after
+returns-clause-ends g c =
+    step_ends c.args.world.now.run c.step.new.self.run c.args.step c.step.result c.requires.step c.step.ensures.answer c.step.ensures.after
     c.step.ensures.err
 
 pub returns-clause-aborts : goal.returns-clause-aborts
-returns-clause-aborts c =
-    abort_result_ends c.args.world.now c.step.new.self c.args.step c.step.result c.step.ensures.answer c.step.ensures.after
+returns-clause-aborts g c =
+    abort_result_ends c.args.world.now.run c.step.new.self.run c.args.step c.step.result c.step.ensures.answer c.step.ensures.after

@@ -9,47 +9,47 @@ use Rattle.activities.proofs.Telling.{all_told, listed, tell_next}
 use Rattle.activities.proofs.open_action.tell.Goals as goal
 
 pub loop-guardian-init : goal.loop-guardian-init
-loop-guardian-init c = record {
-  goes_on = goes_nowhere c.args.world.now c.requires;
-  commits = commits_nowhere c.args.world.now;
-  ends = ends_nowhere c.args.world.now;
+loop-guardian-init g c = record {
+  goes_on = goes_nowhere c.args.world.now.run c.requires;
+  commits = commits_nowhere c.args.world.now.run;
+  ends = ends_nowhere c.args.world.now.run;
   told = λ g h. inr (ap (λ gs. listed gs g) c.into_iter-guardian-iterator.ensures.into_iter_gives.0 ∙ h);
 }
 
 pub returns-clause-told : goal.returns-clause-told
-returns-clause-told c =
-    all_told c.loop-guardian.world (has c.args.guardians.now) _ c.args.action.now
+returns-clause-told g c =
+    all_told c.loop-guardian.world.run (has c.args.guardians.now) _ c.args.action.now
     (rest_all deref _ _ _ c.in-None.is c.next.ensures.steps) c.loop-guardian.invariant.told
 
 pub returns-in_err-try_step-clause-goes_on : goal.returns-in_err-try_step-clause-goes_on
-returns-in_err-try_step-clause-goes_on c =
-    goes_through c.args.world.now c.loop-guardian.world c.try_step.new.world [] [] c.loop-guardian.invariant.goes_on c.try_step.ensures.goes_on
+returns-in_err-try_step-clause-goes_on g c =
+    goes_through c.args.world.now.run c.loop-guardian.world.run c.try_step.new.world.run [] [] c.loop-guardian.invariant.goes_on c.try_step.ensures.goes_on
 
 pub returns-in_err-try_step-clause-commits : goal.returns-in_err-try_step-clause-commits
-returns-in_err-try_step-clause-commits c =
-    commits_through c.args.world.now c.loop-guardian.world c.try_step.new.world [] c.loop-guardian.invariant.goes_on
+returns-in_err-try_step-clause-commits g c =
+    commits_through c.args.world.now.run c.loop-guardian.world.run c.try_step.new.world.run [] c.loop-guardian.invariant.goes_on
     c.loop-guardian.invariant.commits (λ a h. c.try_step.ensures.commits a h refl)
 
 pub returns-in_err-try_step-clause-ends : goal.returns-in_err-try_step-clause-ends
-returns-in_err-try_step-clause-ends c =
-    ends_through c.args.world.now c.loop-guardian.world c.try_step.new.world [] c.try_step.ensures.goes_on c.loop-guardian.invariant.ends
+returns-in_err-try_step-clause-ends g c =
+    ends_through c.args.world.now.run c.loop-guardian.world.run c.try_step.new.world.run [] c.try_step.ensures.goes_on c.loop-guardian.invariant.ends
     (c.try_step.ensures.ends refl)
 
 pub loop-guardian-preserved : goal.loop-guardian-preserved
-loop-guardian-preserved c = record {
+loop-guardian-preserved g c = record {
   goes_on =
-      goes_through c.args.world.now c.loop-guardian.world c.try_step.new.world [] [] c.loop-guardian.invariant.goes_on
+      goes_through c.args.world.now.run c.loop-guardian.world.run c.try_step.new.world.run [] [] c.loop-guardian.invariant.goes_on
       c.try_step.ensures.goes_on;
   commits =
-      commits_through c.args.world.now c.loop-guardian.world c.try_step.new.world [] c.loop-guardian.invariant.goes_on
+      commits_through c.args.world.now.run c.loop-guardian.world.run c.try_step.new.world.run [] c.loop-guardian.invariant.goes_on
       c.loop-guardian.invariant.commits (λ a h. c.try_step.ensures.commits a h refl);
   ends =
-      ends_through c.args.world.now c.loop-guardian.world c.try_step.new.world [] c.try_step.ensures.goes_on c.loop-guardian.invariant.ends
+      ends_through c.args.world.now.run c.loop-guardian.world.run c.try_step.new.world.run [] c.try_step.ensures.goes_on c.loop-guardian.invariant.ends
       (c.try_step.ensures.ends refl);
   told =
-      tell_next c.loop-guardian.world c.try_step.new.world (has c.args.guardians.now) c.in-Some.guardian.now _ _ c.args.action.now
+      tell_next c.loop-guardian.world.run c.try_step.new.world.run (has c.args.guardians.now) c.in-Some.guardian.now _ _ c.args.action.now
       (rest_more deref _ _ _ c.in-Some.guardian c.in-Some.is c.next.ensures.steps)
-      (subst (λ a. IsAfter (Tell c.in-Some.guardian.now a) c.loop-guardian.world c.try_step.new.world) c.in_ok-copy.ensures.ok.1
+      (subst (λ a. IsAfter (Tell c.in-Some.guardian.now a) c.loop-guardian.world.run c.try_step.new.world.run) c.in_ok-copy.ensures.ok.1
       c.in_ok-try_step.ensures.after)
       c.loop-guardian.invariant.told;
 }

@@ -6,10 +6,10 @@ use Rattle.activities.proofs.Telling.{listed}
 use Rattle.activities.proofs.open_action.tell.Given as goal
 
 abbrev pub invariant-loop-guardian : goal.invariant-loop-guardian
-invariant-loop-guardian l = record {
-  goes_on : GoesOn l.fn.world l.world [];
-  commits : CommitsNone l.fn.world l.world;
-  ends : EndsAll l.fn.world l.world;
+invariant-loop-guardian g l = record {
+  goes_on : GoesOn l.fn.world.run l.world.run [];
+  commits : CommitsNone l.fn.world.run l.world.run;
+  ends : EndsAll l.fn.world.run l.world.run;
   -- each was told, or is yet to be
-  told : (g : ℕ) → IsTrue (has l.guardians g) → IsTrue (would_refuse l.world (Tell g l.action)) ⊎ IsTrue (listed l.guardian-iterator g);
+  told : (g : ℕ) → IsTrue (has l.guardians g) → IsTrue (would_refuse l.world.run (Tell g l.action)) ⊎ IsTrue (listed l.guardian-iterator g);
 }

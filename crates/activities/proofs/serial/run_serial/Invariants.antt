@@ -5,7 +5,7 @@ use Rattle.activities.specs.Ends.{AreRun}
 use Rattle.activities.proofs.serial.run_serial.Given as goal
 
 abbrev pub invariant-loop-client : goal.invariant-loop-client
-invariant-loop-client l = record {
-  goes_on : (tops : List Name) × GoesOn l.fn.world l.world tops;
-  ran : IfOk l.fault (λ u. AreRun (take l.client-index l.clients) l.fn.world l.world l.ends.items);
+invariant-loop-client g l = record {
+  goes_on : (tops : List Name) × GoesOn l.fn.world.run l.world.run tops;
+  ran : IfOk l.fault (λ u. AreRun (take l.client-index l.clients) l.fn.world.run l.world.run l.ends.items);
 }

@@ -1,9 +1,13 @@
 use Rattle.std.proofs.Common.{string_bytes}
 use Rattle.argus_engine.specs.Reading.{Running}
+use Rattle.argus_engine.specs.Stepping.{HasMade}
 use Rattle.argus_engine.proofs.engine.answer_all.Given as goal
 
--- the lines before this number were answered
+-- the lines before this number were answered, and their steps were made
 abbrev pub invariant-loop-number : goal.invariant-loop-number
-invariant-loop-number g l =
-    Running (g.R.Read.remaining l.fn.reader) (g.R.Read.remaining l.reader) (g.W.Write.contents l.fn.writer) (g.W.Write.contents l.writer)
-    l.fn.world l.world l.number (string_bytes l.answers)
+invariant-loop-number g l = record {
+  running :
+      Running (g.R.Read.remaining l.fn.reader) (g.R.Read.remaining l.reader) (g.W.Write.contents l.fn.writer) (g.W.Write.contents l.writer)
+      l.fn.world.run l.world.run l.number (string_bytes l.answers);
+  made : HasMade g.S.Stable.seen l.fn.world l.world;
+}

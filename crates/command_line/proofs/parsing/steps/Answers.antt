@@ -9,4 +9,6 @@ returns c =
     let named : app_of c.after_help.result ≡ new_app (codes "steps") = ap app_of_fields c.after_help.ensures ∙ ap app_of_fields c.about.ensures ∙ c.new.ensures.app in
     let first = c.in_ok-arg.ensures.shape c.needed.ensures.local ∙ ap₂ with_rule named c.needed.ensures.rule in
     let second = c.in_ok-arg-2.ensures.shape c.needed-2.ensures.local ∙ ap₂ with_rule first c.needed-2.ensures.rule in
-    IfOk-weaker c.arg-3.result _ _ (λ new h. h.shape c.optional.ensures.local ∙ ap₂ with_rule second c.optional.ensures.rule) c.arg-3.ensures
+    let third = c.in_ok-arg-3.ensures.shape c.optional.ensures.local ∙ ap₂ with_rule second c.optional.ensures.rule in
+    let fourth = c.in_ok-arg-4.ensures.shape c.optional-2.ensures.local ∙ ap₂ with_rule third c.optional-2.ensures.rule in
+    IfOk-weaker c.arg-5.result _ _ (λ new h. h.shape c.flag.ensures.local ∙ ap₂ with_rule fourth c.flag.ensures.rule) c.arg-5.ensures

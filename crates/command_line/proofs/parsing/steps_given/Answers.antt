@@ -11,4 +11,6 @@ returns-clause-found c =
       setup = word_is found (codes "SETUP") (Some c.in_ok-get_str.field-0) c.in_ok-get_str.field-0 c.in_ok-get_str.ensures refl;
       file = word_is found (codes "FILE") (Some c.in_ok-get_str-2.field-0) c.in_ok-get_str-2.field-0 c.in_ok-get_str-2.ensures refl;
       explain = sym (first_value-rows found (codes "explain")) ∙ sym c.get_str-3.ensures;
+      store = sym (first_value-rows found (codes "store")) ∙ sym c.get_str-4.ensures;
+      reopen = c.is_set.ensures;
     }

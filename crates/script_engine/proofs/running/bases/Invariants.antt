@@ -4,4 +4,4 @@ use Rattle.script_engine.proofs.running.bases.Given as goal
 
 -- those of the first guardians
 abbrev pub invariant-loop-index : goal.invariant-loop-index
-invariant-loop-index l = map (λ base. base.entries) l.found.items ≡ bases_of_first l.world l.index
+invariant-loop-index g l = map (λ base. base.entries) l.found.items ≡ bases_of_first l.world.run l.index

@@ -4,4 +4,4 @@ use Rattle.script_engine.proofs.running.bases_at.Given as goal
 
 -- those of the first objects
 abbrev pub invariant-loop-index : goal.invariant-loop-index
-invariant-loop-index l = l.found.entries ≡ first_bases l.world l.guardian l.index
+invariant-loop-index g l = l.found.entries ≡ first_bases l.world.run l.guardian l.index

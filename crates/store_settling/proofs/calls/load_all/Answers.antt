@@ -1,6 +1,6 @@
 use Rattle.std.proofs.Common.{arith}
 use Rattle.store_settling.specs.Faults.{refused_by}
-use Rattle.store_settling.proofs.InTurn.{all_read, none_read, one_read, one_refused, same_refused}
+use Rattle.store_settling.proofs.InTurn.{all_read, none_read, one_read, one_refused, read_rest, same_refused}
 use Rattle.store_settling.proofs.Stops.{error_is}
 use Rattle.store_settling.proofs.calls.load_all.Goals as goal
 
@@ -25,3 +25,6 @@ loop-store-preserved g c =
 
 pub returns-clause-called : goal.returns-clause-called
 returns-clause-called g c = all_read g.S.Stable.seen c.args.stores.now c.loop-store.stores c.loop-store.store-index c.loop-store.invariant
+
+pub returns-clause-rest : goal.returns-clause-rest
+returns-clause-rest g c = read_rest g.S.Stable.seen c.args.stores.now c.loop-store.stores c.loop-store.store-index (omega arith) c.loop-store.invariant

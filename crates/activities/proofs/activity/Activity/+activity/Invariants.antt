@@ -7,41 +7,41 @@ use Rattle.activities.proofs.activity.Activity.+activity.Given as goal
 
 -- each statement takes one from the budget, so what it leads to has less
 abbrev pub decreases-body : goal.decreases-body
-decreases-body l = 6 * l.self.now.left
+decreases-body g l = 6 * l.self.now.left
 
 abbrev pub decreases-inner : goal.decreases-inner
-decreases-inner l = 6 * l.self.now.left + 1
+decreases-inner g l = 6 * l.self.now.left + 1
 
 abbrev pub decreases-run : goal.decreases-run
-decreases-run l = 6 * l.self.now.left + 1
+decreases-run g l = 6 * l.self.now.left + 1
 
 abbrev pub decreases-run_signals : goal.decreases-run_signals
-decreases-run_signals l = 6 * l.self.now.left + 2
+decreases-run_signals g l = 6 * l.self.now.left + 2
 
 abbrev pub decreases-repeat : goal.decreases-repeat
-decreases-repeat l = 6 * l.self.now.left + 2
+decreases-repeat g l = 6 * l.self.now.left + 2
 
 abbrev pub decreases-call : goal.decreases-call
-decreases-call l = 6 * l.self.now.left + 3
+decreases-call g l = 6 * l.self.now.left + 3
 
 abbrev pub decreases-top_action : goal.decreases-top_action
-decreases-top_action l = 6 * l.self.now.left + 2
+decreases-top_action g l = 6 * l.self.now.left + 2
 
 abbrev pub decreases-run_arms : goal.decreases-run_arms
-decreases-run_arms l = 6 * l.self.now.left + 2
+decreases-run_arms g l = 6 * l.self.now.left + 2
 
 abbrev pub decreases-coenter : goal.decreases-coenter
-decreases-coenter l = 6 * l.self.now.left + 3
+decreases-coenter g l = 6 * l.self.now.left + 3
 
 abbrev pub decreases-statement : goal.decreases-statement
-decreases-statement l = 6 * l.self.now.left + 5
+decreases-statement g l = 6 * l.self.now.left + 5
 
 -- the statements that are left are resolved with what those before them bound
 abbrev pub invariant-body-loop-statement : goal.invariant-body-loop-statement
-invariant-body-loop-statement l = record {
-  goes_on : GoesOn l.fn.world l.world [];
-  commits : CommitsNone l.fn.world l.world;
-  ends : EndsAll l.fn.world l.world;
+invariant-body-loop-statement g l = record {
+  goes_on : GoesOn l.fn.world.run l.world.run [];
+  commits : CommitsNone l.fn.world.run l.world.run;
+  ends : EndsAll l.fn.world.run l.world.run;
   resolved : IsResolved l.self.script.now;
   rest : IsBody l.self.script.now (sizes l.frames) (drop l.statement-index l.body);
   frames : Within (sizes l.fn.frames) (sizes l.frames);
@@ -53,10 +53,10 @@ invariant-body-loop-statement l = record {
 
 -- each turn finds as many variables bound as the first
 abbrev pub invariant-repeat-loop : goal.invariant-repeat-loop
-invariant-repeat-loop l = record {
-  goes_on : GoesOn l.fn.world l.world [];
-  commits : CommitsNone l.fn.world l.world;
-  ends : EndsAll l.fn.world l.world;
+invariant-repeat-loop g l = record {
+  goes_on : GoesOn l.fn.world.run l.world.run [];
+  commits : CommitsNone l.fn.world.run l.world.run;
+  ends : EndsAll l.fn.world.run l.world.run;
   resolved : IsResolved l.self.script.now;
   body : IsBody l.self.script.now (sizes l.frames) l.body;
   frames : sizes l.frames ≡ sizes l.fn.frames;
@@ -68,12 +68,12 @@ invariant-repeat-loop l = record {
 
 -- the arms that have run have ended, and the others wait
 abbrev pub invariant-run_arms-loop-arm : goal.invariant-run_arms-loop-arm
-invariant-run_arms-loop-arm l = record {
-  goes_on : GoesOn l.fn.world l.world [];
-  others : CommitsAmong l.fn.waiting.items l.fn.world l.world;
-  ran : HaveRun l.fn.waiting.items l.waiting.items l.world;
-  ends : EndsAll l.fn.world l.world;
-  waiting : AreWaiting l.waiting.items l.world;
+invariant-run_arms-loop-arm g l = record {
+  goes_on : GoesOn l.fn.world.run l.world.run [];
+  others : CommitsAmong l.fn.waiting.items l.fn.world.run l.world.run;
+  ran : HaveRun l.fn.waiting.items l.waiting.items l.world.run;
+  ends : EndsAll l.fn.world.run l.world.run;
+  waiting : AreWaiting l.waiting.items l.world.run;
   among : (a : Name) → IsTrue (has_name l.waiting.items a) → IsTrue (has_name l.fn.waiting.items a);
   each : length l.waiting.items + l.arm-index ≡ length l.arms;
   resolved : IsResolved l.self.script.now;

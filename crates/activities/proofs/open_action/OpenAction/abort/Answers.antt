@@ -4,21 +4,21 @@ use Rattle.activities.proofs.Going.{commits_through, ends_one, ends_through, goe
 use Rattle.activities.proofs.open_action.OpenAction.abort.Goals as goal
 
 pub returns-clause-goes_on : goal.returns-clause-goes_on
-returns-clause-goes_on c =
-    goes_through c.args.world.now c.try_step.new.world c.tell.new.world [] [] c.try_step.ensures.goes_on c.tell.ensures.goes_on
+returns-clause-goes_on g c =
+    goes_through c.args.world.now.run c.try_step.new.world.run c.tell.new.world.run [] [] c.try_step.ensures.goes_on c.tell.ensures.goes_on
 
 pub returns-clause-commits : goal.returns-clause-commits
-returns-clause-commits c =
-    commits_through c.args.world.now c.try_step.new.world c.tell.new.world [] c.try_step.ensures.goes_on (λ a h. c.try_step.ensures.commits a h refl)
+returns-clause-commits g c =
+    commits_through c.args.world.now.run c.try_step.new.world.run c.tell.new.world.run [] c.try_step.ensures.goes_on (λ a h. c.try_step.ensures.commits a h refl)
     c.tell.ensures.commits
 
 pub returns-clause-ended : goal.returns-clause-ended
-returns-clause-ended c =
+returns-clause-ended g c =
     on_ok c.tell.result
-    (ends_one c.args.self.now.name c.args.world.now c.tell.new.world
-    (λ b. still_ended c.try_step.new.world c.tell.new.world [] c.args.self.now.name c.tell.ensures.goes_on
+    (ends_one c.args.self.now.name c.args.world.now.run c.tell.new.world.run
+    (λ b. still_ended c.try_step.new.world.run c.tell.new.world.run [] c.args.self.now.name c.tell.ensures.goes_on
     (c.in_ok-try_step.ensures.aborts c.args.self.now.name (ap (λ a. Abort a) c.in_ok-copy.ensures.ok.1) b)))
 
 pub returns-clause-ends : goal.returns-clause-ends
-returns-clause-ends c =
-    ends_through c.args.world.now c.try_step.new.world c.tell.new.world [] c.tell.ensures.goes_on (c.try_step.ensures.ends refl) c.tell.ensures.ends
+returns-clause-ends g c =
+    ends_through c.args.world.now.run c.try_step.new.world.run c.tell.new.world.run [] c.tell.ensures.goes_on (c.try_step.ensures.ends refl) c.tell.ensures.ends

@@ -10,7 +10,7 @@ use Rattle.activities.proofs.Ending.{both_ok, has_reversed, ok_then, these_more}
 use Rattle.activities.proofs.open_action.OpenAction.abort_arms.Goals as goal
 
 pub returns-clause-ended : goal.returns-clause-ended
-returns-clause-ended c =
+returns-clause-ended g c =
     let start =
     ap (λ s. iter_rest (rev_source s)) c.into_iter-arm-iterator.ensures.into_iter_gives ∙ ap (λ s. iter_rest s) c.rev-arm-items.ensures.source
     ∙ c.iter.ensures.rest in
@@ -21,20 +21,20 @@ returns-clause-ended c =
     (λ p a h b. p a (ap (λ names. has_name names a) each.0 ∙ has_reversed c.args.arms.now a h) b)
 
 pub loop-arm-preserved : goal.loop-arm-preserved
-loop-arm-preserved c = record {
+loop-arm-preserved g c = record {
   goes_on =
-      goes_through c.args.world.now c.loop-arm.world c.abort_at_home.new.world [] [] c.loop-arm.invariant.goes_on c.abort_at_home.ensures.goes_on;
+      goes_through c.args.world.now.run c.loop-arm.world.run c.abort_at_home.new.world.run [] [] c.loop-arm.invariant.goes_on c.abort_at_home.ensures.goes_on;
   commits =
-      commits_through c.args.world.now c.loop-arm.world c.abort_at_home.new.world [] c.loop-arm.invariant.goes_on c.loop-arm.invariant.commits
+      commits_through c.args.world.now.run c.loop-arm.world.run c.abort_at_home.new.world.run [] c.loop-arm.invariant.goes_on c.loop-arm.invariant.commits
       c.abort_at_home.ensures.commits;
   ends =
-      ends_through c.args.world.now c.loop-arm.world c.abort_at_home.new.world [] c.abort_at_home.ensures.goes_on c.loop-arm.invariant.ends
+      ends_through c.args.world.now.run c.loop-arm.world.run c.abort_at_home.new.world.run [] c.abort_at_home.ensures.goes_on c.loop-arm.invariant.ends
       c.abort_at_home.ensures.ends;
   ended =
       subst
-      (λ r. OnOk r (EndsThese (map (λ arm. arm.now) (c.loop-arm.yielded ++ (c.in-Some.arm ∷ []))) c.args.world.now c.abort_at_home.new.world))
+      (λ r. OnOk r (EndsThese (map (λ arm. arm.now) (c.loop-arm.yielded ++ (c.in-Some.arm ∷ []))) c.args.world.now.run c.abort_at_home.new.world.run))
       (sym c.and-fault.ensures)
       (both_ok c.loop-arm.fault c.abort_at_home.result c.loop-arm.invariant.ended c.abort_at_home.ensures.ended
-      (these_more c.loop-arm.yielded c.in-Some.arm c.args.world.now c.loop-arm.world c.abort_at_home.new.world [] []
+      (these_more c.loop-arm.yielded c.in-Some.arm c.args.world.now.run c.loop-arm.world.run c.abort_at_home.new.world.run [] []
       c.loop-arm.invariant.goes_on c.abort_at_home.ensures.goes_on));
 }

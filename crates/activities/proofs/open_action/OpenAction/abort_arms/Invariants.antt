@@ -3,10 +3,10 @@ use Rattle.activities.specs.Continuing.{CommitsNone, EndsAll, EndsThese, GoesOn}
 use Rattle.activities.proofs.open_action.OpenAction.abort_arms.Given as goal
 
 abbrev pub invariant-loop-arm : goal.invariant-loop-arm
-invariant-loop-arm l = record {
-  goes_on : GoesOn l.fn.world l.world [];
-  commits : CommitsNone l.fn.world l.world;
-  ends : EndsAll l.fn.world l.world;
+invariant-loop-arm g l = record {
+  goes_on : GoesOn l.fn.world.run l.world.run [];
+  commits : CommitsNone l.fn.world.run l.world.run;
+  ends : EndsAll l.fn.world.run l.world.run;
   -- those so far
-  ended : OnOk l.fault (EndsThese (map (λ arm. arm.now) l.yielded) l.fn.world l.world);
+  ended : OnOk l.fault (EndsThese (map (λ arm. arm.now) l.yielded) l.fn.world.run l.world.run);
 }

@@ -4,5 +4,5 @@ use Rattle.run_model.specs.Openings.{opening_in}
 use Rattle.activities.proofs.open_action.OpenAction.begin_call.Goals as goal
 
 pub what_came-requires : goal.what_came-requires
-what_came-requires c names h =
-    call_begins_one (opening_in c.args.world.now.lists) c.in_ok-copy.field-0 c.args.guardian c.args.world.now.past names (sym h ∙ c.in_ok-answer.ensures.answer)
+what_came-requires g c names h =
+    call_begins_one (opening_in c.args.world.now.run.lists) c.in_ok-copy.field-0 c.args.guardian c.args.world.now.run.past names (sym h ∙ c.in_ok-answer.ensures.answer)

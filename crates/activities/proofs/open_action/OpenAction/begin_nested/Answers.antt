@@ -4,5 +4,5 @@ use Rattle.run_model.specs.Openings.{opening_in}
 use Rattle.activities.proofs.open_action.OpenAction.begin_nested.Goals as goal
 
 pub begun_by-requires : goal.begun_by-requires
-begun_by-requires c names h =
-    nested_begins_one (opening_in c.args.world.now.lists) c.in_ok-copy.field-0 c.args.world.now.past names (sym h ∙ c.in_ok-answer.ensures.answer)
+begun_by-requires g c names h =
+    nested_begins_one (opening_in c.args.world.now.run.lists) c.in_ok-copy.field-0 c.args.world.now.run.past names (sym h ∙ c.in_ok-answer.ensures.answer)

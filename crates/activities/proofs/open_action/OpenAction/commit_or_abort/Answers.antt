@@ -4,41 +4,41 @@ use Rattle.activities.proofs.Going.{among_then, ends_through, goes_through, one_
 use Rattle.activities.proofs.open_action.OpenAction.commit_or_abort.Goals as goal
 
 pub returns-then-branch-clause-ended : goal.returns-then-branch-clause-ended
-returns-then-branch-clause-ended c = or_left _ _ (sym c.in_ok-commit.ensures.told ∙ c.if-branch.true)
+returns-then-branch-clause-ended g c = or_left _ _ (sym c.in_ok-commit.ensures.told ∙ c.if-branch.true)
 
 pub returns-in_err-abort-clause-goes_on : goal.returns-in_err-abort-clause-goes_on
-returns-in_err-abort-clause-goes_on c =
-    goes_through c.args.world.now c.commit.new.world c.abort.new.world [] [] c.commit.ensures.goes_on c.abort.ensures.goes_on
+returns-in_err-abort-clause-goes_on g c =
+    goes_through c.args.world.now.run c.commit.new.world.run c.abort.new.world.run [] [] c.commit.ensures.goes_on c.abort.ensures.goes_on
 
 pub returns-in_err-abort-clause-others : goal.returns-in_err-abort-clause-others
-returns-in_err-abort-clause-others c =
-    among_then (c.args.self.now.name ∷ []) c.args.world.now c.commit.new.world c.abort.new.world [] c.commit.ensures.goes_on
+returns-in_err-abort-clause-others g c =
+    among_then (c.args.self.now.name ∷ []) c.args.world.now.run c.commit.new.world.run c.abort.new.world.run [] c.commit.ensures.goes_on
     c.commit.ensures.others c.abort.ensures.commits
 
 pub returns-in_err-abort-clause-ends : goal.returns-in_err-abort-clause-ends
-returns-in_err-abort-clause-ends c =
-    ends_through c.args.world.now c.commit.new.world c.abort.new.world [] c.abort.ensures.goes_on c.commit.ensures.ends c.abort.ensures.ends
+returns-in_err-abort-clause-ends g c =
+    ends_through c.args.world.now.run c.commit.new.world.run c.abort.new.world.run [] c.abort.ensures.goes_on c.commit.ensures.ends c.abort.ensures.ends
 
 pub returns-clause-goes_on : goal.returns-clause-goes_on
-returns-clause-goes_on c =
-    goes_through c.args.world.now c.commit.new.world c.abort.new.world [] [] c.commit.ensures.goes_on c.abort.ensures.goes_on
+returns-clause-goes_on g c =
+    goes_through c.args.world.now.run c.commit.new.world.run c.abort.new.world.run [] [] c.commit.ensures.goes_on c.abort.ensures.goes_on
 
 pub returns-clause-others : goal.returns-clause-others
-returns-clause-others c =
-    among_then (c.args.self.now.name ∷ []) c.args.world.now c.commit.new.world c.abort.new.world [] c.commit.ensures.goes_on
+returns-clause-others g c =
+    among_then (c.args.self.now.name ∷ []) c.args.world.now.run c.commit.new.world.run c.abort.new.world.run [] c.commit.ensures.goes_on
     c.commit.ensures.others c.abort.ensures.commits
 
 pub returns-clause-told : goal.returns-clause-told
-returns-clause-told c =
+returns-clause-told g c =
     sym c.if-branch.false ∙ c.in_ok-commit.ensures.told
     ∙ sym (c.abort.ensures.commits c.args.self.now.name
-    (still_begun c.args.world.now c.commit.new.world [] c.args.self.now.name c.commit.ensures.goes_on c.requires.open.begun))
+    (still_begun c.args.world.now.run c.commit.new.world.run [] c.args.self.now.name c.commit.ensures.goes_on c.requires.open.begun))
 
 pub returns-clause-ended : goal.returns-clause-ended
-returns-clause-ended c =
-    one_ends c.args.self.now.name c.commit.new.world c.abort.new.world c.in_ok-abort.ensures.ended
-    (still_begun c.args.world.now c.commit.new.world [] c.args.self.now.name c.commit.ensures.goes_on c.requires.open.begun)
+returns-clause-ended g c =
+    one_ends c.args.self.now.name c.commit.new.world.run c.abort.new.world.run c.in_ok-abort.ensures.ended
+    (still_begun c.args.world.now.run c.commit.new.world.run [] c.args.self.now.name c.commit.ensures.goes_on c.requires.open.begun)
 
 pub returns-clause-ends : goal.returns-clause-ends
-returns-clause-ends c =
-    ends_through c.args.world.now c.commit.new.world c.abort.new.world [] c.abort.ensures.goes_on c.commit.ensures.ends c.abort.ensures.ends
+returns-clause-ends g c =
+    ends_through c.args.world.now.run c.commit.new.world.run c.abort.new.world.run [] c.abort.ensures.goes_on c.commit.ensures.ends c.abort.ensures.ends

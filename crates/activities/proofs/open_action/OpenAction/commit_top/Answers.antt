@@ -13,93 +13,93 @@ use Rattle.run_model.specs.Openings.{opening_in}
 use Rattle.activities.proofs.open_action.OpenAction.commit_top.Goals as goal
 
 pub returns-then-not-branch-clause-held : goal.returns-then-not-branch-clause-held
-returns-then-not-branch-clause-held c = λ h.
-    inl (close_refused c.args.world.now c.args.self.now.name
+returns-then-not-branch-clause-held g c = λ h.
+    inl (close_refused c.args.world.now.run c.args.self.now.name
     (sym (c.in_ok-try_step.ensures.done
-    ∙ ap (λ a. is_made (answer_of (opening_in c.args.world.now.lists) (Close a) c.args.world.now.past)) c.in_ok-copy.ensures.ok.1)
+    ∙ ap (λ a. is_made (answer_of (opening_in c.args.world.now.run.lists) (Close a) c.args.world.now.run.past)) c.in_ok-copy.ensures.ok.1)
     ∙ c.if-not-branch.true))
 
 pub loop-guardian-init : goal.loop-guardian-init
-loop-guardian-init c = record {
+loop-guardian-init g c = record {
   goes_on = c.try_step.ensures.goes_on;
   commits = λ a h. c.try_step.ensures.commits a h refl;
   ends = c.try_step.ensures.ends refl;
   asked =
-      ask_first c.args.self.now.reached.participants c.args.self.now.name c.args.world.now c.try_step.new.world
+      ask_first c.args.self.now.reached.participants c.args.self.now.name c.args.world.now.run c.try_step.new.world.run
       c.into_iter-guardian-iterator.result c.requires.run c.into_iter-guardian-iterator.ensures.into_iter_gives.0
-      (subst (λ a. IsAfter (Close a) c.args.world.now c.try_step.new.world) c.in_ok-copy.ensures.ok.1 c.in_ok-try_step.ensures.after)
+      (subst (λ a. IsAfter (Close a) c.args.world.now.run c.try_step.new.world.run) c.in_ok-copy.ensures.ok.1 c.in_ok-try_step.ensures.after)
       (sym (c.in_ok-try_step.ensures.done
-      ∙ ap (λ a. is_made (answer_of (opening_in c.args.world.now.lists) (Close a) c.args.world.now.past)) c.in_ok-copy.ensures.ok.1)
+      ∙ ap (λ a. is_made (answer_of (opening_in c.args.world.now.run.lists) (Close a) c.args.world.now.run.past)) c.in_ok-copy.ensures.ok.1)
       ∙ c.if-not-branch.false)
       c.into_iter-guardian-iterator.ensures.into_iter_gives.4;
 }
 
 pub returns-in_err-prepare-clause-goes_on : goal.returns-in_err-prepare-clause-goes_on
-returns-in_err-prepare-clause-goes_on c =
-    goes_through c.args.world.now c.loop-guardian.world c.prepare.new.world [] [] c.loop-guardian.invariant.goes_on c.prepare.ensures.goes_on
+returns-in_err-prepare-clause-goes_on g c =
+    goes_through c.args.world.now.run c.loop-guardian.world.run c.prepare.new.world.run [] [] c.loop-guardian.invariant.goes_on c.prepare.ensures.goes_on
 
 pub returns-in_err-prepare-clause-others : goal.returns-in_err-prepare-clause-others
-returns-in_err-prepare-clause-others c =
-    none_is_among (c.args.self.now.name ∷ []) c.args.world.now c.prepare.new.world
-    (commits_through c.args.world.now c.loop-guardian.world c.prepare.new.world [] c.loop-guardian.invariant.goes_on
+returns-in_err-prepare-clause-others g c =
+    none_is_among (c.args.self.now.name ∷ []) c.args.world.now.run c.prepare.new.world.run
+    (commits_through c.args.world.now.run c.loop-guardian.world.run c.prepare.new.world.run [] c.loop-guardian.invariant.goes_on
     c.loop-guardian.invariant.commits c.prepare.ensures.commits)
 
 pub returns-then-not-branch-2-clause-goes_on : goal.returns-then-not-branch-2-clause-goes_on
-returns-then-not-branch-2-clause-goes_on c =
-    goes_through c.args.world.now c.loop-guardian.world c.prepare.new.world [] [] c.loop-guardian.invariant.goes_on c.prepare.ensures.goes_on
+returns-then-not-branch-2-clause-goes_on g c =
+    goes_through c.args.world.now.run c.loop-guardian.world.run c.prepare.new.world.run [] [] c.loop-guardian.invariant.goes_on c.prepare.ensures.goes_on
 
 pub returns-then-not-branch-2-clause-held : goal.returns-then-not-branch-2-clause-held
-returns-then-not-branch-2-clause-held c = λ h.
-    inr (inl (ask_failed (has c.args.self.now.reached.participants) c.args.self.now.name c.loop-guardian.world c.prepare.new.world
+returns-then-not-branch-2-clause-held g c = λ h.
+    inr (inl (ask_failed (has c.args.self.now.reached.participants) c.args.self.now.name c.loop-guardian.world.run c.prepare.new.world.run
     c.in-Some.guardian.now _ _ (rest_more deref _ _ _ c.in-Some.guardian c.in-Some.is c.next.ensures.steps) c.in_ok-prepare.ensures.after
     (sym c.in_ok-prepare.ensures.yes ∙ c.if-not-branch-2.true) c.loop-guardian.invariant.asked))
 
 pub loop-guardian-preserved : goal.loop-guardian-preserved
-loop-guardian-preserved c = record {
+loop-guardian-preserved g c = record {
   goes_on =
-      goes_through c.args.world.now c.loop-guardian.world c.prepare.new.world [] [] c.loop-guardian.invariant.goes_on c.prepare.ensures.goes_on;
+      goes_through c.args.world.now.run c.loop-guardian.world.run c.prepare.new.world.run [] [] c.loop-guardian.invariant.goes_on c.prepare.ensures.goes_on;
   commits =
-      commits_through c.args.world.now c.loop-guardian.world c.prepare.new.world [] c.loop-guardian.invariant.goes_on
+      commits_through c.args.world.now.run c.loop-guardian.world.run c.prepare.new.world.run [] c.loop-guardian.invariant.goes_on
       c.loop-guardian.invariant.commits c.prepare.ensures.commits;
   ends =
-      ends_through c.args.world.now c.loop-guardian.world c.prepare.new.world [] c.prepare.ensures.goes_on c.loop-guardian.invariant.ends
+      ends_through c.args.world.now.run c.loop-guardian.world.run c.prepare.new.world.run [] c.prepare.ensures.goes_on c.loop-guardian.invariant.ends
       c.prepare.ensures.ends;
   asked =
-      ask_next (has c.args.self.now.reached.participants) c.args.self.now.name c.loop-guardian.world c.prepare.new.world
+      ask_next (has c.args.self.now.reached.participants) c.args.self.now.name c.loop-guardian.world.run c.prepare.new.world.run
       c.in-Some.guardian.now _ _ (rest_more deref _ _ _ c.in-Some.guardian c.in-Some.is c.next.ensures.steps) c.in_ok-prepare.ensures.after
       (sym c.in_ok-prepare.ensures.yes ∙ c.if-not-branch-2.false) c.loop-guardian.invariant.asked;
 }
 
 pub returns-clause-goes_on : goal.returns-clause-goes_on
-returns-clause-goes_on c =
-    goes_through c.args.world.now c.loop-guardian.world c.try_step-2.new.world [] [] c.loop-guardian.invariant.goes_on c.try_step-2.ensures.goes_on
+returns-clause-goes_on g c =
+    goes_through c.args.world.now.run c.loop-guardian.world.run c.try_step-2.new.world.run [] [] c.loop-guardian.invariant.goes_on c.try_step-2.ensures.goes_on
 
 pub returns-clause-others : goal.returns-clause-others
-returns-clause-others c =
-    none_then (c.args.self.now.name ∷ []) c.args.world.now c.loop-guardian.world c.try_step-2.new.world [] c.loop-guardian.invariant.goes_on
+returns-clause-others g c =
+    none_then (c.args.self.now.name ∷ []) c.args.world.now.run c.loop-guardian.world.run c.try_step-2.new.world.run [] c.loop-guardian.invariant.goes_on
     c.loop-guardian.invariant.commits
-    (by_is_among c.args.self.now.name c.in_ok-copy-2.field-0 (Decide c.in_ok-copy-2.field-0) c.loop-guardian.world c.try_step-2.new.world
+    (by_is_among c.args.self.now.name c.in_ok-copy-2.field-0 (Decide c.in_ok-copy-2.field-0) c.loop-guardian.world.run c.try_step-2.new.world.run
     c.in_ok-copy-2.ensures.ok.1 (λ a. refl) c.try_step-2.ensures.commits)
 
 pub returns-clause-told : goal.returns-clause-told
-returns-clause-told c =
-    commit_result_told c.loop-guardian.world c.try_step-2.new.world (Decide c.args.self.now.name) c.args.self.now.name c.try_step-2.result
-    (subst (λ a. OnOk c.try_step-2.result (IsAfter (Decide a) c.loop-guardian.world c.try_step-2.new.world)) c.in_ok-copy-2.ensures.ok.1
+returns-clause-told g c =
+    commit_result_told c.loop-guardian.world.run c.try_step-2.new.world.run (Decide c.args.self.now.name) c.args.self.now.name c.try_step-2.result
+    (subst (λ a. OnOk c.try_step-2.result (IsAfter (Decide a) c.loop-guardian.world.run c.try_step-2.new.world.run)) c.in_ok-copy-2.ensures.ok.1
     c.try_step-2.ensures.after)
     (subst
-    (λ a. IfOk c.try_step-2.result (λ done. done ≡ is_made (answer_of (opening_in c.loop-guardian.world.lists) (Decide a) c.loop-guardian.world.past)))
+    (λ a. IfOk c.try_step-2.result (λ done. done ≡ is_made (answer_of (opening_in c.loop-guardian.world.run.lists) (Decide a) c.loop-guardian.world.run.past)))
     c.in_ok-copy-2.ensures.ok.1 c.try_step-2.ensures.done)
     (same_name_self c.args.self.now.name)
-    (sym (still_uncommitted c.args.self.now.name c.args.world.now c.loop-guardian.world c.requires.open c.loop-guardian.invariant.commits))
+    (sym (still_uncommitted c.args.self.now.name c.args.world.now.run c.loop-guardian.world.run c.requires.open c.loop-guardian.invariant.commits))
 
 pub returns-clause-held : goal.returns-clause-held
-returns-clause-held c =
-    decide_held c.args.self.now.reached.participants c.args.self.now.name c.args.world.now c.loop-guardian.world c.try_step-2.new.world
+returns-clause-held g c =
+    decide_held c.args.self.now.reached.participants c.args.self.now.name c.args.world.now.run c.loop-guardian.world.run c.try_step-2.new.world.run
     c.try_step-2.result
-    (subst (λ a. OnOk c.try_step-2.result (IsAfter (Decide a) c.loop-guardian.world c.try_step-2.new.world)) c.in_ok-copy-2.ensures.ok.1
+    (subst (λ a. OnOk c.try_step-2.result (IsAfter (Decide a) c.loop-guardian.world.run c.try_step-2.new.world.run)) c.in_ok-copy-2.ensures.ok.1
     c.try_step-2.ensures.after)
     (subst
-    (λ a. IfOk c.try_step-2.result (λ done. done ≡ is_made (answer_of (opening_in c.loop-guardian.world.lists) (Decide a) c.loop-guardian.world.past)))
+    (λ a. IfOk c.try_step-2.result (λ done. done ≡ is_made (answer_of (opening_in c.loop-guardian.world.run.lists) (Decide a) c.loop-guardian.world.run.past)))
     c.in_ok-copy-2.ensures.ok.1 c.try_step-2.ensures.done)
-    (all_asked (has c.args.self.now.reached.participants) c.args.self.now.name c.loop-guardian.world _
+    (all_asked (has c.args.self.now.reached.participants) c.args.self.now.name c.loop-guardian.world.run _
     (rest_all deref _ _ _ c.in-None.is c.next.ensures.steps) c.loop-guardian.invariant.asked)

@@ -6,7 +6,7 @@ use Rattle.activities.proofs.Steps.{commit_result_told}
 use Rattle.activities.proofs.open_action.OpenAction.try_commit.Goals as goal
 
 pub returns-in_ok-copy-clause-told : goal.returns-in_ok-copy-clause-told
-returns-in_ok-copy-clause-told c =
-    commit_result_told c.args.world.now c.try_step.new.world (Commit c.in_ok-copy.field-0) c.args.self.now.name c.try_step.result
+returns-in_ok-copy-clause-told g c =
+    commit_result_told c.args.world.now.run c.try_step.new.world.run (Commit c.in_ok-copy.field-0) c.args.self.now.name c.try_step.result
     c.try_step.ensures.after c.try_step.ensures.done
     (ap (λ a. same_name a c.args.self.now.name) c.in_ok-copy.ensures.ok.1 ∙ same_name_self c.args.self.now.name) c.requires.open.uncommitted

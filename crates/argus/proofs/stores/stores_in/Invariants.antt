@@ -1,0 +1,6 @@
+use Rattle.std.proofs.Common.{◌≡◌, length}
+use Rattle.argus.proofs.stores.stores_in.Given as goal
+
+-- the stores of the first guardians
+abbrev pub invariant-loop-index : goal.invariant-loop-index
+invariant-loop-index l = length l.stores.items ≡ l.index

@@ -1,4 +1,0 @@
-pub mod Homes
-pub mod Kept
-pub mod Knowing
-pub mod Rows

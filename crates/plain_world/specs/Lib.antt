@@ -1,3 +1,0 @@
-pub mod Plain
-pub mod Kept
-pub mod Ready

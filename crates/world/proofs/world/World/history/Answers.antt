@@ -1,8 +1,0 @@
-use Rattle.std.proofs.Common.{subst}
-use Rattle.run_laws.specs.Serving.{IsServed}
-use Rattle.run_laws.proofs.Serving.{runs_are_served}
-use Rattle.run_model.specs.Openings.{opening_in}
-use Rattle.world.proofs.world.World.history.Goals as goal
-
-pub returns-clause-served : goal.returns-clause-served
-returns-clause-served c = subst (λ w. IsServed (opening_in w.lists) w.past) c.self.view_is (runs_are_served _ _ c.history.ensures.run)
