@@ -29,6 +29,7 @@ impl<S: Stable> World<S> {
         ensures refused { IfErr result (λ refused. contents S.seen refused.1.items ≡ contents S.seen stores.items) }
         ensures cause { all_hold S.seen stores.items ≡ true → AreEmpty S.seen stores.items
             → IfErr result (λ refused. refused.0 ≢ Refused.Memory → OneHasCounted S.seen stores.items refused.1.items) }
+        ensures counted { IfErr result (λ refused. refused.0 ≡ Refused.Stable → OneHasCounted S.seen stores.items refused.1.items) }
     {
         let mut stores = stores;
         if let Err(why) = begin_stores(alloc, stores.as_mut_slice()) {

@@ -1,10 +1,10 @@
 -- When nothing was ever kept in a store, by its maps, and in a list of stores, store by store.
-use Rattle.std.proofs.Common.{◌≡◌, ℕ, zero, suc, ◌+◌, ◌<◌, arith, List, [], ◌∷◌, ◌++◌, Some, None, true, true≢false, ◌||◌, cond, drop, eq-eqb, length, take, get_or, refl, sym, ap, subst, ◌∙◌}
+use Rattle.std.proofs.Common.{◌≡◌, ℕ, zero, suc, ◌<◌, arith, List, [], ◌∷◌, Some, None, true, true≢false, ◌||◌, cond, drop, eq-eqb, length, get_or, refl, sym, ap, ◌∙◌}
 use Rattle.std.specs.Ordering.{nat_cmp, eq_by_cmp}
 use Rattle.std.specs.Cmp.{nat_cmp_total, unsigned_tied}
 use Rattle.std.specs.FinMap as map
 use Rattle.std.specs.FinSet as set
-use Rattle.std.proofs.lemmas.List.{length-map, take_more}
+use Rattle.std.proofs.lemmas.List.{length-map}
 use Rattle.stable_store.specs.Calls.{View}
 use Rattle.stable_store.specs.Held.{held, record_of, records_of}
 use Rattle.stable_store.specs.Stored.{empty}
@@ -39,13 +39,6 @@ no_items : {X : Type 0} (xs : List X) → length xs ≡ 0 → xs ≡ []
 no_items [] e = refl
 no_items (x ∷ xs) e = absurd (omega (arith, e))
 
-pub held_nothing : (kept : Kept) → HasNothing kept → held kept ≡ empty
-held_nothing kept h =
-    let base = ap (λ es. map.from_entries {R = nat_cmp} es) (no_items kept.base.entries h.base) in
-    let prepared = ap (λ es. map.from_entries {R = nat_cmp} (records_of es)) (no_items kept.prepared.entries h.prepared) in
-    let decided = ap (λ ks. set.from_list {R = nat_cmp} ks) (no_items kept.decided.keys h.decided) in
-    λ i. record { base = base i; prepared = prepared i; decided = decided i; count = h.count i; next_top = h.next_top i }
-
 pub nothing_held : (kept : Kept) → held kept ≡ empty → HasNothing kept
 nothing_held kept e = record {
   base = no_entries kept.base.entries (ap (λ s. s.base) e);
@@ -69,12 +62,3 @@ module _ {S : Type 0} (seen : S → View) where
   empty_at [] i d within all = absurd (omega (arith, within))
   empty_at (s ∷ ss) zero d within all = all.0
   empty_at (s ∷ ss) (suc i) d within all = empty_at ss i d (omega (arith, within)) all.1
-
-  appended : (xs ys : List S) → AreEmpty seen xs → AreEmpty seen ys → AreEmpty seen (xs ++ ys)
-  appended [] ys a b = b
-  appended (x ∷ xs) ys a b = (a.0, appended xs ys a.1 b)
-
-  pub empty_more : (stores : List S) (i : ℕ) (s : S) → i < length stores → s ≡ get_or stores i s → (seen s).content ≡ empty → AreEmpty seen (take i stores)
-      → AreEmpty seen (take (i + 1) stores)
-  empty_more stores i s within here is all =
-      subst (λ ss. AreEmpty seen ss) (sym (take_more stores i s within ∙ ap (λ x. take i stores ++ x ∷ []) (sym here))) (appended (take i stores) (s ∷ []) all (is, tt))

@@ -1,5 +1,5 @@
 //! The stores of a system that begins.
-ghost use Rattle.std.specs.Prelude.{◌≡◌, ◌≢◌, ◌↔◌, true, IfErr, IsTrue, OnOk};
+ghost use Rattle.std.specs.Prelude.{◌≡◌, ◌≢◌, ◌↔◌, true, IfErr, IsErrOf, IsTrue, OnOk};
 ghost use Rattle.std.specs.List.{AllZip};
 ghost use Rattle.store_settling.specs.Beginning.{AreEmpty, AreNew, HasNothing};
 ghost use Rattle.store_settling.specs.Settling.{contents};
@@ -22,6 +22,7 @@ pub fn begin_stores<S: Stable>(alloc: Global, stores: &mut [S]) -> Result<(), Re
     ensures kept { AllZip (KeepsItself S.seen) stores.old stores.new }
     ensures cause { all_hold S.seen stores.old ≡ true → AreEmpty S.seen stores.old
         → IfErr result (λ why. why ≢ Refused.Memory → OneHasCounted S.seen stores.old stores.new) }
+    ensures counted { IsErrOf result Refused.Stable → OneHasCounted S.seen stores.old stores.new }
 {
     if !all_hold(stores) {
         return Err(Refused::NotOurs);
