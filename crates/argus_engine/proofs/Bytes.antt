@@ -1,16 +1,21 @@
 -- Lines at the front of what a reader gives.
-use Rattle.std.proofs.Common.{◌≡◌, ◌≢◌, ℕ, zero, suc, ◌+◌, ◌-◌, ◌<◌, ◌≤◌, List, [], ◌∷◌, ◌++◌, length, take, drop, slice_index, Option, Some, None, refl, sym, ap, subst, ◌∙◌, append_assoc, append-nil, arith}
+use Rattle.std.proofs.Common.{◌≡◌, ◌≢◌, ℕ, suc, ◌+◌, ◌-◌, ◌<◌, ◌≤◌, List, [], ◌∷◌, ◌++◌, length, take, drop, Option, Some, None, IfSome, refl, sym, ap, subst, ◌∙◌, append_assoc, append-nil, arith}
 use Rattle.std.proofs.Math.Seq.{take-add}
-use Rattle.std.proofs.lemmas.List.{take_all, take_rest, length-drop}
+use Rattle.std.proofs.lemmas.List.{take_all, take_more, take_rest, length-drop}
+use Rattle.std.specs.Io.{StartsWith}
+use Rattle.std.specs.Io.BufRead.{DropsConsumable}
 use Rattle.std.specs.Io.KnownBytes.{Consumes, Appends, Keeps, IsAtEnd}
+use Rattle.std.proofs.BufReadLemmas.{Consumes_shown}
 use Rattle.std.proofs.KnownBytes.{Consumes-trans, Appends-trans, Appends-nil, Appends-kept}
 use Rattle.run_model.specs.declared.step.Step.{Step}
 use Rattle.run_model.specs.Texts.{step_text, max_line, Spells}
 use Rattle.run_model.specs.Reading.{Lacks}
-use Rattle.run_model.specs.Spaces.{Lacks-nil, Lacks-cons, Lacks-append}
+use Rattle.run_model.specs.Spaces.{Lacks-append}
 use Rattle.run_model.proofs.Cutting.{same_cut, no_cut}
 use Rattle.argus_engine.specs.Serving.{Gives, TakesFront}
-use Rattle.argus_engine.specs.Reading.{FacesNoStep}
+use Rattle.argus_engine.specs.declared.reading.Met.{Met}
+use Rattle.argus_engine.specs.declared.reading.Met.TheVariants as met
+use Rattle.argus_engine.specs.Reading.{AreBefore, FacesNoStep, TakesSome}
 use Rattle.argus_engine.proofs.NoLineFeed.{step_lacks_line_feed}
 
 -- what is left after the bytes that were read, as far as it is known
@@ -83,37 +88,34 @@ line_is_no_step start now line h lacks none =
     filled [] b e = absurd cc
     filled (x ∷ a) b e = absurd cc
 
--- one more byte of a line
-pub one_more_byte : (start mid now : Option (List ℕ)) (bytes grown : List ℕ) (byte : ℕ) → Consumes start mid bytes → Consumes mid now (byte ∷ []) → grown ≡ bytes ++ byte ∷ [] → Consumes start now grown
-one_more_byte start mid now bytes grown byte h more e = subst (Consumes start now) (sym e) (Consumes-trans start mid now bytes (byte ∷ []) h more)
+-- more bytes of a line, behind those that were taken
+pub took_more : (start mid now : Option (List ℕ)) (bytes grown : List ℕ) (kind : Met) → Consumes start mid bytes → Lacks 10 bytes
+    → TakesSome mid now bytes grown kind → kind ≡ met.More → Consumes start now grown × Lacks 10 grown
+took_more start mid now bytes grown kind h lacks takes is =
+    let (more, e, others, taken) = subst (TakesSome mid now bytes grown) is takes in (
+      subst (Consumes start now) (sym e) (Consumes-trans start mid now bytes more h taken),
+      subst (Lacks 10) (sym e) (Lacks-append 10 bytes more lacks others),
+    )
 
-pub one_more_lacks : (bytes grown : List ℕ) (byte : ℕ) → Lacks 10 bytes → byte ≢ 10 → grown ≡ bytes ++ byte ∷ [] → Lacks 10 grown
-one_more_lacks bytes grown byte h other e = subst (Lacks 10) (sym e) (Lacks-append 10 bytes (byte ∷ []) h (Lacks-cons 10 byte [] other (Lacks-nil 10)))
-
--- a read that took nothing before one that took the bytes
-pub kept_then : (start mid now : Option (List ℕ)) (bytes : List ℕ) → Keeps start mid → Consumes mid now bytes → Consumes start now bytes
-kept_then None mid now bytes k h = tt
-kept_then (Some xs) None now bytes k h = absurd k
-kept_then (Some xs) (Some ys) None bytes k h = absurd h
-kept_then (Some xs) (Some ys) (Some zs) bytes k h = sym k ∙ h
-
-pub kept_end : (start mid : Option (List ℕ)) → Keeps start mid → IsAtEnd mid → IsAtEnd start
-kept_end None mid k h = tt
-kept_end (Some xs) None k h = absurd k
-kept_end (Some xs) (Some ys) k h = sym k ∙ h
-
--- what a read at the end says
-pub read_none : (start mid now : Option (List ℕ)) (buffer : List ℕ) → Keeps start mid → Consumes mid now (take 0 buffer) → IsAtEnd now → IsAtEnd start
-read_none start mid now buffer k h e = kept_end start mid k (nothing_was mid now h e)
-
--- what a read of one byte says
-pub read_one : (start mid now : Option (List ℕ)) (buffer : List ℕ) (count byte : ℕ) → Keeps start mid → Consumes mid now (take count buffer) → length buffer ≡ 1 → count ≢ 0 → count ≤ length buffer
-    → byte ≡ slice_index buffer 0 → Consumes start now (byte ∷ [])
-read_one start mid now [] count byte k h one some fits e = absurd (omega arith)
-read_one start mid now (b ∷ d ∷ buffer) count byte k h one some fits e = absurd (omega arith)
-read_one start mid now (b ∷ []) zero byte k h one some fits e = absurd (some refl)
-read_one start mid now (b ∷ []) (suc zero) byte k h one some fits e = subst (λ c. Consumes start now (c ∷ [])) (sym e) (kept_then start mid now (b ∷ []) k h)
-read_one start mid now (b ∷ []) (suc (suc n)) byte k h one some fits e = absurd (omega arith)
+-- what was ready is taken up to what was met
+pub takes_some : (old kept new : Option (List ℕ)) (buffered : Option ℕ) (ready bytes grown : List ℕ) (count taken : ℕ) (kind : Met)
+    → AreBefore ready count taken kind → grown ≡ bytes ++ take count ready → IfSome old (λ xs. StartsWith xs ready)
+    → IfSome old (λ xs. length ready ≡ 0 → xs ≡ []) → Keeps old kept → IfSome old (λ _. IfSome buffered (λ k. length ready ≤ k))
+    → DropsConsumable kept new buffered taken → TakesSome old new bytes grown kind
+takes_some old kept new buffered ready bytes grown count taken met.LineFeed (lt, is, one, lacks) e front end keeps fits drops =
+    let moved = Consumes_shown old kept new buffered ready taken (omega arith) front end keeps fits drops in
+    let all : take taken ready ≡ take count ready ++ 10 ∷ [] =
+    ap (λ n. take n ready) (omega arith) ∙ take_more ready count 0 lt ∙ ap (λ c. take count ready ++ c ∷ []) is in
+    (take count ready, e, lacks, subst (Consumes old new) all moved.0)
+takes_some old kept new buffered ready bytes grown count taken met.More (le, same, lacks) e front end keeps fits drops =
+    let moved = Consumes_shown old kept new buffered ready taken (omega arith) front end keeps fits drops in
+    (take count ready, e, lacks, subst (λ n. Consumes old new (take n ready)) same moved.0)
+takes_some old kept new buffered ready bytes grown count taken met.End (none, nought, _) e front end keeps fits drops =
+    (e ∙ ap (λ n. bytes ++ take n ready) nought ∙ append-nil bytes, at_end old end)
+  where
+    at_end : (o : Option (List ℕ)) → IfSome o (λ xs. length ready ≡ 0 → xs ≡ []) → IsAtEnd o
+    at_end None h = tt
+    at_end (Some xs) h = h (ap length none)
 
 -- one more write of the rest
 pub wrote_more : (start mid now : Option (List ℕ)) (bytes : List ℕ) (count more : ℕ) → Appends start mid (take count bytes) → Appends mid now (take more (take (length bytes - count) (drop count bytes)))

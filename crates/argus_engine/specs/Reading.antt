@@ -1,7 +1,7 @@
 -- Words for the clauses of private functions: one line, and how far the engine has come.
-use Rattle.std.specs.Prelude.{ℕ, Bool, true, false, ◌≡◌, ◌≢◌, suc, List, [], ◌∷◌, ◌++◌, Option, length, ◌⊎◌}
+use Rattle.std.specs.Prelude.{ℕ, Bool, true, false, ◌≡◌, ◌≢◌, ◌<◌, ◌≤◌, suc, List, [], ◌∷◌, ◌++◌, Option, length, slice_index, take, ◌⊎◌}
 use Rattle.std.specs.List.{AllByRecursion}
-use Rattle.std.specs.Io.KnownBytes.{Appends, Consumes}
+use Rattle.std.specs.Io.KnownBytes.{Appends, Consumes, IsAtEnd}
 use Rattle.run_model.specs.declared.step.Step.{Step}
 use Rattle.run_model.specs.declared.history.Event.{Event}
 use Rattle.run_model.specs.Openings.{Opening, opening_in}
@@ -12,6 +12,9 @@ use Rattle.run_model.specs.Transcripts.{BeginsWithStep, line_feed}
 use Rattle.run_model.specs.Reading.{Lacks}
 use Rattle.argus_engine.specs.declared.reading.Line.{Line}
 use Rattle.argus_engine.specs.declared.reading.Line.TheVariants as line
+use Rattle.argus_engine.specs.declared.reading.Front.{Front}
+use Rattle.argus_engine.specs.declared.reading.Met.{Met}
+use Rattle.argus_engine.specs.declared.reading.Met.TheVariants as met
 use Rattle.argus_engine.specs.declared.engine.Fault.{Fault}
 use Rattle.argus_engine.specs.declared.engine.Fault.TheVariants.{Memory, Input, Store}
 use Rattle.argus_engine.specs.declared.engine.Next.{Next}
@@ -39,6 +42,24 @@ abbrev pub ReadsLine : Option (List ℕ) → Option (List ℕ) → List ℕ → 
 ReadsLine old new bytes line.Whole = Consumes old new (bytes ++ line_feed ∷ []) × Lacks line_feed bytes
 ReadsLine old new bytes line.Bad = FacesNoStep old
 ReadsLine old new bytes line.Missing = Gives old []
+
+-- so many of the bytes that are ready stand before what was met: the line feed, which is taken with them, or nothing that ends the line; at the
+-- end nothing is ready
+abbrev pub AreBefore : List ℕ → ℕ → ℕ → Met → Type 0
+AreBefore ready count taken met.LineFeed =
+    (count < length ready) × (slice_index ready count ≡ line_feed) × (taken ≡ suc count) × Lacks line_feed (take count ready)
+AreBefore ready count taken met.More = (count ≤ length ready) × (taken ≡ count) × Lacks line_feed (take count ready)
+AreBefore ready count taken met.End = (ready ≡ []) × (count ≡ 0) × (taken ≡ 0)
+
+abbrev pub IsFront : List ℕ → Front → Type 0
+IsFront ready front = AreBefore ready front.count front.taken front.met
+
+-- bytes of a line were taken and put behind those that were there, up to what was met
+abbrev pub TakesSome : Option (List ℕ) → Option (List ℕ) → List ℕ → List ℕ → Met → Type 0
+TakesSome old new bytes grown met.LineFeed =
+    (more : List ℕ) × (grown ≡ bytes ++ more) × Lacks line_feed more × Consumes old new (more ++ line_feed ∷ [])
+TakesSome old new bytes grown met.More = (more : List ℕ) × (grown ≡ bytes ++ more) × Lacks line_feed more × Consumes old new more
+TakesSome old new bytes grown met.End = (grown ≡ bytes) × IsAtEnd old
 
 -- the reader went on with the line of the step
 abbrev pub ReadsStep : Option (List ℕ) → Option (List ℕ) → Step → Type 0

@@ -12,7 +12,7 @@ use run_model::{Answer, Step};
 use stable_store::{Stable, StoreFault};
 use stable_world::World;
 use std::alloc::{AllocError, AllocFailed, Global};
-use std::io::{BufReader, Read, Write};
+use std::io::{BufRead, BufReader, Read, Write};
 use thiserror::Error;
 
 /// How the engine came to its end.
@@ -131,7 +131,7 @@ pub fn steps<S: Stable, R: Read, W: Write>(
 }
 
 /// Answers line after line. Answers that are not yet written are left in the text, also after a fault.
-fn answer_all<S: Stable, R: Read, W: Write>(
+fn answer_all<S: Stable, R: BufRead, W: Write>(
     alloc: Global,
     world: &mut World<S>,
     reader: &mut R,
@@ -163,7 +163,7 @@ fn answer_all<S: Stable, R: Read, W: Write>(
 
 /// Reads one line, makes its step and appends the line of its answer. After a fault the text is as it was.
 #[tactic(auto, using(crate::proofs::Bytes::line_is_no_step))]
-fn answer_next<S: Stable, R: Read>(
+fn answer_next<S: Stable, R: BufRead>(
     alloc: Global,
     world: &mut World<S>,
     reader: &mut R,
@@ -207,17 +207,21 @@ fn answer_line<S: Stable>(
         return Ok(false);
     };
     let answer = world.step(&step)?;
-    push_answer(alloc, &answer, answers)?;
+    push_answer(&answer, answers)?;
     Ok(true)
 }
 
-fn push_answer(alloc: Global, answer: &Answer, answers: &mut String) -> Result<(), AllocError>
+fn push_answer(answer: &Answer, answers: &mut String) -> Result<(), AllocError>
     ensures ok { OnOk result (string_bytes answers.new ≡ string_bytes answers.old ++ (answer_text answer.now ++ line_feed ∷ [])) }
     ensures err { OnErr result (string_bytes answers.new ≡ string_bytes answers.old) }
 {
-    let mut line = answer.text(alloc)?;
-    line.push('\n')?;
-    answers.push_str(line.as_str())
+    let len = answers.as_str().len();
+    answer.write_to(answers)?;
+    let ended = answers.push('\n');
+    if ended.is_err() {
+        answers.truncate(len);
+    }
+    ended
 }
 
 fn push_error(alloc: Global, number: u64, answers: &mut String) -> Result<(), AllocError>
