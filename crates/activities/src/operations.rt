@@ -5,9 +5,9 @@ ghost use Rattle.activities.specs.Bodies.{IsOp, IsOutcome, sizes};
 ghost use Rattle.activities.specs.Continuing.{CommitsNone, EndsAll, GoesOn};
 ghost use Rattle.run_model.specs.Openings.{opening_in};
 
-use crate::frames::Frames;
 use crate::open_action::OpenAction;
 use atomic_types::Reply;
+use frames::Frames;
 use run_model::Answer;
 use script_model::{Binding, ObjectCall};
 use stable_store::Stable;
@@ -47,6 +47,7 @@ pub(crate) fn perform<S: Stable>(
     }
 }
 
+#[tactic(auto, using(frames::proofs::Counting::sizes_after))]
 fn bind(frames: &mut Frames, binding: Binding, reply: Reply) -> Result<Outcome, AllocError>
     requires { IsTrue (binding_is_bound (sizes frames.old) binding) }
     ensures { IfOk result (λ done. IsOutcome done binding (sizes frames.old) (sizes frames.new)) }
