@@ -257,7 +257,7 @@ called_within script frames c k =
     let (h, there, ints, texts) = called_takes script frames c k in slice_get_within script.handlers c.handler h there
 
 -- the frames with which a handler begins
-abbrev handed : ℕ → ℕ → Frames
+abbrev pub handed : ℕ → ℕ → Frames
 handed ints texts = record { ints = ints; texts = texts; truths = 0 }
 
 resolved_at : (objects : Option (List Content)) (script : Checked) (g : Gives) (frames : Frames) (body : List Statement)

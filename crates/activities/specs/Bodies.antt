@@ -1,5 +1,5 @@
 -- What is known of a body that an interpreter goes through, and what it leaves of the variables.
-use Rattle.std.specs.Prelude.{◌≡◌, ◌≤◌, Bool, ◌&&◌, IsTrue, List, length, map, Option, Some, None}
+use Rattle.std.specs.Prelude.{◌≡◌, ◌≤◌, Bool, ◌&&◌, IsTrue, List, map, Option, Some, None}
 use Rattle.run_model.specs.declared.step.ArmKind.{ArmKind}
 use Rattle.run_model.specs.declared.step.ArmKind.TheVariants as kind
 use Rattle.script_model.specs.declared.statement.Arm.{Arm, out-Arm}
