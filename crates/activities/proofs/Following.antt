@@ -1,5 +1,5 @@
 -- What a turn of a loop or one more call leaves, by what it found.
-use Rattle.std.proofs.Common.{Err, IfSome, List, Ok, OnOk, Option, Result, Some, [], ap, arith, drop, get_or, length, refl, subst, suc, sym, ℕ, ◌++◌, ◌+◌, ◌<◌, ◌∙◌, ◌∷◌, ◌≡◌}
+use Rattle.std.proofs.Common.{Err, List, Ok, OnOk, Option, Result, Some, [], ap, arith, drop, get_or, length, refl, subst, suc, sym, ℕ, ◌++◌, ◌+◌, ◌<◌, ◌∙◌, ◌∷◌, ◌≡◌}
 use Rattle.std.proofs.Math.Seq.{drop-cons}
 use Rattle.std.specs.Prelude.{option_to_list}
 use Rattle.action_names.specs.Names.{Name}

@@ -1,5 +1,5 @@
 -- What is known of a statement gives of its parts.
-use Rattle.std.proofs.Common.{Bool, IfOk, min, ap₂, IsTrue, List, None, Option, Result, Ok, Err, Some, [], ap, arith, cond, false, length, map, option_map, refl, slice_get, subst, suc, sym, true, zero, ℕ, ◌&&◌, ◌<◌, ◌≤◌, ◌==◌, ◌∙◌, ◌∷◌, ◌≡◌, eqb-true}
+use Rattle.std.proofs.Common.{Bool, IfOk, ap₂, IsTrue, List, None, Option, Result, Ok, Err, Some, [], ap, arith, cond, false, length, map, option_map, refl, slice_get, subst, suc, sym, true, zero, ℕ, ◌&&◌, ◌<◌, ◌≤◌, ◌==◌, ◌∙◌, ◌∷◌, ◌≡◌, eqb-true}
 use Rattle.std.proofs.lemmas.Bool.{and_parts, false≢true, not-true}
 use Rattle.std.proofs.lemmas.Option.{slice_get_within}
 use Rattle.std.specs.List.{list_all}
