@@ -23,11 +23,11 @@ use Rattle.script_model.specs.declared.checked.Client.{Client}
 use Rattle.script_model.specs.declared.names.Gives.TheVariants as gives
 use Rattle.script_model.specs.declared.statement.Statement.{Statement}
 use Rattle.script_model.specs.Resolved as resolved
+use Rattle.frames.specs.Bound.{Bound, nothing_bound}
 use Rattle.activities.specs.declared.client.ClientEnd.{ClientEnd}
 use Rattle.activities.specs.declared.client.ClientEnd.TheVariants.{Aborted, Committed}
 use Rattle.activities.specs.declared.flow.Flow.{Flow}
 use Rattle.activities.specs.declared.flow.Flow.TheVariants.{Ended, Returned}
-use Rattle.activities.specs.declared.frames.Frames.{Frames}
 use Rattle.activities.specs.Bodies.{IsBody, sizes}
 use Rattle.activities.specs.Continuing.{CommitsAmong, CommitsNone, EndsAll, GoesOn, IsOpen, tops_begun, tops_by}
 use Rattle.activities.specs.Ends.{AreRun, ClientRan, IsEnd, IsTopAt, RanInTurn, TopMade, commits, end_of, named, named_by, top_of}
@@ -52,18 +52,12 @@ client_body script client h = go (resolved.objects_at script client.home) h
       holds_there = k;
     }
 
--- frames in which nothing is bound
-nothing_bound : (f : Frames) → f.ints.items ≡ [] → f.texts.items ≡ [] → f.truths.items ≡ []
-    → sizes f ≡ record { ints = 0; texts = 0; truths = 0 }
-nothing_bound f i t u = rw (i, t, u) refl
-
-pub body_given : (script same : Checked) (client : Client) (f : Frames) (body : List Statement)
-    → IsTrue (resolved.is_resolved_client script client) → same ≡ script → f.ints.items ≡ [] → f.texts.items ≡ [] → f.truths.items ≡ []
-    → body ≡ client.body → IsBody same (sizes f) body
-body_given script same client f body h e i t u b =
+pub body_given : (script same : Checked) (client : Client) (f : Bound) (body : List Statement)
+    → IsTrue (resolved.is_resolved_client script client) → same ≡ script → f ≡ nothing_bound → body ≡ client.body → IsBody same (sizes f) body
+body_given script same client f body h e n b =
     subst (λ x. IsBody x (sizes f) body) (sym e)
     (subst (λ x. IsBody script (sizes f) x) (sym b)
-    (subst (λ x. IsBody script x client.body) (sym (nothing_bound f i t u)) (client_body script client h)))
+    (subst (λ (x : Bound). IsBody script (sizes x) client.body) (sym n) (client_body script client h)))
 
 -- ---- its top action
 

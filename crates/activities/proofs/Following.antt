@@ -1,21 +1,24 @@
 -- What a turn of a loop or one more call leaves, by what it found.
-use Rattle.std.proofs.Common.{Err, IfSome, List, Ok, OnOk, Option, Result, Some, [], ap, arith, drop, get_or, length, refl, subst, suc, sym, ℕ, ◌++◌, ◌+◌, ◌<◌, ◌∙◌, ◌∷◌, ◌≡◌}
+use Rattle.std.proofs.Common.{Err, List, Ok, OnOk, Option, Result, Some, [], ap, arith, drop, get_or, length, refl, subst, suc, sym, ℕ, ◌++◌, ◌+◌, ◌<◌, ◌∙◌, ◌∷◌, ◌≡◌}
 use Rattle.std.proofs.Math.Seq.{drop-cons}
 use Rattle.std.specs.Prelude.{option_to_list}
 use Rattle.action_names.specs.Names.{Name}
 use Rattle.script_model.specs.declared.checked.Checked.{Checked}
+use Rattle.script_model.specs.declared.statement.HandlerCall.{HandlerCall}
 use Rattle.script_model.specs.declared.statement.Statement.{Statement}
 use Rattle.script_model.specs.Resolved.{Frames, asked}
+use Rattle.frames.specs.Bound.{Bound, cut_back}
+use Rattle.frames.specs.Operating.{given}
+use Rattle.frames.proofs.Counting.{sizes_given}
 use Rattle.run_model.specs.Runs.{World}
 use Rattle.activities.specs.declared.flow.Flow.{Flow}
 use Rattle.activities.specs.declared.flow.Flow.TheVariants.{Aborted, Ended, Outwards, Returned}
-use Rattle.activities.specs.declared.frames.Frames.{Frames as Variables}
 use Rattle.activities.specs.declared.open_action.Called.{Called}
 use Rattle.activities.specs.declared.open_action.Called.TheVariants.{Began}
 use Rattle.activities.specs.Bodies.{IsBody, WhereEnded, Within, sizes}
 use Rattle.activities.specs.Ends.{called}
 use Rattle.activities.specs.Continuing.{HaveBegun}
-use Rattle.activities.proofs.Resolving.{rest_of, statement_grows, within_through}
+use Rattle.activities.proofs.Resolving.{cut_sizes, handed, rest_of, statement_grows, within_through}
 
 -- what is so after an error that did not come
 pub on_ok : {A E : Type 0} (r : Result A E) (P Q : Type 0) → (P → Q) → OnOk r P → OnOk r Q
@@ -28,6 +31,15 @@ nothing_bound Ended f = refl
 nothing_bound (Returned v) f = tt
 nothing_bound Aborted f = tt
 nothing_bound (Outwards r) f = tt
+
+-- what a body within another leaves, once what it bound newly is forgotten
+pub cut_where_ended : (flow : Flow) (kept : Frames) (old inside new : Bound) → kept ≡ sizes old → new ≡ cut_back kept inside
+    → WhereEnded flow (Within (sizes old) (sizes inside)) → WhereEnded flow (sizes new ≡ sizes old)
+cut_where_ended Ended kept old inside new e k w =
+    ap sizes k ∙ ap (λ n. sizes (cut_back n inside)) e ∙ cut_sizes (sizes old) inside w
+cut_where_ended (Returned v) kept old inside new e k w = tt
+cut_where_ended Aborted kept old inside new e k w = tt
+cut_where_ended (Outwards r) kept old inside new e k w = tt
 
 -- the same body, with as many variables
 pub same_body : (script new : Checked) (f g : Frames) (body : List Statement) → new ≡ script → g ≡ f → IsBody script f body → IsBody new g body
@@ -48,21 +60,13 @@ next_within old f g s w k = subst (Within old) (sym k) (within_through old f ((a
 
 -- ---- what a value that was found is
 
-some_so : {A : Type 0} (o : Option A) (x : A) (P : A → Type 0) → o ≡ Some x → IfSome o P → P x
-some_so o x P e h = subst (λ p. IfSome p P) e h
-
-pub handed_sizes : (found : Option Variables) (inside : Variables) (f : Frames) → found ≡ Some inside → IfSome found (λ v. sizes v ≡ f) → sizes inside ≡ f
-handed_sizes found inside f = some_so found inside (λ v. sizes v ≡ f)
+-- the variables with which a handler begins
+pub handed_sizes : (found : Option Bound) (inside b : Bound) (call : HandlerCall) → found ≡ Some inside → found ≡ given b call
+    → sizes inside ≡ handed (length call.ints) (length call.texts)
+handed_sizes found inside b call e h = sizes_given b inside call (sym h ∙ e)
 
 pub ok_so : {A E : Type 0} (r : Result A E) (x : A) (P : Type 0) → r ≡ Ok x → OnOk r P → P
 ok_so r x P e h = subst (λ p. OnOk p P) e h
-
-pub copied_sizes : (f g : Variables) → g.ints.items ≡ f.ints.items → g.texts.items ≡ f.texts.items → g.truths.items ≡ f.truths.items
-    → sizes g ≡ sizes f
-copied_sizes f g a b c =
-    ap (λ l. record { ints = length l; texts = length g.texts.items; truths = length g.truths.items }) a
-    ∙ ap (λ l. record { ints = length f.ints.items; texts = length l; truths = length g.truths.items }) b
-    ∙ ap (λ l. record { ints = length f.ints.items; texts = length f.texts.items; truths = length l }) c
 
 -- a call that began its action
 pub called_began : (k : Called) (a n : Name) (x y : World) → k ≡ Began a → n ≡ a → HaveBegun (called k) x y → HaveBegun (n ∷ []) x y

@@ -3,6 +3,7 @@ pub mod Clients
 pub mod Ending
 pub mod Following
 pub mod Going
+pub mod Performing
 pub mod Resolving
 pub mod Steps
 pub mod Telling

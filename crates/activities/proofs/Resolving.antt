@@ -1,5 +1,5 @@
 -- What is known of a statement gives of its parts.
-use Rattle.std.proofs.Common.{Bool, IfOk, min, ap₂, IsTrue, List, None, Option, Result, Ok, Err, Some, [], ap, arith, cond, false, length, map, option_map, refl, slice_get, subst, suc, sym, true, zero, ℕ, ◌&&◌, ◌<◌, ◌≤◌, ◌==◌, ◌∙◌, ◌∷◌, ◌≡◌, eqb-true}
+use Rattle.std.proofs.Common.{Bool, IfOk, ap₂, IsTrue, List, None, Option, Result, Ok, Err, Some, [], ap, arith, cond, false, length, map, option_map, refl, slice_get, subst, suc, sym, true, zero, ℕ, ◌&&◌, ◌<◌, ◌≤◌, ◌==◌, ◌∙◌, ◌∷◌, ◌≡◌, eqb-true}
 use Rattle.std.proofs.lemmas.Bool.{and_parts, false≢true, not-true}
 use Rattle.std.proofs.lemmas.Option.{slice_get_within}
 use Rattle.std.specs.List.{list_all}
@@ -20,6 +20,8 @@ use Rattle.script_model.specs.declared.statement.Arm.TheFolds.{fold-Arm, fold-ro
 use Rattle.script_model.specs.declared.checked.Checked.{Checked}
 use Rattle.script_model.specs.declared.checked.Handler.{Handler}
 use Rattle.script_model.specs.Resolved.{Asked, Frames, IsResolved, Surroundings, all_hold, asked, asked_arm, asked_step, binds_newly, body_holds, call_is_resolved, condition_is_bound, expr_is_bound, frames_after, grown, handler_takes, in_top_surroundings, is_new, is_resolved_at, is_resolved_body, is_resolved_handler, objects_at, signals_hold, what_gives}
+use Rattle.frames.specs.Bound.{Bound, cut_back, sizes}
+use Rattle.frames.proofs.Counting.{sizes_cut}
 use Rattle.activities.specs.declared.flow.Flow.{Flow}
 use Rattle.activities.specs.declared.flow.Flow.TheVariants.{Aborted}
 use Rattle.activities.specs.Bodies.{AreArms, IsBody, IsCall, IsOp, IsStatement, SignalsFollow, SignalsHold, Somewhere, WhereEnded, Within, body_of, opened_body}
@@ -255,7 +257,7 @@ called_within script frames c k =
     let (h, there, ints, texts) = called_takes script frames c k in slice_get_within script.handlers c.handler h there
 
 -- the frames with which a handler begins
-abbrev handed : ℕ → ℕ → Frames
+abbrev pub handed : ℕ → ℕ → Frames
 handed ints texts = record { ints = ints; texts = texts; truths = 0 }
 
 resolved_at : (objects : Option (List Content)) (script : Checked) (g : Gives) (frames : Frames) (body : List Statement)
@@ -316,15 +318,9 @@ opened_grows o f = subst (Within f) (sym (ap (λ (x : Asked). x.after f) (fold-r
 pub statement_grows : (s : Statement) (f : Frames) → Within f ((asked s).after f)
 statement_grows s f = subst (λ (t : Statement). Within f ((asked t).after f)) (roll-out-Statement s) (opened_grows (out-Statement s) f)
 
--- what was cut to the old sizes has them
-pub cut_back : (f g h : Frames) → Within f g → h.ints ≡ min f.ints g.ints → h.texts ≡ min f.texts g.texts → h.truths ≡ min f.truths g.truths → h ≡ f
-cut_back f g h w a b c =
-    same_frames h f (omega (arith, a, w.ints)) (omega (arith, b, w.texts)) (omega (arith, c, w.truths))
-  where
-    same_frames : (f g : Frames) → f.ints ≡ g.ints → f.texts ≡ g.texts → f.truths ≡ g.truths → f ≡ g
-    same_frames f g x y z =
-        ap (λ n. record f { ints = n }) x ∙ ap (λ n. record { ints = g.ints; texts = n; truths = f.truths }) y
-        ∙ ap (λ n. record { ints = g.ints; texts = g.texts; truths = n }) z
+-- what was cut back to the old sizes has them
+pub cut_sizes : (old : Frames) (b : Bound) → Within old (sizes b) → sizes (cut_back old b) ≡ old
+cut_sizes old b w = sizes_cut old b w.ints w.texts w.truths
 
 pub ruleset statements = (
   op_of,

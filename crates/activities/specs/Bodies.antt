@@ -1,5 +1,5 @@
 -- What is known of a body that an interpreter goes through, and what it leaves of the variables.
-use Rattle.std.specs.Prelude.{◌≡◌, ◌≤◌, Bool, ◌&&◌, IsTrue, List, length, map, Option, Some, None}
+use Rattle.std.specs.Prelude.{◌≡◌, ◌≤◌, Bool, ◌&&◌, IsTrue, List, map, Option, Some, None}
 use Rattle.run_model.specs.declared.step.ArmKind.{ArmKind}
 use Rattle.run_model.specs.declared.step.ArmKind.TheVariants as kind
 use Rattle.script_model.specs.declared.statement.Arm.{Arm, out-Arm}
@@ -15,11 +15,7 @@ use Rattle.activities.specs.declared.operations.Outcome.{Outcome}
 use Rattle.activities.specs.declared.operations.Outcome.TheVariants.{Granted}
 use Rattle.activities.specs.declared.flow.Flow.{Flow}
 use Rattle.activities.specs.declared.flow.Flow.TheVariants.{Ended}
-use Rattle.activities.specs.declared.frames.Frames.{Frames}
-
--- how many variables of each kind are bound
-abbrev pub sizes : Frames → resolved.Frames
-sizes f = record { ints = length f.ints.items; texts = length f.texts.items; truths = length f.truths.items }
+pub use Rattle.frames.specs.Bound.{sizes}
 
 -- where a body runs, in a script with these handlers, something is resolved
 pub record Somewhere (script : Checked) (holds : resolved.Surroundings → Bool) : Type 0 where

@@ -2,3 +2,4 @@ pub mod Continuing
 pub mod Ends
 pub mod Bodies
 pub mod Reaching
+pub mod Performing

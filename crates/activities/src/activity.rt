@@ -11,11 +11,11 @@ ghost use Rattle.run_model.specs.Openings.{opening_in};
 
 use crate::arms::{arm_body, begin_arms};
 use crate::flow::{Flow, Reach};
-use crate::frames::Frames;
 use crate::open_action::{Called, OpenAction, Reached};
 use crate::operations::{Outcome, perform};
 use action_names::Name;
 use atomic_types::Reply;
+use frames::Frames;
 use script_model::{Arm, Checked, HandlerCall, Statement};
 use sqlite_items::Items;
 use stable_store::Stable;
@@ -128,7 +128,7 @@ impl<'s> Activity<'s> {
 
     /// A body within another: what it binds newly is forgotten at its end.
     #[cycle(activity)]
-    #[tactic(auto, using(crate::proofs::Ways::steps))]
+    #[tactic(auto, using(crate::proofs::Ways::steps, crate::proofs::Following::cut_where_ended))]
     fn inner<S: Stable>(
         &mut self,
         world: &mut World<S>,
@@ -270,7 +270,7 @@ impl<'s> Activity<'s> {
 
     /// A handler call: the handler's body as a subaction at its guardian.
     #[cycle(activity)]
-    #[tactic(auto, using(crate::proofs::Ways::children))]
+    #[tactic(auto, using(crate::proofs::Ways::children, frames::proofs::Counting::sizes_after))]
     fn call<S: Stable>(
         &mut self,
         world: &mut World<S>,

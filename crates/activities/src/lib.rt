@@ -8,7 +8,6 @@ mod activity;
 mod arms;
 mod client;
 mod flow;
-mod frames;
 mod open_action;
 mod operations;
 mod serial;

@@ -8,6 +8,7 @@ ghost use Rattle.run_model.specs.Runs.{IsRun, world_after};
 ghost use Rattle.activities.specs.Continuing.{GoesOn, CommitsAmong, CommitsBy, CommitsNone, EndsAll, EndsThese, HaveBegun, IsAfter, IsNoTop, IsOpen};
 ghost use Rattle.activities.specs.Reaching.{AreTold, IsHeld, IsUnion, is_made, is_yes};
 ghost use Rattle.activities.specs.Ends.{called, commits, named_by};
+ghost use Rattle.activities.specs.Performing.{op_step};
 ghost use Rattle.run_model.specs.Openings.{opening_in};
 
 use crate::flow::{Flow, Reach};
@@ -104,7 +105,8 @@ impl OpenAction {
         Ok(begun_by(answer))
     }
 
-    /// Makes an operation on an object of its home.
+    /// Makes an operation on an object of its home. After an error the world is as it was.
+    #[tactic(auto, using(crate::proofs::Performing::after_made, crate::proofs::Performing::answer_made))]
     pub(crate) fn perform<S: Stable>(
         &self,
         world: &mut World<S>,
@@ -115,6 +117,10 @@ impl OpenAction {
         ensures goes_on { GoesOn world.old.run world.new.run [] }
         ensures commits { CommitsNone world.old.run world.new.run }
         ensures ends { EndsAll world.old.run world.new.run }
+        ensures made { OnOk result (IsAfter (op_step self.now object operation) world.old.run world.new.run) }
+        ensures answer { IfOk result (λ answer. answer
+            ≡ answer_of (opening_in world.old.run.lists) (op_step self.now object operation) world.old.run.past) }
+        ensures err { OnErr result (world.new.run ≡ world.old.run) }
     {
         let object = ObjectId {
             guardian: self.home,

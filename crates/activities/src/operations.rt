@@ -1,13 +1,14 @@
-ghost use Rattle.std.specs.Prelude.{◌≡◌, [], IsTrue, IfOk};
+ghost use Rattle.std.specs.Prelude.{◌≡◌, ◌⊎◌, [], IsTrue, IfOk, OnErr, OnOk};
 ghost use Rattle.script_model.specs.Resolved.{binding_is_bound};
 ghost use Rattle.run_model.specs.Runs.{IsRun};
 ghost use Rattle.activities.specs.Bodies.{IsOp, IsOutcome, sizes};
 ghost use Rattle.activities.specs.Continuing.{CommitsNone, EndsAll, GoesOn};
+ghost use Rattle.activities.specs.Performing.{IsAfterAny, by_reply, outcome_of, step_for};
 ghost use Rattle.run_model.specs.Openings.{opening_in};
 
-use crate::frames::Frames;
 use crate::open_action::OpenAction;
 use atomic_types::Reply;
+use frames::Frames;
 use run_model::Answer;
 use script_model::{Binding, ObjectCall};
 use stable_store::Stable;
@@ -23,7 +24,9 @@ pub(crate) enum Outcome {
     Waits,
 }
 
-/// Makes an operation, and binds what it replies.
+/// Makes an operation, and binds what it replies. After an error the variables are as they were, and the world too, unless memory was
+/// wanting for a variable: then the step was made.
+#[tactic(auto, using(crate::proofs::Performing::comings))]
 pub(crate) fn perform<S: Stable>(
     world: &mut World<S>,
     action: &OpenAction,
@@ -36,6 +39,12 @@ pub(crate) fn perform<S: Stable>(
     ensures commits { CommitsNone world.old.run world.new.run }
     ensures ends { EndsAll world.old.run world.new.run }
     ensures frames { IfOk result (λ done. IsOutcome done call.now.binding (sizes frames.old) (sizes frames.new)) }
+    ensures made { OnOk result (IsAfterAny (step_for action.now frames.old call.now) world.old.run world.new.run) }
+    ensures outcome { IfOk result (λ done. (done, frames.new)
+        ≡ outcome_of world.old.run frames.old call.now.binding (step_for action.now frames.old call.now)) }
+    ensures unbound { OnErr result (frames.new ≡ frames.old) }
+    ensures err { OnErr result ((world.new.run ≡ world.old.run)
+        ⊎ IsAfterAny (step_for action.now frames.old call.now) world.old.run world.new.run) }
 {
     let Some(operation) = frames.operation(&call.operation)? else {
         return Ok(Outcome::Refused);
@@ -47,9 +56,12 @@ pub(crate) fn perform<S: Stable>(
     }
 }
 
+#[tactic(auto, using(frames::proofs::Counting::sizes_after, crate::proofs::Performing::replies))]
 fn bind(frames: &mut Frames, binding: Binding, reply: Reply) -> Result<Outcome, AllocError>
     requires { IsTrue (binding_is_bound (sizes frames.old) binding) }
-    ensures { IfOk result (λ done. IsOutcome done binding (sizes frames.old) (sizes frames.new)) }
+    ensures sizes { IfOk result (λ done. IsOutcome done binding (sizes frames.old) (sizes frames.new)) }
+    ensures outcome { IfOk result (λ done. (done, frames.new) ≡ by_reply frames.old binding reply) }
+    ensures err { OnErr result (frames.new ≡ frames.old) }
 {
     if matches!(reply, Reply::Signals(_)) {
         return Ok(Outcome::Signalled);

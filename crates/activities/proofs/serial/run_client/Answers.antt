@@ -11,8 +11,8 @@ returns-in_default g c = record {
 
 pub run-requires-clause-body : goal.run-requires-clause-body
 run-requires-clause-body g c =
-    body_given c.args.script.now _ c.args.client.now c.new-frames.result _ c.requires.client c.new-2.ensures c.new-frames.ensures.ints
-    c.new-frames.ensures.texts c.new-frames.ensures.truths c.as_slice-body.ensures
+    body_given c.args.script.now _ c.args.client.now c.new-frames.result _ c.requires.client c.new-2.ensures c.new-frames.ensures
+    c.as_slice-body.ensures
 
 pub run-requires-clause-open : goal.run-requires-clause-open
 run-requires-clause-open g c =

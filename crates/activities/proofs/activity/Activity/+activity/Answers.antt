@@ -9,7 +9,7 @@ use Rattle.run_model.specs.Runs.{World}
 use Rattle.activities.specs.Bodies.{AreArms, IsBody, IsOutcome, IsStatement, SignalsHold, WhereEnded, body_of, sizes}
 use Rattle.activities.specs.Continuing.{EndsAll, GoesOn, HaveBegun}
 use Rattle.activities.specs.Ends.{named_by}
-use Rattle.activities.proofs.Following.{called_began, copied_sizes, handed_sizes, next_rest, next_within, nothing_bound, ok_so, on_ok, popped, popped_length, same_body}
+use Rattle.activities.proofs.Following.{called_began, handed_sizes, next_rest, next_within, nothing_bound, ok_so, on_ok, popped, popped_length, same_body}
 use Rattle.activities.proofs.Resolving.{arm_of, call_of, call_signals, called_body, called_within, op_after, op_of, op_signals, signalled_after, signals_hold_there}
 use Rattle.activities.proofs.Ways.{among_then, child_commits, child_ends, child_open, earlier_waits, have_run, last_open, open_then, others_commit, others_wait, then_commits, then_ends, then_goes}
 use Rattle.activities.proofs.activity.Activity.+activity.Goals.{run_arms-in-Sub, run_arms-in-Top}
@@ -148,7 +148,7 @@ call-run-ended-requires g t c κs within =
     let known = subst (λ (l : List Handler). call.handler < length l) (sym c.as_slice.ensures) (called_within script frames call c.requires.call) in
     let there = subst (λ (l : List Handler). slice_get l call.handler ≡ Some h) c.as_slice.ensures
     (slice_get_read hs (length hs) call.handler h refl known c.index-as_slice-call.is) in
-    let begins = handed_sizes c.in_ok-inside.field-0 c.in-Some.inside _ c.in-Some.is c.in_ok-inside.ensures in
+    let begins = handed_sizes c.in_ok-inside.field-0 c.in-Some.inside c.args.frames.now call c.in-Some.is c.in_ok-inside.ensures in
     let body = subst (λ (l : List Statement). IsBody script (sizes c.in-Some.inside) l) (sym c.as_slice-2.ensures)
     (subst (λ f. IsBody script f h.body) (sym begins) (called_body script frames call h c.requires.script c.requires.call there)) in
     let began = called_began c.in_ok-name.field-0 c.in-Began.name n x y c.in-Began.is c.new-child.ensures.name c.in_ok-name.ensures.began in
@@ -193,8 +193,7 @@ run_arms-run-ended-requires g t c κs within =
     let a = c.new-child.result.name in
     let is = popped l.waiting.items c.pop.new.self.items c.pop.result c.unwrap.result a c.pop.ensures.items c.unwrap.ensures c.new-child.ensures.name in
     let there = slice_get_read arms (length arms) l.arm-index arm refl (omega arith) c.arm-item.is in
-    let copied = copied_sizes c.args.frames.now c.in_ok-inside.inside c.in_ok-inside.ensures.ints c.in_ok-inside.ensures.texts
-    c.in_ok-inside.ensures.truths in
+    let copied = ap sizes c.in_ok-inside.ensures in
     let body = subst (λ (b : List Statement). IsBody script (sizes c.in_ok-inside.inside) b) (sym c.arm_body.ensures)
     (subst (λ f. IsBody script f (body_of arm)) (sym copied)
     (arm_of script (sizes c.args.frames.now) arms l.arm-index arm l.invariant.arms there)) in

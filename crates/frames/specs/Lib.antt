@@ -1,0 +1,4 @@
+pub mod Bound
+pub mod Evaluating
+pub mod Operating
+pub mod Binding
