@@ -92,7 +92,7 @@ distinct_from names d before after a e = go before (subst Differ e d)
 
 -- ---- a list turned round
 
-has_reverse : (names : List Name) (a : Name) → has_name (reverse names) a ≡ has_name names a
+pub has_reverse : (names : List Name) (a : Name) → has_name (reverse names) a ≡ has_name names a
 has_reverse [] a = refl
 has_reverse (b ∷ names) a =
     ap (λ l. has_name l a) (reverse-append (b ∷ []) names) ∙ has_name_append (reverse names) (b ∷ []) a

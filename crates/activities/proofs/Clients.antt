@@ -1,5 +1,5 @@
 -- Clients that run one after another: each as a top action of its own, which ends before the next begins.
-use Rattle.std.proofs.Common.{Err, IfOk, IsTrue, List, None, Ok, OnErr, OnOk, Option, Result, Some, [], ap, false, get_or, inl, inr, length, refl, subst, sym, take, true, ℕ, ◌+◌, ◌<◌, ◌++◌, ◌∙◌, ◌∷◌, ◌≡◌, ◌≢◌}
+use Rattle.std.proofs.Common.{Err, IfOk, IsTrue, List, None, Ok, OnOk, Option, Result, Some, [], ap, false, get_or, inl, inr, length, refl, subst, sym, take, true, ℕ, ◌+◌, ◌<◌, ◌++◌, ◌∙◌, ◌∷◌, ◌≡◌, ◌≢◌}
 use Rattle.std.proofs.lemmas.Bool.{false≢true, or_cases, or_left, or_right}
 use Rattle.std.proofs.lemmas.List.{take_more}
 use Rattle.std.proofs.lemmas.List.Elements.{filter_map-append}
@@ -30,9 +30,11 @@ use Rattle.activities.specs.declared.flow.Flow.{Flow}
 use Rattle.activities.specs.declared.flow.Flow.TheVariants.{Ended, Returned}
 use Rattle.activities.specs.Bodies.{IsBody, sizes}
 use Rattle.activities.specs.Continuing.{CommitsAmong, CommitsNone, EndsAll, GoesOn, IsOpen, tops_begun, tops_by}
+use Rattle.activities.specs.OwnSteps.{KeepsTo}
 use Rattle.activities.specs.Ends.{AreRun, ClientRan, IsEnd, IsTopAt, RanInTurn, TopMade, commits, end_of, named, named_by, top_of}
 use Rattle.activities.proofs.ArmNames.{unless_begun}
 use Rattle.activities.proofs.Going.{commits_nowhere, ends_nowhere, ends_through, fresh_commits, fresh_ends, goes_nowhere, goes_through, one_step}
+use Rattle.activities.proofs.OwnSteps.{child_keeps, keeps_nowhere, keeps_through, step_keeps_to}
 use Rattle.activities.proofs.Steps.{step_begins}
 
 -- ---- a client's body
@@ -96,6 +98,7 @@ top_not_made old new g given r h w none =
         before = λ a h. absurd (false≢true h);
         only = λ a h k. absurd (clash h k);
       };
+      own = keeps_nowhere [] old;
     })
 
 -- the top action has begun, and nothing else
@@ -110,6 +113,7 @@ top_made old new g given names a r h w b n =
       goes_on = one_step old (Top g) (Began (a ∷ [])) r told;
       commits = λ b k. refl;
       began = step_begins old (Top g) (Began (a ∷ [])) r told;
+      own = step_keeps_to [] old (Top g) (Began (a ∷ [])) tt;
     })
 
 -- the same by another name for what was found
@@ -128,6 +132,9 @@ pub top_commits : (home : ℕ) (old mid new : World) (a : Name) → TopMade home
     → CommitsAmong (a ∷ []) mid new → CommitsNone old new
 top_commits home old mid new a m g c = fresh_commits (a ∷ []) old mid new (a ∷ []) m.began m.goes_on m.commits c
 
+pub top_keeps : (home : ℕ) (old mid new : World) (a : Name) → TopMade home old mid (Some a) → KeepsTo (a ∷ []) mid new → KeepsTo [] old new
+top_keeps home old mid new a m k = child_keeps a [] old mid new m.began m.own k
+
 -- a client of which the top action could not be begun
 pub not_ran : (home : ℕ) (old new : World) (found : Option Name) → TopMade home old new found → found ≡ None
     → ClientRan home old new (Aborted None)
@@ -136,6 +143,7 @@ not_ran home old new found m f = record {
   goes_on = subst (λ o. GoesOn old new (named_by o)) f m.goes_on;
   is_end = tt;
   ended = λ a h k. absurd (false≢true (ap (λ o. has_name (named_by o) a) (sym f) ∙ m.began.only a h k));
+  own = m.own;
 }
 
 -- its end names it
@@ -151,13 +159,14 @@ said_at_end past a (Returned value) h = sym h
 said_at_end past a _ h = sym h
 
 -- a client of which the top action has ended
-top_ran : (home : ℕ) (old mid new : World) (a : Name) (flow : Flow) → TopMade home old mid (Some a) → GoesOn mid new []
+top_ran : (home : ℕ) (old mid new : World) (a : Name) (flow : Flow) → TopMade home old mid (Some a) → GoesOn mid new [] → KeepsTo (a ∷ []) mid new
     → EndsAll mid new → IsTrue (is_ended a new.past) → commits flow ≡ is_committed a new.past → ClientRan home old new (end_of a flow)
-top_ran home old mid new a flow m g e f c = record {
+top_ran home old mid new a flow m g k e f c = record {
   began = subst (λ o. IsTopAt home old o) (sym (named_at_end a flow)) m.top;
   goes_on = subst (λ o. GoesOn old new (named_by o)) (sym (named_at_end a flow)) (top_goes home old mid new a m g);
   is_end = said_at_end new.past a flow c;
   ended = fresh_ends (a ∷ []) old mid new [] m.began g e alone;
+  own = top_keeps home old mid new a m k;
 }
   where
     alone : (b : Name) → has_name (a ∷ []) b ≡ true → is_ended b new.past ≡ true
@@ -168,20 +177,14 @@ top_ran home old mid new a flow m g e f c = record {
 
 -- where memory sufficed, its body came to an end that says whether it has committed
 pub client_ran : {E : Type 0} (home : ℕ) (old mid new : World) (a b : Name) (result : Result Flow E) (flow : Flow) (end : ClientEnd)
-    → TopMade home old mid (Some a) → GoesOn mid new [] → OnOk result (EndsAll mid new) → OnOk result (IsTrue (is_ended a new.past))
+    → TopMade home old mid (Some a) → GoesOn mid new [] → KeepsTo (a ∷ []) mid new → OnOk result (EndsAll mid new) → OnOk result (IsTrue (is_ended a new.past))
     → IfOk result (λ f. commits f ≡ is_committed a new.past) → result ≡ Ok flow → b ≡ a → end ≡ end_of b flow
     → ClientRan home old new end
-client_ran home old mid new a b result flow end m g e d t r n s =
+client_ran home old mid new a b result flow end m g k e d t r n s =
     subst (λ x. ClientRan home old new x) (sym (s ∙ ap (λ x. end_of x flow) n))
-    (top_ran home old mid new a flow m g (subst (λ x. OnOk x (EndsAll mid new)) r e)
+    (top_ran home old mid new a flow m g k (subst (λ x. OnOk x (EndsAll mid new)) r e)
     (subst (λ x. OnOk x (IsTrue (is_ended a new.past))) r d)
     (subst (λ x. IfOk x (λ f. commits f ≡ is_committed a new.past)) r t))
-
--- also after an error the world has gone on
-pub goes_on_err : {X E : Type 0} (result : Result X E) (old new : World) (tops : List Name) → GoesOn old new tops
-    → OnErr result ((t : List Name) × GoesOn old new t)
-goes_on_err (Ok x) old new tops g = tt
-goes_on_err (Err e) old new tops g = (tops, g)
 
 -- ---- one client after another
 
@@ -250,7 +253,7 @@ in_turn_push (first ∷ clients) client old mid new (e ∷ ends) end t c =
 
 -- no client
 pub none_run : (w : World) → IsRun (opening_in w.lists) w.past → AreRun [] w w []
-none_run w r = record { in_turn = (refl, refl); goes_on = goes_nowhere w r; told = tt; ended = ends_nowhere w }
+none_run w r = record { in_turn = (refl, refl); goes_on = goes_nowhere w r; told = tt; ended = ends_nowhere w; own = keeps_nowhere [] w }
 
 -- one client more
 one_more_run : (clients : List Client) (client : Client) (old mid new : World) (ends : List ClientEnd) (end : ClientEnd)
@@ -265,6 +268,7 @@ one_more_run clients client old mid new ends end a c n = record {
       each_push (IsEnd new.past) ends end
       (ends_stay mid.past new.past ends (λ b h. n b (tops_known old mid (named ends) b a.goes_on h)) a.told) c.is_end;
   ended = ends_through old mid new (named_by (top_of end)) c.goes_on a.ended c.ended;
+  own = keeps_through [] old mid new a.own c.own;
 }
 
 -- one client more, where none has wanted memory so far

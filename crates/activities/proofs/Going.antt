@@ -14,7 +14,8 @@ use Rattle.run_laws.proofs.Growth.{aborted_stays, begun_stays, committed_stays, 
 use Rattle.run_laws.proofs.Names.{clash, same_name_self, same_name_true}
 use Rattle.run_laws.proofs.Runs.{run_more}
 use Rattle.run_model.specs.Openings.{opening_in}
-use Rattle.activities.specs.Continuing.{CommitsAmong, CommitsBy, CommitsNone, EndsAll, EndsThese, GoesOn, HaveBegun, IsNoTop, IsOpen, tops_begun, tops_by}
+use Rattle.activities.specs.Continuing.{CommitsAmong, CommitsBy, CommitsNone, EndsAll, EndsThese, GoesOn, HaveBegun, IsOpen, tops_begun, tops_by}
+use Rattle.activities.specs.OwnSteps.{IsOfAction}
 
 -- where nothing has happened
 pub goes_nowhere : (w : World) → IsRun (opening_in w.lists) w.past → GoesOn w w []
@@ -107,6 +108,9 @@ still_open x y s a o g c = open_among [] x y s a o g (none_is_among [] x y c) re
 
 -- ---- one action
 
+pub alone : (a c : Name) → IsTrue (has_name (a ∷ []) c) → a ≡ c
+alone a c h = elim (or_cases (same_name a c) false h) [ inl k ↦ same_name_true a c k | inr k ↦ absurd (false≢true k) ]
+
 -- what is so is so on success
 pub on_ok : {A E : Type 0} {P : Type 0} (result : Result A E) → P → OnOk result P
 on_ok (Ok x) p = p
@@ -149,7 +153,7 @@ nothing_begun : (step : Step) (answer : Answer) → names_begun answer ≡ [] �
 nothing_begun (Top g) answer h = sym h
 nothing_begun _ answer h = refl
 
-no_tops : (step : Step) (answer : Answer) → IsNoTop step → tops_by step answer ≡ []
+no_tops : (step : Step) (answer : Answer) → IsOfAction step → tops_by step answer ≡ []
 no_tops (Top g) answer h = absurd h
 no_tops _ answer h = refl
 
@@ -186,7 +190,7 @@ one_step old step answer r a = record {
 }
 
 -- a step that is no `top`, also where memory ran out
-pub step_goes : {E : Type 0} (old new : World) (step : Step) (result : Result Answer E) → IsRun (opening_in old.lists) old.past → IsNoTop step
+pub step_goes : {E : Type 0} (old new : World) (step : Step) (result : Result Answer E) → IsRun (opening_in old.lists) old.past → IsOfAction step
     → IfOk result (λ answer. answer ≡ answer_of (opening_in old.lists) step old.past) → IfOk result (λ answer. new ≡ world_after old step answer)
     → OnErr result (new ≡ old) → GoesOn old new []
 step_goes old new step (Ok answer) r n a w e =

@@ -1,9 +1,10 @@
 -- What comes of an operation, by the answer of its step.
-use Rattle.std.proofs.Common.{Err, IfOk, None, Ok, OnOk, Result, Some, ap, option_map, refl, subst, sym, ◌∙◌, ◌≡◌}
+use Rattle.std.proofs.Common.{Err, IfOk, None, Ok, OnOk, Result, Some, ap, option_map, refl, subst, sym, ℕ, ◌∙◌, ◌≡◌}
 use Rattle.atomic_types.specs.Operations as op
 use Rattle.atomic_types.specs.declared.op.Reply.{Reply}
 use Rattle.atomic_types.specs.declared.op.Reply.TheVariants as reply
 use Rattle.atomic_types.specs.declared.op.Signal.{Signal}
+use Rattle.action_names.specs.Names.{Name}
 use Rattle.run_model.specs.declared.answer.Answer.{Answer}
 use Rattle.run_model.specs.declared.step.Step.{Step}
 use Rattle.run_model.specs.Answers.{answer_of}
@@ -15,7 +16,6 @@ use Rattle.script_model.specs.declared.statement.ObjectCall.{ObjectCall}
 use Rattle.frames.specs.Bound.{Bound}
 use Rattle.frames.specs.Binding.{bound_after}
 use Rattle.frames.specs.Operating.{op_of}
-use Rattle.activities.specs.declared.open_action.OpenAction.{OpenAction}
 use Rattle.activities.specs.declared.operations.Outcome.TheVariants as outcome
 use Rattle.activities.specs.Continuing.{IsAfter}
 use Rattle.activities.specs.Performing.{IsAfterAny, by_answer, by_fit, by_reply, op_step, outcome_of, step_for}
@@ -34,28 +34,28 @@ answer_made r step made w e h = subst (λ s. IfOk r (λ answer. answer ≡ answe
 
 -- ---- where an argument has no value, and where each has
 
-module _ (action : OpenAction) (before : Bound) (call : ObjectCall) where
-  no_step : op_of before call.operation ≡ None → step_for action before call ≡ None
-  no_step e = ap (option_map (op_step action call.object)) e
+module _ (name : Name) (home : ℕ) (before : Bound) (call : ObjectCall) where
+  no_step : op_of before call.operation ≡ None → step_for name home before call ≡ None
+  no_step e = ap (option_map (op_step name home call.object)) e
 
   some_step : (wanted : op.Op) → op_of before call.operation ≡ Some wanted
-      → step_for action before call ≡ Some (op_step action call.object wanted)
-  some_step wanted e = ap (option_map (op_step action call.object)) e
+      → step_for name home before call ≡ Some (op_step name home call.object wanted)
+  some_step wanted e = ap (option_map (op_step name home call.object)) e
 
-  pub none_after : (w : World) → op_of before call.operation ≡ None → IsAfterAny (step_for action before call) w w
+  pub none_after : (w : World) → op_of before call.operation ≡ None → IsAfterAny (step_for name home before call) w w
   none_after w e = subst (λ s. IsAfterAny s w w) (sym (no_step e)) refl
 
-  pub some_after : (wanted : op.Op) (old new : World) → op_of before call.operation ≡ Some wanted → IsAfter (op_step action call.object wanted) old new
-      → IsAfterAny (step_for action before call) old new
+  pub some_after : (wanted : op.Op) (old new : World) → op_of before call.operation ≡ Some wanted → IsAfter (op_step name home call.object wanted) old new
+      → IsAfterAny (step_for name home before call) old new
   some_after wanted old new e h = subst (λ s. IsAfterAny s old new) (sym (some_step wanted e)) h
 
   pub none_comes : (w : World) (binding : Binding) → op_of before call.operation ≡ None
-      → (outcome.Refused, before) ≡ outcome_of w before binding (step_for action before call)
+      → (outcome.Refused, before) ≡ outcome_of w before binding (step_for name home before call)
   none_comes w binding e = sym (ap (outcome_of w before binding) (no_step e))
 
   pub some_comes : (wanted : op.Op) (w : World) (binding : Binding) (answer : Answer) → op_of before call.operation ≡ Some wanted
-      → answer ≡ answer_of (opening_in w.lists) (op_step action call.object wanted) w.past
-      → by_answer before binding answer ≡ outcome_of w before binding (step_for action before call)
+      → answer ≡ answer_of (opening_in w.lists) (op_step name home call.object wanted) w.past
+      → by_answer before binding answer ≡ outcome_of w before binding (step_for name home before call)
   some_comes wanted w binding answer e h =
       ap (by_answer before binding) h ∙ sym (ap (outcome_of w before binding) (some_step wanted e))
 

@@ -22,13 +22,14 @@ use Rattle.run_laws.proofs.Begun.{begun_cases, begun_once}
 use Rattle.run_laws.proofs.Ended.{commits_begun, committed_begun}
 use Rattle.run_laws.proofs.Names.{clash, has_name_append, same_name_self}
 use Rattle.run_laws.proofs.Runs.{run_more}
-use Rattle.activities.specs.Continuing.{EndsAll, HaveBegun, IsNoTop}
+use Rattle.activities.specs.Continuing.{EndsAll, HaveBegun}
+use Rattle.activities.specs.OwnSteps.{IsOfAction}
 use Rattle.activities.specs.Reaching.{is_made}
 
 -- ---- what a step begins
 
 -- a step by which no action makes anything, and which is no `top`, begins nothing
-nothing_made : (opening : Opening) (step : Step) (past : List Event) → IsNoTop step → maker_in step ≡ None
+nothing_made : (opening : Opening) (step : Step) (past : List Event) → IsOfAction step → maker_in step ≡ None
     → names_begun (answer_of opening step past) ≡ []
 unfolding answer_of
 nothing_made opening step past n m = go (first_refusal (checks opening step past))
@@ -41,7 +42,7 @@ nothing_made opening step past n m = go (first_refusal (checks opening step past
     vote true = refl
     vote false = refl
 
-    of : (step : Step) → IsNoTop step → maker_in step ≡ None → names_begun (outcome opening step past) ≡ []
+    of : (step : Step) → IsOfAction step → maker_in step ≡ None → names_begun (outcome opening step past) ≡ []
     of (Top g) n m = absurd n
     of (NestedTop a) n m = cc
     of (Call a g) n m = cc
@@ -63,7 +64,7 @@ none_begun old step answer n a h k = absurd (clash (go (is_accepted answer) h) k
     go false b = b
 
 -- the same of such a step, also where memory ran out
-pub step_ends : {E : Type 0} (old new : World) (step : Step) (result : Result Answer E) → IsNoTop step
+pub step_ends : {E : Type 0} (old new : World) (step : Step) (result : Result Answer E) → IsOfAction step
     → IfOk result (λ answer. answer ≡ answer_of (opening_in old.lists) step old.past) → IfOk result (λ answer. new ≡ world_after old step answer)
     → OnErr result (new ≡ old) → maker_in step ≡ None → EndsAll old new
 step_ends old new step (Ok answer) n a w e m =

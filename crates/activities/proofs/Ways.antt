@@ -1,12 +1,13 @@
 -- What an activity leaves of a world, by what each of its steps does.
 use Rattle.std.proofs.Common.{IsTrue, List, [], ap, append-nil, append_assoc, false, inl, inr, subst, sym, true, ◌++◌, ◌∙◌, ◌∷◌, ◌≡◌}
 use Rattle.std.proofs.lemmas.Bool.{false_from_ne_true, false≢true, or_cases, or_left, or_parts, or_right}
-use Rattle.action_names.specs.Names.{Name, has_name, same_name}
+use Rattle.action_names.specs.Names.{Name, has_name}
 use Rattle.run_model.specs.Actions.{is_ended}
 use Rattle.run_model.specs.Runs.{World}
-use Rattle.run_laws.proofs.Names.{clash, has_name_append, same_name_self, same_name_true}
+use Rattle.run_laws.proofs.Names.{clash, has_name_append, same_name_self}
 use Rattle.activities.specs.Continuing.{AreDistinct, AreWaiting, CommitsAmong, CommitsNone, EndsAll, EndsThese, GoesOn, HaveBegun, HaveRun, IsOpen}
-use Rattle.activities.proofs.Going.{among_more, among_through, commits_through, ends_through, fresh_commits, fresh_ends, goes_nowhere, goes_through, commits_nowhere, ends_nowhere, none_is_among, open_among, still_open, still_begun, still_ended}
+use Rattle.activities.proofs.Going.{alone, among_more, among_through, commits_through, ends_through, fresh_commits, fresh_ends, goes_nowhere, goes_through, commits_nowhere, ends_nowhere, none_is_among, open_among, still_open, still_begun, still_ended}
+use Rattle.activities.proofs.OwnSteps.{arms_keep, child_keeps, keeps_nowhere, keeps_then, one_keeps, same_keeps, then_keeps}
 
 pub then_goes : (x y z : World) → GoesOn x y [] → GoesOn y z [] → GoesOn x z []
 then_goes x y z = goes_through x y z [] []
@@ -29,9 +30,6 @@ among_then a b x y z g c e d =
     then_among (a ∷ []) x y z g c (subst (λ n. CommitsAmong (n ∷ []) y z) e d)
 
 -- ---- one action
-
-alone : (a c : Name) → IsTrue (has_name (a ∷ []) c) → a ≡ c
-alone a c h = elim (or_cases (same_name a c) false h) [ inl k ↦ same_name_true a c k | inr k ↦ absurd (false≢true k) ]
 
 -- where nothing began, each that began has ended
 pub none_begun : (x y : World) → HaveBegun [] x y → EndsAll x y
@@ -122,12 +120,12 @@ module _ (names rest : List Name) (a : Name) (is : names ≡ rest ++ (a ∷ []))
       among_through all x y z [] g c
       (among_more (a ∷ []) all y z (λ b h. among b (subst (λ n. IsTrue (has_name names n)) (alone a b h) last_waits)) d)
 
-pub ruleset steps = (then_goes, then_commits, then_ends)
+pub ruleset steps = (then_goes, then_commits, then_ends, then_keeps, keeps_then)
 
-pub ruleset turns = (then_goes, then_commits, then_ends, goes_nowhere, commits_nowhere, ends_nowhere)
+pub ruleset turns = (then_goes, then_commits, then_ends, goes_nowhere, commits_nowhere, ends_nowhere, then_keeps, keeps_then, keeps_nowhere)
 
-pub ruleset children = (then_goes, then_commits, then_ends, none_begun, child_open, child_commits, child_ends)
+pub ruleset children = (then_goes, then_commits, then_ends, none_begun, child_open, child_commits, child_ends, keeps_nowhere, child_keeps, keeps_then)
 
-pub ruleset together = (then_goes, then_commits, then_ends, arms_wait, arms_commit, arms_end, same_ends)
+pub ruleset together = (then_goes, then_commits, then_ends, arms_wait, arms_commit, arms_end, same_ends, arms_keep)
 
-pub ruleset arms = (then_goes, then_commits, then_ends, goes_nowhere, ends_nowhere)
+pub ruleset arms = (then_goes, then_commits, then_ends, goes_nowhere, ends_nowhere, keeps_nowhere)

@@ -77,8 +77,3 @@ EndsThese names old new = (a : Name) → IsTrue (has_name names a) → IsTrue (i
 -- the world was left by one step
 abbrev pub IsAfter : Step → World → World → Type 0
 IsAfter step old new = new ≡ world_after old step (answer_of (opening_in old.lists) step old.past)
-
--- a step that is no `top`
-abbrev pub IsNoTop : Step → Type 0
-IsNoTop (Top g) = ⊥
-IsNoTop _ = Unit {0}

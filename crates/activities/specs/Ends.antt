@@ -1,5 +1,5 @@
 -- How clients end, and what their actions leave of a world.
-use Rattle.std.specs.Prelude.{◌≡◌, IsTrue, ℕ, Bool, true, false, List, [], ◌∷◌, Option, Some, None, Result, Ok, Err, filter_map}
+use Rattle.std.specs.Prelude.{◌≡◌, IsTrue, ℕ, Bool, true, false, List, [], ◌∷◌, ◌++◌, ◌⊎◌, Option, Some, None, Result, Ok, Err, filter_map}
 use Rattle.std.specs.List.{AllByRecursion}
 use Rattle.action_names.specs.Names.{Name}
 use Rattle.run_model.specs.declared.answer.Answer.TheVariants as answer
@@ -18,6 +18,7 @@ use Rattle.activities.specs.declared.open_action.Called.{Called}
 use Rattle.activities.specs.declared.open_action.Called.TheVariants.{Began}
 use Rattle.run_model.specs.Openings.{opening_in}
 use Rattle.activities.specs.Continuing.{CommitsNone, GoesOn, EndsAll, HaveBegun}
+use Rattle.activities.specs.OwnSteps.{KeepsTo}
 
 -- the top action that an end names
 abbrev pub top_of : ClientEnd → Option Name
@@ -71,13 +72,15 @@ pub record TopMade (home : ℕ) (old new : World) (found : Option Name) : Type 0
   pub goes_on : GoesOn old new (named_by found)
   pub commits : CommitsNone old new
   pub began : HaveBegun (named_by found) old new
+  pub own : KeepsTo [] old new
 
--- a client of this home was run: its end names exactly the action that a `top` step began
+-- a client of this home was run: its end names exactly the action that a `top` step began, and each step was of its own actions
 pub record ClientRan (home : ℕ) (old new : World) (end : ClientEnd) : Type 0 where
   pub began : IsTopAt home old (top_of end)
   pub goes_on : GoesOn old new (named_by (top_of end))
   pub is_end : IsEnd new.past end
   pub ended : EndsAll old new
+  pub own : KeepsTo [] old new
 
 -- clients were run one after another, each from where the one before it had ended
 abbrev pub RanInTurn : List Client → World → World → List ClientEnd → Type 0
@@ -86,9 +89,42 @@ RanInTurn (client ∷ clients) old new [] = ⊥
 RanInTurn (client ∷ clients) old new (end ∷ ends) =
     (next : World) × ClientRan client.home old next end × RanInTurn clients next new ends
 
--- these clients were run: their ends name, in order, exactly the actions that `top` steps began
+-- these clients were run: their ends name, in order, exactly the actions that `top` steps began, and each step was of their own actions
 pub record AreRun (clients : List Client) (old new : World) (ends : List ClientEnd) : Type 0 where
   pub in_turn : RanInTurn clients old new ends
   pub goes_on : GoesOn old new (named ends)
   pub told : AllByRecursion (IsEnd new.past) ends
   pub ended : EndsAll old new
+  pub own : KeepsTo [] old new
+
+-- the `top` step at this guardian began the action; where none was begun nothing has happened
+abbrev pub IsTopOrNothing : ℕ → World → World → Option Name → Type 0
+IsTopOrNothing home old new None = new ≡ old
+IsTopOrNothing home old new (Some a) = IsTopAt home old (Some a)
+
+-- a client of this home was begun, if at all, and then a fault ended it: each step was of its own actions, and nothing from before was committed
+pub record ClientCut (home : ℕ) (old new : World) : Type 0 where
+  pub top : Option Name
+  pub began : IsTopOrNothing home old new top
+  pub goes_on : GoesOn old new (named_by top)
+  pub own : KeepsTo [] old new
+  pub commits : CommitsNone old new
+
+-- a client of this home was run to its end, or until a fault ended it
+abbrev pub ClientTried : ℕ → World → World → Type 0
+ClientTried home old new = ((end : ClientEnd) × ClientRan home old new end) ⊎ ClientCut home old new
+
+-- clients were tried one after another, each from where the one before it had ended
+abbrev pub TriedInTurn : List Client → World → World → Type 0
+TriedInTurn [] old new = new ≡ old
+TriedInTurn (client ∷ clients) old new = (next : World) × ClientTried client.home old next × TriedInTurn clients next new
+
+-- the first so many of the clients were tried, and each step was of their own actions
+pub record AreTried (clients : List Client) (old new : World) : Type 0 where
+  pub tried : List Client
+  pub rest : List Client
+  pub parts : clients ≡ tried ++ rest
+  pub in_turn : TriedInTurn tried old new
+  pub tops : List Name
+  pub goes_on : GoesOn old new tops
+  pub own : KeepsTo [] old new

@@ -1,5 +1,8 @@
 pub mod Continuing
+pub mod OwnSteps
 pub mod Ends
 pub mod Bodies
 pub mod Reaching
 pub mod Performing
+pub mod Serial
+pub mod Acting

@@ -3,6 +3,7 @@ use Rattle.std.specs.Prelude.{◌≡◌, ℕ, Option, Some, None, option_map}
 use Rattle.atomic_types.specs.Operations as op
 use Rattle.atomic_types.specs.declared.op.Reply.{Reply}
 use Rattle.atomic_types.specs.declared.op.Reply.TheVariants.{Signals}
+use Rattle.action_names.specs.Names.{Name}
 use Rattle.run_model.specs.declared.answer.Answer.{Answer}
 use Rattle.run_model.specs.declared.answer.Answer.TheVariants as answer
 use Rattle.run_model.specs.declared.step.Step.{Step}
@@ -15,18 +16,17 @@ use Rattle.script_model.specs.declared.statement.ObjectCall.{ObjectCall}
 use Rattle.frames.specs.Bound.{Bound}
 use Rattle.frames.specs.Binding.{bound_after}
 use Rattle.frames.specs.Operating.{op_of}
-use Rattle.activities.specs.declared.open_action.OpenAction.{OpenAction}
 use Rattle.activities.specs.declared.operations.Outcome.{Outcome}
 use Rattle.activities.specs.declared.operations.Outcome.TheVariants as outcome
 use Rattle.activities.specs.Continuing.{IsAfter}
 
 -- the step by which an action makes an operation on an object of its home
-abbrev pub op_step : OpenAction → ℕ → op.Op → Step
-op_step action object wanted = Op action.name (record { guardian = action.home; number = object }) wanted
+abbrev pub op_step : Name → ℕ → ℕ → op.Op → Step
+op_step name home object wanted = Op name (record { guardian = home; number = object }) wanted
 
 -- the step that an operation of a script asks for; none where one of its arguments has no value
-abbrev pub step_for : OpenAction → Bound → ObjectCall → Option Step
-step_for action before call = option_map (op_step action call.object) (op_of before call.operation)
+abbrev pub step_for : Name → ℕ → Bound → ObjectCall → Option Step
+step_for name home before call = option_map (op_step name home call.object) (op_of before call.operation)
 
 -- the world was left by the step, or by nothing where there is none
 abbrev pub IsAfterAny : Option Step → World → World → Type 0

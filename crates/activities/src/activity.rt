@@ -1,10 +1,15 @@
-ghost use Rattle.std.specs.Prelude.{◌≡◌, ◌+◌, ◌≤◌, [], ◌∷◌, length, IsTrue, IfOk, None, OnOk};
-ghost use Rattle.script_model.specs.Resolved.{IsResolved, asked, frames_after};
+ghost use Rattle.std.specs.Prelude.{◌≡◌, ◌+◌, ◌≤◌, [], ◌∷◌, false, length, reverse, slice_get, IsTrue, IfOk, None, OnOk};
+ghost use Rattle.action_names.specs.Names.{Name, has_name};
+ghost use Rattle.script_model.specs.Resolved.{IsResolved, asked, binding_is_bound, frames_after};
 ghost use Rattle.run_model.specs.Actions.{is_committed, is_ended};
 ghost use Rattle.run_model.specs.Runs.{IsRun};
 ghost use Rattle.activities.specs.Bodies.{AreArms, IsBody, IsCall, IsStatement, SignalsFollow, SignalsHold, WhereEnded, Within, sizes};
 ghost use Rattle.activities.specs.Continuing.{AreWaiting, CommitsAmong, CommitsNone, EndsAll, GoesOn, HaveRun, IsOpen};
+ghost use Rattle.activities.specs.OwnSteps.{KeepsTo};
 ghost use Rattle.activities.specs.Ends.{commits, has_committed};
+ghost use Rattle.activities.specs.Serial.{arms_run, budget, call_done, coenter_done, given_back, inner, nested_done, on_signal, repeated, run, statement_done};
+ghost use Rattle.activities.specs.Acting.{ComesSo, acting, doing, done};
+ghost use Rattle.frames.specs.Operating.{given};
 ghost use Rattle.activities.specs.declared.flow.Flow.TheVariants.{Aborted, Outwards};
 ghost use Rattle.activities.specs.declared.flow.Reach.TheVariants.{TopAction};
 ghost use Rattle.run_model.specs.Openings.{opening_in};
@@ -16,11 +21,12 @@ use crate::operations::{Outcome, perform};
 use action_names::Name;
 use atomic_types::Reply;
 use frames::Frames;
-use script_model::{Arm, Checked, HandlerCall, Statement};
+use script_model::{Arm, Binding, Checked, HandlerCall, Statement};
 use sqlite_items::Items;
 use stable_store::Stable;
 use stable_world::{Fault, World};
-use std::alloc::Global;
+use std::alloc::{AllocError, Global};
+use values::Value;
 
 /// How many statements and turns of `repeat` an activity may begin.
 pub(crate) const BUDGET: u32 = 100_000;
@@ -36,7 +42,8 @@ pub(crate) struct Activity<'s> {
 
 impl<'s> Activity<'s> {
     pub(crate) fn new(alloc: Global, script: &'s Checked) -> Activity<'s>
-        ensures { result.script.now ≡ script.now }
+        ensures script { result.script.now ≡ script.now }
+        ensures left { result.left ≡ budget }
     {
         Activity {
             alloc,
@@ -48,6 +55,7 @@ impl<'s> Activity<'s> {
     /// Takes a statement or a turn from the budget; false where nothing is left.
     fn begin(&mut self) -> bool
         ensures left { IsTrue result → self.old.left ≡ self.new.left + 1 }
+        ensures none { result ≡ false → (self.old.left ≡ 0) × (self.new.left ≡ 0) }
         ensures most { self.new.left ≤ self.old.left }
         ensures script { self.new.script.now ≡ self.old.script.now }
     {
@@ -74,6 +82,7 @@ impl<'s> Activity<'s> {
         requires run { IsRun (opening_in world.old.run.lists) world.old.run.past }
         requires open { IsOpen action.old.name world.old.run }
         ensures goes_on { GoesOn world.old.run world.new.run [] }
+        ensures own { KeepsTo (action.old.name ∷ []) world.old.run world.new.run }
         ensures others { CommitsAmong (action.old.name ∷ []) world.old.run world.new.run }
         ensures told { IfOk result (λ flow. commits flow ≡ is_committed action.old.name world.new.run.past) }
         ensures ended { OnOk result (IsTrue (is_ended action.old.name world.new.run.past)) }
@@ -82,6 +91,9 @@ impl<'s> Activity<'s> {
         ensures script { self.new.script.now ≡ self.old.script.now }
         ensures name { action.new.name ≡ action.old.name }
         ensures home { action.new.home ≡ action.old.home }
+        ensures means { IfOk result (λ flow. ComesSo self.old.script.now self.old.left
+            (done world.new.run self.new.left action.new frames.new flow)
+            (λ go. run go (acting action.old) frames.old body.now (doing world.old.run self.old.left action.old frames.old))) }
     {
         match self.body(world, action, frames, body) {
             Ok(flow) => action.end(world, flow),
@@ -105,6 +117,7 @@ impl<'s> Activity<'s> {
         requires body { IsBody self.old.script.now (sizes frames.old) body.now }
         requires run { IsRun (opening_in world.old.run.lists) world.old.run.past }
         ensures goes_on { GoesOn world.old.run world.new.run [] }
+        ensures own { KeepsTo (action.old.name ∷ []) world.old.run world.new.run }
         ensures commits { CommitsNone world.old.run world.new.run }
         ensures ends { OnOk result (EndsAll world.old.run world.new.run) }
         ensures frames { IfOk result (λ flow. WhereEnded flow (Within (sizes frames.old) (sizes frames.new))) }
@@ -113,6 +126,9 @@ impl<'s> Activity<'s> {
         ensures script { self.new.script.now ≡ self.old.script.now }
         ensures name { action.new.name ≡ action.old.name }
         ensures home { action.new.home ≡ action.old.home }
+        ensures means { IfOk result (λ flow. ComesSo self.old.script.now self.old.left
+            (done world.new.run self.new.left action.new frames.new flow)
+            (λ go. go body.now (doing world.old.run self.old.left action.old frames.old))) }
     {
         for statement in body {
             if !self.begin() {
@@ -140,6 +156,7 @@ impl<'s> Activity<'s> {
         requires body { IsBody self.old.script.now (sizes frames.old) body.now }
         requires run { IsRun (opening_in world.old.run.lists) world.old.run.past }
         ensures goes_on { GoesOn world.old.run world.new.run [] }
+        ensures own { KeepsTo (action.old.name ∷ []) world.old.run world.new.run }
         ensures commits { CommitsNone world.old.run world.new.run }
         ensures ends { OnOk result (EndsAll world.old.run world.new.run) }
         ensures frames { IfOk result (λ flow. WhereEnded flow (sizes frames.new ≡ sizes frames.old)) }
@@ -147,6 +164,9 @@ impl<'s> Activity<'s> {
         ensures script { self.new.script.now ≡ self.old.script.now }
         ensures name { action.new.name ≡ action.old.name }
         ensures home { action.new.home ≡ action.old.home }
+        ensures means { IfOk result (λ flow. ComesSo self.old.script.now self.old.left
+            (done world.new.run self.new.left action.new frames.new flow)
+            (λ go. inner go body.now (doing world.old.run self.old.left action.old frames.old))) }
     {
         let sizes = frames.sizes();
         let flow = self.body(world, action, frames, body)?;
@@ -167,6 +187,7 @@ impl<'s> Activity<'s> {
         requires statement { IsStatement self.old.script.now (sizes frames.old) statement.now }
         requires run { IsRun (opening_in world.old.run.lists) world.old.run.past }
         ensures goes_on { GoesOn world.old.run world.new.run [] }
+        ensures own { KeepsTo (action.old.name ∷ []) world.old.run world.new.run }
         ensures commits { CommitsNone world.old.run world.new.run }
         ensures ends { OnOk result (EndsAll world.old.run world.new.run) }
         ensures frames { IfOk result (λ flow. WhereEnded flow (sizes frames.new ≡ (asked statement.now).after (sizes frames.old))) }
@@ -174,6 +195,9 @@ impl<'s> Activity<'s> {
         ensures script { self.new.script.now ≡ self.old.script.now }
         ensures name { action.new.name ≡ action.old.name }
         ensures home { action.new.home ≡ action.old.home }
+        ensures means { IfOk result (λ flow. ComesSo self.old.script.now self.old.left
+            (done world.new.run self.new.left action.new frames.new flow)
+            (λ go. statement_done self.old.script.now.handlers go statement.now (doing world.old.run self.old.left action.old frames.old))) }
     {
         match statement {
             Statement::Op(call, signals) => match perform(world, action, frames, call)? {
@@ -218,6 +242,7 @@ impl<'s> Activity<'s> {
         requires signals { SignalsHold self.old.script.now (sizes frames.old) signals.now }
         requires run { IsRun (opening_in world.old.run.lists) world.old.run.past }
         ensures goes_on { GoesOn world.old.run world.new.run [] }
+        ensures own { KeepsTo (action.old.name ∷ []) world.old.run world.new.run }
         ensures commits { CommitsNone world.old.run world.new.run }
         ensures ends { OnOk result (EndsAll world.old.run world.new.run) }
         ensures frames { IfOk result (λ flow. WhereEnded flow (sizes frames.new ≡ sizes frames.old)) }
@@ -226,6 +251,9 @@ impl<'s> Activity<'s> {
         ensures script { self.new.script.now ≡ self.old.script.now }
         ensures name { action.new.name ≡ action.old.name }
         ensures home { action.new.home ≡ action.old.home }
+        ensures means { IfOk result (λ flow. ComesSo self.old.script.now self.old.left
+            (done world.new.run self.new.left action.new frames.new flow)
+            (λ go. on_signal go signals.now (doing world.old.run self.old.left action.old frames.old))) }
     {
         match signals {
             Some(body) => self.inner(world, action, frames, body.as_slice()),
@@ -247,6 +275,7 @@ impl<'s> Activity<'s> {
         requires body { IsBody self.old.script.now (sizes frames.old) body.now }
         requires run { IsRun (opening_in world.old.run.lists) world.old.run.past }
         ensures goes_on { GoesOn world.old.run world.new.run [] }
+        ensures own { KeepsTo (action.old.name ∷ []) world.old.run world.new.run }
         ensures commits { CommitsNone world.old.run world.new.run }
         ensures ends { OnOk result (EndsAll world.old.run world.new.run) }
         ensures frames { IfOk result (λ flow. WhereEnded flow (sizes frames.new ≡ sizes frames.old)) }
@@ -255,6 +284,9 @@ impl<'s> Activity<'s> {
         ensures script { self.new.script.now ≡ self.old.script.now }
         ensures name { action.new.name ≡ action.old.name }
         ensures home { action.new.home ≡ action.old.home }
+        ensures means { IfOk result (λ flow. ComesSo self.old.script.now self.old.left
+            (done world.new.run self.new.left action.new frames.new flow)
+            (λ go. repeated go turns body.now (doing world.old.run self.old.left action.old frames.old))) }
     {
         for _ in 0..turns {
             if !self.begin() {
@@ -270,7 +302,7 @@ impl<'s> Activity<'s> {
 
     /// A handler call: the handler's body as a subaction at its guardian.
     #[cycle(activity)]
-    #[tactic(auto, using(crate::proofs::Ways::children, frames::proofs::Counting::sizes_after))]
+    #[tactic(auto, using(crate::proofs::Ways::children))]
     fn call<S: Stable>(
         &mut self,
         world: &mut World<S>,
@@ -284,6 +316,7 @@ impl<'s> Activity<'s> {
         requires signals { SignalsFollow self.old.script.now (sizes frames.old) call.now.binding signals.now }
         requires run { IsRun (opening_in world.old.run.lists) world.old.run.past }
         ensures goes_on { GoesOn world.old.run world.new.run [] }
+        ensures own { KeepsTo (action.old.name ∷ []) world.old.run world.new.run }
         ensures commits { CommitsNone world.old.run world.new.run }
         ensures ends { OnOk result (EndsAll world.old.run world.new.run) }
         ensures frames { IfOk result (λ flow. WhereEnded flow (sizes frames.new ≡ frames_after (sizes frames.old) call.now.binding)) }
@@ -291,6 +324,10 @@ impl<'s> Activity<'s> {
         ensures script { self.new.script.now ≡ self.old.script.now }
         ensures name { action.new.name ≡ action.old.name }
         ensures home { action.new.home ≡ action.old.home }
+        ensures means { IfOk result (λ flow. ComesSo self.old.script.now self.old.left
+            (done world.new.run self.new.left action.new frames.new flow)
+            (λ go. call_done go (slice_get self.old.script.now.handlers call.now.handler) call.now signals.now
+            (given frames.old call.now) (doing world.old.run self.old.left action.old frames.old))) }
     {
         let script = self.script;
         let handler = &script.handlers.as_slice()[call.handler as usize];
@@ -308,16 +345,11 @@ impl<'s> Activity<'s> {
         let taken = action.take_in(&child, has_committed(&ended));
         let flow = ended?;
         taken?;
-        let reply = match flow {
-            Flow::Ended | Flow::Returned(None) => Reply::Done,
-            Flow::Returned(Some(value)) => Reply::Gives(value),
-            Flow::Aborted => return self.run_signals(world, action, frames, signals),
-            Flow::Outwards(reach) => return Ok(Flow::Outwards(reach)),
-        };
-        if frames.bind(call.binding, reply)? {
-            Ok(Flow::Ended)
-        } else {
-            Ok(Flow::Aborted)
+        match flow {
+            Flow::Ended => Ok(bind_value(frames, call.binding, None)?),
+            Flow::Returned(value) => Ok(bind_value(frames, call.binding, value)?),
+            Flow::Aborted => self.run_signals(world, action, frames, signals),
+            Flow::Outwards(reach) => Ok(Flow::Outwards(reach)),
         }
     }
 
@@ -337,6 +369,7 @@ impl<'s> Activity<'s> {
         requires signals { IsBody self.old.script.now (sizes frames.old) signals.now }
         requires run { IsRun (opening_in world.old.run.lists) world.old.run.past }
         ensures goes_on { GoesOn world.old.run world.new.run [] }
+        ensures own { KeepsTo (action.old.name ∷ []) world.old.run world.new.run }
         ensures commits { CommitsNone world.old.run world.new.run }
         ensures ends { OnOk result (EndsAll world.old.run world.new.run) }
         ensures frames { IfOk result (λ flow. WhereEnded flow (sizes frames.new ≡ sizes frames.old)) }
@@ -344,6 +377,9 @@ impl<'s> Activity<'s> {
         ensures script { self.new.script.now ≡ self.old.script.now }
         ensures name { action.new.name ≡ action.old.name }
         ensures home { action.new.home ≡ action.old.home }
+        ensures means { IfOk result (λ flow. ComesSo self.old.script.now self.old.left
+            (done world.new.run self.new.left action.new frames.new flow)
+            (λ go. nested_done go body.now signals.now (doing world.old.run self.old.left action.old frames.old))) }
     {
         let mut inside = frames.copy()?;
         let reached = Reached::new(self.alloc, action.home)?;
@@ -371,6 +407,7 @@ impl<'s> Activity<'s> {
         requires arms { AreArms self.old.script.now (sizes frames.old) arms.now }
         requires run { IsRun (opening_in world.old.run.lists) world.old.run.past }
         ensures goes_on { GoesOn world.old.run world.new.run [] }
+        ensures own { KeepsTo (action.old.name ∷ []) world.old.run world.new.run }
         ensures commits { CommitsNone world.old.run world.new.run }
         ensures ends { OnOk result (EndsAll world.old.run world.new.run) }
         ensures frames { IfOk result (λ flow. WhereEnded flow (sizes frames.new ≡ sizes frames.old)) }
@@ -378,6 +415,9 @@ impl<'s> Activity<'s> {
         ensures script { self.new.script.now ≡ self.old.script.now }
         ensures name { action.new.name ≡ action.old.name }
         ensures home { action.new.home ≡ action.old.home }
+        ensures means { IfOk result (λ flow. ComesSo self.old.script.now self.old.left
+            (done world.new.run self.new.left action.new frames.new flow)
+            (λ go. coenter_done go arms.now (doing world.old.run self.old.left action.old frames.old))) }
     {
         let Some(mut waiting) = begin_arms(self.alloc, world, action, arms)? else {
             return Ok(Flow::Aborted);
@@ -407,14 +447,19 @@ impl<'s> Activity<'s> {
         requires run { IsRun (opening_in world.old.run.lists) world.old.run.past }
         requires waiting { AreWaiting waiting.old.items world.old.run }
         ensures goes_on { GoesOn world.old.run world.new.run [] }
+        ensures own { KeepsTo waiting.old.items world.old.run world.new.run }
         ensures others { CommitsAmong waiting.old.items world.old.run world.new.run }
         ensures ran { OnOk result (HaveRun waiting.old.items waiting.new.items world.new.run) }
+        ensures rest { (a : Name) → IsTrue (has_name waiting.new.items a) → IsTrue (has_name waiting.old.items a) }
         ensures ends { OnOk result (EndsAll world.old.run world.new.run) }
         ensures frames { sizes frames.new ≡ sizes frames.old }
         ensures left { self.new.left ≤ self.old.left }
         ensures script { self.new.script.now ≡ self.old.script.now }
         ensures name { action.new.name ≡ action.old.name }
         ensures home { action.new.home ≡ action.old.home }
+        ensures means { IfOk result (λ flow. ComesSo self.old.script.now self.old.left
+            (done world.new.run self.new.left action.new frames.new flow, reverse waiting.new.items)
+            (λ go. arms_run go arms.now (reverse waiting.old.items) (doing world.old.run self.old.left action.old frames.old))) }
     {
         for arm in arms {
             let mut inside = frames.copy()?;
@@ -440,6 +485,28 @@ fn wait() -> Flow
     ensures { result ≡ Outwards TopAction }
 {
     Flow::Outwards(Reach::TopAction)
+}
+
+/// Binds what a handler gave back, a value if it gave one. Where that does not fit the binding, the innermost action aborts.
+#[tactic(auto, using(frames::proofs::Counting::sizes_after, crate::proofs::Meaning::values_back))]
+fn bind_value(
+    frames: &mut Frames,
+    binding: Binding,
+    value: Option<Value>,
+) -> Result<Flow, AllocError>
+    requires { IsTrue (binding_is_bound (sizes frames.old) binding) }
+    ensures sizes { IfOk result (λ flow. WhereEnded flow (sizes frames.new ≡ frames_after (sizes frames.old) binding)) }
+    ensures means { IfOk result (λ flow. (flow, frames.new) ≡ given_back frames.old binding value) }
+{
+    let reply = match value {
+        Some(value) => Reply::Gives(value),
+        None => Reply::Done,
+    };
+    if frames.bind(binding, reply)? {
+        Ok(Flow::Ended)
+    } else {
+        Ok(Flow::Aborted)
+    }
 }
 
 /// Whether an action that came to this end committed.

@@ -1,8 +1,10 @@
-ghost use Rattle.std.specs.Prelude.{◌≡◌, [], length, IfOk, IfSome, None};
+ghost use Rattle.std.specs.Prelude.{◌≡◌, [], ◌∷◌, length, option_map, reverse, IfOk, IfSome, None};
 ghost use Rattle.run_model.specs.declared.step.Step.TheVariants.{Arms};
 ghost use Rattle.run_model.specs.Runs.{IsRun};
 ghost use Rattle.activities.specs.Bodies.{body_of, kind_of, kinds};
 ghost use Rattle.activities.specs.Continuing.{AreDistinct, CommitsNone, GoesOn, HaveBegun, IsAfter};
+ghost use Rattle.activities.specs.OwnSteps.{KeepsTo};
+ghost use Rattle.activities.specs.Serial.{asked, waiting_by};
 ghost use Rattle.run_model.specs.Openings.{opening_in};
 
 use crate::open_action::OpenAction;
@@ -22,11 +24,14 @@ pub(crate) fn begin_arms<S: Stable>(
 ) -> Result<Option<Vec<Name>>, Fault>
     requires { IsRun (opening_in world.old.run.lists) world.old.run.past }
     ensures goes_on { GoesOn world.old.run world.new.run [] }
+    ensures own { KeepsTo (action.now.name ∷ []) world.old.run world.new.run }
     ensures commits { CommitsNone world.old.run world.new.run }
     ensures together { IfOk result (λ found. IsAfter (Arms action.now.name (kinds arms.now)) world.old.run world.new.run) }
     ensures each { IfOk result (λ found. IfSome found (λ names. length names.items ≡ length arms.now)) }
     ensures began { IfOk result (λ found. IfSome found (λ names. HaveBegun names.items world.old.run world.new.run)) }
     ensures distinct { IfOk result (λ found. IfSome found (λ names. AreDistinct names.items)) }
+    ensures waiting { IfOk result (λ found. option_map (λ names. reverse names.items) found
+        ≡ waiting_by (asked (Arms action.now.name (kinds arms.now)) world.old.run)) }
     ensures refused { IfOk result (λ found. found ≡ None → world.new.run ≡ world.old.run) }
 {
     let mut kinds = ArmKinds::new(alloc);

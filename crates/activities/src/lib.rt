@@ -8,10 +8,12 @@ mod activity;
 mod arms;
 mod client;
 mod flow;
+mod laws;
 mod open_action;
 mod operations;
 mod serial;
 
 pub use client::ClientEnd;
+pub use laws::earlier_is_left_alone;
 pub use script_model::Checked;
 pub use serial::run_serial;

@@ -1,14 +1,17 @@
-ghost use Rattle.std.specs.Prelude.{◌≡◌, [], ◌∷◌, List, false, length, IsTrue, IfOk, None, OnOk, OnErr};
-ghost use Rattle.action_names.specs.Names.{Name};
+ghost use Rattle.std.specs.Prelude.{◌≡◌, [], ◌∷◌, List, false, length, reverse, IsTrue, IfOk, None, OnOk, OnErr};
+ghost use Rattle.action_names.specs.Names.{Name, is_top};
 ghost use Rattle.run_model.specs.declared.answer.Answer.TheVariants.{Began};
-ghost use Rattle.run_model.specs.declared.step.Step.TheVariants.{Abort, Prepare};
+ghost use Rattle.run_model.specs.declared.step.Step.TheVariants.{Abort, Call, NestedTop, Prepare, Tell};
 ghost use Rattle.run_model.specs.Actions.{is_begun, is_committed, is_ended, maker_in, names_begun};
 ghost use Rattle.run_model.specs.Answers.{answer_of};
 ghost use Rattle.run_model.specs.Runs.{IsRun, world_after};
-ghost use Rattle.activities.specs.Continuing.{GoesOn, CommitsAmong, CommitsBy, CommitsNone, EndsAll, EndsThese, HaveBegun, IsAfter, IsNoTop, IsOpen};
+ghost use Rattle.activities.specs.Continuing.{GoesOn, CommitsAmong, CommitsBy, CommitsNone, EndsAll, EndsThese, HaveBegun, IsAfter, IsOpen};
+ghost use Rattle.activities.specs.OwnSteps.{IsOfAction, KeepsTo, about};
 ghost use Rattle.activities.specs.Reaching.{AreTold, IsHeld, IsUnion, is_made, is_yes};
 ghost use Rattle.activities.specs.Ends.{called, commits, named_by};
 ghost use Rattle.activities.specs.Performing.{op_step};
+ghost use Rattle.activities.specs.Serial.{aborted, after, arms_aborted, asked, begun_by, called_by, commit_tried, committed, end_tried, ended, joined, or_aborted, outwards, taken_in, once_told, two_phases};
+ghost use Rattle.activities.specs.Acting.{acting};
 ghost use Rattle.run_model.specs.Openings.{opening_in};
 
 use crate::flow::{Flow, Reach};
@@ -84,8 +87,11 @@ impl OpenAction {
     ) -> Result<Called, Fault>
         requires { IsRun (opening_in world.old.run.lists) world.old.run.past }
         ensures goes_on { GoesOn world.old.run world.new.run [] }
+        ensures own { KeepsTo (self.now.name ∷ []) world.old.run world.new.run }
         ensures commits { CommitsNone world.old.run world.new.run }
         ensures began { IfOk result (λ c. HaveBegun (called c) world.old.run world.new.run) }
+        ensures made { OnOk result (world.new.run ≡ after (Call self.now.name guardian) world.old.run) }
+        ensures called { IfOk result (λ c. c ≡ called_by (asked (Call self.now.name guardian) world.old.run)) }
     {
         let answer = make(world, Step::Call(self.name.copy()?, guardian))?;
         Ok(what_came(answer))
@@ -98,8 +104,11 @@ impl OpenAction {
     ) -> Result<Option<Name>, Fault>
         requires { IsRun (opening_in world.old.run.lists) world.old.run.past }
         ensures goes_on { GoesOn world.old.run world.new.run [] }
+        ensures own { KeepsTo (self.now.name ∷ []) world.old.run world.new.run }
         ensures commits { CommitsNone world.old.run world.new.run }
         ensures began { IfOk result (λ found. HaveBegun (named_by found) world.old.run world.new.run) }
+        ensures made { OnOk result (world.new.run ≡ after (NestedTop self.now.name) world.old.run) }
+        ensures begun { IfOk result (λ found. found ≡ begun_by (asked (NestedTop self.now.name) world.old.run)) }
     {
         let answer = make(world, Step::NestedTop(self.name.copy()?))?;
         Ok(begun_by(answer))
@@ -115,11 +124,12 @@ impl OpenAction {
     ) -> Result<Answer, Fault>
         requires { IsRun (opening_in world.old.run.lists) world.old.run.past }
         ensures goes_on { GoesOn world.old.run world.new.run [] }
+        ensures own { KeepsTo (self.now.name ∷ []) world.old.run world.new.run }
         ensures commits { CommitsNone world.old.run world.new.run }
         ensures ends { EndsAll world.old.run world.new.run }
-        ensures made { OnOk result (IsAfter (op_step self.now object operation) world.old.run world.new.run) }
+        ensures made { OnOk result (IsAfter (op_step self.now.name self.now.home object operation) world.old.run world.new.run) }
         ensures answer { IfOk result (λ answer. answer
-            ≡ answer_of (opening_in world.old.run.lists) (op_step self.now object operation) world.old.run.past) }
+            ≡ answer_of (opening_in world.old.run.lists) (op_step self.now.name self.now.home object operation) world.old.run.past) }
         ensures err { OnErr result (world.new.run ≡ world.old.run) }
     {
         let object = ObjectId {
@@ -137,6 +147,7 @@ impl OpenAction {
         ensures joined { OnOk result
             (IsTrue committed → IsUnion self.old.reached.participants child.now.reached.participants self.new.reached.participants) }
         ensures kept { committed ≡ false → self.new.reached.participants ≡ self.old.reached.participants }
+        ensures taken { OnOk result (acting self.new ≡ taken_in (acting self.old) (acting child.now) committed) }
     {
         add_all(&mut self.reached.homes, &child.reached.homes)?;
         if committed {
@@ -151,10 +162,12 @@ impl OpenAction {
         requires run { IsRun (opening_in world.old.run.lists) world.old.run.past }
         requires open { IsOpen self.now.name world.old.run }
         ensures goes_on { GoesOn world.old.run world.new.run [] }
+        ensures own { KeepsTo (self.now.name ∷ []) world.old.run world.new.run }
         ensures others { CommitsAmong (self.now.name ∷ []) world.old.run world.new.run }
         ensures told { IfOk result (λ end. commits end ≡ is_committed self.now.name world.new.run.past) }
         ensures ended { OnOk result (IsTrue (is_ended self.now.name world.new.run.past)) }
         ensures ends { EndsAll world.old.run world.new.run }
+        ensures means { IfOk result (λ end. record { world = world.new.run; flow = end } ≡ ended (acting self.now) flow world.old.run) }
     {
         match self.try_end(world, wants_commit(&flow)) {
             Ok(true) => Ok(flow),
@@ -171,11 +184,13 @@ impl OpenAction {
         requires run { IsRun (opening_in world.old.run.lists) world.old.run.past }
         requires open { IsOpen self.now.name world.old.run }
         ensures goes_on { GoesOn world.old.run world.new.run [] }
+        ensures own { KeepsTo (self.now.name ∷ []) world.old.run world.new.run }
         ensures others { CommitsAmong (self.now.name ∷ []) world.old.run world.new.run }
         ensures told { IfOk result (λ done. done ≡ is_committed self.now.name world.new.run.past) }
         ensures wanted { IfOk result (λ done. IsTrue done → IsTrue wanted) }
         ensures ended { OnOk result (IsTrue (is_ended self.now.name world.new.run.past)) }
         ensures ends { EndsAll world.old.run world.new.run }
+        ensures means { IfOk result (λ done. record { world = world.new.run; done = done } ≡ end_tried (acting self.now) wanted world.old.run) }
     {
         if wanted {
             self.commit_or_abort(world)
@@ -189,10 +204,12 @@ impl OpenAction {
         requires run { IsRun (opening_in world.old.run.lists) world.old.run.past }
         requires open { IsOpen self.now.name world.old.run }
         ensures goes_on { GoesOn world.old.run world.new.run [] }
+        ensures own { KeepsTo (self.now.name ∷ []) world.old.run world.new.run }
         ensures others { CommitsAmong (self.now.name ∷ []) world.old.run world.new.run }
         ensures told { IfOk result (λ done. done ≡ is_committed self.now.name world.new.run.past) }
         ensures ended { OnOk result (IsTrue (is_ended self.now.name world.new.run.past)) }
         ensures ends { EndsAll world.old.run world.new.run }
+        ensures means { IfOk result (λ done. record { world = world.new.run; done = done } ≡ or_aborted (acting self.now) (committed (acting self.now) world.old.run)) }
     {
         if self.commit(world)? {
             return Ok(true);
@@ -203,7 +220,8 @@ impl OpenAction {
 
     /// How it ended where it has aborted and its body ended so.
     fn flow_of_abort(&self, flow: Flow) -> Flow
-        ensures { commits result ≡ false }
+        ensures commits { commits result ≡ false }
+        ensures means { result ≡ outwards (is_top self.now.name) flow }
     {
         let Flow::Outwards(reach) = flow else {
             return Flow::Aborted;
@@ -220,10 +238,12 @@ impl OpenAction {
         requires run { IsRun (opening_in world.old.run.lists) world.old.run.past }
         requires open { IsOpen self.now.name world.old.run }
         ensures goes_on { GoesOn world.old.run world.new.run [] }
+        ensures own { KeepsTo (self.now.name ∷ []) world.old.run world.new.run }
         ensures others { CommitsAmong (self.now.name ∷ []) world.old.run world.new.run }
         ensures told { IfOk result (λ done. done ≡ is_committed self.now.name world.new.run.past) }
         ensures homes { IfOk result (λ done. IsTrue done → AreTold self.now.reached.homes self.now.name world.new.run) }
         ensures ends { EndsAll world.old.run world.new.run }
+        ensures means { IfOk result (λ done. record { world = world.new.run; done = done } ≡ committed (acting self.now) world.old.run) }
     {
         if !self.try_commit(world)? {
             return Ok(false);
@@ -237,9 +257,11 @@ impl OpenAction {
         requires run { IsRun (opening_in world.old.run.lists) world.old.run.past }
         requires open { IsOpen self.now.name world.old.run }
         ensures goes_on { GoesOn world.old.run world.new.run [] }
+        ensures own { KeepsTo (self.now.name ∷ []) world.old.run world.new.run }
         ensures others { CommitsAmong (self.now.name ∷ []) world.old.run world.new.run }
         ensures told { IfOk result (λ done. done ≡ is_committed self.now.name world.new.run.past) }
         ensures ends { EndsAll world.old.run world.new.run }
+        ensures means { IfOk result (λ done. record { world = world.new.run; done = done } ≡ commit_tried (acting self.now) world.old.run) }
     {
         if self.name.is_top() {
             self.commit_top(world)
@@ -253,10 +275,12 @@ impl OpenAction {
         requires run { IsRun (opening_in world.old.run.lists) world.old.run.past }
         requires open { IsOpen self.now.name world.old.run }
         ensures goes_on { GoesOn world.old.run world.new.run [] }
+        ensures own { KeepsTo (self.now.name ∷ []) world.old.run world.new.run }
         ensures others { CommitsAmong (self.now.name ∷ []) world.old.run world.new.run }
         ensures told { IfOk result (λ done. done ≡ is_committed self.now.name world.new.run.past) }
         ensures held { IfOk result (λ done. done ≡ false → IsHeld self.now.reached.participants self.now.name world.old.run world.new.run) }
         ensures ends { EndsAll world.old.run world.new.run }
+        ensures means { IfOk result (λ done. record { world = world.new.run; done = done } ≡ two_phases (acting self.now) world.old.run) }
     {
         if !try_step(world, Step::Close(self.name.copy()?))? {
             return Ok(false);
@@ -273,10 +297,12 @@ impl OpenAction {
     pub(crate) fn abort<S: Stable>(&self, world: &mut World<S>) -> Result<(), Fault>
         requires { IsRun (opening_in world.old.run.lists) world.old.run.past }
         ensures goes_on { GoesOn world.old.run world.new.run [] }
+        ensures own { KeepsTo (self.now.name ∷ []) world.old.run world.new.run }
         ensures commits { CommitsNone world.old.run world.new.run }
         ensures ended { OnOk result (EndsThese (self.now.name ∷ []) world.old.run world.new.run) }
         ensures told { OnOk result (AreTold self.now.reached.homes self.now.name world.new.run) }
         ensures ends { EndsAll world.old.run world.new.run }
+        ensures means { OnOk result (world.new.run ≡ aborted (acting self.now) world.old.run) }
     {
         try_step(world, Step::Abort(self.name.copy()?))?;
         tell(world, &self.name, &self.reached.homes)
@@ -291,9 +317,11 @@ impl OpenAction {
     ) -> Result<(), Fault>
         requires { IsRun (opening_in world.old.run.lists) world.old.run.past }
         ensures goes_on { GoesOn world.old.run world.new.run [] }
+        ensures own { KeepsTo arms.now world.old.run world.new.run }
         ensures commits { CommitsNone world.old.run world.new.run }
         ensures ended { OnOk result (EndsThese arms.now world.old.run world.new.run) }
         ensures ends { EndsAll world.old.run world.new.run }
+        ensures means { OnOk result (world.new.run ≡ arms_aborted self.now.home (reverse arms.now) world.old.run) }
     {
         let mut fault = Ok(());
         for arm in arms.iter().rev() {
@@ -307,9 +335,11 @@ impl OpenAction {
 fn abort_at_home<S: Stable>(world: &mut World<S>, action: &Name, home: u32) -> Result<(), Fault>
     requires { IsRun (opening_in world.old.run.lists) world.old.run.past }
     ensures goes_on { GoesOn world.old.run world.new.run [] }
+    ensures own { KeepsTo (action.now ∷ []) world.old.run world.new.run }
     ensures commits { CommitsNone world.old.run world.new.run }
     ensures ended { OnOk result (EndsThese (action.now ∷ []) world.old.run world.new.run) }
     ensures ends { EndsAll world.old.run world.new.run }
+    ensures means { OnOk result (world.new.run ≡ after (Tell home action.now) (after (Abort action.now) world.old.run)) }
 {
     try_step(world, Step::Abort(action.copy()?))?;
     try_step(world, Step::Tell(home, action.copy()?))?;
@@ -324,9 +354,11 @@ fn tell<S: Stable>(
 ) -> Result<(), Fault>
     requires { IsRun (opening_in world.old.run.lists) world.old.run.past }
     ensures goes_on { GoesOn world.old.run world.new.run [] }
+    ensures own { KeepsTo (action.now ∷ []) world.old.run world.new.run }
     ensures commits { CommitsNone world.old.run world.new.run }
     ensures told { OnOk result (AreTold guardians.now action.now world.new.run) }
     ensures ends { EndsAll world.old.run world.new.run }
+    ensures means { OnOk result (world.new.run ≡ once_told action.now guardians.now.keys world.old.run) }
 {
     for guardian in guardians {
         try_step(world, Step::Tell(*guardian, action.copy()?))?;
@@ -337,7 +369,8 @@ fn tell<S: Stable>(
 /// What came of a call that was answered so.
 fn what_came(answer: Answer) -> Called
     requires { (names : List Name) → answer ≡ Began names → length names ≡ 1 }
-    ensures { called result ≡ names_begun answer }
+    ensures names { called result ≡ names_begun answer }
+    ensures means { result ≡ called_by answer }
 {
     match answer {
         Answer::Began(names) => Called::Began(only(names)),
@@ -349,7 +382,8 @@ fn what_came(answer: Answer) -> Called
 /// The action that an answer began, of which there is one at most.
 fn begun_by(answer: Answer) -> Option<Name>
     requires { (names : List Name) → answer ≡ Began names → length names ≡ 1 }
-    ensures { named_by result ≡ names_begun answer }
+    ensures names { named_by result ≡ names_begun answer }
+    ensures means { result ≡ begun_by answer }
 {
     match answer {
         Answer::Began(names) => Some(only(names)),
@@ -361,6 +395,7 @@ fn begun_by(answer: Answer) -> Option<Name>
 fn prepare<S: Stable>(world: &mut World<S>, guardian: u32, top: &Name) -> Result<bool, Fault>
     requires { IsRun (opening_in world.old.run.lists) world.old.run.past }
     ensures goes_on { GoesOn world.old.run world.new.run [] }
+    ensures own { KeepsTo (top.now ∷ []) world.old.run world.new.run }
     ensures commits { CommitsNone world.old.run world.new.run }
     ensures after { OnOk result (IsAfter (Prepare guardian top.now) world.old.run world.new.run) }
     ensures yes { IfOk result (λ yes. yes ≡ is_yes (answer_of (opening_in world.old.run.lists) (Prepare guardian top.now) world.old.run.past)) }
@@ -379,8 +414,9 @@ fn is_yes(answer: Answer) -> bool
 /// Makes a step; whether it was done.
 fn try_step<S: Stable>(world: &mut World<S>, step: Step) -> Result<bool, Fault>
     requires run { IsRun (opening_in world.old.run.lists) world.old.run.past }
-    requires step { IsNoTop step }
+    requires step { IsOfAction step }
     ensures goes_on { GoesOn world.old.run world.new.run [] }
+    ensures own { KeepsTo (about step) world.old.run world.new.run }
     ensures commits { CommitsBy step world.old.run world.new.run }
     ensures after { OnOk result (IsAfter step world.old.run world.new.run) }
     ensures done { IfOk result (λ done. done ≡ is_made (answer_of (opening_in world.old.run.lists) step world.old.run.past)) }
@@ -406,7 +442,8 @@ fn wants_commit(flow: &Flow) -> bool
 
 /// Adds the guardians of a set to another.
 fn add_all(to: &mut BTreeSet<u32>, guardians: &BTreeSet<u32>) -> Result<(), AllocError>
-    ensures { OnOk result (IsUnion to.old guardians.now to.new) }
+    ensures union { OnOk result (IsUnion to.old guardians.now to.new) }
+    ensures joined { OnOk result (to.new.keys ≡ joined to.old.keys guardians.now.keys) }
 {
     for guardian in guardians {
         to.insert(*guardian)?;
@@ -422,11 +459,12 @@ pub(crate) fn only(names: Names) -> Name
     names.into_vec().pop().unwrap()
 }
 
-/// Makes a step that begins no top action of its own accord.
+/// Makes a step that is about an action.
 fn make<S: Stable>(world: &mut World<S>, step: Step) -> Result<Answer, Fault>
     requires run { IsRun (opening_in world.old.run.lists) world.old.run.past }
-    requires step { IsNoTop step }
+    requires step { IsOfAction step }
     ensures goes_on { GoesOn world.old.run world.new.run [] }
+    ensures own { KeepsTo (about step) world.old.run world.new.run }
     ensures commits { CommitsBy step world.old.run world.new.run }
     ensures answer { IfOk result (λ answer. answer ≡ answer_of (opening_in world.old.run.lists) step world.old.run.past) }
     ensures after { IfOk result (λ answer. world.new.run ≡ world_after world.old.run step answer) }

@@ -1,8 +1,9 @@
-ghost use Rattle.std.specs.Prelude.{◌≡◌, ◌⊎◌, [], IsTrue, IfOk, OnErr, OnOk};
+ghost use Rattle.std.specs.Prelude.{◌≡◌, ◌⊎◌, [], ◌∷◌, IsTrue, IfOk, OnErr, OnOk};
 ghost use Rattle.script_model.specs.Resolved.{binding_is_bound};
 ghost use Rattle.run_model.specs.Runs.{IsRun};
 ghost use Rattle.activities.specs.Bodies.{IsOp, IsOutcome, sizes};
 ghost use Rattle.activities.specs.Continuing.{CommitsNone, EndsAll, GoesOn};
+ghost use Rattle.activities.specs.OwnSteps.{KeepsTo};
 ghost use Rattle.activities.specs.Performing.{IsAfterAny, by_reply, outcome_of, step_for};
 ghost use Rattle.run_model.specs.Openings.{opening_in};
 
@@ -36,15 +37,16 @@ pub(crate) fn perform<S: Stable>(
     requires run { IsRun (opening_in world.old.run.lists) world.old.run.past }
     requires call { IsOp (sizes frames.old) call.now }
     ensures goes_on { GoesOn world.old.run world.new.run [] }
+    ensures own { KeepsTo (action.now.name ∷ []) world.old.run world.new.run }
     ensures commits { CommitsNone world.old.run world.new.run }
     ensures ends { EndsAll world.old.run world.new.run }
     ensures frames { IfOk result (λ done. IsOutcome done call.now.binding (sizes frames.old) (sizes frames.new)) }
-    ensures made { OnOk result (IsAfterAny (step_for action.now frames.old call.now) world.old.run world.new.run) }
+    ensures made { OnOk result (IsAfterAny (step_for action.now.name action.now.home frames.old call.now) world.old.run world.new.run) }
     ensures outcome { IfOk result (λ done. (done, frames.new)
-        ≡ outcome_of world.old.run frames.old call.now.binding (step_for action.now frames.old call.now)) }
+        ≡ outcome_of world.old.run frames.old call.now.binding (step_for action.now.name action.now.home frames.old call.now)) }
     ensures unbound { OnErr result (frames.new ≡ frames.old) }
     ensures err { OnErr result ((world.new.run ≡ world.old.run)
-        ⊎ IsAfterAny (step_for action.now frames.old call.now) world.old.run world.new.run) }
+        ⊎ IsAfterAny (step_for action.now.name action.now.home frames.old call.now) world.old.run world.new.run) }
 {
     let Some(operation) = frames.operation(&call.operation)? else {
         return Ok(Outcome::Refused);

@@ -3,3 +3,4 @@ pub mod Reporting
 pub mod Saving
 pub mod Limits
 pub mod Runs
+pub mod Texts

@@ -13,6 +13,7 @@ use Rattle.run_model.specs.Versions.{base_of}
 use Rattle.activities.specs.declared.client.ClientEnd.{ClientEnd}
 use Rattle.activities.specs.declared.client.ClientEnd.TheVariants.{Aborted, Committed}
 use Rattle.activities.specs.Ends.{AreRun}
+use Rattle.activities.specs.Serial.{serial_run}
 use Rattle.argus_engine.specs.Serving.{Begins}
 
 -- some document fits the script
@@ -71,6 +72,9 @@ run_text ends bases = numbered end_line 1 ends ++ numbered base_lines 1 bases
 -- the script's clients were run in a new world of this setup: so they ended, and these bases they left
 pub record WasRun (script : Checked) (setup : Setup) (ends : List ClientEnd) (bases : List (List (ℕ × Content))) : Type 0 where
   pub world : World
+  -- all of it is what the serial run of the script comes to
+  pub means : record { world = world; ends = ends } ≡ serial_run script (new_world setup)
+  -- and so the ends are told truly, and nothing is left open
   pub are_run : AreRun script.clients (new_world setup) world ends
   pub left : bases ≡ all_bases world
 
@@ -80,6 +84,14 @@ pub record TellsRun (script : Checked) (setup : Setup) (text : List ℕ) : Type 
   pub bases : List (List (ℕ × Content))
   pub was_run : WasRun script setup ends bases
   pub says : text ≡ run_text ends bases
+
+-- what is said of a script that is run in a new world of this setup
+abbrev pub text_of_run : Checked → Setup → List ℕ
+text_of_run script setup = let ran = serial_run script (new_world setup) in run_text ran.ends (all_bases ran.world)
+
+-- It is determined by the script and the setup.
+abbrev pub OneTextOfRun : Type 0
+OneTextOfRun = (script : Checked) (setup : Setup) (text : List ℕ) → TellsRun script setup text → text ≡ text_of_run script setup
 
 -- nothing was said, or a beginning of that
 abbrev pub BeginsRun : Checked → Setup → List ℕ → Type 0

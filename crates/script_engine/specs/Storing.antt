@@ -111,3 +111,8 @@ ArePartlySaved script found old new =
 -- a fault of a store, or want of memory
 abbrev pub IsOfStore : Fault → Type 0
 IsOfStore fault = (fault ≡ Memory) ⊎ (fault ≡ Store)
+
+-- What is said of a run over stores, and the bases that are saved, are determined by the script and by what was found at the stores.
+abbrev pub OneStoredRun : Type 0
+OneStoredRun = (script : Checked) (found : List (Option Stored)) (bases more : List (List (ℕ × Content))) (text other : List ℕ)
+    → TellsStoredRun script found Done bases text → TellsStoredRun script found Done more other → (bases ≡ more) × (text ≡ other)

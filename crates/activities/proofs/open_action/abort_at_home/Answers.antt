@@ -1,6 +1,7 @@
 use Rattle.std.proofs.Common.{[], ap, refl}
 use Rattle.run_model.specs.declared.step.Step.TheVariants.{Abort}
 use Rattle.activities.proofs.Going.{commits_through, ends_one, ends_through, goes_through, still_ended}
+use Rattle.activities.proofs.OwnSteps.{keeps_named, then_keeps}
 use Rattle.activities.proofs.open_action.abort_at_home.Goals as goal
 
 pub returns-clause-goes_on : goal.returns-clause-goes_on
@@ -36,3 +37,23 @@ pub returns-in_err-try_step-2-clause-ends : goal.returns-in_err-try_step-2-claus
 returns-in_err-try_step-2-clause-ends g c =
     ends_through c.args.world.now.run c.try_step.new.world.run c.try_step-2.new.world.run [] c.try_step-2.ensures.goes_on (c.try_step.ensures.ends refl)
     (c.try_step-2.ensures.ends refl)
+
+pub returns-in_err-try_step-clause-own : goal.returns-in_err-try_step-clause-own
+returns-in_err-try_step-clause-own g c =
+    keeps_named c.args.action.now c.in_ok-copy.field-0 c.args.world.now.run c.try_step.new.world.run c.in_ok-copy.ensures.ok.1 c.try_step.ensures.own
+
+pub returns-in_err-copy-2-clause-own : goal.returns-in_err-copy-2-clause-own
+returns-in_err-copy-2-clause-own g c =
+    keeps_named c.args.action.now c.in_ok-copy.field-0 c.args.world.now.run c.try_step.new.world.run c.in_ok-copy.ensures.ok.1 c.try_step.ensures.own
+
+pub returns-in_err-try_step-2-clause-own : goal.returns-in_err-try_step-2-clause-own
+returns-in_err-try_step-2-clause-own g c =
+    then_keeps c.args.action.now c.args.world.now.run c.try_step.new.world.run c.try_step-2.new.world.run
+    (keeps_named c.args.action.now c.in_ok-copy.field-0 c.args.world.now.run c.try_step.new.world.run c.in_ok-copy.ensures.ok.1 c.try_step.ensures.own)
+    (keeps_named c.args.action.now c.in_ok-copy-2.field-0 c.try_step.new.world.run c.try_step-2.new.world.run c.in_ok-copy-2.ensures.ok.1 c.try_step-2.ensures.own)
+
+pub returns-clause-own : goal.returns-clause-own
+returns-clause-own g c =
+    then_keeps c.args.action.now c.args.world.now.run c.try_step.new.world.run c.try_step-2.new.world.run
+    (keeps_named c.args.action.now c.in_ok-copy.field-0 c.args.world.now.run c.try_step.new.world.run c.in_ok-copy.ensures.ok.1 c.try_step.ensures.own)
+    (keeps_named c.args.action.now c.in_ok-copy-2.field-0 c.try_step.new.world.run c.try_step-2.new.world.run c.in_ok-copy-2.ensures.ok.1 c.try_step-2.ensures.own)

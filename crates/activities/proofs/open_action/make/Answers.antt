@@ -1,4 +1,5 @@
 use Rattle.activities.proofs.Going.{step_commits_by, step_goes}
+use Rattle.activities.proofs.OwnSteps.{step_keeps_about}
 use Rattle.activities.proofs.Steps.{abort_result_ends, result_begins, step_ends}
 use Rattle.activities.proofs.open_action.make.Goals as goal
 
@@ -23,3 +24,7 @@ returns-clause-ends g c =
 pub returns-clause-aborts : goal.returns-clause-aborts
 returns-clause-aborts g c =
     abort_result_ends c.args.world.now.run c.step.new.self.run c.args.step c.step.result c.step.ensures.answer c.step.ensures.after
+
+pub returns-clause-own : goal.returns-clause-own
+returns-clause-own g c =
+    step_keeps_about c.args.world.now.run c.step.new.self.run c.args.step c.step.result c.requires.step c.step.ensures.after c.step.ensures.err

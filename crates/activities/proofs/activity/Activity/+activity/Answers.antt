@@ -1,18 +1,32 @@
-use Rattle.std.proofs.Common.{IfOk, IsTrue, List, Ok, Option, Some, [], ap, arith, length, refl, rules, slice_get, subst, sym, ◌<◌, ◌∙◌, ◌∷◌, ◌≡◌}
+use Rattle.std.proofs.Common.{Err, IfOk, IsTrue, List, Ok, OnOk, Option, Result, Some, ap, arith, drop, drop_of_length-le, false, inl, inr, le_trans, length, refl, reverse, rules, slice_get, subst, sym, true, [], ◌+◌, ◌-◌, ◌<◌, ◌∙◌, ◌∷◌, ◌≡◌, ◌≤◌}
 use Rattle.std.proofs.lemmas.Option.{slice_get_read}
 use Rattle.action_names.specs.Names.{Name}
+use Rattle.run_laws.proofs.Names.{clash}
+use Rattle.script_model.specs.declared.statement.Arm.{Arm}
+use Rattle.frames.specs.Operating.{given}
+use Rattle.activities.specs.declared.flow.Flow.TheVariants.{Aborted, Ended, Outwards}
+use Rattle.activities.specs.declared.flow.Reach.TheVariants as reach
+use Rattle.activities.specs.declared.open_action.Called.TheVariants as called
+use Rattle.activities.specs.declared.open_action.OpenAction.{OpenAction}
+use Rattle.activities.specs.declared.operations.Outcome.TheVariants as outcome
+use Rattle.activities.specs.Acting.{ComesSo, acting, doing, done}
+use Rattle.activities.specs.Performing.{outcome_of, step_for}
+use Rattle.activities.specs.Serial.{Doing, Done, begun_at, beside, body_done, by_nested_end, inner, is_past, on_signal, past_arm, repeated, run, statement_done, taken_in}
 use Rattle.script_model.specs.declared.checked.Handler.{Handler}
 use Rattle.script_model.specs.declared.statement.Statement.{Statement}
 use Rattle.script_model.specs.Resolved.{IsResolved, asked}
 use Rattle.run_model.specs.Actions.{is_ended}
 use Rattle.run_model.specs.Runs.{World}
-use Rattle.activities.specs.Bodies.{AreArms, IsBody, IsOutcome, IsStatement, SignalsHold, WhereEnded, body_of, sizes}
+use Rattle.activities.specs.Bodies.{AreArms, IsBody, IsOutcome, IsStatement, SignalsHold, WhereEnded, body_of, kind_of, sizes}
 use Rattle.activities.specs.Continuing.{EndsAll, GoesOn, HaveBegun}
-use Rattle.activities.specs.Ends.{named_by}
+use Rattle.activities.specs.Ends.{commits, has_committed, named_by}
 use Rattle.activities.proofs.Following.{called_began, handed_sizes, next_rest, next_within, nothing_bound, ok_so, on_ok, popped, popped_length, same_body}
+use Rattle.activities.proofs.Going.{commits_nowhere, ends_nowhere, goes_nowhere}
+use Rattle.activities.proofs.Meaning.{AreArmsFrom, IsBodyFrom, aborted_back, acting_begun, arm_goes, arm_stops, arms_end, body_ends, body_goes, body_lacks, body_stops, call_goes, call_so, called_so, ended_back, if_ok_at, if_ok_then, last_first, nested_past, nested_ran, nested_so, next_list, not_past, of_script, op_comes, outwards_back, returned_back, run_ends, run_named, sub_past, top_past, turn_goes, turn_lacks, turn_stops, turns_end}
+use Rattle.activities.proofs.OwnSteps.{keeps_nowhere, child_keeps, keeps_then, one_keeps, then_keeps}
 use Rattle.activities.proofs.Resolving.{arm_of, call_of, call_signals, called_body, called_within, op_after, op_of, op_signals, signalled_after, signals_hold_there}
-use Rattle.activities.proofs.Ways.{among_then, child_commits, child_ends, child_open, earlier_waits, have_run, last_open, open_then, others_commit, others_wait, then_commits, then_ends, then_goes}
-use Rattle.activities.proofs.activity.Activity.+activity.Goals.{run_arms-in-Sub, run_arms-in-Top}
+use Rattle.activities.proofs.Ways.{among_then, child_commits, child_ends, child_open, earlier_waits, have_run, last_open, last_waits, open_then, others_commit, others_wait, then_commits, then_ends, then_goes}
+use Rattle.activities.proofs.activity.Activity.+activity.Goals.{body-in-Ended, body-in_default, repeat-in-Ended, repeat-in_default, run_arms-in-Ended, run_arms-in-Sub, run_arms-in-Top, run_arms-in_default}
 use Rattle.activities.proofs.activity.Activity.+activity.Goals as goal
 
 pub run-end-requires-clause-open : goal.run-end-requires-clause-open
@@ -24,6 +38,30 @@ pub run-returns-in-Ok-clause-others : goal.run-returns-in-Ok-clause-others
 run-returns-in-Ok-clause-others g t c =
     among_then c.args.action.now.name c.body.new.action.name c.args.world.now.run c.body.new.world.run c.end.new.world.run c.body.ensures.goes_on
     c.body.ensures.commits c.body.ensures.name c.end.ensures.others
+
+pub run-returns-in-Ok-clause-own : goal.run-returns-in-Ok-clause-own
+run-returns-in-Ok-clause-own g t c =
+    keeps_then c.args.action.now.name c.body.new.action.name c.args.world.now.run c.body.new.world.run c.end.new.world.run c.body.ensures.name
+    c.body.ensures.own c.end.ensures.own
+
+-- what ended before ends once more has happened
+so_ends : {A E : Type 0} (r : Result A E) (x y z : World) → GoesOn y z [] → EndsAll x y → EndsAll y z → OnOk r (EndsAll x z)
+so_ends (Ok v) x y z g e f = then_ends x y z g e f
+so_ends (Err v) x y z g e f = tt
+
+pub run-returns-in-Ok-clause-ends : goal.run-returns-in-Ok-clause-ends
+run-returns-in-Ok-clause-ends g t c =
+    so_ends c.end.result c.args.world.now.run c.body.new.world.run c.end.new.world.run c.end.ensures.goes_on c.in-Ok.ensures.ends c.end.ensures.ends
+
+pub body-returns-in_err-flow-clause-own : goal.body-returns-in_err-flow-clause-own
+body-returns-in_err-flow-clause-own g t c =
+    keeps_then c.args.action.now.name c.loop-statement.action.name c.args.world.now.run c.loop-statement.world.run c.statement.new.world.run
+    c.loop-statement.invariant.name c.loop-statement.invariant.own c.statement.ensures.own
+
+pub body-returns-then-not-matches-clause-own : goal.body-returns-then-not-matches-clause-own
+body-returns-then-not-matches-clause-own g t c =
+    keeps_then c.args.action.now.name c.loop-statement.action.name c.args.world.now.run c.loop-statement.world.run c.statement.new.world.run
+    c.loop-statement.invariant.name c.loop-statement.invariant.own c.statement.ensures.own
 
 pub body-returns-in_err-flow-clause-commits : goal.body-returns-in_err-flow-clause-commits
 body-returns-in_err-flow-clause-commits g t c =
@@ -39,21 +77,54 @@ pub body-loop-statement-preserved : goal.body-loop-statement-preserved
 body-loop-statement-preserved g t c =
     let l = c.loop-statement in
     let s = c.statement-item.result in
+    let script = c.args.self.now.script.now in
+    let left = c.args.self.now.left in
+    let body = c.args.body.now in
+    let old : Doing = doing c.args.world.now.run left c.args.action.now c.args.frames.now in
+    let d : Doing = doing l.world.run l.self.left l.action l.frames in
+    let rest = drop (l.statement-index + 1) body in
+    let from : IsBodyFrom script left body old (s ∷ rest) d =
+    subst (λ (x : List Statement). IsBodyFrom script left body old x d) (next_list body l.statement-index s (omega arith) c.statement-item.is)
+    l.invariant.means in
+    let less = c.begin.new.self.left in
+    let budget : l.self.left ≡ less + 1 = c.if-not-begin.ensures.left refl in
+    let r : Done = done c.statement.new.world.run c.statement.new.self.left c.statement.new.action c.statement.new.frames c.in_ok-flow.flow in
+    let came : ComesSo script less r (λ go. statement_done script.handlers go s (doing l.world.run less l.action l.frames)) =
+    of_script c.begin.new.self.script.now script less r (λ x go. statement_done x.handlers go s (doing l.world.run less l.action l.frames))
+    (c.begin.ensures.script ∙ l.invariant.script) c.in_ok-flow.ensures.means in
+    let ended : c.in_ok-flow.flow ≡ Ended = elim c.match-matches.branch [
+      | body-in-Ended w ↦ w.in-Ended.is
+      | body-in_default w ↦ absurd (clash c.if-not-matches.false w.matches-is)
+    ] in
+    let body_means = body_goes script left body old d s rest less r from budget came ended c.statement.ensures.left in
     let bound : sizes c.statement.new.frames ≡ (asked s).after (sizes l.frames) = search rules in
-    let script : c.statement.new.self.script.now ≡ l.self.script.now = cc in
+    let same : c.statement.new.self.script.now ≡ l.self.script.now = cc in
     record {
       goes_on = then_goes c.args.world.now.run l.world.run c.statement.new.world.run l.invariant.goes_on c.statement.ensures.goes_on;
+      own = keeps_then c.args.action.now.name l.action.name c.args.world.now.run l.world.run c.statement.new.world.run l.invariant.name l.invariant.own
+          c.statement.ensures.own;
       commits = then_commits c.args.world.now.run l.world.run c.statement.new.world.run l.invariant.goes_on l.invariant.commits c.statement.ensures.commits;
       ends = then_ends c.args.world.now.run l.world.run c.statement.new.world.run c.statement.ensures.goes_on l.invariant.ends c.in_ok-flow.ensures.ends;
-      resolved = subst IsResolved (sym script) l.invariant.resolved;
+      resolved = subst IsResolved (sym same) l.invariant.resolved;
       rest = next_rest l.self.script.now c.statement.new.self.script.now (sizes l.frames) (sizes c.statement.new.frames) c.args.body.now
-          l.statement-index s (omega arith) c.statement-item.is script bound l.invariant.rest;
+          l.statement-index s (omega arith) c.statement-item.is same bound l.invariant.rest;
       frames = next_within (sizes c.args.frames.now) (sizes l.frames) (sizes c.statement.new.frames) s l.invariant.frames bound;
       left = search (rules, arith);
       script = cc;
       name = cc;
       home = cc;
+      means = body_means;
     }
+
+pub repeat-returns-in_err-flow-clause-own : goal.repeat-returns-in_err-flow-clause-own
+repeat-returns-in_err-flow-clause-own g t c =
+    keeps_then c.args.action.now.name c.loop.action.name c.args.world.now.run c.loop.world.run c.inner.new.world.run c.loop.invariant.name
+    c.loop.invariant.own c.inner.ensures.own
+
+pub repeat-returns-then-not-matches-clause-own : goal.repeat-returns-then-not-matches-clause-own
+repeat-returns-then-not-matches-clause-own g t c =
+    keeps_then c.args.action.now.name c.loop.action.name c.args.world.now.run c.loop.world.run c.inner.new.world.run c.loop.invariant.name
+    c.loop.invariant.own c.inner.ensures.own
 
 pub repeat-returns-in_err-flow-clause-commits : goal.repeat-returns-in_err-flow-clause-commits
 repeat-returns-in_err-flow-clause-commits g t c =
@@ -68,20 +139,43 @@ repeat-returns-then-not-matches-clause-commits g t c =
 pub repeat-loop-preserved : goal.repeat-loop-preserved
 repeat-loop-preserved g t c =
     let l = c.loop in
+    let script = c.args.self.now.script.now in
+    let left = c.args.self.now.left in
+    let body = c.args.body.now in
+    let turns = c.args.turns in
+    let old : Doing = doing c.args.world.now.run left c.args.action.now c.args.frames.now in
+    let d : Doing = doing l.world.run l.self.left l.action l.frames in
+    let n = turns - l.counter in
+    let m = turns - (l.counter + 1) in
+    let one : n ≡ m + 1 = omega (arith, c.loop-test.true) in
+    let less = c.begin.new.self.left in
+    let budget : l.self.left ≡ less + 1 = c.if-not-begin.ensures.left refl in
+    let fewer : less ≤ left = omega (arith, budget, l.invariant.left) in
+    let r : Done = done c.inner.new.world.run c.inner.new.self.left c.inner.new.action c.inner.new.frames c.in_ok-flow.flow in
+    let came : ComesSo script less r (λ go. inner go body (doing l.world.run less l.action l.frames)) =
+    of_script c.begin.new.self.script.now script less r (λ x go. inner go body (doing l.world.run less l.action l.frames))
+    (c.begin.ensures.script ∙ l.invariant.script) c.in_ok-flow.ensures.means in
+    let ended : c.in_ok-flow.flow ≡ Ended = elim c.match-matches.branch [
+      | repeat-in-Ended w ↦ w.in-Ended.is
+      | repeat-in_default w ↦ absurd (clash c.if-not-matches.false w.matches-is)
+    ] in
     let bound : sizes c.inner.new.frames ≡ sizes l.frames = search rules in
-    let script : c.inner.new.self.script.now ≡ l.self.script.now = cc in
+    let same : c.inner.new.self.script.now ≡ l.self.script.now = cc in
     record {
       goes_on = then_goes c.args.world.now.run l.world.run c.inner.new.world.run l.invariant.goes_on c.inner.ensures.goes_on;
+      own = keeps_then c.args.action.now.name l.action.name c.args.world.now.run l.world.run c.inner.new.world.run l.invariant.name l.invariant.own
+          c.inner.ensures.own;
       commits = then_commits c.args.world.now.run l.world.run c.inner.new.world.run l.invariant.goes_on l.invariant.commits c.inner.ensures.commits;
       ends = then_ends c.args.world.now.run l.world.run c.inner.new.world.run c.inner.ensures.goes_on l.invariant.ends c.in_ok-flow.ensures.ends;
-      resolved = subst IsResolved (sym script) l.invariant.resolved;
-      body = same_body l.self.script.now c.inner.new.self.script.now (sizes l.frames) (sizes c.inner.new.frames) c.args.body.now script bound
+      resolved = subst IsResolved (sym same) l.invariant.resolved;
+      body = same_body l.self.script.now c.inner.new.self.script.now (sizes l.frames) (sizes c.inner.new.frames) c.args.body.now same bound
           l.invariant.body;
       frames = bound ∙ l.invariant.frames;
       left = search (rules, arith);
       script = cc;
       name = cc;
       home = cc;
+      means = turn_goes script left turns body old d n m less r l.invariant.means one budget fewer came ended;
     }
 
 -- what a nested top action leaves
@@ -93,6 +187,23 @@ began_named found a n x y e k h = subst (λ m. HaveBegun (m ∷ []) x y) (sym k)
 
 pub top_action-returns : goal.top_action-returns
 top_action-returns g t c =
+    let script = c.args.self.now.script.now in
+    let left = c.args.self.now.left in
+    let old : Doing = doing c.args.world.now.run left c.args.action.now c.args.frames.now in
+    let d : Doing = doing c.begin_nested.new.world.run left c.args.action.now c.args.frames.now in
+    let home = c.args.action.now.home in
+    let a = c.in-Some.name in
+    let r : Done = done c.run.new.world.run c.run.new.self.left c.run.new.action c.run.new.frames c.in_ok-flow.flow in
+    let acts : acting c.new-nested.result ≡ begun_at home a =
+    acting_begun c.new-nested.result a home c.new-nested.ensures.name c.new-nested.ensures.home
+    (ap (λ x. x.homes.keys) c.new-nested.ensures.reached ∙ c.in_ok-reached.ensures.homes)
+    (ap (λ x. x.participants.keys) c.new-nested.ensures.reached ∙ c.in_ok-reached.ensures.participants) in
+    let ran : ComesSo script left r (λ go. run go (begun_at home a) c.args.frames.now c.args.body.now d) =
+    λ most h. c.in_ok-flow.ensures.means most h
+    ∙ run_named (body_done script.handlers most) (acting c.new-nested.result) (begun_at home a) c.in_ok-inside.inside c.args.frames.now c.args.body.now
+    c.args.body.now d acts c.in_ok-inside.ensures refl in
+    let begun = sym c.in-Some.is ∙ c.in_ok-name.ensures.begun in
+    let this : Done = done c.run.new.world.run c.run.new.self.left c.args.action.now c.args.frames.now c.in_ok-flow.flow in
     let x = c.args.world.now.run in
     let y = c.begin_nested.new.world.run in
     let z = c.run.new.world.run in
@@ -100,6 +211,7 @@ top_action-returns g t c =
     let began = began_named c.in_ok-name.field-0 c.in-Some.name n x y c.in-Some.is c.new-nested.ensures.name c.in_ok-name.ensures.began in
     record {
       goes_on = then_goes x y z c.begin_nested.ensures.goes_on c.run.ensures.goes_on;
+      own = child_keeps n (c.args.action.now.name ∷ []) x y z began c.begin_nested.ensures.own c.run.ensures.own;
       commits = child_commits n x y z began c.begin_nested.ensures.goes_on c.begin_nested.ensures.commits c.run.ensures.others;
       ends = child_ends n x y z began c.run.ensures.goes_on c.in_ok-flow.ensures.ends c.in_ok-flow.ensures.ended;
       frames = nothing_bound c.in_ok-flow.flow (sizes c.args.frames.now);
@@ -107,11 +219,25 @@ top_action-returns g t c =
       script = c.run.ensures.script;
       name = refl;
       home = refl;
+      means =
+          nested_so script left old c.args.body.now c.args.signals.now y (Some a) this c.in_ok-name.ensures.made begun
+          (nested_ran script left d c.args.body.now c.args.signals.now a r this ran
+          (λ most h. nested_past (body_done script.handlers most) c.args.signals.now (beside d r.doing) c.in_ok-flow.flow (λ e. c.in_default-2.not-Aborted e)));
     }
 
 pub top_action-returns-in-Aborted-clause-goes_on : goal.top_action-returns-in-Aborted-clause-goes_on
 top_action-returns-in-Aborted-clause-goes_on g t c =
     nested_goes (nested_goes c.begin_nested.ensures.goes_on c.run.ensures.goes_on) c.inner.ensures.goes_on
+
+pub top_action-returns-in-Aborted-clause-own : goal.top_action-returns-in-Aborted-clause-own
+top_action-returns-in-Aborted-clause-own g t c =
+    let x = c.args.world.now.run in
+    let y = c.begin_nested.new.world.run in
+    let z = c.run.new.world.run in
+    let n = c.new-nested.result.name in
+    let began = began_named c.in_ok-name.field-0 c.in-Some.name n x y c.in-Some.is c.new-nested.ensures.name c.in_ok-name.ensures.began in
+    then_keeps c.args.action.now.name x z c.inner.new.world.run
+    (child_keeps n (c.args.action.now.name ∷ []) x y z began c.begin_nested.ensures.own c.run.ensures.own) c.inner.ensures.own
 
 pub top_action-returns-in-Aborted-clause-commits : goal.top_action-returns-in-Aborted-clause-commits
 top_action-returns-in-Aborted-clause-commits g t c =
@@ -158,6 +284,16 @@ pub call-returns-in-Aborted-clause-goes_on : goal.call-returns-in-Aborted-clause
 call-returns-in-Aborted-clause-goes_on g t c =
     nested_goes (nested_goes c.begin_call.ensures.goes_on c.run-ended.ensures.goes_on) c.run_signals-in-Aborted.ensures.goes_on
 
+pub call-returns-in-Aborted-clause-own : goal.call-returns-in-Aborted-clause-own
+call-returns-in-Aborted-clause-own g t c =
+    let x = c.args.world.now.run in
+    let y = c.begin_call.new.world.run in
+    let z = c.run-ended.new.world.run in
+    let n = c.new-child.result.name in
+    let began = called_began c.in_ok-name.field-0 c.in-Began.name n x y c.in-Began.is c.new-child.ensures.name c.in_ok-name.ensures.began in
+    keeps_then c.args.action.now.name c.take_in-taken.new.self.name x z c.run_signals-in-Aborted.new.world.run c.take_in-taken.ensures.name
+    (child_keeps n (c.args.action.now.name ∷ []) x y z began c.begin_call.ensures.own c.run-ended.ensures.own) c.run_signals-in-Aborted.ensures.own
+
 pub call-returns-in-Aborted-clause-commits : goal.call-returns-in-Aborted-clause-commits
 call-returns-in-Aborted-clause-commits g t c =
     let x = c.args.world.now.run in
@@ -203,21 +339,65 @@ run_arms-run-ended-requires g t c κs within =
 pub run_arms-loop-arm-preserved : goal.run_arms-loop-arm-preserved
 run_arms-loop-arm-preserved g t c =
     let l = c.loop-arm in
+    let script = c.args.self.now.script.now in
+    let left = c.args.self.now.left in
+    let arms = c.args.arms.now in
+    let frames = c.args.frames.now in
+    let arm = c.arm-item.result in
+    let a = c.new-child.result.name in
+    let names = c.pop.new.self.items in
+    let old : Doing = doing c.args.world.now.run left c.args.action.now frames in
+    let d : Doing = doing l.world.run l.self.left l.action frames in
+    let r : Done = done c.run-ended.new.world.run c.run-ended.new.self.left c.run-ended.new.action c.run-ended.new.frames c.in_ok-flow.flow in
+    let next : Doing = doing c.run-ended.new.world.run c.run-ended.new.self.left c.match-arm.action frames in
+    let popped_so = popped l.waiting.items names c.pop.result c.unwrap.result a c.pop.ensures.items c.unwrap.ensures c.new-child.ensures.name in
+    let from : AreArmsFrom script left arms (reverse c.args.waiting.now.items) old (arm ∷ drop (l.arm-index + 1) arms) (a ∷ reverse names) d =
+    subst (λ (x : List Arm). AreArmsFrom script left arms (reverse c.args.waiting.now.items) old x (a ∷ reverse names) d)
+    (next_list arms l.arm-index arm (omega arith) c.arm-item.is)
+    (subst (λ (x : List Name). AreArmsFrom script left arms (reverse c.args.waiting.now.items) old (drop l.arm-index arms) x d)
+    (last_first l.waiting.items names a popped_so) l.invariant.means) in
+    let acts : acting c.new-child.result ≡ begun_at l.action.home a =
+    acting_begun c.new-child.result a l.action.home refl c.new-child.ensures.home
+    (ap (λ x. x.homes.keys) c.new-child.ensures.reached ∙ c.in_ok-reached.ensures.homes)
+    (ap (λ x. x.participants.keys) c.new-child.ensures.reached ∙ c.in_ok-reached.ensures.participants) in
+    let own : ComesSo script l.self.left r (λ go. run go (acting c.new-child.result) c.in_ok-inside.inside c.arm_body.result.now d) =
+    of_script l.self.script.now script l.self.left r (λ x go. run go (acting c.new-child.result) c.in_ok-inside.inside c.arm_body.result.now d)
+    l.invariant.script c.in_ok-flow.ensures.means in
+    let came : ComesSo script l.self.left r (λ go. run go (begun_at l.action.home a) frames (body_of arm) d) =
+    λ most h. own most h
+    ∙ run_named (body_done script.handlers most) (acting c.new-child.result) (begun_at l.action.home a) c.in_ok-inside.inside frames c.arm_body.result.now
+    (body_of arm) d acts c.in_ok-inside.ensures c.arm_body.ensures in
+    let knows : next ≡ past_arm (kind_of arm) d r = elim c.match-arm.branch [
+      | run_arms-in-Sub w ↦
+          ap (λ (x : OpenAction). doing c.run-ended.new.world.run c.run-ended.new.self.left x frames) w.action-is
+          ∙ sub_past arm w.in-Sub.field-0 d r (acting w.take_in-taken.new.self) w.in-Sub.is
+          (ok_so w.take_in-taken.result c.in_ok-taken.field-0 _ (sym w.taken-is ∙ c.in_ok-taken.was) w.take_in-taken.ensures.taken
+          ∙ ap (λ b. taken_in (acting l.action) r.doing.acting b) (w.has_committed.ensures ∙ ap (λ x. has_committed x) c.in_ok-flow.was))
+      | run_arms-in-Top w ↦
+          ap (λ (x : OpenAction). doing c.run-ended.new.world.run c.run-ended.new.self.left x frames) w.action-is
+          ∙ top_past arm w.in-Top.field-0 d r w.in-Top.is
+    ] in
+    let past : is_past c.in_ok-flow.flow ≡ true = elim c.match-matches.branch [
+      | run_arms-in-Ended w ↦ elim w.in-Ended.is [ inl e ↦ ap is_past e | inr e ↦ ap is_past e ]
+      | run_arms-in_default w ↦ absurd (clash c.if-not-matches.false w.matches-is)
+    ] in
+    let arms_mean = arm_goes script left arms (reverse c.args.waiting.now.items) old d arm a (drop (l.arm-index + 1) arms) (reverse names) r next from
+    l.invariant.left came past knows in
     let x = c.args.world.now.run in
     let z = c.run-ended.new.world.run in
     let all = c.args.waiting.now.items in
-    let names = l.waiting.items in
+    let waits = l.waiting.items in
     let rest = c.pop.new.self.items in
-    let a = c.new-child.result.name in
-    let is = popped names rest c.pop.result c.unwrap.result a c.pop.ensures.items c.unwrap.ensures c.new-child.ensures.name in
+    let is = popped waits rest c.pop.result c.unwrap.result a c.pop.ensures.items c.unwrap.ensures c.new-child.ensures.name in
     record {
       goes_on = then_goes x l.world.run z l.invariant.goes_on c.run-ended.ensures.goes_on;
-      others = others_commit names rest a is all x l.world.run z l.invariant.goes_on l.invariant.others l.invariant.among c.run-ended.ensures.others;
-      ran = have_run names rest a is all l.world.run z l.invariant.ran c.run-ended.ensures.goes_on c.in_ok-flow.ensures.ended;
+      own = one_keeps a all x l.world.run z (l.invariant.among a (last_waits waits rest a is)) l.invariant.own c.run-ended.ensures.own;
+      others = others_commit waits rest a is all x l.world.run z l.invariant.goes_on l.invariant.others l.invariant.among c.run-ended.ensures.others;
+      ran = have_run waits rest a is all l.world.run z l.invariant.ran c.run-ended.ensures.goes_on c.in_ok-flow.ensures.ended;
       ends = then_ends x l.world.run z c.run-ended.ensures.goes_on l.invariant.ends c.in_ok-flow.ensures.ends;
-      waiting = others_wait names rest a is l.world.run z l.invariant.waiting c.run-ended.ensures.goes_on c.run-ended.ensures.others;
-      among = λ b h. l.invariant.among b (earlier_waits names rest a is b h);
-      each = omega (arith, popped_length names rest a is, l.invariant.each);
+      waiting = others_wait waits rest a is l.world.run z l.invariant.waiting c.run-ended.ensures.goes_on c.run-ended.ensures.others;
+      among = λ b h. l.invariant.among b (earlier_waits waits rest a is b h);
+      each = omega (arith, popped_length waits rest a is, l.invariant.each);
       resolved = subst IsResolved (sym c.run-ended.ensures.script) l.invariant.resolved;
       arms = subst (λ s. AreArms s (sizes c.args.frames.now) c.args.arms.now) (sym c.run-ended.ensures.script) l.invariant.arms;
       frames = refl;
@@ -225,6 +405,7 @@ run_arms-loop-arm-preserved g t c =
       script = cc;
       name = elim c.match-arm.branch [ run_arms-in-Sub w ↦ (cc) | run_arms-in-Top w ↦ (cc) ];
       home = elim c.match-arm.branch [ run_arms-in-Sub w ↦ (cc) | run_arms-in-Top w ↦ (cc) ];
+      means = arms_mean;
     }
 
 pub run_arms-returns-then-not-matches-clause-ran : goal.run_arms-returns-then-not-matches-clause-ran
@@ -262,6 +443,57 @@ run_arms-returns-then-not-matches-clause-others g t c =
     let is = popped l.waiting.items rest c.pop.result c.unwrap.result a c.pop.ensures.items c.unwrap.ensures c.new-child.ensures.name in
     others_commit l.waiting.items rest a is c.args.waiting.now.items c.args.world.now.run l.world.run c.run-ended.new.world.run l.invariant.goes_on
     l.invariant.others l.invariant.among c.run-ended.ensures.others
+
+pub run_arms-returns-in_err-flow-clause-own : goal.run_arms-returns-in_err-flow-clause-own
+run_arms-returns-in_err-flow-clause-own g t c =
+    let l = c.loop-arm in
+    let rest = c.pop.new.self.items in
+    let a = c.new-child.result.name in
+    let is = popped l.waiting.items rest c.pop.result c.unwrap.result a c.pop.ensures.items c.unwrap.ensures c.new-child.ensures.name in
+    one_keeps a c.args.waiting.now.items c.args.world.now.run l.world.run c.run-ended.new.world.run
+    (l.invariant.among a (last_waits l.waiting.items rest a is)) l.invariant.own c.run-ended.ensures.own
+
+pub run_arms-returns-in_err-flow-clause-rest : goal.run_arms-returns-in_err-flow-clause-rest
+run_arms-returns-in_err-flow-clause-rest g t c =
+    let l = c.loop-arm in
+    let rest = c.pop.new.self.items in
+    let a = c.new-child.result.name in
+    let is = popped l.waiting.items rest c.pop.result c.unwrap.result a c.pop.ensures.items c.unwrap.ensures c.new-child.ensures.name in
+    λ b h. l.invariant.among b (earlier_waits l.waiting.items rest a is b h)
+
+pub run_arms-returns-in_err-taken-clause-own : goal.run_arms-returns-in_err-taken-clause-own
+run_arms-returns-in_err-taken-clause-own g t c =
+    let l = c.loop-arm in
+    let rest = c.pop.new.self.items in
+    let a = c.new-child.result.name in
+    let is = popped l.waiting.items rest c.pop.result c.unwrap.result a c.pop.ensures.items c.unwrap.ensures c.new-child.ensures.name in
+    one_keeps a c.args.waiting.now.items c.args.world.now.run l.world.run c.run-ended.new.world.run
+    (l.invariant.among a (last_waits l.waiting.items rest a is)) l.invariant.own c.run-ended.ensures.own
+
+pub run_arms-returns-in_err-taken-clause-rest : goal.run_arms-returns-in_err-taken-clause-rest
+run_arms-returns-in_err-taken-clause-rest g t c =
+    let l = c.loop-arm in
+    let rest = c.pop.new.self.items in
+    let a = c.new-child.result.name in
+    let is = popped l.waiting.items rest c.pop.result c.unwrap.result a c.pop.ensures.items c.unwrap.ensures c.new-child.ensures.name in
+    λ b h. l.invariant.among b (earlier_waits l.waiting.items rest a is b h)
+
+pub run_arms-returns-then-not-matches-clause-own : goal.run_arms-returns-then-not-matches-clause-own
+run_arms-returns-then-not-matches-clause-own g t c =
+    let l = c.loop-arm in
+    let rest = c.pop.new.self.items in
+    let a = c.new-child.result.name in
+    let is = popped l.waiting.items rest c.pop.result c.unwrap.result a c.pop.ensures.items c.unwrap.ensures c.new-child.ensures.name in
+    one_keeps a c.args.waiting.now.items c.args.world.now.run l.world.run c.run-ended.new.world.run
+    (l.invariant.among a (last_waits l.waiting.items rest a is)) l.invariant.own c.run-ended.ensures.own
+
+pub run_arms-returns-then-not-matches-clause-rest : goal.run_arms-returns-then-not-matches-clause-rest
+run_arms-returns-then-not-matches-clause-rest g t c =
+    let l = c.loop-arm in
+    let rest = c.pop.new.self.items in
+    let a = c.new-child.result.name in
+    let is = popped l.waiting.items rest c.pop.result c.unwrap.result a c.pop.ensures.items c.unwrap.ensures c.new-child.ensures.name in
+    λ b h. l.invariant.among b (earlier_waits l.waiting.items rest a is b h)
 
 pub statement-perform-requires-clause-call : goal.statement-perform-requires-clause-call
 statement-perform-requires-clause-call g t c =
@@ -303,3 +535,487 @@ statement-returns-in-Signalled-clause-frames g t c =
     subst (λ f. IfOk r (λ flow. WhereEnded flow (new ≡ f))) (sym after)
     (signalled_after script frames binding c.in-Op.signals new r (op_signals script frames c.in-Op.call c.in-Op.signals asks)
     c.run_signals.ensures.unheard (subst (λ f. IfOk r (λ flow. WhereEnded flow (new ≡ f))) same c.run_signals.ensures.frames))
+
+-- ---- what each comes to
+
+pub run-returns-in-Ok-clause-means : goal.run-returns-in-Ok-clause-means
+run-returns-in-Ok-clause-means g t c =
+    let r : Done = done c.body.new.world.run c.body.new.self.left c.body.new.action c.body.new.frames c.in-Ok.flow in
+    if_ok_then c.end.result c.end.ensures.means
+    (λ end e. run_ends c.args.self.now.script.now c.args.self.now.left (acting c.args.action.now) c.args.frames.now c.args.body.now
+    (doing c.args.world.now.run c.args.self.now.left c.args.action.now c.args.frames.now) r
+    (record { world = c.end.new.world.run; flow = end }) c.in-Ok.ensures.means e)
+
+pub body-loop-statement-init : goal.body-loop-statement-init
+body-loop-statement-init g t c = record {
+  goes_on = goes_nowhere c.args.world.now.run c.requires.run;
+  own = keeps_nowhere (c.args.action.now.name ∷ []) c.args.world.now.run;
+  commits = commits_nowhere c.args.world.now.run;
+  ends = ends_nowhere c.args.world.now.run;
+  resolved = c.requires.script;
+  rest = c.requires.body;
+  frames = record { ints = omega arith; texts = omega arith; truths = omega arith };
+  left = omega arith;
+  script = refl;
+  name = refl;
+  home = refl;
+  means = λ most h. (most, h, refl);
+}
+
+pub body-returns-then-not-begin-clause-means : goal.body-returns-then-not-begin-clause-means
+body-returns-then-not-begin-clause-means g t c =
+    let l = c.loop-statement in
+    let s = c.statement-item.result in
+    let script = c.args.self.now.script.now in
+    let left = c.args.self.now.left in
+    let body = c.args.body.now in
+    let old : Doing = doing c.args.world.now.run left c.args.action.now c.args.frames.now in
+    let d : Doing = doing l.world.run l.self.left l.action l.frames in
+    let rest = drop (l.statement-index + 1) body in
+    let from : IsBodyFrom script left body old (s ∷ rest) d =
+    subst (λ (x : List Statement). IsBodyFrom script left body old x d) (next_list body l.statement-index s (omega arith) c.statement-item.is)
+    l.invariant.means in
+    subst (λ n. ComesSo script left (done l.world.run n l.action l.frames (Outwards reach.Client)) (λ go. go body old))
+    ((c.if-not-begin.ensures.none refl).0 ∙ sym (c.if-not-begin.ensures.none refl).1) (body_lacks script left body old d s rest from (c.if-not-begin.ensures.none refl).0)
+
+pub body-returns-then-not-matches-clause-means : goal.body-returns-then-not-matches-clause-means
+body-returns-then-not-matches-clause-means g t c =
+    let l = c.loop-statement in
+    let s = c.statement-item.result in
+    let script = c.args.self.now.script.now in
+    let left = c.args.self.now.left in
+    let body = c.args.body.now in
+    let old : Doing = doing c.args.world.now.run left c.args.action.now c.args.frames.now in
+    let d : Doing = doing l.world.run l.self.left l.action l.frames in
+    let rest = drop (l.statement-index + 1) body in
+    let from : IsBodyFrom script left body old (s ∷ rest) d =
+    subst (λ (x : List Statement). IsBodyFrom script left body old x d) (next_list body l.statement-index s (omega arith) c.statement-item.is)
+    l.invariant.means in
+    let less = c.begin.new.self.left in
+    let budget : l.self.left ≡ less + 1 = c.if-not-begin.ensures.left refl in
+    let r : Done = done c.statement.new.world.run c.statement.new.self.left c.statement.new.action c.statement.new.frames c.in_ok-flow.flow in
+    let came : ComesSo script less r (λ go. statement_done script.handlers go s (doing l.world.run less l.action l.frames)) =
+    of_script c.begin.new.self.script.now script less r (λ x go. statement_done x.handlers go s (doing l.world.run less l.action l.frames))
+    (c.begin.ensures.script ∙ l.invariant.script) c.in_ok-flow.ensures.means in
+    body_stops script left body old d s rest less r from budget came (λ e. elim c.match-matches.branch [
+      | body-in-Ended w ↦ clash w.matches-is c.if-not-matches.true
+      | body-in_default w ↦ w.in_default.not-Ended e
+    ])
+
+pub body-returns-clause-means : goal.body-returns-clause-means
+body-returns-clause-means g t c =
+    let l = c.loop-statement in
+    body_ends c.args.self.now.script.now c.args.self.now.left c.args.body.now
+    (doing c.args.world.now.run c.args.self.now.left c.args.action.now c.args.frames.now)
+    (doing l.world.run l.self.left l.action l.frames) (drop l.statement-index c.args.body.now)
+    (drop_of_length-le c.args.body.now (omega (arith, c.loop-statement-test.false))) l.invariant.means
+
+pub repeat-loop-init : goal.repeat-loop-init
+repeat-loop-init g t c = record {
+  goes_on = goes_nowhere c.args.world.now.run c.requires.run;
+  own = keeps_nowhere (c.args.action.now.name ∷ []) c.args.world.now.run;
+  commits = commits_nowhere c.args.world.now.run;
+  ends = ends_nowhere c.args.world.now.run;
+  resolved = c.requires.script;
+  body = c.requires.body;
+  frames = refl;
+  left = omega arith;
+  script = refl;
+  name = refl;
+  home = refl;
+  means = λ most h. ap (λ n. repeated (body_done c.args.self.now.script.now.handlers most) n c.args.body.now (doing c.args.world.now.run c.args.self.now.left c.args.action.now c.args.frames.now)) (omega arith);
+}
+
+pub repeat-returns-then-not-begin-clause-means : goal.repeat-returns-then-not-begin-clause-means
+repeat-returns-then-not-begin-clause-means g t c =
+    let l = c.loop in
+    let script = c.args.self.now.script.now in
+    let left = c.args.self.now.left in
+    let body = c.args.body.now in
+    let turns = c.args.turns in
+    let old : Doing = doing c.args.world.now.run left c.args.action.now c.args.frames.now in
+    let d : Doing = doing l.world.run l.self.left l.action l.frames in
+    let n = turns - l.counter in
+    let m = turns - (l.counter + 1) in
+    let one : n ≡ m + 1 = omega (arith, c.loop-test.true) in
+    subst (λ k. ComesSo script left (done l.world.run k l.action l.frames (Outwards reach.Client)) (λ go. repeated go turns body old))
+    ((c.if-not-begin.ensures.none refl).0 ∙ sym (c.if-not-begin.ensures.none refl).1)
+    (turn_lacks script left turns body old d n m l.invariant.means one (c.if-not-begin.ensures.none refl).0)
+
+pub repeat-returns-then-not-matches-clause-means : goal.repeat-returns-then-not-matches-clause-means
+repeat-returns-then-not-matches-clause-means g t c =
+    let l = c.loop in
+    let script = c.args.self.now.script.now in
+    let left = c.args.self.now.left in
+    let body = c.args.body.now in
+    let turns = c.args.turns in
+    let old : Doing = doing c.args.world.now.run left c.args.action.now c.args.frames.now in
+    let d : Doing = doing l.world.run l.self.left l.action l.frames in
+    let n = turns - l.counter in
+    let m = turns - (l.counter + 1) in
+    let one : n ≡ m + 1 = omega (arith, c.loop-test.true) in
+    let less = c.begin.new.self.left in
+    let budget : l.self.left ≡ less + 1 = c.if-not-begin.ensures.left refl in
+    let fewer : less ≤ left = omega (arith, budget, l.invariant.left) in
+    let r : Done = done c.inner.new.world.run c.inner.new.self.left c.inner.new.action c.inner.new.frames c.in_ok-flow.flow in
+    let came : ComesSo script less r (λ go. inner go body (doing l.world.run less l.action l.frames)) =
+    of_script c.begin.new.self.script.now script less r (λ x go. inner go body (doing l.world.run less l.action l.frames))
+    (c.begin.ensures.script ∙ l.invariant.script) c.in_ok-flow.ensures.means in
+    turn_stops script left turns body old d n m less r l.invariant.means one budget fewer came (λ e. elim c.match-matches.branch [
+      | repeat-in-Ended w ↦ clash w.matches-is c.if-not-matches.true
+      | repeat-in_default w ↦ w.in_default.not-Ended e
+    ])
+
+pub repeat-returns-clause-means : goal.repeat-returns-clause-means
+repeat-returns-clause-means g t c =
+    let l = c.loop in
+    turns_end c.args.self.now.script.now c.args.self.now.left c.args.turns c.args.body.now
+    (doing c.args.world.now.run c.args.self.now.left c.args.action.now c.args.frames.now)
+    (doing l.world.run l.self.left l.action l.frames) (c.args.turns - l.counter) (omega (arith, c.loop-test.false)) l.invariant.means
+
+pub call-returns-in-Signalled-clause-means : goal.call-returns-in-Signalled-clause-means
+call-returns-in-Signalled-clause-means g t c =
+    let script = c.args.self.now.script.now in
+    let left = c.args.self.now.left in
+    let call = c.args.call.now in
+    let signals = c.args.signals.now in
+    let action = c.args.action.now in
+    let frames = c.args.frames.now in
+    let h = c.index-as_slice-call.result in
+    let y = c.begin_call.new.world.run in
+    let found : slice_get script.handlers call.handler ≡ Some h =
+    subst (λ (l : List Handler). slice_get l call.handler ≡ Some h) c.as_slice.ensures
+    (slice_get_read c.as_slice.result.now (length c.as_slice.result.now) call.handler h refl
+    (subst (λ (l : List Handler). call.handler < length l) (sym c.as_slice.ensures) (called_within script (sizes frames) call c.requires.call))
+    c.index-as_slice-call.is) in
+    let handed : given frames call ≡ Some c.in-Some.inside = sym c.in_ok-inside.ensures ∙ c.in-Some.is in
+    let old : Doing = doing c.args.world.now.run left action frames in
+    let d : Doing = doing y left action frames in
+    if_ok_then c.run_signals.result c.run_signals.ensures.means
+    (λ flow m. call_so script left old (slice_get script.handlers call.handler) h call signals (given frames call) c.in-Some.inside y called.Signalled
+    (done c.run_signals.new.world.run c.run_signals.new.self.left c.run_signals.new.action c.run_signals.new.frames flow) found handed
+    c.in_ok-name.ensures.made (sym c.in-Signalled.is ∙ c.in_ok-name.ensures.called) m)
+
+pub call-returns-in-Refused-clause-means : goal.call-returns-in-Refused-clause-means
+call-returns-in-Refused-clause-means g t c =
+    let script = c.args.self.now.script.now in
+    let left = c.args.self.now.left in
+    let call = c.args.call.now in
+    let signals = c.args.signals.now in
+    let action = c.args.action.now in
+    let frames = c.args.frames.now in
+    let h = c.index-as_slice-call.result in
+    let y = c.begin_call.new.world.run in
+    let found : slice_get script.handlers call.handler ≡ Some h =
+    subst (λ (l : List Handler). slice_get l call.handler ≡ Some h) c.as_slice.ensures
+    (slice_get_read c.as_slice.result.now (length c.as_slice.result.now) call.handler h refl
+    (subst (λ (l : List Handler). call.handler < length l) (sym c.as_slice.ensures) (called_within script (sizes frames) call c.requires.call))
+    c.index-as_slice-call.is) in
+    let handed : given frames call ≡ Some c.in-Some.inside = sym c.in_ok-inside.ensures ∙ c.in-Some.is in
+    let old : Doing = doing c.args.world.now.run left action frames in
+    let d : Doing = doing y left action frames in
+    call_so script left old (slice_get script.handlers call.handler) h call signals (given frames call) c.in-Some.inside y called.Refused
+    (done y left action frames Aborted) found handed c.in_ok-name.ensures.made (sym c.in-Refused.is ∙ c.in_ok-name.ensures.called) (λ most lt. refl)
+
+pub call-returns-in-Aborted-clause-means : goal.call-returns-in-Aborted-clause-means
+call-returns-in-Aborted-clause-means g t c =
+    let script = c.args.self.now.script.now in
+    let left = c.args.self.now.left in
+    let call = c.args.call.now in
+    let signals = c.args.signals.now in
+    let action = c.args.action.now in
+    let frames = c.args.frames.now in
+    let h = c.index-as_slice-call.result in
+    let y = c.begin_call.new.world.run in
+    let found : slice_get script.handlers call.handler ≡ Some h =
+    subst (λ (l : List Handler). slice_get l call.handler ≡ Some h) c.as_slice.ensures
+    (slice_get_read c.as_slice.result.now (length c.as_slice.result.now) call.handler h refl
+    (subst (λ (l : List Handler). call.handler < length l) (sym c.as_slice.ensures) (called_within script (sizes frames) call c.requires.call))
+    c.index-as_slice-call.is) in
+    let handed : given frames call ≡ Some c.in-Some.inside = sym c.in_ok-inside.ensures ∙ c.in-Some.is in
+    let old : Doing = doing c.args.world.now.run left action frames in
+    let d : Doing = doing y left action frames in
+    let n = c.in-Began.name in
+    let r : Done = done c.run-ended.new.world.run c.run-ended.new.self.left c.run-ended.new.action c.run-ended.new.frames c.in_ok-flow.flow in
+    let was : c.run-ended.result ≡ Ok c.in_ok-flow.flow = search rules in
+    let acts : acting c.new-child.result ≡ begun_at h.guardian n =
+    acting_begun c.new-child.result n h.guardian c.new-child.ensures.name c.new-child.ensures.home
+    (ap (λ x. x.homes.keys) c.new-child.ensures.reached ∙ c.in_ok-reached.ensures.homes)
+    (ap (λ x. x.participants.keys) c.new-child.ensures.reached ∙ c.in_ok-reached.ensures.participants) in
+    let own : ComesSo script left r (λ go. run go (acting c.new-child.result) c.in-Some.inside c.as_slice-2.result.now d) =
+    if_ok_at (λ flow. ComesSo script left (done c.run-ended.new.world.run c.run-ended.new.self.left c.run-ended.new.action c.run-ended.new.frames flow)
+    (λ go. run go (acting c.new-child.result) c.in-Some.inside c.as_slice-2.result.now d)) c.run-ended.result c.in_ok-flow.flow was c.run-ended.ensures.means in
+    let ran : ComesSo script left r (λ go. run go (begun_at h.guardian n) c.in-Some.inside h.body d) =
+    λ most lt. own most lt
+    ∙ run_named (body_done script.handlers most) (acting c.new-child.result) (begun_at h.guardian n) c.in-Some.inside c.in-Some.inside c.as_slice-2.result.now
+    h.body d acts refl c.as_slice-2.ensures in
+    let taken : acting c.take_in-taken.new.self ≡ taken_in (acting action) r.doing.acting (commits c.in_ok-flow.flow) =
+    c.in_ok-taken.ensures.taken
+    ∙ ap (λ b. taken_in (acting action) r.doing.acting b) (c.has_committed.ensures ∙ ap (λ x. has_committed x) was) in
+    let came = sym c.in-Began.is ∙ c.in_ok-name.ensures.called in
+    let e = c.run_signals-in-Aborted in
+    if_ok_then e.result e.ensures.means
+    (λ flow m.
+    let this : Done = done e.new.world.run e.new.self.left e.new.action e.new.frames flow in
+    let signalled : ComesSo script c.run-ended.new.self.left this
+    (λ go. on_signal go signals (doing c.run-ended.new.world.run c.run-ended.new.self.left c.take_in-taken.new.self frames)) =
+    of_script c.run-ended.new.self.script.now script c.run-ended.new.self.left this
+    (λ x go. on_signal go signals (doing c.run-ended.new.world.run c.run-ended.new.self.left c.take_in-taken.new.self frames)) c.run-ended.ensures.script m in
+    call_so script left old (slice_get script.handlers call.handler) h call signals (given frames call) c.in-Some.inside y (called.Began n) this found handed
+    c.in_ok-name.ensures.made came
+    (called_so script left d h c.in-Some.inside call.binding signals n r this ran
+    (λ most lt. aborted_back (body_done script.handlers most) call.binding signals d r (acting c.take_in-taken.new.self) taken this c.in-Aborted.is
+    (signalled most (le_trans c.run-ended.ensures.left lt)))))
+
+pub call-returns-in-Ended-clause-means : goal.call-returns-in-Ended-clause-means
+call-returns-in-Ended-clause-means g t c =
+    let script = c.args.self.now.script.now in
+    let left = c.args.self.now.left in
+    let call = c.args.call.now in
+    let signals = c.args.signals.now in
+    let action = c.args.action.now in
+    let frames = c.args.frames.now in
+    let h = c.index-as_slice-call.result in
+    let y = c.begin_call.new.world.run in
+    let found : slice_get script.handlers call.handler ≡ Some h =
+    subst (λ (l : List Handler). slice_get l call.handler ≡ Some h) c.as_slice.ensures
+    (slice_get_read c.as_slice.result.now (length c.as_slice.result.now) call.handler h refl
+    (subst (λ (l : List Handler). call.handler < length l) (sym c.as_slice.ensures) (called_within script (sizes frames) call c.requires.call))
+    c.index-as_slice-call.is) in
+    let handed : given frames call ≡ Some c.in-Some.inside = sym c.in_ok-inside.ensures ∙ c.in-Some.is in
+    let old : Doing = doing c.args.world.now.run left action frames in
+    let d : Doing = doing y left action frames in
+    let n = c.in-Began.name in
+    let r : Done = done c.run-ended.new.world.run c.run-ended.new.self.left c.run-ended.new.action c.run-ended.new.frames c.in_ok-flow.flow in
+    let was : c.run-ended.result ≡ Ok c.in_ok-flow.flow = search rules in
+    let acts : acting c.new-child.result ≡ begun_at h.guardian n =
+    acting_begun c.new-child.result n h.guardian c.new-child.ensures.name c.new-child.ensures.home
+    (ap (λ x. x.homes.keys) c.new-child.ensures.reached ∙ c.in_ok-reached.ensures.homes)
+    (ap (λ x. x.participants.keys) c.new-child.ensures.reached ∙ c.in_ok-reached.ensures.participants) in
+    let own : ComesSo script left r (λ go. run go (acting c.new-child.result) c.in-Some.inside c.as_slice-2.result.now d) =
+    if_ok_at (λ flow. ComesSo script left (done c.run-ended.new.world.run c.run-ended.new.self.left c.run-ended.new.action c.run-ended.new.frames flow)
+    (λ go. run go (acting c.new-child.result) c.in-Some.inside c.as_slice-2.result.now d)) c.run-ended.result c.in_ok-flow.flow was c.run-ended.ensures.means in
+    let ran : ComesSo script left r (λ go. run go (begun_at h.guardian n) c.in-Some.inside h.body d) =
+    λ most lt. own most lt
+    ∙ run_named (body_done script.handlers most) (acting c.new-child.result) (begun_at h.guardian n) c.in-Some.inside c.in-Some.inside c.as_slice-2.result.now
+    h.body d acts refl c.as_slice-2.ensures in
+    let taken : acting c.take_in-taken.new.self ≡ taken_in (acting action) r.doing.acting (commits c.in_ok-flow.flow) =
+    c.in_ok-taken.ensures.taken
+    ∙ ap (λ b. taken_in (acting action) r.doing.acting b) (c.has_committed.ensures ∙ ap (λ x. has_committed x) was) in
+    let came = sym c.in-Began.is ∙ c.in_ok-name.ensures.called in
+    let this : Done = done c.run-ended.new.world.run c.run-ended.new.self.left c.take_in-taken.new.self c.bind_value.new.frames c.in_ok-bind_value-in-Ended.field-0 in
+    call_so script left old (slice_get script.handlers call.handler) h call signals (given frames call) c.in-Some.inside y (called.Began n) this found handed
+    c.in_ok-name.ensures.made came
+    (called_so script left d h c.in-Some.inside call.binding signals n r this ran (λ most lt. ended_back (body_done script.handlers most) call.binding signals d r (acting c.take_in-taken.new.self) taken c.bind_value.new.frames c.in_ok-bind_value-in-Ended.field-0 c.in-Ended.is c.in_ok-bind_value-in-Ended.ensures.means))
+
+pub call-returns-in-Returned-clause-means : goal.call-returns-in-Returned-clause-means
+call-returns-in-Returned-clause-means g t c =
+    let script = c.args.self.now.script.now in
+    let left = c.args.self.now.left in
+    let call = c.args.call.now in
+    let signals = c.args.signals.now in
+    let action = c.args.action.now in
+    let frames = c.args.frames.now in
+    let h = c.index-as_slice-call.result in
+    let y = c.begin_call.new.world.run in
+    let found : slice_get script.handlers call.handler ≡ Some h =
+    subst (λ (l : List Handler). slice_get l call.handler ≡ Some h) c.as_slice.ensures
+    (slice_get_read c.as_slice.result.now (length c.as_slice.result.now) call.handler h refl
+    (subst (λ (l : List Handler). call.handler < length l) (sym c.as_slice.ensures) (called_within script (sizes frames) call c.requires.call))
+    c.index-as_slice-call.is) in
+    let handed : given frames call ≡ Some c.in-Some.inside = sym c.in_ok-inside.ensures ∙ c.in-Some.is in
+    let old : Doing = doing c.args.world.now.run left action frames in
+    let d : Doing = doing y left action frames in
+    let n = c.in-Began.name in
+    let r : Done = done c.run-ended.new.world.run c.run-ended.new.self.left c.run-ended.new.action c.run-ended.new.frames c.in_ok-flow.flow in
+    let was : c.run-ended.result ≡ Ok c.in_ok-flow.flow = search rules in
+    let acts : acting c.new-child.result ≡ begun_at h.guardian n =
+    acting_begun c.new-child.result n h.guardian c.new-child.ensures.name c.new-child.ensures.home
+    (ap (λ x. x.homes.keys) c.new-child.ensures.reached ∙ c.in_ok-reached.ensures.homes)
+    (ap (λ x. x.participants.keys) c.new-child.ensures.reached ∙ c.in_ok-reached.ensures.participants) in
+    let own : ComesSo script left r (λ go. run go (acting c.new-child.result) c.in-Some.inside c.as_slice-2.result.now d) =
+    if_ok_at (λ flow. ComesSo script left (done c.run-ended.new.world.run c.run-ended.new.self.left c.run-ended.new.action c.run-ended.new.frames flow)
+    (λ go. run go (acting c.new-child.result) c.in-Some.inside c.as_slice-2.result.now d)) c.run-ended.result c.in_ok-flow.flow was c.run-ended.ensures.means in
+    let ran : ComesSo script left r (λ go. run go (begun_at h.guardian n) c.in-Some.inside h.body d) =
+    λ most lt. own most lt
+    ∙ run_named (body_done script.handlers most) (acting c.new-child.result) (begun_at h.guardian n) c.in-Some.inside c.in-Some.inside c.as_slice-2.result.now
+    h.body d acts refl c.as_slice-2.ensures in
+    let taken : acting c.take_in-taken.new.self ≡ taken_in (acting action) r.doing.acting (commits c.in_ok-flow.flow) =
+    c.in_ok-taken.ensures.taken
+    ∙ ap (λ b. taken_in (acting action) r.doing.acting b) (c.has_committed.ensures ∙ ap (λ x. has_committed x) was) in
+    let came = sym c.in-Began.is ∙ c.in_ok-name.ensures.called in
+    let this : Done = done c.run-ended.new.world.run c.run-ended.new.self.left c.take_in-taken.new.self c.bind_value-in-Returned.new.frames c.in_ok-bind_value-in-Returned.field-0 in
+    call_so script left old (slice_get script.handlers call.handler) h call signals (given frames call) c.in-Some.inside y (called.Began n) this found handed
+    c.in_ok-name.ensures.made came
+    (called_so script left d h c.in-Some.inside call.binding signals n r this ran (λ most lt. returned_back (body_done script.handlers most) call.binding signals d r (acting c.take_in-taken.new.self) taken c.in-Returned.value c.bind_value-in-Returned.new.frames c.in_ok-bind_value-in-Returned.field-0 c.in-Returned.is c.in_ok-bind_value-in-Returned.ensures.means))
+
+pub call-returns-clause-means : goal.call-returns-clause-means
+call-returns-clause-means g t c =
+    let script = c.args.self.now.script.now in
+    let left = c.args.self.now.left in
+    let call = c.args.call.now in
+    let signals = c.args.signals.now in
+    let action = c.args.action.now in
+    let frames = c.args.frames.now in
+    let h = c.index-as_slice-call.result in
+    let y = c.begin_call.new.world.run in
+    let found : slice_get script.handlers call.handler ≡ Some h =
+    subst (λ (l : List Handler). slice_get l call.handler ≡ Some h) c.as_slice.ensures
+    (slice_get_read c.as_slice.result.now (length c.as_slice.result.now) call.handler h refl
+    (subst (λ (l : List Handler). call.handler < length l) (sym c.as_slice.ensures) (called_within script (sizes frames) call c.requires.call))
+    c.index-as_slice-call.is) in
+    let handed : given frames call ≡ Some c.in-Some.inside = sym c.in_ok-inside.ensures ∙ c.in-Some.is in
+    let old : Doing = doing c.args.world.now.run left action frames in
+    let d : Doing = doing y left action frames in
+    let n = c.in-Began.name in
+    let r : Done = done c.run-ended.new.world.run c.run-ended.new.self.left c.run-ended.new.action c.run-ended.new.frames c.in_ok-flow.flow in
+    let was : c.run-ended.result ≡ Ok c.in_ok-flow.flow = search rules in
+    let acts : acting c.new-child.result ≡ begun_at h.guardian n =
+    acting_begun c.new-child.result n h.guardian c.new-child.ensures.name c.new-child.ensures.home
+    (ap (λ x. x.homes.keys) c.new-child.ensures.reached ∙ c.in_ok-reached.ensures.homes)
+    (ap (λ x. x.participants.keys) c.new-child.ensures.reached ∙ c.in_ok-reached.ensures.participants) in
+    let own : ComesSo script left r (λ go. run go (acting c.new-child.result) c.in-Some.inside c.as_slice-2.result.now d) =
+    if_ok_at (λ flow. ComesSo script left (done c.run-ended.new.world.run c.run-ended.new.self.left c.run-ended.new.action c.run-ended.new.frames flow)
+    (λ go. run go (acting c.new-child.result) c.in-Some.inside c.as_slice-2.result.now d)) c.run-ended.result c.in_ok-flow.flow was c.run-ended.ensures.means in
+    let ran : ComesSo script left r (λ go. run go (begun_at h.guardian n) c.in-Some.inside h.body d) =
+    λ most lt. own most lt
+    ∙ run_named (body_done script.handlers most) (acting c.new-child.result) (begun_at h.guardian n) c.in-Some.inside c.in-Some.inside c.as_slice-2.result.now
+    h.body d acts refl c.as_slice-2.ensures in
+    let taken : acting c.take_in-taken.new.self ≡ taken_in (acting action) r.doing.acting (commits c.in_ok-flow.flow) =
+    c.in_ok-taken.ensures.taken
+    ∙ ap (λ b. taken_in (acting action) r.doing.acting b) (c.has_committed.ensures ∙ ap (λ x. has_committed x) was) in
+    let came = sym c.in-Began.is ∙ c.in_ok-name.ensures.called in
+    let this : Done = done c.run-ended.new.world.run c.run-ended.new.self.left c.take_in-taken.new.self frames (Outwards c.in-Outwards.reach) in
+    call_so script left old (slice_get script.handlers call.handler) h call signals (given frames call) c.in-Some.inside y (called.Began n) this found handed
+    c.in_ok-name.ensures.made came
+    (called_so script left d h c.in-Some.inside call.binding signals n r this ran (λ most lt. outwards_back (body_done script.handlers most) call.binding signals d r (acting c.take_in-taken.new.self) taken c.in-Outwards.reach c.in-Outwards.is))
+
+pub run_arms-loop-arm-init : goal.run_arms-loop-arm-init
+run_arms-loop-arm-init g t c = record {
+  goes_on = goes_nowhere c.args.world.now.run c.requires.run;
+  own = keeps_nowhere c.args.waiting.now.items c.args.world.now.run;
+  others = λ a h k. refl;
+  ran = λ a h. inr h;
+  ends = ends_nowhere c.args.world.now.run;
+  waiting = c.requires.waiting;
+  among = λ a h. h;
+  each = omega (arith, c.requires.each);
+  resolved = c.requires.script;
+  arms = c.requires.arms;
+  frames = refl;
+  left = omega arith;
+  script = refl;
+  name = refl;
+  home = refl;
+  means = λ most h. refl;
+}
+
+pub run_arms-returns-then-not-matches-clause-means : goal.run_arms-returns-then-not-matches-clause-means
+run_arms-returns-then-not-matches-clause-means g t c =
+    let l = c.loop-arm in
+    let script = c.args.self.now.script.now in
+    let left = c.args.self.now.left in
+    let arms = c.args.arms.now in
+    let frames = c.args.frames.now in
+    let arm = c.arm-item.result in
+    let a = c.new-child.result.name in
+    let names = c.pop.new.self.items in
+    let old : Doing = doing c.args.world.now.run left c.args.action.now frames in
+    let d : Doing = doing l.world.run l.self.left l.action frames in
+    let r : Done = done c.run-ended.new.world.run c.run-ended.new.self.left c.run-ended.new.action c.run-ended.new.frames c.in_ok-flow.flow in
+    let next : Doing = doing c.run-ended.new.world.run c.run-ended.new.self.left c.match-arm.action frames in
+    let popped_so = popped l.waiting.items names c.pop.result c.unwrap.result a c.pop.ensures.items c.unwrap.ensures c.new-child.ensures.name in
+    let from : AreArmsFrom script left arms (reverse c.args.waiting.now.items) old (arm ∷ drop (l.arm-index + 1) arms) (a ∷ reverse names) d =
+    subst (λ (x : List Arm). AreArmsFrom script left arms (reverse c.args.waiting.now.items) old x (a ∷ reverse names) d)
+    (next_list arms l.arm-index arm (omega arith) c.arm-item.is)
+    (subst (λ (x : List Name). AreArmsFrom script left arms (reverse c.args.waiting.now.items) old (drop l.arm-index arms) x d)
+    (last_first l.waiting.items names a popped_so) l.invariant.means) in
+    let acts : acting c.new-child.result ≡ begun_at l.action.home a =
+    acting_begun c.new-child.result a l.action.home refl c.new-child.ensures.home
+    (ap (λ x. x.homes.keys) c.new-child.ensures.reached ∙ c.in_ok-reached.ensures.homes)
+    (ap (λ x. x.participants.keys) c.new-child.ensures.reached ∙ c.in_ok-reached.ensures.participants) in
+    let own : ComesSo script l.self.left r (λ go. run go (acting c.new-child.result) c.in_ok-inside.inside c.arm_body.result.now d) =
+    of_script l.self.script.now script l.self.left r (λ x go. run go (acting c.new-child.result) c.in_ok-inside.inside c.arm_body.result.now d)
+    l.invariant.script c.in_ok-flow.ensures.means in
+    let came : ComesSo script l.self.left r (λ go. run go (begun_at l.action.home a) frames (body_of arm) d) =
+    λ most h. own most h
+    ∙ run_named (body_done script.handlers most) (acting c.new-child.result) (begun_at l.action.home a) c.in_ok-inside.inside frames c.arm_body.result.now
+    (body_of arm) d acts c.in_ok-inside.ensures c.arm_body.ensures in
+    let knows : next ≡ past_arm (kind_of arm) d r = elim c.match-arm.branch [
+      | run_arms-in-Sub w ↦
+          ap (λ (x : OpenAction). doing c.run-ended.new.world.run c.run-ended.new.self.left x frames) w.action-is
+          ∙ sub_past arm w.in-Sub.field-0 d r (acting w.take_in-taken.new.self) w.in-Sub.is
+          (ok_so w.take_in-taken.result c.in_ok-taken.field-0 _ (sym w.taken-is ∙ c.in_ok-taken.was) w.take_in-taken.ensures.taken
+          ∙ ap (λ b. taken_in (acting l.action) r.doing.acting b) (w.has_committed.ensures ∙ ap (λ x. has_committed x) c.in_ok-flow.was))
+      | run_arms-in-Top w ↦
+          ap (λ (x : OpenAction). doing c.run-ended.new.world.run c.run-ended.new.self.left x frames) w.action-is
+          ∙ top_past arm w.in-Top.field-0 d r w.in-Top.is
+    ] in
+    let stops : is_past c.in_ok-flow.flow ≡ false = elim c.match-matches.branch [
+      | run_arms-in-Ended w ↦ absurd (clash w.matches-is c.if-not-matches.true)
+      | run_arms-in_default w ↦ not_past c.in_ok-flow.flow w.in_default.not-Ended w.in_default.not-Aborted
+    ] in
+    arm_stops script left arms (reverse c.args.waiting.now.items) old d arm a (drop (l.arm-index + 1) arms) (reverse names) r next from l.invariant.left came
+    stops knows
+
+pub run_arms-returns-clause-means : goal.run_arms-returns-clause-means
+run_arms-returns-clause-means g t c =
+    let l = c.loop-arm in
+    arms_end c.args.self.now.script.now c.args.self.now.left c.args.arms.now (reverse c.args.waiting.now.items)
+    (doing c.args.world.now.run c.args.self.now.left c.args.action.now c.args.frames.now)
+    (doing l.world.run l.self.left l.action c.args.frames.now) (drop l.arm-index c.args.arms.now) (reverse l.waiting.items)
+    (drop_of_length-le c.args.arms.now (omega (arith, c.loop-arm-test.false))) l.invariant.means
+
+pub statement-returns-in-Signalled-clause-means : goal.statement-returns-in-Signalled-clause-means
+statement-returns-in-Signalled-clause-means g t c =
+    let script = c.args.self.now.script.now in
+    let d : Doing = (doing c.args.world.now.run c.args.self.now.left c.args.action.now c.args.frames.now) in
+    let came : (outcome.Signalled, c.perform.new.frames) ≡ outcome_of c.args.world.now.run c.args.frames.now c.in-Op.call.binding
+    (step_for c.args.action.now.name c.args.action.now.home c.args.frames.now c.in-Op.call) =
+    ap (λ o. (o, c.perform.new.frames)) (sym c.in-Signalled.is) ∙ c.in_ok-perform-in-Op.ensures.outcome in
+    if_ok_then c.run_signals.result c.run_signals.ensures.means
+    (λ flow m most lt. m most lt
+    ∙ sym (op_comes script.handlers (body_done script.handlers most) c.in-Op.call c.in-Op.signals d c.args.statement.now c.perform.new.world.run
+    c.perform.new.frames outcome.Signalled c.in-Op.is c.in_ok-perform-in-Op.ensures.made came))
+
+pub statement-returns-in-Call-clause-means : goal.statement-returns-in-Call-clause-means
+statement-returns-in-Call-clause-means g t c =
+    let script = c.args.self.now.script.now in
+    let d : Doing = (doing c.args.world.now.run c.args.self.now.left c.args.action.now c.args.frames.now) in
+    if_ok_then c.call.result c.call.ensures.means
+    (λ flow m most lt. m most lt
+    ∙ sym (call_goes script.handlers (body_done script.handlers most) d c.in-Call.call c.in-Call.signals c.args.statement.now c.in-Call.is))
+
+pub top_action-returns-in-Aborted-clause-means : goal.top_action-returns-in-Aborted-clause-means
+top_action-returns-in-Aborted-clause-means g t c =
+    let script = c.args.self.now.script.now in
+    let left = c.args.self.now.left in
+    let old : Doing = doing c.args.world.now.run left c.args.action.now c.args.frames.now in
+    let d : Doing = doing c.begin_nested.new.world.run left c.args.action.now c.args.frames.now in
+    let home = c.args.action.now.home in
+    let a = c.in-Some.name in
+    let r : Done = done c.run.new.world.run c.run.new.self.left c.run.new.action c.run.new.frames c.in_ok-flow.flow in
+    let acts : acting c.new-nested.result ≡ begun_at home a =
+    acting_begun c.new-nested.result a home c.new-nested.ensures.name c.new-nested.ensures.home
+    (ap (λ x. x.homes.keys) c.new-nested.ensures.reached ∙ c.in_ok-reached.ensures.homes)
+    (ap (λ x. x.participants.keys) c.new-nested.ensures.reached ∙ c.in_ok-reached.ensures.participants) in
+    let ran : ComesSo script left r (λ go. run go (begun_at home a) c.args.frames.now c.args.body.now d) =
+    λ most h. c.in_ok-flow.ensures.means most h
+    ∙ run_named (body_done script.handlers most) (acting c.new-nested.result) (begun_at home a) c.in_ok-inside.inside c.args.frames.now c.args.body.now
+    c.args.body.now d acts c.in_ok-inside.ensures refl in
+    let begun = sym c.in-Some.is ∙ c.in_ok-name.ensures.begun in
+    let left_then = c.run.new.self.left in
+    let then : Doing = doing c.run.new.world.run left_then c.args.action.now c.args.frames.now in
+    if_ok_then c.inner.result c.inner.ensures.means
+    (λ flow m.
+    let this : Done = done c.inner.new.world.run c.inner.new.self.left c.inner.new.action c.inner.new.frames flow in
+    let signalled : ComesSo script left_then this (λ go. inner go c.args.signals.now then) =
+    of_script c.run.new.self.script.now script left_then this (λ x go. inner go c.args.signals.now then) c.run.ensures.script m in
+    nested_so script left old c.args.body.now c.args.signals.now c.begin_nested.new.world.run (Some a) this c.in_ok-name.ensures.made begun
+    (nested_ran script left d c.args.body.now c.args.signals.now a r this ran
+    (λ most lt. signalled most (le_trans c.run.ensures.left lt)
+    ∙ sym (ap (by_nested_end (body_done script.handlers most) c.args.signals.now (beside d r.doing)) c.in-Aborted.is))))
+
+pub coenter-returns-in_err-aborted-clause-goes_on : goal.coenter-returns-in_err-aborted-clause-goes_on
+coenter-returns-in_err-aborted-clause-goes_on g t c =
+    nested_goes c.begin_arms.ensures.goes_on (nested_goes c.run_arms-ran.ensures.goes_on c.abort_arms-aborted.ensures.goes_on)

@@ -1,8 +1,11 @@
-use Rattle.std.proofs.Common.{[], drop, length, IsTrue, ◌*◌, ◌+◌, ◌≡◌, ◌≤◌}
+use Rattle.std.proofs.Common.{[], ◌∷◌, drop, length, reverse, IsTrue, ◌*◌, ◌+◌, ◌-◌, ◌≡◌, ◌≤◌}
 use Rattle.action_names.specs.Names.{Name, has_name}
 use Rattle.script_model.specs.Resolved.{IsResolved}
 use Rattle.activities.specs.Bodies.{AreArms, IsBody, Within, sizes}
 use Rattle.activities.specs.Continuing.{AreWaiting, CommitsAmong, CommitsNone, EndsAll, GoesOn, HaveRun}
+use Rattle.activities.specs.OwnSteps.{KeepsTo}
+use Rattle.activities.specs.Acting.{doing}
+use Rattle.activities.proofs.Meaning.{AreArmsFrom, AreTurnsFrom, IsBodyFrom}
 use Rattle.activities.proofs.activity.Activity.+activity.Given as goal
 
 -- each statement takes one from the budget, so what it leads to has less
@@ -40,6 +43,7 @@ decreases-statement g l = 6 * l.self.now.left + 5
 abbrev pub invariant-body-loop-statement : goal.invariant-body-loop-statement
 invariant-body-loop-statement g l = record {
   goes_on : GoesOn l.fn.world.run l.world.run [];
+  own : KeepsTo (l.fn.action.name ∷ []) l.fn.world.run l.world.run;
   commits : CommitsNone l.fn.world.run l.world.run;
   ends : EndsAll l.fn.world.run l.world.run;
   resolved : IsResolved l.self.script.now;
@@ -49,12 +53,15 @@ invariant-body-loop-statement g l = record {
   script : l.self.script.now ≡ l.fn.self.script.now;
   name : l.action.name ≡ l.fn.action.name;
   home : l.action.home ≡ l.fn.action.home;
+  means : IsBodyFrom l.fn.self.script.now l.fn.self.left l.body (doing l.fn.world.run l.fn.self.left l.fn.action l.fn.frames) (drop l.statement-index l.body)
+      (doing l.world.run l.self.left l.action l.frames);
 }
 
 -- each turn finds as many variables bound as the first
 abbrev pub invariant-repeat-loop : goal.invariant-repeat-loop
 invariant-repeat-loop g l = record {
   goes_on : GoesOn l.fn.world.run l.world.run [];
+  own : KeepsTo (l.fn.action.name ∷ []) l.fn.world.run l.world.run;
   commits : CommitsNone l.fn.world.run l.world.run;
   ends : EndsAll l.fn.world.run l.world.run;
   resolved : IsResolved l.self.script.now;
@@ -64,12 +71,15 @@ invariant-repeat-loop g l = record {
   script : l.self.script.now ≡ l.fn.self.script.now;
   name : l.action.name ≡ l.fn.action.name;
   home : l.action.home ≡ l.fn.action.home;
+  means : AreTurnsFrom l.fn.self.script.now l.fn.self.left l.turns l.body (doing l.fn.world.run l.fn.self.left l.fn.action l.fn.frames)
+      (l.turns - l.counter) (doing l.world.run l.self.left l.action l.frames);
 }
 
 -- the arms that have run have ended, and the others wait
 abbrev pub invariant-run_arms-loop-arm : goal.invariant-run_arms-loop-arm
 invariant-run_arms-loop-arm g l = record {
   goes_on : GoesOn l.fn.world.run l.world.run [];
+  own : KeepsTo l.fn.waiting.items l.fn.world.run l.world.run;
   others : CommitsAmong l.fn.waiting.items l.fn.world.run l.world.run;
   ran : HaveRun l.fn.waiting.items l.waiting.items l.world.run;
   ends : EndsAll l.fn.world.run l.world.run;
@@ -83,4 +93,7 @@ invariant-run_arms-loop-arm g l = record {
   script : l.self.script.now ≡ l.fn.self.script.now;
   name : l.action.name ≡ l.fn.action.name;
   home : l.action.home ≡ l.fn.action.home;
+  means : AreArmsFrom l.fn.self.script.now l.fn.self.left l.arms (reverse l.fn.waiting.items)
+      (doing l.fn.world.run l.fn.self.left l.fn.action l.fn.frames) (drop l.arm-index l.arms) (reverse l.waiting.items)
+      (doing l.world.run l.self.left l.action l.frames);
 }

@@ -1,8 +1,17 @@
 use Rattle.std.proofs.Common.{sym, ◌∙◌}
 use Rattle.activities.proofs.Steps.{nested_begins_one}
 use Rattle.run_model.specs.Openings.{opening_in}
+use Rattle.activities.proofs.OwnSteps.{keeps_named}
 use Rattle.activities.proofs.open_action.OpenAction.begin_nested.Goals as goal
 
 pub begun_by-requires : goal.begun_by-requires
 begun_by-requires g c names h =
     nested_begins_one (opening_in c.args.world.now.run.lists) c.in_ok-copy.field-0 c.args.world.now.run.past names (sym h ∙ c.in_ok-answer.ensures.answer)
+
+pub returns-in_err-answer-clause-own : goal.returns-in_err-answer-clause-own
+returns-in_err-answer-clause-own g c =
+    keeps_named c.args.self.now.name c.in_ok-copy.field-0 c.args.world.now.run c.make.new.world.run c.in_ok-copy.ensures.ok.1 c.make.ensures.own
+
+pub returns-clause-own : goal.returns-clause-own
+returns-clause-own g c =
+    keeps_named c.args.self.now.name c.in_ok-copy.field-0 c.args.world.now.run c.make.new.world.run c.in_ok-copy.ensures.ok.1 c.make.ensures.own

@@ -1,5 +1,6 @@
 use Rattle.std.proofs.Common.{[], sym, ◌∙◌, ◌∷◌}
 use Rattle.activities.proofs.Going.{among_then, ends_through, goes_through, still_begun}
+use Rattle.activities.proofs.OwnSteps.{then_keeps}
 use Rattle.activities.proofs.open_action.OpenAction.commit.Goals as goal
 
 pub returns-in_err-tell-clause-goes_on : goal.returns-in_err-tell-clause-goes_on
@@ -36,3 +37,13 @@ returns-clause-homes g c = λ h. c.in_ok-tell.ensures.told
 pub returns-clause-ends : goal.returns-clause-ends
 returns-clause-ends g c =
     ends_through c.args.world.now.run c.try_commit.new.world.run c.tell.new.world.run [] c.tell.ensures.goes_on c.try_commit.ensures.ends c.tell.ensures.ends
+
+pub returns-in_err-tell-clause-own : goal.returns-in_err-tell-clause-own
+returns-in_err-tell-clause-own g c =
+    then_keeps c.args.self.now.name c.args.world.now.run c.try_commit.new.world.run c.tell.new.world.run c.try_commit.ensures.own
+    c.tell.ensures.own
+
+pub returns-clause-own : goal.returns-clause-own
+returns-clause-own g c =
+    then_keeps c.args.self.now.name c.args.world.now.run c.try_commit.new.world.run c.tell.new.world.run c.try_commit.ensures.own
+    c.tell.ensures.own

@@ -1,6 +1,7 @@
 use Rattle.std.proofs.Common.{[], sym, ◌∙◌, ◌∷◌}
 use Rattle.std.proofs.lemmas.Bool.{or_left}
 use Rattle.activities.proofs.Going.{among_then, ends_through, goes_through, one_ends, still_begun}
+use Rattle.activities.proofs.OwnSteps.{then_keeps}
 use Rattle.activities.proofs.open_action.OpenAction.commit_or_abort.Goals as goal
 
 pub returns-then-branch-clause-ended : goal.returns-then-branch-clause-ended
@@ -42,3 +43,13 @@ returns-clause-ended g c =
 pub returns-clause-ends : goal.returns-clause-ends
 returns-clause-ends g c =
     ends_through c.args.world.now.run c.commit.new.world.run c.abort.new.world.run [] c.abort.ensures.goes_on c.commit.ensures.ends c.abort.ensures.ends
+
+pub returns-in_err-abort-clause-own : goal.returns-in_err-abort-clause-own
+returns-in_err-abort-clause-own g c =
+    then_keeps c.args.self.now.name c.args.world.now.run c.commit.new.world.run c.abort.new.world.run c.commit.ensures.own
+    c.abort.ensures.own
+
+pub returns-clause-own : goal.returns-clause-own
+returns-clause-own g c =
+    then_keeps c.args.self.now.name c.args.world.now.run c.commit.new.world.run c.abort.new.world.run c.commit.ensures.own
+    c.abort.ensures.own

@@ -6,10 +6,14 @@ use Rattle.run_model.specs.Answers.{answer_of}
 use Rattle.run_laws.proofs.Names.{same_name_self}
 use Rattle.activities.specs.Continuing.{IsAfter}
 use Rattle.activities.specs.Reaching.{has, is_made}
+use Rattle.activities.specs.Serial.{asked}
+use Rattle.activities.specs.Acting.{acting}
+use Rattle.activities.proofs.Committing.{step_tried, vote_goes, vote_lacks, votes_begin, votes_end}
 use Rattle.activities.proofs.Going.{by_is_among, commits_through, ends_through, goes_through, none_is_among, none_then, still_uncommitted}
 use Rattle.activities.proofs.Steps.{commit_result_told}
 use Rattle.activities.proofs.Voting.{all_asked, ask_failed, ask_first, ask_next, close_refused, decide_held}
 use Rattle.run_model.specs.Openings.{opening_in}
+use Rattle.activities.proofs.OwnSteps.{keeps_named, then_keeps}
 use Rattle.activities.proofs.open_action.OpenAction.commit_top.Goals as goal
 
 pub returns-then-not-branch-clause-held : goal.returns-then-not-branch-clause-held
@@ -22,6 +26,7 @@ returns-then-not-branch-clause-held g c = λ h.
 pub loop-guardian-init : goal.loop-guardian-init
 loop-guardian-init g c = record {
   goes_on = c.try_step.ensures.goes_on;
+  own = keeps_named c.args.self.now.name c.in_ok-copy.field-0 c.args.world.now.run c.try_step.new.world.run c.in_ok-copy.ensures.ok.1 c.try_step.ensures.own;
   commits = λ a h. c.try_step.ensures.commits a h refl;
   ends = c.try_step.ensures.ends refl;
   asked =
@@ -32,6 +37,11 @@ loop-guardian-init g c = record {
       ∙ ap (λ a. is_made (answer_of (opening_in c.args.world.now.run.lists) (Close a) c.args.world.now.run.past)) c.in_ok-copy.ensures.ok.1)
       ∙ c.if-not-branch.false)
       c.into_iter-guardian-iterator.ensures.into_iter_gives.4;
+  means =
+      votes_begin (acting c.args.self.now) c.args.world.now.run c.try_step.new.world.run _ c.into_iter-guardian-iterator.ensures.into_iter_gives.0
+      (subst (λ a. IsAfter (Close a) c.args.world.now.run c.try_step.new.world.run) c.in_ok-copy.ensures.ok.1 c.in_ok-try_step.ensures.after)
+      (sym (c.in_ok-try_step.ensures.done ∙ ap (λ a. is_made (asked (Close a) c.args.world.now.run)) c.in_ok-copy.ensures.ok.1)
+      ∙ c.if-not-branch.false);
 }
 
 pub returns-in_err-prepare-clause-goes_on : goal.returns-in_err-prepare-clause-goes_on
@@ -58,6 +68,9 @@ pub loop-guardian-preserved : goal.loop-guardian-preserved
 loop-guardian-preserved g c = record {
   goes_on =
       goes_through c.args.world.now.run c.loop-guardian.world.run c.prepare.new.world.run [] [] c.loop-guardian.invariant.goes_on c.prepare.ensures.goes_on;
+  own =
+      then_keeps c.args.self.now.name c.args.world.now.run c.loop-guardian.world.run c.prepare.new.world.run c.loop-guardian.invariant.own
+      c.prepare.ensures.own;
   commits =
       commits_through c.args.world.now.run c.loop-guardian.world.run c.prepare.new.world.run [] c.loop-guardian.invariant.goes_on
       c.loop-guardian.invariant.commits c.prepare.ensures.commits;
@@ -68,6 +81,10 @@ loop-guardian-preserved g c = record {
       ask_next (has c.args.self.now.reached.participants) c.args.self.now.name c.loop-guardian.world.run c.prepare.new.world.run
       c.in-Some.guardian.now _ _ (rest_more deref _ _ _ c.in-Some.guardian c.in-Some.is c.next.ensures.steps) c.in_ok-prepare.ensures.after
       (sym c.in_ok-prepare.ensures.yes ∙ c.if-not-branch-2.false) c.loop-guardian.invariant.asked;
+  means =
+      vote_goes (acting c.args.self.now) c.args.world.now.run c.in-Some.guardian.now _ _ c.loop-guardian.world.run c.prepare.new.world.run
+      (rest_more deref _ _ _ c.in-Some.guardian c.in-Some.is c.next.ensures.steps) c.in_ok-prepare.ensures.after
+      (sym c.in_ok-prepare.ensures.yes ∙ c.if-not-branch-2.false) c.loop-guardian.invariant.means;
 }
 
 pub returns-clause-goes_on : goal.returns-clause-goes_on
@@ -103,3 +120,40 @@ returns-clause-held g c =
     c.in_ok-copy-2.ensures.ok.1 c.try_step-2.ensures.done)
     (all_asked (has c.args.self.now.reached.participants) c.args.self.now.name c.loop-guardian.world.run _
     (rest_all deref _ _ _ c.in-None.is c.next.ensures.steps) c.loop-guardian.invariant.asked)
+
+pub returns-in_err-try_step-clause-own : goal.returns-in_err-try_step-clause-own
+returns-in_err-try_step-clause-own g c =
+    keeps_named c.args.self.now.name c.in_ok-copy.field-0 c.args.world.now.run c.try_step.new.world.run c.in_ok-copy.ensures.ok.1 c.try_step.ensures.own
+
+pub returns-then-not-branch-clause-own : goal.returns-then-not-branch-clause-own
+returns-then-not-branch-clause-own g c =
+    keeps_named c.args.self.now.name c.in_ok-copy.field-0 c.args.world.now.run c.try_step.new.world.run c.in_ok-copy.ensures.ok.1 c.try_step.ensures.own
+
+pub returns-in_err-prepare-clause-own : goal.returns-in_err-prepare-clause-own
+returns-in_err-prepare-clause-own g c =
+    then_keeps c.args.self.now.name c.args.world.now.run c.loop-guardian.world.run c.prepare.new.world.run c.loop-guardian.invariant.own
+    c.prepare.ensures.own
+
+pub returns-then-not-branch-2-clause-own : goal.returns-then-not-branch-2-clause-own
+returns-then-not-branch-2-clause-own g c =
+    then_keeps c.args.self.now.name c.args.world.now.run c.loop-guardian.world.run c.prepare.new.world.run c.loop-guardian.invariant.own
+    c.prepare.ensures.own
+
+pub returns-clause-own : goal.returns-clause-own
+returns-clause-own g c =
+    then_keeps c.args.self.now.name c.args.world.now.run c.loop-guardian.world.run c.try_step-2.new.world.run c.loop-guardian.invariant.own
+    (keeps_named c.args.self.now.name c.in_ok-copy-2.field-0 c.loop-guardian.world.run c.try_step-2.new.world.run c.in_ok-copy-2.ensures.ok.1 c.try_step-2.ensures.own)
+
+pub returns-then-not-branch-2-clause-means : goal.returns-then-not-branch-2-clause-means
+returns-then-not-branch-2-clause-means g c =
+    vote_lacks (acting c.args.self.now) c.args.world.now.run c.in-Some.guardian.now _ _ c.loop-guardian.world.run c.prepare.new.world.run
+    (rest_more deref _ _ _ c.in-Some.guardian c.in-Some.is c.next.ensures.steps) c.in_ok-prepare.ensures.after
+    (sym c.in_ok-prepare.ensures.yes ∙ c.if-not-branch-2.true) c.loop-guardian.invariant.means
+
+pub returns-clause-means : goal.returns-clause-means
+returns-clause-means g c =
+    subst (λ t. IfOk c.try_step-2.result (λ done. record { world = c.try_step-2.new.world.run; done = done } ≡ t))
+    (votes_end (acting c.args.self.now) c.args.world.now.run _ c.loop-guardian.world.run
+    (rest_all deref _ _ _ c.in-None.is c.next.ensures.steps) c.loop-guardian.invariant.means)
+    (step_tried c.try_step-2.result (Decide c.args.self.now.name) (Decide c.in_ok-copy-2.field-0) c.loop-guardian.world.run c.try_step-2.new.world.run
+    (ap (λ a. Decide a) c.in_ok-copy-2.ensures.ok.1) c.try_step-2.ensures.after c.try_step-2.ensures.done)
