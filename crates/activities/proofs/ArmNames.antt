@@ -1,17 +1,17 @@
 -- The arms of a `coenter`: the names with which they begin, of which no two are one.
-use Rattle.std.proofs.Common.{Bool, List, [], Option, None, Some, ap, ap₂, append_assoc, arith, false, length, refl, reverse, subst, suc, sym, true, ℕ, ◌++◌, ◌<◌, ◌||◌, ◌∙◌, ◌∷◌, ◌≡◌, ◌≢◌}
-use Rattle.std.proofs.lemmas.Bool.{false_from_ne_true, or_from, or_parts}
-use Rattle.std.proofs.lemmas.List.{reverse-append, reverse-reverse}
+use Rattle.std.proofs.Common.{Bool, List, [], Option, None, Some, ap, ap₂, arith, false, length, refl, reverse, subst, suc, sym, true, ℕ, ◌<◌, ◌||◌, ◌∙◌, ◌∷◌, ◌≡◌, ◌≢◌}
+use Rattle.std.proofs.lemmas.Bool.{false_from_ne_true, or_from}
+use Rattle.std.proofs.lemmas.List.{reverse-append}
 use Rattle.action_names.specs.Names.{Name, child_of, has_name, last_of, parent_of, same_name}
 use Rattle.run_model.specs.declared.answer.Answer.{Answer}
-use Rattle.run_model.specs.declared.answer.Answer.TheVariants.{Began}
+use Rattle.run_model.specs.declared.answer.Answer.TheVariants.{Began, Done, Granted, Refused, VoteNo, VoteYes, Waits}
 use Rattle.run_model.specs.declared.answer.Refusal.{Refusal}
 use Rattle.run_model.specs.declared.history.Event.{Event}
 use Rattle.run_model.specs.declared.step.ArmKind.{ArmKind}
 use Rattle.run_model.specs.declared.step.ArmKind.TheVariants as arm
 use Rattle.run_model.specs.declared.step.Step.{Step}
 use Rattle.run_model.specs.declared.step.Step.TheVariants.{Arms}
-use Rattle.run_model.specs.Actions.{next_number}
+use Rattle.run_model.specs.Actions.{names_begun, next_number}
 use Rattle.run_model.specs.Answers.{answer_of, outcome, refused_or}
 use Rattle.run_model.specs.Refusals.{arm_names, checks, first_refusal}
 use Rattle.run_model.specs.Openings.{Opening, opening_in}
@@ -19,7 +19,7 @@ use Rattle.run_model.specs.Runs.{IsRun, World, world_after}
 use Rattle.run_laws.proofs.Accepted.{makes_facts}
 use Rattle.run_laws.proofs.Begun.{nameless}
 use Rattle.run_laws.proofs.Names.{has_name_append, last_child, parent_child, same_name_self, same_name_true}
-use Rattle.activities.specs.Continuing.{AreDistinct, HaveBegun, IsAfter}
+use Rattle.activities.specs.Continuing.{HaveBegun, IsAfter}
 use Rattle.activities.proofs.Steps.{step_begins}
 
 -- ---- the names of arms differ
@@ -57,7 +57,7 @@ top_absent a child top (arm.Top ∷ kinds) n named less =
     other e = omega (arith, ap last_of e)
 
 -- no two names are one: the first is not among the others, and so on
-data Differ : List Name → Type 0 where
+pub data Differ : List Name → Type 0 where
   none : Differ []
   one_more : (a : Name) (names : List Name) → has_name names a ≡ false → Differ names → Differ (a ∷ names)
 
@@ -67,28 +67,6 @@ arms_differ a child top (arm.Sub ∷ kinds) named =
     one_more _ _ (child_absent a (suc child) top kinds child named (omega arith)) (arms_differ a (suc child) top kinds named)
 arms_differ a child top (arm.Top ∷ kinds) named =
     one_more _ _ (top_absent a child (suc top) kinds top named (omega arith)) (arms_differ a child (suc top) kinds named)
-
--- what is not the first of two, and not the second, is neither
-absent_append : (xs ys : List Name) (a : Name) → has_name xs a ≡ false → has_name ys a ≡ false → has_name (xs ++ ys) a ≡ false
-absent_append xs ys a h k = has_name_append xs ys a ∙ or_from _ _ h k
-
-absent_parts : (xs ys : List Name) (a : Name) → has_name (xs ++ ys) a ≡ false → (has_name xs a ≡ false) × (has_name ys a ≡ false)
-absent_parts xs ys a h = or_parts _ _ (sym (has_name_append xs ys a) ∙ h)
-
-distinct_from : (names : List Name) → Differ names → AreDistinct names
-distinct_from names d before after a e = go before (subst Differ e d)
-  where
-    flipped : (b c : Name) → same_name b c ≡ false → same_name c b ≡ false
-    flipped b c h = false_from_ne_true _ (λ k. same b c h (same_name_true c b k))
-      where
-        same : (b c : Name) → same_name b c ≡ false → c ≡ b → ⊥
-        same b c h e = let k = same_name_self b in let f = subst (λ d. same_name b d ≡ false) e h in cc
-
-    go : (before : List Name) → Differ (before ++ (a ∷ after)) → has_name (before ++ after) a ≡ false
-    go [] (one_more b names h d) = h
-    go (c ∷ before) (one_more b names h d) =
-        let p = absent_parts before (a ∷ after) c h in
-        or_from _ _ (flipped a c (or_parts _ _ p.1).0) (go before d)
 
 -- ---- a list turned round
 
@@ -103,14 +81,6 @@ has_reverse (b ∷ names) a =
     turned true false = refl
     turned false true = refl
     turned false false = refl
-
-distinct_reverse : (names : List Name) → AreDistinct names → AreDistinct (reverse names)
-distinct_reverse names d before after a e =
-    let turned : names ≡ reverse after ++ (a ∷ reverse before) =
-    sym (reverse-reverse names) ∙ ap reverse e ∙ reverse-append before (a ∷ after)
-    ∙ ap (λ l. l ++ reverse before) (reverse-append (a ∷ []) after) ∙ append_assoc (reverse after) (a ∷ []) (reverse before) in
-    let h = absent_parts (reverse after) (reverse before) a (d (reverse after) (reverse before) a turned) in
-    absent_append before after a (sym (has_reverse before a) ∙ h.1) (sym (has_reverse after a) ∙ h.0)
 
 pub begun_reverse : (names : List Name) (old new : World) → HaveBegun names old new → HaveBegun (reverse names) old new
 begun_reverse names old new b = record {
@@ -153,24 +123,23 @@ pub arms_begin_each : (opening : Opening) (a : Name) (kinds : List ArmKind) (pas
 arms_begin_each opening a kinds past names h =
     ap length (arms_began opening a kinds past names h) ∙ arms_length a (next_number opening a past) (next_number opening [] past) kinds
 
--- no two of them are one, in either order
-pub arms_distinct : (opening : Opening) (a : Name) (kinds : List ArmKind) (past : List Event) (names : List Name) → IsRun opening past
-    → Began names ≡ answer_of opening (Arms a kinds) past → AreDistinct (reverse names)
-arms_distinct opening a kinds past names r h =
-    distinct_reverse names (subst AreDistinct (sym (arms_began opening a kinds past names h))
-    (distinct_from _ (arms_differ a (next_number opening a past) (next_number opening [] past) kinds named)))
+-- no two of them are one
+pub begun_differ : (opening : Opening) (a : Name) (kinds : List ArmKind) (past : List Event) → IsRun opening past
+    → Differ (names_begun (answer_of opening (Arms a kinds) past))
+begun_differ opening a kinds past r = go (answer_of opening (Arms a kinds) past) refl
   where
-    e : Event
-    e = record { step = Arms a kinds; answer = Began names }
-
-    named : a ≡ [] → ⊥
-    named = nameless opening past a r (makes_facts opening e past a (h, refl, r) (same_name_self a)).0
-
--- where it begins nothing it was refused, and the world is as it was
-pub arms_refused : (w : World) (a : Name) (kinds : List ArmKind) (answer : Answer) → answer ≡ answer_of (opening_in w.lists) (Arms a kinds) w.past
-    → ((names : List Name) → answer ≢ Began names) → world_after w (Arms a kinds) answer ≡ w
-arms_refused w a kinds answer h refused =
-    unless_begun w (Arms a kinds) answer (arm_names a (next_number (opening_in w.lists) a w.past) (next_number (opening_in w.lists) [] w.past) kinds) refl h refused
+    go : (answer : Answer) → answer ≡ answer_of opening (Arms a kinds) past → Differ (names_begun answer)
+    go (Began names) h =
+        subst Differ (sym (arms_began opening a kinds past names h)) (arms_differ a (next_number opening a past) (next_number opening [] past) kinds named)
+      where
+        named : a ≡ [] → ⊥
+        named = nameless opening past a r (makes_facts opening (record { step = Arms a kinds; answer = Began names }) past a (h, refl, r) (same_name_self a)).0
+    go (Granted reply) h = none
+    go (Waits names) h = none
+    go VoteYes h = none
+    go VoteNo h = none
+    go (Done n) h = none
+    go (Refused why) h = none
 
 -- the step that was made is the one of these arms
 pub together : (old new : World) (a b : Name) (ks all : List ArmKind) (answer : Answer) → answer ≡ answer_of (opening_in old.lists) (Arms a ks) old.past

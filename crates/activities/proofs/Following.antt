@@ -1,5 +1,5 @@
 -- What a turn of a loop or one more call leaves, by what it found.
-use Rattle.std.proofs.Common.{Err, List, Ok, OnOk, Option, Result, Some, [], ap, arith, drop, get_or, length, refl, subst, suc, sym, ℕ, ◌++◌, ◌+◌, ◌<◌, ◌∙◌, ◌∷◌, ◌≡◌}
+use Rattle.std.proofs.Common.{List, Ok, OnOk, Option, Result, Some, [], ap, arith, drop, get_or, length, refl, subst, suc, sym, ℕ, ◌++◌, ◌+◌, ◌<◌, ◌∙◌, ◌∷◌, ◌≡◌}
 use Rattle.std.proofs.Math.Seq.{drop-cons}
 use Rattle.std.specs.Prelude.{option_to_list}
 use Rattle.action_names.specs.Names.{Name}
@@ -19,11 +19,6 @@ use Rattle.activities.specs.Bodies.{IsBody, WhereEnded, Within, sizes}
 use Rattle.activities.specs.Ends.{called}
 use Rattle.activities.specs.Continuing.{HaveBegun}
 use Rattle.activities.proofs.Resolving.{cut_sizes, handed, rest_of, statement_grows, within_through}
-
--- what is so after an error that did not come
-pub on_ok : {A E : Type 0} (r : Result A E) (P Q : Type 0) → (P → Q) → OnOk r P → OnOk r Q
-on_ok (Ok x) P Q f h = f h
-on_ok (Err e) P Q f h = tt
 
 -- where nothing was bound, however it ended
 pub nothing_bound : (flow : Flow) (f : Frames) → WhereEnded flow (f ≡ f)

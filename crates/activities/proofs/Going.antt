@@ -1,5 +1,5 @@
 -- Worlds that go on, step by step.
-use Rattle.std.proofs.Common.{inl, inr, Bool, Err, IfOk, IsTrue, List, Ok, OnErr, OnOk, Result, [], ap, append-nil, append_assoc, cond, false, refl, subst, sym, true, ◌++◌, ◌∙◌, ◌∷◌, ◌≡◌}
+use Rattle.std.proofs.Common.{inl, inr, Bool, Err, IfOk, IsTrue, List, Ok, OnErr, Result, [], ap, append-nil, append_assoc, cond, false, refl, subst, sym, true, ◌++◌, ◌∙◌, ◌∷◌, ◌≡◌}
 use Rattle.std.proofs.lemmas.Bool.{false_from_ne_true, or_cases, or_left, or_parts, or_right, false≢true}
 use Rattle.action_names.specs.Names.{Name, has_name, same_name}
 use Rattle.run_model.specs.declared.answer.Answer.{Answer}
@@ -11,10 +11,10 @@ use Rattle.run_model.specs.Actions.{is_begun, is_committed, is_ended, names_begu
 use Rattle.run_model.specs.Answers.{answer_of}
 use Rattle.run_model.specs.Runs.{IsRun, World, history_after, is_accepted, world_after}
 use Rattle.run_laws.proofs.Growth.{aborted_stays, begun_stays, committed_stays, followed}
-use Rattle.run_laws.proofs.Names.{clash, same_name_self, same_name_true}
+use Rattle.run_laws.proofs.Names.{clash, same_name_true}
 use Rattle.run_laws.proofs.Runs.{run_more}
 use Rattle.run_model.specs.Openings.{opening_in}
-use Rattle.activities.specs.Continuing.{CommitsAmong, CommitsBy, CommitsNone, EndsAll, EndsThese, GoesOn, HaveBegun, IsOpen, tops_begun, tops_by}
+use Rattle.activities.specs.Continuing.{CommitsAmong, CommitsBy, CommitsNone, EndsAll, GoesOn, HaveBegun, IsOpen, tops_begun, tops_by}
 use Rattle.activities.specs.OwnSteps.{IsOfAction}
 
 -- where nothing has happened
@@ -103,34 +103,10 @@ open_among names x y s a o g c k = record {
   uncommitted = c a o.begun k ∙ o.uncommitted;
 }
 
-pub still_open : (x y : World) (s : List Name) (a : Name) → IsOpen a x → GoesOn x y s → CommitsNone x y → IsOpen a y
-still_open x y s a o g c = open_among [] x y s a o g (none_is_among [] x y c) refl
-
 -- ---- one action
 
 pub alone : (a c : Name) → IsTrue (has_name (a ∷ []) c) → a ≡ c
 alone a c h = elim (or_cases (same_name a c) false h) [ inl k ↦ same_name_true a c k | inr k ↦ absurd (false≢true k) ]
-
--- what is so is so on success
-pub on_ok : {A E : Type 0} {P : Type 0} (result : Result A E) → P → OnOk result P
-on_ok (Ok x) p = p
-on_ok (Err e) p = tt
-
--- one action ends
-pub ends_one : (a : Name) (x y : World) → (IsTrue (is_begun a x.past) → IsTrue (is_ended a y.past)) → EndsThese (a ∷ []) x y
-ends_one a x y f b h k = elim (or_cases _ _ h) [
-  | inl s ↦
-      let e = same_name_true a b s in
-      subst (λ c. is_ended c y.past ≡ true) e (f (subst (λ c. is_begun c x.past ≡ true) (sym e) k))
-  | inr n ↦ absurd (false≢true n)
-]
-
-pub one_ends : (a : Name) (x y : World) → EndsThese (a ∷ []) x y → IsTrue (is_begun a x.past) → IsTrue (is_ended a y.past)
-one_ends a x y f b = f a (or_left _ _ (same_name_self a)) b
-
--- where none was committed, an open action was not
-pub still_uncommitted : (a : Name) (x y : World) → IsOpen a x → CommitsNone x y → false ≡ is_committed a y.past
-still_uncommitted a x y o c = sym (c a o.begun ∙ o.uncommitted)
 
 -- a step that commits one action commits that one at most
 pub by_is_among : (a b : Name) (step : Step) (x y : World) → b ≡ a → ((c : Name) → step_commits step c ≡ same_name b c) → CommitsBy step x y

@@ -1,5 +1,5 @@
 -- What single steps leave of a world: what they begin, what they end, and what they commit.
-use Rattle.std.proofs.Common.{ℕ, ◌⊎◌, Bool, Err, IfOk, IsTrue, List, None, Ok, OnErr, OnOk, Option, Result, Some, [], ap, cond, false, inl, inr, length, not, refl, subst, sym, true, ◌++◌, ◌∙◌, ◌∷◌, ◌≡◌}
+use Rattle.std.proofs.Common.{ℕ, ◌⊎◌, Bool, Err, IfOk, IsTrue, List, None, Ok, OnErr, Option, Result, Some, [], ap, cond, false, inl, inr, length, not, refl, subst, sym, true, ◌++◌, ◌∙◌, ◌∷◌, ◌≡◌}
 use Rattle.std.proofs.lemmas.Bool.{false_from_ne_true, false≢true, or_cases, or_left, or_right}
 use Rattle.action_names.specs.Names.{Name, has_name}
 use Rattle.atomic_types.specs.Operations as op
@@ -150,15 +150,6 @@ abort_ends old a b = go (is_begun a old.past) (is_ended a old.past) b refl
     go true false p q = or_right _ _ (or_left _ _ (same_name_self a))
     go false y p q = absurd (false≢true p)
 
--- the same of a result
-pub abort_result_ends : {E : Type 0} (old new : World) (step : Step) (result : Result Answer E)
-    → IfOk result (λ answer. answer ≡ answer_of (opening_in old.lists) step old.past) → IfOk result (λ answer. new ≡ world_after old step answer)
-    → OnOk result ((a : Name) → step ≡ Abort a → IsTrue (is_begun a old.past) → IsTrue (is_ended a new.past))
-abort_result_ends old new step (Ok answer) e w = λ a s b.
-    ap (λ v. is_ended a v.past) (w ∙ ap (λ x. world_after old step x) e ∙ ap (λ x. world_after old x (answer_of (opening_in old.lists) x old.past)) s)
-    ∙ abort_ends old a b
-abort_result_ends old new step (Err fault) e w = tt
-
 -- ---- what a step commits
 
 -- a step that commits is answered `Done` or refused
@@ -191,11 +182,3 @@ commit_told old new step a done w d h u =
     go (Granted reply) r = elim r [ inl e ↦ cc | inr e ↦ cc ]
     go VoteYes r = elim r [ inl e ↦ cc | inr e ↦ cc ]
     go VoteNo r = elim r [ inl e ↦ cc | inr e ↦ cc ]
-
--- the same where memory may have run out
-pub commit_result_told : {E : Type 0} (old new : World) (step : Step) (a : Name) (result : Result Bool E)
-    → OnOk result (new ≡ world_after old step (answer_of (opening_in old.lists) step old.past))
-    → IfOk result (λ done. done ≡ is_made (answer_of (opening_in old.lists) step old.past)) → step_commits step a ≡ true → is_committed a old.past ≡ false
-    → IfOk result (λ done. done ≡ is_committed a new.past)
-commit_result_told old new step a (Ok done) w d h u = commit_told old new step a done w d h u
-commit_result_told old new step a (Err fault) w d h u = tt

@@ -1,17 +1,20 @@
 -- Clients that are tried one after another: each runs to its end, or until a fault ends it.
-use Rattle.std.proofs.Common.{Err, List, None, Ok, OnErr, Result, Some, [], ap, drop, get_or, inl, inr, length, refl, subst, sym, take, ℕ, ◌+◌, ◌<◌, ◌++◌, ◌∙◌, ◌∷◌, ◌≡◌}
+use Rattle.std.proofs.Common.{Err, IfOk, List, None, Ok, OnErr, Result, Some, [], ap, drop, get_or, inl, inr, length, refl, subst, sym, take, ℕ, ◌+◌, ◌<◌, ◌++◌, ◌∙◌, ◌∷◌, ◌≡◌}
 use Rattle.std.proofs.lemmas.List.{take-append-drop, take_more}
 use Rattle.action_names.specs.Names.{Name}
 use Rattle.run_model.specs.Openings.{opening_in}
 use Rattle.run_model.specs.Runs.{IsRun, World}
 use Rattle.script_model.specs.declared.checked.Client.{Client}
+use Rattle.script_model.specs.declared.checked.Handler.{Handler}
 use Rattle.activities.specs.declared.client.ClientEnd.{ClientEnd}
 use Rattle.activities.specs.Continuing.{CommitsAmong, GoesOn}
 use Rattle.activities.specs.OwnSteps.{KeepsTo}
-use Rattle.activities.specs.Ends.{AreTried, ClientCut, ClientRan, ClientTried, TopMade, TriedInTurn, named_by, top_of}
-use Rattle.activities.proofs.Clients.{top_commits, top_goes, top_keeps}
+use Rattle.activities.specs.Ends.{AreTried, ClientCut, ClientTried, TriedInTurn, named_by, top_of}
+use Rattle.activities.proofs.Clients.{TopMade, top_commits, top_goes, top_keeps}
 use Rattle.activities.proofs.Going.{commits_nowhere, goes_nowhere, goes_through}
+use Rattle.activities.specs.Serial.{client_ran}
 use Rattle.activities.proofs.OwnSteps.{keeps_nowhere, keeps_through}
+use Rattle.activities.proofs.Runs.{client_was_run}
 
 -- ---- a client that a fault ended
 
@@ -38,6 +41,10 @@ cut_after home old mid new a m g c k = record {
 pub on_err : {X E : Type 0} {P : Type 0} (result : Result X E) → P → OnErr result P
 on_err (Ok x) p = tt
 on_err (Err e) p = p
+
+-- nothing more is said of what came to an error
+pub if_err : {X E : Type 0} (result : Result X E) (fault : E) (P : X → Type 0) → result ≡ Err fault → IfOk result P
+if_err result fault P e = subst (λ r. IfOk r P) (sym e) tt
 
 -- ---- clients that were tried
 
@@ -70,9 +77,10 @@ one_more_tried clients i client old mid new tops l g t c h k = record {
   own = keeps_through [] old mid new t.own k;
 }
 
-pub ran_is_tried : (clients : List Client) (i : ℕ) (client : Client) (old mid new : World) (end : ClientEnd) → i < length clients
-    → client ≡ get_or clients i client → TriedSoFar clients i old mid → ClientRan client.home mid new end → TriedSoFar clients (i + 1) old new
-ran_is_tried clients i client old mid new end l g t c =
+pub ran_is_tried : (handlers : List Handler) (clients : List Client) (i : ℕ) (client : Client) (old mid new : World) (end : ClientEnd) → i < length clients
+    → client ≡ get_or clients i client → TriedSoFar clients i old mid → (new, end) ≡ client_ran handlers client mid → TriedSoFar clients (i + 1) old new
+ran_is_tried handlers clients i client old mid new end l g t e =
+    let c = client_was_run handlers client mid new end t.goes_on.is_run e in
     one_more_tried clients i client old mid new (named_by (top_of end)) l g t (inl (end, c)) c.goes_on c.own
 
 pub cut_is_tried : (clients : List Client) (i : ℕ) (client : Client) (old mid new : World) → i < length clients

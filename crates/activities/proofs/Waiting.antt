@@ -1,12 +1,42 @@
--- What an answer began, where it began nothing.
-use Rattle.std.proofs.Common.{List, None, ap, refl, ◌∙◌, ◌≡◌}
+-- What an answer began.
+use Rattle.std.proofs.Common.{List, None, [], arith, length, ◌∷◌, ap, refl, ◌∙◌, ◌≡◌}
 use Rattle.action_names.specs.Names.{Name}
 use Rattle.run_model.specs.declared.answer.Answer.{Answer}
 use Rattle.run_model.specs.declared.answer.Answer.TheVariants.{Began, Done, Granted, Refused, VoteNo, VoteYes, Waits}
+use Rattle.run_model.specs.declared.answer.Refusal.TheVariants as refusal
+use Rattle.run_model.specs.Actions.{names_begun}
 use Rattle.run_model.specs.declared.step.ArmKind.{ArmKind}
 use Rattle.run_model.specs.declared.step.Step.TheVariants.{Arms}
-use Rattle.activities.specs.Serial.{begun_by, waiting_by}
+use Rattle.activities.specs.Ends.{called, named_by}
+use Rattle.activities.specs.Serial.{begun_by, called_by, waiting_by}
 
+-- what a call began, which is one action at most
+pub called_names : (a : Answer) → ((names : List Name) → a ≡ Began names → length names ≡ 1) → called (called_by a) ≡ names_begun a
+called_names (Began []) f = refl
+called_names (Began (a ∷ [])) f = refl
+called_names (Began (a ∷ b ∷ names)) f = let h = f (a ∷ b ∷ names) refl in absurd (omega arith)
+called_names (Refused refusal.Down) f = refl
+called_names (Refused refusal.TooDeep) f = refl
+called_names (Refused why) f = refl
+called_names (Granted reply) f = refl
+called_names (Waits names) f = refl
+called_names VoteYes f = refl
+called_names VoteNo f = refl
+called_names (Done n) f = refl
+
+-- the same of a nested top action
+pub begun_names : (a : Answer) → ((names : List Name) → a ≡ Began names → length names ≡ 1) → named_by (begun_by a) ≡ names_begun a
+begun_names (Began []) f = refl
+begun_names (Began (a ∷ [])) f = refl
+begun_names (Began (a ∷ b ∷ names)) f = let h = f (a ∷ b ∷ names) refl in absurd (omega arith)
+begun_names (Refused why) f = refl
+begun_names (Granted reply) f = refl
+begun_names (Waits names) f = refl
+begun_names VoteYes f = refl
+begun_names VoteNo f = refl
+begun_names (Done n) f = refl
+
+-- an answer that began nothing
 pub none_waiting : (a : Answer) → ((names : List Name) → a ≡ Began names → ⊥) → None ≡ waiting_by a
 none_waiting (Began names) n = absurd (n names refl)
 none_waiting (Granted reply) n = refl

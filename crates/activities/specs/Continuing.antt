@@ -1,5 +1,5 @@
 -- A world to which more has happened.
-use Rattle.std.specs.Prelude.{◌≡◌, false, IsTrue, List, [], ◌∷◌, ◌++◌, ◌⊎◌}
+use Rattle.std.specs.Prelude.{◌≡◌, false, IsTrue, List, [], ◌∷◌, ◌++◌}
 use Rattle.action_names.specs.Names.{Name, has_name}
 use Rattle.run_model.specs.declared.step.Step.{Step}
 use Rattle.run_model.specs.declared.step.Step.TheVariants.{Top}
@@ -56,23 +56,6 @@ pub record HaveBegun (names : List Name) (old new : World) : Type 0 where
   pub are_open : (a : Name) → IsTrue (has_name names a) → IsOpen a new
   pub before : (a : Name) → IsTrue (has_name names a) → is_begun a old.past ≡ false
   pub only : (a : Name) → IsTrue (is_begun a new.past) → is_begun a old.past ≡ false → IsTrue (has_name names a)
-
--- no two of the names are one
-abbrev pub AreDistinct : List Name → Type 0
-AreDistinct names = (before after : List Name) (a : Name) → names ≡ before ++ (a ∷ after) → has_name (before ++ after) a ≡ false
-
--- actions that wait for their turn, each named once
-pub record AreWaiting (names : List Name) (w : World) : Type 0 where
-  pub are_open : (a : Name) → IsTrue (has_name names a) → IsOpen a w
-  pub distinct : AreDistinct names
-
--- each of the actions that waited has ended, or waits still
-abbrev pub HaveRun : List Name → List Name → World → Type 0
-HaveRun old new w = (a : Name) → IsTrue (has_name old a) → IsTrue (is_ended a w.past) ⊎ IsTrue (has_name new a)
-
--- each of these that was begun before has ended
-abbrev pub EndsThese : List Name → World → World → Type 0
-EndsThese names old new = (a : Name) → IsTrue (has_name names a) → IsTrue (is_begun a old.past) → IsTrue (is_ended a new.past)
 
 -- the world was left by one step
 abbrev pub IsAfter : Step → World → World → Type 0

@@ -17,7 +17,7 @@ use Rattle.activities.specs.declared.flow.Flow.TheVariants.{Ended, Returned}
 use Rattle.activities.specs.declared.open_action.Called.{Called}
 use Rattle.activities.specs.declared.open_action.Called.TheVariants.{Began}
 use Rattle.run_model.specs.Openings.{opening_in}
-use Rattle.activities.specs.Continuing.{CommitsNone, GoesOn, EndsAll, HaveBegun}
+use Rattle.activities.specs.Continuing.{CommitsNone, GoesOn, EndsAll}
 use Rattle.activities.specs.OwnSteps.{KeepsTo}
 
 -- the top action that an end names
@@ -65,14 +65,6 @@ named_by (Some a) = a ∷ []
 abbrev pub IsTopAt : ℕ → World → Option Name → Type 0
 IsTopAt home w None = (why : Refusal) × (answer_of (opening_in w.lists) (Top home) w.past ≡ answer.Refused why)
 IsTopAt home w (Some a) = answer_of (opening_in w.lists) (Top home) w.past ≡ answer.Began (a ∷ [])
-
--- that step was made, and nothing else
-pub record TopMade (home : ℕ) (old new : World) (found : Option Name) : Type 0 where
-  pub top : IsTopAt home old found
-  pub goes_on : GoesOn old new (named_by found)
-  pub commits : CommitsNone old new
-  pub began : HaveBegun (named_by found) old new
-  pub own : KeepsTo [] old new
 
 -- a client of this home was run: its end names exactly the action that a `top` step began, and each step was of its own actions
 pub record ClientRan (home : ℕ) (old new : World) (end : ClientEnd) : Type 0 where

@@ -6,3 +6,4 @@ pub mod Reaching
 pub mod Performing
 pub mod Serial
 pub mod Acting
+pub mod Runs

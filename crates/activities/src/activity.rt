@@ -1,10 +1,9 @@
-ghost use Rattle.std.specs.Prelude.{◌≡◌, ◌+◌, ◌≤◌, [], ◌∷◌, false, length, reverse, slice_get, IsTrue, IfOk, None, OnOk};
+ghost use Rattle.std.specs.Prelude.{◌≡◌, ◌+◌, ◌≤◌, [], ◌∷◌, false, length, reverse, slice_get, IsTrue, IfOk, None};
 ghost use Rattle.action_names.specs.Names.{Name, has_name};
 ghost use Rattle.script_model.specs.Resolved.{IsResolved, asked, binding_is_bound, frames_after};
-ghost use Rattle.run_model.specs.Actions.{is_committed, is_ended};
 ghost use Rattle.run_model.specs.Runs.{IsRun};
 ghost use Rattle.activities.specs.Bodies.{AreArms, IsBody, IsCall, IsStatement, SignalsFollow, SignalsHold, WhereEnded, Within, sizes};
-ghost use Rattle.activities.specs.Continuing.{AreWaiting, CommitsAmong, CommitsNone, EndsAll, GoesOn, HaveRun, IsOpen};
+ghost use Rattle.activities.specs.Continuing.{CommitsAmong, CommitsNone, GoesOn};
 ghost use Rattle.activities.specs.OwnSteps.{KeepsTo};
 ghost use Rattle.activities.specs.Ends.{commits, has_committed};
 ghost use Rattle.activities.specs.Serial.{arms_run, budget, call_done, coenter_done, given_back, inner, nested_done, on_signal, repeated, run, statement_done};
@@ -80,13 +79,9 @@ impl<'s> Activity<'s> {
         requires script { IsResolved self.old.script.now }
         requires body { IsBody self.old.script.now (sizes frames.old) body.now }
         requires run { IsRun (opening_in world.old.run.lists) world.old.run.past }
-        requires open { IsOpen action.old.name world.old.run }
         ensures goes_on { GoesOn world.old.run world.new.run [] }
         ensures own { KeepsTo (action.old.name ∷ []) world.old.run world.new.run }
         ensures others { CommitsAmong (action.old.name ∷ []) world.old.run world.new.run }
-        ensures told { IfOk result (λ flow. commits flow ≡ is_committed action.old.name world.new.run.past) }
-        ensures ended { OnOk result (IsTrue (is_ended action.old.name world.new.run.past)) }
-        ensures ends { OnOk result (EndsAll world.old.run world.new.run) }
         ensures left { self.new.left ≤ self.old.left }
         ensures script { self.new.script.now ≡ self.old.script.now }
         ensures name { action.new.name ≡ action.old.name }
@@ -119,10 +114,8 @@ impl<'s> Activity<'s> {
         ensures goes_on { GoesOn world.old.run world.new.run [] }
         ensures own { KeepsTo (action.old.name ∷ []) world.old.run world.new.run }
         ensures commits { CommitsNone world.old.run world.new.run }
-        ensures ends { OnOk result (EndsAll world.old.run world.new.run) }
         ensures frames { IfOk result (λ flow. WhereEnded flow (Within (sizes frames.old) (sizes frames.new))) }
         ensures left { self.new.left ≤ self.old.left }
-        ensures each { IfOk result (λ flow. WhereEnded flow (self.new.left + length body.now ≤ self.old.left)) }
         ensures script { self.new.script.now ≡ self.old.script.now }
         ensures name { action.new.name ≡ action.old.name }
         ensures home { action.new.home ≡ action.old.home }
@@ -158,7 +151,6 @@ impl<'s> Activity<'s> {
         ensures goes_on { GoesOn world.old.run world.new.run [] }
         ensures own { KeepsTo (action.old.name ∷ []) world.old.run world.new.run }
         ensures commits { CommitsNone world.old.run world.new.run }
-        ensures ends { OnOk result (EndsAll world.old.run world.new.run) }
         ensures frames { IfOk result (λ flow. WhereEnded flow (sizes frames.new ≡ sizes frames.old)) }
         ensures left { self.new.left ≤ self.old.left }
         ensures script { self.new.script.now ≡ self.old.script.now }
@@ -189,7 +181,6 @@ impl<'s> Activity<'s> {
         ensures goes_on { GoesOn world.old.run world.new.run [] }
         ensures own { KeepsTo (action.old.name ∷ []) world.old.run world.new.run }
         ensures commits { CommitsNone world.old.run world.new.run }
-        ensures ends { OnOk result (EndsAll world.old.run world.new.run) }
         ensures frames { IfOk result (λ flow. WhereEnded flow (sizes frames.new ≡ (asked statement.now).after (sizes frames.old))) }
         ensures left { self.new.left ≤ self.old.left }
         ensures script { self.new.script.now ≡ self.old.script.now }
@@ -244,7 +235,6 @@ impl<'s> Activity<'s> {
         ensures goes_on { GoesOn world.old.run world.new.run [] }
         ensures own { KeepsTo (action.old.name ∷ []) world.old.run world.new.run }
         ensures commits { CommitsNone world.old.run world.new.run }
-        ensures ends { OnOk result (EndsAll world.old.run world.new.run) }
         ensures frames { IfOk result (λ flow. WhereEnded flow (sizes frames.new ≡ sizes frames.old)) }
         ensures unheard { signals.now ≡ None → IfOk result (λ flow. flow ≡ Aborted) }
         ensures left { self.new.left ≤ self.old.left }
@@ -277,10 +267,8 @@ impl<'s> Activity<'s> {
         ensures goes_on { GoesOn world.old.run world.new.run [] }
         ensures own { KeepsTo (action.old.name ∷ []) world.old.run world.new.run }
         ensures commits { CommitsNone world.old.run world.new.run }
-        ensures ends { OnOk result (EndsAll world.old.run world.new.run) }
         ensures frames { IfOk result (λ flow. WhereEnded flow (sizes frames.new ≡ sizes frames.old)) }
         ensures left { self.new.left ≤ self.old.left }
-        ensures turns { IfOk result (λ flow. WhereEnded flow (self.new.left + turns ≤ self.old.left)) }
         ensures script { self.new.script.now ≡ self.old.script.now }
         ensures name { action.new.name ≡ action.old.name }
         ensures home { action.new.home ≡ action.old.home }
@@ -318,7 +306,6 @@ impl<'s> Activity<'s> {
         ensures goes_on { GoesOn world.old.run world.new.run [] }
         ensures own { KeepsTo (action.old.name ∷ []) world.old.run world.new.run }
         ensures commits { CommitsNone world.old.run world.new.run }
-        ensures ends { OnOk result (EndsAll world.old.run world.new.run) }
         ensures frames { IfOk result (λ flow. WhereEnded flow (sizes frames.new ≡ frames_after (sizes frames.old) call.now.binding)) }
         ensures left { self.new.left ≤ self.old.left }
         ensures script { self.new.script.now ≡ self.old.script.now }
@@ -371,7 +358,6 @@ impl<'s> Activity<'s> {
         ensures goes_on { GoesOn world.old.run world.new.run [] }
         ensures own { KeepsTo (action.old.name ∷ []) world.old.run world.new.run }
         ensures commits { CommitsNone world.old.run world.new.run }
-        ensures ends { OnOk result (EndsAll world.old.run world.new.run) }
         ensures frames { IfOk result (λ flow. WhereEnded flow (sizes frames.new ≡ sizes frames.old)) }
         ensures left { self.new.left ≤ self.old.left }
         ensures script { self.new.script.now ≡ self.old.script.now }
@@ -409,7 +395,6 @@ impl<'s> Activity<'s> {
         ensures goes_on { GoesOn world.old.run world.new.run [] }
         ensures own { KeepsTo (action.old.name ∷ []) world.old.run world.new.run }
         ensures commits { CommitsNone world.old.run world.new.run }
-        ensures ends { OnOk result (EndsAll world.old.run world.new.run) }
         ensures frames { IfOk result (λ flow. WhereEnded flow (sizes frames.new ≡ sizes frames.old)) }
         ensures left { self.new.left ≤ self.old.left }
         ensures script { self.new.script.now ≡ self.old.script.now }
@@ -445,13 +430,10 @@ impl<'s> Activity<'s> {
         requires arms { AreArms self.old.script.now (sizes frames.old) arms.now }
         requires each { length waiting.old.items ≡ length arms.now }
         requires run { IsRun (opening_in world.old.run.lists) world.old.run.past }
-        requires waiting { AreWaiting waiting.old.items world.old.run }
         ensures goes_on { GoesOn world.old.run world.new.run [] }
         ensures own { KeepsTo waiting.old.items world.old.run world.new.run }
         ensures others { CommitsAmong waiting.old.items world.old.run world.new.run }
-        ensures ran { OnOk result (HaveRun waiting.old.items waiting.new.items world.new.run) }
         ensures rest { (a : Name) → IsTrue (has_name waiting.new.items a) → IsTrue (has_name waiting.old.items a) }
-        ensures ends { OnOk result (EndsAll world.old.run world.new.run) }
         ensures frames { sizes frames.new ≡ sizes frames.old }
         ensures left { self.new.left ≤ self.old.left }
         ensures script { self.new.script.now ≡ self.old.script.now }

@@ -2,7 +2,7 @@ ghost use Rattle.std.specs.Prelude.{◌≡◌, [], ◌∷◌, length, option_map
 ghost use Rattle.run_model.specs.declared.step.Step.TheVariants.{Arms};
 ghost use Rattle.run_model.specs.Runs.{IsRun};
 ghost use Rattle.activities.specs.Bodies.{body_of, kind_of, kinds};
-ghost use Rattle.activities.specs.Continuing.{AreDistinct, CommitsNone, GoesOn, HaveBegun, IsAfter};
+ghost use Rattle.activities.specs.Continuing.{CommitsNone, GoesOn, HaveBegun, IsAfter};
 ghost use Rattle.activities.specs.OwnSteps.{KeepsTo};
 ghost use Rattle.activities.specs.Serial.{asked, waiting_by};
 ghost use Rattle.run_model.specs.Openings.{opening_in};
@@ -29,10 +29,8 @@ pub(crate) fn begin_arms<S: Stable>(
     ensures together { IfOk result (λ found. IsAfter (Arms action.now.name (kinds arms.now)) world.old.run world.new.run) }
     ensures each { IfOk result (λ found. IfSome found (λ names. length names.items ≡ length arms.now)) }
     ensures began { IfOk result (λ found. IfSome found (λ names. HaveBegun names.items world.old.run world.new.run)) }
-    ensures distinct { IfOk result (λ found. IfSome found (λ names. AreDistinct names.items)) }
     ensures waiting { IfOk result (λ found. option_map (λ names. reverse names.items) found
         ≡ waiting_by (asked (Arms action.now.name (kinds arms.now)) world.old.run)) }
-    ensures refused { IfOk result (λ found. found ≡ None → world.new.run ≡ world.old.run) }
 {
     let mut kinds = ArmKinds::new(alloc);
     for arm in arms {

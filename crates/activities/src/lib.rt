@@ -14,6 +14,6 @@ mod operations;
 mod serial;
 
 pub use client::ClientEnd;
-pub use laws::earlier_is_left_alone;
+pub use laws::{earlier_is_left_alone, serial_runs_are_run};
 pub use script_model::Checked;
 pub use serial::run_serial;

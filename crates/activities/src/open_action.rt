@@ -1,13 +1,13 @@
-ghost use Rattle.std.specs.Prelude.{◌≡◌, [], ◌∷◌, List, false, length, reverse, IsTrue, IfOk, None, OnOk, OnErr};
+ghost use Rattle.std.specs.Prelude.{◌≡◌, [], ◌∷◌, List, false, length, reverse, IfOk, None, OnOk, OnErr};
 ghost use Rattle.action_names.specs.Names.{Name, is_top};
 ghost use Rattle.run_model.specs.declared.answer.Answer.TheVariants.{Began};
 ghost use Rattle.run_model.specs.declared.step.Step.TheVariants.{Abort, Call, NestedTop, Prepare, Tell};
-ghost use Rattle.run_model.specs.Actions.{is_begun, is_committed, is_ended, maker_in, names_begun};
+ghost use Rattle.run_model.specs.Actions.{maker_in, names_begun};
 ghost use Rattle.run_model.specs.Answers.{answer_of};
 ghost use Rattle.run_model.specs.Runs.{IsRun, world_after};
-ghost use Rattle.activities.specs.Continuing.{GoesOn, CommitsAmong, CommitsBy, CommitsNone, EndsAll, EndsThese, HaveBegun, IsAfter, IsOpen};
+ghost use Rattle.activities.specs.Continuing.{GoesOn, CommitsAmong, CommitsBy, CommitsNone, EndsAll, HaveBegun, IsAfter};
 ghost use Rattle.activities.specs.OwnSteps.{IsOfAction, KeepsTo, about};
-ghost use Rattle.activities.specs.Reaching.{AreTold, IsHeld, IsUnion, is_made, is_yes};
+ghost use Rattle.activities.specs.Reaching.{is_made, is_yes};
 ghost use Rattle.activities.specs.Ends.{called, commits, named_by};
 ghost use Rattle.activities.specs.Performing.{op_step};
 ghost use Rattle.activities.specs.Serial.{aborted, after, arms_aborted, asked, begun_by, called_by, commit_tried, committed, end_tried, ended, joined, or_aborted, outwards, taken_in, once_told, two_phases};
@@ -143,10 +143,6 @@ impl OpenAction {
     pub(crate) fn take_in(&mut self, child: &OpenAction, committed: bool) -> Result<(), AllocError>
         ensures name { self.new.name ≡ self.old.name }
         ensures home { self.new.home ≡ self.old.home }
-        ensures homes { OnOk result (IsUnion self.old.reached.homes child.now.reached.homes self.new.reached.homes) }
-        ensures joined { OnOk result
-            (IsTrue committed → IsUnion self.old.reached.participants child.now.reached.participants self.new.reached.participants) }
-        ensures kept { committed ≡ false → self.new.reached.participants ≡ self.old.reached.participants }
         ensures taken { OnOk result (acting self.new ≡ taken_in (acting self.old) (acting child.now) committed) }
     {
         add_all(&mut self.reached.homes, &child.reached.homes)?;
@@ -159,13 +155,10 @@ impl OpenAction {
     /// Ends it as its body ended, and says how: where it cannot commit it aborts. After an error it has ended, or its abort
     /// failed too.
     pub(crate) fn end<S: Stable>(&self, world: &mut World<S>, flow: Flow) -> Result<Flow, Fault>
-        requires run { IsRun (opening_in world.old.run.lists) world.old.run.past }
-        requires open { IsOpen self.now.name world.old.run }
+        requires { IsRun (opening_in world.old.run.lists) world.old.run.past }
         ensures goes_on { GoesOn world.old.run world.new.run [] }
         ensures own { KeepsTo (self.now.name ∷ []) world.old.run world.new.run }
         ensures others { CommitsAmong (self.now.name ∷ []) world.old.run world.new.run }
-        ensures told { IfOk result (λ end. commits end ≡ is_committed self.now.name world.new.run.past) }
-        ensures ended { OnOk result (IsTrue (is_ended self.now.name world.new.run.past)) }
         ensures ends { EndsAll world.old.run world.new.run }
         ensures means { IfOk result (λ end. record { world = world.new.run; flow = end } ≡ ended (acting self.now) flow world.old.run) }
     {
@@ -181,14 +174,10 @@ impl OpenAction {
 
     /// Commits it where that is wanted; where it cannot, and else, aborts it. Whether it has committed.
     fn try_end<S: Stable>(&self, world: &mut World<S>, wanted: bool) -> Result<bool, Fault>
-        requires run { IsRun (opening_in world.old.run.lists) world.old.run.past }
-        requires open { IsOpen self.now.name world.old.run }
+        requires { IsRun (opening_in world.old.run.lists) world.old.run.past }
         ensures goes_on { GoesOn world.old.run world.new.run [] }
         ensures own { KeepsTo (self.now.name ∷ []) world.old.run world.new.run }
         ensures others { CommitsAmong (self.now.name ∷ []) world.old.run world.new.run }
-        ensures told { IfOk result (λ done. done ≡ is_committed self.now.name world.new.run.past) }
-        ensures wanted { IfOk result (λ done. IsTrue done → IsTrue wanted) }
-        ensures ended { OnOk result (IsTrue (is_ended self.now.name world.new.run.past)) }
         ensures ends { EndsAll world.old.run world.new.run }
         ensures means { IfOk result (λ done. record { world = world.new.run; done = done } ≡ end_tried (acting self.now) wanted world.old.run) }
     {
@@ -201,13 +190,10 @@ impl OpenAction {
     }
 
     fn commit_or_abort<S: Stable>(&self, world: &mut World<S>) -> Result<bool, Fault>
-        requires run { IsRun (opening_in world.old.run.lists) world.old.run.past }
-        requires open { IsOpen self.now.name world.old.run }
+        requires { IsRun (opening_in world.old.run.lists) world.old.run.past }
         ensures goes_on { GoesOn world.old.run world.new.run [] }
         ensures own { KeepsTo (self.now.name ∷ []) world.old.run world.new.run }
         ensures others { CommitsAmong (self.now.name ∷ []) world.old.run world.new.run }
-        ensures told { IfOk result (λ done. done ≡ is_committed self.now.name world.new.run.past) }
-        ensures ended { OnOk result (IsTrue (is_ended self.now.name world.new.run.past)) }
         ensures ends { EndsAll world.old.run world.new.run }
         ensures means { IfOk result (λ done. record { world = world.new.run; done = done } ≡ or_aborted (acting self.now) (committed (acting self.now) world.old.run)) }
     {
@@ -220,8 +206,7 @@ impl OpenAction {
 
     /// How it ended where it has aborted and its body ended so.
     fn flow_of_abort(&self, flow: Flow) -> Flow
-        ensures commits { commits result ≡ false }
-        ensures means { result ≡ outwards (is_top self.now.name) flow }
+        ensures { result ≡ outwards (is_top self.now.name) flow }
     {
         let Flow::Outwards(reach) = flow else {
             return Flow::Aborted;
@@ -235,13 +220,10 @@ impl OpenAction {
 
     /// Commits it, and tells so; whether that succeeded.
     fn commit<S: Stable>(&self, world: &mut World<S>) -> Result<bool, Fault>
-        requires run { IsRun (opening_in world.old.run.lists) world.old.run.past }
-        requires open { IsOpen self.now.name world.old.run }
+        requires { IsRun (opening_in world.old.run.lists) world.old.run.past }
         ensures goes_on { GoesOn world.old.run world.new.run [] }
         ensures own { KeepsTo (self.now.name ∷ []) world.old.run world.new.run }
         ensures others { CommitsAmong (self.now.name ∷ []) world.old.run world.new.run }
-        ensures told { IfOk result (λ done. done ≡ is_committed self.now.name world.new.run.past) }
-        ensures homes { IfOk result (λ done. IsTrue done → AreTold self.now.reached.homes self.now.name world.new.run) }
         ensures ends { EndsAll world.old.run world.new.run }
         ensures means { IfOk result (λ done. record { world = world.new.run; done = done } ≡ committed (acting self.now) world.old.run) }
     {
@@ -254,12 +236,10 @@ impl OpenAction {
 
     /// Commits it; whether that succeeded.
     fn try_commit<S: Stable>(&self, world: &mut World<S>) -> Result<bool, Fault>
-        requires run { IsRun (opening_in world.old.run.lists) world.old.run.past }
-        requires open { IsOpen self.now.name world.old.run }
+        requires { IsRun (opening_in world.old.run.lists) world.old.run.past }
         ensures goes_on { GoesOn world.old.run world.new.run [] }
         ensures own { KeepsTo (self.now.name ∷ []) world.old.run world.new.run }
         ensures others { CommitsAmong (self.now.name ∷ []) world.old.run world.new.run }
-        ensures told { IfOk result (λ done. done ≡ is_committed self.now.name world.new.run.past) }
         ensures ends { EndsAll world.old.run world.new.run }
         ensures means { IfOk result (λ done. record { world = world.new.run; done = done } ≡ commit_tried (acting self.now) world.old.run) }
     {
@@ -272,13 +252,10 @@ impl OpenAction {
 
     /// Commits it by two phases; false at the first participant that does not vote yes.
     fn commit_top<S: Stable>(&self, world: &mut World<S>) -> Result<bool, Fault>
-        requires run { IsRun (opening_in world.old.run.lists) world.old.run.past }
-        requires open { IsOpen self.now.name world.old.run }
+        requires { IsRun (opening_in world.old.run.lists) world.old.run.past }
         ensures goes_on { GoesOn world.old.run world.new.run [] }
         ensures own { KeepsTo (self.now.name ∷ []) world.old.run world.new.run }
         ensures others { CommitsAmong (self.now.name ∷ []) world.old.run world.new.run }
-        ensures told { IfOk result (λ done. done ≡ is_committed self.now.name world.new.run.past) }
-        ensures held { IfOk result (λ done. done ≡ false → IsHeld self.now.reached.participants self.now.name world.old.run world.new.run) }
         ensures ends { EndsAll world.old.run world.new.run }
         ensures means { IfOk result (λ done. record { world = world.new.run; done = done } ≡ two_phases (acting self.now) world.old.run) }
     {
@@ -299,8 +276,6 @@ impl OpenAction {
         ensures goes_on { GoesOn world.old.run world.new.run [] }
         ensures own { KeepsTo (self.now.name ∷ []) world.old.run world.new.run }
         ensures commits { CommitsNone world.old.run world.new.run }
-        ensures ended { OnOk result (EndsThese (self.now.name ∷ []) world.old.run world.new.run) }
-        ensures told { OnOk result (AreTold self.now.reached.homes self.now.name world.new.run) }
         ensures ends { EndsAll world.old.run world.new.run }
         ensures means { OnOk result (world.new.run ≡ aborted (acting self.now) world.old.run) }
     {
@@ -319,7 +294,6 @@ impl OpenAction {
         ensures goes_on { GoesOn world.old.run world.new.run [] }
         ensures own { KeepsTo arms.now world.old.run world.new.run }
         ensures commits { CommitsNone world.old.run world.new.run }
-        ensures ended { OnOk result (EndsThese arms.now world.old.run world.new.run) }
         ensures ends { EndsAll world.old.run world.new.run }
         ensures means { OnOk result (world.new.run ≡ arms_aborted self.now.home (reverse arms.now) world.old.run) }
     {
@@ -337,7 +311,6 @@ fn abort_at_home<S: Stable>(world: &mut World<S>, action: &Name, home: u32) -> R
     ensures goes_on { GoesOn world.old.run world.new.run [] }
     ensures own { KeepsTo (action.now ∷ []) world.old.run world.new.run }
     ensures commits { CommitsNone world.old.run world.new.run }
-    ensures ended { OnOk result (EndsThese (action.now ∷ []) world.old.run world.new.run) }
     ensures ends { EndsAll world.old.run world.new.run }
     ensures means { OnOk result (world.new.run ≡ after (Tell home action.now) (after (Abort action.now) world.old.run)) }
 {
@@ -356,7 +329,6 @@ fn tell<S: Stable>(
     ensures goes_on { GoesOn world.old.run world.new.run [] }
     ensures own { KeepsTo (action.now ∷ []) world.old.run world.new.run }
     ensures commits { CommitsNone world.old.run world.new.run }
-    ensures told { OnOk result (AreTold guardians.now action.now world.new.run) }
     ensures ends { EndsAll world.old.run world.new.run }
     ensures means { OnOk result (world.new.run ≡ once_told action.now guardians.now.keys world.old.run) }
 {
@@ -369,8 +341,7 @@ fn tell<S: Stable>(
 /// What came of a call that was answered so.
 fn what_came(answer: Answer) -> Called
     requires { (names : List Name) → answer ≡ Began names → length names ≡ 1 }
-    ensures names { called result ≡ names_begun answer }
-    ensures means { result ≡ called_by answer }
+    ensures { result ≡ called_by answer }
 {
     match answer {
         Answer::Began(names) => Called::Began(only(names)),
@@ -382,8 +353,7 @@ fn what_came(answer: Answer) -> Called
 /// The action that an answer began, of which there is one at most.
 fn begun_by(answer: Answer) -> Option<Name>
     requires { (names : List Name) → answer ≡ Began names → length names ≡ 1 }
-    ensures names { named_by result ≡ names_begun answer }
-    ensures means { result ≡ begun_by answer }
+    ensures { result ≡ begun_by answer }
 {
     match answer {
         Answer::Began(names) => Some(only(names)),
@@ -420,7 +390,6 @@ fn try_step<S: Stable>(world: &mut World<S>, step: Step) -> Result<bool, Fault>
     ensures commits { CommitsBy step world.old.run world.new.run }
     ensures after { OnOk result (IsAfter step world.old.run world.new.run) }
     ensures done { IfOk result (λ done. done ≡ is_made (answer_of (opening_in world.old.run.lists) step world.old.run.past)) }
-    ensures aborts { OnOk result ((a : Name) → step ≡ Abort a → IsTrue (is_begun a world.old.run.past) → IsTrue (is_ended a world.new.run.past)) }
     ensures ends { maker_in step ≡ None → EndsAll world.old.run world.new.run }
 {
     let answer = make(world, step)?;
@@ -442,8 +411,7 @@ fn wants_commit(flow: &Flow) -> bool
 
 /// Adds the guardians of a set to another.
 fn add_all(to: &mut BTreeSet<u32>, guardians: &BTreeSet<u32>) -> Result<(), AllocError>
-    ensures union { OnOk result (IsUnion to.old guardians.now to.new) }
-    ensures joined { OnOk result (to.new.keys ≡ joined to.old.keys guardians.now.keys) }
+    ensures { OnOk result (to.new.keys ≡ joined to.old.keys guardians.now.keys) }
 {
     for guardian in guardians {
         to.insert(*guardian)?;
@@ -470,7 +438,6 @@ fn make<S: Stable>(world: &mut World<S>, step: Step) -> Result<Answer, Fault>
     ensures after { IfOk result (λ answer. world.new.run ≡ world_after world.old.run step answer) }
     ensures err { OnErr result (world.new.run ≡ world.old.run) }
     ensures began { IfOk result (λ answer. HaveBegun (names_begun answer) world.old.run world.new.run) }
-    ensures aborts { OnOk result ((a : Name) → step ≡ Abort a → IsTrue (is_begun a world.old.run.past) → IsTrue (is_ended a world.new.run.past)) }
     ensures ends { maker_in step ≡ None → EndsAll world.old.run world.new.run }
 {
     world.step(&step)

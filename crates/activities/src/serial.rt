@@ -1,8 +1,7 @@
 ghost use Rattle.std.specs.Prelude.{◌≡◌, IfOk, IsTrue, OnErr, OnOk};
 ghost use Rattle.script_model.specs.Resolved.{IsResolved, is_resolved_client};
 ghost use Rattle.run_model.specs.Runs.{IsRun};
-ghost use Rattle.activities.specs.Continuing.{CommitsNone};
-ghost use Rattle.activities.specs.Ends.{AreRun, AreTried, ClientCut, ClientRan, TopMade, end_of};
+ghost use Rattle.activities.specs.Ends.{AreTried, ClientCut, end_of};
 ghost use Rattle.activities.specs.Serial.{after, asked, begun_by, client_ran, serial_run};
 ghost use Rattle.run_model.specs.declared.step.Step.TheVariants.{Top};
 ghost use Rattle.run_model.specs.Openings.{opening_in};
@@ -30,8 +29,7 @@ pub fn run_serial<S: Stable>(
     script: &Checked,
 ) -> Result<Vec<ClientEnd>, Fault>
     requires { IsResolved script.now }
-    ensures ok { IfOk result (λ ends. AreRun script.now.clients world.old.run world.new.run ends.items) }
-    ensures means { IfOk result (λ ends. record { world = world.new.run; ends = ends.items } ≡ serial_run script.now world.old.run) }
+    ensures ok { IfOk result (λ ends. record { world = world.new.run; ends = ends.items } ≡ serial_run script.now world.old.run) }
     ensures err { OnErr result (AreTried script.now.clients world.old.run world.new.run) }
 {
     // so that what happened before is known to be a run
@@ -61,9 +59,7 @@ fn run_client<S: Stable>(
     requires script { IsResolved script.now }
     requires client { IsTrue (is_resolved_client script.now client.now) }
     requires run { IsRun (opening_in world.old.run.lists) world.old.run.past }
-    ensures ok { IfOk result (λ end. ClientRan client.now.home world.old.run world.new.run end) }
-    ensures means { IfOk result (λ end. (world.new.run, end) ≡ client_ran script.now.handlers client.now world.old.run) }
-    ensures commits { CommitsNone world.old.run world.new.run }
+    ensures ok { IfOk result (λ end. (world.new.run, end) ≡ client_ran script.now.handlers client.now world.old.run) }
     ensures err { OnErr result (ClientCut client.now.home world.old.run world.new.run) }
 {
     let reached = Reached::new(alloc, client.home)?;
@@ -80,7 +76,6 @@ fn run_client<S: Stable>(
 /// Begins a top action at a guardian; none where that is refused.
 fn begin_top<S: Stable>(world: &mut World<S>, home: u32) -> Result<Option<Name>, Fault>
     requires { IsRun (opening_in world.old.run.lists) world.old.run.past }
-    ensures made { IfOk result (λ found. TopMade home world.old.run world.new.run found) }
     ensures after { OnOk result (world.new.run ≡ after (Top home) world.old.run) }
     ensures begun { IfOk result (λ found. found ≡ begun_by (asked (Top home) world.old.run)) }
     ensures err { OnErr result (world.new.run ≡ world.old.run) }

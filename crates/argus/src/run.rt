@@ -3,10 +3,12 @@
 ghost use Rattle.std.specs.Prelude.{◌≡◌, length};
 
 use crate::stores::{open_stores, stores_in};
-use argus_engine::{Ended, Fault, check_script, explain_text, read_script, steps as answer_steps};
+use argus_engine::{
+    Ended, Fault, check_script, explain_text, finish, read_script, steps as answer_steps,
+};
 use command_line::request::{Check, Run, Steps};
 use run_model::{Setup, SetupFault};
-use script_engine::{run_script, run_stored};
+use script_engine::{run_file, run_stored};
 use stable_store::Stable;
 use stable_world::{Refused, World};
 use std::process::ExitCode;
@@ -73,34 +75,39 @@ fn answer<S: Stable>(
 /// Writes whether a file is a script, or its first fault, to standard output. The status is 1 where it is none.
 pub fn check(rt: &HostRuntime, given: &Check<'_>) -> Result<ExitCode, Fault> {
     let bytes = read_file(rt, given.script)?;
-    match check_script(rt.alloc(), bytes.as_slice(), &mut io::writer(rt))? {
-        Ended::Stopped => Ok(ExitCode::FAILURE),
-        Ended::Done => Ok(ExitCode::SUCCESS),
-    }
+    let ended = check_script(rt.alloc(), bytes.as_slice(), &mut io::writer(rt))?;
+    Ok(status_of(ended))
 }
 
 /// Runs the script in a file and writes how its clients ended, and the bases of its objects, to standard output. The
 /// status is 1 where the file is no script, or where a store is not its own.
 pub fn run(rt: &HostRuntime, given: &Run<'_>) -> Result<ExitCode, Fault> {
     let bytes = read_file(rt, given.script)?;
-    let Some(script) = read_script(rt.alloc(), bytes.as_slice(), &mut io::writer(rt))? else {
-        return Ok(ExitCode::FAILURE);
+    let ended = match given.store {
+        None => run_file(rt.alloc(), bytes.as_slice(), &mut io::writer(rt))?,
+        Some(folder) => run_over(rt, bytes.as_slice(), folder)?,
     };
-    let Some(folder) = given.store else {
-        run_script(rt.alloc(), &script, &mut io::writer(rt))?;
-        return Ok(ExitCode::SUCCESS);
+    Ok(status_of(ended))
+}
+
+/// The same over the stores in a folder.
+fn run_over(rt: &HostRuntime, bytes: &[u8], folder: &str) -> Result<Ended, Fault> {
+    let writer = &mut io::writer(rt);
+    let Some(script) = read_script(rt.alloc(), bytes, writer)? else {
+        return Ok(Ended::Stopped);
     };
     let Some(mut stores) = open_stores(rt, folder, &script)? else {
-        return refuse(rt, "error store");
+        finish(writer, "error store\n")?;
+        return Ok(Ended::Stopped);
     };
-    match run_stored(
-        rt.alloc(),
-        &script,
-        stores.as_mut_slice(),
-        &mut io::writer(rt),
-    )? {
-        Ended::Stopped => Ok(ExitCode::FAILURE),
-        Ended::Done => Ok(ExitCode::SUCCESS),
+    run_stored(rt.alloc(), &script, stores.as_mut_slice(), writer)
+}
+
+/// The exit status of a command that ended so.
+fn status_of(ended: Ended) -> ExitCode {
+    match ended {
+        Ended::Done => ExitCode::SUCCESS,
+        Ended::Stopped => ExitCode::FAILURE,
     }
 }
 

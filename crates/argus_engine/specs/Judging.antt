@@ -49,6 +49,10 @@ IsJudged bytes Stopped line = (why : FaultKind) × (place : List ℕ) × HasFirs
 abbrev pub BeginsJudgement : List ℕ → List ℕ → Type 0
 BeginsJudgement bytes written = (written ≡ []) ⊎ ((ended : Ended) × (line : List ℕ) × IsJudged bytes ended line × Begins written line)
 
+-- nothing was said, or a beginning of what is to be said of the first fault
+abbrev pub BeginsFault : List ℕ → List ℕ → Type 0
+BeginsFault bytes written = (written ≡ []) ⊎ ((line : List ℕ) × IsJudged bytes Stopped line × Begins written line)
+
 -- what was read is the script, and nothing was said; or the first fault was said
 abbrev pub IsRead : List ℕ → Option (List ℕ) → Option (List ℕ) → Option Checked → Type 0
 IsRead bytes before after (Some checked) = IsScriptIn bytes checked × Keeps before after

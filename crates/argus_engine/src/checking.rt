@@ -2,7 +2,7 @@
 
 ghost use Rattle.std.specs.Prelude.{◌≡◌, ℕ, List, IfOk, IfErr, OnErr, string_bytes};
 ghost use Rattle.argus_engine.specs.declared.engine.Ended.TheVariants.{Stopped};
-ghost use Rattle.argus_engine.specs.Judging.{BeginsJudgement, IsFaultOf, IsJudged, IsRead, IsScriptIn};
+ghost use Rattle.argus_engine.specs.Judging.{BeginsFault, BeginsJudgement, IsFaultOf, IsJudged, IsRead, IsScriptIn};
 ghost use Rattle.argus_engine.specs.Serving.{IsOfWriter, Writes};
 
 use crate::engine::{Ended, Fault};
@@ -34,7 +34,7 @@ pub fn read_script<W: Write>(
     writer: &mut W,
 ) -> Result<Option<Checked>, Fault>
     ensures read { IfOk result (IsRead bytes.now (W.contents writer.old) (W.contents writer.new)) }
-    ensures begun { OnErr result (Writes (W.contents writer.old) (W.contents writer.new) (BeginsJudgement bytes.now)) }
+    ensures begun { OnErr result (Writes (W.contents writer.old) (W.contents writer.new) (BeginsFault bytes.now)) }
     ensures fault { IfErr result IsOfWriter }
 {
     match script_in(alloc, bytes) {

@@ -1,6 +1,6 @@
 //! What the rows are about, and which call each of them makes.
 use crate::scripts::{
-    check_text, keep_script, number_fault, print_place, remake_steps, run_kept_script,
+    check_text, keep_script, number_fault, print_place, remake_steps, run_kept_script, run_text,
 };
 use crate::serial::{count_events, print_base, print_event, probe_locks, run_clients};
 use crate::stepping::{
@@ -82,6 +82,7 @@ fn answer_of_script(
         "check" => check_text(examples, row, answer),
         "script" => keep_script(examples, row, answer),
         "run" => run_kept_script(examples, row, answer),
+        "run_text" => run_text(examples.alloc, row, answer),
         "remake" => remake_steps(examples, answer),
         "place" => print_place(examples.alloc, row.given, answer),
         "fault_number" => number_fault(examples.alloc, row.given, answer),

@@ -12,7 +12,7 @@ use argus_engine::{Ended, Fault, check_script, read_script, steps};
 use rows::{Row, RowFault};
 use run_model::History;
 use script::{Checked, ScriptFault, check, read};
-use script_engine::{run_script, setup_of};
+use script_engine::{run_file, setup_of};
 use script_model::{FaultKind, Pointer};
 use stable_world::World;
 use std::alloc::{AllocError, Global};
@@ -101,13 +101,17 @@ pub(crate) fn run_kept_script(
     row: &Row<'_>,
     answer: &mut String,
 ) -> Result<(), RowFault> {
-    let alloc = examples.alloc;
-    let mut writer = Writer::of_word(alloc, row.given)?;
-    let script = script_of(alloc, examples.script.as_str())?;
-    let ended = match run_script(alloc, &script, &mut writer) {
-        Ok(()) => Ok(Ended::Done),
-        Err(fault) => Err(fault),
-    };
+    let mut writer = Writer::of_word(examples.alloc, row.given)?;
+    let ended = run_file(examples.alloc, examples.script.as_bytes(), &mut writer);
+    writer.tell(examples.alloc, ended, row.answer, answer)
+}
+
+/// `run_text WRITER TEXT`: what is told of a run of the text, which may be no script.
+pub(crate) fn run_text(alloc: Global, row: &Row<'_>, answer: &mut String) -> Result<(), RowFault> {
+    let mut words = row.words();
+    let mut writer = Writer::of_word(alloc, words.word()?)?;
+    let text = unescaped_text(alloc, words.rest())?;
+    let ended = run_file(alloc, text.as_bytes(), &mut writer);
     writer.tell(alloc, ended, row.answer, answer)
 }
 

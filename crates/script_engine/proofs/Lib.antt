@@ -4,3 +4,4 @@ pub mod Saving
 pub mod Limits
 pub mod Runs
 pub mod Texts
+pub mod Bytes

@@ -8,24 +8,21 @@ use Rattle.argus_engine.specs.declared.engine.Fault.TheVariants.{Memory, Output,
 use Rattle.stable_store.specs.Stored.{Stored}
 use Rattle.values.specs.declared.content.Content.{Content}
 use Rattle.script_model.specs.declared.checked.Checked.{Checked}
-use Rattle.run_model.specs.Openings.{Setup}
-use Rattle.run_model.specs.Runs.{World}
+use Rattle.run_model.specs.Openings.{OpeningLists, Setup}
+use Rattle.run_model.specs.Runs.{World, new_world}
 use Rattle.activities.specs.declared.client.ClientEnd.{ClientEnd}
 use Rattle.argus_engine.specs.declared.engine.Ended.{Ended}
 use Rattle.argus_engine.specs.declared.engine.Ended.TheVariants.{Done, Stopped}
 use Rattle.argus_engine.specs.Serving.{Writes, TakesFront}
-use Rattle.script_engine.specs.Running.{BeginsRun, TellsRun, WasRun, bases_of_first, run_text}
-use Rattle.script_engine.specs.Storing.{AreOpenedBy, BeginsStoredRun, IsOfStore, IsOpened, TellsStoredRun, refusal_line, saved}
+use Rattle.activities.specs.Serial.{serial_run}
+use Rattle.activities.proofs.Runs.{serial_runs_are_run}
+use Rattle.script_engine.specs.Running.{BeginsRun, bases_of_first, bases_of_run, run_text, text_of_run}
+use Rattle.script_engine.specs.Storing.{AreOpenedBy, ArePartlySaved, BeginsStoredRun, IsOfStore, IsOpened, TellsStoredRun, refusal_line, saved}
 use Rattle.script_engine.proofs.Opening.{none_in, some_in}
 
-pub front_told : (before after : Option (List ℕ)) (script : Checked) (setup : Setup) (text : List ℕ) → TellsRun script setup text
+pub front_told : (before after : Option (List ℕ)) (script : Checked) (setup : Setup) (text : List ℕ) → text ≡ text_of_run script setup
     → TakesFront before after text → Writes before after (BeginsRun script setup)
-front_told before after script setup text told took =
-    (take took.0 text, took.2, inr (text, told, (drop took.0 text, sym (take-append-drop took.0 text))))
-
-pub whole_told : (before after : Option (List ℕ)) (script : Checked) (setup : Setup) (text : List ℕ) → TellsRun script setup text
-    → Appends before after text → Writes before after (BeginsRun script setup)
-whole_told before after script setup text told wrote = (text, wrote, inr (text, told, ([], sym (append-nil text))))
+front_told before after script setup text is took = (take took.0 text, took.2, (drop took.0 text, sym is ∙ sym (take-append-drop took.0 text)))
 
 module _ (before after : Option (List ℕ)) (script : Checked) (found : List (Option Stored)) (ended : Ended)
     (bases : List (List (ℕ × Content))) (text : List ℕ) (told : TellsStoredRun script found ended bases text) where
@@ -41,10 +38,11 @@ count_of_first w zero = refl
 count_of_first w (suc n) =
     let next : n + 1 ≡ suc n = omega arith in length_push (bases_of_first w n) _ ∙ ap (λ m. m + 1) (count_of_first w n) ∙ next
 
-pub count_left : (script : Checked) (setup : Setup) (ends : List ClientEnd) (bases : List (List (ℕ × Content)))
-    → WasRun script setup ends bases → length bases ≡ length setup
-count_left script setup ends bases run =
-    ap length run.left ∙ count_of_first run.world (length run.world.lists.setup) ∙ ap (λ l. length l.setup) run.are_run.goes_on.same_opening
+pub count_left : (script : Checked) (setup : Setup) → length (bases_of_run script setup) ≡ length setup
+count_left script setup =
+    let ran = serial_run script (new_world setup) in
+    count_of_first ran.world (length ran.world.lists.setup)
+    ∙ ap (λ (l : OpeningLists). length l.setup) (serial_runs_are_run script (new_world setup) tt).goes_on.same_opening
 
 -- ---- over stores
 
@@ -56,23 +54,34 @@ module _ (script : Checked) (found : List (Option Stored)) where
 
   pub done_told : (o : Option Setup) (setup : Setup) (ends given_ends : List ClientEnd) (bases given_bases : List (BTreeMap ℕ Content)) (text : List ℕ)
       → o ≡ Some setup → IsOpened found script.guardians o
-      → WasRun script setup ends (map (λ b. b.entries) bases) → text ≡ run_text given_ends (map (λ b. b.entries) given_bases)
-      → given_ends ≡ ends → given_bases ≡ bases → TellsStoredRun script found Done (map (λ b. b.entries) bases) text
-  done_told o setup ends given_ends bases given_bases text some match run says same_ends same_bases = (
+      → ends ≡ (serial_run script (new_world setup)).ends → map (λ b. b.entries) bases ≡ bases_of_run script setup
+      → text ≡ run_text given_ends (map (λ b. b.entries) given_bases) → given_ends ≡ ends → given_bases ≡ bases
+      → TellsStoredRun script found Done (map (λ b. b.entries) bases) text
+  done_told o setup ends given_ends bases given_bases text some match ended left says same_ends same_bases = (
     setup,
     some_in _ (AreOpenedBy found script.guardians) o setup some match,
-    ends,
-    run,
-    says ∙ (λ k. run_text (same_ends k) (map (λ (b : BTreeMap ℕ Content). b.entries) (same_bases k))),
+    left,
+    says ∙ (λ k. run_text (same_ends k) (map (λ (b : BTreeMap ℕ Content). b.entries) (same_bases k))) ∙ (λ k. run_text (ended k) (left k)),
   )
 
-  pub count_run : (o : Option Setup) (setup : Setup) (ends : List ClientEnd) (bases given_bases : List (BTreeMap ℕ Content)) (count : ℕ)
-      → o ≡ Some setup → IsOpened found script.guardians o
-      → WasRun script setup ends (map (λ b. b.entries) bases) → given_bases ≡ bases → count ≡ length script.guardians → count ≡ length given_bases
-  count_run o setup ends bases given_bases count some match run same counted =
-      counted ∙ sym (some_in _ (AreOpenedBy found script.guardians) o setup some match).count
-      ∙ sym (count_left script setup ends (map (λ (b : BTreeMap ℕ Content). b.entries) bases) run)
+  pub count_run : (o : Option Setup) (setup : Setup) (bases given_bases : List (BTreeMap ℕ Content)) (count : ℕ)
+      → o ≡ Some setup → IsOpened found script.guardians o → map (λ b. b.entries) bases ≡ bases_of_run script setup
+      → given_bases ≡ bases → count ≡ length script.guardians → count ≡ length given_bases
+  count_run o setup bases given_bases count some match left same counted =
+      counted ∙ sym (some_in _ (AreOpenedBy found script.guardians) o setup some match).count ∙ sym (ap length left ∙ count_left script setup)
       ∙ length-map bases (λ (b : BTreeMap ℕ Content). b.entries) ∙ sym (ap length same)
+
+  -- the first so many bases were saved
+  pub partly_saved : (o : Option Setup) (setup : Setup) (bases given_bases : List (BTreeMap ℕ Content)) (old new : List Stored)
+      → o ≡ Some setup → IsOpened found script.guardians o → map (λ b. b.entries) bases ≡ bases_of_run script setup → given_bases ≡ bases
+      → (count : ℕ) × (new ≡ saved (take count (map (λ b. b.entries) given_bases)) old) → ArePartlySaved script found old new
+  partly_saved o setup bases given_bases old new some match left same counted = inr (
+    map (λ (b : BTreeMap ℕ Content). b.entries) bases,
+    text_of_run script setup,
+    (setup, some_in _ (AreOpenedBy found script.guardians) o setup some match, left, refl),
+    counted.0,
+    counted.1 ∙ ap (λ bs. saved (take counted.0 (map (λ (b : BTreeMap ℕ Content). b.entries) bs)) old) same,
+  )
 
 -- all bases are saved
 pub all_saved : (old : List Stored) (bases given_bases : List (BTreeMap ℕ Content)) (new : List Stored) → given_bases ≡ bases

@@ -1,5 +1,5 @@
 -- What is said of a script that is run: how its clients ended, and then the bases of its objects.
-use Rattle.std.specs.Prelude.{ℕ, zero, suc, ◌≡◌, ◌⊎◌, List, [], ◌∷◌, ◌++◌, length, Some, None, codes, decimal}
+use Rattle.std.specs.Prelude.{ℕ, zero, suc, List, [], ◌∷◌, ◌++◌, length, Some, None, codes, decimal}
 use Rattle.serde_json.specs.Data.{Data}
 use Rattle.values.specs.declared.content.Content.{Content}
 use Rattle.values.specs.Values.{value_text}
@@ -12,7 +12,6 @@ use Rattle.run_model.specs.Transcripts.{line_feed}
 use Rattle.run_model.specs.Versions.{base_of}
 use Rattle.activities.specs.declared.client.ClientEnd.{ClientEnd}
 use Rattle.activities.specs.declared.client.ClientEnd.TheVariants.{Aborted, Committed}
-use Rattle.activities.specs.Ends.{AreRun}
 use Rattle.activities.specs.Serial.{serial_run}
 use Rattle.argus_engine.specs.Serving.{Begins}
 
@@ -69,30 +68,14 @@ run_text ends bases = numbered end_line 1 ends ++ numbered base_lines 1 bases
 
 -- ---- runs
 
--- the script's clients were run in a new world of this setup: so they ended, and these bases they left
-pub record WasRun (script : Checked) (setup : Setup) (ends : List ClientEnd) (bases : List (List (ℕ × Content))) : Type 0 where
-  pub world : World
-  -- all of it is what the serial run of the script comes to
-  pub means : record { world = world; ends = ends } ≡ serial_run script (new_world setup)
-  -- and so the ends are told truly, and nothing is left open
-  pub are_run : AreRun script.clients (new_world setup) world ends
-  pub left : bases ≡ all_bases world
+-- the bases that the serial run of a script leaves of a new world of this setup
+abbrev pub bases_of_run : Checked → Setup → List (List (ℕ × Content))
+bases_of_run script setup = all_bases (serial_run script (new_world setup)).world
 
--- the text says how
-pub record TellsRun (script : Checked) (setup : Setup) (text : List ℕ) : Type 0 where
-  pub ends : List ClientEnd
-  pub bases : List (List (ℕ × Content))
-  pub was_run : WasRun script setup ends bases
-  pub says : text ≡ run_text ends bases
-
--- what is said of a script that is run in a new world of this setup
+-- what is said of it: how the clients ended, and these bases
 abbrev pub text_of_run : Checked → Setup → List ℕ
-text_of_run script setup = let ran = serial_run script (new_world setup) in run_text ran.ends (all_bases ran.world)
+text_of_run script setup = run_text (serial_run script (new_world setup)).ends (bases_of_run script setup)
 
--- It is determined by the script and the setup.
-abbrev pub OneTextOfRun : Type 0
-OneTextOfRun = (script : Checked) (setup : Setup) (text : List ℕ) → TellsRun script setup text → text ≡ text_of_run script setup
-
--- nothing was said, or a beginning of that
+-- a beginning of that; it may be nothing
 abbrev pub BeginsRun : Checked → Setup → List ℕ → Type 0
-BeginsRun script setup written = (written ≡ []) ⊎ ((text : List ℕ) × TellsRun script setup text × Begins written text)
+BeginsRun script setup written = Begins written (text_of_run script setup)

@@ -11,13 +11,12 @@ use Rattle.stable_store.specs.Calls.{View, found}
 use Rattle.script_model.specs.declared.checked.Checked.{Checked}
 use Rattle.run_model.specs.Openings.{Setup}
 use Rattle.run_model.specs.Transcripts.{line_feed}
-use Rattle.activities.specs.declared.client.ClientEnd.{ClientEnd}
 use Rattle.argus_engine.specs.declared.engine.Ended.{Ended}
 use Rattle.argus_engine.specs.declared.engine.Ended.TheVariants.{Done, Stopped}
 use Rattle.argus_engine.specs.declared.engine.Fault.{Fault}
 use Rattle.argus_engine.specs.declared.engine.Fault.TheVariants.{Memory, Store}
 use Rattle.argus_engine.specs.Serving.{Begins}
-use Rattle.script_engine.specs.Running.{WasRun, run_text}
+use Rattle.script_engine.specs.Running.{bases_of_run, text_of_run}
 
 -- a store by what is seen of it
 module _ {S : Type 0} (seen : S → View) where
@@ -79,11 +78,10 @@ saved (base ∷ bases) (s ∷ stores) = after_save base s ∷ saved bases stores
 abbrev pub refusal_line : List ℕ
 refusal_line = codes "error store" ++ line_feed ∷ []
 
--- What is to be said, and the bases that are to be saved: how the script was run in a world that the stores opened; or that they open none.
+-- What is to be said, and the bases that are to be saved: those of the script's run in a new world of what the stores opened; or that they open none.
 abbrev pub TellsStoredRun : Checked → List (Option Stored) → Ended → List (List (ℕ × Content)) → List ℕ → Type 0
 TellsStoredRun script found Done bases text =
-    (setup : Setup) × AreOpenedBy found script.guardians setup
-    × (ends : List ClientEnd) × WasRun script setup ends bases × (text ≡ run_text ends bases)
+    (setup : Setup) × AreOpenedBy found script.guardians setup × (bases ≡ bases_of_run script setup) × (text ≡ text_of_run script setup)
 TellsStoredRun script found Stopped bases text =
     ((setup : Setup) → AreOpenedBy found script.guardians setup → ⊥) × (text ≡ refusal_line) × (bases ≡ [])
 
@@ -112,7 +110,7 @@ ArePartlySaved script found old new =
 abbrev pub IsOfStore : Fault → Type 0
 IsOfStore fault = (fault ≡ Memory) ⊎ (fault ≡ Store)
 
--- What is said of a run over stores, and the bases that are saved, are determined by the script and by what was found at the stores.
+-- What is said of a run over stores, how it ends, and the bases that are saved, are determined by the script and by what was found at the stores.
 abbrev pub OneStoredRun : Type 0
-OneStoredRun = (script : Checked) (found : List (Option Stored)) (bases more : List (List (ℕ × Content))) (text other : List ℕ)
-    → TellsStoredRun script found Done bases text → TellsStoredRun script found Done more other → (bases ≡ more) × (text ≡ other)
+OneStoredRun = (script : Checked) (found : List (Option Stored)) (ended other : Ended) (bases more : List (List (ℕ × Content))) (text said : List ℕ)
+    → TellsStoredRun script found ended bases text → TellsStoredRun script found other more said → (ended ≡ other) × (bases ≡ more) × (text ≡ said)

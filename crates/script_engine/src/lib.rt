@@ -2,10 +2,12 @@
 //! ended and which bases they left.
 #![tactic(auto)]
 
+mod files;
 mod laws;
 mod running;
 mod storing;
 
-pub use laws::{one_stored_run, one_text_of_run};
+pub use files::run_file;
+pub use laws::{one_file, one_script, one_stored_run};
 pub use running::{run_script, setup_of};
 pub use storing::{can_open, run_stored};

@@ -4,7 +4,10 @@ ghost use Rattle.std.specs.Prelude.{◌≡◌, ◌≤◌, ◌<◌, ◌++◌, ◌
 ghost use Rattle.script_model.specs.Resolved.{IsResolved};
 ghost use Rattle.script_laws.specs.Laws.{HasFewObjects};
 ghost use Rattle.limits.specs.Limits.{max_guardians};
-ghost use Rattle.script_engine.specs.Running.{BeginsRun, IsFit, TellsRun, WasRun, all_bases, base_lines, bases_at, end_line, end_text, run_text};
+ghost use Rattle.std.specs.Io.KnownBytes.{Appends};
+ghost use Rattle.run_model.specs.Runs.{new_world};
+ghost use Rattle.activities.specs.Serial.{serial_run};
+ghost use Rattle.script_engine.specs.Running.{BeginsRun, IsFit, all_bases, base_lines, bases_at, bases_of_run, end_line, end_text, run_text, text_of_run};
 ghost use Rattle.argus_engine.specs.Serving.{IsOfWriter, Writes};
 
 use activities::{ClientEnd, run_serial};
@@ -30,7 +33,7 @@ pub(crate) struct Outcome {
 /// `1/1 {"record":{"balance":40}}`. After a fault of memory or of the writer a beginning of that was written.
 pub fn run_script<W: Write>(alloc: Global, script: &Checked, writer: &mut W) -> Result<(), Fault>
     requires { IsFit script.now }
-    ensures ok { OnOk result (Writes (W.contents writer.old) (W.contents writer.new) (TellsRun script.now script.now.guardians)) }
+    ensures ok { OnOk result (Appends (W.contents writer.old) (W.contents writer.new) (text_of_run script.now script.now.guardians)) }
     // also after a fault
     ensures begun { Writes (W.contents writer.old) (W.contents writer.new) (BeginsRun script.now script.now.guardians) }
     ensures fault { IfErr result IsOfWriter }
@@ -83,7 +86,8 @@ pub(crate) fn run_clients(
     script: &Checked,
 ) -> Result<Outcome, AllocError>
     requires { IsResolved script.now }
-    ensures { IfOk result (λ it. WasRun script.now setup it.ends.items (map (λ base. base.entries) it.bases.items)) }
+    ensures ends { IfOk result (λ it. it.ends.items ≡ (serial_run script.now (new_world setup)).ends) }
+    ensures bases { IfOk result (λ it. map (λ base. base.entries) it.bases.items ≡ bases_of_run script.now setup) }
 {
     let mut world = World::in_memory(alloc, setup)?;
     let Ok(ends) = run_serial(alloc, &mut world, script) else {

@@ -1,13 +1,12 @@
-use Rattle.std.proofs.Common.{ap, arith, length, refl, reverse, subst, sym, ◌∙◌, ◌≡◌}
+use Rattle.std.proofs.Common.{ap, arith, length, refl, reverse, sym, ◌∙◌, ◌≡◌}
 use Rattle.std.proofs.lemmas.List.{length-map, length-reverse, take_all}
 use Rattle.run_model.specs.declared.step.Step.TheVariants.{Arms}
 use Rattle.activities.specs.Bodies.{kind_of, kinds}
-use Rattle.activities.specs.Continuing.{AreDistinct}
 use Rattle.activities.specs.Serial.{asked, waiting_by}
 use Rattle.activities.proofs.Waiting.{none_waiting, step_named}
 use Rattle.activities.proofs.Going.{step_commits_by, step_goes}
 use Rattle.activities.proofs.OwnSteps.{keeps_named, step_keeps_about}
-use Rattle.activities.proofs.ArmNames.{arms_begin_each, arms_begun, arms_distinct, arms_refused, together}
+use Rattle.activities.proofs.ArmNames.{arms_begin_each, arms_begun, together}
 use Rattle.run_model.specs.Openings.{opening_in}
 use Rattle.activities.proofs.arms.begin_arms.Goals as goal
 
@@ -44,12 +43,6 @@ returns-in-Began-clause-began g c =
     c.reverse.new.self.items c.requires c.in_ok-names.ensures.answer c.in_ok-names.ensures.after c.in-Began.is
     (c.reverse.ensures.items ∙ ap reverse c.into_vec-names.ensures)
 
-pub returns-in-Began-clause-distinct : goal.returns-in-Began-clause-distinct
-returns-in-Began-clause-distinct g c =
-    subst AreDistinct (sym (c.reverse.ensures.items ∙ ap reverse c.into_vec-names.ensures))
-    (arms_distinct (opening_in c.args.world.now.run.lists) c.in_ok-copy.field-0 c.loop-arm.kinds c.args.world.now.run.past c.in-Began.names c.requires
-    (sym c.in-Began.is ∙ c.in_ok-names.ensures.answer))
-
 pub returns : goal.returns
 returns g c = record {
   goes_on =
@@ -68,14 +61,9 @@ returns g c = record {
       c.in_ok-copy.ensures.ok.1 (c.loop-arm.invariant ∙ ap kinds (take_all c.loop-arm.arm-index c.args.arms.now (omega arith)));
   each = tt;
   began = tt;
-  distinct = tt;
   waiting =
       none_waiting c.in_ok-names.field-0 (λ names. c.in_default.not-Began names)
       ∙ ap waiting_by (c.in_ok-names.ensures.answer
       ∙ ap (λ s. asked s c.args.world.now.run) (step_named c.in_ok-copy.field-0 c.args.action.now.name c.loop-arm.kinds (kinds c.args.arms.now)
       c.in_ok-copy.ensures.ok.1 (c.loop-arm.invariant ∙ ap kinds (take_all c.loop-arm.arm-index c.args.arms.now (omega arith)))));
-  refused = λ e.
-      c.in_ok-names.ensures.after
-      ∙ arms_refused c.args.world.now.run c.in_ok-copy.field-0 c.loop-arm.kinds c.in_ok-names.field-0 c.in_ok-names.ensures.answer
-      (λ names. c.in_default.not-Began names);
 }

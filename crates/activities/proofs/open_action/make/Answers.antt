@@ -1,6 +1,6 @@
 use Rattle.activities.proofs.Going.{step_commits_by, step_goes}
 use Rattle.activities.proofs.OwnSteps.{step_keeps_about}
-use Rattle.activities.proofs.Steps.{abort_result_ends, result_begins, step_ends}
+use Rattle.activities.proofs.Steps.{result_begins, step_ends}
 use Rattle.activities.proofs.open_action.make.Goals as goal
 
 pub returns-clause-goes_on : goal.returns-clause-goes_on
@@ -20,10 +20,6 @@ pub returns-clause-ends : goal.returns-clause-ends
 returns-clause-ends g c =
     step_ends c.args.world.now.run c.step.new.self.run c.args.step c.step.result c.requires.step c.step.ensures.answer c.step.ensures.after
     c.step.ensures.err
-
-pub returns-clause-aborts : goal.returns-clause-aborts
-returns-clause-aborts g c =
-    abort_result_ends c.args.world.now.run c.step.new.self.run c.args.step c.step.result c.step.ensures.answer c.step.ensures.after
 
 pub returns-clause-own : goal.returns-clause-own
 returns-clause-own g c =

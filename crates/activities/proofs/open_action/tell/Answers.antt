@@ -1,13 +1,11 @@
-use Rattle.std.proofs.Common.{[], ◌∷◌, inr, refl, subst, ap, ◌∙◌}
+use Rattle.std.proofs.Common.{[], ◌∷◌, refl, subst, ap}
 use Rattle.std.proofs.lemmas.Map.Iter.{rest_all, rest_more}
 use Rattle.std.specs.Map.Iter.{deref}
 use Rattle.run_model.specs.declared.step.Step.TheVariants.{Tell}
 use Rattle.activities.specs.Continuing.{IsAfter}
-use Rattle.activities.specs.Reaching.{has}
 use Rattle.activities.proofs.Going.{commits_nowhere, commits_through, ends_nowhere, ends_through, goes_nowhere, goes_through}
 use Rattle.activities.specs.Serial.{once_told}
 use Rattle.activities.proofs.Committing.{tell_done, tell_goes}
-use Rattle.activities.proofs.Telling.{all_told, listed, tell_next}
 use Rattle.activities.proofs.OwnSteps.{keeps_named, keeps_nowhere, then_keeps}
 use Rattle.activities.proofs.open_action.tell.Goals as goal
 
@@ -17,14 +15,8 @@ loop-guardian-init g c = record {
   own = keeps_nowhere (c.args.action.now ∷ []) c.args.world.now.run;
   commits = commits_nowhere c.args.world.now.run;
   ends = ends_nowhere c.args.world.now.run;
-  told = λ g h. inr (ap (λ gs. listed gs g) c.into_iter-guardian-iterator.ensures.into_iter_gives.0 ∙ h);
   means = ap (λ gs. once_told c.args.action.now gs c.args.world.now.run) c.into_iter-guardian-iterator.ensures.into_iter_gives.0;
 }
-
-pub returns-clause-told : goal.returns-clause-told
-returns-clause-told g c =
-    all_told c.loop-guardian.world.run (has c.args.guardians.now) _ c.args.action.now
-    (rest_all deref _ _ _ c.in-None.is c.next.ensures.steps) c.loop-guardian.invariant.told
 
 pub returns-in_err-try_step-clause-goes_on : goal.returns-in_err-try_step-clause-goes_on
 returns-in_err-try_step-clause-goes_on g c =
@@ -54,12 +46,6 @@ loop-guardian-preserved g c = record {
   ends =
       ends_through c.args.world.now.run c.loop-guardian.world.run c.try_step.new.world.run [] c.try_step.ensures.goes_on c.loop-guardian.invariant.ends
       (c.try_step.ensures.ends refl);
-  told =
-      tell_next c.loop-guardian.world.run c.try_step.new.world.run (has c.args.guardians.now) c.in-Some.guardian.now _ _ c.args.action.now
-      (rest_more deref _ _ _ c.in-Some.guardian c.in-Some.is c.next.ensures.steps)
-      (subst (λ a. IsAfter (Tell c.in-Some.guardian.now a) c.loop-guardian.world.run c.try_step.new.world.run) c.in_ok-copy.ensures.ok.1
-      c.in_ok-try_step.ensures.after)
-      c.loop-guardian.invariant.told;
   means =
       tell_goes c.args.action.now c.in-Some.guardian.now _ _ c.args.guardians.now.keys c.args.world.now.run c.loop-guardian.world.run c.try_step.new.world.run
       (rest_more deref _ _ _ c.in-Some.guardian c.in-Some.is c.next.ensures.steps)

@@ -1,10 +1,7 @@
-use Rattle.std.proofs.Common.{[], ◌∷◌, IsTrue, ℕ, ◌⊎◌, ◌≡◌}
-use Rattle.run_model.specs.declared.step.Step.TheVariants.{Tell}
+use Rattle.std.proofs.Common.{[], ◌∷◌, ◌≡◌}
 use Rattle.activities.specs.Continuing.{CommitsNone, EndsAll, GoesOn}
-use Rattle.activities.specs.Reaching.{has, would_refuse}
 use Rattle.activities.specs.OwnSteps.{KeepsTo}
 use Rattle.activities.specs.Serial.{once_told}
-use Rattle.activities.proofs.Telling.{listed}
 use Rattle.activities.proofs.open_action.tell.Given as goal
 
 abbrev pub invariant-loop-guardian : goal.invariant-loop-guardian
@@ -13,7 +10,5 @@ invariant-loop-guardian g l = record {
   own : KeepsTo (l.action ∷ []) l.fn.world.run l.world.run;
   commits : CommitsNone l.fn.world.run l.world.run;
   ends : EndsAll l.fn.world.run l.world.run;
-  -- each was told, or is yet to be
-  told : (g : ℕ) → IsTrue (has l.guardians g) → IsTrue (would_refuse l.world.run (Tell g l.action)) ⊎ IsTrue (listed l.guardian-iterator g);
   means : once_told l.action l.guardian-iterator l.world.run ≡ once_told l.action l.guardians.keys l.fn.world.run;
 }

@@ -4,17 +4,15 @@ use Rattle.activities.specs.Acting.{ComesSo, acting, doing, done}
 use Rattle.activities.specs.Ends.{end_of}
 use Rattle.activities.specs.Serial.{Done, begun_at, body_done, budget, run}
 use Rattle.activities.proofs.Meaning.{acting_begun, of_script, run_named, top_lacks, top_runs}
-use Rattle.activities.proofs.Clients.{body_given, client_ran, not_ran, top_commits, top_is_open, top_named}
+use Rattle.activities.proofs.Clients.{body_given, top_named}
 use Rattle.activities.proofs.Trying.{cut_after, on_err}
 use Rattle.activities.proofs.serial.run_client.Goals as goal
 
 pub returns-in_default : goal.returns-in_default
 returns-in_default g c = record {
-  ok = not_ran c.args.client.now.home c.args.world.now.run c.begin_top.new.world.run c.in_ok-name.field-0 c.in_ok-name.ensures.made c.in_default.is;
-  means =
+  ok =
       top_lacks c.args.script.now.handlers c.args.client.now c.args.world.now.run c.begin_top.new.world.run c.in_ok-name.field-0 c.in_ok-name.ensures.after
       c.in_ok-name.ensures.begun c.in_default.is;
-  commits = c.in_ok-name.ensures.made.commits;
   err = tt;
 }
 
@@ -23,44 +21,15 @@ run-requires-clause-body g c =
     body_given c.args.script.now _ c.args.client.now c.new-frames.result _ c.requires.client c.new-2.ensures.script c.new-frames.ensures
     c.as_slice-body.ensures
 
-pub run-requires-clause-open : goal.run-requires-clause-open
-run-requires-clause-open g c =
-    top_is_open c.args.client.now.home c.args.world.now.run c.begin_top.new.world.run c.new-top.result.name
-    (top_named c.args.client.now.home c.args.world.now.run c.begin_top.new.world.run c.in_ok-name.field-0 c.in-Some.name c.new-top.result.name
-    c.in_ok-name.ensures.made c.in-Some.is c.new-top.ensures.name)
-
-pub returns-in_err-flow-clause-commits : goal.returns-in_err-flow-clause-commits
-returns-in_err-flow-clause-commits g c =
-    top_commits c.args.client.now.home c.args.world.now.run c.begin_top.new.world.run c.run.new.world.run c.new-top.result.name
-    (top_named c.args.client.now.home c.args.world.now.run c.begin_top.new.world.run c.in_ok-name.field-0 c.in-Some.name c.new-top.result.name
-    c.in_ok-name.ensures.made c.in-Some.is c.new-top.ensures.name)
-    c.run.ensures.goes_on c.run.ensures.others
-
 pub returns-in_err-flow-clause-err : goal.returns-in_err-flow-clause-err
 returns-in_err-flow-clause-err g c =
     on_err _ (cut_after c.args.client.now.home c.args.world.now.run c.begin_top.new.world.run c.run.new.world.run c.new-top.result.name
     (top_named c.args.client.now.home c.args.world.now.run c.begin_top.new.world.run c.in_ok-name.field-0 c.in-Some.name c.new-top.result.name
-    c.in_ok-name.ensures.made c.in-Some.is c.new-top.ensures.name)
+    c.requires.run c.in_ok-name.ensures.after c.in_ok-name.ensures.begun c.in-Some.is c.new-top.ensures.name)
     c.run.ensures.goes_on c.run.ensures.others c.run.ensures.own)
-
-pub returns-clause-commits : goal.returns-clause-commits
-returns-clause-commits g c =
-    top_commits c.args.client.now.home c.args.world.now.run c.begin_top.new.world.run c.run.new.world.run c.new-top.result.name
-    (top_named c.args.client.now.home c.args.world.now.run c.begin_top.new.world.run c.in_ok-name.field-0 c.in-Some.name c.new-top.result.name
-    c.in_ok-name.ensures.made c.in-Some.is c.new-top.ensures.name)
-    c.run.ensures.goes_on c.run.ensures.others
 
 pub returns-clause-ok : goal.returns-clause-ok
 returns-clause-ok g c =
-    client_ran c.args.client.now.home c.args.world.now.run c.begin_top.new.world.run c.run.new.world.run c.new-top.result.name
-    c.run.new.action.name c.run.result c.in_ok-flow.flow _
-    (top_named c.args.client.now.home c.args.world.now.run c.begin_top.new.world.run c.in_ok-name.field-0 c.in-Some.name c.new-top.result.name
-    c.in_ok-name.ensures.made c.in-Some.is c.new-top.ensures.name)
-    c.run.ensures.goes_on c.run.ensures.own c.run.ensures.ends c.run.ensures.ended c.run.ensures.told c.in_ok-flow.was
-    c.run.ensures.name c.end_of.ensures
-
-pub returns-clause-means : goal.returns-clause-means
-returns-clause-means g c =
     let script = c.args.script.now in
     let home = c.args.client.now.home in
     let a = c.in-Some.name in

@@ -1,10 +1,8 @@
 use Rattle.std.proofs.Common.{IfOk, [], ap, arith, subst, sym, take, ◌++◌, ◌+◌, ◌∷◌, ◌∙◌, ◌≡◌}
 use Rattle.std.proofs.lemmas.List.{take_all, take_more}
-use Rattle.activities.specs.Ends.{AreRun}
 use Rattle.activities.specs.Serial.{clients_ran}
 use Rattle.activities.proofs.Meaning.{if_ok_at, if_ok_then, one_more_ran}
-use Rattle.activities.proofs.Clients.{all_ran, if_err, more_ran, none_run}
-use Rattle.activities.proofs.Trying.{cut_is_tried, none_tried, on_err, ran_is_tried, some_tried}
+use Rattle.activities.proofs.Trying.{cut_is_tried, if_err, none_tried, on_err, ran_is_tried, some_tried}
 use Rattle.activities.proofs.serial.run_serial.Goals as goal
 use Rattle.activities.proofs.serial.run_serial.Goals.{in-Err, in-Ok+in_ok-reserve-in-Ok}
 
@@ -16,39 +14,30 @@ returns-in_err-ends-clause-err g c =
 pub loop-client-init : goal.loop-client-init
 loop-client-init g c = record {
   tried = none_tried c.as_slice-clients.result.now c.args.world.now.run c.history.ensures.served.is_run;
-  ran =
-      subst (λ l. AreRun [] c.args.world.now.run c.args.world.now.run l) (sym c.in_ok-ends.ensures.items)
-      (none_run c.args.world.now.run c.history.ensures.served.is_run);
-  means = ap (λ l. record { world = c.args.world.now.run; ends = l }) c.in_ok-ends.ensures.items;
+  ran = ap (λ l. record { world = c.args.world.now.run; ends = l }) c.in_ok-ends.ensures.items;
 }
 
 pub returns-in_err-reserve-in-Ok-clause-err : goal.returns-in_err-reserve-in-Ok-clause-err
 returns-in_err-reserve-in-Ok-clause-err g c =
     on_err _ (some_tried c.as_slice-clients.result.now c.args.script.now.clients (c.loop-client.client-index + 1) c.args.world.now.run
     c.run_client.new.world.run c.as_slice-clients.ensures
-    (ran_is_tried c.as_slice-clients.result.now c.loop-client.client-index c.client-item.result c.args.world.now.run c.loop-client.world.run
+    (ran_is_tried c.args.script.now.handlers c.as_slice-clients.result.now c.loop-client.client-index c.client-item.result c.args.world.now.run c.loop-client.world.run
     c.run_client.new.world.run c.in-Ok.end (omega arith) c.client-item.is c.loop-client.invariant.tried c.in-Ok.ensures.ok))
 
 pub loop-client-preserved : goal.loop-client-preserved
 loop-client-preserved g c = elim c.match-run_client.branch [
   | in-Ok+in_ok-reserve-in-Ok w ↦ record {
     tried =
-        ran_is_tried c.as_slice-clients.result.now c.loop-client.client-index c.client-item.result c.args.world.now.run c.loop-client.world.run
+        ran_is_tried c.args.script.now.handlers c.as_slice-clients.result.now c.loop-client.client-index c.client-item.result c.args.world.now.run c.loop-client.world.run
         c.run_client.new.world.run w.in-Ok.end (omega arith) c.client-item.is c.loop-client.invariant.tried w.in-Ok.ensures.ok;
     ran =
-        more_ran c.loop-client.fault c.match-run_client.fault c.as_slice-clients.result.now c.loop-client.client-index c.client-item.result
-        c.args.world.now.run c.loop-client.world.run
-        c.run_client.new.world.run c.loop-client.ends.items c.match-run_client.ends.items w.in-Ok.end w.fault-is
-        (ap (λ v. v.items) w.ends-is ∙ w.push_reserved.ensures.items ∙ ap (λ l. l ++ w.in-Ok.end ∷ []) w.reserve.ensures.items) (omega arith) c.client-item.is c.loop-client.invariant.ran w.in-Ok.ensures.ok
-        w.in-Ok.ensures.commits;
-    means =
         subst (λ f. IfOk f (λ u. record { world = c.run_client.new.world.run; ends = c.match-run_client.ends.items }
         ≡ clients_ran c.args.script.now.handlers (take (c.loop-client.client-index + 1) c.as_slice-clients.result.now) c.args.world.now.run)) (sym w.fault-is)
-        (if_ok_then c.loop-client.fault c.loop-client.invariant.means
+        (if_ok_then c.loop-client.fault c.loop-client.invariant.ran
         (λ u e. ap (λ l. record { world = c.run_client.new.world.run; ends = l })
         (ap (λ v. v.items) w.ends-is ∙ w.push_reserved.ensures.items ∙ ap (λ l. l ++ w.in-Ok.end ∷ []) w.reserve.ensures.items)
         ∙ one_more_ran c.args.script.now.handlers (take c.loop-client.client-index c.as_slice-clients.result.now) c.client-item.result c.args.world.now.run
-        c.loop-client.world.run c.run_client.new.world.run c.loop-client.ends.items w.in-Ok.end e w.in-Ok.ensures.means
+        c.loop-client.world.run c.run_client.new.world.run c.loop-client.ends.items w.in-Ok.end e w.in-Ok.ensures.ok
         ∙ ap (λ l. clients_ran c.args.script.now.handlers l c.args.world.now.run)
         (ap (λ x. take c.loop-client.client-index c.as_slice-clients.result.now ++ (x ∷ [])) c.client-item.is
         ∙ sym (take_more c.as_slice-clients.result.now c.loop-client.client-index c.client-item.result (omega arith)))));
@@ -58,7 +47,6 @@ loop-client-preserved g c = elim c.match-run_client.branch [
         cut_is_tried c.as_slice-clients.result.now c.loop-client.client-index c.client-item.result c.args.world.now.run c.loop-client.world.run
         c.run_client.new.world.run (omega arith) c.client-item.is c.loop-client.invariant.tried w.in-Err.ensures.err;
     ran = if_err c.match-run_client.fault _ _ w.fault-is;
-    means = if_err c.match-run_client.fault _ _ w.fault-is;
   }
 ]
 
@@ -70,13 +58,9 @@ returns-in_err-fault-clause-err g c =
 pub returns : goal.returns
 returns g c = record {
   ok =
-      all_ran c.loop-client.fault c.in_ok-fault.field-0 (take c.loop-client.client-index c.as_slice-clients.result.now)
-      c.args.script.now.clients c.args.world.now.run c.loop-client.world.run c.loop-client.ends.items c.loop-client.invariant.ran c.in_ok-fault.was
-      (take_all c.loop-client.client-index c.as_slice-clients.result.now (omega arith) ∙ c.as_slice-clients.ensures);
-  means =
       if_ok_at (λ u. record { world = c.loop-client.world.run; ends = c.loop-client.ends.items }
       ≡ clients_ran c.args.script.now.handlers (take c.loop-client.client-index c.as_slice-clients.result.now) c.args.world.now.run)
-      c.loop-client.fault c.in_ok-fault.field-0 c.in_ok-fault.was c.loop-client.invariant.means
+      c.loop-client.fault c.in_ok-fault.field-0 c.in_ok-fault.was c.loop-client.invariant.ran
       ∙ ap (λ l. clients_ran c.args.script.now.handlers l c.args.world.now.run)
       (take_all c.loop-client.client-index c.as_slice-clients.result.now (omega arith) ∙ c.as_slice-clients.ensures);
   err = tt;

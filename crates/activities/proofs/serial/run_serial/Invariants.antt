@@ -1,12 +1,10 @@
 use Rattle.std.proofs.Common.{IfOk, take, ◌≡◌}
 use Rattle.activities.specs.Serial.{clients_ran}
-use Rattle.activities.specs.Ends.{AreRun}
 use Rattle.activities.proofs.Trying.{TriedSoFar}
 use Rattle.activities.proofs.serial.run_serial.Given as goal
 
 abbrev pub invariant-loop-client : goal.invariant-loop-client
 invariant-loop-client g l = record {
   tried : TriedSoFar l.clients l.client-index l.fn.world.run l.world.run;
-  ran : IfOk l.fault (λ u. AreRun (take l.client-index l.clients) l.fn.world.run l.world.run l.ends.items);
-  means : IfOk l.fault (λ u. record { world = l.world.run; ends = l.ends.items } ≡ clients_ran l.script.handlers (take l.client-index l.clients) l.fn.world.run);
+  ran : IfOk l.fault (λ u. record { world = l.world.run; ends = l.ends.items } ≡ clients_ran l.script.handlers (take l.client-index l.clients) l.fn.world.run);
 }

@@ -4,7 +4,7 @@ use Rattle.values.specs.declared.content.Content.{Content}
 use Rattle.argus_engine.specs.declared.engine.Ended.TheVariants.{Done, Stopped}
 use Rattle.script_engine.specs.Storing.{held_in, found_in, refusal_line}
 use Rattle.script_engine.proofs.Limits.{resolved}
-use Rattle.script_engine.proofs.Runs.{all_saved, always_so, count_run, done_told, front_stored, never_output, none_told, passed_on, silent, wants_memory, whole_saved, whole_stored}
+use Rattle.script_engine.proofs.Runs.{all_saved, always_so, count_run, done_told, front_stored, never_output, none_told, partly_saved, passed_on, silent, wants_memory, whole_saved, whole_stored}
 use Rattle.argus_engine.proofs.Judgements.{on_err}
 use Rattle.script_engine.proofs.storing.run_stored.Goals as goal
 
@@ -25,8 +25,8 @@ run_clients-requires g c = resolved c.args.script.now c.requires.script
 
 pub save_all-requires : goal.save_all-requires
 save_all-requires g c =
-    count_run c.args.script.now (map (found_in g.S.Stable.seen) c.args.stores.now) c.in_ok-setup.field-0 c.in-Some.setup c.in_ok-outcome.outcome.ends.items
-    c.in_ok-outcome.outcome.bases.items c.as_slice-3.result.now (length c.args.stores.now) c.in-Some.is c.in_ok-setup.ensures c.in_ok-outcome.ensures
+    count_run c.args.script.now (map (found_in g.S.Stable.seen) c.args.stores.now) c.in_ok-setup.field-0 c.in-Some.setup
+    c.in_ok-outcome.outcome.bases.items c.as_slice-3.result.now (length c.args.stores.now) c.in-Some.is c.in_ok-setup.ensures c.in_ok-outcome.ensures.bases
     c.as_slice-3.ensures.value c.requires.count
 
 pub returns-in_err-finish-2-clause-begun : goal.returns-in_err-finish-2-clause-begun
@@ -35,7 +35,7 @@ returns-in_err-finish-2-clause-begun g c =
     c.as_str.result.now
     (done_told c.args.script.now (map (found_in g.S.Stable.seen) c.args.stores.now) c.in_ok-setup.field-0 c.in-Some.setup c.in_ok-outcome.outcome.ends.items
     c.as_slice.result.now c.in_ok-outcome.outcome.bases.items c.as_slice-2.result.now c.as_str.result.now c.in-Some.is c.in_ok-setup.ensures
-    c.in_ok-outcome.ensures (c.as_str.ensures.value ∙ c.in_ok-text.ensures) c.as_slice.ensures.value c.as_slice-2.ensures.value)
+    c.in_ok-outcome.ensures.ends c.in_ok-outcome.ensures.bases (c.as_str.ensures.value ∙ c.in_ok-text.ensures) c.as_slice.ensures.value c.as_slice-2.ensures.value)
     c.in_err-finish-2.ensures.front
 
 pub returns-in_err-finish-2-clause-err : goal.returns-in_err-finish-2-clause-err
@@ -46,7 +46,7 @@ returns-in_err-finish-2-clause-err g c =
       c.as_str.result.now,
       done_told c.args.script.now (map (found_in g.S.Stable.seen) c.args.stores.now) c.in_ok-setup.field-0 c.in-Some.setup c.in_ok-outcome.outcome.ends.items
           c.as_slice.result.now c.in_ok-outcome.outcome.bases.items c.as_slice-2.result.now c.as_str.result.now c.in-Some.is c.in_ok-setup.ensures
-          c.in_ok-outcome.ensures (c.as_str.ensures.value ∙ c.in_ok-text.ensures) c.as_slice.ensures.value c.as_slice-2.ensures.value,
+          c.in_ok-outcome.ensures.ends c.in_ok-outcome.ensures.bases (c.as_str.ensures.value ∙ c.in_ok-text.ensures) c.as_slice.ensures.value c.as_slice-2.ensures.value,
       kept.0,
       kept.1,
     ))
@@ -57,7 +57,7 @@ returns-clause-begun g c =
     c.as_str.result.now
     (done_told c.args.script.now (map (found_in g.S.Stable.seen) c.args.stores.now) c.in_ok-setup.field-0 c.in-Some.setup c.in_ok-outcome.outcome.ends.items
     c.as_slice.result.now c.in_ok-outcome.outcome.bases.items c.as_slice-2.result.now c.as_str.result.now c.in-Some.is c.in_ok-setup.ensures
-    c.in_ok-outcome.ensures (c.as_str.ensures.value ∙ c.in_ok-text.ensures) c.as_slice.ensures.value c.as_slice-2.ensures.value)
+    c.in_ok-outcome.ensures.ends c.in_ok-outcome.ensures.bases (c.as_str.ensures.value ∙ c.in_ok-text.ensures) c.as_slice.ensures.value c.as_slice-2.ensures.value)
     c.in_ok-finish-2.ensures.ok
 
 pub returns-in_err-outcome-clause-silent : goal.returns-in_err-outcome-clause-silent
@@ -90,8 +90,29 @@ returns-in_err-finish-2-clause-untold g c =
         map (λ (b : BTreeMap ℕ Content). b.entries) c.in_ok-outcome.outcome.bases.items,
         done_told c.args.script.now (map (found_in g.S.Stable.seen) c.args.stores.now) c.in_ok-setup.field-0 c.in-Some.setup c.in_ok-outcome.outcome.ends.items
             c.as_slice.result.now c.in_ok-outcome.outcome.bases.items c.as_slice-2.result.now c.as_str.result.now c.in-Some.is c.in_ok-setup.ensures
-            c.in_ok-outcome.ensures (c.as_str.ensures.value ∙ c.in_ok-text.ensures) c.as_slice.ensures.value c.as_slice-2.ensures.value,
+            c.in_ok-outcome.ensures.ends c.in_ok-outcome.ensures.bases (c.as_str.ensures.value ∙ c.in_ok-text.ensures) c.as_slice.ensures.value c.as_slice-2.ensures.value,
         whole_saved (map (held_in g.S.Stable.seen) c.args.stores.now) c.in_ok-outcome.outcome.bases.items c.as_slice-3.result.now
             (map (held_in g.S.Stable.seen) c.save_all.new.stores) c.as_slice-3.ensures.value c.in_ok-save_all.ensures.ok,
       ),
     )
+
+pub returns-in_err-save_all-clause-err : goal.returns-in_err-save_all-clause-err
+returns-in_err-save_all-clause-err g c =
+    on_err c.from_residual-in_err-save_all.result
+    (partly_saved c.args.script.now (map (found_in g.S.Stable.seen) c.args.stores.now) c.in_ok-setup.field-0 c.in-Some.setup c.in_ok-outcome.outcome.bases.items
+    c.as_slice-3.result.now (map (held_in g.S.Stable.seen) c.args.stores.now) (map (held_in g.S.Stable.seen) c.save_all.new.stores) c.in-Some.is
+    c.in_ok-setup.ensures c.in_ok-outcome.ensures.bases c.as_slice-3.ensures.value c.in_err-save_all.ensures.err)
+
+pub returns-clause-ok : goal.returns-clause-ok
+returns-clause-ok g c = (
+  c.as_str.result.now,
+  c.in_ok-finish-2.ensures.ok,
+  (
+    map (λ (b : BTreeMap ℕ Content). b.entries) c.in_ok-outcome.outcome.bases.items,
+    done_told c.args.script.now (map (found_in g.S.Stable.seen) c.args.stores.now) c.in_ok-setup.field-0 c.in-Some.setup c.in_ok-outcome.outcome.ends.items
+        c.as_slice.result.now c.in_ok-outcome.outcome.bases.items c.as_slice-2.result.now c.as_str.result.now c.in-Some.is c.in_ok-setup.ensures
+        c.in_ok-outcome.ensures.ends c.in_ok-outcome.ensures.bases (c.as_str.ensures.value ∙ c.in_ok-text.ensures) c.as_slice.ensures.value c.as_slice-2.ensures.value,
+    whole_saved (map (held_in g.S.Stable.seen) c.args.stores.now) c.in_ok-outcome.outcome.bases.items c.as_slice-3.result.now
+        (map (held_in g.S.Stable.seen) c.save_all.new.stores) c.as_slice-3.ensures.value c.in_ok-save_all.ensures.ok,
+  ),
+)

@@ -1,4 +1,4 @@
-use Rattle.std.proofs.Common.{Err, IfOk, IsTrue, List, Ok, OnOk, Option, Result, Some, ap, arith, drop, drop_of_length-le, false, inl, inr, le_trans, length, refl, reverse, rules, slice_get, subst, sym, true, [], ◌+◌, ◌-◌, ◌<◌, ◌∙◌, ◌∷◌, ◌≡◌, ◌≤◌}
+use Rattle.std.proofs.Common.{IfOk, List, Ok, Option, Some, ap, arith, drop, drop_of_length-le, false, inl, inr, le_trans, length, refl, reverse, rules, slice_get, subst, sym, true, [], ◌+◌, ◌-◌, ◌<◌, ◌∙◌, ◌∷◌, ◌≡◌, ◌≤◌}
 use Rattle.std.proofs.lemmas.Option.{slice_get_read}
 use Rattle.action_names.specs.Names.{Name}
 use Rattle.run_laws.proofs.Names.{clash}
@@ -15,24 +15,18 @@ use Rattle.activities.specs.Serial.{Doing, Done, begun_at, beside, body_done, by
 use Rattle.script_model.specs.declared.checked.Handler.{Handler}
 use Rattle.script_model.specs.declared.statement.Statement.{Statement}
 use Rattle.script_model.specs.Resolved.{IsResolved, asked}
-use Rattle.run_model.specs.Actions.{is_ended}
 use Rattle.run_model.specs.Runs.{World}
 use Rattle.activities.specs.Bodies.{AreArms, IsBody, IsOutcome, IsStatement, SignalsHold, WhereEnded, body_of, kind_of, sizes}
-use Rattle.activities.specs.Continuing.{EndsAll, GoesOn, HaveBegun}
+use Rattle.activities.specs.Continuing.{GoesOn, HaveBegun}
 use Rattle.activities.specs.Ends.{commits, has_committed, named_by}
-use Rattle.activities.proofs.Following.{called_began, handed_sizes, next_rest, next_within, nothing_bound, ok_so, on_ok, popped, popped_length, same_body}
-use Rattle.activities.proofs.Going.{commits_nowhere, ends_nowhere, goes_nowhere}
+use Rattle.activities.proofs.Following.{called_began, handed_sizes, next_rest, next_within, nothing_bound, ok_so, popped, popped_length, same_body}
+use Rattle.activities.proofs.Going.{commits_nowhere, goes_nowhere}
 use Rattle.activities.proofs.Meaning.{AreArmsFrom, IsBodyFrom, aborted_back, acting_begun, arm_goes, arm_stops, arms_end, body_ends, body_goes, body_lacks, body_stops, call_goes, call_so, called_so, ended_back, if_ok_at, if_ok_then, last_first, nested_past, nested_ran, nested_so, next_list, not_past, of_script, op_comes, outwards_back, returned_back, run_ends, run_named, sub_past, top_past, turn_goes, turn_lacks, turn_stops, turns_end}
 use Rattle.activities.proofs.OwnSteps.{keeps_nowhere, child_keeps, keeps_then, one_keeps, then_keeps}
 use Rattle.activities.proofs.Resolving.{arm_of, call_of, call_signals, called_body, called_within, op_after, op_of, op_signals, signalled_after, signals_hold_there}
-use Rattle.activities.proofs.Ways.{among_then, child_commits, child_ends, child_open, earlier_waits, have_run, last_open, last_waits, open_then, others_commit, others_wait, then_commits, then_ends, then_goes}
+use Rattle.activities.proofs.Ways.{among_then, child_commits, earlier_waits, last_waits, others_commit, then_commits, then_goes}
 use Rattle.activities.proofs.activity.Activity.+activity.Goals.{body-in-Ended, body-in_default, repeat-in-Ended, repeat-in_default, run_arms-in-Ended, run_arms-in-Sub, run_arms-in-Top, run_arms-in_default}
 use Rattle.activities.proofs.activity.Activity.+activity.Goals as goal
-
-pub run-end-requires-clause-open : goal.run-end-requires-clause-open
-run-end-requires-clause-open g t c =
-    open_then c.args.action.now.name c.body.new.action.name c.args.world.now.run c.body.new.world.run c.requires.open c.body.ensures.name
-    c.body.ensures.goes_on c.body.ensures.commits
 
 pub run-returns-in-Ok-clause-others : goal.run-returns-in-Ok-clause-others
 run-returns-in-Ok-clause-others g t c =
@@ -43,15 +37,6 @@ pub run-returns-in-Ok-clause-own : goal.run-returns-in-Ok-clause-own
 run-returns-in-Ok-clause-own g t c =
     keeps_then c.args.action.now.name c.body.new.action.name c.args.world.now.run c.body.new.world.run c.end.new.world.run c.body.ensures.name
     c.body.ensures.own c.end.ensures.own
-
--- what ended before ends once more has happened
-so_ends : {A E : Type 0} (r : Result A E) (x y z : World) → GoesOn y z [] → EndsAll x y → EndsAll y z → OnOk r (EndsAll x z)
-so_ends (Ok v) x y z g e f = then_ends x y z g e f
-so_ends (Err v) x y z g e f = tt
-
-pub run-returns-in-Ok-clause-ends : goal.run-returns-in-Ok-clause-ends
-run-returns-in-Ok-clause-ends g t c =
-    so_ends c.end.result c.args.world.now.run c.body.new.world.run c.end.new.world.run c.end.ensures.goes_on c.in-Ok.ensures.ends c.end.ensures.ends
 
 pub body-returns-in_err-flow-clause-own : goal.body-returns-in_err-flow-clause-own
 body-returns-in_err-flow-clause-own g t c =
@@ -104,12 +89,11 @@ body-loop-statement-preserved g t c =
       own = keeps_then c.args.action.now.name l.action.name c.args.world.now.run l.world.run c.statement.new.world.run l.invariant.name l.invariant.own
           c.statement.ensures.own;
       commits = then_commits c.args.world.now.run l.world.run c.statement.new.world.run l.invariant.goes_on l.invariant.commits c.statement.ensures.commits;
-      ends = then_ends c.args.world.now.run l.world.run c.statement.new.world.run c.statement.ensures.goes_on l.invariant.ends c.in_ok-flow.ensures.ends;
       resolved = subst IsResolved (sym same) l.invariant.resolved;
       rest = next_rest l.self.script.now c.statement.new.self.script.now (sizes l.frames) (sizes c.statement.new.frames) c.args.body.now
           l.statement-index s (omega arith) c.statement-item.is same bound l.invariant.rest;
       frames = next_within (sizes c.args.frames.now) (sizes l.frames) (sizes c.statement.new.frames) s l.invariant.frames bound;
-      left = search (rules, arith);
+      left = omega (arith, c.statement.ensures.left, budget, l.invariant.left);
       script = cc;
       name = cc;
       home = cc;
@@ -166,12 +150,11 @@ repeat-loop-preserved g t c =
       own = keeps_then c.args.action.now.name l.action.name c.args.world.now.run l.world.run c.inner.new.world.run l.invariant.name l.invariant.own
           c.inner.ensures.own;
       commits = then_commits c.args.world.now.run l.world.run c.inner.new.world.run l.invariant.goes_on l.invariant.commits c.inner.ensures.commits;
-      ends = then_ends c.args.world.now.run l.world.run c.inner.new.world.run c.inner.ensures.goes_on l.invariant.ends c.in_ok-flow.ensures.ends;
       resolved = subst IsResolved (sym same) l.invariant.resolved;
       body = same_body l.self.script.now c.inner.new.self.script.now (sizes l.frames) (sizes c.inner.new.frames) c.args.body.now same bound
           l.invariant.body;
       frames = bound ∙ l.invariant.frames;
-      left = search (rules, arith);
+      left = omega (arith, c.inner.ensures.left, budget, l.invariant.left);
       script = cc;
       name = cc;
       home = cc;
@@ -213,7 +196,6 @@ top_action-returns g t c =
       goes_on = then_goes x y z c.begin_nested.ensures.goes_on c.run.ensures.goes_on;
       own = child_keeps n (c.args.action.now.name ∷ []) x y z began c.begin_nested.ensures.own c.run.ensures.own;
       commits = child_commits n x y z began c.begin_nested.ensures.goes_on c.begin_nested.ensures.commits c.run.ensures.others;
-      ends = child_ends n x y z began c.run.ensures.goes_on c.in_ok-flow.ensures.ends c.in_ok-flow.ensures.ended;
       frames = nothing_bound c.in_ok-flow.flow (sizes c.args.frames.now);
       left = c.run.ensures.left;
       script = c.run.ensures.script;
@@ -249,18 +231,6 @@ top_action-returns-in-Aborted-clause-commits g t c =
     then_commits x z c.inner.new.world.run (then_goes x y z c.begin_nested.ensures.goes_on c.run.ensures.goes_on)
     (child_commits n x y z began c.begin_nested.ensures.goes_on c.begin_nested.ensures.commits c.run.ensures.others) c.inner.ensures.commits
 
-pub top_action-returns-in-Aborted-clause-ends : goal.top_action-returns-in-Aborted-clause-ends
-top_action-returns-in-Aborted-clause-ends g t c =
-    let x = c.args.world.now.run in
-    let y = c.begin_nested.new.world.run in
-    let z = c.run.new.world.run in
-    let w = c.inner.new.world.run in
-    let n = c.new-nested.result.name in
-    let began = began_named c.in_ok-name.field-0 c.in-Some.name n x y c.in-Some.is c.new-nested.ensures.name c.in_ok-name.ensures.began in
-    on_ok c.inner.result (EndsAll z w) (EndsAll x w)
-    (then_ends x z w c.inner.ensures.goes_on (child_ends n x y z began c.run.ensures.goes_on c.in_ok-flow.ensures.ends c.in_ok-flow.ensures.ended))
-    c.inner.ensures.ends
-
 pub call-run-ended-requires : goal.call-run-ended-requires
 call-run-ended-requires g t c κs within =
     let script = c.args.self.now.script.now in
@@ -268,17 +238,13 @@ call-run-ended-requires g t c κs within =
     let call = c.args.call.now in
     let h = c.index-as_slice-call.result in
     let hs = c.as_slice.result.now in
-    let x = c.args.world.now.run in
-    let y = c.begin_call.new.world.run in
-    let n = c.new-child.result.name in
     let known = subst (λ (l : List Handler). call.handler < length l) (sym c.as_slice.ensures) (called_within script frames call c.requires.call) in
     let there = subst (λ (l : List Handler). slice_get l call.handler ≡ Some h) c.as_slice.ensures
     (slice_get_read hs (length hs) call.handler h refl known c.index-as_slice-call.is) in
     let begins = handed_sizes c.in_ok-inside.field-0 c.in-Some.inside c.args.frames.now call c.in-Some.is c.in_ok-inside.ensures in
     let body = subst (λ (l : List Statement). IsBody script (sizes c.in-Some.inside) l) (sym c.as_slice-2.ensures)
     (subst (λ f. IsBody script f h.body) (sym begins) (called_body script frames call h c.requires.script c.requires.call there)) in
-    let began = called_began c.in_ok-name.field-0 c.in-Began.name n x y c.in-Began.is c.new-child.ensures.name c.in_ok-name.ensures.began in
-    (omega arith, (within, (c.requires.script, (body, (c.begin_call.ensures.goes_on.is_run, child_open n x y began)))))
+    (omega arith, (within, (c.requires.script, (body, c.begin_call.ensures.goes_on.is_run))))
 
 pub call-returns-in-Aborted-clause-goes_on : goal.call-returns-in-Aborted-clause-goes_on
 call-returns-in-Aborted-clause-goes_on g t c =
@@ -305,36 +271,18 @@ call-returns-in-Aborted-clause-commits g t c =
     (child_commits n x y z began c.begin_call.ensures.goes_on c.begin_call.ensures.commits c.run-ended.ensures.others)
     c.run_signals-in-Aborted.ensures.commits
 
-pub call-returns-in-Aborted-clause-ends : goal.call-returns-in-Aborted-clause-ends
-call-returns-in-Aborted-clause-ends g t c =
-    let x = c.args.world.now.run in
-    let y = c.begin_call.new.world.run in
-    let z = c.run-ended.new.world.run in
-    let w = c.run_signals-in-Aborted.new.world.run in
-    let n = c.new-child.result.name in
-    let began = called_began c.in_ok-name.field-0 c.in-Began.name n x y c.in-Began.is c.new-child.ensures.name c.in_ok-name.ensures.began in
-    let came : c.run-ended.result ≡ Ok c.in_ok-flow.flow = search rules in
-    let ends = ok_so c.run-ended.result c.in_ok-flow.flow (EndsAll y z) came c.run-ended.ensures.ends in
-    let ended = ok_so c.run-ended.result c.in_ok-flow.flow (IsTrue (is_ended n z.past)) came c.run-ended.ensures.ended in
-    on_ok c.run_signals-in-Aborted.result (EndsAll z w) (EndsAll x w)
-    (then_ends x z w c.run_signals-in-Aborted.ensures.goes_on (child_ends n x y z began c.run-ended.ensures.goes_on ends ended))
-    c.run_signals-in-Aborted.ensures.ends
-
 pub run_arms-run-ended-requires : goal.run_arms-run-ended-requires
 run_arms-run-ended-requires g t c κs within =
     let l = c.loop-arm in
     let script = l.self.script.now in
     let arms = c.args.arms.now in
     let arm = c.arm-item.result in
-    let a = c.new-child.result.name in
-    let is = popped l.waiting.items c.pop.new.self.items c.pop.result c.unwrap.result a c.pop.ensures.items c.unwrap.ensures c.new-child.ensures.name in
     let there = slice_get_read arms (length arms) l.arm-index arm refl (omega arith) c.arm-item.is in
     let copied = ap sizes c.in_ok-inside.ensures in
     let body = subst (λ (b : List Statement). IsBody script (sizes c.in_ok-inside.inside) b) (sym c.arm_body.ensures)
     (subst (λ f. IsBody script f (body_of arm)) (sym copied)
     (arm_of script (sizes c.args.frames.now) arms l.arm-index arm l.invariant.arms there)) in
-    let still = last_open l.waiting.items c.pop.new.self.items a is l.world.run l.invariant.waiting in
-    (omega arith, (within, (l.invariant.resolved, (body, (l.invariant.goes_on.is_run, still)))))
+    (omega arith, (within, (l.invariant.resolved, (body, l.invariant.goes_on.is_run))))
 
 pub run_arms-loop-arm-preserved : goal.run_arms-loop-arm-preserved
 run_arms-loop-arm-preserved g t c =
@@ -393,9 +341,6 @@ run_arms-loop-arm-preserved g t c =
       goes_on = then_goes x l.world.run z l.invariant.goes_on c.run-ended.ensures.goes_on;
       own = one_keeps a all x l.world.run z (l.invariant.among a (last_waits waits rest a is)) l.invariant.own c.run-ended.ensures.own;
       others = others_commit waits rest a is all x l.world.run z l.invariant.goes_on l.invariant.others l.invariant.among c.run-ended.ensures.others;
-      ran = have_run waits rest a is all l.world.run z l.invariant.ran c.run-ended.ensures.goes_on c.in_ok-flow.ensures.ended;
-      ends = then_ends x l.world.run z c.run-ended.ensures.goes_on l.invariant.ends c.in_ok-flow.ensures.ends;
-      waiting = others_wait waits rest a is l.world.run z l.invariant.waiting c.run-ended.ensures.goes_on c.run-ended.ensures.others;
       among = λ b h. l.invariant.among b (earlier_waits waits rest a is b h);
       each = omega (arith, popped_length waits rest a is, l.invariant.each);
       resolved = subst IsResolved (sym c.run-ended.ensures.script) l.invariant.resolved;
@@ -407,15 +352,6 @@ run_arms-loop-arm-preserved g t c =
       home = elim c.match-arm.branch [ run_arms-in-Sub w ↦ (cc) | run_arms-in-Top w ↦ (cc) ];
       means = arms_mean;
     }
-
-pub run_arms-returns-then-not-matches-clause-ran : goal.run_arms-returns-then-not-matches-clause-ran
-run_arms-returns-then-not-matches-clause-ran g t c =
-    let l = c.loop-arm in
-    let rest = c.pop.new.self.items in
-    let a = c.new-child.result.name in
-    let is = popped l.waiting.items rest c.pop.result c.unwrap.result a c.pop.ensures.items c.unwrap.ensures c.new-child.ensures.name in
-    have_run l.waiting.items rest a is c.args.waiting.now.items l.world.run c.run-ended.new.world.run l.invariant.ran c.run-ended.ensures.goes_on
-    c.in_ok-flow.ensures.ended
 
 pub run_arms-returns-in_err-flow-clause-others : goal.run_arms-returns-in_err-flow-clause-others
 run_arms-returns-in_err-flow-clause-others g t c =
@@ -551,7 +487,6 @@ body-loop-statement-init g t c = record {
   goes_on = goes_nowhere c.args.world.now.run c.requires.run;
   own = keeps_nowhere (c.args.action.now.name ∷ []) c.args.world.now.run;
   commits = commits_nowhere c.args.world.now.run;
-  ends = ends_nowhere c.args.world.now.run;
   resolved = c.requires.script;
   rest = c.requires.body;
   frames = record { ints = omega arith; texts = omega arith; truths = omega arith };
@@ -615,7 +550,6 @@ repeat-loop-init g t c = record {
   goes_on = goes_nowhere c.args.world.now.run c.requires.run;
   own = keeps_nowhere (c.args.action.now.name ∷ []) c.args.world.now.run;
   commits = commits_nowhere c.args.world.now.run;
-  ends = ends_nowhere c.args.world.now.run;
   resolved = c.requires.script;
   body = c.requires.body;
   frames = refl;
@@ -895,9 +829,6 @@ run_arms-loop-arm-init g t c = record {
   goes_on = goes_nowhere c.args.world.now.run c.requires.run;
   own = keeps_nowhere c.args.waiting.now.items c.args.world.now.run;
   others = λ a h k. refl;
-  ran = λ a h. inr h;
-  ends = ends_nowhere c.args.world.now.run;
-  waiting = c.requires.waiting;
   among = λ a h. h;
   each = omega (arith, c.requires.each);
   resolved = c.requires.script;

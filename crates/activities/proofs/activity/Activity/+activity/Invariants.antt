@@ -2,7 +2,7 @@ use Rattle.std.proofs.Common.{[], ◌∷◌, drop, length, reverse, IsTrue, ◌*
 use Rattle.action_names.specs.Names.{Name, has_name}
 use Rattle.script_model.specs.Resolved.{IsResolved}
 use Rattle.activities.specs.Bodies.{AreArms, IsBody, Within, sizes}
-use Rattle.activities.specs.Continuing.{AreWaiting, CommitsAmong, CommitsNone, EndsAll, GoesOn, HaveRun}
+use Rattle.activities.specs.Continuing.{CommitsAmong, CommitsNone, GoesOn}
 use Rattle.activities.specs.OwnSteps.{KeepsTo}
 use Rattle.activities.specs.Acting.{doing}
 use Rattle.activities.proofs.Meaning.{AreArmsFrom, AreTurnsFrom, IsBodyFrom}
@@ -45,11 +45,10 @@ invariant-body-loop-statement g l = record {
   goes_on : GoesOn l.fn.world.run l.world.run [];
   own : KeepsTo (l.fn.action.name ∷ []) l.fn.world.run l.world.run;
   commits : CommitsNone l.fn.world.run l.world.run;
-  ends : EndsAll l.fn.world.run l.world.run;
   resolved : IsResolved l.self.script.now;
   rest : IsBody l.self.script.now (sizes l.frames) (drop l.statement-index l.body);
   frames : Within (sizes l.fn.frames) (sizes l.frames);
-  left : l.self.left + l.statement-index ≤ l.fn.self.left;
+  left : l.self.left ≤ l.fn.self.left;
   script : l.self.script.now ≡ l.fn.self.script.now;
   name : l.action.name ≡ l.fn.action.name;
   home : l.action.home ≡ l.fn.action.home;
@@ -63,11 +62,10 @@ invariant-repeat-loop g l = record {
   goes_on : GoesOn l.fn.world.run l.world.run [];
   own : KeepsTo (l.fn.action.name ∷ []) l.fn.world.run l.world.run;
   commits : CommitsNone l.fn.world.run l.world.run;
-  ends : EndsAll l.fn.world.run l.world.run;
   resolved : IsResolved l.self.script.now;
   body : IsBody l.self.script.now (sizes l.frames) l.body;
   frames : sizes l.frames ≡ sizes l.fn.frames;
-  left : l.self.left + l.counter ≤ l.fn.self.left;
+  left : l.self.left ≤ l.fn.self.left;
   script : l.self.script.now ≡ l.fn.self.script.now;
   name : l.action.name ≡ l.fn.action.name;
   home : l.action.home ≡ l.fn.action.home;
@@ -75,15 +73,12 @@ invariant-repeat-loop g l = record {
       (l.turns - l.counter) (doing l.world.run l.self.left l.action l.frames);
 }
 
--- the arms that have run have ended, and the others wait
+-- the arms that have not run wait
 abbrev pub invariant-run_arms-loop-arm : goal.invariant-run_arms-loop-arm
 invariant-run_arms-loop-arm g l = record {
   goes_on : GoesOn l.fn.world.run l.world.run [];
   own : KeepsTo l.fn.waiting.items l.fn.world.run l.world.run;
   others : CommitsAmong l.fn.waiting.items l.fn.world.run l.world.run;
-  ran : HaveRun l.fn.waiting.items l.waiting.items l.world.run;
-  ends : EndsAll l.fn.world.run l.world.run;
-  waiting : AreWaiting l.waiting.items l.world.run;
   among : (a : Name) → IsTrue (has_name l.waiting.items a) → IsTrue (has_name l.fn.waiting.items a);
   each : length l.waiting.items + l.arm-index ≡ length l.arms;
   resolved : IsResolved l.self.script.now;

@@ -3,12 +3,10 @@ use Rattle.std.proofs.lemmas.Iterator.Adapters.{YieldsList-from_rev_slice}
 use Rattle.std.proofs.lemmas.Iterator.Consumers.{YieldsList-end}
 use Rattle.std.specs.Iterator.Adapters.{rev_source}
 use Rattle.std.specs.Slice.Iter.{iter_rest}
-use Rattle.action_names.specs.Names.{has_name}
-use Rattle.activities.specs.Continuing.{EndsThese}
 use Rattle.activities.proofs.Going.{commits_through, ends_through, goes_through}
 use Rattle.activities.specs.Serial.{arms_aborted}
 use Rattle.activities.proofs.Committing.{arm_aborts}
-use Rattle.activities.proofs.Ending.{both_ok, has_reversed, ok_then, these_more}
+use Rattle.activities.proofs.Ending.{both_ok, ok_then}
 use Rattle.activities.proofs.OwnSteps.{keeps_reversed, these_keep}
 use Rattle.activities.proofs.open_action.OpenAction.abort_arms.Goals as goal
 
@@ -23,17 +21,6 @@ returns-clause-own g c =
     keeps_reversed c.args.arms.now (map (λ arm. arm.now) c.loop-arm.yielded) c.args.world.now.run c.loop-arm.world.run each.0
     c.loop-arm.invariant.own
 
-pub returns-clause-ended : goal.returns-clause-ended
-returns-clause-ended g c =
-    let start =
-    ap (λ s. iter_rest (rev_source s)) c.into_iter-arm-iterator.ensures.into_iter_gives ∙ ap (λ s. iter_rest s) c.rev-arm-items.ensures.source
-    ∙ c.iter.ensures.rest in
-    let each =
-    YieldsList-end (YieldsList-from_rev_slice c.args.arms.now start) c.loop-arm.yielded _ c.loop-arm.yielded_by _ _ c.in-None.is
-    c.next.ensures.steps in
-    ok_then c.loop-arm.fault c.loop-arm.invariant.ended
-    (λ p a h b. p a (ap (λ names. has_name names a) each.0 ∙ has_reversed c.args.arms.now a h) b)
-
 pub loop-arm-preserved : goal.loop-arm-preserved
 loop-arm-preserved g c = record {
   goes_on =
@@ -47,13 +34,6 @@ loop-arm-preserved g c = record {
   ends =
       ends_through c.args.world.now.run c.loop-arm.world.run c.abort_at_home.new.world.run [] c.abort_at_home.ensures.goes_on c.loop-arm.invariant.ends
       c.abort_at_home.ensures.ends;
-  ended =
-      subst
-      (λ r. OnOk r (EndsThese (map (λ arm. arm.now) (c.loop-arm.yielded ++ (c.in-Some.arm ∷ []))) c.args.world.now.run c.abort_at_home.new.world.run))
-      (sym c.and-fault.ensures)
-      (both_ok c.loop-arm.fault c.abort_at_home.result c.loop-arm.invariant.ended c.abort_at_home.ensures.ended
-      (these_more c.loop-arm.yielded c.in-Some.arm c.args.world.now.run c.loop-arm.world.run c.abort_at_home.new.world.run [] []
-      c.loop-arm.invariant.goes_on c.abort_at_home.ensures.goes_on));
   means =
       subst (λ r. OnOk r (c.abort_at_home.new.world.run
       ≡ arms_aborted c.args.self.now.home (map (λ arm. arm.now) (c.loop-arm.yielded ++ (c.in-Some.arm ∷ []))) c.args.world.now.run))

@@ -1,5 +1,5 @@
 use Rattle.std.proofs.Common.{OnOk, [], map, ◌≡◌}
-use Rattle.activities.specs.Continuing.{CommitsNone, EndsAll, EndsThese, GoesOn}
+use Rattle.activities.specs.Continuing.{CommitsNone, EndsAll, GoesOn}
 use Rattle.activities.specs.OwnSteps.{KeepsTo}
 use Rattle.activities.specs.Serial.{arms_aborted}
 use Rattle.activities.proofs.open_action.OpenAction.abort_arms.Given as goal
@@ -10,7 +10,5 @@ invariant-loop-arm g l = record {
   own : KeepsTo (map (λ arm. arm.now) l.yielded) l.fn.world.run l.world.run;
   commits : CommitsNone l.fn.world.run l.world.run;
   ends : EndsAll l.fn.world.run l.world.run;
-  -- those so far
-  ended : OnOk l.fault (EndsThese (map (λ arm. arm.now) l.yielded) l.fn.world.run l.world.run);
   means : OnOk l.fault (l.world.run ≡ arms_aborted l.self.home (map (λ arm. arm.now) l.yielded) l.fn.world.run);
 }

@@ -1,4 +1,7 @@
-use Rattle.std.proofs.Common.{sym, ◌∙◌}
+use Rattle.std.proofs.Common.{ap, subst, sym, ◌∙◌}
+use Rattle.activities.specs.Continuing.{HaveBegun}
+use Rattle.activities.specs.Ends.{called}
+use Rattle.activities.proofs.Waiting.{called_names}
 use Rattle.activities.proofs.Steps.{call_begins_one}
 use Rattle.run_model.specs.Openings.{opening_in}
 use Rattle.activities.proofs.OwnSteps.{keeps_named}
@@ -15,3 +18,11 @@ returns-in_err-answer-clause-own g c =
 pub returns-clause-own : goal.returns-clause-own
 returns-clause-own g c =
     keeps_named c.args.self.now.name c.in_ok-copy.field-0 c.args.world.now.run c.make.new.world.run c.in_ok-copy.ensures.ok.1 c.make.ensures.own
+
+pub returns-clause-began : goal.returns-clause-began
+returns-clause-began g c =
+    subst (λ names. HaveBegun names c.args.world.now.run c.make.new.world.run)
+    (sym (ap called c.what_came.ensures ∙ called_names c.in_ok-answer.answer (λ names h.
+    call_begins_one (opening_in c.args.world.now.run.lists) c.in_ok-copy.field-0 c.args.guardian c.args.world.now.run.past names
+    (sym h ∙ c.in_ok-answer.ensures.answer))))
+    c.in_ok-answer.ensures.began

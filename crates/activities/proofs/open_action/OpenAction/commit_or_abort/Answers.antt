@@ -1,11 +1,7 @@
-use Rattle.std.proofs.Common.{[], sym, ◌∙◌, ◌∷◌}
-use Rattle.std.proofs.lemmas.Bool.{or_left}
-use Rattle.activities.proofs.Going.{among_then, ends_through, goes_through, one_ends, still_begun}
+use Rattle.std.proofs.Common.{[], ◌∷◌}
+use Rattle.activities.proofs.Going.{among_then, ends_through, goes_through}
 use Rattle.activities.proofs.OwnSteps.{then_keeps}
 use Rattle.activities.proofs.open_action.OpenAction.commit_or_abort.Goals as goal
-
-pub returns-then-branch-clause-ended : goal.returns-then-branch-clause-ended
-returns-then-branch-clause-ended g c = or_left _ _ (sym c.in_ok-commit.ensures.told ∙ c.if-branch.true)
 
 pub returns-in_err-abort-clause-goes_on : goal.returns-in_err-abort-clause-goes_on
 returns-in_err-abort-clause-goes_on g c =
@@ -28,17 +24,6 @@ pub returns-clause-others : goal.returns-clause-others
 returns-clause-others g c =
     among_then (c.args.self.now.name ∷ []) c.args.world.now.run c.commit.new.world.run c.abort.new.world.run [] c.commit.ensures.goes_on
     c.commit.ensures.others c.abort.ensures.commits
-
-pub returns-clause-told : goal.returns-clause-told
-returns-clause-told g c =
-    sym c.if-branch.false ∙ c.in_ok-commit.ensures.told
-    ∙ sym (c.abort.ensures.commits c.args.self.now.name
-    (still_begun c.args.world.now.run c.commit.new.world.run [] c.args.self.now.name c.commit.ensures.goes_on c.requires.open.begun))
-
-pub returns-clause-ended : goal.returns-clause-ended
-returns-clause-ended g c =
-    one_ends c.args.self.now.name c.commit.new.world.run c.abort.new.world.run c.in_ok-abort.ensures.ended
-    (still_begun c.args.world.now.run c.commit.new.world.run [] c.args.self.now.name c.commit.ensures.goes_on c.requires.open.begun)
 
 pub returns-clause-ends : goal.returns-clause-ends
 returns-clause-ends g c =

@@ -1,27 +1,15 @@
-use Rattle.std.proofs.Common.{IfOk, OnOk, [], ap, inl, inr, refl, subst, sym, ◌∙◌, ◌∷◌, ◌≡◌}
+use Rattle.std.proofs.Common.{IfOk, [], ap, refl, subst, sym, ◌∙◌, ◌∷◌, ◌≡◌}
 use Rattle.std.proofs.lemmas.Map.Iter.{rest_all, rest_more}
 use Rattle.std.specs.Map.Iter.{deref}
 use Rattle.run_model.specs.declared.step.Step.TheVariants.{Close, Decide}
-use Rattle.run_model.specs.Answers.{answer_of}
-use Rattle.run_laws.proofs.Names.{same_name_self}
 use Rattle.activities.specs.Continuing.{IsAfter}
-use Rattle.activities.specs.Reaching.{has, is_made}
+use Rattle.activities.specs.Reaching.{is_made}
 use Rattle.activities.specs.Serial.{asked}
 use Rattle.activities.specs.Acting.{acting}
 use Rattle.activities.proofs.Committing.{step_tried, vote_goes, vote_lacks, votes_begin, votes_end}
-use Rattle.activities.proofs.Going.{by_is_among, commits_through, ends_through, goes_through, none_is_among, none_then, still_uncommitted}
-use Rattle.activities.proofs.Steps.{commit_result_told}
-use Rattle.activities.proofs.Voting.{all_asked, ask_failed, ask_first, ask_next, close_refused, decide_held}
-use Rattle.run_model.specs.Openings.{opening_in}
+use Rattle.activities.proofs.Going.{by_is_among, commits_through, ends_through, goes_through, none_is_among, none_then}
 use Rattle.activities.proofs.OwnSteps.{keeps_named, then_keeps}
 use Rattle.activities.proofs.open_action.OpenAction.commit_top.Goals as goal
-
-pub returns-then-not-branch-clause-held : goal.returns-then-not-branch-clause-held
-returns-then-not-branch-clause-held g c = λ h.
-    inl (close_refused c.args.world.now.run c.args.self.now.name
-    (sym (c.in_ok-try_step.ensures.done
-    ∙ ap (λ a. is_made (answer_of (opening_in c.args.world.now.run.lists) (Close a) c.args.world.now.run.past)) c.in_ok-copy.ensures.ok.1)
-    ∙ c.if-not-branch.true))
 
 pub loop-guardian-init : goal.loop-guardian-init
 loop-guardian-init g c = record {
@@ -29,14 +17,6 @@ loop-guardian-init g c = record {
   own = keeps_named c.args.self.now.name c.in_ok-copy.field-0 c.args.world.now.run c.try_step.new.world.run c.in_ok-copy.ensures.ok.1 c.try_step.ensures.own;
   commits = λ a h. c.try_step.ensures.commits a h refl;
   ends = c.try_step.ensures.ends refl;
-  asked =
-      ask_first c.args.self.now.reached.participants c.args.self.now.name c.args.world.now.run c.try_step.new.world.run
-      c.into_iter-guardian-iterator.result c.requires.run c.into_iter-guardian-iterator.ensures.into_iter_gives.0
-      (subst (λ a. IsAfter (Close a) c.args.world.now.run c.try_step.new.world.run) c.in_ok-copy.ensures.ok.1 c.in_ok-try_step.ensures.after)
-      (sym (c.in_ok-try_step.ensures.done
-      ∙ ap (λ a. is_made (answer_of (opening_in c.args.world.now.run.lists) (Close a) c.args.world.now.run.past)) c.in_ok-copy.ensures.ok.1)
-      ∙ c.if-not-branch.false)
-      c.into_iter-guardian-iterator.ensures.into_iter_gives.4;
   means =
       votes_begin (acting c.args.self.now) c.args.world.now.run c.try_step.new.world.run _ c.into_iter-guardian-iterator.ensures.into_iter_gives.0
       (subst (λ a. IsAfter (Close a) c.args.world.now.run c.try_step.new.world.run) c.in_ok-copy.ensures.ok.1 c.in_ok-try_step.ensures.after)
@@ -58,12 +38,6 @@ pub returns-then-not-branch-2-clause-goes_on : goal.returns-then-not-branch-2-cl
 returns-then-not-branch-2-clause-goes_on g c =
     goes_through c.args.world.now.run c.loop-guardian.world.run c.prepare.new.world.run [] [] c.loop-guardian.invariant.goes_on c.prepare.ensures.goes_on
 
-pub returns-then-not-branch-2-clause-held : goal.returns-then-not-branch-2-clause-held
-returns-then-not-branch-2-clause-held g c = λ h.
-    inr (inl (ask_failed (has c.args.self.now.reached.participants) c.args.self.now.name c.loop-guardian.world.run c.prepare.new.world.run
-    c.in-Some.guardian.now _ _ (rest_more deref _ _ _ c.in-Some.guardian c.in-Some.is c.next.ensures.steps) c.in_ok-prepare.ensures.after
-    (sym c.in_ok-prepare.ensures.yes ∙ c.if-not-branch-2.true) c.loop-guardian.invariant.asked))
-
 pub loop-guardian-preserved : goal.loop-guardian-preserved
 loop-guardian-preserved g c = record {
   goes_on =
@@ -77,10 +51,6 @@ loop-guardian-preserved g c = record {
   ends =
       ends_through c.args.world.now.run c.loop-guardian.world.run c.prepare.new.world.run [] c.prepare.ensures.goes_on c.loop-guardian.invariant.ends
       c.prepare.ensures.ends;
-  asked =
-      ask_next (has c.args.self.now.reached.participants) c.args.self.now.name c.loop-guardian.world.run c.prepare.new.world.run
-      c.in-Some.guardian.now _ _ (rest_more deref _ _ _ c.in-Some.guardian c.in-Some.is c.next.ensures.steps) c.in_ok-prepare.ensures.after
-      (sym c.in_ok-prepare.ensures.yes ∙ c.if-not-branch-2.false) c.loop-guardian.invariant.asked;
   means =
       vote_goes (acting c.args.self.now) c.args.world.now.run c.in-Some.guardian.now _ _ c.loop-guardian.world.run c.prepare.new.world.run
       (rest_more deref _ _ _ c.in-Some.guardian c.in-Some.is c.next.ensures.steps) c.in_ok-prepare.ensures.after
@@ -97,29 +67,6 @@ returns-clause-others g c =
     c.loop-guardian.invariant.commits
     (by_is_among c.args.self.now.name c.in_ok-copy-2.field-0 (Decide c.in_ok-copy-2.field-0) c.loop-guardian.world.run c.try_step-2.new.world.run
     c.in_ok-copy-2.ensures.ok.1 (λ a. refl) c.try_step-2.ensures.commits)
-
-pub returns-clause-told : goal.returns-clause-told
-returns-clause-told g c =
-    commit_result_told c.loop-guardian.world.run c.try_step-2.new.world.run (Decide c.args.self.now.name) c.args.self.now.name c.try_step-2.result
-    (subst (λ a. OnOk c.try_step-2.result (IsAfter (Decide a) c.loop-guardian.world.run c.try_step-2.new.world.run)) c.in_ok-copy-2.ensures.ok.1
-    c.try_step-2.ensures.after)
-    (subst
-    (λ a. IfOk c.try_step-2.result (λ done. done ≡ is_made (answer_of (opening_in c.loop-guardian.world.run.lists) (Decide a) c.loop-guardian.world.run.past)))
-    c.in_ok-copy-2.ensures.ok.1 c.try_step-2.ensures.done)
-    (same_name_self c.args.self.now.name)
-    (sym (still_uncommitted c.args.self.now.name c.args.world.now.run c.loop-guardian.world.run c.requires.open c.loop-guardian.invariant.commits))
-
-pub returns-clause-held : goal.returns-clause-held
-returns-clause-held g c =
-    decide_held c.args.self.now.reached.participants c.args.self.now.name c.args.world.now.run c.loop-guardian.world.run c.try_step-2.new.world.run
-    c.try_step-2.result
-    (subst (λ a. OnOk c.try_step-2.result (IsAfter (Decide a) c.loop-guardian.world.run c.try_step-2.new.world.run)) c.in_ok-copy-2.ensures.ok.1
-    c.try_step-2.ensures.after)
-    (subst
-    (λ a. IfOk c.try_step-2.result (λ done. done ≡ is_made (answer_of (opening_in c.loop-guardian.world.run.lists) (Decide a) c.loop-guardian.world.run.past)))
-    c.in_ok-copy-2.ensures.ok.1 c.try_step-2.ensures.done)
-    (all_asked (has c.args.self.now.reached.participants) c.args.self.now.name c.loop-guardian.world.run _
-    (rest_all deref _ _ _ c.in-None.is c.next.ensures.steps) c.loop-guardian.invariant.asked)
 
 pub returns-in_err-try_step-clause-own : goal.returns-in_err-try_step-clause-own
 returns-in_err-try_step-clause-own g c =

@@ -1,11 +1,9 @@
 use Rattle.std.proofs.Common.{[], ◌∷◌, ◌≡◌}
 use Rattle.run_model.specs.declared.step.Step.TheVariants.{Decide}
 use Rattle.activities.specs.Continuing.{CommitsNone, EndsAll, GoesOn}
-use Rattle.activities.specs.Reaching.{has}
 use Rattle.activities.specs.OwnSteps.{KeepsTo}
 use Rattle.activities.specs.Serial.{and_then, tried, two_phases, voted}
 use Rattle.activities.specs.Acting.{acting}
-use Rattle.activities.proofs.Voting.{AreAsked}
 use Rattle.activities.proofs.open_action.OpenAction.commit_top.Given as goal
 
 abbrev pub invariant-loop-guardian : goal.invariant-loop-guardian
@@ -14,6 +12,5 @@ invariant-loop-guardian g l = record {
   own : KeepsTo (l.self.name ∷ []) l.fn.world.run l.world.run;
   commits : CommitsNone l.fn.world.run l.world.run;
   ends : EndsAll l.fn.world.run l.world.run;
-  asked : AreAsked (has l.self.reached.participants) l.self.name l.world.run l.guardian-iterator;
   means : and_then (voted l.self.name l.guardian-iterator l.world.run) (tried (Decide l.self.name)) ≡ two_phases (acting l.self) l.fn.world.run;
 }

@@ -1,0 +1,5 @@
+use Rattle.script_engine.proofs.Bytes as bytes
+use Rattle.script_engine.proofs.laws.one_file.Goals as goal
+
+pub returns : goal.returns
+returns c = bytes.one_file
