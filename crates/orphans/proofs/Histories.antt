@@ -1,7 +1,7 @@
 -- Lists of a history: after an event, and in another shape.
 use Rattle.std.proofs.Common.{Bool, List, None, Option, Some, [], ap, arith, cond, false, filter, length, min, suc, sym, true, ℕ, ◌+◌, ◌++◌, ◌∙◌, ◌∷◌, ◌≡◌}
 use Rattle.action_names.specs.Names.{Name}
-use Rattle.run_model.specs.Actions.{step_crashes}
+use Rattle.run_model.specs.Actions.{crashes, step_crashes}
 use Rattle.run_model.specs.declared.history.Event.{Event}
 use Rattle.run_model.specs.LocalReadings.{LocalEvent, aborted_in, aborts_here, counts_from, counts_here, events_here, is_of, learnt, raised, sent_here}
 use Rattle.orphans.specs.Indexes.{with_own}
@@ -70,21 +70,29 @@ learnt_event before aborts counts sent lesson names raises came here c are stays
           ∙ sym (ap (λ b. min (cond b 0 (cond (is_of came_by.sender came_by.life h present) (length came_by.counts) 0 + sent_here (λ m. length m.counts) g h present here)) most) stays);
     }
 
--- after a crash
+-- after a crash, in which nothing else is left than how many there were
+pub just_crashed : (lists : Lists) → known_names lists.aborts ≡ [] → known_counts lists.counts ≡ []
+    → ((h life : ℕ) → came_of lists.sent h life ≡ record { aborts = 0; counts = 0 })
+    → (here : List LocalEvent) (c : LocalEvent) → step_crashes c.event.step lists.guardian ≡ true → lists.crashes ≡ crashes lists.guardian (events_here (c ∷ here))
+    → AreLists (c ∷ here) lists
+just_crashed lists no_names no_counts none here c crashed counted =
+    let g = lists.guardian in
+    record {
+      crashes = counted;
+      aborts = no_names ∙ sym (ap (λ b. cond b [] (learnt c.carried.aborts (learnt (aborted_in c.carried.outcomes) (aborts_here g here)))) crashed);
+      counts = no_counts ∙ sym (ap (λ b. cond b [] (counts_from c.carried.sender c.carried.life c.carried.counts (counts_here g here))) crashed);
+      sent_aborts = λ h life. ap (λ x. x.aborts) (none h life)
+          ∙ sym (ap (λ b. min (cond b 0 (cond (is_of c.carried.sender c.carried.life h life) (length c.carried.aborts) 0 + sent_here (λ m. length m.aborts) g h life here)) most) crashed);
+      sent_counts = λ h life. ap (λ x. x.counts) (none h life)
+          ∙ sym (ap (λ b. min (cond b 0 (cond (is_of c.carried.sender c.carried.life h life) (length c.carried.counts) 0 + sent_here (λ m. length m.counts) g h life here)) most) crashed);
+    }
+
 pub crashed_event : (before : Lists) (n : ℕ) (aborts : Log) (counts : Counts) (sent : Sent) → n ≡ before.crashes + 1 → known_names aborts ≡ []
     → known_counts counts ≡ [] → ((h life : ℕ) → came_of sent h life ≡ record { aborts = 0; counts = 0 })
     → (here : List LocalEvent) (c : LocalEvent) → AreLists here before → step_crashes c.event.step before.guardian ≡ true
     → AreLists (c ∷ here) (record before { crashes = n; aborts = aborts; counts = counts; sent = sent })
-crashed_event before n aborts counts sent one_more no_names no_counts none here c are crashes =
-    let g = before.guardian in
-    let crashed : List Event = filter (λ e. step_crashes e.step g) (events_here here) in
+crashed_event before n aborts counts sent one_more no_names no_counts none here c are crash =
+    let crashed : List Event = filter (λ e. step_crashes e.step before.guardian) (events_here here) in
     let more : n ≡ suc (length crashed) = omega (arith, one_more, are.crashes) in
-    record {
-      crashes = more ∙ sym (ap (λ b. length (cond b (c.event ∷ crashed) crashed)) crashes);
-      aborts = no_names ∙ sym (ap (λ b. cond b [] (learnt c.carried.aborts (learnt (aborted_in c.carried.outcomes) (aborts_here g here)))) crashes);
-      counts = no_counts ∙ sym (ap (λ b. cond b [] (counts_from c.carried.sender c.carried.life c.carried.counts (counts_here g here))) crashes);
-      sent_aborts = λ h life. ap (λ x. x.aborts) (none h life)
-          ∙ sym (ap (λ b. min (cond b 0 (cond (is_of c.carried.sender c.carried.life h life) (length c.carried.aborts) 0 + sent_here (λ m. length m.aborts) g h life here)) most) crashes);
-      sent_counts = λ h life. ap (λ x. x.counts) (none h life)
-          ∙ sym (ap (λ b. min (cond b 0 (cond (is_of c.carried.sender c.carried.life h life) (length c.carried.counts) 0 + sent_here (λ m. length m.counts) g h life here)) most) crashes);
-    }
+    just_crashed (record before { crashes = n; aborts = aborts; counts = counts; sent = sent }) no_names no_counts none here c crash
+    (more ∙ sym (ap (λ b. length (cond b (c.event ∷ crashed) crashed)) crash))

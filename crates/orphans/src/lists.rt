@@ -2,9 +2,9 @@
 ghost use Rattle.std.specs.Prelude.{◌≡◌, ◌<◌, ◌^◌, ◌+◌, [], ◌∷◌, ℕ, List, IsTrue, IsFalse, IfOk};
 ghost use Rattle.std.specs.FinMap as map;
 ghost use Rattle.action_names.specs.Names.{has_name};
-ghost use Rattle.run_model.specs.Actions.{step_crashes};
+ghost use Rattle.run_model.specs.Actions.{crashes, step_crashes};
 ghost use Rattle.run_model.specs.Lists.{is_orphan_by};
-ghost use Rattle.run_model.specs.LocalReadings.{LocalEvent, aborts_here, known_crashes_here, unsent_aborts, unsent_counts};
+ghost use Rattle.run_model.specs.LocalReadings.{LocalEvent, aborts_here, events_here, known_crashes_here, unsent_aborts, unsent_counts};
 ghost use Rattle.run_model.specs.Openings.{opening_in};
 
 use crate::counts::Counts;
@@ -35,6 +35,22 @@ impl Lists {
         Lists {
             guardian,
             crashes: 0,
+            aborts: Log::new(alloc),
+            counts: Counts::new(alloc),
+            sent: Sent::new(alloc),
+        }
+    }
+
+    /// The lists of a guardian that has just crashed, for the last of so many times. This takes no memory.
+    pub fn reopened(alloc: Global, guardian: u32, count: u64) -> Lists
+        ensures own { guardian_of result ≡ guardian }
+        ensures crashes { crashes_of result ≡ count }
+        ensures lists { (here : List LocalEvent) (c : LocalEvent) → IsTrue (step_crashes c.event.step guardian)
+            → count ≡ crashes guardian (events_here (c ∷ here)) → AreLists (c ∷ here) result }
+    {
+        Lists {
+            guardian,
+            crashes: count,
             aborts: Log::new(alloc),
             counts: Counts::new(alloc),
             sent: Sent::new(alloc),

@@ -7,3 +7,4 @@ pub mod Events
 pub mod Entering
 pub mod Readings
 pub mod Planning
+pub mod Reopened

@@ -4,10 +4,13 @@ ghost use Rattle.std.specs.FinMap as map;
 ghost use Rattle.std.specs.List.{AllByRecursion};
 ghost use Rattle.std.specs.Option.{option_and_then, option_map};
 ghost use Rattle.action_names.specs.Deps.{lesser};
-ghost use Rattle.action_names.specs.Names.{has_name};
+ghost use Rattle.action_names.specs.Names.{Name, has_name};
 ghost use Rattle.holders.specs.Held.{names_of};
 ghost use Rattle.run_model.specs.Actions.{crashes, home_in, is_begun, is_busy, is_done, is_down, is_gone, maker_in, names_begun};
 ghost use Rattle.run_model.specs.LocalReadings.{LocalEvent, dependency_here, events_here, is_at_home, least_of};
+ghost use Rattle.run_model.specs.Openings.{Held};
+ghost use Rattle.run_model.specs.Reopening.{life_before};
+ghost use Rattle.run_model.specs.StableContent.{Prepared};
 ghost use Rattle.local_agreement.specs.Actions.{AgreesOnActions};
 
 use crate::entry::{
@@ -42,6 +45,23 @@ impl Roster {
             guardian,
             crashes: 0,
             down: false,
+            rows: Vec::new(alloc),
+            places: Holders::new(alloc),
+        }
+    }
+
+    /// The roster of a guardian that is opened again by itself: it is down, has crashed once more than recoveries were counted, and no action is at home
+    /// there. This takes no memory.
+    pub fn reopened(alloc: Global, guardian: u32, crashes: u64) -> Roster
+        ensures crashes { crashes_of result ≡ crashes }
+        ensures roster { (held : Held) (records : List (Name × Prepared)) → crashes ≡ held.count + 1
+            → IsRoster guardian (life_before guardian held records) (table result) }
+    {
+        Roster {
+            alloc,
+            guardian,
+            crashes,
+            down: true,
             rows: Vec::new(alloc),
             places: Holders::new(alloc),
         }

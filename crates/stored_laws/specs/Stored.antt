@@ -15,6 +15,10 @@ use Rattle.stable_store.specs.Stored.{Record, Stored, after_bump, after_decide, 
 abbrev pub record_of : Prepared → Record
 record_of p = record { home = p.home; parts = p.parts }
 
+-- and what a record says of its top action
+abbrev pub prepared_of : Record → Prepared
+prepared_of r = record { home = r.home; parts = r.parts }
+
 -- The store of g holds what g's own history says: of each object what is installed, of each top action its record, who was decided, how many
 -- recoveries were counted, and the number after the greatest on which g voted yes. Only top actions have records.
 pub record AreStored (opening : Opening) (g : ℕ) (here : List LocalEvent) (s : Stored) : Type 0 where

@@ -4,7 +4,7 @@
 //! event asks for what the longer history says. A guardian uses it of every event that agrees with its history.
 #![tactic(auto)]
 
-ghost use Rattle.stored_laws.specs.Laws.{NothingIsStored, StoreFollows};
+ghost use Rattle.stored_laws.specs.Laws.{LifeIsStored, NothingIsStored, StoreFollows};
 
 /// A store with the content of the opening, in which nothing is prepared, holds what the empty history says.
 pub fn nothing_is_stored()
@@ -14,4 +14,9 @@ pub fn nothing_is_stored()
 /// After the call that an event asks for, the store holds what the history with that event in front says.
 pub fn store_follows()
     ensures { StoreFollows }
+{}
+
+/// A store from which a guardian is opened again by itself holds what the time before says of which it tells.
+pub fn life_is_stored()
+    ensures { LifeIsStored }
 {}

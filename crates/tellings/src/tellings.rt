@@ -48,6 +48,19 @@ impl Tellings {
         }
     }
 
+    /// Nothing was told, of a guardian that has crashed so often: those of each history in which no outcome came. This takes no memory.
+    pub fn reopened(alloc: Global, crashes: u64) -> Tellings
+        ensures crashes { crashes_of result ≡ crashes }
+        ensures told { (g : ℕ) (here : List LocalEvent) → ((b : Name) → told_here g b here ≡ false) → ((b : Name) → told_committed_here b here ≡ false)
+            → AreTold g here result }
+    {
+        Tellings {
+            alloc,
+            crashes,
+            told: Holders::new(alloc),
+        }
+    }
+
     /// How often the guardian has crashed. This takes no memory.
     pub fn crashes(&self) -> u64
         ensures { result ≡ crashes_of self.now }
