@@ -2,7 +2,7 @@
 use Rattle.std.proofs.Common.{◌≡◌, ℕ, ◌<◌, List, [], ◌∷◌, ◌++◌, length, get_or, zero, suc, refl, sym, ap, ◌∙◌, subst, Some, reverse}
 use Rattle.std.specs.Option.{option_map}
 use Rattle.std.specs.Prelude.{slice_get}
-use Rattle.std.proofs.lemmas.List.{map_push, reverse-append, reverse-reverse}
+use Rattle.std.proofs.lemmas.List.{map_push, reverse-append}
 use Rattle.std.proofs.lemmas.Option.{slice_get-map, slice_get_read}
 use Rattle.run_model.specs.LocalReadings.{Carried, LocalEvent}
 use Rattle.local_histories.specs.Entries.{ArePlaced, event_in, events_in}
@@ -43,6 +43,5 @@ placed_at cs (d ∷ es) zero e h there =
     subst P same h.0
 placed_at cs (d ∷ es) (suc n) e h there = placed_at cs es n e h.1 there
 
-pub event_at : (cs : List Carried) (es : List Entry) (n : ℕ) (e : Entry) → slice_get es n ≡ Some e → slice_get (reverse (reverse (events_in cs es))) n ≡ Some (event_in cs e)
-event_at cs es n e there =
-    ap (λ xs. slice_get xs n) (reverse-reverse (events_in cs es)) ∙ slice_get-map (event_in cs) es n ∙ ap (option_map (event_in cs)) there
+pub entry_at : (cs : List Carried) (es : List Entry) (n : ℕ) (e : Entry) → slice_get es n ≡ Some e → slice_get (events_in cs es) n ≡ Some (event_in cs e)
+entry_at cs es n e there = slice_get-map (event_in cs) es n ∙ ap (option_map (event_in cs)) there

@@ -1,5 +1,4 @@
 -- What is lent, as definitions read it.
-use Rattle.std.specs.Prelude.{[]}
 use Rattle.run_model.specs.LocalReadings.{Carried, LocalEvent}
 use Rattle.layer_contracts.specs.Messages.{sent_of}
 use Rattle.local_histories.specs.declared.history.Kept.{Kept}
@@ -13,7 +12,7 @@ lent_carried m = record {
   counts = m.counts.now;
   dependencies = sent_of m.dependencies.now;
   outcomes = m.outcomes.now;
-  restored = [];
+  restored = m.restored.now;
 }
 
 abbrev pub lent_event : Kept → LocalEvent

@@ -3,3 +3,4 @@ pub mod Places
 pub mod Spans
 pub mod Entries
 pub mod Lending
+pub mod Before

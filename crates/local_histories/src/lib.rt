@@ -4,9 +4,11 @@
 //! events alone, as the definitions of `run_model` read them.
 #![tactic(auto)]
 
+mod before;
 mod history;
 mod lists;
 mod messages;
 
+pub use before::TimeBefore;
 pub use history::{Kept, LocalHistory};
 pub use lists::LentMessage;

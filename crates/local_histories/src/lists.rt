@@ -1,12 +1,13 @@
 //! The lists of messages, one behind another.
 ghost use Rattle.std.specs.Prelude.{◌≡◌, ◌++◌, ◌+◌, ◌≤◌, OnOk, vec_len, vec_capacity};
+ghost use Rattle.run_model.specs.LocalReadings.{nothing_carried};
 ghost use Rattle.layer_contracts.specs.Messages.{carried_of};
 ghost use Rattle.local_histories.specs.Keeping.{HasListRoom};
 ghost use Rattle.local_histories.specs.Lending.{lent_carried};
 ghost use Rattle.local_histories.specs.Spans.{IsSpan, IsWithin, HasMoreLists, behind, carried_in, joined, list_room, no_lists, no_spans, part};
 
 use layer_contracts::Message;
-use run_model::Name;
+use run_model::{Name, Part};
 use std::alloc::{AllocError, Global};
 
 /// What the messages of an event carried, lent.
@@ -24,6 +25,25 @@ pub struct LentMessage<'a> {
     pub dependencies: &'a [(Name, Vec<(u32, u64)>)],
     /// Outcomes: which actions, and whether they committed.
     pub outcomes: &'a [(Name, bool)],
+    /// What a store gave back of the top action that was voted on, by the numbers of objects; something in the time before alone.
+    pub restored: &'a [(u32, Part)],
+}
+
+impl<'a> LentMessage<'a> {
+    /// Of an event whose messages carried nothing.
+    pub(crate) fn nothing() -> LentMessage<'a>
+        ensures { lent_carried result ≡ nothing_carried }
+    {
+        LentMessage {
+            sender: None,
+            life: 0,
+            aborts: &[],
+            counts: &[],
+            dependencies: &[],
+            outcomes: &[],
+            restored: &[],
+        }
+    }
 }
 
 /// Where a list lies in a vector.
@@ -131,6 +151,7 @@ impl Lists {
             counts: lend(&self.counts, spans.counts),
             dependencies: lend(&self.dependencies, spans.dependencies),
             outcomes: lend(&self.outcomes, spans.outcomes),
+            restored: &[],
         }
     }
 }
