@@ -12,6 +12,8 @@ mod plan;
 mod planning;
 mod preparing;
 mod reading;
+mod reopening;
 
 pub use memory::Memory;
 pub use plan::Plan;
+pub use reopening::TopRecord;

@@ -6,6 +6,7 @@ use Rattle.action_names.specs.Names.{Name}
 use Rattle.run_model.specs.Openings.{Opening, first_content, objects_at}
 use Rattle.object_laws.specs.Changes.{given}
 use Rattle.object_laws.specs.Shown.{Shows}
+use Rattle.object_model.specs.Objects.{untouched}
 use Rattle.atomic_object.specs.Kept.{Kept, seen}
 use Rattle.guardian_objects.specs.Objects.{AreObjects, holds_at, holds_of, object_at}
 use Rattle.guardian_objects.proofs.Holding.{held_shown}
@@ -14,9 +15,13 @@ use Rattle.guardian_objects.proofs.Holding.{held_shown}
 abbrev pub HaveBegun : Opening → ℕ → List Kept → Type 0
 HaveBegun opening g os = (n : ℕ) (k : Kept) → object_at os n ≡ Some k → Shows (first_content opening (record { guardian = g; number = n })) (given (λ b. false) []) (seen k)
 
-pub none_begun : (opening : Opening) (g : ℕ) → HaveBegun opening g []
-none_begun opening g zero k e = absurd (none-some k e)
-none_begun opening g (suc n) k e = absurd (none-some k e)
+-- each is as nobody touched it
+abbrev pub AreUntouched : Opening → ℕ → List Kept → Type 0
+AreUntouched opening g os = (n : ℕ) (k : Kept) → object_at os n ≡ Some k → seen k ≡ untouched (first_content opening (record { guardian = g; number = n }))
+
+pub none_there : (P : ℕ → Kept → Type 0) (n : ℕ) (k : Kept) → object_at [] n ≡ Some k → P n k
+none_there P zero k e = absurd (none-some k e)
+none_there P (suc n) k e = absurd (none-some k e)
 
 last_or_before : (os : List Kept) (k : Kept) (i : ℕ) (x : Kept) → slice_get (os ++ k ∷ []) i ≡ Some x → (slice_get os i ≡ Some x) ⊎ ((i ≡ length os) × (k ≡ x))
 last_or_before [] k zero x e = inr (refl, same_Some k x e)
@@ -27,17 +32,16 @@ last_or_before (y ∷ os) k (suc i) x e = elim (last_or_before os k i x e) [
   | inr q ↦ inr (ap suc q.0, q.1)
 ]
 
-pub begun_more : (opening : Opening) (g : ℕ) (os more : List Kept) (k : Kept) (n : ℕ) → more ≡ os ++ k ∷ [] → n ≡ suc (length os)
-    → Shows (first_content opening (record { guardian = g; number = n })) (given (λ b. false) []) (seen k) → HaveBegun opening g os → HaveBegun opening g more
-begun_more opening g os more k n pushed number shows have = subst (λ l. HaveBegun opening g l) (sym pushed) all
+-- one object more, of the next number
+pub one_more : (P : ℕ → Kept → Type 0) (os more : List Kept) (k : Kept) (n : ℕ) → more ≡ os ++ k ∷ [] → n ≡ suc (length os) → P n k
+    → ((i : ℕ) (x : Kept) → object_at os i ≡ Some x → P i x) → (i : ℕ) (x : Kept) → object_at more i ≡ Some x → P i x
+one_more P os more k n pushed number is have i x e = all i (sym (ap (λ l. object_at l i) pushed) ∙ e)
   where
-    all : HaveBegun opening g (os ++ k ∷ [])
-    all zero x e = absurd (none-some x e)
-    all (suc i) x e = elim (last_or_before os k i x e) [
-      | inl q ↦ have (suc i) x q
-      | inr q ↦
-          subst (λ y. Shows (first_content opening (record { guardian = g; number = suc i })) (given (λ b. false) []) (seen y)) q.1
-          (subst (λ m. Shows (first_content opening (record { guardian = g; number = m })) (given (λ b. false) []) (seen k)) (number ∙ ap suc (sym q.0)) shows)
+    all : (j : ℕ) → object_at (os ++ k ∷ []) j ≡ Some x → P j x
+    all zero at = absurd (none-some x at)
+    all (suc j) at = elim (last_or_before os k j x at) [
+      | inl q ↦ have (suc j) x q
+      | inr q ↦ subst (λ y. P (suc j) y) q.1 (subst (λ m. P m k) (number ∙ ap suc (sym q.0)) is)
     ]
 
 -- so they are those of a history in which nothing happened

@@ -13,3 +13,4 @@ pub mod Parted
 pub mod SoFar
 pub mod Making
 pub mod Counting
+pub mod GivenBack

@@ -4,3 +4,4 @@ pub mod Turns
 pub mod Operations
 pub mod Crashes
 pub mod Parts
+pub mod Restored

@@ -8,6 +8,7 @@ mod crashing;
 mod objects;
 mod outcomes;
 mod preparing;
+mod restoring;
 
 pub use objects::Objects;
 pub use outcomes::Planned;

@@ -13,6 +13,7 @@ ghost use Rattle.object_laws.specs.Shown.{Shows};
 ghost use Rattle.atomic_object.specs.Kept.{Kept, seen};
 ghost use Rattle.guardian_objects.specs.Objects.{AreObjects, IsAsked, Keeps, Operates, object_at, object_of};
 ghost use Rattle.guardian_objects.specs.Operations.{IsAnsweredBy, IsShownAt, StaysHeld};
+ghost use Rattle.guardian_objects.specs.Restored.{AreGivenBack};
 ghost use Rattle.guardian_objects.specs.Turns.{AreChanged};
 
 use action_names::Name;
@@ -52,6 +53,7 @@ impl Objects {
         requires { 1 ≤ guardian }
         ensures guardian { IfOk result (λ objects. objects.guardian ≡ guardian) }
         ensures objects { IfOk result (λ objects. AreObjects (opening_in opening.now) [] objects) }
+        ensures given { IfOk result (λ objects. AreGivenBack (opening_in opening.now) [] objects) }
     {
         let count = opening.setup().objects(guardian).len();
         let held = HeldObjects::new(alloc);
