@@ -5,3 +5,4 @@ pub mod Sound
 pub mod Planned
 pub mod Readings
 pub mod Kept
+pub mod Reopened

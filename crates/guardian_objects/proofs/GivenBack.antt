@@ -1,6 +1,7 @@
 -- Objects of which a store gave parts back.
 use Rattle.std.proofs.Common.{append-nil, Bool, List, None, Option, Some, [], ap, ap₂, arith, cond, eqb-true, false, filter, inl, inr, length, map, refl, subst, suc, sym, take, true, zero, ℕ, ◌&&◌, ◌++◌, ◌<◌, ◌==◌, ◌∙◌, ◌∷◌, ◌≡◌, ◌≤◌, ◌||◌, pos}
 use Rattle.std.proofs.lemmas.Bool.{and_right, eq-eqb, ne_eqb, or_from, or_left, or_parts}
+use Rattle.std.proofs.Math.ListN.{length-append}
 use Rattle.std.proofs.lemmas.Option.{none-some, same_Some}
 use Rattle.std.specs.List.{AllByRecursion}
 use Rattle.std.specs.Prelude.{is_some, slice_get}
@@ -14,8 +15,9 @@ use Rattle.run_model.specs.LocalReadings.{LocalEvent, standing_here, told_commit
 use Rattle.run_model.specs.Openings.{Held, Opening, first_content, objects_at}
 use Rattle.run_model.specs.Reopening.{life_before}
 use Rattle.run_model.specs.StableContent.{Prepared}
+use Rattle.run_model.specs.Telling.{holder_by}
 use Rattle.run_laws.proofs.Names.{descendant_is_own, eqb_self, front_alone, same_name_self}
-use Rattle.local_laws.specs.Reopened.{AreRising, IsReopened, MayStand, is_prepared, parts_of}
+use Rattle.local_laws.specs.Reopened.{AreRising, IsDelta, IsReopened, MayStand, is_prepared, parts_of}
 use Rattle.local_laws.specs.Reopened as records
 use Rattle.local_laws.proofs.Reopened.{life_before_is}
 use Rattle.object_model.specs.Objects.{IsRestored, Seen, delta_in, untouched, value_in}
@@ -411,6 +413,11 @@ nothing_given opening g os low count are = record {
 
 -- ---- all records given back, and nothing else
 
+-- who was not told committed holds what it did
+pub holds_itself : (told : Name → Bool) (a : Name) → 1 ≤ length a → told a ≡ false → holder_by told a ≡ Some a
+holds_itself told [] low untold = absurd (omega (arith, low))
+holds_itself told (n ∷ a) low untold = holds_own told (n ∷ a) (descendant_is_own (n ∷ []) (n ∷ a) (front_alone n a)) untold
+
 module _ (opening : Opening) (g : ℕ) (held : Held) (rs : List (Name × Prepared)) (may : AreRestorable opening g rs) where
   abbrev life : List LocalEvent
   life = life_before g held rs
@@ -430,11 +437,7 @@ module _ (opening : Opening) (g : ℕ) (held : Held) (rs : List (Name × Prepare
 
   theirs : (ps : List (Name × Part)) → AllByRecursion (λ r. 1 ≤ length r.0) ps → AreTheirs told ps
   theirs [] h = tt
-  theirs (r ∷ ps) h = (holds_own told r.0 (own_ancestor r.0 h.0) (read.told_committed r.0), theirs ps h.1)
-    where
-      own_ancestor : (a : Name) → 1 ≤ length a → is_ancestor a a ≡ true
-      own_ancestor [] low = absurd (omega (arith, low))
-      own_ancestor (n ∷ a) low = descendant_is_own (n ∷ []) (n ∷ a) (front_alone n a)
+  theirs (r ∷ ps) h = (holds_itself told r.0 h.0 (read.told_committed r.0), theirs ps h.1)
 
   named : (n : ℕ) → AllByRecursion (λ r. 1 ≤ length r.0) (parts_at n)
   named n =
@@ -469,3 +472,19 @@ module _ (opening : Opening) (g : ℕ) (held : Held) (rs : List (Name × Prepare
         (have.restored n k e))));
     index = have.index;
   }
+
+-- of records that may be given back, so may those behind the first
+pub restorable_behind : (opening : Opening) (g : ℕ) (p : Name × Prepared) (rs : List (Name × Prepared)) → AreRestorable opening g (p ∷ rs) → AreRestorable opening g rs
+restorable_behind opening g p rs h = record {
+  are = record { named = h.are.named.1; apart = h.are.apart.1; each = h.are.each.1 };
+  suit = h.suit.1;
+  alone = λ n. may_stand_behind (own_parts p.0 p.1.parts n) (in_records g n rs) (subst MayStand (parts_front g n p.0 p.1.home p.1.parts rs) (h.alone n));
+}
+  where
+    may_stand_behind : (xs ys : List (Name × Part)) → MayStand (xs ++ ys) → MayStand ys
+    may_stand_behind xs ys (inl short) = let all = length-append xs ys in inl (omega (arith, all, short))
+    may_stand_behind xs ys (inr deltas) = inr (behind xs deltas)
+      where
+        behind : (zs : List (Name × Part)) → AllByRecursion (λ r. IsDelta r.1) (zs ++ ys) → AllByRecursion (λ r. IsDelta r.1) ys
+        behind [] h = h
+        behind (z ∷ zs) h = behind zs h.1
