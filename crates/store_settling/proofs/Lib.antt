@@ -6,7 +6,7 @@ pub mod InTurn
 pub mod Promised
 pub mod Reading
 pub mod Alike
-pub mod Belongs
+pub mod Fitting
 pub mod Ready
 pub mod Said
 pub mod Nothing

@@ -41,7 +41,9 @@ fn store_belongs<S: Stable>(setup: &Setup, guardian: u32, store: &S) -> bool
     belongs(setup, guardian, kept_in(store))
 }
 
-fn belongs(setup: &Setup, guardian: u32, kept: &Kept) -> bool
+/// Whether a content may stand in the store of this guardian: its parts are of the objects that the guardian was set up with, a value of its object's
+/// type, a delta only for a counter, and the home of each record is a guardian of the setup. This takes no memory.
+pub fn belongs(setup: &Setup, guardian: u32, kept: &Kept) -> bool
     requires { 1 ≤ guardian }
     ensures { result ≡ belongs setup.now guardian (held kept.now) }
 {

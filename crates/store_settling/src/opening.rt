@@ -98,8 +98,8 @@ fn held_by_all<S: Stable>(alloc: Global, stores: &[S]) -> Result<Vec<Held>, Allo
     Ok(held)
 }
 
-// What a store with this content holds.
-fn held_by(alloc: Global, kept: &Kept) -> Result<Held, AllocError>
+/// What a store with this content holds beside its records, in lists.
+pub fn held_by(alloc: Global, kept: &Kept) -> Result<Held, AllocError>
     ensures { IfOk result (λ held. held ≡ lists_of kept.now) }
 {
     let base = listed_parts(alloc, &kept.base)?;

@@ -1,5 +1,5 @@
 use Rattle.std.proofs.Common.{arith}
-use Rattle.store_settling.proofs.Belongs.{all_do, belong_more, one_does_not}
+use Rattle.store_settling.proofs.Fitting.{all_do, belong_more, one_does_not}
 use Rattle.store_settling.proofs.checking.all_belong.Goals as goal
 
 pub loop-guardian-preserved : goal.loop-guardian-preserved

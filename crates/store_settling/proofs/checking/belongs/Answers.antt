@@ -3,7 +3,7 @@ use Rattle.std.specs.List.{list_all}
 use Rattle.std.specs.Map.{values_of}
 use Rattle.stable_store.specs.Held.{record_of}
 use Rattle.store_settling.specs.Belonging.{all_suit, record_belongs}
-use Rattle.store_settling.proofs.Belongs.{belongs_by, belongs_not}
+use Rattle.store_settling.proofs.Fitting.{belongs_by, belongs_not}
 use Rattle.store_settling.proofs.checking.belongs.Goals as goal
 
 pub returns-then-all_suit : goal.returns-then-all_suit
