@@ -1,10 +1,13 @@
 -- The memory and the store of a guardian, once an event is kept and the store holds what it asks for.
-use Rattle.std.proofs.Common.{List, None, Some, [], ap, false, subst, sym, true, ℕ, ◌∙◌, ◌∷◌, ◌≡◌}
+use Rattle.std.proofs.Common.{List, None, Some, [], ap, false, inl, inr, refl, subst, sym, true, ℕ, ◌∙◌, ◌∷◌, ◌≡◌}
 use Rattle.run_model.specs.declared.step.Step.{Step}
 use Rattle.run_model.specs.declared.step.Step.TheVariants.{Abort, Arms, Call, Close, Commit, Crash, Decide, NestedTop, Op, Prepare, Recover, Tell, Top}
+use Rattle.action_names.specs.Names.{Name}
 use Rattle.run_model.specs.LocalReadings.{LocalEvent}
+use Rattle.run_model.specs.Reopening.{life_before}
+use Rattle.run_model.specs.StableContent.{Prepared}
 use Rattle.run_model.specs.Openings.{Opening, opening_in}
-use Rattle.local_laws.specs.Owed.{IsLocalRun, IsOwed, begins, goes_on}
+use Rattle.local_laws.specs.Owed.{IsOwed, begins, goes_on}
 use Rattle.local_agreement.specs.Outcomes.{AgreesOnVotes}
 use Rattle.layer_contracts.specs.Guardians.{News, kept, stamped}
 use Rattle.layer_contracts.specs.Messages.{may_fail}
@@ -14,8 +17,8 @@ use Rattle.stored_laws.proofs.Following.{nothing_is_stored, store_follows}
 use Rattle.guardian_memory.specs.Memories.{InMemory, state_of}
 use Rattle.guardian_memory.specs.Plans.{FitsPlan, news_of}
 use Rattle.guardian_memory.specs.declared.plan.Plan.{Plan}
-use Rattle.guardian.specs.Guardians.{InParts, IsSettled, IsWhole}
-use Rattle.layer_contracts.specs.Stores.{LeavesStore}
+use Rattle.guardian.specs.Guardians.{GoesOn, InParts, IsSettled, IsWhole}
+use Rattle.layer_contracts.specs.Stores.{IsStoreOf, LeavesStore}
 use Rattle.guardian.proofs.Asked.{stamp_alike}
 use Rattle.layer_contracts.specs.declared.guardian.Fault.{Fault}
 use Rattle.guardian.proofs.Stores.{made_of, refused_of}
@@ -53,7 +56,17 @@ module _ {S : Type 0} (seen : S → View) where
           subst (λ st. AreStored st.opening st.number st.past (seen s).content) (sym is)
           (nothing_is_stored opening g (seen s).content settled.base settled.prepared settled.decided settled.count settled.next_top);
     };
-    run = subst (λ st. IsLocalRun st.opening st.number [] st.past) (sym is) begins;
+    run = subst GoesOn (sym is) ([], inl refl, begins);
+  }
+
+  -- it was opened again by itself
+  pub whole_reopened : (m : InMemory) (s : S) (records : List (Name × Prepared))
+      → (state_of m).past ≡ life_before (state_of m).number ((state_of m).opening.stores (state_of m).number) records
+      → (seen s).holds_content ≡ true → Rests (seen s) → AreStored (state_of m).opening (state_of m).number (state_of m).past (seen s).content
+      → IsWhole seen (record { memory = m; store = s })
+  whole_reopened m s records is found rests stored = record {
+    store = record { found = found; rests = rests; stored = stored };
+    run = ((state_of m).past, inr (records, is), begins);
   }
 
   -- an event is kept, and the store holds what it asks for
@@ -74,9 +87,17 @@ module _ {S : Type 0} (seen : S → View) where
               (store_follows opening m.number c here (seen s).content whole.store.stored (votes_at m.number n (news_of p) here fits.agrees.votes)));
         };
         run =
-            subst (λ st. IsLocalRun st.opening st.number [] st.past) (sym is)
-            (goes_on c (owed_at opening m.number n (news_of p) here p.event.step fits.owed) fits.agrees.given whole.run);
+            subst GoesOn (sym is)
+            (whole.run.0, whole.run.1, goes_on c (owed_at opening m.number n (news_of p) here p.event.step fits.owed) fits.agrees.given whole.run.2);
       }
+
+  -- nothing is kept
+  pub whole_same : (m m' : InMemory) (s : S) → IsWhole seen (record { memory = m; store = s }) → state_of m' ≡ state_of m
+      → IsWhole seen (record { memory = m'; store = s })
+  whole_same m m' s whole is = record {
+    store = subst (λ st. IsStoreOf st (seen s)) (sym is) whole.store;
+    run = subst GoesOn (sym is) whole.run;
+  }
 
   -- no event is kept, and the store refused
   pub whole_still : (m : InMemory) (s : S) (news : News) (s' : S) (fault : Fault) → IsWhole seen (record { memory = m; store = s })

@@ -6,8 +6,10 @@
 #![tactic(auto)]
 
 mod carrying;
+mod checking;
 mod guardian;
 mod records;
+mod reopening;
 mod writes;
 
 pub use guardian::Guardian;
