@@ -3,3 +3,4 @@ pub mod Numbers
 pub mod Text
 pub mod Entries
 pub mod Ancestry
+pub mod Order

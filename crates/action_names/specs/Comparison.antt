@@ -1,8 +1,11 @@
--- The laws of the two comparisons of names: `same_name` is an equivalence, and `name_cmp` a total order that agrees with it.
-use Rattle.std.specs.Prelude.{◌≡◌, [], ◌∷◌, ◌&&◌, ◌==◌, nat_eq, refl}
+-- The laws of the two comparisons of names: `same_name` is an equivalence, and `name_cmp` a total order that agrees with it. What a name feeds
+-- a hasher, which for the same names is the same.
+use Rattle.std.specs.Prelude.{◌≡◌, [], ◌∷◌, ◌&&◌, ◌==◌, IsTrue, nat_eq, refl}
 use Rattle.std.specs.Ordering.{eq_by_cmp, as_partial_cmp}
 use Rattle.std.specs.Cmp.{IsEquivalence, IsPartialEquivalence, IsTotalOrder, IsPartialOrder, partial_equiv_from_equiv, po}
-use Rattle.std.specs.Cmp.Lexicographic.{pointwise, texts_ties, nat_list_cmp_total, nat_list_eq_equiv}
+use Rattle.std.specs.Cmp.Lexicographic.{pointwise, bytes_decides, texts_ties, nat_list_cmp_total, nat_list_eq_equiv}
+use Rattle.std.specs.Hash.{HashWrites, u32}
+use Rattle.std.specs.List.{flat_map}
 use mathlib.Core.Path.{sym, ap, subst, ◌∙◌}
 use Rattle.action_names.specs.Names.{Name, same_name, name_cmp}
 
@@ -28,3 +31,10 @@ same_name-ties a b = sym (same_name-pointwise a b) ∙ texts_ties a b
 
 pub name_cmp-partial_order : IsPartialOrder same_name (as_partial_cmp name_cmp)
 name_cmp-partial_order = po name_cmp-total same_name-ties
+
+-- each number in turn
+abbrev pub fed_name : Name → HashWrites
+fed_name a = flat_map u32 a
+
+pub same_name-fed : (a b : Name) → IsTrue (same_name a b) → fed_name a ≡ fed_name b
+same_name-fed a b h = ap (flat_map u32) ((bytes_decides a b).0 (same_name-pointwise a b ∙ h))

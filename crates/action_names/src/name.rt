@@ -2,12 +2,13 @@
 ghost use Rattle.std.specs.Prelude.{◌≡◌, ◌≢◌, ◌↔◌, ◌<◌, ◌≤◌, ◌++◌, [], ◌∷◌, length, List, ℕ, refl, decimal, Some, IsTrue, IsOk, IsNone, IfSome, IfOk, OnOk, OnErr, IsErrOf, string_bytes};
 ghost use Rattle.std.specs.Ordering.{as_partial_cmp};
 ghost use Rattle.action_names.specs.Names.{IsName, IsComponent, name_text, child_of, parent_of, last_of, same_name, is_ancestor, is_top, meet_of, name_cmp, max_depth};
-ghost use Rattle.action_names.specs.Comparison.{same_name-partial_equivalence, same_name-equivalence, name_cmp-total, same_name-ties, name_cmp-partial_order};
+ghost use Rattle.action_names.specs.Comparison.{same_name-partial_equivalence, same_name-equivalence, name_cmp-total, same_name-ties, name_cmp-partial_order, same_name-fed, fed_name};
 ghost use Rattle.action_names.specs.declared.name.NameFault.TheVariants.{Memory};
 
 use smallvec::SmallVec;
 use std::alloc::{AllocError, AllocFailed, Global};
 use std::cmp::Ordering;
+use std::hash::{Hash, Hasher};
 use std::io::Write;
 use std::marker::Model;
 use std::{fmt, str};
@@ -236,7 +237,7 @@ impl PartialEq for Name {
     ghost laws = { same_name-partial_equivalence };
 
     fn eq(&self, other: &Self) -> bool {
-        self.parts == other.parts
+        self.cmp(other).is_eq()
     }
 }
 
@@ -264,6 +265,29 @@ impl Ord for Name {
     ghost matches_eq = { same_name-ties };
 
     fn cmp(&self, other: &Self) -> Ordering {
-        self.parts.cmp(&other.parts)
+        order(self.components(), other.components())
+    }
+}
+
+/// The order of two lists of numbers. Names are short: a plain loop is done before a comparison by groups has begun.
+fn order(own: &[u32], others: &[u32]) -> Ordering
+    ensures { result ≡ name_cmp own.now others.now }
+{
+    for i in 0..own.len().min(others.len()) {
+        if own[i] != others[i] {
+            return own[i].cmp(&others[i]);
+        }
+    }
+    own.len().cmp(&others.len())
+}
+
+// Each number is fed and nothing else, so that a short name costs a step or two of the hasher.
+impl Hash for Name {
+    ghost hash_input = { fed_name };
+
+    ghost respects_eq = { same_name-fed };
+
+    fn hash<H: Hasher>(&self, state: &mut H) {
+        u32::hash_slice(self.components(), state);
     }
 }
