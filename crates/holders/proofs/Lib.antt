@@ -3,3 +3,4 @@ pub mod Rows
 pub mod Looks
 pub mod Kept
 pub mod Below
+pub mod Indexed

@@ -4,7 +4,9 @@
 #![tactic(auto)]
 
 mod holders;
+mod index;
 mod survivors;
 
 pub use holders::{Holders, remove_below};
+pub use index::Index;
 pub use survivors::Survivors;

@@ -16,7 +16,7 @@ ghost use Rattle.local_agreement.specs.Actions.{AgreesOnActions};
 use crate::entry::{
     Entry, Row, Turn, closed_in, depends_in, ended_in, maker_in, names_in, turn_in,
 };
-use holders::Holders;
+use holders::Index;
 use run_model::{Deps, Event, Name, Step};
 use std::alloc::{AllocError, Global};
 
@@ -28,7 +28,7 @@ pub struct Roster {
     crashes: u64,
     down: bool,
     rows: Vec<Row>,
-    places: Holders<usize>,
+    places: Index<usize>,
 }
 
 impl Roster {
@@ -46,7 +46,7 @@ impl Roster {
             crashes: 0,
             down: false,
             rows: Vec::new(alloc),
-            places: Holders::new(alloc),
+            places: Index::new(alloc),
         }
     }
 

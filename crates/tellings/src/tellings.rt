@@ -6,7 +6,7 @@ ghost use Rattle.run_model.specs.LocalReadings.{LocalEvent, told_committed_here,
 ghost use Rattle.run_model.specs.Telling.{holder_by};
 
 use action_names::Name;
-use holders::Holders;
+use holders::Index;
 use std::alloc::{AllocError, Global};
 
 /// What was told of one action.
@@ -23,7 +23,7 @@ struct Told {
 pub struct Tellings {
     alloc: Global,
     crashes: u64,
-    told: Holders<Told>,
+    told: Index<Told>,
 }
 
 /// Outcomes that are to be told, in copies; the first of an action's counts.
@@ -44,7 +44,7 @@ impl Tellings {
         Tellings {
             alloc,
             crashes: 0,
-            told: Holders::new(alloc),
+            told: Index::new(alloc),
         }
     }
 
