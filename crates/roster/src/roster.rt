@@ -102,8 +102,7 @@ impl Roster {
     pub fn is_gone(&self, action: &Name) -> bool
         ensures { (g : ℕ) (here : List LocalEvent) → IsRoster g here (table self.now) → result ≡ is_gone action.now (events_here here) }
     {
-        let home = self.home(action);
-        let life = self.life(action);
+        let (home, life) = self.birth(action);
         home == self.guardian && life < self.crashes
     }
 
@@ -223,13 +222,14 @@ impl Roster {
         }
     }
 
-    // How often its home had crashed when the action began, and 0 where it did not begin here.
-    fn life(&self, action: &Name) -> u64
-        ensures { result ≡ life_at (table self.now) action.now }
+    // The home of the action, and how often that had crashed when the action began; 0 and 0 where it did not begin here.
+    fn birth(&self, action: &Name) -> (u32, u64)
+        ensures home { result.0 ≡ home_at (table self.now) action.now }
+        ensures life { result.1 ≡ life_at (table self.now) action.now }
     {
         match self.row(action) {
-            Some(row) => row.life,
-            None => 0,
+            Some(row) => (row.home, row.life),
+            None => (0, 0),
         }
     }
 
