@@ -225,3 +225,7 @@ kept_then state low high m n e f f' gs left right a' b' d d' g len lt lt2 q done
 
 pub differ : (a b low high : ℕ) → a ≡ low → b ≡ high → (low == high) ≡ false → (a == b) ≡ false
 differ a b low high p q h = ap₂ (λ m n. m == n) p q ∙ h
+
+-- the event that was recorded is the newest
+pub newest_is : (x y : Event) (rest past : List Event) {history : List Event} → history ≡ x ∷ rest → history ≡ y ∷ past → x ≡ y
+newest_is x y rest past p q = let both : x ∷ rest ≡ y ∷ past = sym p ∙ q in cc

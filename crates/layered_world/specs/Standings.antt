@@ -1,5 +1,6 @@
 -- What a world is: its history is a run, and its forest and its guardians stand where that run leads them.
 use Rattle.std.specs.Prelude.{◌≡◌, ◌<◌, ◌⊎◌, ◌≢◌, ◌-◌, ℕ, Bool, ◌+◌, ◌==◌, ◌&&◌, ◌||◌, List, length, Option, Some, slice_get}
+use Rattle.run_model.specs.declared.answer.Answer.{Answer}
 use Rattle.run_model.specs.declared.history.Event.{Event}
 use Rattle.run_model.specs.declared.step.Step.{Step}
 use Rattle.run_model.specs.Openings.{Opening}
@@ -35,9 +36,13 @@ pub record IsWorld {X : Type 0} (state : X → GuardianState) (stored : X → Vi
   pub each : (i : ℕ) (x : X) → slice_get guardians i ≡ Some x → state x ≡ standing opening past (i + 1)
   pub stores : (i : ℕ) (x : X) → slice_get guardians i ≡ Some x → IsStoreOf (state x) (stored x)
 
+-- the step, with this answer
+abbrev pub event_of : Step → Answer → Event
+event_of step answer = record { step = step; answer = answer }
+
 -- the step, with the answer that it has then
 abbrev pub event_next : Opening → Step → List Event → Event
-event_next opening step past = record { step = step; answer = answer_of opening step past }
+event_next opening step past = event_of step (answer_of opening step past)
 
 -- the event as guardian g keeps it, but for its stamp
 abbrev pub brought : Opening → Event → List Event → ℕ → LocalEvent

@@ -1,4 +1,4 @@
-ghost use Rattle.std.specs.Prelude.{◌≡◌, ◌≤◌, ◌<◌, ℕ, ◌-◌, ◌==◌, ◌||◌, List, ◌∷◌, length, IsErrOf, IsTrue, IfOk, OnOk, OnErr, MatchOption, Some, slice_get};
+ghost use Rattle.std.specs.Prelude.{◌≡◌, ◌≤◌, ◌<◌, ℕ, ◌-◌, ◌==◌, ◌||◌, List, ◌∷◌, drop, length, IsErrOf, IsTrue, IfOk, OnOk, OnErr, MatchOption, Some, slice_get};
 ghost use Rattle.run_model.specs.Answers.{answer_of};
 ghost use Rattle.run_model.specs.Runs.{IsRun, history_after, is_accepted};
 ghost use Rattle.run_model.specs.LocalHistories.{answer_lent};
@@ -6,7 +6,7 @@ ghost use Rattle.layer_contracts.specs.Guardians.{lent_two};
 ghost use Rattle.lent_steps.specs.Lending.{OneOpening, nobody};
 ghost use Rattle.layer_contracts.specs.Stores.{fault_in};
 ghost use Rattle.layer_contracts.specs.declared.guardian.Fault.TheVariants.{Stable};
-ghost use Rattle.layered_world.specs.Standings.{AreSame, HasFailed, IsKeptAt, IsLeftAt, IsOut, IsReady, IsWholeAt, IsWorld, Names, StoresLeft};
+ghost use Rattle.layered_world.specs.Standings.{AreSame, HasFailed, event_of, IsKeptAt, IsLeftAt, IsOut, IsReady, IsWholeAt, IsWorld, Names, StoresLeft};
 
 use layer_contracts::{Fault, Forest, Guardian};
 use lent_steps::{answer_alone, answer_two, keep_one, keep_two, named};
@@ -36,8 +36,7 @@ pub fn step<R: Forest, G: Guardian>(
     if !answer.is_accepted() {
         return Ok(answer);
     }
-    let event = Event::of(step, &answer)?;
-    keep(alloc, forest, guardians, history, low, high, &event)?;
+    keep(alloc, forest, guardians, history, low, high, step, &answer)?;
     Ok(answer)
 }
 
@@ -91,7 +90,7 @@ fn answer_at<R: Forest, G: Guardian>(
     }
 }
 
-/// Keeps an accepted event: in the history, in the forest and at the guardians that it names.
+/// Keeps an accepted step with its answer: in the history, in the forest and at the guardians that it names.
 fn keep<R: Forest, G: Guardian>(
     alloc: Global,
     forest: &mut R,
@@ -99,21 +98,22 @@ fn keep<R: Forest, G: Guardian>(
     history: &mut History,
     low: u32,
     high: u32,
-    event: &Event,
+    step: &Step,
+    answer: &Answer,
 ) -> Result<(), Fault>
     requires world { IsWorld G.state G.stored (R.state forest.old).opening history.old (R.state forest.old) guardians.old }
-    requires names { Names (R.state forest.old) event.now.step low high }
+    requires names { Names (R.state forest.old) step.now low high }
     requires ordered { low ≤ high }
-    requires more { IsRun (R.state forest.old).opening (event.now ∷ history.old) }
-    ensures ok { OnOk result (history.new ≡ event.now ∷ history.old) }
+    requires more { IsRun (R.state forest.old).opening (event_of step.now answer.now ∷ history.old) }
+    ensures ok { OnOk result (history.new ≡ event_of step.now answer.now ∷ history.old) }
     ensures err { OnErr result (history.new ≡ history.old) }
     ensures world { IsWorld G.state G.stored (R.state forest.old).opening history.new (R.state forest.new) guardians.new }
-    ensures stores { StoresLeft G.stored (R.state forest.old).opening history.old event.now.step guardians.old guardians.new (fault_in result) }
+    ensures stores { StoresLeft G.stored (R.state forest.old).opening history.old step.now guardians.old guardians.new (fault_in result) }
     ensures cause { IsErrOf result Stable → HasFailed G.stored guardians.old guardians.new }
 {
     let number = history.next_stamp();
-    record(history, event)?;
-    let kept = keep_at(alloc, forest, guardians, low, high, event, number);
+    record(history, step, answer)?;
+    let kept = keep_at(alloc, forest, guardians, low, high, newest(history), number);
     ask_number(guardians, low);
     ask_number(guardians, high);
     if kept.is_err() {
@@ -122,13 +122,22 @@ fn keep<R: Forest, G: Guardian>(
     kept
 }
 
-/// Records a copy of the event.
-fn record(history: &mut History, event: &Event) -> Result<(), AllocError>
-    ensures ok { OnOk result (history.new ≡ event.now ∷ history.old) }
+/// Records the event that this step with this answer is, of copies.
+fn record(history: &mut History, step: &Step, answer: &Answer) -> Result<(), AllocError>
+    ensures ok { OnOk result (history.new ≡ event_of step.now answer.now ∷ history.old) }
     ensures err { OnErr result (history.new ≡ history.old) }
 {
-    history.push(event.copy()?)?;
+    history.push(Event::of(step, answer)?)?;
     Ok(())
+}
+
+/// The newest event of a history that has one.
+fn newest(history: &History) -> &Event
+    requires { 1 ≤ length history.now }
+    ensures { history.now ≡ result.now ∷ drop 1 history.now }
+{
+    let events = history.events();
+    &events[events.len() - 1]
 }
 
 /// Asks a guardian for its number: its store is that of its history.

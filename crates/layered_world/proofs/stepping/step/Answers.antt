@@ -19,13 +19,6 @@ returns-then-not-is_accepted-clause-stores g c =
     stores_idle g.G.Guardian.stored f.opening c.args.history.now c.args.step.now c.args.guardians.now None
     (ap is_accepted (sym c.in_ok-answer.ensures) ∙ sym c.is_accepted.ensures ∙ c.if-not-is_accepted.true)
 
-pub returns-in_err-event-clause-stores : goal.returns-in_err-event-clause-stores
-returns-in_err-event-clause-stores g c =
-    let f : ForestState = g.R.Forest.state c.args.forest.now in
-    let gs = c.args.guardians.now in
-    with_fault c.from_residual-in_err-event.result _ (λ fault. StoresLeft g.G.Guardian.stored f.opening c.args.history.now c.args.step.now gs gs fault)
-    c.from_residual-in_err-event.ensures.1 (stores_refused g.G.Guardian.stored f.opening c.args.history.now c.args.step.now gs g.G.Guardian.state f c.requires)
-
 pub returns-in_err-keep-clause-stores : goal.returns-in_err-keep-clause-stores
 returns-in_err-keep-clause-stores g c =
     let f : ForestState = g.R.Forest.state c.args.forest.now in
@@ -33,11 +26,4 @@ returns-in_err-keep-clause-stores g c =
     let gs' = c.keep.new.guardians in
     with_fault c.from_residual-in_err-keep.result c.in_err-keep.field-0.0 (λ fault. StoresLeft g.G.Guardian.stored f.opening c.args.history.now c.args.step.now gs gs' fault)
     c.from_residual-in_err-keep.ensures.1
-    (subst (λ e. StoresLeft g.G.Guardian.stored f.opening c.args.history.now e.step gs gs' (Some c.in_err-keep.field-0.0)) c.in_ok-event.ensures c.in_err-keep.ensures.stores)
-
-pub returns-clause-stores : goal.returns-clause-stores
-returns-clause-stores g c =
-    let f : ForestState = g.R.Forest.state c.args.forest.now in
-    let gs = c.args.guardians.now in
-    let gs' = c.keep.new.guardians in
-    subst (λ e. StoresLeft g.G.Guardian.stored f.opening c.args.history.now e.step gs gs' None) c.in_ok-event.ensures c.in_ok-keep.ensures.stores
+    c.in_err-keep.ensures.stores
