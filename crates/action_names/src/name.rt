@@ -123,7 +123,7 @@ impl Name {
         ensures ok { IfOk result (λ a. IsName a × (a ≡ self.now)) }
         ensures inline { length self.now ≤ 8 → IsOk result }
     {
-        let parts = SmallVec::from_slice(*self.parts.allocator(), self.parts.as_slice())?;
+        let parts = copied(*self.parts.allocator(), self.parts.as_slice())?;
         Ok(Name { parts })
     }
 
@@ -138,7 +138,7 @@ impl Name {
         }
         let numbers = self.parts.as_slice();
         let above = &numbers[..numbers.len() - 1];
-        let parts = SmallVec::from_slice(*self.parts.allocator(), above)?;
+        let parts = copied(*self.parts.allocator(), above)?;
         Ok(Some(Name { parts }))
     }
 
@@ -198,6 +198,18 @@ impl Name {
         let printed = str::from_utf8(bytes.as_slice()).map_err(|_| AllocError)?;
         text.push_str(printed)
     }
+}
+
+/// A copy of these numbers. Names are short: they are there one by one before a copy of many has begun.
+fn copied(alloc: Global, numbers: &[u32]) -> Result<SmallVec<u32, 8>, AllocError>
+    ensures ok { IfOk result (λ parts. parts.items ≡ numbers.now) }
+    ensures inline { length numbers.now ≤ 8 → IsOk result }
+{
+    let mut parts = SmallVec::with_capacity(alloc, numbers.len())?;
+    for number in numbers {
+        parts.push_reserved(*number);
+    }
+    Ok(parts)
 }
 
 /// The number of a name with this text: from 1 to 4294967295, without leading zeros or a sign.
