@@ -5,11 +5,11 @@ ghost use Rattle.action_names.specs.Names.{IsName, IsComponent, name_text, child
 ghost use Rattle.action_names.specs.Comparison.{same_name-partial_equivalence, same_name-equivalence, name_cmp-total, same_name-ties, name_cmp-partial_order, same_name-fed, fed_name};
 ghost use Rattle.action_names.specs.declared.name.NameFault.TheVariants.{Memory};
 
+use itoa::Buffer;
 use smallvec::SmallVec;
 use std::alloc::{AllocError, AllocFailed, Global};
 use std::cmp::Ordering;
 use std::hash::{Hash, Hasher};
-use std::io::Write;
 use std::marker::Model;
 use std::{fmt, str};
 use thiserror::Error;
@@ -193,10 +193,24 @@ impl Name {
         ensures ok { OnOk result (string_bytes text.new ≡ string_bytes text.old ++ name_text self.now) }
         ensures err { OnErr result (string_bytes text.new ≡ string_bytes text.old) }
     {
-        let mut bytes: SmallVec<u8, 96> = SmallVec::new(*self.parts.allocator());
-        write!(bytes, "{self}").map_err(|_| AllocError)?;
+        let bytes = self.spelled()?;
         let printed = str::from_utf8(bytes.as_slice()).map_err(|_| AllocError)?;
         text.push_str(printed)
+    }
+
+    // The bytes of its text, of which those of 8 numbers take no memory.
+    fn spelled(&self) -> Result<SmallVec<u8, 96>, AllocError>
+        ensures { IfOk result (λ bytes. bytes.items ≡ name_text self.now) }
+    {
+        let mut bytes = SmallVec::new(*self.parts.allocator());
+        if let [first, rest @ ..] = self.parts.as_slice() {
+            bytes.extend_from_slice(Buffer::new().format(*first).as_bytes())?;
+            for number in rest {
+                bytes.push(b'.')?;
+                bytes.extend_from_slice(Buffer::new().format(*number).as_bytes())?;
+            }
+        }
+        Ok(bytes)
     }
 }
 
