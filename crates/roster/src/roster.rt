@@ -63,7 +63,7 @@ impl Roster {
             crashes,
             down: true,
             rows: Vec::new(alloc),
-            places: Holders::new(alloc),
+            places: Index::new(alloc),
         }
     }
 

@@ -57,7 +57,7 @@ impl Tellings {
         Tellings {
             alloc,
             crashes,
-            told: Holders::new(alloc),
+            told: Index::new(alloc),
         }
     }
 
