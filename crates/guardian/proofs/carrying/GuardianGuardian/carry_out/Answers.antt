@@ -5,8 +5,12 @@ use Rattle.guardian_memory.specs.Memories.{state_of}
 use Rattle.guardian_memory.specs.Plans.{is_operation, news_of}
 use Rattle.guardian.proofs.Asked.{operation_event}
 use Rattle.guardian.proofs.Stores.{alone}
-use Rattle.guardian.proofs.Whole.{fits_within, whole_next, whole_still}
+use Rattle.guardian.proofs.Whole.{fits_within, whole_next, whole_same, whole_still}
 use Rattle.guardian.proofs.carrying.GuardianGuardian.carry_out.Goals as goal
+
+pub invariant_of-self : goal.invariant_of-self
+invariant_of-self g c =
+    whole_same g.S.Stable.seen c.self.inside.memory c.operate.new.self c.self.inside.store c.self.invariant c.in_err-operate.ensures.err
 
 pub invariant_of-self-in-Op : goal.invariant_of-self-in-Op
 invariant_of-self-in-Op g c =
