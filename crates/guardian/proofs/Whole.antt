@@ -41,8 +41,8 @@ owed_at opening g n news here (Tell h a) owed = owed
 owed_at opening g n news here (Crash h) owed = owed
 owed_at opening g n news here (Recover h) owed = owed
 
-votes_at : (g n : ℕ) (news : News) (here : List LocalEvent) → AgreesOnVotes g (stamped 0 news) here → AgreesOnVotes g (stamped n news) here
-votes_at g n news here v = record { top = v.top; first = v.first; sender = v.sender }
+votes_at : (g n : ℕ) (news : News) → AgreesOnVotes g (stamped 0 news) → AgreesOnVotes g (stamped n news)
+votes_at g n news v = record { top = v.top; sender = v.sender }
 
 module _ {S : Type 0} (seen : S → View) where
   -- nothing has happened
@@ -84,7 +84,7 @@ module _ {S : Type 0} (seen : S → View) where
           stored =
               subst (λ st. AreStored st.opening st.number st.past (seen s').content) (sym is)
               (subst (λ held. AreStored opening m.number (c ∷ here) held) (stamp_alike opening m.number n (news_of p) here (seen s).content ∙ sym now.content)
-              (store_follows opening m.number c here (seen s).content whole.store.stored (votes_at m.number n (news_of p) here fits.agrees.votes)));
+              (store_follows opening m.number c here (seen s).content whole.store.stored (votes_at m.number n (news_of p) fits.agrees.votes)));
         };
         run =
             subst GoesOn (sym is)

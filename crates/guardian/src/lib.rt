@@ -8,6 +8,7 @@
 mod carrying;
 mod checking;
 mod guardian;
+mod judging;
 mod records;
 mod reopening;
 mod writes;

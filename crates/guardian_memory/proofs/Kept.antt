@@ -15,6 +15,7 @@ use Rattle.run_model.specs.LocalReadings.{LocalEvent, prepared_here, standing_he
 use Rattle.run_model.specs.Openings.{Opening, first_content, opening_in}
 use Rattle.run_model.specs.StableContent.{parts_by}
 use Rattle.run_model.specs.Visibility.{votes_yes}
+use Rattle.local_agreement.specs.Judging.{is_on_object}
 use Rattle.layer_contracts.specs.Guardians.{stamped}
 use Rattle.object_laws.specs.OnceTold.{HoldsItsTree}
 use Rattle.tellings.specs.Hearing.{AreTold}
@@ -25,7 +26,7 @@ use Rattle.guardian_memory.specs.Plans.{FitsPlan, is_operation, news_of}
 use Rattle.guardian_memory.specs.declared.plan.Plan.{Plan}
 use Rattle.guardian_memory.proofs.Agreed.{may_tell, operation_brings, vote_only_tells}
 use Rattle.guardian_memory.proofs.Held.{holds_tree, no_parts, vote_brings}
-use Rattle.guardian_memory.proofs.Operated.{IsGranted, granted_facts, may_ask, operated_next}
+use Rattle.guardian_memory.proofs.Operated.{IsGranted, granted_facts, may_ask, on_object, operated_next}
 use Rattle.guardian_memory.proofs.Sound.{tops_next}
 
 -- ---- as the fields say
@@ -40,6 +41,10 @@ module _ {m : InMemory} {p : Plan} (s : IsSound m) (fits : FitsPlan m p) where
   -- the outcomes may be told
   pub may_hear : IsHearing m.objects p.planned.tellings.items
   may_hear = may_tell (opening_in m.opening) m.history.events (stamped 0 (news_of p)) m.objects p.planned.tellings.items s.shown fits.planned fits.outcomes fits.agrees.outcomes
+
+  -- an operation is on an object that its guardian has
+  pub placed : is_on_object (opening_in m.opening) p.event.step ≡ true
+  placed = on_object (opening_in m.opening) m.number (stamped 0 (news_of p)) m.history.events fits.owed fits.accepted
 
   -- ---- an operation
 

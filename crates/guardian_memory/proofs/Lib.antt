@@ -6,3 +6,4 @@ pub mod Planned
 pub mod Readings
 pub mod Kept
 pub mod Reopened
+pub mod Judged

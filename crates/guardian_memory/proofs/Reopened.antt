@@ -1,7 +1,8 @@
 -- The memory of a guardian that is opened again by itself.
 use Rattle.std.proofs.Common.{add-one, append_assoc, Bool, List, inl, inr, not, ◌&&◌, ◌==◌, None, Option, Some, [], ap, arith, drop, false, length, map, refl, subst, suc, sym, take, true, zero, ℕ, ◌+◌, ◌++◌, ◌<◌, ◌∙◌, ◌∷◌, ◌≡◌, ◌≤◌, Contains}
-use Rattle.std.proofs.lemmas.Bool.{false≢true, or_cases}
+use Rattle.std.proofs.lemmas.Bool.{and_from, false≢true, or_cases}
 use Rattle.std.proofs.lemmas.List.Elements.{Contains-append_right, Contains-push, Contains-append_left}
+use Rattle.std.proofs.lemmas.List.Folds.{list_all-append}
 use Rattle.std.proofs.Math.ListN.{length-append, length-replicate}
 use Rattle.std.specs.List.{AllByRecursion}
 use Rattle.std.specs.Prelude.{is_some, replicate}
@@ -21,6 +22,7 @@ use Rattle.run_laws.proofs.Names.{eqb_self, same_name_true}
 use Rattle.local_laws.specs.Reopened.{AreRecords, IsReopened, is_prepared, parts_of}
 use Rattle.local_laws.proofs.Reopened.{life_before_is}
 use Rattle.local_agreement.specs.Crashes.{LeavesSafe, is_safe}
+use Rattle.local_agreement.specs.Judging.{are_on_objects, is_on_object}
 use Rattle.stored_laws.proofs.Reopened.{prepared_alone, read_back, recorded_before}
 use Rattle.layer_contracts.specs.Guardians.{GuardianState}
 use Rattle.local_histories.specs.Before.{Before, life_in}
@@ -133,6 +135,20 @@ module _ (opening : Opening) (g : ℕ) (records : List (Name × Prepared)) (may 
     | inr behind ↦ top_recorded rs tops.1 t behind
   ]
 
+-- no operation stands there
+life_placed : (opening : Opening) (g : ℕ) (held : Held) (records : List (Name × Prepared)) → are_on_objects opening (life_before g held records) ≡ true
+life_placed opening g held records =
+    list_all-append (λ c. is_on_object opening c.event.step) (replicate (suc held.count) (crash_before g)) (map (λ p. vote_before g p) records)
+    ∙ and_from _ _ (crashes_placed (suc held.count)) (votes_placed records)
+  where
+    crashes_placed : (n : ℕ) → are_on_objects opening (replicate n (crash_before g)) ≡ true
+    crashes_placed zero = refl
+    crashes_placed (suc n) = crashes_placed n
+
+    votes_placed : (rs : List (Name × Prepared)) → are_on_objects opening (map (λ p. vote_before g p) rs) ≡ true
+    votes_placed [] = refl
+    votes_placed (r ∷ rs) = votes_placed rs
+
 -- ---- all parts are those of the time before
 
 pub state_reopened : (opening : OpeningLists) (g count : ℕ) (records : List (Name × Prepared)) (before : Before) (events : List LocalEvent)
@@ -171,4 +187,5 @@ reopened_sound opening g count records before history told lists roster objects 
       safe = λ x own. subst (λ l. LeavesSafe o l x) (sym is) (leaves_safe o g records may x own);
       tops = λ t. subst (λ l. is_some (prepared_here o g t l) ≡ true → is_top t ≡ true) (sym is)
           (λ h. top_recorded o g records may records tops t (recorded_before o g records t may.are h));
+      placed = subst (λ l. are_on_objects o l ≡ true) (sym is) (life_placed o g held records);
     }

@@ -1,6 +1,6 @@
 -- When all parts of a memory are those of its history.
 use Rattle.std.proofs.Common.{Bool, List, None, Some, [], ap, arith, cond, false, filter, length, refl, subst, suc, sym, true, ℕ, ◌+◌, ◌<◌, ◌^◌, ◌∙◌, ◌∷◌, ◌≡◌, ◌≤◌}
-use Rattle.std.proofs.lemmas.Bool.{false≢true}
+use Rattle.std.proofs.lemmas.Bool.{and_from, false≢true}
 use Rattle.std.specs.Prelude.{is_some}
 use Rattle.action_names.specs.Names.{Name, is_top}
 use Rattle.run_model.specs.declared.history.Event.{Event}
@@ -11,6 +11,7 @@ use Rattle.run_model.specs.Openings.{Opening, OpeningLists, opening_in}
 use Rattle.run_model.specs.StableContent.{Prepared, parts_by, step_told}
 use Rattle.run_model.specs.Visibility.{votes_yes}
 use Rattle.local_agreement.specs.Crashes.{LeavesSafe}
+use Rattle.local_agreement.specs.Judging.{are_on_objects, is_on_object}
 use Rattle.local_agreement.specs.Laws.{Agrees}
 use Rattle.layer_contracts.specs.Guardians.{GuardianState, News, kept, stamped}
 use Rattle.local_histories.specs.Keeping.{Past}
@@ -68,6 +69,7 @@ nothing_sound opening number history told lists roster objects numbered none tel
   owner = owner;
   safe = λ x own. subst (λ l. LeavesSafe (opening_in opening) l x) (sym none) (nothing_safe (opening_in opening) x);
   tops = λ t. subst (λ l. is_some (prepared_here (opening_in opening) number t l) ≡ true → is_top t ≡ true) (sym none) (λ h. absurd (false≢true h));
+  placed = subst (λ l. are_on_objects (opening_in opening) l ≡ true) (sym none) refl;
 }
 
 -- ---- while nothing but room is made
@@ -92,6 +94,7 @@ sound_same {opening} {number} {history} {later} {told} {more_told} {lists} {more
   owner = owner ∙ s.owner;
   safe = λ x own. subst (λ l. LeavesSafe (opening_in opening) l x) (sym same) (s.safe x own);
   tops = λ t. subst (λ l. is_some (prepared_here (opening_in opening) number t l) ≡ true → is_top t ≡ true) (sym same) (s.tops t);
+  placed = subst (λ l. are_on_objects (opening_in opening) l ≡ true) (sym same) s.placed;
 }
 
 -- ---- one crash more can be counted
@@ -144,14 +147,14 @@ tops_next opening g c here voted before t = of (votes_yes c.event.step c.event.a
 pub sound_next : {opening : OpeningLists} {number : ℕ} {history later : Past} {told more_told : Tellings} {lists more_lists : Lists} {roster more_roster : Roster}
     {objects more_objects : Indexed} (n : ℕ) (e : News)
     → IsSound (record { opening = opening; number = number; history = history; told = told; lists = lists; roster = roster; objects = objects })
-    → Agrees (opening_in opening) number (stamped 0 e) history.events
+    → Agrees (opening_in opening) number (stamped 0 e) history.events → is_on_object (opening_in opening) e.event.step ≡ true
     → later.events ≡ stamped n e ∷ history.events
     → AreTold number (stamped n e ∷ history.events) more_told → hearing.crashes_of more_told ≤ hearing.crashes_of told + 1
     → AreLists (stamped n e ∷ history.events) more_lists → guardian_of more_lists ≡ guardian_of lists
     → IsRoster number (stamped n e ∷ history.events) (table more_roster)
     → AreObjects (opening_in opening) (stamped n e ∷ history.events) more_objects → more_objects.guardian ≡ objects.guardian
     → IsSound (record { opening = opening; number = number; history = later; told = more_told; lists = more_lists; roster = more_roster; objects = more_objects })
-sound_next {opening} {number} {history} {later} {told} {more_told} {lists} {more_lists} {roster} {more_roster} {objects} {more_objects} n e s agrees next
+sound_next {opening} {number} {history} {later} {told} {more_told} {lists} {more_lists} {roster} {more_roster} {objects} {more_objects} n e s agrees there next
     tellings lives knowledge knower actions shown owner = record {
       numbered = s.numbered;
       tellings = subst (λ l. AreTold number l more_told) (sym next) tellings;
@@ -168,4 +171,6 @@ sound_next {opening} {number} {history} {later} {told} {more_told} {lists} {more
       tops = λ t.
           subst (λ l. is_some (prepared_here (opening_in opening) number t l) ≡ true → is_top t ≡ true) (sym next)
           (tops_next (opening_in opening) number (stamped n e) history.events agrees.votes.top s.tops t);
+      placed = subst (λ l. are_on_objects (opening_in opening) l ≡ true) (sym next)
+          (and_from (is_on_object (opening_in opening) e.event.step) (are_on_objects (opening_in opening) history.events) there s.placed);
     }

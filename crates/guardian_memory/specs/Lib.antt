@@ -1,3 +1,4 @@
 pub mod Memories
 pub mod Plans
 pub mod Reopening
+pub mod Accepting

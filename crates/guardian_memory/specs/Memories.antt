@@ -5,6 +5,7 @@ use Rattle.run_model.specs.declared.step.ObjectId.{ObjectId}
 use Rattle.run_model.specs.LocalReadings.{prepared_here}
 use Rattle.run_model.specs.Openings.{OpeningLists, opening_in}
 use Rattle.local_agreement.specs.Crashes.{LeavesSafe}
+use Rattle.local_agreement.specs.Judging.{are_on_objects}
 use Rattle.layer_contracts.specs.Guardians.{GuardianState}
 use Rattle.local_histories.specs.Keeping.{Past}
 use Rattle.tellings.specs.Hearing.{AreTold, crashes_of}
@@ -34,7 +35,8 @@ state_of m = record { opening = opening_in m.opening; number = m.number; past = 
 abbrev pub own_object : GuardianState → ℕ → ObjectId
 own_object g n = record { guardian = g.number; number = n }
 
--- Each part is that of the history. And of that history: a crash would leave of each object just what is safe, and only top actions have records.
+-- Each part is that of the history. And of that history: a crash would leave of each object just what is safe, only top actions have records, and
+-- operations are on objects that their guardians have.
 pub record IsSound (m : InMemory) : Type 0 where
   pub numbered : 1 ≤ m.number
   pub tellings : AreTold m.number m.history.events m.told
@@ -46,3 +48,4 @@ pub record IsSound (m : InMemory) : Type 0 where
   pub owner : m.objects.guardian ≡ m.number
   pub safe : (x : ObjectId) → x.guardian ≡ m.number → LeavesSafe (opening_in m.opening) m.history.events x
   pub tops : (t : Name) → IsTrue (is_some (prepared_here (opening_in m.opening) m.number t m.history.events)) → IsTrue (is_top t)
+  pub placed : IsTrue (are_on_objects (opening_in m.opening) m.history.events)

@@ -5,6 +5,7 @@
 //! is what the definitions of `run_model` say of the events that were kept.
 #![tactic(auto)]
 
+mod accepting;
 mod keeping;
 mod memory;
 mod objects;

@@ -14,3 +14,4 @@ pub mod SoFar
 pub mod Making
 pub mod Counting
 pub mod GivenBack
+pub mod Below

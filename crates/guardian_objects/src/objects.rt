@@ -8,6 +8,7 @@ ghost use Rattle.run_model.specs.Answers.{is_concerned_by, operated_by};
 ghost use Rattle.run_model.specs.LocalReadings.{LocalEvent, count_here, standing_here, told_committed_here};
 ghost use Rattle.run_model.specs.Openings.{Opening, first_content, opening_in};
 ghost use Rattle.run_model.specs.Versions.{base_by};
+ghost use Rattle.local_agreement.specs.Judging.{holds_nothing};
 ghost use Rattle.held_objects.specs.Held.{has_number, IsRising};
 ghost use Rattle.object_laws.specs.Shown.{Shows};
 ghost use Rattle.atomic_object.specs.Kept.{Kept, seen};
@@ -118,6 +119,14 @@ impl Objects {
         let numbers = self.held.objects_below(action)?;
         let below = numbers.len();
         Ok(below as u64)
+    }
+
+    /// Whether the holder holds nothing at any object. This takes no memory.
+    pub fn holds_nothing(&self, holder: &Name) -> bool
+        ensures { (opening : Opening) (here : List LocalEvent) → AreObjects opening here self.now
+            → result ≡ holds_nothing opening self.now.guardian holder.now here }
+    {
+        self.held.objects_of(holder).is_empty()
     }
 
     /// What an operation on the object of this number would be answered, with nothing changed. Fails only for want of memory.

@@ -4,9 +4,11 @@
 //! which somebody holds something. Who holds what at an object is the object's own to say; here stands only where to look.
 #![tactic(auto)]
 
+mod asking;
 mod holding;
 mod objects;
 mod rising;
 
+pub use asking::Asking;
 pub use holding::Holding;
 pub use objects::HeldObjects;

@@ -1,9 +1,10 @@
 //! At which objects each holder holds something.
-ghost use Rattle.std.specs.Prelude.{◌≡◌, ◌↔◌, ◌||◌, ◌&&◌, ◌==◌, ◌≤◌, ◌+◌, ℕ, not, false, [], length, filter, IsTrue, IfOk, OnOk, OnErr, IfSome, if◌then◌else◌};
+ghost use Rattle.std.specs.Prelude.{◌≡◌, ◌↔◌, ◌||◌, ◌&&◌, ◌==◌, ◌≤◌, ◌+◌, ℕ, not, true, false, [], length, filter, IsTrue, IsFalse, IfOk, OnOk, OnErr, IfSome, if◌then◌else◌};
 ghost use Rattle.std.specs.Option.{option_copied as name_of};
 ghost use Rattle.action_names.specs.Names.{Name, same_name, is_ancestor, is_proper_ancestor};
-ghost use Rattle.held_objects.specs.Held.{IsRising, has_number, has_object, objects_at, room_at, has_room, HoldsBelow, HasRoomBelow, IsHeld, count_below, is_in_row, is_name_of, rows_in};
+ghost use Rattle.held_objects.specs.Held.{IsRising, has_number, has_object, objects_at, room_at, has_room, HoldsBelow, HoldsSomethingBelow, HasRoomBelow, IsHeld, count_below, is_in_row, is_name_of, rows_in};
 
+use crate::asking::Asking;
 use crate::holding::Holding;
 use crate::rising;
 use action_names::Name;
@@ -66,6 +67,23 @@ impl HeldObjects {
             rising::insert_all(&mut below, objects);
         }
         Ok(below)
+    }
+
+    /// Whether the answer is yes of the action and of each descendant that holds something. It looks at their rows and one more. Fails only for want of
+    /// memory.
+    pub fn all_below<A: Asking>(&self, action: &Name, question: &A) -> Result<bool, AllocError>
+        ensures all { IfOk result (λ yes. IsTrue yes → (b : Name) → HoldsSomethingBelow self.now action.now b → A.answers question.now b true) }
+        ensures one { IfOk result (λ yes. IsFalse yes → (b : Name) × HoldsSomethingBelow self.now action.now b × A.answers question.now b false) }
+    {
+        for (holder, objects) in self.rows.range(action..) {
+            if !action.is_ancestor(holder) {
+                break;
+            }
+            if !objects.is_empty() && !question.asks(holder)? {
+                return Ok(false);
+            }
+        }
+        Ok(true)
     }
 
     /// The objects at which somebody holds something: a row for each holder, so that an object at which several do comes once for each. This takes no

@@ -1,5 +1,6 @@
 ghost use Rattle.std.specs.Prelude.{◌≡◌, IfOk, IsTrue};
 ghost use Rattle.run_model.specs.LocalReadings.{told_committed_here};
+ghost use Rattle.local_agreement.specs.Judging.{accepts};
 ghost use Rattle.local_agreement.specs.Laws.{Agrees};
 ghost use Rattle.layer_contracts.specs.Guardians.{stamped};
 ghost use Rattle.layer_contracts.specs.Messages.{carried_of};
@@ -16,8 +17,11 @@ pub trait Judging: Guardian {
     fn was_told_committed(&self, action: &Name) -> bool
         ensures { result ≡ told_committed_here action.now (Self.state self.now).past };
 
-    /// Whether the event with this message agrees with the guardian's history. In doubt the answer is no. Fails only for want of memory.
-    fn agrees(&self, event: &Event, message: &Message) -> Result<bool, AllocError>
-        ensures { IfOk result (λ yes. IsTrue yes → Agrees (Self.state self.now).opening (Self.state self.now).number
+    /// Whether it accepts the event with this message: by tests of its own history alone, from which it follows that the event agrees with that. In a
+    /// run it accepts each event that names it. Fails only for want of memory.
+    fn accepts(&self, event: &Event, message: &Message) -> Result<bool, AllocError>
+        ensures accepts { IfOk result (λ yes. yes ≡ accepts (Self.state self.now).opening (Self.state self.now).number
+            (stamped 0 (record { event = event.now; carried = carried_of message.now })) (Self.state self.now).past) }
+        ensures agrees { IfOk result (λ yes. IsTrue yes → Agrees (Self.state self.now).opening (Self.state self.now).number
             (stamped 0 (record { event = event.now; carried = carried_of message.now })) (Self.state self.now).past) };
 }

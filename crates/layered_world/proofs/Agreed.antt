@@ -83,7 +83,7 @@ agrees_stamped opening g n c here h = record {
     reaches = h.actions.reaches;
   };
   outcomes = record { brought = h.outcomes.brought; once = h.outcomes.once; aborts = h.outcomes.aborts; operation = h.outcomes.operation };
-  votes = record { top = h.votes.top; first = h.votes.first; sender = h.votes.sender };
+  votes = record { top = h.votes.top; sender = h.votes.sender };
   safe = λ x q. let k = h.safe x q in record { kept = k.kept; restored = k.restored };
   given = h.given;
 }

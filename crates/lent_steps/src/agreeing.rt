@@ -30,7 +30,7 @@ impl<'a, R: Forest, G: Judging> Lent<'a, R, G> {
             return Ok(true);
         }
         let message = self.message(event, at)?;
-        at.agrees(event, &message)
+        at.accepts(event, &message)
     }
 
     /// Whether the forest knows a commit of which the step tells a guardian again.

@@ -145,7 +145,7 @@ fn keep_operation<G: Judging, F: FnOnce() -> u64>(
     ensures store { Stays (G.stored guardian.old) (G.stored guardian.new) }
 {
     let nothing = no_message(alloc);
-    if !guardian.agrees(event, &nothing)? {
+    if !guardian.accepts(event, &nothing)? {
         return Err(LockedFault::Disagrees);
     }
     let plan = guardian.plan(event, nothing)?;

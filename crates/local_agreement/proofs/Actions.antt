@@ -1,5 +1,5 @@
 -- What an event says of actions agrees with the guardian's own history.
-use Rattle.std.proofs.Common.{Bool, List, None, Option, Some, [], ap, cond, eqb-true, false, filter, inl, inr, not, refl, sym, true, ℕ, ◌&&◌, ◌==◌, ◌∙◌, ◌∷◌, ◌≡◌, ◌||◌}
+use Rattle.std.proofs.Common.{Bool, List, None, Option, Some, [], ap, cond, eqb-true, false, filter, inl, inr, not, refl, true, ℕ, ◌==◌, ◌∙◌, ◌∷◌, ◌≡◌}
 use Rattle.std.proofs.lemmas.Bool.{and_from, false≢true, not-false, or_cases}
 use Rattle.std.specs.List.{list_all}
 use Rattle.action_names.specs.Names.{Name, child_of, is_top, parent_of, same_name}

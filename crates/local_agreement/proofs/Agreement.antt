@@ -1,5 +1,5 @@
 -- In a run each event of a guardian agrees with the history before it.
-use Rattle.std.proofs.Common.{List, ap, refl, subst, ℕ, ◌∙◌, ◌∷◌}
+use Rattle.std.proofs.Common.{List, ap, refl, subst, ◌∙◌, ◌∷◌}
 use Rattle.run_model.specs.LocalHistories.{local_history}
 use Rattle.run_model.specs.LocalReadings.{LocalEvent}
 use Rattle.local_laws.proofs.Outcomes.{history_named}

@@ -13,7 +13,7 @@ use Rattle.run_model.specs.declared.step.Step.{Step}
 use Rattle.run_model.specs.declared.step.Step.TheVariants.{Commit, Prepare}
 use Rattle.run_model.specs.Actions.{home_of, names_begun}
 use Rattle.run_model.specs.Dependencies.{dependency}
-use Rattle.run_model.specs.Lists.{down_from, guardians_of, up_to}
+use Rattle.run_model.specs.Lists.{down_from, guardians_of}
 use Rattle.run_model.specs.LocalHistories.{dependencies_carried, dependencies_of, dependencies_sent, with_dependencies}
 use Rattle.run_model.specs.Openings.{Opening}
 use Rattle.local_agreement.specs.Actions.{are_rising}

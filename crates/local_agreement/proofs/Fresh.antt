@@ -1,5 +1,5 @@
 -- What an event of a guardian begins is new there, and each of its names stands once among them.
-use Rattle.std.proofs.Common.{Bool, List, [], ap, arith, cond, false, inl, inr, not, refl, subst, suc, sym, true, ℕ, ◌&&◌, ◌<◌, ◌∙◌, ◌∷◌, ◌≡◌}
+use Rattle.std.proofs.Common.{Bool, List, [], ap, arith, cond, false, inl, inr, not, refl, subst, suc, sym, true, ℕ, ◌<◌, ◌∙◌, ◌∷◌, ◌≡◌}
 use Rattle.std.proofs.lemmas.Bool.{and_from, false_from_ne_true, false≢true, not-false, or_cases, or_from, or_left, or_right}
 use Rattle.std.specs.List.{list_any}
 use Rattle.action_names.specs.Names.{Name, child_of, has_name, is_ancestor, last_of, parent_of, same_name}
@@ -10,7 +10,7 @@ use Rattle.run_model.specs.declared.step.ArmKind.{ArmKind}
 use Rattle.run_model.specs.declared.step.ArmKind.TheVariants as arm
 use Rattle.run_model.specs.declared.step.Step.{Step}
 use Rattle.run_model.specs.declared.step.Step.TheVariants.{Arms, Call, NestedTop, Op, Prepare, Top}
-use Rattle.run_model.specs.Actions.{begins, begun, is_begun, names_begun, next_number}
+use Rattle.run_model.specs.Actions.{begins, begun, names_begun, next_number}
 use Rattle.run_model.specs.Answers.{granted_or_waits, outcome}
 use Rattle.run_model.specs.Keeping.{blockers}
 use Rattle.run_model.specs.LocalHistories.{Stamped, events_of}

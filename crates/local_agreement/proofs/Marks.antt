@@ -50,7 +50,7 @@ abbrev fresh : ObjectId → Step → Answer → List Marked
 fresh x step answer = map (λ o. (o, false)) (filter (λ o. same_object o.object x) (performed_by 0 step answer))
 
 -- numbers are not above the length
-abbrev IsLow : ObjectId → ℕ → Performed → Type 0
+abbrev pub IsLow : ObjectId → ℕ → Performed → Type 0
 IsLow x n o = (o.number ≤ n) × (o.object.guardian ≡ x.guardian)
 
 -- what is numbered later is not prepared yet
@@ -118,7 +118,7 @@ fresh_low x n (Op a y o) (Granted r) = of (same_object y x) refl
 fresh_low x n _ _ = tt
 
 -- facts of each of two lists
-each_append : {X : Type 0} (P : X → Type 0) (xs ys : List X) → Each P xs → Each P ys → Each P (xs ++ ys)
+pub each_append : {X : Type 0} (P : X → Type 0) (xs ys : List X) → Each P xs → Each P ys → Each P (xs ++ ys)
 each_append P [] ys h k = k
 each_append P (x ∷ xs) ys h k = (h.0, each_append P xs ys h.1 k)
 
@@ -142,7 +142,7 @@ kept_low x (e ∷ past) =
     (each_append _ _ _ (fresh_low x (suc (length past)) e.step e.answer)
     (each_left _ (λ o. not (undoes e past o)) _ (low_more x (length past) _ (kept_low x past))))
 
-here_low : (x : ObjectId) (here : List LocalEvent) → Each (IsLow x (length here)) (kept_here x here)
+pub here_low : (x : ObjectId) (here : List LocalEvent) → Each (IsLow x (length here)) (kept_here x here)
 here_low x [] = tt
 here_low x (c ∷ here) =
     each_append _ _ _ (fresh_low x (suc (length here)) c.event.step c.event.answer)
@@ -184,7 +184,7 @@ fresh_unnamed opening e past x r n = of e.step e.answer (checked opening e past 
         elsewhere = ap (λ h. h == x.guardian) (eqb-true y.guardian (home_of a past) (not-false _ (f why.Elsewhere))) ∙ n
     of _ _ f n = refl
 
-same_length : (here : List LocalEvent) → length (events_here here) ≡ length here
+pub same_length : (here : List LocalEvent) → length (events_here here) ≡ length here
 same_length [] = refl
 same_length (c ∷ here) = ap suc (same_length here)
 

@@ -10,12 +10,12 @@ use Rattle.run_model.specs.declared.history.Event.{Event}
 use Rattle.run_model.specs.declared.step.Step.{Step}
 use Rattle.run_model.specs.declared.step.Step.TheVariants.{Op, Prepare, Tell}
 use Rattle.run_model.specs.Actions.{begun, is_aborted, is_committed, is_ended}
-use Rattle.run_model.specs.LocalHistories.{Stamped, events_of, local_history, names_guardian, outcomes_carried}
+use Rattle.run_model.specs.LocalHistories.{Stamped, events_of, local_history, outcomes_carried}
 use Rattle.run_model.specs.LocalReadings.{LocalEvent, outcome_in, says_aborted, told_committed_here, told_here}
 use Rattle.run_model.specs.Openings.{Opening}
 use Rattle.run_model.specs.Refusals.{checks}
 use Rattle.run_model.specs.Runs.{IsRun}
-use Rattle.run_model.specs.Telling.{tells, told_committed, was_told}
+use Rattle.run_model.specs.Telling.{tells, was_told}
 use Rattle.run_laws.proofs.Accepted.{NoneApplies, checked}
 use Rattle.run_laws.proofs.Each.{Each}
 use Rattle.run_laws.proofs.Ended.{not_both}

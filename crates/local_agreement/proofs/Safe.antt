@@ -1,18 +1,16 @@
 -- In a run a crash leaves of an object just what was written and added and is safe.
-use Rattle.std.proofs.Common.{Bool, List, None, Option, Some, [], ap, ap₂, cond, false, filter, inl, inr, is_none, is_some, map, not, refl, subst, sym, true, ℕ, ◌&&◌, ◌∙◌, ◌∷◌, ◌≡◌, ◌||◌}
-use Rattle.std.proofs.lemmas.Bool.{and_from, and_parts, false_from_ne_true, false≢true, or_cases, or_left, or_parts, or_right}
+use Rattle.std.proofs.Common.{Bool, List, None, Option, Some, [], ap, ap₂, cond, false, inl, inr, is_none, is_some, map, not, refl, subst, sym, true, ℕ, ◌&&◌, ◌∙◌, ◌∷◌, ◌≡◌, ◌||◌}
+use Rattle.std.proofs.lemmas.Bool.{and_from, and_parts, false_from_ne_true, false≢true, or_cases, or_left, or_right}
 use Rattle.std.specs.List.{AllByRecursion}
 use Rattle.action_names.specs.Names.{Name, is_ancestor, is_top, top_of}
 use Rattle.atomic_types.specs.Operations.{is_read}
 use Rattle.atomic_types.specs.declared.part.Part.{Part}
 use Rattle.run_model.specs.declared.history.Event.{Event}
 use Rattle.run_model.specs.declared.step.ObjectId.{ObjectId}
-use Rattle.run_model.specs.declared.step.Step.{Step}
-use Rattle.run_model.specs.declared.step.Step.TheVariants.{Op}
 use Rattle.run_model.specs.Actions.{home_of, is_aborted, is_closed, is_committed, is_ended, is_exactly, step_commits}
-use Rattle.run_model.specs.Keeping.{Performed, Standing, is_kept, kept_on, outlives_crash, performed, prepared_after, same_object, undoes}
+use Rattle.run_model.specs.Keeping.{Performed, Standing, is_kept, kept_on, performed, prepared_after, same_object, undoes}
 use Rattle.run_model.specs.LocalHistories.{Stamped, events_of, local_history}
-use Rattle.run_model.specs.LocalReadings.{LocalEvent, events_here, kept_here, restored_here, standing_here, told_committed_here}
+use Rattle.run_model.specs.LocalReadings.{LocalEvent, events_here, kept_here, restored_here, told_committed_here}
 use Rattle.run_model.specs.Openings.{Opening}
 use Rattle.run_model.specs.Runs.{IsRun}
 use Rattle.run_model.specs.StableContent.{Prepared, parts_held, stable_prepared, step_told}
@@ -20,11 +18,11 @@ use Rattle.run_model.specs.Telling.{holder_by, tells, told_committed, told_since
 use Rattle.run_model.specs.Visibility.{has_prepared, votes_yes}
 use Rattle.run_laws.specs.Laws.{Grants}
 use Rattle.run_laws.proofs.Begun.{nameless}
-use Rattle.run_laws.proofs.Each.{Each, each_filter, each_map}
+use Rattle.run_laws.proofs.Each.{Each, each_filter}
 use Rattle.run_laws.proofs.Ended.{not_both}
 use Rattle.run_laws.proofs.Exchanged.{same_object_true}
 use Rattle.run_laws.proofs.Granted.{IsGranted, each_performed, grant_parts, granting}
-use Rattle.run_laws.proofs.Growth.{Follows, aborted_stays, earlier, here, later, run_before}
+use Rattle.run_laws.proofs.Growth.{Follows, aborted_stays, here, later, run_before}
 use Rattle.run_laws.proofs.Kept.{prepared_closed, prepared_when}
 use Rattle.run_laws.proofs.Names.{clash, descendant_is_own, same_name_self, top_facts}
 use Rattle.run_laws.proofs.NothingLost.{yes_facts}
@@ -42,7 +40,7 @@ use Rattle.local_agreement.proofs.Undone.{after_prepared, kept_before, none_abor
 -- ---- records
 
 -- a record is that of a top action on which the guardian voted yes
-recorded_prepared : (opening : Opening) (g : ℕ) (t : Name) (past : List Event) → is_some (stable_prepared opening g t past) ≡ true → has_prepared g t past ≡ true
+pub recorded_prepared : (opening : Opening) (g : ℕ) (t : Name) (past : List Event) → is_some (stable_prepared opening g t past) ≡ true → has_prepared g t past ≡ true
 recorded_prepared opening g t [] h = absurd (false≢true h)
 recorded_prepared opening g t (e ∷ past) h =
     of (λ k. recorded_prepared opening g t past k) (votes_yes e.step e.answer g t) refl (step_told e.step g t) h
@@ -57,7 +55,7 @@ recorded_prepared opening g t (e ∷ past) h =
     of rest false q true k = absurd (false≢true k)
     of rest false q false k = or_right (votes_yes e.step e.answer g t) _ (rest k)
 
-prepared_top : (opening : Opening) (past : List Event) (g : ℕ) (t : Name) → IsRun opening past → has_prepared g t past ≡ true → is_top t ≡ true
+pub prepared_top : (opening : Opening) (past : List Event) (g : ℕ) (t : Name) → IsRun opening past → has_prepared g t past ≡ true → is_top t ≡ true
 prepared_top opening [] g t r h = absurd (false≢true h)
 prepared_top opening (e ∷ past) g t r h = elim (or_cases (votes_yes e.step e.answer g t) (has_prepared g t past) h) [
   | inl k ↦ (yes_facts opening e past g t r k).top
@@ -124,7 +122,7 @@ record_kept opening o e past p (later {now = now} d w) r top above k v n =
 -- ---- what is safe
 
 -- by the flat history
-abbrev is_recorded : Opening → ℕ → List Event → Option Name → Bool
+abbrev pub is_recorded : Opening → ℕ → List Event → Option Name → Bool
 is_recorded opening g past None = true
 is_recorded opening g past (Some a) = is_some (stable_prepared opening g a past)
 
@@ -135,7 +133,7 @@ both false true f g = g refl
 both false false f g = refl
 
 -- An operation under no aborted subaction was granted before its guardian voted on its top action, where that did at all.
-voted_since : (opening : Opening) (o : Performed) (e : Event) (past : List Event) {now : List Event} → Grants o e past → Follows (e ∷ past) now
+pub voted_since : (opening : Opening) (o : Performed) (e : Event) (past : List Event) {now : List Event} → Grants o e past → Follows (e ∷ past) now
     → IsRun opening now → NoneAborted o.action now → has_prepared o.object.guardian (top_of o.action) now ≡ true
     → prepared_after o.number o.object.guardian (top_of o.action) now ≡ true
 voted_since opening o e past p w r n h = elim (prepared_when o e past g t p w h) [ inl x ↦ absurd (never x) | inr x ↦ x ]
@@ -177,7 +175,7 @@ voted_since opening o e past p w r n h = elim (prepared_when o e past g t p w h)
             ]
 
 -- Of what is kept just that is safe whose guardian voted yes on its top action since.
-kept_safe : (opening : Opening) (o : Performed) (e : Event) (past now : List Event) → Grants o e past → Follows (e ∷ past) now
+pub kept_safe : (opening : Opening) (o : Performed) (e : Event) (past now : List Event) → Grants o e past → Follows (e ∷ past) now
     → IsRun opening now → is_kept o now ≡ true
     → prepared_after o.number o.object.guardian (top_of o.action) now
     ≡ is_recorded opening o.object.guardian now (holder_by (λ c. told_committed o.object.guardian c now) o.action)

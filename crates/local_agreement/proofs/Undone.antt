@@ -1,5 +1,5 @@
 -- What a yes vote leaves on an object of what was granted before it: nothing under an aborted subaction.
-use Rattle.std.proofs.Common.{Bool, List, [], ap, arith, eqb-true, false, inl, inr, length, nat_lt, not, refl, subst, suc, sym, true, ℕ, ◌&&◌, ◌==◌, ◌∙◌, ◌∷◌, ◌≡◌, ◌≤◌, ◌||◌, ◌⊎◌}
+use Rattle.std.proofs.Common.{Bool, List, [], ap, arith, false, inl, inr, length, nat_lt, not, refl, subst, suc, sym, true, ℕ, ◌&&◌, ◌==◌, ◌∙◌, ◌∷◌, ◌≡◌, ◌≤◌, ◌||◌, ◌⊎◌}
 use Rattle.std.proofs.lemmas.Bool.{and_from, and_parts, false_from_ne_true, false≢true, not-true, or_cases, or_from, or_left, or_parts, or_right}
 use Rattle.action_names.specs.Names.{Name, is_ancestor, is_proper_ancestor, is_top, same_name, top_of}
 use Rattle.run_model.specs.declared.answer.Answer.{Answer}
@@ -8,7 +8,7 @@ use Rattle.run_model.specs.declared.answer.Refusal.TheVariants as why
 use Rattle.run_model.specs.declared.history.Event.{Event}
 use Rattle.run_model.specs.declared.step.Step.{Step}
 use Rattle.run_model.specs.declared.step.Step.TheVariants.{Op, Prepare}
-use Rattle.run_model.specs.Actions.{home_of, is_aborted, is_committed, is_ended, step_aborts, step_commits, step_crashes}
+use Rattle.run_model.specs.Actions.{is_aborted, is_committed, is_ended, step_aborts, step_commits, step_crashes}
 use Rattle.run_model.specs.Keeping.{Performed, is_kept, prepared_after, undoes}
 use Rattle.run_model.specs.Lists.{is_known_orphan, knows_abort}
 use Rattle.run_model.specs.Openings.{Opening}
@@ -24,7 +24,6 @@ use Rattle.run_laws.proofs.Granted.{grant_parts, granted_before, granting}
 use Rattle.run_laws.proofs.Growth.{Follows, here, later, run_before}
 use Rattle.run_laws.proofs.Kept.{kept_next}
 use Rattle.run_laws.proofs.Names.{any_ancestor_from, clash, same_name_true, top_above, top_facts}
-use Rattle.run_laws.proofs.NothingLost.{yes_facts}
 use Rattle.local_laws.proofs.Outcomes.{told_has_ended}
 use Rattle.local_laws.proofs.Prepared.{NoneAborted, told_below}
 use Rattle.local_laws.proofs.Told.{was_told_ended}
@@ -41,7 +40,7 @@ had_aborted opening e past b r h k = elim (or_cases (is_committed b past) (is_ab
 ]
 
 -- what was told since a crash was told
-told_ever : (g : ℕ) (b : Name) (past : List Event) → told_since_crash g b past ≡ true → was_told g b past ≡ true
+pub told_ever : (g : ℕ) (b : Name) (past : List Event) → told_since_crash g b past ≡ true → was_told g b past ≡ true
 told_ever g b [] h = h
 told_ever g b (e ∷ past) h = elim (or_cases _ _ (and_parts (not (step_crashes e.step g)) _ h).1) [
   | inl k ↦ or_left _ _ (told_ever g b past k)

@@ -1,6 +1,6 @@
 -- What an event says of votes agrees with the guardian's own history.
-use Rattle.std.proofs.Common.{Bool, List, None, Option, Some, [], ap, arith, cond, eqb-true, false, inl, inr, length, nat_lt, refl, subst, sym, true, ℕ, ◌&&◌, ◌<◌, ◌==◌, ◌∙◌, ◌∷◌, ◌≡◌, ◌≤◌, ◌||◌}
-use Rattle.std.proofs.lemmas.Bool.{and_parts, eqb-false, false_from_ne_true, false≢true, not-false, or_cases, or_left, or_parts, or_right}
+use Rattle.std.proofs.Common.{List, None, Some, [], ap, arith, cond, false, inl, inr, length, nat_lt, subst, sym, true, ℕ, ◌==◌, ◌∙◌, ◌∷◌, ◌≡◌, ◌≤◌, ◌||◌}
+use Rattle.std.proofs.lemmas.Bool.{and_parts, eqb-false, false≢true, not-false, or_cases, or_left, or_parts, or_right}
 use Rattle.action_names.specs.Names.{Name, same_name}
 use Rattle.run_model.specs.declared.answer.Answer.{Answer}
 use Rattle.run_model.specs.declared.answer.Answer.TheVariants.{VoteYes}
@@ -8,9 +8,9 @@ use Rattle.run_model.specs.declared.answer.Refusal.TheVariants as why
 use Rattle.run_model.specs.declared.history.Event.{Event}
 use Rattle.run_model.specs.declared.step.Step.{Step}
 use Rattle.run_model.specs.declared.step.Step.TheVariants.{Arms, Call, NestedTop, Prepare, Top}
-use Rattle.run_model.specs.Actions.{begins, home_in, home_of, is_begun}
+use Rattle.run_model.specs.Actions.{home_in, home_of, is_begun}
 use Rattle.run_model.specs.Lists.{carried_from}
-use Rattle.run_model.specs.LocalHistories.{Stamped, events_of, local_history}
+use Rattle.run_model.specs.LocalHistories.{Stamped, events_of}
 use Rattle.run_model.specs.Openings.{Opening}
 use Rattle.run_model.specs.Refusals.{checks}
 use Rattle.run_model.specs.Runs.{IsRun}
@@ -19,9 +19,9 @@ use Rattle.run_model.specs.Votes.{has_voted, step_votes}
 use Rattle.run_laws.proofs.Accepted.{NoneApplies, checked}
 use Rattle.run_laws.proofs.Begun.{begun_cases}
 use Rattle.run_laws.proofs.Homes.{home_more}
-use Rattle.run_laws.proofs.Names.{clash, same_name_true}
+use Rattle.run_laws.proofs.Names.{same_name_true}
 use Rattle.run_laws.proofs.NothingLost.{yes_facts}
-use Rattle.local_laws.proofs.Roster.{IsMaking, guardian_same, home_new, making}
+use Rattle.local_laws.proofs.Roster.{IsMaking, home_new, making}
 use Rattle.local_agreement.specs.Laws.{kept_event}
 use Rattle.local_agreement.specs.Outcomes.{AgreesOnVotes}
 
@@ -51,7 +51,7 @@ home_numbered opening (e ∷ past) a r b = elim (begun_cases e past a b) [
     of _ m f ih = elim m [ ]
 
 -- who prepared has voted
-prepared_voted : (g : ℕ) (t : Name) (past : List Event) → has_prepared g t past ≡ true → has_voted g t past ≡ true
+pub prepared_voted : (g : ℕ) (t : Name) (past : List Event) → has_prepared g t past ≡ true → has_voted g t past ≡ true
 prepared_voted g t [] h = absurd (false≢true h)
 prepared_voted g t (e ∷ past) h = elim (or_cases _ _ h) [
   | inl k ↦ or_left _ _ (of e.step e.answer k)
@@ -61,17 +61,6 @@ prepared_voted g t (e ∷ past) h = elim (or_cases _ _ h) [
     of : (step : Step) (answer : Answer) → votes_yes step answer g t ≡ true → step_votes step g t ≡ true
     of (Prepare h b) VoteYes k = k
     of _ _ k = absurd (false≢true k)
-
--- a guardian votes once on a top action
-pub votes_once : (opening : Opening) (e : Event) (past : List Event) (g : ℕ) (t : Name) → IsRun opening (e ∷ past)
-    → votes_yes e.step e.answer g t ≡ true → has_prepared g t past ≡ false
-votes_once opening e past g t r v = false_from_ne_true _ (λ h. clash (prepared_voted g t past h) (of e.step e.answer (checked opening e past r) v))
-  where
-    of : (step : Step) (answer : Answer) → NoneApplies (checks opening step past) → votes_yes step answer g t ≡ true → has_voted g t past ≡ false
-    of (Prepare h b) VoteYes f v =
-        let p = and_parts (h == g) (same_name b t) v in
-        ap (λ k. has_voted k t past) (sym (eqb-true h g p.0)) ∙ ap (λ c. has_voted h c past) (sym (same_name_true b t p.1)) ∙ f why.Already
-    of _ _ f v = absurd (false≢true v)
 
 -- the home sends what a vote brings
 sent_by_home : (opening : Opening) (e : Event) (past : List Event) (g : ℕ) (t : Name) → IsRun opening (e ∷ past)
@@ -88,10 +77,9 @@ module _ (opening : Opening) (s : Stamped) (run : List Stamped) (g : ℕ) (r : I
   abbrev past : List Event
   past = events_of run
 
-  pub agrees_on_votes : AgreesOnVotes g (kept_event opening s run g) (local_history opening run g)
+  pub agrees_on_votes : AgreesOnVotes g (kept_event opening s run g)
   agrees_on_votes = record {
     top = λ t v. (yes_facts opening s.1 past g t r v).top;
-    first = λ t v. (guardian_same opening run g r.2).prepared t ∙ votes_once opening s.1 past g t r v;
     sender = λ t v. (
       home_of t past,
       home_numbered opening past t r.2 (yes_facts opening s.1 past g t r v).was_begun,

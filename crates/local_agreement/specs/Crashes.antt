@@ -1,10 +1,10 @@
 -- What a crash would leave of a guardian's objects.
-use Rattle.std.specs.Prelude.{◌≡◌, ℕ, Bool, true, not, ◌&&◌, IsTrue, List, ◌∷◌, Option, Some, None, is_some}
+use Rattle.std.specs.Prelude.{◌≡◌, ℕ, Bool, true, not, ◌&&◌, IsTrue, List, Option, Some, None, is_some}
 use Rattle.std.specs.List.{AllByRecursion}
 use Rattle.action_names.specs.Names.{Name}
 use Rattle.atomic_types.specs.Operations.{is_read}
 use Rattle.run_model.specs.declared.step.ObjectId.{ObjectId}
-use Rattle.run_model.specs.Keeping.{Performed, Standing, outlives_crash}
+use Rattle.run_model.specs.Keeping.{outlives_crash}
 use Rattle.run_model.specs.Openings.{Opening}
 use Rattle.run_model.specs.Telling.{holder_by}
 use Rattle.run_model.specs.Versions.{holder_at}

@@ -1,4 +1,5 @@
 pub mod Actions
 pub mod Outcomes
 pub mod Crashes
+pub mod Judging
 pub mod Laws

@@ -5,8 +5,8 @@ use Rattle.std.specs.List.Sorted.{IsStrictlySortedBy}
 use Rattle.action_names.specs.Names.{Name, is_proper_ancestor, is_top, name_cmp, same_name}
 use Rattle.run_model.specs.declared.step.Step.{Step}
 use Rattle.run_model.specs.declared.step.Step.TheVariants.{Op, Prepare, Tell}
-use Rattle.run_model.specs.LocalReadings.{LocalEvent, brings, events_here, says_aborted, told_committed_here}
-use Rattle.run_model.specs.Visibility.{has_prepared, votes_yes}
+use Rattle.run_model.specs.LocalReadings.{LocalEvent, brings, says_aborted, told_committed_here}
+use Rattle.run_model.specs.Visibility.{votes_yes}
 
 -- the step is an operation of an action of which the guardian was told that it committed
 abbrev pub is_by_told : Step → List LocalEvent → Bool
@@ -31,8 +31,7 @@ pub record AgreesOnOutcomes (c : LocalEvent) (here : List LocalEvent) : Type 0 w
   pub aborts : (b : Name) → IsTrue (says_aborted (brings c b)) → IsFalse (told_committed_here b here)
   pub operation : IsFalse (is_by_told c.event.step here)
 
--- what the store asks of a yes vote: it is on a top action on which the guardian did not vote yes before, and its home sent the question
-pub record AgreesOnVotes (g : ℕ) (c : LocalEvent) (here : List LocalEvent) : Type 0 where
+-- what the store asks of a yes vote: it is on a top action, and a guardian sent the question
+pub record AgreesOnVotes (g : ℕ) (c : LocalEvent) : Type 0 where
   pub top : (t : Name) → IsTrue (votes_yes c.event.step c.event.answer g t) → IsTrue (is_top t)
-  pub first : (t : Name) → IsTrue (votes_yes c.event.step c.event.answer g t) → IsFalse (has_prepared g t (events_here here))
   pub sender : (t : Name) → IsTrue (votes_yes c.event.step c.event.answer g t) → (h : ℕ) × (1 ≤ h) × (c.carried.sender ≡ Some h)

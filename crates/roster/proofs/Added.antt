@@ -18,7 +18,7 @@ use Rattle.roster.specs.Tables.{Table, added, all_added, place_of, row_at, row_o
 use Rattle.roster.specs.declared.entry.Row.{Row}
 
 -- a value that is put stands at its name, and every other name has what it had
-value_put : {V : Type 0} (hs : List (Name × V)) (a : Name) (v : V) (b : Name)
+pub value_put : {V : Type 0} (hs : List (Name × V)) (a : Name) (v : V) (b : Name)
     → value_at (with_value hs a v) b ≡ cond (same_name a b) (Some v) (value_at hs b)
 value_put [] a v b = refl
 value_put {V} (h ∷ hs) a v b = by_case (value_put hs a v b) (name_cmp a h.0) refl

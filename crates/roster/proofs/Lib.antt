@@ -7,4 +7,6 @@ pub mod Events
 pub mod Entering
 pub mod Readings
 pub mod Planning
+pub mod Above
+pub mod Rising
 pub mod Reopened

@@ -1,14 +1,20 @@
 -- What is read in a roster.
-use Rattle.std.proofs.Common.{Bool, None, Option, Some, ap, arith, eq-eqb, eqb-true, false, ne_eqb, not, refl, sym, true, ℕ, List, [], ◌&&◌, ◌||◌, ◌==◌, ◌∙◌, ◌≡◌}
-use Rattle.std.specs.Prelude.{is_some, nat_lt}
+use Rattle.std.proofs.Common.{Bool, None, Option, Some, ap, arith, eq-eqb, eqb-true, false, ne_eqb, not, refl, sym, true, ℕ, List, [], length, ◌&&◌, ◌||◌, ◌==◌, ◌∙◌, ◌∷◌, ◌≡◌}
+use Rattle.std.specs.Prelude.{Vec, is_some, nat_lt}
 use Rattle.std.specs.FinMap as tree
-use Rattle.std.proofs.lemmas.Bool.{le-ltb}
-use Rattle.action_names.specs.Names.{Name}
+use Rattle.std.specs.declared.alloc.Global.{Global}
+use Rattle.std.proofs.lemmas.Bool.{le-ltb, true≢false}
+use Rattle.action_names.specs.Names.{Name, parent_of}
+use Rattle.run_model.specs.declared.history.Event.{Event}
+use Rattle.run_model.specs.declared.step.Step.{Step}
+use Rattle.run_model.specs.declared.step.Step.TheVariants.{Commit}
 use Rattle.run_model.specs.Actions.{crashes, home_of, incarnation_of, is_begun, is_busy, is_done, is_ended, is_gone, made_by}
 use Rattle.run_model.specs.LocalReadings.{LocalEvent, dependency_here, events_here, is_at_home}
+use Rattle.local_agreement.specs.Actions.{reaches_parent}
 use Rattle.roster.proofs.Changed.{got_within}
 use Rattle.roster.proofs.Counted.{any_counted}
 use Rattle.roster.proofs.Events.{no_events}
+use Rattle.roster.specs.Entries.{came_in}
 use Rattle.roster.specs.Rosters.{IsIndexed, IsRoster}
 use Rattle.roster.specs.Tables.{Table, home_at, life_at, place_of, row_at, row_of, said}
 use Rattle.roster.specs.declared.entry.Row.{Row}
@@ -22,7 +28,7 @@ row_there t h a = of (place_of t a) refl
     of (Some i) at = got_within t.rows i (h.within a i at)
 
 -- before anything happened
-pub nothing_yet : (g : ℕ) → IsRoster g [] (record { guardian = g; crashes = 0; down = false; rows = []; places = [] })
+pub nothing_yet : (g : ℕ) → IsRoster g [] (record { guardian = g; crashes = 0; down = false; rows = []; places = []; above = [] })
 nothing_yet g = record {
   events = no_events g;
   guardian = refl;
@@ -30,6 +36,7 @@ nothing_yet g = record {
   down = refl;
   indexed = record { within = λ a i at. absurd (none_some i at); apart = λ a b i at too. absurd (none_some i at) };
   found = λ a. refl;
+  known = λ a low. refl;
   home = λ a. refl;
   life = λ a. refl;
   maker = λ a. refl;
@@ -84,3 +91,9 @@ module _ (g : ℕ) (here : List LocalEvent) (t : Table) (is : IsRoster g here t)
 
   pub depends : (r : Option Row) → r ≡ row_of t a → (h : ℕ) → said (λ row. tree.get row.depends h) None r ≡ dependency_here a h here
   depends r e h = ap (said (λ row. tree.get row.depends h) None) e ∙ is.depends a h
+
+-- where dependencies came with a commit, the parent counts
+pub reaches_where : (ds : List (Name × Vec (ℕ × ℕ) Global)) (a : Name) (step : Step) (past : List Event) → step ≡ Commit a → (length ds == 0) ≡ false
+    → reaches_parent step (came_in ds) past ≡ is_begun (parent_of a) past
+reaches_where [] a step past is some = absurd (true≢false some)
+reaches_where (d ∷ ds) a step past is some = ap (λ t. reaches_parent t (came_in (d ∷ ds)) past) is

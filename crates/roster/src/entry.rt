@@ -44,6 +44,8 @@ pub struct Entry {
     /// The place of who makes what begins.
     pub(crate) maker: Option<usize>,
     pub(crate) begun: Vec<(Name, Row)>,
+    /// The ancestors of what begins of which nothing was known yet.
+    pub(crate) above: Vec<Name>,
     pub(crate) turn: Turn,
 }
 

@@ -1,11 +1,11 @@
 //! Actions by name, and how their guardian stands.
-ghost use Rattle.std.specs.Prelude.{◌≡◌, ◌+◌, ◌<◌, ◌≤◌, ◌^◌, [], ◌∷◌, ℕ, List, IfOk, OnOk, IsTrue, None, Some, vec_capacity, vec_len};
+ghost use Rattle.std.specs.Prelude.{◌≡◌, ◌+◌, ◌<◌, ◌≤◌, ◌^◌, [], ◌∷◌, ℕ, List, ◌||◌, IfOk, OnOk, IsTrue, None, Some, is_some, vec_capacity, vec_len};
 ghost use Rattle.std.specs.FinMap as map;
 ghost use Rattle.std.specs.List.{AllByRecursion};
 ghost use Rattle.std.specs.Option.{option_and_then, option_map};
 ghost use Rattle.action_names.specs.Deps.{lesser};
 ghost use Rattle.action_names.specs.Names.{Name, has_name};
-ghost use Rattle.holders.specs.Held.{names_of};
+ghost use Rattle.holders.specs.Held.{names_of, value_at};
 ghost use Rattle.run_model.specs.Actions.{crashes, home_in, is_begun, is_busy, is_done, is_down, is_gone, maker_in, names_begun};
 ghost use Rattle.run_model.specs.LocalReadings.{LocalEvent, dependency_here, events_here, is_at_home, least_of};
 ghost use Rattle.run_model.specs.Openings.{Held};
@@ -24,11 +24,13 @@ use std::alloc::{AllocError, Global};
 #[derive(Drop)]
 pub struct Roster {
     alloc: Global,
-    guardian: u32,
+    pub(crate) guardian: u32,
     crashes: u64,
     down: bool,
     rows: Vec<Row>,
     places: Index<usize>,
+    /// Who stands above an action that began here, and has not begun here itself, or only later.
+    above: Index<()>,
 }
 
 impl Roster {
@@ -47,6 +49,7 @@ impl Roster {
             down: false,
             rows: Vec::new(alloc),
             places: Index::new(alloc),
+            above: Index::new(alloc),
         }
     }
 
@@ -64,6 +67,7 @@ impl Roster {
             down: true,
             rows: Vec::new(alloc),
             places: Index::new(alloc),
+            above: Index::new(alloc),
         }
     }
 
@@ -147,12 +151,14 @@ impl Roster {
         let maker = self.placed(maker_in(step));
         let begun = self.plan_begun(event, dependencies)?;
         self.plan_count(maker, begun.len())?;
+        let above = self.plan_above(names_in(&event.answer))?;
         Ok(Entry {
             ended,
             closed,
             merged,
             maker,
             begun,
+            above,
             turn: turn_in(step),
         })
     }
@@ -170,8 +176,10 @@ impl Roster {
             merged,
             maker,
             begun,
+            above,
             turn,
         } = entry;
+        self.put_above(above);
         self.count_more(maker, begun.len());
         self.add_all(begun);
         self.end(ended);
@@ -182,13 +190,13 @@ impl Roster {
 }
 
 impl Roster {
-    ghost use Rattle.roster.specs.Entries.{AreBorn, CanCount, FitsBegun, IsBorn, IsLeft, IsMerged, came_in};
+    ghost use Rattle.roster.specs.Entries.{Adds, AreAbove, AreBorn, CanCount, FitsBegun, HaveRoom, IsBorn, IsClimbed, IsLeft, IsMerged, came_in};
     ghost use Rattle.roster.specs.Steps.{above};
     ghost use Rattle.roster.specs.Rosters.{crashes_of};
-    ghost use Rattle.roster.specs.Tables.{added, all_added, changed_at, ended, home_at, life_at, life_in, maker_left, merged, more_by, one_less, place_of, placed, row_at, row_of, said, table, turned, with_closed, with_ended};
+    ghost use Rattle.roster.specs.Tables.{added, all_added, changed_at, ended, home_at, is_known, life_at, life_in, maker_left, merged, more_by, one_less, place_of, placed, row_at, row_of, said, table, turned, with_closed, with_ended};
 
     // The place of the action's row.
-    fn place(&self, action: &Name) -> Option<usize>
+    pub(crate) fn place(&self, action: &Name) -> Option<usize>
         ensures { result ≡ place_of (table self.now) action.now }
     {
         self.places.get(action).copied()
@@ -286,7 +294,7 @@ impl Roster {
     }
 
     // The place of the action's parent, if it has one that has a row.
-    fn parent_place(&self, action: &Name) -> Result<Option<usize>, AllocError>
+    pub(crate) fn parent_place(&self, action: &Name) -> Result<Option<usize>, AllocError>
         ensures { IfOk result (λ at. at ≡ placed (table self.now) (above action.now)) }
     {
         let parent = action.parent()?;
@@ -328,6 +336,51 @@ impl Roster {
             begun.push((name.copy()?, row))?;
         }
         Ok(begun)
+    }
+
+    // The ancestors of these names of which nothing is known yet, and room for them.
+    fn plan_above(&mut self, names: &[Name]) -> Result<Vec<Name>, AllocError>
+        ensures same { table self.new ≡ table self.old }
+        ensures rows { self.new.rows ≡ self.old.rows }
+        ensures places { self.new.places ≡ self.old.places }
+        ensures fits { IfOk result (λ above. HaveRoom self.new.above.room above.items) }
+        ensures above { IfOk result (λ above. AreAbove (table self.old) names.now above.items) }
+    {
+        let mut above = Vec::new(self.alloc);
+        for name in names {
+            self.climb(name, &mut above)?;
+        }
+        Ok(above)
+    }
+
+    // Adds the ancestors of the action up to the first of which something is known, whose ancestors are known too.
+    fn climb(&mut self, action: &Name, above: &mut Vec<Name>) -> Result<(), AllocError>
+        ensures same { table self.new ≡ table self.old }
+        ensures rows { self.new.rows ≡ self.old.rows }
+        ensures places { self.new.places ≡ self.old.places }
+        ensures fits { OnOk result (HaveRoom self.old.above.room above.old.items → HaveRoom self.new.above.room above.new.items) }
+        ensures adds { OnOk result (Adds action.now above.old.items above.new.items) }
+        ensures climbed { OnOk result (IsClimbed (table self.old) above.new.items action.now) }
+    {
+        // The action has numbers, as the depth of its name says.
+        let _depth = action.depth();
+        let Some(parent) = action.parent()? else {
+            return Ok(());
+        };
+        if self.is_known(&parent) {
+            return Ok(());
+        }
+        self.climb(&parent, above)?;
+        self.above.make_room(&parent)?;
+        above.push(parent)?;
+        Ok(())
+    }
+
+    // Whether the action began here or something below it.
+    pub(crate) fn is_known(&self, action: &Name) -> bool
+        ensures { result ≡ is_known (table self.now) action.now }
+    {
+        self.place(action).is_some() || self.above.get(action).is_some()
     }
 
     // The row of an action that the step begins.
@@ -388,6 +441,19 @@ impl Roster {
     {
         while let Some((name, row)) = begun.pop() {
             self.add(&name, row);
+        }
+    }
+
+    // Puts in those above what begins, for whom there is room.
+    fn put_above(&mut self, mut above: Vec<Name>)
+        requires { HaveRoom self.old.above.room above.items }
+        ensures same { table self.new ≡ record (table self.old) { above = self.new.above.held } }
+        ensures rows { self.new.rows ≡ self.old.rows }
+        ensures places { self.new.places ≡ self.old.places }
+        ensures above { (a : Name) → is_some (value_at self.new.above.held a) ≡ (has_name above.items a || is_some (value_at self.old.above.held a)) }
+    {
+        while let Some(name) = above.pop() {
+            self.above.put(&name, ());
         }
     }
 

@@ -162,7 +162,7 @@ module _ (opening : Opening) (g : ℕ) (here : List LocalEvent) (s : Stored) (h 
   }
 
   -- a yes vote elsewhere asks for nothing
-  module _ (k : ℕ) (t : Name) (v : AgreesOnVotes g (event_of stamp (Prepare k t) VoteYes carried) here) where
+  module _ (k : ℕ) (t : Name) (v : AgreesOnVotes g (event_of stamp (Prepare k t) VoteYes carried)) where
     abbrev voted : LocalEvent
     voted = event_of stamp (Prepare k t) VoteYes carried
 
@@ -230,7 +230,7 @@ module _ (opening : Opening) (g : ℕ) (here : List LocalEvent) (s : Stored) (h 
             ∙ ap (λ b. option_map record_of (cond (b && ((m == n) && true)) (Some (held (n ∷ []))) (old n))) (sym e)
             ∙ ap (λ a. option_map record_of (cond ((k == g) && same_name a (n ∷ [])) (Some (held (n ∷ []))) (old n))) (sym top)
 
-  votes : (k : ℕ) (t : Name) → AgreesOnVotes g (event_of stamp (Prepare k t) VoteYes carried) here → Follows (Prepare k t) VoteYes
+  votes : (k : ℕ) (t : Name) → AgreesOnVotes g (event_of stamp (Prepare k t) VoteYes carried) → Follows (Prepare k t) VoteYes
   votes k t v = of (k == g) refl
     where
       ends : (u : Bool) → (k == g) ≡ u → AreStored opening g (event_of stamp (Prepare k t) VoteYes carried ∷ here) (cond u (after k t v) s)
@@ -376,7 +376,7 @@ module _ (opening : Opening) (g : ℕ) (here : List LocalEvent) (s : Stored) (h 
       of true e = by_name a refl e
       of false e = told_elsewhere k a answer e
 
-  follows : (step : Step) (answer : Answer) → AgreesOnVotes g (event_of stamp step answer carried) here → Follows step answer
+  follows : (step : Step) (answer : Answer) → AgreesOnVotes g (event_of stamp step answer carried) → Follows step answer
   follows (Prepare k t) VoteYes v = votes k t v
   follows (Prepare k t) VoteNo v = record { base = h.base; prepared = h.prepared; decided = h.decided; count = h.count; next_top = h.next_top; tops = h.tops }
   follows (Prepare k t) (Began names) v = record { base = h.base; prepared = h.prepared; decided = h.decided; count = h.count; next_top = h.next_top; tops = h.tops }

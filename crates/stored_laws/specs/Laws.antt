@@ -21,7 +21,7 @@ NothingIsStored = (opening : Opening) (g : ℕ) (s : Stored) → ((n : ℕ) → 
 -- After the call that an event asks for, the store holds what the history with that event in front says.
 abbrev pub StoreFollows : Type 0
 StoreFollows = (opening : Opening) (g : ℕ) (c : LocalEvent) (here : List LocalEvent) (s : Stored) → AreStored opening g here s
-    → AgreesOnVotes g c here → AreStored opening g (c ∷ here) (after_event opening g c here s)
+    → AgreesOnVotes g c → AreStored opening g (c ∷ here) (after_event opening g c here s)
 
 -- A store whose records may be those of a guardian, with numbers below the next, holds what the time before says of which it tells.
 abbrev pub LifeIsStored : Type 0

@@ -6,7 +6,6 @@
 //! was prepared, the parts of objects, the prepared top action 7 with its home 2 and its parts, and the decided top action 4.
 #![tactic(auto)]
 
-mod contents;
 mod sections;
 mod stepping;
 mod system;

@@ -1,8 +1,8 @@
 //! What a section has, and the calls of its rows.
-use crate::contents::{empty, number, parts, put_decided, put_record, write_kept};
 use crate::stepping::write_step;
 use crate::system::{Failing, System, Unopened};
 use crate::trials::{Trial, write_failure, write_failures};
+use kept_lines::{empty, number, parts, put_decided, put_record, write_kept};
 use rows::{Row, RowFault, Subject, Words};
 use run_model::{Name, NameFault, ObjectId, Setup, SetupFault, Step};
 use stable_store::{Kept, Prepared};

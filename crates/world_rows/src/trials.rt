@@ -1,7 +1,7 @@
 //! The steps that a section keeps, made in new worlds of which a store fails once.
-use crate::contents::write_uncounted;
 use crate::stepping::{Trouble, make};
 use crate::system::{Failing, System, Unopened};
+use kept_lines::write_uncounted;
 use rows::RowFault;
 use run_model::{Setup, Step};
 use stable_store::Kept;

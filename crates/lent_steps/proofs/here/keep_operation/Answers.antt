@@ -5,8 +5,8 @@ use Rattle.lent_steps.specs.Keeping.{is_operation}
 use Rattle.lent_steps.proofs.Stores.{operation_stays}
 use Rattle.lent_steps.proofs.here.keep_operation.Goals as goal
 
-pub returns-in_err-agrees-clause-store : goal.returns-in_err-agrees-clause-store
-returns-in_err-agrees-clause-store g c = stays_same (g.G.Guardian.stored c.args.guardian.now)
+pub returns-in_err-accepts-clause-store : goal.returns-in_err-accepts-clause-store
+returns-in_err-accepts-clause-store g c = stays_same (g.G.Guardian.stored c.args.guardian.now)
 
 pub returns-then-not-branch-clause-store : goal.returns-then-not-branch-clause-store
 returns-then-not-branch-clause-store g c = stays_same (g.G.Guardian.stored c.args.guardian.now)

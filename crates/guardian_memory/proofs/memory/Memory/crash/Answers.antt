@@ -4,7 +4,7 @@ use Rattle.run_model.specs.Openings.{opening_in}
 use Rattle.layer_contracts.specs.Guardians.{stamped}
 use Rattle.guardian_memory.specs.Plans.{news_of}
 use Rattle.guardian_memory.proofs.Agreed.{actions_at, crash_brings, crash_is}
-use Rattle.guardian_memory.proofs.Kept.{crashes_within, fits_within, survivors_are, survivors_top}
+use Rattle.guardian_memory.proofs.Kept.{crashes_within, fits_within, placed, survivors_are, survivors_top}
 use Rattle.guardian_memory.proofs.Sound.{lists_within, room_for_one, roster_within, sound_next, state_next, told_within}
 use Rattle.guardian_memory.proofs.memory.Memory.crash.Goals as goal
 
@@ -40,7 +40,7 @@ invariant_of-self g c =
     let step = c.args.plan.event.step in
     let fits = fits_within c.args.self.now _ c.args.plan c.self.view_is c.requires.fits in
     let down = crashes_within c.args.self.now _ step true c.self.view_is c.requires.down in
-    sound_next c.args.stamp news c.self.invariant fits.agrees c.push.ensures
+    sound_next c.args.stamp news c.self.invariant fits.agrees (placed c.self.invariant fits) c.push.ensures
     (c.crash.ensures.told number here (stamped c.args.stamp news) c.self.invariant.tellings fits.heard down) (omega (arith, c.crash.ensures.crashes))
     (c.crash-2.ensures.lists here (stamped c.args.stamp news) c.self.invariant.knowledge (ap (λ h. step_crashes step h) c.self.invariant.knower ∙ down)) c.crash-2.ensures.own
     (c.enter.ensures number here (stamped c.args.stamp news) c.self.invariant.actions (actions_at number c.args.stamp news here fits.agrees.actions) fits.entry)

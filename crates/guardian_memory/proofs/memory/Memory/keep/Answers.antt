@@ -4,7 +4,7 @@ use Rattle.run_model.specs.Openings.{opening_in}
 use Rattle.layer_contracts.specs.Guardians.{stamped}
 use Rattle.guardian_memory.specs.Plans.{news_of}
 use Rattle.guardian_memory.proofs.Agreed.{actions_at, only_tells}
-use Rattle.guardian_memory.proofs.Kept.{crashes_within, fits_within, may_hear}
+use Rattle.guardian_memory.proofs.Kept.{crashes_within, fits_within, may_hear, placed}
 use Rattle.guardian_memory.proofs.Sound.{room_for_one, roster_within, sound_next, state_next}
 use Rattle.guardian_memory.proofs.memory.Memory.keep.Goals as goal
 
@@ -37,7 +37,7 @@ invariant_of-self c =
     let here = c.self.inside.history.events in
     let fits = fits_within c.args.self.now _ c.args.plan c.self.view_is c.requires.fits in
     let up = crashes_within c.args.self.now _ c.args.plan.event.step false c.self.view_is c.requires.up in
-    sound_next c.args.stamp news c.self.invariant fits.agrees c.push.ensures
+    sound_next c.args.stamp news c.self.invariant fits.agrees (placed c.self.invariant fits) c.push.ensures
     (c.hear.ensures.told number here (stamped c.args.stamp news) c.self.invariant.tellings fits.heard up) (omega (arith, c.hear.ensures.crashes))
     (c.learn.ensures.lists here (stamped c.args.stamp news) c.self.invariant.knowledge
     (ap (λ g. step_crashes c.args.plan.event.step g) c.self.invariant.knower ∙ up) fits.lesson) c.learn.ensures.own

@@ -3,7 +3,7 @@ use Rattle.layer_contracts.specs.Guardians.{stamped}
 use Rattle.guardian_objects.proofs.Operated.{on_err}
 use Rattle.guardian_memory.specs.Plans.{news_of}
 use Rattle.guardian_memory.proofs.Agreed.{actions_at, operation_stays}
-use Rattle.guardian_memory.proofs.Kept.{fits_within, may_operate, operated}
+use Rattle.guardian_memory.proofs.Kept.{fits_within, may_operate, operated, placed}
 use Rattle.guardian_memory.proofs.Operated.{no_operation}
 use Rattle.guardian_memory.proofs.Sound.{room_for_one, roster_within, sound_next, sound_same, state_next, state_same}
 use Rattle.guardian_memory.proofs.memory.Memory.operate.Goals as goal
@@ -46,7 +46,7 @@ invariant_of-self-2 g c =
     let here = c.self.inside.history.events in
     let step = c.args.plan.event.step in
     let fits = fits_within c.args.self.now _ c.args.plan c.self.view_is c.requires.fits in
-    sound_next n news c.self.invariant fits.agrees c.push.ensures
+    sound_next n news c.self.invariant fits.agrees (placed c.self.invariant fits) c.push.ensures
     (c.hear.ensures.told number here (stamped n news) c.self.invariant.tellings fits.heard (operation_stays number step c.requires.operation)) (omega (arith, c.hear.ensures.crashes))
     (c.learn.ensures.lists here (stamped n news) c.self.invariant.knowledge (operation_stays _ step c.requires.operation) fits.lesson) c.learn.ensures.own
     (c.enter.ensures number here (stamped n news) c.self.invariant.actions (actions_at number n news here fits.agrees.actions) fits.entry)

@@ -1,9 +1,10 @@
-use Rattle.std.proofs.Common.{ap, subst, sym, ◌∙◌, ◌≡◌}
-use Rattle.roster.specs.Entries.{AreBorn, CanCount, IsMerged, came_in}
+use Rattle.std.proofs.Common.{ap, subst, sym, vec_capacity, vec_len, ◌+◌, ◌≤◌, ◌∙◌, ◌≡◌}
+use Rattle.roster.specs.Entries.{AreAbove, AreBorn, CanCount, IsMerged, came_in}
 use Rattle.roster.specs.Rosters.{IsRoster}
 use Rattle.roster.specs.Steps.{closed_in, ended_in}
 use Rattle.roster.specs.Tables.{Table, placed, table}
-use Rattle.run_model.specs.Actions.{maker_in}
+use Rattle.run_model.specs.Actions.{maker_in, names_begun}
+use Rattle.roster.proofs.Planning.{HavePlaces}
 use Rattle.roster.proofs.roster.Roster.plan.Goals as goal
 
 pub returns-in_err-begun-clause-same : goal.returns-in_err-begun-clause-same
@@ -12,35 +13,54 @@ returns-in_err-begun-clause-same c = λ g here is. subst (IsRoster g here) (sym 
 pub returns-in_err-plan_count-clause-same : goal.returns-in_err-plan_count-clause-same
 returns-in_err-plan_count-clause-same c = λ g here is. subst (IsRoster g here) (sym c.plan_begun.ensures.same) is
 
+pub returns-in_err-above-clause-same : goal.returns-in_err-above-clause-same
+returns-in_err-above-clause-same c = λ g here is. subst (IsRoster g here) (sym (c.plan_above.ensures.same ∙ c.plan_begun.ensures.same)) is
+
 pub returns-in_err-begun-clause-crashes : goal.returns-in_err-begun-clause-crashes
 returns-in_err-begun-clause-crashes c = ap (λ (t : Table). t.crashes) c.plan_begun.ensures.same
 
 pub returns-in_err-plan_count-clause-crashes : goal.returns-in_err-plan_count-clause-crashes
 returns-in_err-plan_count-clause-crashes c = ap (λ (t : Table). t.crashes) c.plan_begun.ensures.same
 
+pub returns-in_err-above-clause-crashes : goal.returns-in_err-above-clause-crashes
+returns-in_err-above-clause-crashes c = ap (λ (t : Table). t.crashes) (c.plan_above.ensures.same ∙ c.plan_begun.ensures.same)
+
 pub returns-clause-same : goal.returns-clause-same
-returns-clause-same c = λ g here is. subst (IsRoster g here) (sym c.plan_begun.ensures.same) is
+returns-clause-same c = λ g here is. subst (IsRoster g here) (sym (c.plan_above.ensures.same ∙ c.plan_begun.ensures.same)) is
 
 pub returns-clause-crashes : goal.returns-clause-crashes
-returns-clause-crashes c = ap (λ (t : Table). t.crashes) c.plan_begun.ensures.same
+returns-clause-crashes c = ap (λ (t : Table). t.crashes) (c.plan_above.ensures.same ∙ c.plan_begun.ensures.same)
 
 pub returns-clause-fits : goal.returns-clause-fits
-returns-clause-fits c = record {
-  begun = c.in_ok-begun.ensures.fits;
-  count = subst (CanCount c.plan_begun.new.self.rows.items c.placed-maker.result) c.len.ensures c.in_ok-plan_count.ensures;
-}
+returns-clause-fits c =
+    let rows = c.plan_above.ensures.rows in
+    let begun = c.in_ok-begun.begun in
+    record {
+      begun = record {
+        rows = subst (λ r. vec_len r + vec_len begun ≤ vec_capacity r) (sym rows) c.in_ok-begun.ensures.fits.rows;
+        places = subst (λ p. HavePlaces p.room begun.items) (sym c.plan_above.ensures.places) c.in_ok-begun.ensures.fits.places;
+      };
+      count =
+          subst (λ r. CanCount r.items c.placed-maker.result (vec_len begun)) (sym rows)
+          (subst (CanCount c.plan_begun.new.self.rows.items c.placed-maker.result) c.len.ensures c.in_ok-plan_count.ensures);
+      above = c.in_ok-above.ensures.fits;
+    }
 
 pub returns-clause-planned : goal.returns-clause-planned
 returns-clause-planned c =
     let before = table c.args.self.now in
     let step = c.args.event.now.step in
     let came = came_in c.args.dependencies.now in
-    let same : before ≡ table c.plan_begun.new.self = sym c.plan_begun.ensures.same in
+    let climbed : table c.plan_begun.new.self ≡ table c.plan_above.new.self = sym c.plan_above.ensures.same in
+    let same : before ≡ table c.plan_above.new.self = sym c.plan_begun.ensures.same ∙ climbed in
     record {
       ended = c.placed-ended.ensures ∙ ap (placed before) c.ended_in.ensures ∙ ap (λ t. placed t (ended_in step)) same;
       closed = c.placed-closed.ensures ∙ ap (placed before) c.closed_in.ensures ∙ ap (λ t. placed t (closed_in step)) same;
       merged = subst (λ t. IsMerged t step came c.in_ok-merged.merged) same c.in_ok-merged.ensures;
       maker = c.placed-maker.ensures ∙ ap (placed before) c.maker_in.ensures ∙ ap (λ t. placed t (maker_in step)) same;
       begun = subst (λ t. AreBorn t c.args.event.now came c.in_ok-begun.begun.items) same c.in_ok-begun.ensures.born;
+      above =
+          subst (λ t. AreAbove t (names_begun c.args.event.now.answer) c.in_ok-above.above.items) climbed
+          (subst (λ ns. AreAbove (table c.plan_begun.new.self) ns c.in_ok-above.above.items) c.names_in.ensures c.in_ok-above.ensures.above);
       turn = c.turn_in.ensures;
     }

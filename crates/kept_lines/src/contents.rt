@@ -1,4 +1,4 @@
-//! What stores hold, as rows write and show it.
+//! What a store holds, in words and in one line.
 use atomic_types::Part;
 use part_texts::{part_from_text, part_text};
 use rows::{RowFault, Words};
@@ -8,12 +8,12 @@ use std::collections::BTreeMap;
 use values::ValueFault;
 
 /// The next word as the number of a guardian, an object or a top action.
-pub(crate) fn number(words: &mut Words<'_>) -> Result<u32, RowFault> {
+pub fn number(words: &mut Words<'_>) -> Result<u32, RowFault> {
     words.word()?.parse().map_err(|_| RowFault::Unread)
 }
 
 /// The parts by object number of words `OBJECT=SPELLING`.
-pub(crate) fn parts(alloc: Global, words: Words<'_>) -> Result<BTreeMap<u32, Part>, RowFault> {
+pub fn parts(alloc: Global, words: Words<'_>) -> Result<BTreeMap<u32, Part>, RowFault> {
     let mut parts = BTreeMap::new(alloc);
     for word in words.rest().split(' ') {
         if !word.is_empty() {
@@ -45,7 +45,7 @@ fn part(alloc: Global, spelling: &str) -> Result<Part, RowFault> {
 }
 
 /// What so many new stores hold.
-pub(crate) fn empty(alloc: Global, count: usize) -> Result<Vec<Kept>, AllocError> {
+pub fn empty(alloc: Global, count: usize) -> Result<Vec<Kept>, AllocError> {
     let mut stores = Vec::new(alloc);
     for _ in 0..count {
         stores.push(Kept::new(alloc))?;
@@ -54,30 +54,26 @@ pub(crate) fn empty(alloc: Global, count: usize) -> Result<Vec<Kept>, AllocError
 }
 
 /// Puts the record of a prepared top action into what a store holds.
-pub(crate) fn put_record(kept: &mut Kept, top: u32, record: Prepared) -> Result<(), AllocError> {
+pub fn put_record(kept: &mut Kept, top: u32, record: Prepared) -> Result<(), AllocError> {
     drop(kept.prepared.insert(top, record)?);
     kept.next_top = kept.next_top.max(u64::from(top) + 1);
     Ok(())
 }
 
 /// Puts a top action among the decided ones of what a store holds.
-pub(crate) fn put_decided(kept: &mut Kept, top: u32) -> Result<(), AllocError> {
+pub fn put_decided(kept: &mut Kept, top: u32) -> Result<(), AllocError> {
     kept.decided.insert(top)?;
     Ok(())
 }
 
 /// Writes in one line what a store holds.
-pub(crate) fn write_kept(alloc: Global, kept: &Kept, text: &mut String) -> Result<(), AllocError> {
+pub fn write_kept(alloc: Global, kept: &Kept, text: &mut String) -> Result<(), AllocError> {
     write!(text, "count {} ", kept.count)?;
     write_uncounted(alloc, kept, text)
 }
 
 /// The same without the count of recoveries.
-pub(crate) fn write_uncounted(
-    alloc: Global,
-    kept: &Kept,
-    text: &mut String,
-) -> Result<(), AllocError> {
+pub fn write_uncounted(alloc: Global, kept: &Kept, text: &mut String) -> Result<(), AllocError> {
     write!(text, "next {}", kept.next_top)?;
     write_parts(alloc, &kept.base, text)?;
     for (top, record) in &kept.prepared {
