@@ -16,68 +16,72 @@ use crate::guardian::Guardian;
 use run_model::{Event, Name, Opening};
 use std::alloc::AllocError;
 
-/// The forest of actions and the ballots, as a step uses them: readings of the registry's history.
+/// The forest of actions and the ballots, as a step uses them: readings of the registry's history, which the forest need not keep. So what it says is
+/// said of each state in which it stands, and there is one.
 pub trait Forest: Drop {
-    /// The opening, and the registry's history.
-    ghost state: { Self → ForestState };
+    /// That the forest stands in this state: it is of this opening, and of this registry's history.
+    ghost stands: { Self → ForestState → Type 0 };
 
     /// What one event changes here.
     type Plan: Drop;
 
-    ghost planned: { Self.Plan → RegistryNews };
+    /// That the plan is for this event of this forest, as it stands in this state.
+    ghost is_for: { Self.Plan → Self → ForestState → RegistryNews → Type 0 };
 
-    /// That the plan was made of this forest as it stands, which has the room that the change takes.
+    /// That the forest has the room that the plan takes.
     ghost fits: { Self.Plan → Self → Type 0 };
 
+    /// The opening, in which the forest stands at some history.
     fn opening(&self) -> &Opening
-        ensures { opening_in result.now ≡ (state self.now).opening };
+        ensures opening { (f : ForestState) → stands self.now f → opening_in result.now ≡ f.opening }
+        ensures some { (f : ForestState) × stands self.now f };
 
     fn is_begun(&self, action: &Name) -> bool
-        ensures { result ≡ is_begun action.now (events_there (state self.now).registry) };
+        ensures { (f : ForestState) → stands self.now f → result ≡ is_begun action.now (events_there f.registry) };
 
     fn is_ended(&self, action: &Name) -> bool
-        ensures { result ≡ is_ended action.now (events_there (state self.now).registry) };
+        ensures { (f : ForestState) → stands self.now f → result ≡ is_ended action.now (events_there f.registry) };
 
     fn is_done(&self, action: &Name) -> bool
-        ensures { result ≡ is_done action.now (events_there (state self.now).registry) };
+        ensures { (f : ForestState) → stands self.now f → result ≡ is_done action.now (events_there f.registry) };
 
     fn is_closed(&self, action: &Name) -> bool
-        ensures { result ≡ is_closed action.now (events_there (state self.now).registry) };
+        ensures { (f : ForestState) → stands self.now f → result ≡ is_closed action.now (events_there f.registry) };
 
     fn is_committed(&self, action: &Name) -> bool
-        ensures { result ≡ is_committed action.now (events_there (state self.now).registry) };
+        ensures { (f : ForestState) → stands self.now f → result ≡ is_committed action.now (events_there f.registry) };
 
     fn is_busy(&self, action: &Name) -> bool
-        ensures { result ≡ is_busy action.now (events_there (state self.now).registry) };
+        ensures { (f : ForestState) → stands self.now f → result ≡ is_busy action.now (events_there f.registry) };
 
     /// The home of the action with this path, and 0 where there is none.
     fn home(&self, path: &[u32]) -> u32
-        ensures { result ≡ home_of path.now (events_there (state self.now).registry) };
+        ensures { (f : ForestState) → stands self.now f → result ≡ home_of path.now (events_there f.registry) };
 
     /// Who made the action.
     fn maker(&self, action: &Name) -> Option<&Name>
-        ensures { MatchOption result (maker_of action.now (events_there (state self.now).registry) ≡ None)
-            (λ maker. maker_of action.now (events_there (state self.now).registry) ≡ Some maker.now) };
+        ensures { (f : ForestState) → stands self.now f → MatchOption result (maker_of action.now (events_there f.registry) ≡ None)
+            (λ maker. maker_of action.now (events_there f.registry) ≡ Some maker.now) };
 
     /// The next number under the path. All numbers above 4294967295 count as 4294967296.
     fn next(&self, path: &[u32]) -> u64
-        ensures { result ≡ min (next_number (state self.now).opening path.now (events_there (state self.now).registry)) (suc max_number) };
+        ensures { (f : ForestState) → stands self.now f → result ≡ min (next_number f.opening path.now (events_there f.registry)) (suc max_number) };
 
     fn has_voted(&self, guardian: u32, top: &Name) -> bool
-        ensures { result ≡ has_voted guardian top.now (events_there (state self.now).registry) };
+        ensures { (f : ForestState) → stands self.now f → result ≡ has_voted guardian top.now (events_there f.registry) };
 
     /// Whether all participants voted yes.
     fn is_ready(&self, top: &Name) -> bool
-        ensures { result ≡ list_all (λ g. is_none (dependency_there top.now g (state self.now).registry)
-            || has_prepared g top.now (events_there (state self.now).registry)) (guardians_of (state self.now).opening) };
+        ensures { (f : ForestState) → stands self.now f → result ≡ list_all (λ g. is_none (dependency_there top.now g f.registry)
+            || has_prepared g top.now (events_there f.registry)) (guardians_of f.opening) };
 
     /// The least incarnation of the guardian on which the action depends.
     fn dependency(&self, action: &Name, guardian: u32) -> Option<u64>
-        ensures { result ≡ dependency_there action.now guardian (state self.now).registry };
+        ensures { (f : ForestState) → stands self.now f → result ≡ dependency_there action.now guardian f.registry };
 
     /// On which guardians the action depends, rising.
     fn dependencies(&self, action: &Name) -> Result<Vec<(u32, u64)>, AllocError>
-        ensures { IfOk result (λ entries. entries.items ≡ entries_of (state self.now).opening (λ h. dependency_there action.now h (state self.now).registry)) };
+        ensures { (f : ForestState) → stands self.now f → IfOk result (λ entries. entries.items ≡ entries_of f.opening (λ h. dependency_there action.now h f.registry)) };
 
     /// On which guardians an action depends that begins at this home in this life of it.
     fn new_dependencies(
@@ -86,7 +90,7 @@ pub trait Forest: Drop {
         home: u32,
         life: u64,
     ) -> Result<Vec<(u32, u64)>, AllocError>
-        ensures { IfOk result (λ entries. entries.items ≡ new_entries (state self.now) home life action.now) };
+        ensures { (f : ForestState) → stands self.now f → IfOk result (λ entries. entries.items ≡ new_entries f home life action.now) };
 
     /// The outcomes below the top action that the guardian has not been told, by name.
     fn outcomes_below<G: Guardian>(
@@ -94,20 +98,22 @@ pub trait Forest: Drop {
         top: &Name,
         at: &G,
     ) -> Result<Vec<(Name, bool)>, AllocError>
-        ensures { IfOk result (λ outcomes. outcomes.items ≡
-            outcomes_below top.now (G.state at.now).number (events_there (state self.now).registry) (G.state at.now).past) };
+        ensures { (f : ForestState) → stands self.now f → IfOk result (λ outcomes. outcomes.items ≡
+            outcomes_below top.now (G.state at.now).number (events_there f.registry) (G.state at.now).past) };
 
     /// Makes room for an event and computes what it changes. What it begins begins at this home in this life of it. With memory and without, the
-    /// forest says what it said.
+    /// forest stands where it stood. The plan is for the event in each state in which that was entered.
     fn plan(&mut self, event: &Event, home: u32, life: u64) -> Result<Self::Plan, AllocError>
         requires accepted { IsTrue (is_accepted event.now.answer) }
-        requires entered { entered (state self.old) event.now }
-        ensures same { state self.new ≡ state self.old }
+        ensures same { (f : ForestState) → stands self.old f → stands self.new f }
         ensures fits { IfOk result (λ plan. fits plan self.new) }
-        ensures planned { IfOk result (λ plan. planned plan ≡ record { event = event.now; begun = begun_at (state self.old) home life event.now.answer }) };
+        ensures planned { IfOk result (λ plan. (f : ForestState) → stands self.old f → entered f event.now
+            → is_for plan self.new f (record { event = event.now; begun = begun_at f home life event.now.answer })) };
 
-    /// Carries a plan out. This cannot fail.
-    fn install(&mut self, plan: Self::Plan, stamp: u64)
+    /// Carries a plan out that is for this event in some state in which the forest stands. This cannot fail.
+    fn install(&mut self, plan: Self::Plan, event: &Event, stamp: u64)
         requires fits { fits plan self.old }
-        ensures { state self.new ≡ record (state self.old) { registry = stamped_there stamp (planned plan) ∷ (state self.old).registry } };
+        requires planned { (f : ForestState) × (news : RegistryNews) × stands self.old f × is_for plan self.old f news × (news.event ≡ event.now) }
+        ensures { (f : ForestState) (news : RegistryNews) → stands self.old f → is_for plan self.old f news → news.event ≡ event.now
+            → stands self.new (record f { registry = stamped_there stamp news ∷ f.registry }) };
 }

@@ -5,7 +5,7 @@ use Rattle.std.proofs.lemmas.Option.{slice_get-get_or}
 use Rattle.run_model.specs.declared.history.Event.{Event}
 use Rattle.run_model.specs.declared.step.Step.{Step}
 use Rattle.run_model.specs.Answers.{answer_of}
-use Rattle.run_model.specs.LocalHistories.{carried, carried_lent, events_of, events_there, local_history, names_guardian, registry_history, numbered}
+use Rattle.run_model.specs.LocalHistories.{carried_lent, events_of, events_there, local_history, names_guardian, registry_history, numbered}
 use Rattle.run_model.specs.LocalReadings.{Carried, LocalEvent}
 use Rattle.run_model.specs.Openings.{Opening}
 use Rattle.run_model.specs.Runs.{IsRun, is_accepted}
@@ -23,7 +23,7 @@ use Rattle.layer_contracts.proofs.Stores.{left_alone, refused_before, stays_same
 use Rattle.lent_steps.specs.Keeping.{StoreLeft}
 use Rattle.layered_world.specs.Standings.{HasFailed, IsLeftAt, IsWholeAt, IsWorld, Names, StoresLeft, asks_of, brought, content_then, event_next, forest_of, standing}
 use Rattle.layered_world.proofs.Agreed.{carried_there}
-use Rattle.layered_world.proofs.Led.{numbered_events, runs, stands, there_is}
+use Rattle.layered_world.proofs.Led.{numbered_events, runs, stands_at}
 use Rattle.layered_world.proofs.Places.{back_at, front_at, set_apart, set_back, set_front, set_other, set_there, some_eq, there}
 
 -- ---- no guardian was touched
@@ -39,8 +39,8 @@ module _ {X : Type 0} (stored : X → View) (opening : Opening) (past : List Eve
   }
 
   -- want of memory came before any guardian was called
-  pub stores_refused : (state : X → GuardianState) (f : ForestState) → IsWorld state stored opening past f gs → StoresLeft stored opening past step gs gs (Some Memory)
-  stores_refused state f w = untouched (Some Memory) (λ i x p.
+  pub stores_refused : (state : X → GuardianState) (forest : ForestState → Type 0) → IsWorld state stored forest opening past gs → StoresLeft stored opening past step gs gs (Some Memory)
+  stores_refused state forest w = untouched (Some Memory) (λ i x p.
       let whole = w.stores i x p in
       refused_before (asks_of opening step past (i + 1) (stored x).content) (content_then opening step past (i + 1) (stored x).content) (stored x) (stored x)
       (stays_same (stored x)) whole.found whole.rests)
@@ -54,62 +54,59 @@ module _ {X : Type 0} (stored : X → View) (opening : Opening) (past : List Eve
 
 -- ---- the event was kept at the guardians that it names
 
--- what the event names by the forest it names by the run
-named_run : (past : List Event) (f : ForestState) (e : Event) (g : ℕ) → f ≡ forest_of f.opening past → IsRun f.opening past
-    → names_guardian e.step (events_there f.registry) g ≡ names_guardian e.step past g
-named_run past f e g h r =
-    ap (λ reg. names_guardian e.step (events_there reg) g) (there_is past f h)
-    ∙ names_same (events_there (registry_history f.opening (numbered past))) (events_of (numbered past)) g (registry_same f.opening (numbered past) (runs f.opening past r)) e.step
+-- what the event names by the registry it names by the run
+named_run : (past : List Event) (opening : Opening) (e : Event) (g : ℕ) → IsRun opening past
+    → names_guardian e.step (events_there (registry_history opening (numbered past))) g ≡ names_guardian e.step past g
+named_run past opening e g r =
+    names_same (events_there (registry_history opening (numbered past))) (events_of (numbered past)) g (registry_same opening (numbered past) (runs opening past r)) e.step
     ∙ ap (λ p. names_guardian e.step p g) (numbered_events past)
 
 -- one of the two that the event names
-left_at : (past : List Event) (f : ForestState) (e : Event) (low high g : ℕ) (a b x : GuardianState) (old new : View) (fault : Option Fault)
-    → f ≡ forest_of f.opening past → IsRun f.opening (e ∷ past) → Names f e.step low high
-    → a ≡ standing f.opening past low → b ≡ standing f.opening past high → x ≡ standing f.opening past g → ((low == g) || (high == g)) ≡ true
-    → StoreLeft f a b e x old new fault
-    → Leaves (asks_of f.opening e.step past g old.content) (content_then f.opening e.step past g old.content) old new fault
-left_at past f e low high g a b x old new fault h r n p q s k left =
-    let here : List LocalEvent = local_history f.opening (numbered past) g in
+left_at : (past : List Event) (opening : Opening) (e : Event) (low high g : ℕ) (a b x : GuardianState) (old new : View) (fault : Option Fault)
+    → IsRun opening (e ∷ past) → Names (forest_of opening past) e.step low high
+    → a ≡ standing opening past low → b ≡ standing opening past high → x ≡ standing opening past g → ((low == g) || (high == g)) ≡ true
+    → StoreLeft (forest_of opening past) a b e x old new fault
+    → Leaves (asks_of opening e.step past g old.content) (content_then opening e.step past g old.content) old new fault
+left_at past opening e low high g a b x old new fault r n p q s k left =
+    let here : List LocalEvent = local_history opening (numbered past) g in
     let P : Carried → Bool → Type 0 = λ m t.
     Leaves (t && asks_store g (record { stamp = 0; event = e; carried = m }) old.content)
-    (after_event f.opening g (record { stamp = 0; event = e; carried = m }) here old.content) old new fault in
+    (after_event opening g (record { stamp = 0; event = e; carried = m }) here old.content) old new fault in
     let Q : Event → Bool → Bool → Type 0 = λ d u t.
-    Leaves (u && (t && asks_store g (brought f.opening d past g) old.content)) (after_event f.opening g (brought f.opening d past g) here old.content) old new fault in
-    let lent : names_guardian e.step (events_there f.registry) g ≡ true = n g ∙ k in
-    let registry_named : names_guardian e.step (events_there (registry_history f.opening (numbered past))) g ≡ true =
-    sym (ap (λ reg. names_guardian e.step (events_there reg) g) (there_is past f h)) ∙ lent in
-    let run_named : names_guardian e.step past g ≡ true = sym (named_run past f e g h r.2) ∙ lent in
+    Leaves (u && (t && asks_store g (brought opening d past g) old.content)) (after_event opening g (brought opening d past g) here old.content) old new fault in
+    let lent : names_guardian e.step (events_there (registry_history opening (numbered past))) g ≡ true = n g ∙ k in
+    let run_named : names_guardian e.step past g ≡ true = sym (named_run past opening e g r.2) ∙ lent in
     let numbered_named : names_guardian e.step (events_of (numbered past)) g ≡ true = ap (λ l. names_guardian e.step l g) (numbered_events past) ∙ run_named in
-    let answered : e ≡ event_next f.opening e.step past = ap (λ answer. record { step = e.step; answer = answer }) r.0 in
-    let by_lent : P (carried_lent f.opening e g f.registry (lent_two a b)) true =
-    subst (P (carried_lent f.opening e g f.registry (lent_two a b))) lent (subst (λ y. StoreLeft f a b e y old new fault) s left) in
-    let by_run : Q e true true = subst (λ m. P m true) (carried_there past f e low high g a b h r n p q registry_named numbered_named) by_lent in
+    let answered : e ≡ event_next opening e.step past = ap (λ answer. record { step = e.step; answer = answer }) r.0 in
+    let by_lent : P (carried_lent opening e g (registry_history opening (numbered past)) (lent_two a b)) true =
+    subst (P (carried_lent opening e g (registry_history opening (numbered past)) (lent_two a b))) lent (subst (λ y. StoreLeft (forest_of opening past) a b e y old new fault) s left) in
+    let by_run : Q e true true = subst (λ m. P m true) (carried_there past opening e low high g a b r n p q lent numbered_named) by_lent in
     subst (λ d. Q d (is_accepted d.answer) (names_guardian e.step past g)) answered
     (subst (λ u. Q e u (names_guardian e.step past g)) (sym r.1) (subst (λ t. Q e true t) (sym run_named) by_run))
 
-module _ {X : Type 0} {stored : X → View} (state : X → GuardianState) (past : List Event) (f : ForestState) (gs gs' : List X) (e : Event) (low high : ℕ) (fault : Option Fault)
-    (w : IsWorld state stored f.opening past f gs) (n : Names f e.step low high) (r : IsRun f.opening (e ∷ past)) (l1 : 1 ≤ low) (l2 : 1 ≤ high)
-    (k : IsLeftAt state stored f low high e gs gs' fault) where
+module _ {X : Type 0} {stored : X → View} {forest : ForestState → Type 0} (state : X → GuardianState) (past : List Event) (opening : Opening) (gs gs' : List X) (e : Event) (low high : ℕ) (fault : Option Fault)
+    (w : IsWorld state stored forest opening past gs) (n : Names (forest_of opening past) e.step low high) (r : IsRun opening (e ∷ past)) (l1 : 1 ≤ low) (l2 : 1 ≤ high)
+    (k : IsLeftAt state stored (forest_of opening past) low high e gs gs' fault) where
   abbrev LeftOf : ℕ → View → View → Type 0
-  LeftOf g old new = Leaves (asks_of f.opening e.step past g old.content) (content_then f.opening e.step past g old.content) old new fault
+  LeftOf g old new = Leaves (asks_of opening e.step past g old.content) (content_then opening e.step past g old.content) old new fault
 
   two_left : (i p : ℕ) (a b x y : X) → slice_get gs (low - 1) ≡ Some a → slice_get gs (high - 1) ≡ Some b → slice_get gs i ≡ Some x → i ≡ p - 1 → 1 ≤ p
-      → ((low == p) || (high == p)) ≡ true → StoreLeft f (state a) (state b) e (state x) (stored x) (stored y) fault → LeftOf (i + 1) (stored x) (stored y)
+      → ((low == p) || (high == p)) ≡ true → StoreLeft (forest_of opening past) (state a) (state b) e (state x) (stored x) (stored y) fault → LeftOf (i + 1) (stored x) (stored y)
   two_left i p a b x y sa sb sx m l q left =
       let same : p ≡ i + 1 = omega arith in
       subst (λ g. LeftOf g (stored x) (stored y)) same
-      (left_at past f e low high p (state a) (state b) (state x) (stored x) (stored y) fault w.forest r n
-      (stands state f.opening past f gs low a w l1 sa) (stands state f.opening past f gs high b w l2 sb)
-      (stands state f.opening past f gs p x w l (ap (λ j. slice_get gs j) (sym m) ∙ sx)) q left)
+      (left_at past opening e low high p (state a) (state b) (state x) (stored x) (stored y) fault r n
+      (stands_at state opening past gs low a w l1 sa) (stands_at state opening past gs high b w l2 sb)
+      (stands_at state opening past gs p x w l (ap (λ j. slice_get gs j) (sym m) ∙ sx)) q left)
 
   other_left : (i : ℕ) (x y : X) → slice_get gs i ≡ Some x → slice_get gs' i ≡ Some y → (i ≡ low - 1 → ⊥) → (i ≡ high - 1 → ⊥) → LeftOf (i + 1) (stored x) (stored y)
   other_left i x y sx sy m o =
       let unnamed : names_guardian e.step past (i + 1) ≡ false =
-      sym (named_run past f e (i + 1) w.forest r.2) ∙ n (i + 1) ∙ ap₂ ◌||◌ (ne_eqb low (i + 1) (apart low m)) (ne_eqb high (i + 1) (apart high o)) in
-      let accepted : is_accepted (answer_of f.opening e.step past) ≡ true = sym (ap is_accepted r.0) ∙ r.1 in
+      sym (named_run past opening e (i + 1) r.2) ∙ n (i + 1) ∙ ap₂ ◌||◌ (ne_eqb low (i + 1) (apart low m)) (ne_eqb high (i + 1) (apart high o)) in
+      let accepted : is_accepted (answer_of opening e.step past) ≡ true = sym (ap is_accepted r.0) ∙ r.1 in
       subst (λ z. LeftOf (i + 1) (stored x) (stored z)) (some_eq x y (sym sx ∙ sym (k.others i m o) ∙ sy))
-      (left_alone (asks_of f.opening e.step past (i + 1) (stored x).content) (content_then f.opening e.step past (i + 1) (stored x).content) (stored x) (stored x) fault
-      (ap₂ (λ u t. u && (t && asks_store (i + 1) (brought f.opening (event_next f.opening e.step past) past (i + 1)) (stored x).content)) accepted unnamed)
+      (left_alone (asks_of opening e.step past (i + 1) (stored x).content) (content_then opening e.step past (i + 1) (stored x).content) (stored x) (stored x) fault
+      (ap₂ (λ u t. u && (t && asks_store (i + 1) (brought opening (event_next opening e.step past) past (i + 1)) (stored x).content)) accepted unnamed)
       (stays_same (stored x)))
     where
       apart : (p : ℕ) → (i ≡ p - 1 → ⊥) → p ≡ i + 1 → ⊥
@@ -119,15 +116,15 @@ module _ {X : Type 0} {stored : X → View} (state : X → GuardianState) (past 
       → (i ≡ low - 1) ⊎ (i ≡ low - 1 → ⊥) → (i ≡ high - 1) ⊎ (i ≡ high - 1 → ⊥) → LeftOf (i + 1) (stored x) (stored y)
   left_of i a b x y sa sb sx sy (inl m) o =
       two_left i low a b x y sa sb sx m l1 (or_left _ _ (eqb_self low))
-      (subst (λ z. StoreLeft f (state a) (state b) e (state z) (stored z) (stored y) fault) (some_eq a x (sym sa ∙ ap (λ j. slice_get gs j) (sym m) ∙ sx))
+      (subst (λ z. StoreLeft (forest_of opening past) (state a) (state b) e (state z) (stored z) (stored y) fault) (some_eq a x (sym sa ∙ ap (λ j. slice_get gs j) (sym m) ∙ sx))
       (k.first a b y sa sb (ap (λ j. slice_get gs' j) (sym m) ∙ sy)))
   left_of i a b x y sa sb sx sy (inr m) (inl o) =
       two_left i high a b x y sa sb sx o l2 (or_right _ _ (eqb_self high))
-      (subst (λ z. StoreLeft f (state a) (state b) e (state z) (stored z) (stored y) fault) (some_eq b x (sym sb ∙ ap (λ j. slice_get gs j) (sym o) ∙ sx))
+      (subst (λ z. StoreLeft (forest_of opening past) (state a) (state b) e (state z) (stored z) (stored y) fault) (some_eq b x (sym sb ∙ ap (λ j. slice_get gs j) (sym o) ∙ sx))
       (k.second a b y sa sb (ap (λ j. slice_get gs' j) (sym o) ∙ sy)))
   left_of i a b x y sa sb sx sy (inr m) (inr o) = other_left i x y sx sy m o
 
-  pub stores_kept : low - 1 < length gs → high - 1 < length gs → StoresLeft stored f.opening past e.step gs gs' fault
+  pub stores_kept : low - 1 < length gs → high - 1 < length gs → StoresLeft stored opening past e.step gs gs' fault
   stores_kept h1 h2 =
       let a = there gs (low - 1) h1 in
       let b = there gs (high - 1) h2 in

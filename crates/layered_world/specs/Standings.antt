@@ -16,8 +16,7 @@ use Rattle.layer_contracts.specs.Guardians.{GuardianState}
 use Rattle.layer_contracts.specs.Forests.{ForestState}
 use Rattle.layer_contracts.specs.Stores.{CountsFailure, IsStoreOf, Leaves}
 use Rattle.layer_contracts.specs.declared.guardian.Fault.{Fault}
-use Rattle.lent_steps.specs.Lending.{OneOpening}
-use Rattle.lent_steps.specs.Keeping.{IsAnswered, IsDone, StoreLeft}
+use Rattle.lent_steps.specs.Keeping.{AreAnswered, IsDone, StoreLeft}
 
 -- where the run leads guardian g
 abbrev pub standing : Opening → List Event → ℕ → GuardianState
@@ -27,11 +26,12 @@ standing opening past g = record { opening = opening; number = g; past = local_h
 abbrev pub forest_of : Opening → List Event → ForestState
 forest_of opening past = record { opening = opening; registry = registry_history opening (numbered past) }
 
--- guardians are values of any type, each with the state and the store that contracts see; they stand from number 1 on
-pub record IsWorld {X : Type 0} (state : X → GuardianState) (stored : X → View) (opening : Opening) (past : List Event) (f : ForestState) (guardians : List X)
+-- Guardians are values of any type, each with the state and the store that contracts see; they stand from number 1 on. The forest stands in many
+-- states, and among them where the run leads it.
+pub record IsWorld {X : Type 0} (state : X → GuardianState) (stored : X → View) (stands : ForestState → Type 0) (opening : Opening) (past : List Event) (guardians : List X)
     : Type 0 where
   pub is_run : IsRun opening past
-  pub forest : f ≡ forest_of opening past
+  pub forest : stands (forest_of opening past)
   pub count : length guardians ≡ length opening.setup
   pub each : (i : ℕ) (x : X) → slice_get guardians i ≡ Some x → state x ≡ standing opening past (i + 1)
   pub stores : (i : ℕ) (x : X) → slice_get guardians i ≡ Some x → IsStoreOf (state x) (stored x)
@@ -78,14 +78,14 @@ abbrev pub Names : ForestState → Step → ℕ → ℕ → Type 0
 Names f step low high = (g : ℕ) → names_guardian step (events_there f.registry) g ≡ ((low == g) || (high == g))
 
 -- what keeping an event asks of the two guardians
-pub record IsReady {X : Type 0} (state : X → GuardianState) (f : ForestState) (low high : ℕ) (e : Event) (guardians : List X) : Type 0 where
+pub record IsReady {X : Type 0} (state : X → GuardianState) (stands : ForestState → Type 0) (f : ForestState) (low high : ℕ) (e : Event) (guardians : List X) : Type 0 where
   pub each : (a b : X) → slice_get guardians (low - 1) ≡ Some a → slice_get guardians (high - 1) ≡ Some b
-      → OneOpening f (state a) (state b) × ((state a).number ≡ low) × ((state b).number ≡ high) × IsAnswered f (state a) (state b) e
+      → AreAnswered stands f (state a) (state b) e × ((state a).number ≡ low) × ((state b).number ≡ high)
 
 -- and what it leaves
-pub record IsKeptAt {X : Type 0} (state : X → GuardianState) (low high n : ℕ) (e : Event) (f f' : ForestState) (before after : List X) : Type 0 where
+pub record IsKeptAt {X : Type 0} (state : X → GuardianState) (stands : ForestState → Type 0) (f : ForestState) (low high n : ℕ) (e : Event) (before after : List X) : Type 0 where
   pub two : (a b a' b' : X) → slice_get before (low - 1) ≡ Some a → slice_get before (high - 1) ≡ Some b
-      → slice_get after (low - 1) ≡ Some a' → slice_get after (high - 1) ≡ Some b' → IsDone f (state a) (state b) e n f' (state a') (state b')
+      → slice_get after (low - 1) ≡ Some a' → slice_get after (high - 1) ≡ Some b' → IsDone stands f (state a) (state b) e n (state a') (state b')
   pub others : (i : ℕ) → i ≢ low - 1 → i ≢ high - 1 → slice_get after i ≡ slice_get before i
 
 -- and what it leaves of the stores of those two; nobody else is touched
@@ -102,6 +102,6 @@ pub record IsWholeAt {X : Type 0} (state : X → GuardianState) (stored : X → 
   pub at : (x : X) → slice_get guardians (number - 1) ≡ Some x → IsStoreOf (state x) (stored x)
 
 -- all stand as they did
-pub record AreSame {X : Type 0} (state : X → GuardianState) (f f' : ForestState) (before after : List X) : Type 0 where
-  pub forest : f' ≡ f
+pub record AreSame {X : Type 0} (state : X → GuardianState) (stood stands : ForestState → Type 0) (before after : List X) : Type 0 where
+  pub forest : (f : ForestState) → stood f → stands f
   pub each : (i : ℕ) (x y : X) → slice_get before i ≡ Some x → slice_get after i ≡ Some y → state y ≡ state x

@@ -2,11 +2,13 @@ ghost use Rattle.std.specs.Prelude.{◌≡◌, ◌≤◌, ◌<◌, ℕ, ◌-◌,
 ghost use Rattle.run_model.specs.Answers.{answer_of};
 ghost use Rattle.run_model.specs.Runs.{IsRun, history_after, is_accepted};
 ghost use Rattle.run_model.specs.LocalHistories.{answer_lent};
+ghost use Rattle.run_model.specs.Openings.{Opening};
+ghost use Rattle.layer_contracts.specs.Forests.{ForestState};
 ghost use Rattle.layer_contracts.specs.Guardians.{lent_two};
-ghost use Rattle.lent_steps.specs.Lending.{OneOpening, nobody};
+ghost use Rattle.lent_steps.specs.Lending.{nobody};
 ghost use Rattle.layer_contracts.specs.Stores.{fault_in};
 ghost use Rattle.layer_contracts.specs.declared.guardian.Fault.TheVariants.{Stable};
-ghost use Rattle.layered_world.specs.Standings.{AreSame, HasFailed, event_of, IsKeptAt, IsLeftAt, IsOut, IsReady, IsWholeAt, IsWorld, Names, StoresLeft};
+ghost use Rattle.layered_world.specs.Standings.{AreSame, HasFailed, event_of, forest_of, IsKeptAt, IsLeftAt, IsOut, IsReady, IsWholeAt, IsWorld, Names, StoresLeft};
 
 use layer_contracts::{Fault, Forest, Guardian};
 use lent_steps::{answer_alone, answer_two, keep_one, keep_two, named};
@@ -15,7 +17,7 @@ use std::alloc::{AllocError, Global};
 
 /// Makes one step of a world and gives its answer. An accepted step is in the history from then on, and with the forest and the guardians
 /// that it names; one that is refused or waits changes nothing. After an error nothing has changed. At most one store is called: `Stable` comes of it,
-/// and then it has counted one failure more.
+/// and then it has counted one failure more. All this is said of each opening in which these make a world.
 pub fn step<R: Forest, G: Guardian>(
     alloc: Global,
     forest: &mut R,
@@ -23,12 +25,13 @@ pub fn step<R: Forest, G: Guardian>(
     history: &mut History,
     step: &Step,
 ) -> Result<Answer, Fault>
-    requires { IsWorld G.state G.stored (R.state forest.old).opening history.old (R.state forest.old) guardians.old }
-    ensures answer { IfOk result (λ answer. answer ≡ answer_of (R.state forest.old).opening step.now history.old) }
+    ghost opening: { Opening }
+    requires { IsWorld G.state G.stored (R.stands forest.old) opening history.old guardians.old }
+    ensures answer { IfOk result (λ answer. answer ≡ answer_of opening step.now history.old) }
     ensures after { IfOk result (λ answer. history.new ≡ history_after step.now answer history.old) }
     ensures err { OnErr result (history.new ≡ history.old) }
-    ensures world { IsWorld G.state G.stored (R.state forest.old).opening history.new (R.state forest.new) guardians.new }
-    ensures stores { StoresLeft G.stored (R.state forest.old).opening history.old step.now guardians.old guardians.new (fault_in result) }
+    ensures world { IsWorld G.state G.stored (R.stands forest.new) opening history.new guardians.new }
+    ensures stores { StoresLeft G.stored opening history.old step.now guardians.old guardians.new (fault_in result) }
     ensures cause { IsErrOf result Stable → HasFailed G.stored guardians.old guardians.new }
 {
     let (low, high) = places(forest, step);
@@ -42,7 +45,7 @@ pub fn step<R: Forest, G: Guardian>(
 
 /// The guardians that the step names, the lower number first.
 fn places<R: Forest>(forest: &R, step: &Step) -> (u32, u32)
-    ensures names { Names (R.state forest.now) step.now result.0 result.1 }
+    ensures names { (f : ForestState) → R.stands forest.now f → Names f step.now result.0 result.1 }
     ensures ordered { result.0 ≤ result.1 }
 {
     let (one, other) = named(forest, step);
@@ -74,9 +77,10 @@ fn answer_at<R: Forest, G: Guardian>(
     high: u32,
     step: &Step,
 ) -> Result<Answer, AllocError>
-    requires world { IsWorld G.state G.stored (R.state forest.now).opening _history.now (R.state forest.now) guardians.now }
-    requires names { Names (R.state forest.now) step.now low high }
-    ensures { IfOk result (λ answer. answer ≡ answer_of (R.state forest.now).opening step.now _history.now) }
+    ghost opening: { Opening }
+    requires world { IsWorld G.state G.stored (R.stands forest.now) opening _history.now guardians.now }
+    requires names { Names (forest_of opening _history.now) step.now low high }
+    ensures { IfOk result (λ answer. answer ≡ answer_of opening step.now _history.now) }
 {
     match at(guardians, low) {
         Some(first) => match at(guardians, high) {
@@ -101,14 +105,15 @@ fn keep<R: Forest, G: Guardian>(
     step: &Step,
     answer: &Answer,
 ) -> Result<(), Fault>
-    requires world { IsWorld G.state G.stored (R.state forest.old).opening history.old (R.state forest.old) guardians.old }
-    requires names { Names (R.state forest.old) step.now low high }
+    ghost opening: { Opening }
+    requires world { IsWorld G.state G.stored (R.stands forest.old) opening history.old guardians.old }
+    requires names { Names (forest_of opening history.old) step.now low high }
     requires ordered { low ≤ high }
-    requires more { IsRun (R.state forest.old).opening (event_of step.now answer.now ∷ history.old) }
+    requires more { IsRun opening (event_of step.now answer.now ∷ history.old) }
     ensures ok { OnOk result (history.new ≡ event_of step.now answer.now ∷ history.old) }
     ensures err { OnErr result (history.new ≡ history.old) }
-    ensures world { IsWorld G.state G.stored (R.state forest.old).opening history.new (R.state forest.new) guardians.new }
-    ensures stores { StoresLeft G.stored (R.state forest.old).opening history.old step.now guardians.old guardians.new (fault_in result) }
+    ensures world { IsWorld G.state G.stored (R.stands forest.new) opening history.new guardians.new }
+    ensures stores { StoresLeft G.stored opening history.old step.now guardians.old guardians.new (fault_in result) }
     ensures cause { IsErrOf result Stable → HasFailed G.stored guardians.old guardians.new }
 {
     let number = history.next_stamp();
@@ -162,10 +167,12 @@ fn keep_at<R: Forest, G: Guardian>(
     requires first { 1 ≤ low }
     requires ordered { low ≤ high }
     requires last { high ≤ length guardians.old }
-    requires ready { IsReady G.state (R.state forest.old) low high event.now guardians.old }
-    ensures ok { OnOk result (IsKeptAt G.state low high number event.now (R.state forest.old) (R.state forest.new) guardians.old guardians.new) }
-    ensures err { OnErr result (AreSame G.state (R.state forest.old) (R.state forest.new) guardians.old guardians.new) }
-    ensures stores { IsLeftAt G.state G.stored (R.state forest.old) low high event.now guardians.old guardians.new (fault_in result) }
+    requires ready { (f : ForestState) × IsReady G.state (R.stands forest.old) f low high event.now guardians.old }
+    ensures ok { OnOk result ((f : ForestState) → IsReady G.state (R.stands forest.old) f low high event.now guardians.old
+        → IsKeptAt G.state (R.stands forest.new) f low high number event.now guardians.old guardians.new) }
+    ensures err { OnErr result (AreSame G.state (R.stands forest.old) (R.stands forest.new) guardians.old guardians.new) }
+    ensures stores { (f : ForestState) → IsReady G.state (R.stands forest.old) f low high event.now guardians.old
+        → IsLeftAt G.state G.stored f low high event.now guardians.old guardians.new (fault_in result) }
     ensures cause { IsErrOf result Stable → HasFailed G.stored guardians.old guardians.new }
 {
     if low == high {

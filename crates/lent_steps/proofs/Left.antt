@@ -13,7 +13,7 @@ use Rattle.run_laws.proofs.Names.{eqb_self}
 use Rattle.layer_contracts.specs.Guardians.{GuardianState, News, after_step, kept, lent_two, stamped}
 use Rattle.layer_contracts.specs.Forests.{ForestState, RegistryNews, begun_at, stamped_there}
 use Rattle.layer_contracts.specs.Messages.{may_fail}
-use Rattle.lent_steps.specs.Keeping.{IsBrought, IsPlannedAt, IsPlannedThere}
+use Rattle.lent_steps.specs.Keeping.{IsBrought, IsInstalled, IsPlannedAt, IsPlannedInSome, IsPlannedThere}
 
 -- each of two that differ is lent
 pub first_lent : (a b : GuardianState) → a.past ≡ lent_two a b a.number
@@ -50,31 +50,34 @@ left_at f a b x x' e n None planned s p q h = left_unnamed f a b x x' e n p q h
 left_at f a b x x' e n (Some plan) planned s p q h =
     left_named f a b x x' e n s p q.named (h ∙ ap (λ news. kept x (stamped n news)) q.planned)
 
-pub left_there : {P : Type 0} (f f' : ForestState) (a b : GuardianState) (e : Event) (home life n : ℕ) (o : Option P) (planned : P → RegistryNews)
-    → home ≡ home_lent e.step f.registry → life ≡ crashes home (events_here (lent_two a b home))
-    → MatchOption o (takes_registry e.step ≡ false) (λ plan. IsPlannedThere f home life e (planned plan))
-    → MatchOption o (f' ≡ f) (λ plan. f' ≡ record f { registry = stamped_there n (planned plan) ∷ f.registry })
-    → f' ≡ record f { registry = registry_after f.opening (n, e) f.registry (lent_two a b) }
-left_there f f' a b e home life n None planned u v q h =
-    h ∙ ap (λ r. record f { registry = r }) (sym (ap (λ t. cond t (registry_event_lent f.opening (n, e) f.registry (lent_two a b) ∷ f.registry) f.registry) q))
-left_there f f' a b e home life n (Some plan) planned u v q h =
-    let there : ℕ = home_lent e.step f.registry in
+-- and the forest, by the plan that was made for an event that was entered
+pub left_there : {P : Type 0} (stood stands : ForestState → Type 0) (is_for : P → ForestState → RegistryNews → Type 0) (f : ForestState) (a b : GuardianState) (e : Event)
+    (home life n : ℕ) (o : Option P)
+    → home ≡ home_lent e.step f.registry → life ≡ crashes home (events_here (lent_two a b home)) → stood f
+    → MatchOption o (takes_registry e.step ≡ false) (λ plan. IsPlannedThere (is_for plan f) f home life e)
+    → MatchOption o ((k : ForestState) → stood k → stands k) (λ plan. IsInstalled stood stands (is_for plan) e n)
+    → stands (record f { registry = registry_after f.opening (n, e) f.registry (lent_two a b) })
+left_there stood stands is_for f a b e home life n None u v s q h =
+    subst (λ r. stands (record f { registry = r }))
+    (sym (ap (λ t. cond t (registry_event_lent f.opening (n, e) f.registry (lent_two a b) ∷ f.registry) f.registry) q)) (h f s)
+left_there stood stands is_for f a b e home life n (Some plan) u v s q h =
     let born : life ≡ life_lent e.step f.registry (lent_two a b) = v ∙ ap (λ k. crashes k (events_here (lent_two a b k))) u in
-    h ∙ ap (λ news. record f { registry = stamped_there n news ∷ f.registry }) q.planned
-    ∙ ap₂ (λ k m. record f { registry = stamped_there n (record { event = e; begun = begun_at f k m e.answer }) ∷ f.registry }) u born
-    ∙ ap (λ r. record f { registry = r }) (sym (ap (λ t. cond t (registry_event_lent f.opening (n, e) f.registry (lent_two a b) ∷ f.registry) f.registry) q.takes))
+    subst stands
+    (ap₂ (λ k m. record f { registry = stamped_there n (record { event = e; begun = begun_at f k m e.answer }) ∷ f.registry }) u born
+    ∙ ap (λ r. record f { registry = r }) (sym (ap (λ t. cond t (registry_event_lent f.opening (n, e) f.registry (lent_two a b) ∷ f.registry) f.registry) q.takes)))
+    (h f (record { event = e; begun = begun_at f home life e.answer }) s q.planned refl)
+
+-- such a plan may be carried out
+pub planned_there : {P : Type 0} (stands : ForestState → Type 0) (is_for : P → ForestState → RegistryNews → Type 0) (f : ForestState) (e : Event) (home life : ℕ)
+    (o : Option P) → stands f → MatchOption o (takes_registry e.step ≡ false) (λ plan. IsPlannedThere (is_for plan f) f home life e)
+    → MatchOption o (Unit {0}) (λ plan. IsPlannedInSome stands (is_for plan) e)
+planned_there stands is_for f e home life None s q = tt
+planned_there stands is_for f e home life (Some plan) s q = (f, record { event = e; begun = begun_at f home life e.answer }, s, q.planned, refl)
 
 -- what is kept of a guardian that room was made at, which says what it said
 pub kept_from : {P : Type 0} (x y x' : GuardianState) (n : ℕ) (o : Option P) (planned : P → News) → y ≡ x
     → MatchOption o (x' ≡ y) (λ plan. x' ≡ kept y (stamped n (planned plan))) → MatchOption o (x' ≡ x) (λ plan. x' ≡ kept x (stamped n (planned plan)))
 kept_from x y x' n o planned same h = subst (λ s. MatchOption o (x' ≡ s) (λ plan. x' ≡ kept s (stamped n (planned plan)))) same h
-
--- and of such a forest
-pub kept_there : {P : Type 0} (f g f' : ForestState) (n : ℕ) (o : Option P) (planned : P → RegistryNews) → g ≡ f
-    → MatchOption o (f' ≡ g) (λ plan. f' ≡ record g { registry = stamped_there n (planned plan) ∷ g.registry })
-    → MatchOption o (f' ≡ f) (λ plan. f' ≡ record f { registry = stamped_there n (planned plan) ∷ f.registry })
-kept_there f g f' n o planned same h =
-    subst (λ s. MatchOption o (f' ≡ s) (λ plan. f' ≡ record s { registry = stamped_there n (planned plan) ∷ s.registry })) same h
 
 -- what is planned of what was brought
 pub planned_at : {M P : Type 0} (f : ForestState) (a b x : GuardianState) (e : Event) (m : Option M) (carried : M → Carried) (o : Option P) (planned : P → News)

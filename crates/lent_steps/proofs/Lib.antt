@@ -1,3 +1,4 @@
+pub mod Saying
 pub mod Nothing
 pub mod Owing
 pub mod New
@@ -5,3 +6,4 @@ pub mod Left
 pub mod Own
 pub mod Agreed
 pub mod Stores
+pub mod Senders

@@ -1,5 +1,5 @@
 -- What an accepted step leaves of what it was lent.
-use Rattle.std.specs.Prelude.{◌≡◌, ℕ, Bool, true, false, ◌&&◌, ◌==◌, ◌||◌, Option, IsTrue}
+use Rattle.std.specs.Prelude.{◌≡◌, ℕ, Bool, true, false, ◌&&◌, ◌==◌, ◌||◌, ◌∷◌, Option, IsTrue}
 use Rattle.run_model.specs.declared.step.Step.{Step}
 use Rattle.run_model.specs.declared.step.Step.TheVariants.{Op}
 use Rattle.run_model.specs.declared.answer.Answer.{Answer}
@@ -12,9 +12,10 @@ use Rattle.local_agreement.specs.Laws.{Agrees}
 use Rattle.stable_store.specs.Calls.{View}
 use Rattle.stored_laws.specs.Stored.{after_event, asks_store}
 use Rattle.layer_contracts.specs.Guardians.{GuardianState, News, after_step, kept, lent_two, stamped}
-use Rattle.layer_contracts.specs.Forests.{ForestState, RegistryNews, begun_at}
+use Rattle.layer_contracts.specs.Forests.{ForestState, RegistryNews, begun_at, stamped_there}
 use Rattle.layer_contracts.specs.Stores.{Leaves}
 use Rattle.layer_contracts.specs.declared.guardian.Fault.{Fault}
+use Rattle.lent_steps.specs.Lending.{AreLent}
 
 abbrev pub is_operation : Step → Bool
 is_operation (Op a x wanted) = true
@@ -35,6 +36,11 @@ pub record IsAnswered (f : ForestState) (a b : GuardianState) (e : Event) : Type
       → IsOwed f.opening g (stamped 0 (record { event = e; carried = carried_lent f.opening e g f.registry (lent_two a b) })) (lent_two a b g) e.step
   pub agrees : AgreesTwo f a b e
 
+-- what is lent, with the event that it answers so
+pub record AreAnswered (stands : ForestState → Type 0) (f : ForestState) (a b : GuardianState) (e : Event) : Type 0 where
+  pub lent : AreLent stands f a b
+  pub answered : IsAnswered f a b e
+
 -- what the event brings to a guardian that it names, as that guardian's own history asks of it
 pub record IsBrought (f : ForestState) (a b : GuardianState) (e : Event) (x : GuardianState) (brought : Carried) : Type 0 where
   pub named : names_guardian e.step (events_there f.registry) x.number ≡ true
@@ -47,10 +53,19 @@ pub record IsPlannedAt (f : ForestState) (a b : GuardianState) (e : Event) (x : 
   pub named : names_guardian e.step (events_there f.registry) x.number ≡ true
   pub planned : news ≡ record { event = e; carried = carried_lent f.opening e x.number f.registry (lent_two a b) }
 
--- and for the forest, where what the event begins begins at this home in this life of it
-pub record IsPlannedThere (f : ForestState) (home life : ℕ) (e : Event) (news : RegistryNews) : Type 0 where
+-- and for the forest in this state, where what the event begins begins at this home in this life of it
+pub record IsPlannedThere (is_for : RegistryNews → Type 0) (f : ForestState) (home life : ℕ) (e : Event) : Type 0 where
   pub takes : takes_registry e.step ≡ true
-  pub planned : news ≡ record { event = e; begun = begun_at f home life e.answer }
+  pub planned : is_for (record { event = e; begun = begun_at f home life e.answer })
+
+-- in some state in which the forest stands the plan is for this event
+abbrev pub IsPlannedInSome : (ForestState → Type 0) → (ForestState → RegistryNews → Type 0) → Event → Type 0
+IsPlannedInSome stands is_for e = (f : ForestState) × (news : RegistryNews) × stands f × is_for f news × (news.event ≡ e)
+
+-- once it is carried out the forest stands, with the event, where it stood
+abbrev pub IsInstalled : (ForestState → Type 0) → (ForestState → Type 0) → (ForestState → RegistryNews → Type 0) → Event → ℕ → Type 0
+IsInstalled stood stands is_for e n =
+    (f : ForestState) (news : RegistryNews) → stood f → is_for f news → news.event ≡ e → stands (record f { registry = stamped_there n news ∷ f.registry })
 
 -- what the event brings to x, of those lent
 abbrev pub news_to : ForestState → GuardianState → GuardianState → Event → GuardianState → News
@@ -62,25 +77,26 @@ StoreLeft f a b e x old new fault =
     Leaves (names_guardian e.step (events_there f.registry) x.number && asks_store x.number (stamped 0 (news_to f a b e x)) old.content)
     (after_event x.opening x.number (stamped 0 (news_to f a b e x)) x.past old.content) old new fault
 
--- the forest and two guardians after the event, with its stamp
-pub record IsDone (f : ForestState) (a b : GuardianState) (e : Event) (n : ℕ) (f' : ForestState) (a' b' : GuardianState) : Type 0 where
-  pub forest : f' ≡ record f { registry = registry_after f.opening (n, e) f.registry (lent_two a b) }
+-- After the event, with its stamp, the forest stands where this leads from the state f, and two guardians do.
+pub record IsDone (stands : ForestState → Type 0) (f : ForestState) (a b : GuardianState) (e : Event) (n : ℕ) (a' b' : GuardianState) : Type 0 where
+  pub forest : stands (record f { registry = registry_after f.opening (n, e) f.registry (lent_two a b) })
   pub first : a' ≡ after_step a (n, e) f.registry (lent_two a b)
   pub second : b' ≡ after_step b (n, e) f.registry (lent_two a b)
 
--- the forest and two guardians, unchanged
-pub record AreSame (f : ForestState) (a b : GuardianState) (f' : ForestState) (a' b' : GuardianState) : Type 0 where
-  pub forest : f' ≡ f
+-- the forest stands where it stood, and two guardians are unchanged
+pub record AreSame (stood stands : ForestState → Type 0) (a b a' b' : GuardianState) : Type 0 where
+  pub forest : (f : ForestState) → stood f → stands f
   pub first : a' ≡ a
   pub second : b' ≡ b
 
 -- What a step that was answered leaves of all that it was lent: an accepted one is kept with a stamp that was drawn, and no other leaves a trace.
-abbrev pub IsStepped : (ℕ → Type 0) → Step → Answer → ForestState → GuardianState → GuardianState → ForestState → GuardianState → GuardianState → Type 0
-IsStepped drawn step answer f a b f' a' b' = of (is_accepted answer)
+abbrev pub IsStepped : (ℕ → Type 0) → Step → Answer → (ForestState → Type 0) → (ForestState → Type 0) → GuardianState → GuardianState → GuardianState → GuardianState
+    → Type 0
+IsStepped drawn step answer stood stands a b a' b' = of (is_accepted answer)
   where
     of : Bool → Type 0
-    of true = (n : ℕ) × drawn n × IsDone f a b (record { step = step; answer = answer }) n f' a' b'
-    of false = AreSame f a b f' a' b'
+    of true = (n : ℕ) × drawn n × ((f : ForestState) → stood f → IsDone stands f a b (record { step = step; answer = answer }) n a' b')
+    of false = AreSame stood stands a b a' b'
 
 -- and what an operation leaves of its guardian, which no message reaches
 abbrev pub IsOperated : (ℕ → Type 0) → Step → Answer → GuardianState → GuardianState → Type 0

@@ -7,10 +7,11 @@ use Rattle.run_model.specs.declared.step.Step.TheVariants.{Tell}
 use Rattle.run_model.specs.Actions.{home_of, is_committed, names_begun}
 use Rattle.run_model.specs.Answers.{Results}
 use Rattle.run_model.specs.Refusals.{Facts}
-use Rattle.run_model.specs.LocalReadings.{LocalEvent, told_committed_here}
+use Rattle.run_model.specs.LocalReadings.{LocalEvent, facts_here, results_here, told_committed_here}
 use Rattle.run_model.specs.LocalHistories.{action_lent, dependencies_sent, dependency_there, entries_of, events_there, facts_lent, home_lent, results_lent}
 use Rattle.layer_contracts.specs.Guardians.{GuardianState, count_told, lent_two}
 use Rattle.layer_contracts.specs.Forests.{ForestState, new_entries}
+use Rattle.step_answers.specs.Saying.{Said}
 
 abbrev pub facts_two : ForestState → GuardianState → GuardianState → Facts
 facts_two f a b = facts_lent f.opening f.registry (lent_two a b)
@@ -44,11 +45,36 @@ pub record OneOpening (f : ForestState) (a b : GuardianState) : Type 0 where
   pub first : a.opening ≡ f.opening
   pub second : b.opening ≡ f.opening
 
+-- a forest that stands in this state, and two guardians in its opening
+pub record AreLent (stands : ForestState → Type 0) (f : ForestState) (a b : GuardianState) : Type 0 where
+  pub forest : stands f
+  pub opening : OneOpening f a b
+
+-- What they say together, in a state in which the forest stands; what the forest says alone, and what a guardian says.
+abbrev pub said_two : ForestState → GuardianState → GuardianState → Said
+said_two f a b = record { opening = f.opening; facts = facts_two f a b; results = results_told f a b }
+
+pub record IsSaidByTwo (stands : ForestState → Type 0) (a b : GuardianState) (s : Said) : Type 0 where
+  pub state : ForestState
+  pub lent : AreLent stands state a b
+  pub said : s ≡ said_two state a b
+
+abbrev pub said_alone : ForestState → Said
+said_alone f = record { opening = f.opening; facts = facts_alone f; results = results_alone f }
+
+pub record IsSaidAlone (stands : ForestState → Type 0) (s : Said) : Type 0 where
+  pub state : ForestState
+  pub forest : stands state
+  pub said : s ≡ said_alone state
+
+abbrev pub said_here : GuardianState → Said
+said_here x = record { opening = x.opening; facts = facts_here x.opening x.number x.past; results = results_here x.opening x.past }
+
 -- the guardian x is the one of number g among those lent
-pub record IsAt (f : ForestState) (a b : GuardianState) (g : ℕ) (x : GuardianState) : Type 0 where
+pub record IsAt (a b : GuardianState) (g : ℕ) (x : GuardianState) : Type 0 where
   pub number : x.number ≡ g
   pub past : x.past ≡ lent_two a b g
-  pub opening : OneOpening f a b → x.opening ≡ f.opening
+  pub opening : (f : ForestState) → OneOpening f a b → x.opening ≡ f.opening
 
 -- the guardian x is one of those that are lent
 pub record IsOneOf (a b x : GuardianState) : Type 0 where

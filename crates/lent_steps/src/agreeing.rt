@@ -2,8 +2,9 @@
 ghost use Rattle.std.specs.Prelude.{◌≡◌, ◌==◌, false, true, IfOk, IsTrue};
 ghost use Rattle.run_model.specs.LocalHistories.{carried_lent, events_there, names_guardian};
 ghost use Rattle.local_agreement.specs.Laws.{Agrees};
+ghost use Rattle.layer_contracts.specs.Forests.{ForestState};
 ghost use Rattle.layer_contracts.specs.Guardians.{lent_two, stamped};
-ghost use Rattle.lent_steps.specs.Lending.{IsOneOf, IsTellable, OneOpening};
+ghost use Rattle.lent_steps.specs.Lending.{AreLent, IsOneOf, IsTellable};
 ghost use Rattle.lent_steps.specs.Keeping.{AgreesTwo};
 
 use crate::keeping::is_named;
@@ -15,14 +16,12 @@ use std::alloc::{AllocError, Global};
 impl<'a, R: Forest, G: Judging> Lent<'a, R, G> {
     /// Whether the event agrees with the history of a guardian that is lent, if it names that.
     fn agrees_at(&self, event: &Event, at: &G) -> Result<bool, AllocError>
-        requires sound { OneOpening (R.state self.now.forest.now) (G.state self.now.first.now) (G.state self.now.second.now) }
-        requires one { IsOneOf (G.state self.now.first.now) (G.state self.now.second.now) (G.state at.now) }
-        ensures { IfOk result (λ yes. IsTrue yes
-            → names_guardian event.now.step (events_there (R.state self.now.forest.now).registry) (G.state at.now).number ≡ true
+        requires { IsOneOf (G.state self.now.first.now) (G.state self.now.second.now) (G.state at.now) }
+        ensures { IfOk result (λ yes. IsTrue yes → (f : ForestState) → AreLent (R.stands self.now.forest.now) f (G.state self.now.first.now) (G.state self.now.second.now)
+            → names_guardian event.now.step (events_there f.registry) (G.state at.now).number ≡ true
             → Agrees (G.state at.now).opening (G.state at.now).number (stamped 0 (record {
               event = event.now;
-              carried = carried_lent
-                  (R.state self.now.forest.now).opening event.now (G.state at.now).number (R.state self.now.forest.now).registry
+              carried = carried_lent f.opening event.now (G.state at.now).number f.registry
                   (lent_two (G.state self.now.first.now) (G.state self.now.second.now));
             })) (G.state at.now).past) }
     {
@@ -35,7 +34,7 @@ impl<'a, R: Forest, G: Judging> Lent<'a, R, G> {
 
     /// Whether the forest knows a commit of which the step tells a guardian again.
     fn is_tellable(&self, step: &Step) -> bool
-        ensures { IsTrue result → IsTellable (R.state self.now.forest.now) (G.state self.now.first.now) (G.state self.now.second.now) step.now }
+        ensures { IsTrue result → (f : ForestState) → R.stands self.now.forest.now f → IsTellable f (G.state self.now.first.now) (G.state self.now.second.now) step.now }
     {
         let Step::Tell(at, action) = step else {
             return true;
@@ -58,9 +57,9 @@ pub fn agree_two<R: Forest, G: Judging>(
     second: &G,
     event: &Event,
 ) -> Result<bool, AllocError>
-    requires sound { OneOpening (R.state forest.now) (G.state first.now) (G.state second.now) }
-    requires differ { ((G.state first.now).number == (G.state second.now).number) ≡ false }
-    ensures { IfOk result (λ yes. IsTrue yes → AgreesTwo (R.state forest.now) (G.state first.now) (G.state second.now) event.now) }
+    requires { ((G.state first.now).number == (G.state second.now).number) ≡ false }
+    ensures { IfOk result (λ yes. IsTrue yes → (f : ForestState) → AreLent (R.stands forest.now) f (G.state first.now) (G.state second.now)
+        → AgreesTwo f (G.state first.now) (G.state second.now) event.now) }
 {
     let lent = Lent {
         alloc,
@@ -82,7 +81,7 @@ pub fn tellable_two<R: Forest, G: Judging>(
     second: &G,
     step: &Step,
 ) -> bool
-    ensures { IsTrue result → IsTellable (R.state forest.now) (G.state first.now) (G.state second.now) step.now }
+    ensures { IsTrue result → (f : ForestState) → R.stands forest.now f → IsTellable f (G.state first.now) (G.state second.now) step.now }
 {
     let lent = Lent {
         alloc,

@@ -1,5 +1,5 @@
 ghost use Rattle.std.specs.Prelude.{◌≡◌, ◌≤◌, ℕ, [], IfOk, MatchOption, IsTrue, None};
-ghost use Rattle.lent_steps.specs.Lending.{facts_alone, results_alone};
+ghost use Rattle.lent_steps.specs.Lending.{IsSaidAlone};
 
 use action_names::Name;
 use atomic_types::AtomicType;
@@ -16,13 +16,7 @@ pub struct Alone<'a, R> {
 }
 
 impl<'a, R: Forest> ReadsAction for Alone<'a, R> {
-    ghost opening = { λ x. (R.state x.forest.now).opening };
-
-    ghost facts = { λ x. facts_alone (R.state x.forest.now) };
-
-    ghost results = { λ x. results_alone (R.state x.forest.now) };
-
-    ghost is_sound = { λ x. Unit {0} };
+    ghost says = { λ x. IsSaidAlone (R.stands x.forest.now) };
 
     fn opening(&self) -> &Opening {
         self.forest.opening()

@@ -1,8 +1,9 @@
 //! What a step is answered by what it is lent.
 ghost use Rattle.std.specs.Prelude.{◌≡◌, IfOk};
 ghost use Rattle.run_model.specs.LocalHistories.{answer_lent};
+ghost use Rattle.layer_contracts.specs.Forests.{ForestState};
 ghost use Rattle.layer_contracts.specs.Guardians.{lent_two};
-ghost use Rattle.lent_steps.specs.Lending.{IsTellable, OneOpening, nobody};
+ghost use Rattle.lent_steps.specs.Lending.{AreLent, IsTellable, nobody};
 
 use crate::alone::Alone;
 use crate::lent::Lent;
@@ -11,8 +12,8 @@ use run_model::{Answer, Step};
 use std::alloc::{AllocError, Global};
 use step_answers::answer_of;
 
-/// The answer of a step that is lent the forest and these guardians, which may be one twice. A guardian that is not lent reads as one to which
-/// nothing has happened.
+/// The answer of a step that is lent the forest and these guardians, which may be one twice, all in one opening. A guardian that is not lent reads
+/// as one to which nothing has happened. So it is by each state in which the forest stands, and which bears out what the step tells.
 pub fn answer_two<R: Forest, G: Guardian>(
     alloc: Global,
     forest: &R,
@@ -20,10 +21,10 @@ pub fn answer_two<R: Forest, G: Guardian>(
     second: &G,
     step: &Step,
 ) -> Result<Answer, AllocError>
-    requires sound { OneOpening (R.state forest.now) (G.state first.now) (G.state second.now) }
-    requires tellable { IsTellable (R.state forest.now) (G.state first.now) (G.state second.now) step.now }
-    ensures { IfOk result (λ answer. answer ≡ answer_lent (R.state forest.now).opening (R.state forest.now).registry
-        (lent_two (G.state first.now) (G.state second.now)) step.now) }
+    requires { (f : ForestState) × AreLent (R.stands forest.now) f (G.state first.now) (G.state second.now) }
+    ensures { (f : ForestState) → AreLent (R.stands forest.now) f (G.state first.now) (G.state second.now)
+        → IsTellable f (G.state first.now) (G.state second.now) step.now
+        → IfOk result (λ answer. answer ≡ answer_lent f.opening f.registry (lent_two (G.state first.now) (G.state second.now)) step.now) }
 {
     let lent = Lent {
         alloc,
@@ -36,8 +37,10 @@ pub fn answer_two<R: Forest, G: Guardian>(
 
 /// The answer of a step that is lent the forest alone.
 pub fn answer_alone<R: Forest>(alloc: Global, forest: &R, step: &Step) -> Result<Answer, AllocError>
-    ensures { IfOk result (λ answer. answer ≡ answer_lent (R.state forest.now).opening (R.state forest.now).registry nobody step.now) }
+    ensures { (f : ForestState) → R.stands forest.now f → IfOk result (λ answer. answer ≡ answer_lent f.opening f.registry nobody step.now) }
 {
+    // It stands in some state.
+    forest.opening();
     let alone = Alone { alloc, forest };
     answer_of(&alone, step)
 }

@@ -1,13 +1,14 @@
 //! An operation, which one guardian answers and keeps by itself.
 ghost use Rattle.std.specs.Prelude.{◌≡◌, ℕ, IfOk, OnOk, OnErr, IsTrue};
 ghost use Rattle.run_model.specs.declared.step.Step.TheVariants as steps;
-ghost use Rattle.run_model.specs.LocalReadings.{facts_here, nothing_carried, operation_here, results_here};
+ghost use Rattle.run_model.specs.LocalReadings.{nothing_carried, operation_here};
 ghost use Rattle.run_model.specs.Runs.{is_accepted};
 ghost use Rattle.local_laws.specs.Owed.{IsOwed};
 ghost use Rattle.layer_contracts.specs.Guardians.{kept, stamped};
 ghost use Rattle.layer_contracts.specs.Messages.{carried_of};
 ghost use Rattle.layer_contracts.specs.Stores.{Stays};
 ghost use Rattle.lent_steps.specs.Keeping.{IsOperated, is_operation};
+ghost use Rattle.lent_steps.specs.Lending.{said_here};
 
 use crate::fault::LockedFault;
 use action_names::{Name, Names};
@@ -23,13 +24,7 @@ pub struct Here<'a, G> {
 }
 
 impl<'a, G: Guardian> ReadsAction for Here<'a, G> {
-    ghost opening = { λ x. (G.state x.guardian.now).opening };
-
-    ghost facts = { λ x. facts_here (G.state x.guardian.now).opening (G.state x.guardian.now).number (G.state x.guardian.now).past };
-
-    ghost results = { λ x. results_here (G.state x.guardian.now).opening (G.state x.guardian.now).past };
-
-    ghost is_sound = { λ x. Unit {0} };
+    ghost says = { λ x s. s ≡ said_here (G.state x.guardian.now) };
 
     fn opening(&self) -> &Opening {
         self.guardian.opening()

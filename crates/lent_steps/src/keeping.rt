@@ -7,10 +7,10 @@ ghost use Rattle.local_agreement.specs.Laws.{Agrees};
 ghost use Rattle.layer_contracts.specs.Stores.{CountsFailure, LeavesStore, Stays, fault_in};
 ghost use Rattle.layer_contracts.specs.declared.guardian.Fault.TheVariants.{Stable};
 ghost use Rattle.layer_contracts.specs.Messages.{carried_of, may_fail};
-ghost use Rattle.layer_contracts.specs.Forests.{entered, stamped_there};
+ghost use Rattle.layer_contracts.specs.Forests.{ForestState, entered};
 ghost use Rattle.local_laws.specs.Owed.{IsOwed};
-ghost use Rattle.lent_steps.specs.Lending.{IsOneOf, OneOpening};
-ghost use Rattle.lent_steps.specs.Keeping.{IsAnswered, IsBrought, IsDone, IsPlannedThere, StoreLeft};
+ghost use Rattle.lent_steps.specs.Lending.{AreLent, IsOneOf};
+ghost use Rattle.lent_steps.specs.Keeping.{AreAnswered, IsAnswered, IsBrought, IsDone, IsInstalled, IsPlannedInSome, IsPlannedThere, StoreLeft};
 
 use crate::lent::Lent;
 use crate::names::{home_of_new, named, takes_registry};
@@ -20,7 +20,7 @@ use std::alloc::{AllocError, Global};
 
 /// Whether the step names the guardian of this number.
 pub(crate) fn is_named<R: Forest>(forest: &R, step: &Step, guardian: u32) -> bool
-    ensures { result ≡ names_guardian step.now (events_there (R.state forest.now).registry) guardian }
+    ensures { (f : ForestState) → R.stands forest.now f → result ≡ names_guardian step.now (events_there f.registry) guardian }
 {
     let (first, second) = named(forest, step);
     first == guardian || second == guardian
@@ -29,14 +29,11 @@ pub(crate) fn is_named<R: Forest>(forest: &R, step: &Step, guardian: u32) -> boo
 impl<'a, R: Forest, G: Guardian> Lent<'a, R, G> {
     /// What the event brings to the guardian, if it names it.
     fn brought_to(&self, event: &Event, at: &G) -> Result<Option<Message>, AllocError>
-        requires sound { OneOpening (R.state self.now.forest.now) (G.state self.now.first.now) (G.state self.now.second.now) }
-        requires one { IsOneOf (G.state self.now.first.now) (G.state self.now.second.now) (G.state at.now) }
-        requires opening { (G.state at.now).opening ≡ (R.state self.now.forest.now).opening }
-        requires answered { IsAnswered (R.state self.now.forest.now) (G.state self.now.first.now) (G.state self.now.second.now) event.now }
-        ensures { IfOk result (λ brought. MatchOption brought
-            (names_guardian event.now.step (events_there (R.state self.now.forest.now).registry) (G.state at.now).number ≡ false)
-            (λ message. IsBrought (R.state self.now.forest.now) (G.state self.now.first.now) (G.state self.now.second.now) event.now (G.state at.now)
-            (carried_of message))) }
+        requires { IsOneOf (G.state self.now.first.now) (G.state self.now.second.now) (G.state at.now) }
+        ensures { IfOk result (λ brought. (f : ForestState) → AreLent (R.stands self.now.forest.now) f (G.state self.now.first.now) (G.state self.now.second.now)
+            → (G.state at.now).opening ≡ f.opening → IsAnswered f (G.state self.now.first.now) (G.state self.now.second.now) event.now
+            → MatchOption brought (names_guardian event.now.step (events_there f.registry) (G.state at.now).number ≡ false)
+            (λ message. IsBrought f (G.state self.now.first.now) (G.state self.now.second.now) event.now (G.state at.now) (carried_of message))) }
     {
         if !is_named(self.forest, &event.step, at.number()) {
             return Ok(None);
@@ -76,11 +73,10 @@ fn plan_there<R: Forest>(
     life: u64,
 ) -> Result<Option<R::Plan>, AllocError>
     requires accepted { IsTrue (is_accepted event.now.answer) }
-    requires entered { entered (R.state forest.old) event.now }
-    ensures same { R.state forest.new ≡ R.state forest.old }
+    ensures same { (f : ForestState) → R.stands forest.old f → R.stands forest.new f }
     ensures fits { IfOk result (λ planned. MatchOption planned (Unit {0}) (λ plan. R.fits plan forest.new)) }
-    ensures planned { IfOk result (λ planned. MatchOption planned (takes_registry event.now.step ≡ false)
-        (λ plan. IsPlannedThere (R.state forest.old) home life event.now (R.planned plan))) }
+    ensures planned { IfOk result (λ planned. (f : ForestState) → R.stands forest.old f → entered f event.now
+        → MatchOption planned (takes_registry event.now.step ≡ false) (λ plan. IsPlannedThere (R.is_for plan forest.new f) f home life event.now)) }
 {
     if !takes_registry(&event.step) {
         return Ok(None);
@@ -139,18 +135,20 @@ fn install<G: Guardian>(guardian: &mut G, plan: Option<G::Plan>, stamp: u64)
     }
 }
 
-fn install_there<R: Forest>(forest: &mut R, plan: Option<R::Plan>, stamp: u64)
-    requires { MatchOption plan (Unit {0}) (λ plan. R.fits plan forest.old) }
-    ensures { MatchOption plan (R.state forest.new ≡ R.state forest.old)
-        (λ plan. R.state forest.new ≡ record (R.state forest.old) { registry = stamped_there stamp (R.planned plan) ∷ (R.state forest.old).registry }) }
+fn install_there<R: Forest>(forest: &mut R, plan: Option<R::Plan>, event: &Event, stamp: u64)
+    requires fits { MatchOption plan (Unit {0}) (λ plan. R.fits plan forest.old) }
+    requires planned { MatchOption plan (Unit {0}) (λ plan. IsPlannedInSome (R.stands forest.old) (R.is_for plan forest.old) event.now) }
+    ensures { MatchOption plan ((f : ForestState) → R.stands forest.old f → R.stands forest.new f)
+        (λ plan. IsInstalled (R.stands forest.old) (R.stands forest.new) (R.is_for plan forest.old) event.now stamp) }
 {
     if let Some(plan) = plan {
-        forest.install(plan, stamp);
+        forest.install(plan, event, stamp);
     }
 }
 
 /// After an accepted step that was lent two guardians: all of them keep its event as far as it names them. Room is made first; then comes
-/// the one call of a store or of an object, if there is one, then the stamp, then what cannot fail. After an error all are as they were.
+/// the one call of a store or of an object, if there is one, then the stamp, then what cannot fail. After an error all are as they were. What is left
+/// is said of each state in which the forest stood and by which the event was answered, and there is one.
 pub fn keep_two<R: Forest, G: Guardian, F: FnOnce() -> u64>(
     alloc: Global,
     forest: &mut R,
@@ -160,18 +158,19 @@ pub fn keep_two<R: Forest, G: Guardian, F: FnOnce() -> u64>(
     stamp: F,
 ) -> Result<u64, Fault>
     requires stamp { F.pre stamp }
-    requires sound { OneOpening (R.state forest.old) (G.state first.old) (G.state second.old) }
     requires differ { ((G.state first.old).number == (G.state second.old).number) ≡ false }
-    requires answered { IsAnswered (R.state forest.old) (G.state first.old) (G.state second.old) event.now }
+    requires answered { (f : ForestState) × AreAnswered (R.stands forest.old) f (G.state first.old) (G.state second.old) event.now }
     ensures drawn { IfOk result (λ n. F.post stamp n) }
-    ensures done { IfOk result (λ n. IsDone (R.state forest.old) (G.state first.old) (G.state second.old) event.now n
-        (R.state forest.new) (G.state first.new) (G.state second.new)) }
-    ensures forest_same { OnErr result (R.state forest.new ≡ R.state forest.old) }
+    ensures done { IfOk result (λ n. (f : ForestState) → AreAnswered (R.stands forest.old) f (G.state first.old) (G.state second.old) event.now
+        → IsDone (R.stands forest.new) f (G.state first.old) (G.state second.old) event.now n (G.state first.new) (G.state second.new)) }
+    ensures forest_same { OnErr result ((f : ForestState) → R.stands forest.old f → R.stands forest.new f) }
     ensures first_same { OnErr result (G.state first.new ≡ G.state first.old) }
     ensures second_same { OnErr result (G.state second.new ≡ G.state second.old) }
-    ensures first_store { StoreLeft (R.state forest.old) (G.state first.old) (G.state second.old) event.now
+    ensures first_store { (f : ForestState) → AreAnswered (R.stands forest.old) f (G.state first.old) (G.state second.old) event.now
+        → StoreLeft f (G.state first.old) (G.state second.old) event.now
         (G.state first.old) (G.stored first.old) (G.stored first.new) (fault_in result) }
-    ensures second_store { StoreLeft (R.state forest.old) (G.state first.old) (G.state second.old) event.now
+    ensures second_store { (f : ForestState) → AreAnswered (R.stands forest.old) f (G.state first.old) (G.state second.old) event.now
+        → StoreLeft f (G.state first.old) (G.state second.old) event.now
         (G.state second.old) (G.stored second.old) (G.stored second.new) (fault_in result) }
     ensures cause { IsErrOf result Stable → CountsFailure (G.stored first.old) (G.stored first.new) ⊎ CountsFailure (G.stored second.old) (G.stored second.new) }
 {
@@ -194,12 +193,12 @@ pub fn keep_two<R: Forest, G: Guardian, F: FnOnce() -> u64>(
     if plan_may_fail(&one, &event.step, &*first) {
         let number = carry_out(first, one, stamp)?;
         install(second, other, number);
-        install_there(forest, there, number);
+        install_there(forest, there, event, number);
         Ok(number)
     } else {
         let number = carry_out(second, other, stamp)?;
         install(first, one, number);
-        install_there(forest, there, number);
+        install_there(forest, there, event, number);
         Ok(number)
     }
 }
@@ -213,14 +212,14 @@ pub fn keep_one<R: Forest, G: Guardian, F: FnOnce() -> u64>(
     stamp: F,
 ) -> Result<u64, Fault>
     requires stamp { F.pre stamp }
-    requires sound { OneOpening (R.state forest.old) (G.state guardian.old) (G.state guardian.old) }
-    requires answered { IsAnswered (R.state forest.old) (G.state guardian.old) (G.state guardian.old) event.now }
+    requires answered { (f : ForestState) × AreAnswered (R.stands forest.old) f (G.state guardian.old) (G.state guardian.old) event.now }
     ensures drawn { IfOk result (λ n. F.post stamp n) }
-    ensures done { IfOk result (λ n. IsDone (R.state forest.old) (G.state guardian.old) (G.state guardian.old) event.now n
-        (R.state forest.new) (G.state guardian.new) (G.state guardian.new)) }
-    ensures forest_same { OnErr result (R.state forest.new ≡ R.state forest.old) }
+    ensures done { IfOk result (λ n. (f : ForestState) → AreAnswered (R.stands forest.old) f (G.state guardian.old) (G.state guardian.old) event.now
+        → IsDone (R.stands forest.new) f (G.state guardian.old) (G.state guardian.old) event.now n (G.state guardian.new) (G.state guardian.new)) }
+    ensures forest_same { OnErr result ((f : ForestState) → R.stands forest.old f → R.stands forest.new f) }
     ensures guardian_same { OnErr result (G.state guardian.new ≡ G.state guardian.old) }
-    ensures store { StoreLeft (R.state forest.old) (G.state guardian.old) (G.state guardian.old) event.now
+    ensures store { (f : ForestState) → AreAnswered (R.stands forest.old) f (G.state guardian.old) (G.state guardian.old) event.now
+        → StoreLeft f (G.state guardian.old) (G.state guardian.old) event.now
         (G.state guardian.old) (G.stored guardian.old) (G.stored guardian.new) (fault_in result) }
     ensures cause { IsErrOf result Stable → CountsFailure (G.stored guardian.old) (G.stored guardian.new) }
 {
@@ -238,6 +237,6 @@ pub fn keep_one<R: Forest, G: Guardian, F: FnOnce() -> u64>(
     let there = plan_there(forest, event, home, life)?;
     let here = plan_at(guardian, event, brought)?;
     let number = carry_out(guardian, here, stamp)?;
-    install_there(forest, there, number);
+    install_there(forest, there, event, number);
     Ok(number)
 }

@@ -1,6 +1,6 @@
 ghost use Rattle.std.specs.Prelude.{◌≡◌, ◌≤◌, ℕ, [], IfOk, MatchOption, IsTrue, None};
 ghost use Rattle.layer_contracts.specs.Guardians.{lent_two};
-ghost use Rattle.lent_steps.specs.Lending.{IsAt, OneOpening, facts_two, results_told};
+ghost use Rattle.lent_steps.specs.Lending.{IsAt, IsSaidByTwo};
 
 use action_names::Name;
 use atomic_types::AtomicType;
@@ -22,7 +22,7 @@ impl<'a, R: Forest, G: Guardian> Lent<'a, R, G> {
     /// The guardian of this number, if it is lent.
     pub fn at(&self, guardian: u32) -> Option<&'a G>
         ensures { MatchOption result (lent_two (G.state self.now.first.now) (G.state self.now.second.now) guardian ≡ [])
-            (λ x. IsAt (R.state self.now.forest.now) (G.state self.now.first.now) (G.state self.now.second.now) guardian (G.state x.now)) }
+            (λ x. IsAt (G.state self.now.first.now) (G.state self.now.second.now) guardian (G.state x.now)) }
     {
         if self.first.number() == guardian {
             return Some(self.first);
@@ -35,13 +35,7 @@ impl<'a, R: Forest, G: Guardian> Lent<'a, R, G> {
 }
 
 impl<'a, R: Forest, G: Guardian> ReadsAction for Lent<'a, R, G> {
-    ghost opening = { λ x. (R.state x.forest.now).opening };
-
-    ghost facts = { λ x. facts_two (R.state x.forest.now) (G.state x.first.now) (G.state x.second.now) };
-
-    ghost results = { λ x. results_told (R.state x.forest.now) (G.state x.first.now) (G.state x.second.now) };
-
-    ghost is_sound = { λ x. OneOpening (R.state x.forest.now) (G.state x.first.now) (G.state x.second.now) };
+    ghost says = { λ x. IsSaidByTwo (R.stands x.forest.now) (G.state x.first.now) (G.state x.second.now) };
 
     fn opening(&self) -> &Opening {
         self.forest.opening()

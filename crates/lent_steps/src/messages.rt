@@ -3,9 +3,10 @@ ghost use Rattle.std.specs.Prelude.{◌≡◌, ℕ, ◌==◌, List, [], ◌∷�
 ghost use Rattle.run_model.specs.Actions.{crashes, home_of, names_begun};
 ghost use Rattle.run_model.specs.LocalReadings.{events_here};
 ghost use Rattle.run_model.specs.LocalHistories.{action_lent, aborts_from, carried_lent, counts_of_sender, dependencies_sent, dependency_there, entries_of, events_there, home_lent, life_lent, outcomes_carried, sender_lent, sender_life};
+ghost use Rattle.layer_contracts.specs.Forests.{ForestState};
 ghost use Rattle.layer_contracts.specs.Guardians.{lent_two};
 ghost use Rattle.layer_contracts.specs.Messages.{carried_of, sent_of};
-ghost use Rattle.lent_steps.specs.Lending.{IsOneOf, OneOpening, dependencies_two, new_from, new_two};
+ghost use Rattle.lent_steps.specs.Lending.{AreLent, IsOneOf, dependencies_two, new_from, new_two};
 
 use crate::lent::Lent;
 use crate::names::{home_of_new, names_begun, parent_path};
@@ -18,10 +19,10 @@ use step_answers::Reads;
 impl<'a, R: Forest, G: Guardian> Lent<'a, R, G> {
     /// What the event brings to the guardian, which is one of those that are lent.
     pub fn message(&self, event: &Event, at: &G) -> Result<Message, AllocError>
-        requires sound { OneOpening (R.state self.now.forest.now) (G.state self.now.first.now) (G.state self.now.second.now) }
-        requires one { IsOneOf (G.state self.now.first.now) (G.state self.now.second.now) (G.state at.now) }
-        ensures { IfOk result (λ message. carried_of message ≡ carried_lent (R.state self.now.forest.now).opening event.now (G.state at.now).number
-            (R.state self.now.forest.now).registry (lent_two (G.state self.now.first.now) (G.state self.now.second.now))) }
+        requires { IsOneOf (G.state self.now.first.now) (G.state self.now.second.now) (G.state at.now) }
+        ensures { (f : ForestState) → AreLent (R.stands self.now.forest.now) f (G.state self.now.first.now) (G.state self.now.second.now)
+            → IfOk result (λ message. carried_of message ≡ carried_lent f.opening event.now (G.state at.now).number f.registry
+            (lent_two (G.state self.now.first.now) (G.state self.now.second.now))) }
     {
         let sender = self.sender(&event.step, at.number());
         let life = self.life_of(sender);
@@ -38,7 +39,8 @@ impl<'a, R: Forest, G: Guardian> Lent<'a, R, G> {
 
     /// Whose lists the step carries to the guardian of this number.
     fn sender(&self, step: &Step, at: u32) -> Option<u32>
-        ensures { result ≡ sender_lent step.now at (R.state self.now.forest.now).registry (lent_two (G.state self.now.first.now) (G.state self.now.second.now)) }
+        ensures { (f : ForestState) → AreLent (R.stands self.now.forest.now) f (G.state self.now.first.now) (G.state self.now.second.now)
+            → result ≡ sender_lent step.now at f.registry (lent_two (G.state self.now.first.now) (G.state self.now.second.now)) }
     {
         match step {
             Step::Call(caller, to) => {
@@ -105,7 +107,7 @@ impl<'a, R: Forest, G: Guardian> Lent<'a, R, G> {
         event: &Event,
         at: u32,
     ) -> Result<Vec<(Name, Vec<(u32, u64)>)>, AllocError>
-        ensures { IfOk result (λ sent. sent_of sent.items ≡ dependencies_two (R.state self.now.forest.now)
+        ensures { (f : ForestState) → R.stands self.now.forest.now f → IfOk result (λ sent. sent_of sent.items ≡ dependencies_two f
             (G.state self.now.first.now) (G.state self.now.second.now) event.now at) }
     {
         match &event.step {
@@ -126,9 +128,9 @@ impl<'a, R: Forest, G: Guardian> Lent<'a, R, G> {
     }
 
     fn dependencies_of(&self, action: &Name) -> Result<Vec<(Name, Vec<(u32, u64)>)>, AllocError>
-        ensures { IfOk result (λ sent. sent_of sent.items ≡ (
+        ensures { (f : ForestState) → R.stands self.now.forest.now f → IfOk result (λ sent. sent_of sent.items ≡ (
           action.now,
-          entries_of (R.state self.now.forest.now).opening (λ h. dependency_there action.now h (R.state self.now.forest.now).registry),
+          entries_of f.opening (λ h. dependency_there action.now h f.registry),
         ) ∷ []) }
     {
         let mut sent = Vec::new(self.alloc);
@@ -141,7 +143,7 @@ impl<'a, R: Forest, G: Guardian> Lent<'a, R, G> {
         event: &Event,
         at: u32,
     ) -> Result<Vec<(Name, Vec<(u32, u64)>)>, AllocError>
-        ensures { IfOk result (λ sent. sent_of sent.items ≡ new_two (R.state self.now.forest.now)
+        ensures { (f : ForestState) → R.stands self.now.forest.now f → IfOk result (λ sent. sent_of sent.items ≡ new_two f
             (G.state self.now.first.now) (G.state self.now.second.now) event.now at) }
     {
         let home = home_of_new(self.forest, &event.step);
@@ -158,7 +160,7 @@ impl<'a, R: Forest, G: Guardian> Lent<'a, R, G> {
         home: u32,
         life: u64,
     ) -> Result<Vec<(Name, Vec<(u32, u64)>)>, AllocError>
-        ensures { IfOk result (λ sent. sent_of sent.items ≡ new_from (R.state self.now.forest.now) home life names.now) }
+        ensures { (f : ForestState) → R.stands self.now.forest.now f → IfOk result (λ sent. sent_of sent.items ≡ new_from f home life names.now) }
     {
         let mut sent = Vec::new(self.alloc);
         for name in names {
@@ -173,7 +175,8 @@ impl<'a, R: Forest, G: Guardian> Lent<'a, R, G> {
     /// What outcomes the step brings.
     fn outcomes(&self, step: &Step, at: &G) -> Result<Vec<(Name, bool)>, AllocError>
         requires { IsOneOf (G.state self.now.first.now) (G.state self.now.second.now) (G.state at.now) }
-        ensures { IfOk result (λ outcomes. outcomes.items ≡ outcomes_carried step.now (G.state at.now).number (events_there (R.state self.now.forest.now).registry)
+        ensures { (f : ForestState) → R.stands self.now.forest.now f → IfOk result (λ outcomes. outcomes.items ≡
+            outcomes_carried step.now (G.state at.now).number (events_there f.registry)
             (lent_two (G.state self.now.first.now) (G.state self.now.second.now) (G.state at.now).number)) }
     {
         match step {

@@ -3,6 +3,7 @@ ghost use Rattle.std.specs.Prelude.{◌≡◌, ℕ, ◌||◌, ◌==◌};
 ghost use Rattle.run_model.specs.Actions.{home_of, names_begun};
 ghost use Rattle.action_names.specs.Names.{parent_of};
 ghost use Rattle.run_model.specs.LocalHistories.{events_there, home_lent, names_guardian, takes_registry};
+ghost use Rattle.layer_contracts.specs.Forests.{ForestState};
 
 use action_names::Name;
 use layer_contracts::Forest;
@@ -10,7 +11,7 @@ use run_model::{Answer, Step};
 
 /// The guardians that the step names: two, or one twice.
 pub fn named<R: Forest>(forest: &R, step: &Step) -> (u32, u32)
-    ensures { (g : ℕ) → names_guardian step.now (events_there (R.state forest.now).registry) g ≡ ((result.0 == g) || (result.1 == g)) }
+    ensures { (f : ForestState) → R.stands forest.now f → (g : ℕ) → names_guardian step.now (events_there f.registry) g ≡ ((result.0 == g) || (result.1 == g)) }
 {
     match step {
         Step::Top(at) => (*at, *at),
@@ -39,7 +40,7 @@ pub fn named<R: Forest>(forest: &R, step: &Step) -> (u32, u32)
 }
 
 fn at_home<R: Forest>(forest: &R, action: &Name) -> (u32, u32)
-    ensures first { result.0 ≡ home_of action.now (events_there (R.state forest.now).registry) }
+    ensures first { (f : ForestState) → R.stands forest.now f → result.0 ≡ home_of action.now (events_there f.registry) }
     ensures second { result.1 ≡ result.0 }
 {
     let home = forest.home(action.components());
@@ -73,7 +74,7 @@ pub fn names_begun(answer: &Answer) -> &[Name]
 
 /// The home of what the step begins, and 0 where it begins nothing.
 pub fn home_of_new<R: Forest>(forest: &R, step: &Step) -> u32
-    ensures { result ≡ home_lent step.now (R.state forest.now).registry }
+    ensures { (f : ForestState) → R.stands forest.now f → result ≡ home_lent step.now f.registry }
 {
     match step {
         Step::Top(at) => *at,

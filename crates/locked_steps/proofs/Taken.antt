@@ -10,13 +10,13 @@ use Rattle.layer_contracts.specs.Guardians.{GuardianState}
 use Rattle.lent_steps.specs.Keeping.{IsDone, IsStepped}
 
 -- with a stamp that was drawn the step has been taken
-pub taken : (drawn : ℕ → Type 0) (step : Step) (answer : Answer) (f : ForestState) (a b : GuardianState) (f' : ForestState) (a' b' : GuardianState) (n : ℕ)
-    → is_accepted answer ≡ true → drawn n → IsDone f a b (record { step = step; answer = answer }) n f' a' b'
-    → IsStepped drawn step answer f a b f' a' b'
-taken drawn step (Began names) f a b f' a' b' n h d k = (n, d, k)
-taken drawn step (Granted reply) f a b f' a' b' n h d k = (n, d, k)
-taken drawn step (Waits names) f a b f' a' b' n h d k = absurd (false≢true h)
-taken drawn step VoteYes f a b f' a' b' n h d k = (n, d, k)
-taken drawn step VoteNo f a b f' a' b' n h d k = (n, d, k)
-taken drawn step (Done count) f a b f' a' b' n h d k = (n, d, k)
-taken drawn step (Refused why) f a b f' a' b' n h d k = absurd (false≢true h)
+pub taken : (drawn : ℕ → Type 0) (step : Step) (answer : Answer) (stood stands : ForestState → Type 0) (a b a' b' : GuardianState) (n : ℕ)
+    → is_accepted answer ≡ true → drawn n → ((f : ForestState) → stood f → IsDone stands f a b (record { step = step; answer = answer }) n a' b')
+    → IsStepped drawn step answer stood stands a b a' b'
+taken drawn step (Began names) stood stands a b a' b' n h d k = (n, d, k)
+taken drawn step (Granted reply) stood stands a b a' b' n h d k = (n, d, k)
+taken drawn step (Waits names) stood stands a b a' b' n h d k = absurd (false≢true h)
+taken drawn step VoteYes stood stands a b a' b' n h d k = (n, d, k)
+taken drawn step VoteNo stood stands a b a' b' n h d k = (n, d, k)
+taken drawn step (Done count) stood stands a b a' b' n h d k = (n, d, k)
+taken drawn step (Refused why) stood stands a b a' b' n h d k = absurd (false≢true h)

@@ -1,15 +1,17 @@
-//! What stands under a lock of its own: a guardian, or the forest. All that two of them know of each other is that they stand in one opening.
+//! What stands under a lock of its own: a guardian, or the forest. All that two of them know of each other is that they stand in one opening. Of the
+//! forest all is said of each state in which it stands.
 ghost use Rattle.std.specs.Prelude.{◌≡◌, ◌==◌, ℕ, Bool, true, false, IfOk, IfSome, OnErr, IsTrue, IsFalse, MatchOption, is_some};
 ghost use Rattle.run_model.specs.Openings.{Opening};
 ghost use Rattle.run_model.specs.declared.step.Step.TheVariants as steps;
 ghost use Rattle.run_model.specs.LocalHistories.{answer_lent};
 ghost use Rattle.run_model.specs.LocalReadings.{operation_here};
 ghost use Rattle.run_model.specs.Runs.{is_accepted};
+ghost use Rattle.layer_contracts.specs.Forests.{ForestState};
 ghost use Rattle.layer_contracts.specs.Guardians.{lent_two};
-ghost use Rattle.lent_steps.specs.Keeping.{AreSame, IsDone, IsOperated, IsStepped, is_operation};
+ghost use Rattle.lent_steps.specs.Keeping.{AreAnswered, AreSame, IsDone, IsOperated, IsStepped, is_operation};
 ghost use Rattle.locked_steps.specs.Pairs.{are_two};
 
-use layer_contracts::{Forest, Guardian, Judging};
+use layer_contracts::{Fault, Forest, Guardian, Judging};
 use lent_steps::{LockedFault, agree_two, answer_two, keep_two, operate, tellable_two};
 use run_model::{Answer, Event, Name, ObjectId, Op, Step};
 use std::alloc::Global;
@@ -28,12 +30,12 @@ pub struct Held<K: OfOpening, G: Guardian> {
     ghost ours: { (G.state guardian).opening ≡ K.opening },
 }
 
-/// The forest under its lock.
+/// The forest under its lock: it stands in the opening, at whatever history.
 #[derive(Drop)]
 pub struct HeldForest<K: OfOpening, R: Forest> {
     pub forest: R,
     pub of: PhantomData<K>,
-    ghost ours: { (R.state forest).opening ≡ K.opening },
+    ghost ours: { (f : ForestState) → R.stands forest f → f.opening ≡ K.opening },
 }
 
 /// One step of two guardians, all locked: its answer, and what it leaves. `None`, and nothing is changed, where the step is an operation, which
@@ -47,16 +49,16 @@ pub fn both<K: OfOpening, R: Forest, G: Judging, F: FnOnce() -> u64>(
     stamp: F,
 ) -> Result<Option<Answer>, LockedFault>
     requires { F.pre stamp }
-    ensures answer { IfOk result (λ r. IfSome r (λ answer. answer ≡ answer_lent K.opening (R.state forest.old.forest).registry
-        (lent_two (G.state one.old.guardian) (G.state other.old.guardian)) step.now)) }
+    ensures answer { IfOk result (λ r. IfSome r (λ answer. (f : ForestState) → R.stands forest.old.forest f
+        → answer ≡ answer_lent K.opening f.registry (lent_two (G.state one.old.guardian) (G.state other.old.guardian)) step.now)) }
     ensures done { IfOk result (λ r. MatchOption r
-        (AreSame (R.state forest.old.forest) (G.state one.old.guardian) (G.state other.old.guardian)
-        (R.state forest.new.forest) (G.state one.new.guardian) (G.state other.new.guardian))
-        (λ answer. IsStepped (λ n. F.post stamp n) step.now answer (R.state forest.old.forest) (G.state one.old.guardian) (G.state other.old.guardian)
-        (R.state forest.new.forest) (G.state one.new.guardian) (G.state other.new.guardian))) }
+        (AreSame (R.stands forest.old.forest) (R.stands forest.new.forest) (G.state one.old.guardian) (G.state other.old.guardian)
+        (G.state one.new.guardian) (G.state other.new.guardian))
+        (λ answer. IsStepped (λ n. F.post stamp n) step.now answer (R.stands forest.old.forest) (R.stands forest.new.forest)
+        (G.state one.old.guardian) (G.state other.old.guardian) (G.state one.new.guardian) (G.state other.new.guardian))) }
     ensures taken { IfOk result (λ r. is_some r ≡ are_two (G.state one.old.guardian) (G.state other.old.guardian) step.now) }
-    ensures err { OnErr result (AreSame (R.state forest.old.forest) (G.state one.old.guardian) (G.state other.old.guardian)
-        (R.state forest.new.forest) (G.state one.new.guardian) (G.state other.new.guardian)) }
+    ensures err { OnErr result (AreSame (R.stands forest.old.forest) (R.stands forest.new.forest) (G.state one.old.guardian) (G.state other.old.guardian)
+        (G.state one.new.guardian) (G.state other.new.guardian)) }
 {
     if one.guardian.number() == other.guardian.number() || is_operation(step) {
         return Ok(None);
@@ -97,9 +99,11 @@ fn answered<K: OfOpening, R: Forest, G: Judging>(
     other: &Held<K, G>,
     step: &Step,
 ) -> Result<Answer, LockedFault>
-    ensures { IfOk result (λ answer. answer ≡ answer_lent (R.state forest.now.forest).opening (R.state forest.now.forest).registry
-        (lent_two (G.state one.now.guardian) (G.state other.now.guardian)) step.now) }
+    ensures { IfOk result (λ answer. (f : ForestState) → R.stands forest.now.forest f
+        → answer ≡ answer_lent f.opening f.registry (lent_two (G.state one.now.guardian) (G.state other.now.guardian)) step.now) }
 {
+    // The forest stands in some state.
+    forest.forest.opening();
     if !tellable_two(alloc, &forest.forest, &one.guardian, &other.guardian, step) {
         return Err(LockedFault::Disagrees);
     }
@@ -118,20 +122,22 @@ fn keep<K: OfOpening, R: Forest, G: Judging, F: FnOnce() -> u64>(
 ) -> Result<u64, LockedFault>
     requires stamp { F.pre stamp }
     requires differ { ((G.state one.old.guardian).number == (G.state other.old.guardian).number) ≡ false }
-    requires answered { event.now.answer ≡ answer_lent (R.state forest.old.forest).opening (R.state forest.old.forest).registry
-        (lent_two (G.state one.old.guardian) (G.state other.old.guardian)) event.now.step }
+    requires answered { (f : ForestState) → R.stands forest.old.forest f
+        → event.now.answer ≡ answer_lent f.opening f.registry (lent_two (G.state one.old.guardian) (G.state other.old.guardian)) event.now.step }
     requires accepted { IsTrue (is_accepted event.now.answer) }
     requires step { IsFalse (is_operation event.now.step) }
     ensures drawn { IfOk result (λ n. F.post stamp n) }
-    ensures done { IfOk result (λ n. IsDone (R.state forest.old.forest) (G.state one.old.guardian) (G.state other.old.guardian) event.now n
-        (R.state forest.new.forest) (G.state one.new.guardian) (G.state other.new.guardian)) }
-    ensures err { OnErr result (AreSame (R.state forest.old.forest) (G.state one.old.guardian) (G.state other.old.guardian)
-        (R.state forest.new.forest) (G.state one.new.guardian) (G.state other.new.guardian)) }
+    ensures done { IfOk result (λ n. (f : ForestState) → R.stands forest.old.forest f → IsDone (R.stands forest.new.forest) f
+        (G.state one.old.guardian) (G.state other.old.guardian) event.now n (G.state one.new.guardian) (G.state other.new.guardian)) }
+    ensures err { OnErr result (AreSame (R.stands forest.old.forest) (R.stands forest.new.forest) (G.state one.old.guardian) (G.state other.old.guardian)
+        (G.state one.new.guardian) (G.state other.new.guardian)) }
 {
+    // The forest stands in some state.
+    forest.forest.opening();
     if !agree_two(alloc, &forest.forest, &one.guardian, &other.guardian, event)? {
         return Err(LockedFault::Disagrees);
     }
-    Ok(keep_two(
+    Ok(keep_of(
         alloc,
         &mut forest.forest,
         &mut one.guardian,
@@ -139,6 +145,31 @@ fn keep<K: OfOpening, R: Forest, G: Judging, F: FnOnce() -> u64>(
         event,
         stamp,
     )?)
+}
+
+/// Keeps the event, and the forest stays of the opening of which it was.
+fn keep_of<R: Forest, G: Judging, F: FnOnce() -> u64>(
+    alloc: Global,
+    forest: &mut R,
+    one: &mut G,
+    other: &mut G,
+    event: &Event,
+    stamp: F,
+) -> Result<u64, Fault>
+    requires stamp { F.pre stamp }
+    requires differ { ((G.state one.old).number == (G.state other.old).number) ≡ false }
+    requires answered { (f : ForestState) × AreAnswered (R.stands forest.old) f (G.state one.old) (G.state other.old) event.now }
+    ensures drawn { IfOk result (λ n. F.post stamp n) }
+    ensures done { IfOk result (λ n. (f : ForestState) → AreAnswered (R.stands forest.old) f (G.state one.old) (G.state other.old) event.now
+        → IsDone (R.stands forest.new) f (G.state one.old) (G.state other.old) event.now n (G.state one.new) (G.state other.new)) }
+    ensures err { OnErr result (AreSame (R.stands forest.old) (R.stands forest.new) (G.state one.old) (G.state other.old)
+        (G.state one.new) (G.state other.new)) }
+    ensures opening { (f k : ForestState) → AreAnswered (R.stands forest.old) f (G.state one.old) (G.state other.old) event.now → R.stands forest.new k
+        → k.opening ≡ f.opening }
+{
+    let kept = keep_two(alloc, forest, one, other, event, stamp);
+    forest.opening();
+    kept
 }
 
 fn is_operation(step: &Step) -> bool

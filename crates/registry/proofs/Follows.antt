@@ -21,8 +21,7 @@ use Rattle.action_forest.specs.declared.forest.Begun.{Begun}
 use Rattle.action_forest.specs.declared.forest.Commitment.{Commitment}
 use Rattle.two_phase.specs.Ballots.{vote}
 use Rattle.two_phase.specs.declared.ballot.Ballot.{Ballot}
-use Rattle.registry.specs.Following.{AreActions, AreAlone, AreBegun, IsEntered, MayEnd, is_ending, is_yes_vote, takes_room}
-use Rattle.registry.specs.Keeping.{event_after}
+use Rattle.registry.specs.Following.{AreActions, AreAlone, AreBegun, IsEntered, MayEnd, event_after, is_ending, is_yes_vote, takes_room}
 use Rattle.registry.specs.Polls.{AreBallots, AreNoted, IsVoteOn, ballot_in, is_yes_in, top_in, voter_in}
 use Rattle.registry.specs.declared.actions.Actions.{Actions}
 use Rattle.registry.specs.declared.ballots.Vote.{Vote}

@@ -2,6 +2,5 @@ pub mod Votes
 pub mod Asked
 pub mod Follows
 pub mod Alone
-pub mod News
 pub mod Reading
 pub mod Planned

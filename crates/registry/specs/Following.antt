@@ -12,7 +12,7 @@ use Rattle.run_model.specs.LocalHistories.{RegistryEvent, dependency_there, even
 use Rattle.run_model.specs.Openings.{Opening}
 use Rattle.run_model.specs.Runs.{is_accepted}
 use Rattle.run_model.specs.Visibility.{has_prepared}
-use Rattle.layer_contracts.specs.Forests.{entered}
+use Rattle.layer_contracts.specs.Forests.{begun_at, entered, stamped_there}
 use Rattle.action_forest.specs.Events.{IsUnended}
 use Rattle.action_forest.specs.Forests.{IsCommitmentOf, IsForest}
 use Rattle.action_forest.specs.Rooms.{AreBorn, FitsBegun}
@@ -20,8 +20,8 @@ use Rattle.action_forest.specs.Trees.{trees}
 use Rattle.action_forest.specs.declared.forest.Begun.{Begun}
 use Rattle.registry.specs.Polls.{AreBallots, FitsBallots, IsAlone, IsVoteOn}
 use Rattle.registry.specs.declared.actions.Actions.{Actions}
-use Rattle.registry.specs.declared.plan.Change.{Change}
-use Rattle.registry.specs.declared.plan.Change.TheVariants as change
+use Rattle.registry.specs.declared.change.Change.{Change}
+use Rattle.registry.specs.declared.change.Change.TheVariants as change
 
 -- for each guardian up to n the dependencies on it alone
 abbrev pub AreAlone : ℕ → List Deps → Type 0
@@ -33,9 +33,18 @@ pub record AreActions (opening : Opening) (registry : List RegistryEvent) (actio
   pub ballots : AreBallots (events_there registry) actions.ballots
   pub alone : AreAlone (length opening.setup) actions.alone.items
 
+-- and of some history
+abbrev pub AreOfSome : Opening → Actions → Type 0
+AreOfSome opening actions = (registry : List RegistryEvent) × AreActions opening registry actions
+
 -- at each opening and registry's history of which the actions and votes are
 abbrev pub AtEachOf : Actions → (Opening → List RegistryEvent → Type 0) → Type 0
 AtEachOf actions holds = (opening : Opening) (registry : List RegistryEvent) → AreActions opening registry actions → holds opening registry
+
+-- the event that comes after this history, of which what it begins begins at this home in this life of it
+abbrev pub event_after : Opening → List RegistryEvent → ℕ → Event → ℕ → ℕ → RegistryEvent
+event_after opening registry stamp e home life =
+    stamped_there stamp (record { event = e; begun = begun_at (record { opening = opening; registry = registry }) home life e.answer })
 
 -- whether the guardian voted yes on t, if t depends on it
 abbrev pub is_ready_there : Name → List RegistryEvent → ℕ → Bool

@@ -1,4 +1,3 @@
-pub mod Keeping
 pub mod Polls
 pub mod Following
 pub mod Registries

@@ -1,42 +1,28 @@
--- A registry as contracts see it, and when a plan fits one.
-use Rattle.std.specs.Prelude.{◌<◌, List, [], map}
-use Rattle.std.specs.FinMap as tree
-use Rattle.run_model.specs.LocalHistories.{NewAction}
+-- A registry as contracts see it, where it stands, and for what events its plans are.
+use Rattle.std.specs.Prelude.{◌≡◌, ℕ}
 use Rattle.run_model.specs.Openings.{OpeningLists, opening_in}
-use Rattle.layer_contracts.specs.Forests.{ForestState, RegistryNews}
-use Rattle.action_forest.specs.Trees.{Action, action_in}
-use Rattle.registry.specs.Following.{FitsChange, HasRoomFor, IsEntered}
-use Rattle.registry.specs.Keeping.{Kept, registry_in}
+use Rattle.layer_contracts.specs.Forests.{ForestState, RegistryNews, begun_at}
+use Rattle.registry.specs.Following.{AreActions, FitsChange, HasRoomFor, IsEntered}
 use Rattle.registry.specs.declared.actions.Actions.{Actions}
-use Rattle.registry.specs.declared.plan.Change.{Change}
-use Rattle.registry.specs.declared.plan.Change.TheVariants as change
-use Rattle.registry.specs.declared.plan.Plan.{Plan}
+use Rattle.registry.specs.declared.change.Change.{Change}
 
--- the opening, the events that are kept, and what they say of actions and votes
+-- the opening, and the actions with the votes
 pub record InRegistry : Type 0 where
   pub opening : OpeningLists
-  pub history : Kept
   pub actions : Actions
 
-abbrev pub state_of : InRegistry → ForestState
-state_of m = record { opening = opening_in m.opening; registry = registry_in (opening_in m.opening) m.history.entries }
+-- The registry stands in this state: the opening is its own, and its actions and votes are those of this history.
+pub record StandsIn (m : InRegistry) (f : ForestState) : Type 0 where
+  pub opening : f.opening ≡ opening_in m.opening
+  pub actions : AreActions f.opening f.registry m.actions
 
--- an action as it begins
-abbrev pub begun_as : Action → NewAction
-begun_as action = record { name = action.name; home = action.home; incarnation = action.life; dependencies = tree.entries action.depends }
+-- The change is what this event changes, which was entered in this state. What it begins begins at one home in one life of it.
+pub record IsChangeOf (ch : Change) (m : InRegistry) (f : ForestState) (news : RegistryNews) : Type 0 where
+  pub home : ℕ
+  pub life : ℕ
+  pub entered : IsEntered f.opening f.registry news.event
+  pub change : FitsChange f.opening f.registry news.event home life m.actions ch
+  pub begun : news.begun ≡ begun_at f home life news.event.answer
 
--- what the change begins
-abbrev pub begun_by : Change → List NewAction
-begun_by (change.Begin begun) = map begun_as (map action_in begun.nodes.items)
-begun_by _ = []
-
--- what the plan is for
-abbrev pub news_of : Plan → RegistryNews
-news_of p = record { event = p.event; begun = begun_by p.change }
-
--- The event was entered, the change is what it changes, and there is room for both.
-pub record FitsPlan (p : Plan) (m : InRegistry) : Type 0 where
-  pub event : IsEntered (state_of m).opening (state_of m).registry p.event
-  pub change : FitsChange (state_of m).opening (state_of m).registry p.event p.home p.life m.actions p.change
-  pub place : 0 < m.history.room
-  pub room : HasRoomFor m.actions p.change
+abbrev pub FitsRegistry : Change → InRegistry → Type 0
+FitsRegistry ch m = HasRoomFor m.actions ch

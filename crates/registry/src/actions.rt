@@ -12,12 +12,11 @@ ghost use Rattle.limits.specs.Limits.{max_guardians};
 ghost use Rattle.action_forest.specs.Events.{done};
 ghost use Rattle.action_forest.specs.Forests.{AtEach, IsForest};
 ghost use Rattle.action_forest.specs.Trees.{trees};
-ghost use Rattle.registry.specs.Keeping.{event_after};
-ghost use Rattle.registry.specs.Following.{AreAlone, is_yes_vote};
+ghost use Rattle.registry.specs.Following.{AreAlone, event_after, is_yes_vote};
 ghost use Rattle.registry.specs.Polls.{IsAlone};
 
 use crate::ballots::Ballots;
-use crate::plan::Change;
+use crate::change::Change;
 use action_forest::Forest;
 use run_model::{Answer, Deps, Event, Name, Names, Opening, Step};
 use std::alloc::{AllocError, Global};

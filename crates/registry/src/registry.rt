@@ -1,23 +1,21 @@
 //! The registry.
-ghost use Rattle.std.specs.Prelude.{◌≡◌, [], IfOk};
+ghost use Rattle.std.specs.Prelude.{[], IfOk};
 ghost use Rattle.std.specs.Arc.{arc_value};
 ghost use Rattle.run_model.specs.Openings.{opening_in};
 
 use crate::actions::Actions;
+use crate::change::Change;
 use crate::hearing::Told;
-use crate::history::{Entry, History};
-use crate::plan::Plan;
 use layer_contracts::{Forest, Guardian};
 use run_model::{Event, Name, Opening};
 use std::alloc::{AllocError, Global};
 use std::marker::Model;
 use std::sync::Arc;
 
-/// The actions of a world and the votes on its top actions: what the registry's history says of them.
+/// The actions of a world and the votes on its top actions: what the registry's history says of them, which it does not keep.
 #[derive(Drop)]
 pub struct Registry {
     opening: Arc<Opening, Global>,
-    history: History,
     actions: Actions,
 }
 
@@ -26,45 +24,40 @@ impl Model for Registry {
     ghost use Rattle.std.specs.Coded.{codes};
     ghost use Rattle.run_model.specs.Openings.{opening_in};
     ghost use Rattle.registry.specs.contracts.actions.Actions as of_actions;
-    ghost use Rattle.registry.specs.Following.{AreActions};
-    ghost use Rattle.registry.specs.Keeping.{registry_in};
+    ghost use Rattle.registry.specs.Following.{AreOfSome};
     ghost use Rattle.registry.specs.Registries.{InRegistry};
 
     ghost Value = { InRegistry };
 
     ghost coded = { Prim.hlevel (codes, of_actions.the_row.coded) };
 
-    ghost view = { λ a. record { opening = arc_value a.opening; history = a.history; actions = a.actions } };
+    ghost view = { λ a. record { opening = arc_value a.opening; actions = a.actions } };
 
-    ghost invariant = { λ a. AreActions (opening_in (arc_value a.opening)) (registry_in (opening_in (arc_value a.opening)) a.history.entries) a.actions };
+    ghost invariant = { λ a. AreOfSome (opening_in (arc_value a.opening)) a.actions };
 }
 
 impl Registry {
-    ghost use Rattle.registry.specs.Registries.{state_of};
+    ghost use Rattle.registry.specs.Registries.{StandsIn};
 
     /// The registry of a world in which nothing happened. Fails only for want of memory.
     pub fn new(alloc: Global, opening: Arc<Opening, Global>) -> Result<Registry, AllocError>
-        ensures { IfOk result (λ registry. state_of registry ≡ record { opening = opening_in (arc_value opening); registry = [] }) }
+        ensures { IfOk result (λ registry. StandsIn registry (record { opening = opening_in (arc_value opening); registry = [] })) }
     {
         let actions = Actions::new(alloc, &opening)?;
-        Ok(Registry {
-            opening,
-            history: History::new(alloc),
-            actions,
-        })
+        Ok(Registry { opening, actions })
     }
 }
 
 impl Forest for Registry {
-    ghost use Rattle.registry.specs.Registries.{FitsPlan, news_of, state_of};
+    ghost use Rattle.registry.specs.Registries.{FitsRegistry, IsChangeOf, StandsIn};
 
-    ghost state = { state_of };
+    ghost stands = { StandsIn };
 
-    type Plan = Plan;
+    type Plan = Change;
 
-    ghost planned = { news_of };
+    ghost is_for = { IsChangeOf };
 
-    ghost fits = { FitsPlan };
+    ghost fits = { FitsRegistry };
 
     fn opening(&self) -> &Opening {
         &self.opening
@@ -142,25 +135,11 @@ impl Forest for Registry {
         self.actions.forest.outcomes_below(top.components(), &told)
     }
 
-    fn plan(&mut self, event: &Event, home: u32, life: u64) -> Result<Plan, AllocError> {
-        self.history.make_room()?;
-        let change = self.actions.plan(event, home, life)?;
-        Plan::of(event, home, life, change)
+    fn plan(&mut self, event: &Event, home: u32, life: u64) -> Result<Change, AllocError> {
+        self.actions.plan(event, home, life)
     }
 
-    fn install(&mut self, plan: Plan, stamp: u64) {
-        let Plan {
-            event,
-            home,
-            life,
-            change,
-        } = plan;
-        self.actions.apply(change, &event.step, stamp);
-        self.history.push(Entry {
-            stamp,
-            event,
-            home,
-            life,
-        });
+    fn install(&mut self, plan: Change, event: &Event, stamp: u64) {
+        self.actions.apply(plan, &event.step, stamp);
     }
 }

@@ -13,7 +13,7 @@ use Rattle.stored_laws.specs.Stored.{AreStored}
 use Rattle.stored_laws.proofs.Following.{nothing_is_stored}
 use Rattle.guardian_memory.specs.Memories.{InMemory, state_of as memory_state}
 use Rattle.guardian.specs.Guardians.{InParts, IsSettled, state_in}
-use Rattle.registry.specs.Registries.{InRegistry, state_of}
+use Rattle.registry.specs.Registries.{InRegistry, StandsIn}
 use Rattle.layer_contracts.specs.Guardians.{GuardianState}
 use Rattle.layered_world.specs.Standings.{IsWorld, standing}
 use Rattle.layered_world.proofs.Places.{some_eq}
@@ -157,6 +157,6 @@ module _ {S : Type 0} where
         → map store_in gs ≡ ss
     stores_of ms ss gs e h = sym (stores_known gs) ∙ ap (λ l. map (λ k. k.1) l) h ∙ zip_stores ms ss e
 
-    pub stands_first : (registry : InRegistry) (gs : List (InParts S)) → state_of registry ≡ record { opening = opening; registry = [] } → AreFirst seen opening gs
-        → IsWorld (λ g. state_in g) (λ g. seen_of seen g) opening [] (state_of registry) gs
+    pub stands_first : (registry : InRegistry) (gs : List (InParts S)) → StandsIn registry (record { opening = opening; registry = [] }) → AreFirst seen opening gs
+        → IsWorld (λ g. state_in g) (λ g. seen_of seen g) (λ f. StandsIn registry f) opening [] gs
     stands_first registry gs r f = record { is_run = tt; forest = r; count = f.count; each = f.each; stores = f.stores }

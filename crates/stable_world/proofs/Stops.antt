@@ -118,8 +118,8 @@ module _ (opening : Opening) (e : Event) (past : List Event) where
 
 -- ---- a world
 
-module _ {X : Type 0} (state : X → GuardianState) (stored : X → View) (opening : Opening) (past : List Event) (f : ForestState) (guardians : List X)
-    (w : IsWorld state stored opening past f guardians) where
+module _ {X : Type 0} (state : X → GuardianState) (stored : X → View) (opening : Opening) (past : List Event) (forest : ForestState → Type 0) (guardians : List X)
+    (w : IsWorld state stored forest opening past guardians) where
   content_of : (i : ℕ) (x : X) → slice_get guardians i ≡ Some x → slice_get (contents_of stored guardians) i ≡ Some (stored x).content
   content_of i x at = slice_get-map (λ x. (stored x).content) guardians i ∙ ap (λ o. option_map (λ x. (stored x).content) o) at
 
@@ -163,8 +163,8 @@ module _ {X : Type 0} (state : X → GuardianState) (stored : X → View) (openi
 
 -- ---- a step of it
 
-module _ {X : Type 0} (state : X → GuardianState) (stored : X → View) (opening : Opening) (past : List Event) (step : Step) (f : ForestState)
-    (before after : List X) (w : IsWorld state stored opening past f before) (count : length after ≡ length before) where
+module _ {X : Type 0} (state : X → GuardianState) (stored : X → View) (opening : Opening) (past : List Event) (step : Step) (forest : ForestState → Type 0)
+    (before after : List X) (w : IsWorld state stored forest opening past before) (count : length after ≡ length before) where
   abbrev next : Event
   next = event_next opening step past
 
@@ -201,7 +201,7 @@ module _ {X : Type 0} (state : X → GuardianState) (stored : X → View) (openi
         let olds = contents_of stored before in
         between olds (stores_after opening next past olds) left (as_before ∙ sym (length-map before (λ x. (stored x).content))) (as_many opening next past 1 olds)
         (λ i old new o at made there.
-        let (x, here, is) = held_at state stored opening past f before w i old at in
+        let (x, here, is) = held_at state stored opening past forest before w i old at in
         let known = same_Some (content_after opening next past (i + 1) old) new (sym (made_at opening next past olds i old at) ∙ made) in
         elim (left_at i x o here there) [
           | inl k ↦ inl (k ∙ ap (λ s. Some s) is)
@@ -221,13 +221,13 @@ module _ {X : Type 0} (state : X → GuardianState) (stored : X → View) (openi
         record {
           contents = all.contents;
           found = all.found;
-          are = elim (stop_within_any_step opening next past olds all.contents (refl, accepted, w.is_run) (stores_are_of_run state stored opening past f before w) all.are) [
+          are = elim (stop_within_any_step opening next past olds all.contents (refl, accepted, w.is_run) (stores_are_of_run state stored opening past forest before w) all.are) [
             | inl is ↦ inl is
             | inr is ↦ inr (accepted, is)
           ];
         }
     kept false refused =
-        let all = at_rest state stored opening past f before w left as_before (λ i x o at there. elim (left_at i x o at there) [
+        let all = at_rest state stored opening past forest before w left as_before (λ i x o at there. elim (left_at i x o at there) [
           | inl is ↦ is
           | inr is ↦ absurd (false≢true (sym (and_left (is_accepted next.answer) _ refused) ∙ is.0))
         ]) in

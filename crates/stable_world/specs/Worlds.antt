@@ -8,7 +8,7 @@ use Rattle.stable_store.specs.Stored.{empty}
 use Rattle.stable_store.specs.declared.plain.PlainStable.{PlainStable}
 use Rattle.guardian_memory.specs.Memories.{InMemory, state_of as memory_state}
 use Rattle.guardian.specs.Guardians.{InParts, IsSettled, state_in}
-use Rattle.registry.specs.Registries.{InRegistry, state_of}
+use Rattle.registry.specs.Registries.{InRegistry, StandsIn}
 use Rattle.layer_contracts.specs.Stores.{IsStoreOf}
 use Rattle.layered_world.specs.Standings.{IsWorld, standing}
 
@@ -28,7 +28,7 @@ seen_of seen g = seen g.store
 -- registry, guardians and stores stand where the run leads them
 abbrev pub IsStanding : {S : Type 0} → (S → View) → InWorld S → Type 0
 IsStanding seen w =
-    IsWorld (λ g. state_in g) (λ g. seen_of seen g) (opening_in w.run.lists) w.run.past (state_of w.registry) w.guardians
+    IsWorld (λ g. state_in g) (λ g. seen_of seen g) (λ f. StandsIn w.registry f) (opening_in w.run.lists) w.run.past w.guardians
 
 -- the stores from which guardians begin, from the first on: each is at rest, and holds what the opening says that it held, and nothing prepared
 pub record AreOpened {S : Type 0} (seen : S → View) (opening : Opening) (stores : List S) : Type 0 where

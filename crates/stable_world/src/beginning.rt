@@ -2,7 +2,7 @@
 ghost use Rattle.std.specs.Prelude.{◌≡◌, ◌≤◌, [], length, map, IfOk, vec_capacity};
 ghost use Rattle.std.specs.Arc.{arc_value};
 ghost use Rattle.run_model.specs.Openings.{opening_in};
-ghost use Rattle.registry.specs.Registries.{state_of};
+ghost use Rattle.registry.specs.Registries.{StandsIn};
 ghost use Rattle.stable_world.specs.Worlds.{AreEmpty, AreFirst, AreMemories, AreOpened, store_in};
 
 use guardian::Guardian;
@@ -26,7 +26,7 @@ impl<S: Stable> Beginning<S> {
     /// Fails only for want of memory.
     pub(crate) fn of(alloc: Global, opening: Opening) -> Result<Beginning<S>, AllocError>
         ensures opening { IfOk result (λ beginning. arc_value beginning.opening ≡ opening) }
-        ensures registry { IfOk result (λ beginning. state_of beginning.registry ≡ record { opening = opening_in opening; registry = [] }) }
+        ensures registry { IfOk result (λ beginning. StandsIn beginning.registry (record { opening = opening_in opening; registry = [] })) }
         ensures memories { IfOk result (λ beginning. AreMemories (opening_in opening) beginning.memories.items) }
         ensures empty { IfOk result (λ beginning. beginning.room.items ≡ []) }
         ensures room { IfOk result (λ beginning. length beginning.memories.items ≤ vec_capacity beginning.room) }

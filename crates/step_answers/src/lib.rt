@@ -6,6 +6,7 @@
 ghost use Rattle.std.specs.Prelude.{◌≡◌, IfOk};
 ghost use Rattle.run_model.specs.declared.step.Step.TheVariants as steps;
 ghost use Rattle.run_model.specs.Answers.{answer_by};
+ghost use Rattle.step_answers.specs.Saying.{Said};
 
 mod arms;
 mod outcomes;
@@ -20,8 +21,8 @@ use std::alloc::AllocError;
 
 /// The answer of a step by this reading: its first refusal, or what comes of it.
 pub fn answer_of<A: Reads>(reads: &A, step: &Step) -> Result<Answer, AllocError>
-    requires { A.is_sound reads.now }
-    ensures { IfOk result (λ answer. answer ≡ answer_by (A.opening reads.now) (A.facts reads.now) (A.results reads.now) step.now) }
+    requires { (s : Said) × A.says reads.now s }
+    ensures { (s : Said) → A.says reads.now s → IfOk result (λ answer. answer ≡ answer_by s.opening s.facts s.results step.now) }
 {
     match refusal_of(reads, step)? {
         Some(why) => Ok(Answer::Refused(why)),
@@ -36,8 +37,8 @@ pub fn operation_of<A: ReadsAction>(
     object: ObjectId,
     operation: &Op,
 ) -> Result<Answer, AllocError>
-    requires { A.is_sound reads.now }
-    ensures { IfOk result (λ answer. answer ≡ answer_by (A.opening reads.now) (A.facts reads.now) (A.results reads.now)
+    requires { (s : Said) × A.says reads.now s }
+    ensures { (s : Said) → A.says reads.now s → IfOk result (λ answer. answer ≡ answer_by s.opening s.facts s.results
         (steps.Op action.now object operation.now)) }
 {
     match refusal_of_operation(reads, action, object, operation)? {

@@ -4,6 +4,7 @@ ghost use Rattle.action_names.specs.Names.{child_of};
 ghost use Rattle.run_model.specs.declared.answer.Answer.TheVariants.{Began};
 ghost use Rattle.run_model.specs.Refusals.{checks_by, first_refusal, is_past_arms_by, arm_names, max_number};
 ghost use Rattle.run_model.specs.Answers.{outcome_by};
+ghost use Rattle.step_answers.specs.Saying.{Said};
 
 use crate::arms::{arm_names, child_name, top_name};
 use crate::reads::Reads;
@@ -13,9 +14,9 @@ use std::alloc::{AllocError, Global};
 
 /// The answer of a step that nothing refuses.
 pub fn outcome_of<A: Reads>(reads: &A, step: &Step) -> Result<Answer, AllocError>
-    requires sound { A.is_sound reads.now }
-    requires accepted { first_refusal (checks_by (A.opening reads.now) (A.facts reads.now) step.now) ≡ None }
-    ensures { IfOk result (λ answer. answer ≡ outcome_by (A.facts reads.now).next (A.results reads.now) step.now) }
+    requires some { (s : Said) × A.says reads.now s }
+    requires accepted { (s : Said) → A.says reads.now s → first_refusal (checks_by s.opening s.facts step.now) ≡ None }
+    ensures { (s : Said) → A.says reads.now s → IfOk result (λ answer. answer ≡ outcome_by s.facts.next s.results step.now) }
 {
     match step {
         Step::Top(_) => begin_top(reads),
@@ -50,25 +51,28 @@ fn began(alloc: Global, name: Name) -> Result<Answer, AllocError>
 }
 
 fn begin_top<A: Reads>(reads: &A) -> Result<Answer, AllocError>
-    requires { (A.facts reads.now).next [] ≤ max_number }
-    ensures { IfOk result (λ answer. answer ≡ Began (((A.facts reads.now).next [] ∷ []) ∷ [])) }
+    requires some { (s : Said) × A.says reads.now s }
+    requires left { (s : Said) → A.says reads.now s → s.facts.next [] ≤ max_number }
+    ensures { (s : Said) → A.says reads.now s → IfOk result (λ answer. answer ≡ Began ((s.facts.next [] ∷ []) ∷ [])) }
 {
     let name = top_name(reads.alloc(), reads.next(&[]))?;
     began(reads.alloc(), name)
 }
 
 fn begin_child<A: Reads>(reads: &A, parent: &Name) -> Result<Answer, AllocError>
-    requires { (A.facts reads.now).next parent.now ≤ max_number }
-    ensures { IfOk result (λ answer. answer ≡ Began (child_of parent.now ((A.facts reads.now).next parent.now) ∷ [])) }
+    requires some { (s : Said) × A.says reads.now s }
+    requires left { (s : Said) → A.says reads.now s → s.facts.next parent.now ≤ max_number }
+    ensures { (s : Said) → A.says reads.now s → IfOk result (λ answer. answer ≡ Began (child_of parent.now (s.facts.next parent.now) ∷ [])) }
 {
     let name = child_name(parent, reads.next(parent.components()))?;
     began(reads.alloc(), name)
 }
 
 fn begin_arms<A: Reads>(reads: &A, parent: &Name, kinds: &ArmKinds) -> Result<Answer, AllocError>
-    requires { is_past_arms_by (A.facts reads.now).next parent.now kinds.now ≡ false }
-    ensures { IfOk result (λ answer. answer ≡ Began (arm_names parent.now
-        ((A.facts reads.now).next parent.now) ((A.facts reads.now).next []) kinds.now)) }
+    requires some { (s : Said) × A.says reads.now s }
+    requires left { (s : Said) → A.says reads.now s → is_past_arms_by s.facts.next parent.now kinds.now ≡ false }
+    ensures { (s : Said) → A.says reads.now s → IfOk result (λ answer. answer ≡ Began (arm_names parent.now
+        (s.facts.next parent.now) (s.facts.next []) kinds.now)) }
 {
     let child = reads.next(parent.components());
     let top = reads.next(&[]);

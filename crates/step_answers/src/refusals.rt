@@ -5,6 +5,7 @@ ghost use Rattle.run_model.specs.declared.step.Step.TheVariants as steps;
 ghost use Rattle.run_model.specs.Refusals.{checks_by, first_refusal, has_sub, is_past_arms_by};
 ghost use Rattle.step_answers.specs.Arms.{uses_up};
 ghost use Rattle.step_answers.specs.Checks.{actor_checks, worker_checks};
+ghost use Rattle.step_answers.specs.Saying.{Said};
 
 use crate::arms::uses_up;
 use crate::reads::{Reads, ReadsAction};
@@ -17,8 +18,8 @@ const MAX_NUMBER: u64 = 4294967295;
 
 /// The first refusal of the step that applies.
 pub fn refusal_of<A: Reads>(reads: &A, step: &Step) -> Result<Option<Refusal>, AllocError>
-    requires { A.is_sound reads.now }
-    ensures { IfOk result (λ why. why ≡ first_refusal (checks_by (A.opening reads.now) (A.facts reads.now) step.now)) }
+    requires { (s : Said) × A.says reads.now s }
+    ensures { (s : Said) → A.says reads.now s → IfOk result (λ why. why ≡ first_refusal (checks_by s.opening s.facts step.now)) }
 {
     match step {
         Step::Top(guardian) => Ok(of_top(reads, *guardian)),
@@ -46,8 +47,8 @@ fn is_no_guardian(opening: &Opening, guardian: u32) -> bool
 
 /// Why the action may do nothing more: it is over, it is busy, or its home crashed.
 fn of_worker<A: ReadsAction>(reads: &A, name: &Name) -> Option<Refusal>
-    requires { IsTrue ((A.facts reads.now).begun name.now) }
-    ensures { result ≡ first_refusal (worker_checks name.now (A.facts reads.now)) }
+    requires { (s : Said) → A.says reads.now s → IsTrue (s.facts.begun name.now) }
+    ensures { (s : Said) → A.says reads.now s → result ≡ first_refusal (worker_checks name.now s.facts) }
 {
     if reads.is_done(name) {
         return Some(Refusal::Ended);
@@ -63,8 +64,7 @@ fn of_worker<A: ReadsAction>(reads: &A, name: &Name) -> Option<Refusal>
 
 /// Why the action may take no step of its own, wherever it is.
 fn of_actor<A: ReadsAction>(reads: &A, name: &Name) -> Result<Option<Refusal>, AllocError>
-    requires { A.is_sound reads.now }
-    ensures { IfOk result (λ why. why ≡ first_refusal (actor_checks name.now (A.facts reads.now))) }
+    ensures { (s : Said) → A.says reads.now s → IfOk result (λ why. why ≡ first_refusal (actor_checks name.now s.facts)) }
 {
     if !reads.is_begun(name) {
         return Ok(Some(Refusal::NoAction));
@@ -79,7 +79,7 @@ fn of_actor<A: ReadsAction>(reads: &A, name: &Name) -> Result<Option<Refusal>, A
 }
 
 fn of_top<A: Reads>(reads: &A, guardian: u32) -> Option<Refusal>
-    ensures { result ≡ first_refusal (checks_by (A.opening reads.now) (A.facts reads.now) (Top guardian)) }
+    ensures { (s : Said) → A.says reads.now s → result ≡ first_refusal (checks_by s.opening s.facts (Top guardian)) }
 {
     if is_no_guardian(reads.opening(), guardian) {
         return Some(Refusal::NoGuardian);
@@ -94,8 +94,7 @@ fn of_top<A: Reads>(reads: &A, guardian: u32) -> Option<Refusal>
 }
 
 fn of_nested_top<A: Reads>(reads: &A, name: &Name) -> Result<Option<Refusal>, AllocError>
-    requires { A.is_sound reads.now }
-    ensures { IfOk result (λ why. why ≡ first_refusal (checks_by (A.opening reads.now) (A.facts reads.now) (NestedTop name.now))) }
+    ensures { (s : Said) → A.says reads.now s → IfOk result (λ why. why ≡ first_refusal (checks_by s.opening s.facts (NestedTop name.now))) }
 {
     if let Some(why) = of_actor(reads, name)? {
         return Ok(Some(why));
@@ -107,8 +106,7 @@ fn of_nested_top<A: Reads>(reads: &A, name: &Name) -> Result<Option<Refusal>, Al
 }
 
 fn of_call<A: Reads>(reads: &A, name: &Name, guardian: u32) -> Result<Option<Refusal>, AllocError>
-    requires { A.is_sound reads.now }
-    ensures { IfOk result (λ why. why ≡ first_refusal (checks_by (A.opening reads.now) (A.facts reads.now) (Call name.now guardian))) }
+    ensures { (s : Said) → A.says reads.now s → IfOk result (λ why. why ≡ first_refusal (checks_by s.opening s.facts (Call name.now guardian))) }
 {
     if is_no_guardian(reads.opening(), guardian) {
         return Ok(Some(Refusal::NoGuardian));
@@ -135,8 +133,7 @@ fn of_call<A: Reads>(reads: &A, name: &Name, guardian: u32) -> Result<Option<Ref
 }
 
 fn of_commit<A: Reads>(reads: &A, name: &Name) -> Result<Option<Refusal>, AllocError>
-    requires { A.is_sound reads.now }
-    ensures { IfOk result (λ why. why ≡ first_refusal (checks_by (A.opening reads.now) (A.facts reads.now) (Commit name.now))) }
+    ensures { (s : Said) → A.says reads.now s → IfOk result (λ why. why ≡ first_refusal (checks_by s.opening s.facts (Commit name.now))) }
 {
     if let Some(why) = of_actor(reads, name)? {
         return Ok(Some(why));
@@ -148,8 +145,7 @@ fn of_commit<A: Reads>(reads: &A, name: &Name) -> Result<Option<Refusal>, AllocE
 }
 
 fn of_close<A: Reads>(reads: &A, name: &Name) -> Result<Option<Refusal>, AllocError>
-    requires { A.is_sound reads.now }
-    ensures { IfOk result (λ why. why ≡ first_refusal (checks_by (A.opening reads.now) (A.facts reads.now) (Close name.now))) }
+    ensures { (s : Said) → A.says reads.now s → IfOk result (λ why. why ≡ first_refusal (checks_by s.opening s.facts (Close name.now))) }
 {
     if let Some(why) = of_actor(reads, name)? {
         return Ok(Some(why));
@@ -161,8 +157,7 @@ fn of_close<A: Reads>(reads: &A, name: &Name) -> Result<Option<Refusal>, AllocEr
 }
 
 fn of_prepare<A: Reads>(reads: &A, guardian: u32, name: &Name) -> Option<Refusal>
-    requires { A.is_sound reads.now }
-    ensures { result ≡ first_refusal (checks_by (A.opening reads.now) (A.facts reads.now) (Prepare guardian name.now)) }
+    ensures { (s : Said) → A.says reads.now s → result ≡ first_refusal (checks_by s.opening s.facts (Prepare guardian name.now)) }
 {
     if is_no_guardian(reads.opening(), guardian) {
         return Some(Refusal::NoGuardian);
@@ -195,8 +190,7 @@ fn of_prepare<A: Reads>(reads: &A, guardian: u32, name: &Name) -> Option<Refusal
 }
 
 fn of_decide<A: Reads>(reads: &A, name: &Name) -> Option<Refusal>
-    requires { A.is_sound reads.now }
-    ensures { result ≡ first_refusal (checks_by (A.opening reads.now) (A.facts reads.now) (Decide name.now)) }
+    ensures { (s : Said) → A.says reads.now s → result ≡ first_refusal (checks_by s.opening s.facts (Decide name.now)) }
 {
     if !reads.is_begun(name) {
         return Some(Refusal::NoAction);
@@ -220,7 +214,7 @@ fn of_decide<A: Reads>(reads: &A, name: &Name) -> Option<Refusal>
 }
 
 fn of_abort<A: Reads>(reads: &A, name: &Name) -> Option<Refusal>
-    ensures { result ≡ first_refusal (checks_by (A.opening reads.now) (A.facts reads.now) (Abort name.now)) }
+    ensures { (s : Said) → A.says reads.now s → result ≡ first_refusal (checks_by s.opening s.facts (Abort name.now)) }
 {
     if !reads.is_begun(name) {
         return Some(Refusal::NoAction);
@@ -232,7 +226,7 @@ fn of_abort<A: Reads>(reads: &A, name: &Name) -> Option<Refusal>
 }
 
 fn of_tell<A: Reads>(reads: &A, guardian: u32, name: &Name) -> Option<Refusal>
-    ensures { result ≡ first_refusal (checks_by (A.opening reads.now) (A.facts reads.now) (Tell guardian name.now)) }
+    ensures { (s : Said) → A.says reads.now s → result ≡ first_refusal (checks_by s.opening s.facts (Tell guardian name.now)) }
 {
     if is_no_guardian(reads.opening(), guardian) {
         return Some(Refusal::NoGuardian);
@@ -253,7 +247,7 @@ fn of_tell<A: Reads>(reads: &A, guardian: u32, name: &Name) -> Option<Refusal>
 }
 
 fn of_crash<A: Reads>(reads: &A, guardian: u32) -> Option<Refusal>
-    ensures { result ≡ first_refusal (checks_by (A.opening reads.now) (A.facts reads.now) (Crash guardian)) }
+    ensures { (s : Said) → A.says reads.now s → result ≡ first_refusal (checks_by s.opening s.facts (Crash guardian)) }
 {
     if is_no_guardian(reads.opening(), guardian) {
         return Some(Refusal::NoGuardian);
@@ -265,7 +259,7 @@ fn of_crash<A: Reads>(reads: &A, guardian: u32) -> Option<Refusal>
 }
 
 fn of_recover<A: Reads>(reads: &A, guardian: u32) -> Option<Refusal>
-    ensures { result ≡ first_refusal (checks_by (A.opening reads.now) (A.facts reads.now) (Recover guardian)) }
+    ensures { (s : Said) → A.says reads.now s → result ≡ first_refusal (checks_by s.opening s.facts (Recover guardian)) }
 {
     if is_no_guardian(reads.opening(), guardian) {
         return Some(Refusal::NoGuardian);
@@ -281,8 +275,8 @@ fn of_arms<A: Reads>(
     name: &Name,
     kinds: &ArmKinds,
 ) -> Result<Option<Refusal>, AllocError>
-    requires { A.is_sound reads.now }
-    ensures { IfOk result (λ why. why ≡ first_refusal (checks_by (A.opening reads.now) (A.facts reads.now) (Arms name.now kinds.now))) }
+    requires { (s : Said) × A.says reads.now s }
+    ensures { (s : Said) → A.says reads.now s → IfOk result (λ why. why ≡ first_refusal (checks_by s.opening s.facts (Arms name.now kinds.now))) }
 {
     if let Some(why) = of_actor(reads, name)? {
         return Ok(Some(why));
@@ -304,7 +298,8 @@ fn has_sub(kinds: &[ArmKind]) -> bool
 
 /// Whether there are no arms, too many, or no numbers for them.
 fn is_past_arms<A: Reads>(reads: &A, name: &Name, kinds: &ArmKinds) -> bool
-    ensures { result ≡ is_past_arms_by (A.facts reads.now).next name.now kinds.now }
+    requires { (s : Said) × A.says reads.now s }
+    ensures { (s : Said) → A.says reads.now s → result ≡ is_past_arms_by s.facts.next name.now kinds.now }
 {
     if kinds.is_empty() || kinds.len() > MAX_ARMS {
         return true;
@@ -321,17 +316,17 @@ pub fn refusal_of_operation<A: ReadsAction>(
     object: ObjectId,
     operation: &Op,
 ) -> Result<Option<Refusal>, AllocError>
-    requires { A.is_sound reads.now }
-    ensures { IfOk result (λ why. why ≡ first_refusal
-        (checks_by (A.opening reads.now) (A.facts reads.now) (steps.Op name.now object operation.now))) }
+    ensures { (s : Said) → A.says reads.now s → IfOk result (λ why. why ≡ first_refusal
+        (checks_by s.opening s.facts (steps.Op name.now object operation.now))) }
 {
-    if is_no_guardian(reads.opening(), object.guardian) {
+    let opening = reads.opening();
+    if is_no_guardian(opening, object.guardian) {
         return Ok(Some(Refusal::NoGuardian));
     }
     if !reads.is_begun(name) {
         return Ok(Some(Refusal::NoAction));
     }
-    if !reads.opening().has_object(object) {
+    if !opening.has_object(object) {
         return Ok(Some(Refusal::NoObject));
     }
     if let Some(why) = of_worker(reads, name) {
@@ -343,7 +338,7 @@ pub fn refusal_of_operation<A: ReadsAction>(
     if reads.is_orphan(name)? {
         return Ok(Some(Refusal::Orphan));
     }
-    if !reads.opening().knows(object, operation) {
+    if !opening.knows(object, operation) {
         return Ok(Some(Refusal::BadOp));
     }
     Ok(None)

@@ -1,29 +1,39 @@
-use Rattle.std.proofs.Common.{None, Some, ap, subst, sym, ◌∙◌}
-use Rattle.run_model.specs.Runs.{is_accepted}
-use Rattle.layer_contracts.specs.Forests.{ForestState}
+use Rattle.std.proofs.Common.{None, ap, sym, ◌∙◌, ◌∷◌}
+use Rattle.run_model.specs.Runs.{IsRun, is_accepted}
 use Rattle.lent_steps.proofs.Stores.{with_fault}
-use Rattle.layered_world.specs.Standings.{StoresLeft}
+use Rattle.layered_world.specs.Standings.{StoresLeft, event_of, forest_of}
 use Rattle.layered_world.proofs.Stores.{stores_idle, stores_refused}
 use Rattle.layered_world.proofs.stepping.step.Goals as goal
 
 pub returns-in_err-answer-clause-stores : goal.returns-in_err-answer-clause-stores
 returns-in_err-answer-clause-stores g c =
-    let f : ForestState = g.R.Forest.state c.args.forest.now in
     let gs = c.args.guardians.now in
-    with_fault c.from_residual.result _ (λ fault. StoresLeft g.G.Guardian.stored f.opening c.args.history.now c.args.step.now gs gs fault)
-    c.from_residual.ensures.1 (stores_refused g.G.Guardian.stored f.opening c.args.history.now c.args.step.now gs g.G.Guardian.state f c.requires)
+    with_fault c.from_residual.result _ (λ fault. StoresLeft g.G.Guardian.stored g.opening c.args.history.now c.args.step.now gs gs fault)
+    c.from_residual.ensures.1 (stores_refused g.G.Guardian.stored g.opening c.args.history.now c.args.step.now gs g.G.Guardian.state (g.R.Forest.stands c.args.forest.now) c.requires.1.1.1.1)
 
 pub returns-then-not-is_accepted-clause-stores : goal.returns-then-not-is_accepted-clause-stores
 returns-then-not-is_accepted-clause-stores g c =
-    let f : ForestState = g.R.Forest.state c.args.forest.now in
-    stores_idle g.G.Guardian.stored f.opening c.args.history.now c.args.step.now c.args.guardians.now None
+    stores_idle g.G.Guardian.stored g.opening c.args.history.now c.args.step.now c.args.guardians.now None
     (ap is_accepted (sym c.in_ok-answer.ensures) ∙ sym c.is_accepted.ensures ∙ c.if-not-is_accepted.true)
 
 pub returns-in_err-keep-clause-stores : goal.returns-in_err-keep-clause-stores
 returns-in_err-keep-clause-stores g c =
-    let f : ForestState = g.R.Forest.state c.args.forest.now in
     let gs = c.args.guardians.now in
     let gs' = c.keep.new.guardians in
-    with_fault c.from_residual-in_err-keep.result c.in_err-keep.field-0.0 (λ fault. StoresLeft g.G.Guardian.stored f.opening c.args.history.now c.args.step.now gs gs' fault)
+    with_fault c.from_residual-in_err-keep.result c.in_err-keep.field-0.0 (λ fault. StoresLeft g.G.Guardian.stored g.opening c.args.history.now c.args.step.now gs gs' fault)
     c.from_residual-in_err-keep.ensures.1
     c.in_err-keep.ensures.stores
+
+pub answer_at-requires : goal.answer_at-requires
+answer_at-requires g c = λ κs within.
+    let world = c.requires.1.1.1.1 in
+    let names = c.places-low.ensures.names (forest_of g.opening c.args.history.now) world.forest in
+    (within.0, (within.1.0, (within.1.1.0, (within.1.1.1, (world, names)))))
+
+pub keep-requires : goal.keep-requires
+keep-requires g c = λ κs within.
+    let world = c.requires.1.1.1.1 in
+    let names = c.places-low.ensures.names (forest_of g.opening c.args.history.now) world.forest in
+    let more : IsRun g.opening (event_of c.args.step.now c.in_ok-answer.answer ∷ c.args.history.now) =
+    (c.in_ok-answer.ensures, sym c.is_accepted.ensures ∙ c.if-not-is_accepted.false, world.is_run) in
+    (within.0, (within.1.0, (within.1.1.0, (within.1.1.1, (world, (names, (c.places-low.ensures.ordered, more)))))))

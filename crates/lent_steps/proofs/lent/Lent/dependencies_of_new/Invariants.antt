@@ -1,4 +1,5 @@
 use Rattle.std.proofs.Common.{◌≡◌, ◌++◌, drop}
+use Rattle.layer_contracts.specs.Forests.{ForestState}
 use Rattle.layer_contracts.specs.Messages.{sent_of}
 use Rattle.lent_steps.specs.Lending.{new_from}
 use Rattle.lent_steps.proofs.lent.Lent.dependencies_of_new.Given as goal
@@ -6,5 +7,5 @@ use Rattle.lent_steps.proofs.lent.Lent.dependencies_of_new.Given as goal
 -- those so far, with those to come
 abbrev pub invariant-loop-name : goal.invariant-loop-name
 invariant-loop-name g l =
-    sent_of l.sent.items ++ new_from (g.R.Forest.state l.fn.self.forest.now) l.home l.life (drop l.name-index l.names)
-    ≡ new_from (g.R.Forest.state l.fn.self.forest.now) l.home l.life l.names
+    (f : ForestState) → g.R.Forest.stands l.fn.self.forest.now f
+    → sent_of l.sent.items ++ new_from f l.home l.life (drop l.name-index l.names) ≡ new_from f l.home l.life l.names

@@ -1,10 +1,10 @@
 use Rattle.std.proofs.Common.{◌≡◌}
 use Rattle.run_model.specs.Actions.{is_ended}
 use Rattle.run_model.specs.LocalHistories.{events_there}
-use Rattle.registry.proofs.Reading.{read}
+use Rattle.registry.proofs.Reading.{inside, named}
 use Rattle.registry.proofs.registry.RegistryForest.is_ended.Goals as goal
 
 pub returns : goal.returns
-returns c =
-    read (λ a f. c.is_ended.result ≡ is_ended a (events_there f.registry)) c.self.view_is c.components.ensures.numbers
-    (c.is_ended.ensures _ _ c.self.invariant.forest)
+returns c = λ f at.
+    named (λ a. c.is_ended.result ≡ is_ended a (events_there f.registry))
+    c.components.ensures.numbers (c.is_ended.ensures _ _ (inside c.self.view_is at).actions.forest)

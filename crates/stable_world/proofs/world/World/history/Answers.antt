@@ -2,7 +2,6 @@ use Rattle.std.proofs.Common.{subst}
 use Rattle.run_laws.specs.Serving.{IsServed}
 use Rattle.run_laws.proofs.Serving.{runs_are_served}
 use Rattle.run_model.specs.Openings.{opening_in}
-use Rattle.registry.specs.Registries.{state_of}
 use Rattle.guardian.specs.Guardians.{InParts, state_in}
 use Rattle.stable_store.specs.Calls.{View}
 use Rattle.settled_stores.specs.Runs.{AreOfRun}
