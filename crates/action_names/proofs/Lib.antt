@@ -1,5 +1,5 @@
 pub mod Paths
-pub mod Numbers
+pub mod Fronts
 pub mod Text
 pub mod Entries
 pub mod Ancestry

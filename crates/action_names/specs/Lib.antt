@@ -1,3 +1,4 @@
 pub mod Names
+pub mod Fronts
 pub mod Deps
 pub mod Comparison

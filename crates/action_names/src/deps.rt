@@ -144,7 +144,24 @@ fn lower_in(least: &mut Vec<(u32, u64)>, guardian: u32, incarnation: u64) -> Res
             entry.1 = entry.1.min(incarnation);
             Ok(())
         }
-        Err(at) => Ok(least.insert(at, (guardian, incarnation))?),
+        Err(at) => {
+            reserve_first(least)?;
+            Ok(least.insert(at, (guardian, incarnation))?)
+        }
+    }
+}
+
+// Room for a first entry alone: as a rule none follows.
+fn reserve_first(least: &mut Vec<(u32, u64)>) -> Result<(), AllocError>
+    ensures items { least.new.items ≡ least.old.items }
+    ensures len { vec_len least.new ≡ vec_len least.old }
+    ensures capacity { vec_capacity least.old ≤ vec_capacity least.new }
+    ensures succeeds { vec_len least.old < vec_capacity least.old → IsOk result }
+{
+    if least.is_empty() {
+        least.reserve_exact(1)
+    } else {
+        Ok(())
     }
 }
 

@@ -9,5 +9,5 @@ mod name;
 mod names;
 
 pub use deps::Deps;
-pub use name::{MAX_DEPTH, Name, NameFault};
+pub use name::{MAX_DEPTH, Name, NameFault, number_at_front};
 pub use names::Names;

@@ -1,7 +1,8 @@
 //! Names of actions: how they are read, printed, made from one another and compared.
-ghost use Rattle.std.specs.Prelude.{◌≡◌, ◌≢◌, ◌↔◌, ◌<◌, ◌≤◌, ◌++◌, [], ◌∷◌, length, List, ℕ, refl, decimal, Some, IsTrue, IsOk, IsNone, IfSome, IfOk, OnOk, OnErr, IsErrOf, string_bytes};
+ghost use Rattle.std.specs.Prelude.{◌≡◌, ◌≢◌, ◌↔◌, ◌<◌, ◌≤◌, ◌+◌, ◌-◌, ◌*◌, ◌^◌, ◌++◌, [], ◌∷◌, length, List, ℕ, refl, decimal, Some, IsTrue, IsOk, IsNone, IfSome, IfOk, OnOk, OnErr, IsErrOf, MatchOption, string_bytes};
 ghost use Rattle.std.specs.Ordering.{as_partial_cmp};
-ghost use Rattle.action_names.specs.Names.{IsName, IsComponent, name_text, child_of, parent_of, last_of, same_name, is_ancestor, is_top, meet_of, name_cmp, max_depth};
+ghost use Rattle.action_names.specs.Fronts.{BeginsWithNumber, BeginsWithName};
+ghost use Rattle.action_names.specs.Names.{IsName, name_text, child_of, parent_of, last_of, same_name, is_ancestor, is_top, meet_of, name_cmp, max_depth};
 ghost use Rattle.action_names.specs.Comparison.{same_name-partial_equivalence, same_name-equivalence, name_cmp-total, same_name-ties, name_cmp-partial_order, same_name-fed, fed_name};
 ghost use Rattle.action_names.specs.declared.name.NameFault.TheVariants.{Memory};
 
@@ -72,15 +73,36 @@ impl Name {
         ensures never_deep { IsErrOf result NameFault.TooDeep → ⊥ }
         ensures inline { (a : List ℕ) → IsName a → length a ≤ 8 → text.now ≡ name_text a → IsOk result }
     {
+        let (name, rest) = Name::at_front(alloc, text.as_bytes())?;
+        if !rest.is_empty() {
+            return Err(NameFault::NotAName);
+        }
+        Ok(name)
+    }
+
+    /// The name that the bytes begin with, and the bytes that follow it: it goes on up to a byte that is neither a digit nor a dot.
+    /// `NotAName` comes exactly where they begin with none. This takes no memory up to 8 numbers.
+    pub fn at_front(alloc: Global, bytes: &[u8]) -> Result<(Name, &[u8]), NameFault>
+        ensures found { IfOk result (λ r. BeginsWithName bytes.now r.0 r.1.now) }
+        ensures refused { IsErrOf result NameFault.NotAName → (a : List ℕ) (rest : List ℕ) → BeginsWithName bytes.now a rest → ⊥ }
+        ensures never_deep { IsErrOf result NameFault.TooDeep → ⊥ }
+        ensures inline { (a : List ℕ) (rest : List ℕ) → BeginsWithName bytes.now a rest → length a ≤ 8 → IsOk result }
+    {
         let mut parts = SmallVec::new(alloc);
-        for part in text.split('.') {
+        let mut left = bytes;
+        loop {
+            let Some((number, rest)) = number_at_front(left) else {
+                return Err(NameFault::NotAName);
+            };
             if parts.len() == MAX_DEPTH {
                 return Err(NameFault::NotAName);
             }
-            let number = parse_number(part).ok_or(NameFault::NotAName)?;
             parts.push(number)?;
+            match rest {
+                [b'.', behind @ ..] => left = behind,
+                _ => return Ok((Name { parts }, rest)),
+            }
         }
-        Ok(Name { parts })
     }
 
     /// The name of the top action with this number. `NotAName` comes exactly where the number is 0. This takes no memory.
@@ -226,15 +248,41 @@ fn copied(alloc: Global, numbers: &[u32]) -> Result<SmallVec<u32, 8>, AllocError
     Ok(parts)
 }
 
-/// The number of a name with this text: from 1 to 4294967295, without leading zeros or a sign.
-fn parse_number(text: &str) -> Option<u32>
-    ensures found { IfSome result (λ n. IsComponent n × (text.now ≡ decimal n)) }
-    ensures refused { IsNone result → (n : ℕ) → IsComponent n → text.now ≢ decimal n }
+/// The number of a name that the bytes begin with, from 1 to 4294967295 without leading zeros, and the bytes that follow its digits.
+/// `None` comes exactly where they begin with none.
+pub fn number_at_front(bytes: &[u8]) -> Option<(u32, &[u8])>
+    ensures { MatchOption result
+        ((n : ℕ) (rest : List ℕ) → BeginsWithNumber bytes.now n rest → ⊥)
+        (λ r. BeginsWithNumber bytes.now r.0 r.1.now) }
 {
-    match text.as_bytes() {
-        [b'1'..=b'9', ..] => text.parse().ok(),
+    match bytes {
+        [first @ b'1'..=b'9', digits @ ..] => with_digits(u32::from(*first - b'0'), digits),
         _ => None,
     }
+}
+
+/// The number with the digits behind it that the bytes begin with.
+fn with_digits(mut number: u32, bytes: &[u8]) -> Option<(u32, &[u8])>
+    requires { 1 ≤ number }
+    ensures { MatchOption result
+        ((n : ℕ) (rest : List ℕ) → BeginsWithNumber (decimal number ++ bytes.now) n rest → ⊥)
+        (λ r. BeginsWithNumber (decimal number ++ bytes.now) r.0 r.1.now) }
+{
+    let mut left = bytes;
+    while let [digit @ b'0'..=b'9', behind @ ..] = left {
+        number = with_digit(number, *digit)?;
+        left = behind;
+    }
+    Some((number, left))
+}
+
+/// The number with one digit more, if there is room for it.
+fn with_digit(number: u32, digit: u8) -> Option<u32>
+    requires low { 48 ≤ digit }
+    requires high { digit ≤ 57 }
+    ensures { MatchOption result (2 ^ 32 ≤ 10 * number + (digit - 48)) (λ more. more ≡ 10 * number + (digit - 48)) }
+{
+    number.checked_mul(10)?.checked_add(u32::from(digit - b'0'))
 }
 
 impl fmt::Display for Name {

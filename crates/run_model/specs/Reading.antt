@@ -1,6 +1,5 @@
 -- Reading a text against its spelling, and the words that steps and operations begin with.
 use Rattle.std.specs.Prelude.{ℕ, ℤ, FitsSigned, ◌≡◌, ◌≢◌, ◌⊎◌, ◌<◌, List, [], ◌∷◌, ◌++◌, length, slice_index, codes, decimal, Option, Some, None, Bool, true, false}
-use Rattle.std.specs.Fmt.{signed_decimal}
 use Rattle.std.specs.Int.{w64}
 use Rattle.action_names.specs.Names.{Name, IsName, IsComponent, name_text}
 use Rattle.values.specs.declared.value.Value.{Value}

@@ -29,7 +29,7 @@ pub returns-in_ok-insert-in-Err-clause-ok : goal.returns-in_ok-insert-in-Err-cla
 returns-in_ok-insert-in-Err-clause-ok c =
     let es = c.args.least.now.items in
     let gap = rw c.deref.ensures.value at c.in-Err.ensures.absent in
-    rw (c.in_ok-insert-in-Err.ensures.items, least_at-absent es c.args.guardian c.in-Err.at gap) (sym (with_least-absent es c.args.guardian c.args.incarnation c.in-Err.at gap))
+    rw (c.in_ok-insert-in-Err.ensures.items, c.in_ok-reserve_first-in-Err.ensures.items, least_at-absent es c.args.guardian c.in-Err.at gap) (sym (with_least-absent es c.args.guardian c.args.incarnation c.in-Err.at gap))
 
 pub returns-in_ok-insert-in-Err-clause-rising : goal.returns-in_ok-insert-in-Err-clause-rising
 returns-in_ok-insert-in-Err-clause-rising c =
@@ -39,4 +39,8 @@ returns-in_ok-insert-in-Err-clause-rising c =
 -- memory fails only for a guardian that is new
 pub returns-in_err-insert-in-Err-clause-known : goal.returns-in_err-insert-in-Err-clause-known
 returns-in_err-insert-in-Err-clause-known c known =
+    cc (rw (least_at-absent c.args.least.now.items c.args.guardian c.in-Err.at (rw c.deref.ensures.value at c.in-Err.ensures.absent)) at known)
+
+pub returns-in_err-reserve_first-in-Err-clause-known : goal.returns-in_err-reserve_first-in-Err-clause-known
+returns-in_err-reserve_first-in-Err-clause-known c known =
     cc (rw (least_at-absent c.args.least.now.items c.args.guardian c.in-Err.at (rw c.deref.ensures.value at c.in-Err.ensures.absent)) at known)

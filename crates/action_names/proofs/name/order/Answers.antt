@@ -1,4 +1,4 @@
-use Rattle.std.proofs.Common.{◌<◌, length, sym, ◌∙◌, arith}
+use Rattle.std.proofs.Common.{sym, ◌∙◌, arith}
 use Rattle.action_names.proofs.Order.{first_unequal, beginning}
 use Rattle.action_names.proofs.name.order.Goals as goal
 

@@ -1,4 +1,4 @@
-use Rattle.std.proofs.Common.{◌≡◌, ◌≤◌, get_or, arith}
+use Rattle.std.proofs.Common.{◌≤◌, get_or, arith}
 use Rattle.values.proofs.Numbers.{number_found}
 use Rattle.values.proofs.value.plain_number.Goals as goal
 
