@@ -34,7 +34,8 @@ impl Alone for Guardian<Store> {
         if place.number == 0 {
             return Err(RowFault::Unread);
         }
-        let memory = Memory::new(alloc, fresh(alloc, place)?, place.number)?;
+        let opening = fresh(alloc, place)?;
+        let memory = Memory::new(alloc, opening, place.number)?;
         Ok(Guardian::over(alloc, memory, empty_store(alloc, place)))
     }
 
@@ -146,6 +147,9 @@ impl Alone for Guardian<Store> {
 ghost use Rattle.std.specs.Prelude.{◌≡◌, IfOk};
 ghost use Rattle.std.specs.Arc.{arc_value};
 ghost use Rattle.run_model.specs.Openings.{fresh, opening_in};
+ghost use Rattle.stable_store.specs.Failing.{failing_view};
+ghost use Rattle.stable_store.specs.Plain.{plain_view};
+ghost use Rattle.stable_store.specs.Stored.{empty};
 
 fn fresh(alloc: Global, place: Place<'_>) -> Result<Arc<run_model::Opening, Global>, AllocError>
     ensures { IfOk result (λ opening. opening_in (arc_value opening) ≡ fresh place.entry.setup.now) }
@@ -155,7 +159,9 @@ fn fresh(alloc: Global, place: Place<'_>) -> Result<Arc<run_model::Opening, Glob
 }
 
 /// A store that holds nothing.
-fn empty_store(alloc: Global, place: Place<'_>) -> Store {
+fn empty_store(alloc: Global, place: Place<'_>) -> Store
+    ensures { (failing_view plain_view result).content ≡ empty }
+{
     FailOnce::new(PlainStable::new(alloc), place.failing)
 }
 

@@ -71,7 +71,6 @@ fn keep_answered<G: Judging>(
 }
 
 /// The event that the step with this answer is, if the guardian accepts it.
-#[tactic(auto, using(crate::proofs::Owing::owed))]
 fn accepted<G: Judging>(
     guardian: &G,
     step: &Step,

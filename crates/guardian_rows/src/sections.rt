@@ -140,7 +140,8 @@ impl<G: Alone> Section<G> {
     /// `reopen`: the guardian is opened again over a store that holds what is left.
     fn reopen(&mut self, answer: &mut String) -> Result<(), RowFault> {
         answer.reserve(ROOM)?;
-        match G::reopen(self.alloc, self.place(), &self.left)? {
+        let opened = self.reopened()?;
+        match opened {
             Opening::Opened(guardian) => {
                 self.put(guardian);
                 Ok(answer.push_str("opened")?)
@@ -150,6 +151,10 @@ impl<G: Alone> Section<G> {
                 Ok(answer.push_str("not ours")?)
             }
         }
+    }
+
+    fn reopened(&self) -> Result<Opening<G>, RowFault> {
+        G::reopen(self.alloc, self.place(), &self.left)
     }
 
     /// `stop`: of the guardian is left what its store holds.
@@ -181,10 +186,8 @@ impl<G: Alone> Section<G> {
     fn keep(&mut self, line: &str, answer: &mut String) -> Result<(), RowFault> {
         let step = read_step(self.alloc, line)?;
         answer.reserve(ROOM)?;
-        match self.keep_step(&step, answer)? {
-            Some(made) => Ok(again!(made.write_to(answer))?),
-            None => Ok(answer.push_str("not accepted")?),
-        }
+        let kept = self.keep_step(&step, answer)?;
+        Ok(write_kept_step(kept, answer)?)
     }
 
     /// Keeps the step, once more where the store failed; `None` where it is not accepted. Where memory is refused, nothing has happened.
@@ -315,6 +318,14 @@ fn kept_in(made: Result<Answer, Unkept>) -> Result<Option<Answer>, RowFault> {
         Err(Unkept::NotAccepted) => Ok(None),
         Err(Unkept::Memory) => Err(RowFault::Memory),
         Err(Unkept::Failed) => Err(RowFault::Unread),
+    }
+}
+
+/// Writes the answer of a step that was kept, for which there is room.
+fn write_kept_step(kept: Option<Answer>, answer: &mut String) -> Result<(), AllocError> {
+    match kept {
+        Some(made) => again!(made.write_to(answer)),
+        None => answer.push_str("not accepted"),
     }
 }
 

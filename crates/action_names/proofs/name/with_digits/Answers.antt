@@ -13,5 +13,5 @@ loop-left-preserved c = record {
   positive = omega (arith, c.in_ok-number.ensures);
   small = omega arith;
   so_far = number_more _ c.loop-left.left.now c.loop-left.number c.in_ok-number.number c.loop-left.invariant.positive (omega arith) c.loop-left.invariant.so_far (omega arith) (omega arith) (omega arith)
-  (omega (arith, c.in_ok-number.ensures));
+      (omega (arith, c.in_ok-number.ensures));
 }

@@ -1,3 +1,4 @@
+use contract.BorrowLft.{⊑_meet, ⊑_static}
 use Rattle.std.proofs.Common.{IfOk, OnOk, ap, arith, drop, length, subst, sym, take, ◌++◌, ◌≡◌, ◌∙◌}
 use Rattle.std.specs.Arc.{arc_value}
 use Rattle.run_laws.specs.Laws.{OrphanWhereRefused}
@@ -25,7 +26,8 @@ step-requires g c = λ κs within.
     let world : IsWorld (λ x. state_in x) stored (λ f. StandsIn registry f) (opening_in registry.opening) past c.self.inside.guardians.items =
     subst (λ o. IsWorld (λ x. state_in x) stored (λ f. StandsIn registry f) o past c.self.inside.guardians.items) c.self.invariant.forest.opening c.self.invariant in
     let lent = subst (λ gs. IsWorld (λ x. state_in x) stored (λ f. StandsIn registry f) (opening_in registry.opening) past gs) (sym c.deref_mut.ensures.value) world in
-    (within.0, (within.1.0, (within.1.1.0, (within.1.1.1, lent))))
+    let store = ⊑_meet _ _ _ within (⊑_static _) in
+    (⊑_static _, (⊑_meet _ _ _ store store, (⊑_static _, (⊑_static _, lent))))
 
 pub returns-clause-orphans : goal.returns-clause-orphans
 returns-clause-orphans g c =
