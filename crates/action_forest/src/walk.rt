@@ -9,11 +9,12 @@ use std::alloc::AllocError;
 
 /// Who knows of which actions it was told.
 pub trait Hearer {
-    ghost told: { Self → List ℕ → Bool };
+    /// That these are the actions of which it was told.
+    ghost hears: { Self → (List ℕ → Bool) → Type 0 };
 
     /// Whether it was told of the action.
     fn was_told(&self, action: &Name) -> bool
-        ensures { result ≡ told self.now action.now };
+        ensures { (told : List ℕ → Bool) → hears self.now told → result ≡ told action.now };
 }
 
 impl Forest {
@@ -27,7 +28,7 @@ impl Forest {
         path: &[u32],
         hearer: &H,
     ) -> Result<Vec<(Name, bool)>, AllocError>
-        ensures { AtEach (trees self.now) (λ opening registry. IfOk result (λ outcomes. outcomes.items ≡ untold_below path.now (H.told hearer.now) (events_there registry))) }
+        ensures { (told : List ℕ → Bool) → H.hears hearer.now told → AtEach (trees self.now) (λ opening registry. IfOk result (λ outcomes. outcomes.items ≡ untold_below path.now told (events_there registry))) }
     {
         let places = self.descendants(path)?;
         let mut outcomes = self.outcomes_at(&places, hearer)?;
@@ -59,7 +60,7 @@ impl Forest {
         places: &[usize],
         hearer: &H,
     ) -> Result<Vec<(Name, bool)>, AllocError>
-        ensures { AtEach (trees self.now) (λ opening registry. IfOk result (λ outcomes. outcomes.items ≡ untold_at (trees self.now) (H.told hearer.now) (events_there registry) places.now)) }
+        ensures { (told : List ℕ → Bool) → H.hears hearer.now told → AtEach (trees self.now) (λ opening registry. IfOk result (λ outcomes. outcomes.items ≡ untold_at (trees self.now) told (events_there registry) places.now)) }
     {
         let mut outcomes = Vec::new(*self.nodes.allocator());
         for place in places {
@@ -76,7 +77,7 @@ impl Forest {
         at: usize,
         hearer: &H,
     ) -> Result<Option<(Name, bool)>, AllocError>
-        ensures { AtEach (trees self.now) (λ opening registry. IfOk result (λ outcome. outcome ≡ untold_outcome (H.told hearer.now) (events_there registry) (name_there (trees self.now) at))) }
+        ensures { (told : List ℕ → Bool) → H.hears hearer.now told → AtEach (trees self.now) (λ opening registry. IfOk result (λ outcome. outcome ≡ untold_outcome told (events_there registry) (name_there (trees self.now) at))) }
     {
         let Some(node) = self.nodes.get(at) else {
             return Ok(None);

@@ -5,6 +5,7 @@ use Rattle.std.proofs.lemmas.Bool.{false≢true}
 use Rattle.action_names.specs.Names.{Name, last_of}
 use Rattle.run_model.specs.declared.answer.Answer.{Answer}
 use Rattle.run_model.specs.declared.answer.Answer.TheVariants.{VoteYes}
+use Rattle.run_model.specs.declared.history.Event.{Event}
 use Rattle.run_model.specs.declared.step.Step.{Step}
 use Rattle.run_model.specs.declared.step.Step.TheVariants.{Abort, Arms, Call, Close, Commit, Crash, Decide, NestedTop, Op, Prepare, Recover, Tell, Top}
 use Rattle.run_model.specs.LocalReadings.{Carried, LocalEvent, or_zero, outcome_in, says_committed, standing_here}
@@ -14,7 +15,9 @@ use Rattle.run_model.specs.Visibility.{votes_yes}
 use Rattle.run_laws.proofs.Names.{same_name_self}
 use Rattle.atomic_types.specs.declared.part.Part.{Part}
 use Rattle.stable_store.specs.Stored.{Stored, after_bump, after_decide, after_discard, after_install, after_prepare}
+use Rattle.local_agreement.specs.Judging.{is_yes}
 use Rattle.layer_contracts.specs.Guardians.{News, stamped}
+use Rattle.standing_laws.specs.Laws.{is_crash}
 use Rattle.stored_laws.specs.Stored.{after_event, asks_store}
 use Rattle.guardian_memory.specs.Plans.{is_operation}
 
@@ -61,6 +64,15 @@ operation_event g c s is = of c.event.step is
     of (Op a x wanted) h = refl
     of _ h = absurd (false≢true h)
 
+-- nor does a crash
+pub crash_event : (g : ℕ) (c : LocalEvent) (s : Stored) → is_crash c.event.step ≡ true → asks_store g c s ≡ false
+crash_event g c s is = of c.event.step is
+  where
+    of : (step : Step) → is_crash step ≡ true
+        → asks_store g (record { stamp = c.stamp; event = record { step = step; answer = c.event.answer }; carried = c.carried }) s ≡ false
+    of (Crash h) k = refl
+    of _ k = absurd (false≢true k)
+
 -- a number that may be missing, as the code reads it
 pub home_is : (o : Option ℕ) → unwrap_or o 0 ≡ or_zero o
 home_is None = refl
@@ -87,3 +99,16 @@ module _ (opening : Opening) (g : ℕ) (here : List LocalEvent) (s : Stored) (ca
       ap₂ (λ l h. after_prepare l h parts s) last_is home_is
       ∙ ap (λ ps. after_prepare (last_of t) (or_zero carried.sender) ps s) parts_are
       ∙ subst (λ st. after_prepare (last_of t) (or_zero carried.sender) (parts_then st) s ≡ after_event opening g (vote_event st) here s) (sym is) writes
+
+-- a question to this guardian
+pub vote_event_is : (e f : Event) (v g : ℕ) (t : Name) → f ≡ e → e.step ≡ Prepare v t → v ≡ g → f ≡ record { step = Prepare g t; answer = e.answer }
+vote_event_is e f v g t same is own = same ∙ (λ i. record { step = (is ∙ ap (λ k. Prepare k t) own) i; answer = e.answer })
+
+-- asks the store for a record where the answer is yes
+pub asks_vote : (g : ℕ) (news : News) (t : Name) (answer : Answer) (held : Stored) → news.event ≡ record { step = Prepare g t; answer = answer }
+    → asks_store g (stamped 0 news) held ≡ is_yes answer
+asks_vote g news t answer held is = ap (λ e. asks_store g (stamped 0 (record news { event = e })) held) is ∙ of answer
+  where
+    of : (w : Answer) → votes_yes (Prepare g t) w g t ≡ is_yes w
+    of VoteYes = vote_is g t (Prepare g t) VoteYes refl refl
+    of _ = refl

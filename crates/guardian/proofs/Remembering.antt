@@ -23,7 +23,7 @@ use Rattle.guardian_objects.specs.Restored.{AreRestorable}
 use Rattle.guardian_memory.specs.Reopening.{AreOfTops, record_of, records_of}
 use Rattle.guardian_memory.specs.declared.reopening.TopRecord.{TopRecord}
 use Rattle.stable_store.specs.Calls.{Rests, View}
-use Rattle.guardian_memory.specs.Memories.{InMemory, state_of}
+use Rattle.guardian_memory.specs.Memories.{InMemory, IsSound}
 use Rattle.guardian.specs.Guardians.{IsWhole}
 use Rattle.guardian.proofs.Whole.{whole_reopened}
 use Rattle.guardian.specs.Listing.{AreListed, IsListed, Remembers, record_kept, records_kept}
@@ -99,24 +99,21 @@ module _ (setup : Setup) (g : ℕ) (k : Kept) (low : 1 ≤ g) (may : may_reopen 
       are_records : AreRecords setup g (records_in (held k))
       are_records = subst (λ s. AreRecords s g (records_in (held k))) opened.guardians may_restore.are
 
-      pub remembers : (state : GuardianState)
-          → state ≡ record { opening = opening_in lists; number = g; past = life_before g ((opening_in lists).stores g) (records_of records) }
-          → Remembers setup g (held k) state
-      remembers state is = subst (Remembers setup g (held k)) (sym is) (record {
+      pub remembers : Remembers setup g (held k) (record { opening = opening_in lists; number = g; past = life_before g ((opening_in lists).stores g) (records_of records) })
+      remembers = record {
         opening = opened;
         number = refl;
         past = ap₂ (λ h rs. life_before g h rs) own_store same_records;
         stored = subst (λ rs. AreStored (opening_in lists) g (life_before g ((opening_in lists).stores g) rs) (held k)) (sym same_records)
             (life_is_stored setup g (held k) (opening_in lists) low opened are_records (are_below setup g (held k) may));
-      })
+      }
 
 -- a guardian that remembers so is whole
 module _ {S : Type 0} (seen : S → View) where
-  pub whole_remembered : (setup : Setup) (g : ℕ) (m : InMemory) (s : S) → 1 ≤ g → Remembers setup g (seen s).content (state_of m)
-      → (seen s).holds_content ≡ true → Rests (seen s) → IsWhole seen (record { memory = m; store = s })
-  whole_remembered setup g m s low rem found rests =
-      let state = state_of m in
+  pub whole_remembered : (setup : Setup) (g : ℕ) (m : InMemory) (s : S) (state : GuardianState) → 1 ≤ g → IsSound m state → Remembers setup g (seen s).content state
+      → (seen s).holds_content ≡ true → Rests (seen s) → IsWhole seen (record { memory = m; store = s }) state
+  whole_remembered setup g m s state low sound rem found rests =
       let c = (seen s).content in
       let own : state.opening.stores g ≡ held_by c = rem.opening.stores g low ∙ ap (λ b. cond b (held_by c) nothing_held) (eqb_self g) in
       let theirs : state.opening.stores state.number ≡ held_by c = ap (λ n. state.opening.stores n) rem.number ∙ own in
-      whole_reopened seen m s (records_in c) (rem.past ∙ sym (ap₂ (λ n h. life_before n h (records_in c)) rem.number theirs)) found rests rem.stored
+      whole_reopened seen m s state (records_in c) sound (rem.past ∙ sym (ap₂ (λ n h. life_before n h (records_in c)) rem.number theirs)) found rests rem.stored

@@ -72,20 +72,21 @@ answers seen g news s s' w r fault asked same none makes is =
 
 -- ---- of a call that was refused
 
-pub refused_of : (g : GuardianState) (news : News) (old new : View) (fault : Fault) → IsStoreOf g old → LeavesStore g news old new (Some fault) → IsStoreOf g new
-refused_of g news old new fault store leaves = of (asks_store g.number (stamped 0 news) old.content) fault leaves
+-- a refusal in one state leaves the store to each history whose store it was
+pub refused_of : (g h : GuardianState) (news : News) (old new : View) (fault : Fault) → IsStoreOf h old → LeavesStore g news old new (Some fault) → IsStoreOf h new
+refused_of g h news old new fault store leaves = of (asks_store g.number (stamped 0 news) old.content) fault leaves
   where
     after : Stored
     after = after_event g.opening g.number (stamped 0 news) g.past old.content
 
-    same : new.content ≡ old.content → new.holds_content ≡ true → Rests new → IsStoreOf g new
+    same : new.content ≡ old.content → new.holds_content ≡ true → Rests new → IsStoreOf h new
     same content found rests = record {
       found = found;
       rests = rests;
-      stored = subst (λ s. AreStored g.opening g.number g.past s) (sym content) store.stored;
+      stored = subst (λ s. AreStored h.opening h.number h.past s) (sym content) store.stored;
     }
 
-    of : (asks : Bool) (f : Fault) → Leaves asks after old new (Some f) → IsStoreOf g new
+    of : (asks : Bool) (f : Fault) → Leaves asks after old new (Some f) → IsStoreOf h new
     of true Memory makes = same makes.changes (makes.holds ∙ store.found) makes.rest
     of true Stable makes = same makes.changes (makes.holds ∙ store.found) makes.rest
     of false f stays = same stays.content (stays.holds ∙ store.found) (stays_resting old new stays store.rests)

@@ -1,25 +1,33 @@
 -- The memory and the store of a guardian, once an event is kept and the store holds what it asks for.
-use Rattle.std.proofs.Common.{List, None, Some, [], ap, false, inl, inr, refl, subst, sym, true, ℕ, ◌∙◌, ◌∷◌, ◌≡◌}
+use Rattle.std.proofs.Common.{Bool, List, None, Option, Some, [], ap, false, inl, inr, refl, subst, sym, option_map, true, ℕ, ◌&&◌, ◌==◌, ◌∙◌, ◌∷◌, ◌≡◌}
 use Rattle.run_model.specs.declared.step.Step.{Step}
 use Rattle.run_model.specs.declared.step.Step.TheVariants.{Abort, Arms, Call, Close, Commit, Crash, Decide, NestedTop, Op, Prepare, Recover, Tell, Top}
-use Rattle.action_names.specs.Names.{Name}
-use Rattle.run_model.specs.LocalReadings.{LocalEvent}
+use Rattle.std.proofs.lemmas.Bool.{false_from_ne_true, false≢true, true≢false}
+use Rattle.std.specs.FinMap as map
+use Rattle.std.specs.Prelude.{is_some}
+use Rattle.action_names.specs.Names.{Name, is_top, last_of}
+use Rattle.run_model.specs.declared.history.Event.{Event}
+use Rattle.run_model.specs.Actions.{step_crashes}
+use Rattle.run_model.specs.LocalReadings.{LocalEvent, prepared_here}
 use Rattle.run_model.specs.Reopening.{life_before}
 use Rattle.run_model.specs.StableContent.{Prepared}
-use Rattle.run_model.specs.Openings.{Opening, opening_in}
+use Rattle.run_model.specs.Openings.{Opening}
 use Rattle.local_laws.specs.Owed.{IsOwed, begins, goes_on}
 use Rattle.local_agreement.specs.Outcomes.{AgreesOnVotes}
-use Rattle.layer_contracts.specs.Guardians.{News, kept, stamped}
-use Rattle.layer_contracts.specs.Messages.{may_fail}
+use Rattle.layer_contracts.specs.Guardians.{GuardianState, News, kept, stamped}
+use Rattle.standing_laws.specs.Laws.{is_crash}
 use Rattle.stable_store.specs.Calls.{Rests, View}
-use Rattle.stored_laws.specs.Stored.{AreStored}
+use Rattle.stable_store.specs.Stored.{Stored}
+use Rattle.stored_laws.specs.Stored.{AreStored, has_record, record_of}
 use Rattle.stored_laws.proofs.Following.{nothing_is_stored, store_follows}
-use Rattle.guardian_memory.specs.Memories.{InMemory, state_of}
-use Rattle.guardian_memory.specs.Plans.{FitsPlan, news_of}
+use Rattle.guardian_memory.specs.Memories.{InMemory, IsSound}
+use Rattle.guardian_memory.specs.Plans.{FitsPlan, IsPlanOf}
 use Rattle.guardian_memory.specs.declared.plan.Plan.{Plan}
-use Rattle.guardian.specs.Guardians.{GoesOn, InParts, IsSettled, IsWhole}
+use Rattle.guardian.specs.Guardians.{GoesOn, InParts, IsPlannedHere, IsRecordedAt, IsSettled, IsWhole}
+use Rattle.layer_contracts.specs.Messages.{may_fail}
+use Rattle.local_agreement.specs.Actions.{is_own}
 use Rattle.layer_contracts.specs.Stores.{IsStoreOf, LeavesStore}
-use Rattle.guardian.proofs.Asked.{stamp_alike}
+use Rattle.guardian.proofs.Asked.{crash_event, stamp_alike, unasked}
 use Rattle.layer_contracts.specs.declared.guardian.Fault.{Fault}
 use Rattle.guardian.proofs.Stores.{made_of, refused_of}
 
@@ -46,72 +54,123 @@ votes_at g n news v = record { top = v.top; sender = v.sender }
 
 module _ {S : Type 0} (seen : S → View) where
   -- nothing has happened
-  pub whole_first : (opening : Opening) (g : ℕ) (m : InMemory) (s : S) → state_of m ≡ record { opening = opening; number = g; past = [] }
-      → (seen s).holds_content ≡ true → Rests (seen s) → IsSettled opening g (seen s).content → IsWhole seen (record { memory = m; store = s })
-  whole_first opening g m s is found rests settled = record {
+  pub whole_first : (m : InMemory) (s : S) (g : GuardianState) → IsSound m g → g.past ≡ [] → (seen s).holds_content ≡ true → Rests (seen s)
+      → IsSettled g.opening g.number (seen s).content → IsWhole seen (record { memory = m; store = s }) g
+  whole_first m s g sound none found rests settled = record {
+    memory = sound;
     store = record {
       found = found;
       rests = rests;
       stored =
-          subst (λ st. AreStored st.opening st.number st.past (seen s).content) (sym is)
-          (nothing_is_stored opening g (seen s).content settled.base settled.prepared settled.decided settled.count settled.next_top);
+          subst (λ l. AreStored g.opening g.number l (seen s).content) (sym none)
+          (nothing_is_stored g.opening g.number (seen s).content settled.base settled.prepared settled.decided settled.count settled.next_top);
     };
-    run = subst GoesOn (sym is) ([], inl refl, begins);
+    run = subst (λ l. GoesOn (record g { past = l })) (sym none) ([], inl refl, begins);
   }
 
   -- it was opened again by itself
-  pub whole_reopened : (m : InMemory) (s : S) (records : List (Name × Prepared))
-      → (state_of m).past ≡ life_before (state_of m).number ((state_of m).opening.stores (state_of m).number) records
-      → (seen s).holds_content ≡ true → Rests (seen s) → AreStored (state_of m).opening (state_of m).number (state_of m).past (seen s).content
-      → IsWhole seen (record { memory = m; store = s })
-  whole_reopened m s records is found rests stored = record {
+  pub whole_reopened : (m : InMemory) (s : S) (g : GuardianState) (records : List (Name × Prepared)) → IsSound m g
+      → g.past ≡ life_before g.number (g.opening.stores g.number) records
+      → (seen s).holds_content ≡ true → Rests (seen s) → AreStored g.opening g.number g.past (seen s).content
+      → IsWhole seen (record { memory = m; store = s }) g
+  whole_reopened m s g records sound is found rests stored = record {
+    memory = sound;
     store = record { found = found; rests = rests; stored = stored };
-    run = ((state_of m).past, inr (records, is), begins);
+    run = (g.past, inr (records, is), begins);
   }
 
   -- an event is kept, and the store holds what it asks for
-  pub whole_next : (m : InMemory) (s : S) (p : Plan) (n : ℕ) (m' : InMemory) (s' : S) → IsWhole seen (record { memory = m; store = s }) → FitsPlan m p
-      → state_of m' ≡ kept (state_of m) (stamped n (news_of p)) → LeavesStore (state_of m) (news_of p) (seen s) (seen s') None
-      → IsWhole seen (record { memory = m'; store = s' })
-  whole_next m s p n m' s' whole fits is leaves =
-      let opening = opening_in m.opening in
-      let here = m.history.events in
-      let c = stamped n (news_of p) in
-      let now = made_of (state_of m) (news_of p) (seen s) (seen s') whole.store leaves in record {
+  pub whole_next : (m : InMemory) (s : S) (p : Plan) (n : ℕ) (g : GuardianState) (news : News) (m' : InMemory) (s' : S) → IsWhole seen (record { memory = m; store = s }) g
+      → IsPlanOf p m g news → IsSound m' (kept g (stamped n news)) → LeavesStore g news (seen s) (seen s') None
+      → IsWhole seen (record { memory = m'; store = s' }) (kept g (stamped n news))
+  whole_next m s p n g news m' s' whole of sound leaves =
+      let c = stamped n news in
+      let now = made_of g news (seen s) (seen s') whole.store leaves in record {
+        memory = sound;
         store = record {
           found = now.found;
           rests = now.rests;
           stored =
-              subst (λ st. AreStored st.opening st.number st.past (seen s').content) (sym is)
-              (subst (λ held. AreStored opening m.number (c ∷ here) held) (stamp_alike opening m.number n (news_of p) here (seen s).content ∙ sym now.content)
-              (store_follows opening m.number c here (seen s).content whole.store.stored (votes_at m.number n (news_of p) fits.agrees.votes)));
+              subst (λ held. AreStored g.opening g.number (c ∷ g.past) held) (stamp_alike g.opening g.number n news g.past (seen s).content ∙ sym now.content)
+              (store_follows g.opening g.number c g.past (seen s).content whole.store.stored (votes_at g.number n news of.agrees.votes));
         };
-        run =
-            subst GoesOn (sym is)
-            (whole.run.0, whole.run.1, goes_on c (owed_at opening m.number n (news_of p) here p.event.step fits.owed) fits.agrees.given whole.run.2);
+        run = (whole.run.0, whole.run.1, goes_on c (owed_at g.opening g.number n news g.past news.event.step of.owed) of.agrees.given whole.run.2);
       }
 
-  -- nothing is kept
-  pub whole_same : (m m' : InMemory) (s : S) → IsWhole seen (record { memory = m; store = s }) → state_of m' ≡ state_of m
-      → IsWhole seen (record { memory = m'; store = s })
-  whole_same m m' s whole is = record {
-    store = subst (λ st. IsStoreOf st (seen s)) (sym is) whole.store;
-    run = subst GoesOn (sym is) whole.run;
-  }
+  -- the memory alone changed, and stands where it stood
+  pub whole_same : (m m' : InMemory) (s : S) (g : GuardianState) → IsWhole seen (record { memory = m; store = s }) g → IsSound m' g
+      → IsWhole seen (record { memory = m'; store = s }) g
+  whole_same m m' s g whole sound = record { memory = sound; store = whole.store; run = whole.run }
 
   -- no event is kept, and the store refused
-  pub whole_still : (m : InMemory) (s : S) (news : News) (s' : S) (fault : Fault) → IsWhole seen (record { memory = m; store = s })
-      → LeavesStore (state_of m) news (seen s) (seen s') (Some fault) → IsWhole seen (record { memory = m; store = s' })
-  whole_still m s news s' fault whole leaves = record {
-    store = refused_of (state_of m) news (seen s) (seen s') fault whole.store leaves;
+  pub whole_still : (m : InMemory) (s : S) (g h : GuardianState) (news : News) (s' : S) (fault : Fault) → IsWhole seen (record { memory = m; store = s }) h
+      → LeavesStore g news (seen s) (seen s') (Some fault) → IsWhole seen (record { memory = m; store = s' }) h
+  whole_still m s g h news s' fault whole leaves = record {
+    memory = whole.memory;
+    store = refused_of g h news (seen s) (seen s') fault whole.store leaves;
     run = whole.run;
   }
 
--- ---- as the fields say
+  -- a crash finds in the store what the history says, since it asks it for nothing
+  pub recorded_at : (g : GuardianState) (news : News) (e : Event) (s s' : S) → IsStoreOf g (seen s) → news.event ≡ e → LeavesStore g news (seen s) (seen s') None
+      → IsRecordedAt e.step (seen s').content g
+  recorded_at g news e s s' store same leaves crash =
+      let now = made_of g news (seen s) (seen s') store leaves in
+      let idle = crash_event g.number (stamped 0 news) (seen s).content (ap (λ k. is_crash k.step) same ∙ crash) in
+      subst (λ held. AreStored g.opening g.number g.past held)
+      (sym (now.content ∙ unasked g.opening g.number (stamped 0 news) g.past (seen s).content idle)) store.stored
 
-module _ {S : Type 0} (m : InMemory) (s : S) (now : InParts S) where
-  pub fits_within : (p : Plan) → record { memory = m; store = s } ≡ now → FitsPlan now.memory p → FitsPlan m p
-  fits_within p is fits = subst (λ (g : InParts S). FitsPlan g.memory p) (sym is) fits
+  -- ---- as the fields say
 
-  pub quiet_within : (step : Step) → record { memory = m; store = s } ≡ now → may_fail step now.memory.number ≡ false → may_fail step m.number ≡ false
-  quiet_within step is quiet = ap (λ (g : InParts S). may_fail step g.memory.number) is ∙ quiet
+  pub inside : {m : InMemory} {s : S} {now : InParts S} {g : GuardianState} → record { memory = m; store = s } ≡ now → IsWhole seen now g
+      → IsWhole seen (record { memory = m; store = s }) g
+  inside {m} {s} {now} {g} is at = subst (λ k. IsWhole seen k g) (sym is) at
+
+  pub planned_within : {m : InMemory} {s : S} {now : InParts S} (p : Plan) (e : Event) → record { memory = m; store = s } ≡ now → IsPlannedHere seen now p e
+      → IsPlannedHere seen (record { memory = m; store = s }) p e
+  planned_within p e is planned = subst (λ k. IsPlannedHere seen k p e) (sym is) planned
+
+module _ {S : Type 0} {m : InMemory} {s : S} {now : InParts S} (is : record { memory = m; store = s } ≡ now) where
+  pub fits_within : (p : Plan) → FitsPlan p now.memory → FitsPlan p m
+  fits_within p fits = subst (λ (k : InParts S). FitsPlan p k.memory) (sym is) fits
+
+  pub plan_within : (p : Plan) (g : GuardianState) (news : News) → IsPlanOf p now.memory g news → IsPlanOf p m g news
+  plan_within p g news of = subst (λ (k : InParts S). IsPlanOf p k.memory g news) (sym is) of
+
+-- the steps that one guardian crashes or may fail, by the number in either state
+module _ {m : InMemory} {g h : GuardianState} (s : IsSound m g) (t : IsSound m h) where
+  pub quiet_in : (news : News) (e : Event) → news.event ≡ e → may_fail e.step h.number ≡ false → may_fail news.event.step g.number ≡ false
+  quiet_in news e same quiet = (λ i. may_fail (same i).step ((sym s.own ∙ t.own) i)) ∙ quiet
+
+-- a crash that agrees is one of the guardian's own
+pub down_of : {m : InMemory} {p : Plan} {g : GuardianState} {news : News} (k : ℕ) (e : Event) → IsSound m g → IsPlanOf p m g news → news.event ≡ e → e.step ≡ Crash k
+    → step_crashes e.step m.number ≡ true
+down_of {m} {p} {g} {news} k e s of same is =
+    ap (λ x. step_crashes x m.number) is ∙ ap (λ n. k == n) s.own ∙ subst (λ x. is_own g.number x ≡ true) (ap (λ x. x.step) same ∙ is) of.agrees.actions.own
+
+-- and no other step is a crash
+pub up_of : (g : ℕ) (step : Step) → ((k : ℕ) → step ≡ Crash k → ⊥) → step_crashes step g ≡ false
+up_of g (Crash k) other = absurd (other k refl)
+up_of g _ other = refl
+
+pub crash_of : (k : ℕ) (step : Step) → step ≡ Crash k → is_crash step ≡ true
+crash_of k step is = ap is_crash is
+
+-- of whom the store has a record, of that one the history says that it is prepared
+pub record_is : (opening : Opening) (g : ℕ) (here : List LocalEvent) (s : Stored) → AreStored opening g here s → (a : Name) → has_record s a ≡ is_some (prepared_here opening g a here)
+record_is opening g here s stored a = of (is_top a) refl
+  where
+    of : (t : Bool) → is_top a ≡ t → (t && is_some (map.get s.prepared (last_of a))) ≡ is_some (prepared_here opening g a here)
+    of true top =
+        ap (λ o. is_some o) (stored.prepared (last_of a)) ∙ some_of (prepared_here opening g (last_of a ∷ []) here)
+        ∙ ap (λ b. is_some (prepared_here opening g b here)) (top_is a top)
+      where
+        some_of : (o : Option Prepared) → is_some (option_map record_of o) ≡ is_some o
+        some_of None = refl
+        some_of (Some r) = refl
+
+        top_is : (b : Name) → is_top b ≡ true → (last_of b ∷ []) ≡ b
+        top_is [] h = absurd (false≢true h)
+        top_is (n ∷ []) h = refl
+        top_is (m ∷ n ∷ b) h = absurd (false≢true h)
+    of false low = sym (false_from_ne_true _ (λ h. true≢false (sym (stored.tops a h) ∙ low)))

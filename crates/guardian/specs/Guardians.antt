@@ -1,5 +1,5 @@
 -- A guardian as contracts see it, and when its memory and its store are of one history.
-use Rattle.std.specs.Prelude.{◌≡◌, ℕ, List, [], ◌∷◌}
+use Rattle.std.specs.Prelude.{◌≡◌, ℕ, List, [], ◌∷◌, IsTrue}
 use Rattle.std.specs.FinMap as map
 use Rattle.std.specs.FinSet as set
 use Rattle.run_model.specs.LocalReadings.{LocalEvent}
@@ -7,9 +7,15 @@ use Rattle.run_model.specs.Openings.{Opening}
 use Rattle.stable_store.specs.Calls.{View}
 use Rattle.stable_store.specs.Stored.{Stored}
 use Rattle.local_laws.specs.Owed.{IsLocalRun}
-use Rattle.layer_contracts.specs.Guardians.{GuardianState}
+use Rattle.run_model.specs.declared.step.Step.{Step}
+use Rattle.standing_laws.specs.Laws.{is_crash}
+use Rattle.stored_laws.specs.Stored.{AreStored}
+use Rattle.run_model.specs.declared.history.Event.{Event}
+use Rattle.layer_contracts.specs.Guardians.{GuardianState, News}
 use Rattle.layer_contracts.specs.Stores.{IsStoreOf}
-use Rattle.guardian_memory.specs.Memories.{InMemory, state_of}
+use Rattle.guardian_memory.specs.Memories.{InMemory, IsSound}
+use Rattle.guardian_memory.specs.Plans.{IsPlanOf}
+use Rattle.guardian_memory.specs.declared.plan.Plan.{Plan}
 use Rattle.guardian.specs.Reopening.{IsTimeBefore}
 
 -- the memory and the store
@@ -17,18 +23,31 @@ pub record InParts (S : Type 0) : Type 0 where
   pub memory : InMemory
   pub store : S
 
--- its opening, its number and its own history
-abbrev pub state_in : {S : Type 0} → InParts S → GuardianState
-state_in g = state_of g.memory
-
 -- The history goes on from a time before with events of which each reply, own vote and count is the one of the events before it.
 abbrev pub GoesOn : GuardianState → Type 0
 GoesOn g = (before : List LocalEvent) × IsTimeBefore g.opening g.number before × IsLocalRun g.opening g.number before g.past
 
--- The store is that of the guardian's own history, and that history goes on as it should.
-pub record IsWhole {S : Type 0} (seen : S → View) (g : InParts S) : Type 0 where
-  pub store : IsStoreOf (state_in g) (seen g.store)
-  pub run : GoesOn (state_in g)
+-- The guardian stands in this state: its memory does, its store is that of this history, and the history goes on as it should.
+pub record IsWhole {S : Type 0} (seen : S → View) (g : InParts S) (s : GuardianState) : Type 0 where
+  pub memory : IsSound g.memory s
+  pub store : IsStoreOf s (seen g.store)
+  pub run : GoesOn s
+
+-- and it stands in some state
+abbrev pub IsWholeOfSome : {S : Type 0} → (S → View) → InParts S → Type 0
+IsWholeOfSome seen g = (s : GuardianState) × IsWhole seen g s
+
+-- the plan is for this event, in some state in which memory and store stand
+abbrev pub IsPlannedHere : {S : Type 0} → (S → View) → InParts S → Plan → Event → Type 0
+IsPlannedHere seen g p e = (s : GuardianState) × (news : News) × IsWhole seen g s × IsPlanOf p g.memory s news × (news.event ≡ e)
+
+-- of each such state and what the plan is for there
+abbrev pub WhereverPlanned : {S : Type 0} → (S → View) → InParts S → Plan → Event → (GuardianState → News → Type 0) → Type 0
+WhereverPlanned seen g p e holds = (s : GuardianState) (news : News) → IsWhole seen g s → IsPlanOf p g.memory s news → news.event ≡ e → holds s news
+
+-- a crash finds in the store what the history says
+abbrev pub IsRecordedAt : Step → Stored → GuardianState → Type 0
+IsRecordedAt step held s = IsTrue (is_crash step) → AreStored s.opening s.number s.past held
 
 -- The store holds what the opening says that it held, and nothing is prepared there.
 pub record IsSettled (opening : Opening) (g : ℕ) (s : Stored) : Type 0 where

@@ -1,13 +1,9 @@
 //! What steps ask of a guardian.
-ghost use Rattle.std.specs.Prelude.{◌≡◌, true, IsErrOf, IsFalse, IsTrue};
-ghost use Rattle.standing_laws.specs.Laws.{is_crash};
-ghost use Rattle.layer_contracts.specs.Guardians.{kept, stamped};
+ghost use Rattle.std.specs.Prelude.{◌≡◌, true, IsErrOf, IsFalse};
 ghost use Rattle.layer_contracts.specs.Stores.{CountsFailure, LeavesStore, fault_in};
 ghost use Rattle.layer_contracts.specs.declared.guardian.Fault.TheVariants.{Stable};
-ghost use Rattle.stored_laws.specs.Stored.{AreStored};
-ghost use Rattle.guardian_memory.specs.Memories.{state_of};
-ghost use Rattle.guardian_memory.specs.Plans.{FitsPlan, is_operation, news_of};
-ghost use Rattle.guardian.specs.Guardians.{IsWhole};
+ghost use Rattle.guardian_memory.specs.Plans.{FitsPlan, FollowsWhere, IsPlannedWhere, is_operation};
+ghost use Rattle.guardian.specs.Guardians.{IsPlannedHere, IsRecordedAt, WhereverPlanned};
 ghost use Rattle.guardian.specs.Writes.{fault_by};
 
 use crate::guardian::Guardian;
@@ -20,18 +16,18 @@ use stable_store::{Stable, StoreFault};
 use std::alloc::{AllocError, Global};
 
 impl<S: Stable> layer_contracts::Guardian for Guardian<S> {
-    ghost use Rattle.guardian_memory.specs.Plans.{FitsPlan, news_of};
-    ghost use Rattle.guardian.specs.Guardians.{state_in};
+    ghost use Rattle.guardian_memory.specs.Plans.{FitsPlan, IsPlanOf};
+    ghost use Rattle.guardian.specs.Guardians.{IsWhole};
 
-    ghost state = { λ g. state_in g };
+    ghost stands = { λ g s. IsWhole S.seen g s };
 
     ghost stored = { λ g. S.seen g.store };
 
     type Plan = Plan;
 
-    ghost planned = { λ plan. news_of plan };
+    ghost is_for = { λ plan g s news. IsPlanOf plan g.memory s news };
 
-    ghost fits = { λ plan g. FitsPlan g.memory plan };
+    ghost fits = { λ plan g. FitsPlan plan g.memory };
 
     fn opening(&self) -> &Opening {
         self.memory.opening()
@@ -98,46 +94,56 @@ impl<S: Stable> layer_contracts::Guardian for Guardian<S> {
         self.memory.plan(event, message)
     }
 
-    fn carry_out<F: FnOnce() -> u64>(&mut self, plan: Plan, stamp: F) -> Result<u64, Fault> {
-        if let Step::Op(_, _, _) = &plan.event().step {
-            return Ok(self.memory.operate(plan, stamp)?);
+    fn carry_out<F: FnOnce() -> u64>(
+        &mut self,
+        plan: Plan,
+        event: &Event,
+        stamp: F,
+    ) -> Result<u64, Fault> {
+        if let Step::Op(_, _, _) = &event.step {
+            return Ok(self.memory.operate(plan, event, stamp)?);
         }
-        if let Err(fault) = write(self.alloc, &self.memory, &mut self.store, &plan) {
+        if let Err(fault) = write(self.alloc, &self.memory, &mut self.store, &plan, event) {
             return Err(fault);
         }
         let drawn = stamp();
-        keep(&mut self.memory, &self.store, plan, drawn);
+        keep(&mut self.memory, &self.store, plan, event, drawn);
         Ok(drawn)
     }
 
-    fn install(&mut self, plan: Plan, stamp: u64) {
-        keep(&mut self.memory, &self.store, plan, stamp);
+    fn install(&mut self, plan: Plan, event: &Event, stamp: u64) {
+        keep(&mut self.memory, &self.store, plan, event, stamp);
     }
 }
 
-// The memory takes over an event that is no operation, once the store holds what it asks for. A crash asks for nothing.
-fn keep<S: Stable>(memory: &mut Memory, store: &S, plan: Plan, stamp: u64)
-    requires fits { FitsPlan memory.old plan }
-    requires other { IsFalse (is_operation (news_of plan).event.step) }
+// The memory follows an event that is no operation, once the store holds what it asks for. A crash asks for nothing.
+fn keep<S: Stable>(memory: &mut Memory, store: &S, plan: Plan, event: &Event, stamp: u64)
+    requires fits { FitsPlan plan memory.old }
+    requires planned { IsPlannedWhere (IsRecordedAt event.now.step (S.seen store.now).content) plan memory.old event.now }
+    requires other { IsFalse (is_operation event.now.step) }
     requires found { (S.seen store.now).holds_content ≡ true }
-    requires stored { IsTrue (is_crash (news_of plan).event.step)
-        → AreStored (state_of memory.old).opening (state_of memory.old).number (state_of memory.old).past (S.seen store.now).content }
-    ensures { state_of memory.new ≡ kept (state_of memory.old) (stamped stamp (news_of plan)) }
+    ensures { FollowsWhere (IsRecordedAt event.now.step (S.seen store.now).content) plan memory.old event.now stamp memory.new }
 {
-    match &plan.event().step {
-        Step::Crash(_) => memory.crash(plan, stamp, &recorded_in(store)),
-        _ => memory.keep(plan, stamp),
+    match &event.step {
+        Step::Crash(_) => memory.crash(plan, event, stamp, &recorded_in(store)),
+        _ => memory.keep(plan, event, stamp),
     }
 }
 
-// Writes to the store what the event asks for, before the memory takes it over.
-fn write<S: Stable>(alloc: Global, memory: &Memory, store: &mut S, plan: &Plan) -> Result<(), Fault>
-    requires fits { FitsPlan memory.now plan.now }
-    requires whole { IsWhole S.seen (record { memory = memory.now; store = store.old }) }
-    ensures leaves { LeavesStore (state_of memory.now) (news_of plan.now) (S.seen store.old) (S.seen store.new) (fault_in result) }
+// Writes to the store what the event asks for, before the memory follows it.
+fn write<S: Stable>(
+    alloc: Global,
+    memory: &Memory,
+    store: &mut S,
+    plan: &Plan,
+    event: &Event,
+) -> Result<(), Fault>
+    requires { IsPlannedHere S.seen (record { memory = memory.now; store = store.old }) plan.now event.now }
+    ensures leaves { WhereverPlanned S.seen (record { memory = memory.now; store = store.old }) plan.now event.now
+        (λ s news. LeavesStore s news (S.seen store.old) (S.seen store.new) (fault_in result)) }
     ensures cause { IsErrOf result Stable → CountsFailure (S.seen store.old) (S.seen store.new) }
 {
-    let write = Write::of(memory, store, plan)?;
+    let write = Write::of(memory, store, plan, event)?;
     match write.perform(alloc, store) {
         Ok(()) => Ok(()),
         Err(fault) => Err(fault_of(fault)),

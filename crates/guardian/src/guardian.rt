@@ -7,8 +7,9 @@ ghost use Rattle.run_model.specs.LocalReadings.{standing_here};
 ghost use Rattle.run_model.specs.Versions.{base_by};
 ghost use Rattle.held_objects.specs.Held.{IsRising, has_number};
 ghost use Rattle.stable_store.specs.Calls.{Rests};
-ghost use Rattle.guardian_memory.specs.Memories.{own_object, state_of};
-ghost use Rattle.guardian.specs.Guardians.{IsSettled, state_in};
+ghost use Rattle.layer_contracts.specs.Guardians.{GuardianState};
+ghost use Rattle.guardian_memory.specs.Memories.{IsSound, own_object};
+ghost use Rattle.guardian.specs.Guardians.{IsSettled, IsWhole};
 
 use guardian_memory::Memory;
 use run_model::{Content, Name, Opening};
@@ -31,7 +32,7 @@ impl<S: Stable> Model for Guardian<S> {
     ghost use Rattle.tellings.specs.contracts.tellings.Tellings as of_tellings;
     ghost use Rattle.orphans.specs.contracts.lists.Lists as of_lists;
     ghost use Rattle.roster.specs.contracts.roster.Roster as of_roster;
-    ghost use Rattle.guardian.specs.Guardians.{InParts, IsWhole};
+    ghost use Rattle.guardian.specs.Guardians.{InParts, IsWholeOfSome};
 
     ghost Value = { InParts S };
 
@@ -39,7 +40,7 @@ impl<S: Stable> Model for Guardian<S> {
 
     ghost view = { λ a. record { memory = a.memory; store = a.store } };
 
-    ghost invariant = { λ a. IsWhole S.seen (record { memory = a.memory; store = a.store }) };
+    ghost invariant = { λ a. IsWholeOfSome S.seen (record { memory = a.memory; store = a.store }) };
 }
 
 impl<S: Stable> Guardian<S> {
@@ -55,7 +56,7 @@ impl<S: Stable> Guardian<S> {
         requires found { (S.seen store).holds_content ≡ true }
         requires rests { Rests (S.seen store) }
         requires settled { IsSettled (opening_in (arc_value opening)) number (S.seen store).content }
-        ensures state { IfOk result (λ guardian. state_in guardian ≡ record { opening = opening_in (arc_value opening); number = number; past = [] }) }
+        ensures state { IfOk result (λ guardian. IsWhole S.seen guardian (record { opening = opening_in (arc_value opening); number = number; past = [] })) }
         ensures store { IfOk result (λ guardian. guardian.store ≡ store) }
         ensures back { IfErr result (λ refused. refused.1 ≡ store) }
     {
@@ -67,11 +68,10 @@ impl<S: Stable> Guardian<S> {
 
     /// The same, where the memory of the guardian is there. This takes no memory.
     pub fn over(alloc: Global, memory: Memory, store: S) -> Guardian<S>
-        requires first { (state_of memory).past ≡ [] }
+        requires first { (s : GuardianState) × IsSound memory s × (s.past ≡ []) × IsSettled s.opening s.number (S.seen store).content }
         requires found { (S.seen store).holds_content ≡ true }
         requires rests { Rests (S.seen store) }
-        requires settled { IsSettled (state_of memory).opening (state_of memory).number (S.seen store).content }
-        ensures state { state_in result ≡ state_of memory }
+        ensures state { (s : GuardianState) → IsSound memory s → s.past ≡ [] → IsSettled s.opening s.number (S.seen store).content → IsWhole S.seen result s }
         ensures store { result.store ≡ store }
     {
         Guardian {
@@ -98,18 +98,19 @@ impl<S: Stable> Guardian<S> {
 
     /// What belongs to the base of the object of this number; none where there is no such object. This takes no memory.
     pub fn base(&self, number: u32) -> Option<View<'_, Content>>
-        ensures base { IfSome result (λ base. base ≡ base_by (first_content (state_in self.now).opening (own_object (state_in self.now) number))
-            (standing_here (state_in self.now).past (own_object (state_in self.now) number))) }
-        ensures none { IsNone result → (1 ≤ number) → (number ≤ length (objects_at (state_in self.now).opening.setup (state_in self.now).number)) → ⊥ }
+        ensures base { (s : GuardianState) → IsWhole S.seen self.now s → IfSome result (λ base. base
+            ≡ base_by (first_content s.opening (own_object s number)) (standing_here s.past (own_object s number))) }
+        ensures none { (s : GuardianState) → IsWhole S.seen self.now s → IsNone result → (1 ≤ number)
+            → (number ≤ length (objects_at s.opening.setup s.number)) → ⊥ }
     {
         self.memory.base(number)
     }
 
     /// At which objects the holder holds something, rising: those that a telling of its commit changes. This takes no memory.
     pub fn objects_of(&self, holder: &Name) -> &[u32]
-        ensures objects { (n : ℕ) → has_number result.now n
-            ≡ (nat_le 1 n && (nat_le n (length (objects_at (state_in self.now).opening.setup (state_in self.now).number))
-            && is_concerned_by true (standing_here (state_in self.now).past (own_object (state_in self.now) n)) holder.now)) }
+        ensures objects { (s : GuardianState) → IsWhole S.seen self.now s → (n : ℕ) → has_number result.now n
+            ≡ (nat_le 1 n && (nat_le n (length (objects_at s.opening.setup s.number))
+            && is_concerned_by true (standing_here s.past (own_object s n)) holder.now)) }
         ensures rising { IsRising result.now }
     {
         self.memory.objects_of(holder)

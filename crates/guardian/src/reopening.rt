@@ -3,14 +3,14 @@ ghost use Rattle.std.specs.Prelude.{◌≡◌, ◌≤◌, true, IfErr, IfOk, IsO
 ghost use Rattle.std.specs.FinMap as map;
 ghost use Rattle.std.specs.List.{AllByRecursion};
 ghost use Rattle.run_model.specs.Openings.{opening_in};
-ghost use Rattle.run_model.specs.Reopening.{life_before};
 ghost use Rattle.stable_store.specs.Calls.{Rests};
 ghost use Rattle.stable_store.specs.Held.{held, records_of as records_kept_of};
-ghost use Rattle.stored_laws.specs.Reopened.{IsOpenedAlone, held_by, records_in};
+ghost use Rattle.stored_laws.specs.Reopened.{IsOpenedAlone};
 ghost use Rattle.store_settling.specs.declared.refused.Refused.TheVariants as why;
-ghost use Rattle.guardian_memory.specs.Memories.{state_of};
+ghost use Rattle.layer_contracts.specs.Guardians.{GuardianState};
+ghost use Rattle.guardian_memory.specs.Memories.{IsSound};
 ghost use Rattle.guardian_memory.specs.Reopening.{records_of};
-ghost use Rattle.guardian.specs.Guardians.{state_in};
+ghost use Rattle.guardian.specs.Guardians.{IsWhole};
 ghost use Rattle.guardian_memory.specs.Reopening.{record_of};
 ghost use Rattle.local_laws.specs.Reopened.{IsPart};
 ghost use Rattle.guardian.specs.Listing.{AreListed, IsListed, Remembers, record_kept, records_kept};
@@ -48,9 +48,8 @@ impl<S: Stable> Guardian<S> {
         requires rests { Rests (S.seen store) }
         ensures ours { IsOk result → may_reopen setup.now number (S.seen store).content ≡ true }
         ensures refused { IfErr result (λ refused. refused.0 ≡ (if may_reopen setup.now number (S.seen store).content then why.Memory else why.NotOurs)) }
-        ensures opening { IfOk result (λ guardian. IsOpenedAlone setup.now number (S.seen store).content (state_in guardian).opening) }
-        ensures same { IfOk result (λ guardian. (state_in guardian).number ≡ number) }
-        ensures past { IfOk result (λ guardian. (state_in guardian).past ≡ life_before number (held_by (S.seen store).content) (records_in (S.seen store).content)) }
+        ensures remembers { IfOk result (λ guardian. (s : GuardianState) × IsWhole S.seen guardian s
+            × Remembers setup.now number (S.seen store).content s) }
         ensures store { IfOk result (λ guardian. guardian.store ≡ store) }
         ensures back { IfErr result (λ refused. refused.1 ≡ store) }
     {
@@ -76,7 +75,7 @@ fn memory_of<S: Stable>(
     requires found { (S.seen store.now).holds_content ≡ true }
     ensures ours { IsOk result → may_reopen setup.now number (S.seen store.now).content ≡ true }
     ensures refused { IfErr result (λ refused. refused ≡ (if may_reopen setup.now number (S.seen store.now).content then why.Memory else why.NotOurs)) }
-    ensures remembers { IfOk result (λ memory. Remembers setup.now number (S.seen store.now).content (state_of memory)) }
+    ensures remembers { IfOk result (λ memory. (s : GuardianState) × IsSound memory s × Remembers setup.now number (S.seen store.now).content s) }
 {
     let kept = kept_in(store);
     if !may_reopen(setup, number, kept) {
@@ -101,7 +100,7 @@ fn remembered(alloc: Global, setup: &Setup, number: u32, kept: &Kept) -> Result<
     requires number { 1 ≤ number }
     requires may { may_reopen setup.now number (held kept.now) ≡ true }
     requires rising { map.entries (held kept.now).prepared ≡ records_kept_of kept.now.prepared.entries }
-    ensures { IfOk result (λ memory. Remembers setup.now number (held kept.now) (state_of memory)) }
+    ensures { IfOk result (λ memory. (s : GuardianState) × IsSound memory s × Remembers setup.now number (held kept.now) s) }
 {
     let opening = opening_of(alloc, setup.copy()?, number, kept)?;
     let records = records_of(alloc, &kept.prepared)?;

@@ -4,19 +4,19 @@ ghost use Rattle.run_model.specs.declared.step.Step.TheVariants as steps;
 ghost use Rattle.run_model.specs.LocalReadings.{outcome_in, says_committed};
 ghost use Rattle.stable_store.specs.Calls.{Makes};
 ghost use Rattle.stable_store.specs.Stored.{Stored, after_bump};
-ghost use Rattle.run_model.specs.Visibility.{votes_yes};
 ghost use Rattle.stored_laws.specs.Stored.{after_event, asks_store, has_record};
-ghost use Rattle.layer_contracts.specs.Guardians.{stamped};
-ghost use Rattle.guardian_memory.specs.Memories.{state_of};
-ghost use Rattle.guardian_memory.specs.Plans.{FitsPlan, news_of};
-ghost use Rattle.guardian.specs.Guardians.{IsWhole};
+ghost use Rattle.local_agreement.specs.Judging.{is_yes};
+ghost use Rattle.layer_contracts.specs.Guardians.{GuardianState, News, stamped};
+ghost use Rattle.guardian_memory.specs.Memories.{IsSound};
+ghost use Rattle.guardian_memory.specs.Plans.{IsPlanOf};
+ghost use Rattle.guardian.specs.Guardians.{IsPlannedHere, WhereverPlanned};
 ghost use Rattle.guardian.specs.Writes.{is_nothing, told_stored, written};
 
 use crate::records::recorded_in;
 use atomic_types::Part;
 use guardian_memory::{Memory, Plan};
 use holders::Survivors;
-use run_model::{Answer, Name, Step};
+use run_model::{Answer, Event, Name, Step};
 use stable_store::{Stable, StoreFault};
 use std::alloc::{AllocError, Global};
 use std::collections::BTreeMap;
@@ -38,21 +38,24 @@ pub(crate) enum Write {
 }
 
 impl Write {
-    /// What the event of the plan asks for, read before anything changes. Fails only for want of memory.
+    /// What the event asks for, read before anything changes. Fails only for want of memory.
     pub(crate) fn of<S: Stable>(
         memory: &Memory,
         store: &S,
         plan: &Plan,
+        event: &Event,
     ) -> Result<Write, AllocError>
-        requires fits { FitsPlan memory.now plan.now }
-        requires whole { IsWhole S.seen (record { memory = memory.now; store = store.now }) }
-        ensures written { IfOk result (λ write. written write (S.seen store.now).content
-            ≡ after_event (state_of memory.now).opening (state_of memory.now).number (stamped 0 (news_of plan.now)) (state_of memory.now).past (S.seen store.now).content) }
-        ensures asked { IfOk result (λ write. is_nothing write ≡ not (asks_store (state_of memory.now).number (stamped 0 (news_of plan.now)) (S.seen store.now).content)) }
+        requires { IsPlannedHere S.seen (record { memory = memory.now; store = store.now }) plan.now event.now }
+        ensures written { WhereverPlanned S.seen (record { memory = memory.now; store = store.now }) plan.now event.now (λ s news. IfOk result (λ write.
+            written write (S.seen store.now).content ≡ after_event s.opening s.number (stamped 0 news) s.past (S.seen store.now).content)) }
+        ensures asked { WhereverPlanned S.seen (record { memory = memory.now; store = store.now }) plan.now event.now (λ s news. IfOk result (λ write.
+            is_nothing write ≡ not (asks_store s.number (stamped 0 news) (S.seen store.now).content))) }
     {
         let number = memory.number();
-        match &plan.event().step {
-            Step::Prepare(voter, top) if *voter == number => Write::of_vote(memory, plan, top),
+        match &event.step {
+            Step::Prepare(voter, top) if *voter == number => {
+                Write::of_vote(memory, plan, &event.answer, top)
+            }
             Step::Tell(told, action) if *told == number => Ok(Write::of_telling(
                 store, plan, action,
             )),
@@ -63,15 +66,19 @@ impl Write {
     }
 
     // A yes vote prepares what the top action will hold.
-    fn of_vote(memory: &Memory, plan: &Plan, top: &Name) -> Result<Write, AllocError>
-        requires fits { FitsPlan memory.now plan.now }
-        requires vote { (news_of plan.now).event.step ≡ steps.Prepare (state_of memory.now).number top.now }
-        ensures written { (s : Stored) → IfOk result (λ write. written write s
-            ≡ after_event (state_of memory.now).opening (state_of memory.now).number (stamped 0 (news_of plan.now)) (state_of memory.now).past s) }
-        ensures asked { IfOk result (λ write. is_nothing write ≡ not (votes_yes (news_of plan.now).event.step (news_of plan.now).event.answer
-            (state_of memory.now).number top.now)) }
+    fn of_vote(
+        memory: &Memory,
+        plan: &Plan,
+        answer: &Answer,
+        top: &Name,
+    ) -> Result<Write, AllocError>
+        requires { (s : GuardianState) × (news : News) × IsSound memory.now s × IsPlanOf plan.now memory.now s news }
+        ensures written { (s : GuardianState) (news : News) → IsSound memory.now s → IsPlanOf plan.now memory.now s news
+            → news.event ≡ record { step = steps.Prepare s.number top.now; answer = answer.now } → (held : Stored)
+            → IfOk result (λ write. written write held ≡ after_event s.opening s.number (stamped 0 news) s.past held) }
+        ensures asked { IfOk result (λ write. is_nothing write ≡ not (is_yes answer.now)) }
     {
-        match plan.event().answer {
+        match answer {
             Answer::VoteYes => Ok(Write::Prepare {
                 top: top.last(),
                 home: plan.sender().unwrap_or(0),
@@ -85,7 +92,7 @@ impl Write {
     fn of_telling<S: Stable>(store: &S, plan: &Plan, action: &Name) -> Write
         requires found { (S.seen store.now).holds_content ≡ true }
         ensures written { written result (S.seen store.now).content
-            ≡ told_stored action.now (says_committed (outcome_in (news_of plan.now).carried.outcomes action.now)) (S.seen store.now).content }
+            ≡ told_stored action.now (says_committed (outcome_in plan.now.outcomes.items action.now)) (S.seen store.now).content }
         ensures asked { is_nothing result ≡ not (has_record (S.seen store.now).content action.now) }
     {
         if !recorded_in(store).stays(action) {

@@ -1,136 +1,232 @@
 -- What each part becomes once a planned event is kept.
-use Rattle.std.proofs.Common.{Bool, List, [], ap, false, subst, sym, true, ℕ, ◌∙◌, ◌∷◌, ◌≡◌}
+use Rattle.std.proofs.Common.{Bool, List, [], ap, false, subst, sym, true, ℕ, ◌+◌, ◌∙◌, ◌∷◌, ◌≡◌}
 use Rattle.std.specs.List.{AllByRecursion}
 use Rattle.std.specs.Prelude.{is_some}
 use Rattle.action_names.specs.Names.{Name, is_proper_ancestor, is_top}
 use Rattle.atomic_types.specs.Operations as op
 use Rattle.atomic_types.specs.declared.part.Part.{Part}
 use Rattle.run_model.specs.declared.answer.Answer.{Answer}
+use Rattle.run_model.specs.declared.history.Event.{Event}
 use Rattle.run_model.specs.declared.step.ObjectId.{ObjectId}
 use Rattle.run_model.specs.declared.step.Step.{Step}
-use Rattle.run_model.specs.declared.step.Step.TheVariants.{Op}
+use Rattle.run_model.specs.declared.step.Step.TheVariants.{Crash, Op}
 use Rattle.run_model.specs.Actions.{step_crashes}
 use Rattle.run_model.specs.Answers.{operated_by}
 use Rattle.run_model.specs.LocalReadings.{LocalEvent, prepared_here, standing_here, told_committed_here}
-use Rattle.run_model.specs.Openings.{Opening, first_content, opening_in}
+use Rattle.run_model.specs.Openings.{Opening, first_content}
 use Rattle.run_model.specs.StableContent.{parts_by}
 use Rattle.run_model.specs.Visibility.{votes_yes}
+use Rattle.local_agreement.specs.Crashes.{LeavesSafe}
 use Rattle.local_agreement.specs.Judging.{is_on_object}
-use Rattle.layer_contracts.specs.Guardians.{stamped}
+use Rattle.layer_contracts.specs.Guardians.{GuardianState, News, stamped}
 use Rattle.object_laws.specs.OnceTold.{HoldsItsTree}
-use Rattle.tellings.specs.Hearing.{AreTold}
+use Rattle.tellings.specs.Hearing.{AreTold, IsHeard}
+use Rattle.tellings.specs.Hearing as hearing
+use Rattle.tellings.specs.declared.tellings.Tellings.{Tellings}
+use Rattle.orphans.specs.Knowing.{AreLists, IsLesson, guardian_of}
+use Rattle.orphans.specs.declared.lists.Lists.{Lists}
+use Rattle.local_agreement.specs.Actions.{AgreesOnActions}
+use Rattle.roster.specs.Entries.{IsEntry}
+use Rattle.roster.specs.Rosters.{IsRoster}
+use Rattle.roster.specs.Tables.{table}
+use Rattle.roster.specs.declared.roster.Roster.{Roster}
 use Rattle.guardian_objects.specs.Objects.{AreObjects, Indexed, IsAsked, Operates, object_of}
-use Rattle.guardian_objects.specs.Outcomes.{IsHearing, OnlyTells}
-use Rattle.guardian_memory.specs.Memories.{InMemory, IsSound}
-use Rattle.guardian_memory.specs.Plans.{FitsPlan, is_operation, news_of}
+use Rattle.guardian_objects.specs.Outcomes.{ArePlanned, IsHearing, OnlyTells, outcomes_of}
+use Rattle.guardian_memory.specs.Accepting.{AreRecorded}
+use Rattle.guardian_memory.specs.Memories.{InMemory, IsOfSome, IsSound}
+use Rattle.guardian_memory.specs.Plans.{FitsPlan, Follows, FollowsWhere, IsPlanOf, IsPlanned, IsPlannedWhere, is_operation}
 use Rattle.guardian_memory.specs.declared.plan.Plan.{Plan}
-use Rattle.guardian_memory.proofs.Agreed.{may_tell, operation_brings, vote_only_tells}
+use Rattle.guardian_memory.proofs.Agreed.{actions_at, crash_brings, crash_is, may_tell, only_tells, operation_brings, operation_stays, vote_only_tells}
 use Rattle.guardian_memory.proofs.Held.{holds_tree, no_parts, vote_brings}
 use Rattle.guardian_memory.proofs.Operated.{IsGranted, granted_facts, may_ask, on_object, operated_next}
-use Rattle.guardian_memory.proofs.Sound.{tops_next}
+use Rattle.guardian_memory.proofs.Sound.{inside, not_counted, one_counted, sound_next, tops_next}
 
 -- ---- as the fields say
 
-pub fits_within : (old m : InMemory) (p : Plan) → m ≡ old → FitsPlan old p → FitsPlan m p
-fits_within old m p is fits = subst (λ k. FitsPlan k p) (sym is) fits
+pub fits_within : {m old : InMemory} {p : Plan} → m ≡ old → FitsPlan p old → FitsPlan p m
+fits_within {m} {old} {p} is fits = subst (λ k. FitsPlan p k) (sym is) fits
+
+pub planned_within : {m old : InMemory} {p : Plan} {e : Event} → m ≡ old → IsPlanned p old e → IsPlanned p m e
+planned_within {m} {old} {p} {e} is planned = subst (λ k. IsPlanned p k e) (sym is) planned
+
+pub plan_within : {m old : InMemory} {p : Plan} {g : GuardianState} {news : News} → m ≡ old → IsPlanOf p old g news → IsPlanOf p m g news
+plan_within {m} {old} {p} {g} {news} is of = subst (λ k. IsPlanOf p k g news) (sym is) of
+
+-- and where more holds of the state
+pub planned_where : {m old : InMemory} {p : Plan} {e : Event} (holds : GuardianState → Type 0) → m ≡ old → IsPlannedWhere holds p old e → IsPlannedWhere holds p m e
+planned_where {m} {old} {p} {e} holds is planned = subst (λ k. IsPlannedWhere holds p k e) (sym is) planned
+
+pub follows_where : {m old new : InMemory} {p : Plan} {e : Event} {n : ℕ} (holds : GuardianState → Type 0) → m ≡ old → FollowsWhere holds p m e n new → FollowsWhere holds p old e n new
+follows_where {m} {old} {new} {p} {e} {n} holds is follows = subst (λ k. FollowsWhere holds p k e n new) is follows
+
+pub follows_without : {m old new : InMemory} {p : Plan} {e : Event} {n : ℕ} → m ≡ old → Follows p m e n new → Follows p old e n new
+follows_without {m} {old} {new} {p} {e} {n} is follows = subst (λ k. Follows p k e n new) is follows
 
 pub crashes_within : (old m : InMemory) (step : Step) (t : Bool) → m ≡ old → step_crashes step old.number ≡ t → step_crashes step m.number ≡ t
 crashes_within old m step t is h = ap (λ (k : InMemory). step_crashes step k.number) is ∙ h
 
-module _ {m : InMemory} {p : Plan} (s : IsSound m) (fits : FitsPlan m p) where
+-- what follows stands in some state, where the plan was for the event
+pub stands_after : {m new : InMemory} {p : Plan} {e : Event} {n : ℕ} → IsPlanned p m e → Follows p m e n new → IsOfSome new
+stands_after planned follows = (_, follows planned.0 planned.1 planned.2 planned.3 planned.4)
+
+pub stands_after_where : {m new : InMemory} {p : Plan} {e : Event} {n : ℕ} (holds : GuardianState → Type 0) → IsPlannedWhere holds p m e → FollowsWhere holds p m e n new
+    → IsOfSome new
+stands_after_where holds planned follows = (_, follows planned.0 planned.1 planned.2 planned.3 planned.4 planned.5)
+
+-- the step of the event, and the guardian's number
+pub crashes_is : {m : InMemory} {g : GuardianState} (news : News) (e : Event) (t : Bool) → IsSound m g → news.event ≡ e → step_crashes e.step m.number ≡ t
+    → step_crashes news.event.step g.number ≡ t
+crashes_is news e t s same is = (λ i. step_crashes (same i).step (sym s.own i)) ∙ is
+
+module _ {m : InMemory} {p : Plan} {g : GuardianState} {news : News} (s : IsSound m g) (of : IsPlanOf p m g news) where
   -- the outcomes may be told
   pub may_hear : IsHearing m.objects p.planned.tellings.items
-  may_hear = may_tell (opening_in m.opening) m.history.events (stamped 0 (news_of p)) m.objects p.planned.tellings.items s.shown fits.planned fits.outcomes fits.agrees.outcomes
+  may_hear = may_tell g.opening g.past (stamped 0 news) m.objects p.planned.tellings.items s.shown of.planned of.outcomes of.agrees.outcomes
 
   -- an operation is on an object that its guardian has
-  pub placed : is_on_object (opening_in m.opening) p.event.step ≡ true
-  placed = on_object (opening_in m.opening) m.number (stamped 0 (news_of p)) m.history.events fits.owed fits.accepted
+  pub placed : is_on_object g.opening news.event.step ≡ true
+  placed = on_object g.opening g.number (stamped 0 news) g.past of.owed of.accepted
 
   -- ---- an operation
 
-  module _ (a : Name) (x : ObjectId) (wanted : op.Op) (step : p.event.step ≡ Op a x wanted) where
-    granted : IsGranted (opening_in m.opening) m.number (stamped 0 (news_of p)) m.history.events a x wanted
-    granted = granted_facts (opening_in m.opening) m.number (stamped 0 (news_of p)) m.history.events a x wanted step fits.owed fits.accepted
+  module _ (a : Name) (x : ObjectId) (wanted : op.Op) (step : news.event.step ≡ Op a x wanted) where
+    granted : IsGranted g.opening g.number (stamped 0 news) g.past a x wanted
+    granted = granted_facts g.opening g.number (stamped 0 news) g.past a x wanted step of.owed of.accepted
 
     pub may_operate : IsAsked m.objects x.number wanted
-    may_operate =
-        may_ask (opening_in m.opening) m.number m.history.events x m.objects granted.own s.owner wanted s.shown granted.low granted.high granted.known
+    may_operate = may_ask g.opening g.number g.past x m.objects granted.own s.owner wanted s.shown granted.low granted.high granted.known
 
     pub operated : (n : ℕ) (answer : Answer) (new : Indexed)
         → ((opening : Opening) (here : List LocalEvent) → AreObjects opening here m.objects
         → answer ≡ operated_by (first_content opening (object_of m.objects x.number)) (standing_here here (object_of m.objects x.number)) a wanted)
-        → Operates a x.number wanted answer m.objects new → AreObjects (opening_in m.opening) (stamped n (news_of p) ∷ m.history.events) new
+        → Operates a x.number wanted answer m.objects new → AreObjects g.opening (stamped n news ∷ g.past) new
     operated n answer new says operates =
-        operated_next (opening_in m.opening) m.number m.history.events x m.objects granted.own s.owner (stamped n (news_of p)) a wanted new answer step
-        granted.answered fits.accepted (says (opening_in m.opening) m.history.events s.shown) operates s.shown
-        (operation_brings p.event.step (news_of p).carried.outcomes (ap (λ t. is_operation t) step) fits.agrees.outcomes.brought) fits.agrees.given
-        fits.agrees.outcomes.operation
+        operated_next g.opening g.number g.past x m.objects granted.own s.owner (stamped n news) a wanted new answer step
+        granted.answered of.accepted (says g.opening g.past s.shown) operates s.shown
+        (operation_brings news.event.step news.carried.outcomes (ap (λ t. is_operation t) step) of.agrees.outcomes.brought) of.agrees.given
+        of.agrees.outcomes.operation
 
   -- ---- a yes vote
 
   -- what was written and added in the tree is held by the top action then
-  pub tree_held : (top : Name) → votes_yes p.event.step p.event.answer m.number top ≡ true → (x : ObjectId) → x.guardian ≡ m.objects.guardian
-      → HoldsItsTree (standing_here (stamped 0 (news_of p) ∷ m.history.events) x) top
+  pub tree_held : (top : Name) → votes_yes news.event.step news.event.answer g.number top ≡ true → (x : ObjectId) → x.guardian ≡ m.objects.guardian
+      → HoldsItsTree (standing_here (stamped 0 news ∷ g.past) x) top
   tree_held top vote x own =
-      let same : x.guardian ≡ m.number = own ∙ s.owner in
-      holds_tree (opening_in m.opening) x (stamped 0 (news_of p)) m.history.events top
-      (subst (λ g. votes_yes p.event.step p.event.answer g top ≡ true) (sym same) vote) (fits.agrees.votes.top top vote) (fits.agrees.safe x same)
-      (subst (λ g. TopsAt g) (sym same) (tops_next (opening_in m.opening) m.number (stamped 0 (news_of p)) m.history.events fits.agrees.votes.top s.tops))
+      let same : x.guardian ≡ g.number = own ∙ s.owner in
+      holds_tree g.opening x (stamped 0 news) g.past top
+      (subst (λ h. votes_yes news.event.step news.event.answer h top ≡ true) (sym same) vote) (of.agrees.votes.top top vote) (of.agrees.safe x same)
+      (subst (λ h. TopsAt h) (sym same) (tops_next g.opening g.number (stamped 0 news) g.past of.agrees.votes.top s.tops))
     where
       TopsAt : ℕ → Type 0
-      TopsAt g = (t : Name) → is_some (prepared_here (opening_in m.opening) g t (stamped 0 (news_of p) ∷ m.history.events)) ≡ true → is_top t ≡ true
+      TopsAt h = (t : Name) → is_some (prepared_here g.opening h t (stamped 0 news ∷ g.past)) ≡ true → is_top t ≡ true
+
+  -- of a top action that was told committed a vote prepares nothing
+  pub parts_none : (top : Name) (told : Bool) (parts : List (ℕ × Part)) → ((h : ℕ) (here : List LocalEvent) → AreTold h here m.told → told ≡ told_committed_here top here)
+      → told ≡ true → parts ≡ [] → parts ≡ parts_by g.opening g.number (λ x. standing_here (stamped 0 news ∷ g.past) x) top
+  parts_none top told parts says was none =
+      none ∙ sym (no_parts g.opening g.number (stamped 0 news) g.past top (sym (says g.number g.past s.tellings) ∙ was))
+
+  -- of another one, what the objects say
+  pub parts_are : (top : Name) (told : Bool) (parts : List (ℕ × Part)) (outcomes : List (Name × Bool))
+      → ((h : ℕ) (here : List LocalEvent) → AreTold h here m.told → told ≡ told_committed_here top here) → told ≡ false
+      → outcomes ≡ news.carried.outcomes → votes_yes news.event.step news.event.answer g.number top ≡ true
+      → ((opening : Opening) (here : List LocalEvent) (c : LocalEvent) → AreObjects opening here m.objects
+      → is_top top ≡ true → told_committed_here top here ≡ false → c.carried.outcomes ≡ outcomes → OnlyTells c here
+      → AllByRecursion (λ x. is_proper_ancestor top x.0 ≡ true) outcomes
+      → ((x : ObjectId) → x.guardian ≡ m.objects.guardian → HoldsItsTree (standing_here (c ∷ here) x) top)
+      → parts ≡ parts_by opening m.objects.guardian (λ x. standing_here (c ∷ here) x) top)
+      → parts ≡ parts_by g.opening g.number (λ x. standing_here (stamped 0 news ∷ g.past) x) top
+  parts_are top told parts outcomes says never same vote makes =
+      makes g.opening g.past c s.shown (of.agrees.votes.top top vote) (sym (says g.number g.past s.tellings) ∙ never) (sym same)
+      (vote_only_tells g.opening g.number 0 top news g.past of.agrees vote)
+      (subst (λ l. AllByRecursion (λ x. is_proper_ancestor top x.0 ≡ true) l) (sym same)
+      (vote_brings g.number top news.event.step news.event.answer c.carried.outcomes vote of.agrees.outcomes.brought))
+      (tree_held top vote)
+      ∙ ap (λ h. parts_by g.opening h (λ x. standing_here (c ∷ g.past) x) top) s.owner
+    where
+      c : LocalEvent
+      c = stamped 0 news
 
 -- ---- a crash
 
-module _ {m : InMemory} (s : IsSound m) (old : InMemory) (stays : Name → Bool) (is : m ≡ old)
-    (told : (a : Name) → stays a ≡ is_some (prepared_here (opening_in old.opening) old.number a old.history.events)) where
+module _ {m : InMemory} {g : GuardianState} (s : IsSound m g) (stays : Name → Bool) (told : (a : Name) → stays a ≡ is_some (prepared_here g.opening g.number a g.past)) where
   -- the survivors are those of which the store has a record
-  pub survivors_are : (a : Name) → stays a ≡ is_some (prepared_here (opening_in m.opening) m.objects.guardian a m.history.events)
-  survivors_are a =
-      told a
-      ∙ ap (λ (k : InMemory). is_some (prepared_here (opening_in k.opening) k.number a k.history.events)) (sym is)
-      ∙ ap (λ g. is_some (prepared_here (opening_in m.opening) g a m.history.events)) (sym s.owner)
+  pub survivors_are : (a : Name) → stays a ≡ is_some (prepared_here g.opening m.objects.guardian a g.past)
+  survivors_are a = told a ∙ ap (λ h. is_some (prepared_here g.opening h a g.past)) (sym s.owner)
 
   -- so they are top actions
   pub survivors_top : (a : Name) → stays a ≡ true → is_top a ≡ true
-  survivors_top a h =
-      s.tops a (sym (told a ∙ ap (λ (k : InMemory). is_some (prepared_here (opening_in k.opening) k.number a k.history.events)) (sym is)) ∙ h)
+  survivors_top a h = s.tops a (sym (told a) ∙ h)
 
--- ---- what a yes vote prepares
+-- ---- all parts follow an event
 
--- of a top action that was told committed, nothing
-pub parts_none : {m : InMemory} → IsSound m → (old : InMemory) (p : Plan) (top : Name) (told : Bool) (parts : List (ℕ × Part)) → m ≡ old
-    → ((g : ℕ) (here : List LocalEvent) → AreTold g here m.told → told ≡ told_committed_here top here) → told ≡ true → parts ≡ []
-    → parts ≡ parts_by (opening_in old.opening) old.number (λ x. standing_here (stamped 0 (news_of p) ∷ old.history.events) x) top
-parts_none {m} s old p top told parts is says was none =
-    none
-    ∙ sym (no_parts (opening_in m.opening) m.number (stamped 0 (news_of p)) m.history.events top (sym (says m.number m.history.events s.tellings) ∙ was))
-    ∙ ap (λ (k : InMemory). parts_by (opening_in k.opening) k.number (λ x. standing_here (stamped 0 (news_of p) ∷ k.history.events) x) top) is
+-- what the roster and the lists say of their calls
+abbrev EntersBy : Plan → Roster → Roster → Type 0
+EntersBy p old new = (g : ℕ) (here : List LocalEvent) (c : LocalEvent) → IsRoster g here (table old) → AgreesOnActions g c here
+    → IsEntry (table old) c.event c.carried.dependencies p.entry → IsRoster g (c ∷ here) (table new)
 
--- of another one, what the objects say
-pub parts_are : {m : InMemory} → IsSound m → (old : InMemory) (p : Plan) (top : Name) (told : Bool) (parts : List (ℕ × Part)) (outcomes : List (Name × Bool)) → m ≡ old
-    → ((g : ℕ) (here : List LocalEvent) → AreTold g here m.told → told ≡ told_committed_here top here) → told ≡ false
-    → outcomes ≡ (news_of p).carried.outcomes → FitsPlan old p → votes_yes p.event.step p.event.answer old.number top ≡ true
-    → ((opening : Opening) (here : List LocalEvent) (c : LocalEvent) → AreObjects opening here m.objects
-    → is_top top ≡ true → told_committed_here top here ≡ false → c.carried.outcomes ≡ outcomes → OnlyTells c here
-    → AllByRecursion (λ x. is_proper_ancestor top x.0 ≡ true) outcomes
-    → ((x : ObjectId) → x.guardian ≡ m.objects.guardian → HoldsItsTree (standing_here (c ∷ here) x) top)
-    → parts ≡ parts_by opening m.objects.guardian (λ x. standing_here (c ∷ here) x) top)
-    → parts ≡ parts_by (opening_in old.opening) old.number (λ x. standing_here (stamped 0 (news_of p) ∷ old.history.events) x) top
-parts_are {m} s old p top told parts outcomes is says never same fit vote makes =
-    makes (opening_in m.opening) m.history.events c s.shown (fits.agrees.votes.top top votes) (sym (says m.number m.history.events s.tellings) ∙ never) (sym same)
-    (vote_only_tells (opening_in m.opening) m.number 0 top (news_of p) m.history.events fits.agrees votes)
-    (subst (λ l. AllByRecursion (λ x. is_proper_ancestor top x.0 ≡ true) l) (sym same)
-    (vote_brings m.number top p.event.step p.event.answer c.carried.outcomes votes fits.agrees.outcomes.brought))
-    (tree_held s fits top votes)
-    ∙ ap (λ g. parts_by (opening_in m.opening) g (λ x. standing_here (c ∷ m.history.events) x) top) s.owner
-    ∙ ap (λ (k : InMemory). parts_by (opening_in k.opening) k.number (λ x. standing_here (c ∷ k.history.events) x) top) is
-  where
-    c : LocalEvent
-    c = stamped 0 (news_of p)
+abbrev LearnsBy : Plan → Lists → Lists → Type 0
+LearnsBy p old new = (here : List LocalEvent) (c : LocalEvent) → AreLists here old → step_crashes c.event.step (guardian_of old) ≡ false
+    → IsLesson c.carried.sender c.carried.life c.carried.aborts c.carried.counts c.carried.outcomes p.lesson → AreLists (c ∷ here) new
 
-    fits : FitsPlan m p
-    fits = fits_within old m p is fit
+abbrev HearsBy : Bool → Plan → Tellings → Tellings → Type 0
+HearsBy crash p old new = (g : ℕ) (here : List LocalEvent) (c : LocalEvent) → AreTold g here old → IsHeard old c.carried.outcomes p.heard
+    → step_crashes c.event.step g ≡ crash → AreTold g (c ∷ here) new
 
-    votes : votes_yes p.event.step p.event.answer m.number top ≡ true
-    votes = ap (λ (k : InMemory). votes_yes p.event.step p.event.answer k.number top) is ∙ vote
+module _ (m : InMemory) (p : Plan) (e : Event) (n : ℕ) (told : Tellings) (lists : Lists) (roster : Roster) (objects : Indexed) where
+  abbrev after : InMemory
+  after = record m { told = told; lists = lists; roster = roster; objects = objects }
+
+  pub kept_follows : is_operation e.step ≡ false → step_crashes e.step m.number ≡ false
+      → HearsBy false p m.told told → hearing.crashes_of told ≡ hearing.crashes_of m.told
+      → LearnsBy p m.lists lists → guardian_of lists ≡ guardian_of m.lists → EntersBy p m.roster roster
+      → ((opening : Opening) (here : List LocalEvent) (c : LocalEvent) → AreObjects opening here m.objects → ArePlanned here p.planned.tellings.items
+      → outcomes_of p.planned.tellings.items ≡ c.carried.outcomes → OnlyTells c here → AreObjects opening (c ∷ here) objects)
+      → objects.guardian ≡ m.objects.guardian → Follows p m e n after
+  kept_follows other quiet hears counts learns own enters tells owner g news s of same =
+      let c = stamped n news in
+      let up = crashes_is news e false s same quiet in
+      sound_next n news s of.agrees (placed s of)
+      (hears g.number g.past c s.tellings of.heard up) (not_counted g.number c g.past _ _ up counts s.lives)
+      (learns g.past c s.knowledge (ap (λ h. step_crashes news.event.step h) s.knower ∙ up) of.lesson) own
+      (enters g.number g.past c s.actions (actions_at g.number n news g.past of.agrees.actions) of.entry)
+      (tells g.opening g.past c s.shown of.planned of.outcomes
+      (only_tells g.opening g.number n news g.past of.agrees (ap (λ k. is_operation k.step) same ∙ other) up)) owner
+
+  pub crash_follows : (stays : Name → Bool)
+      → step_crashes e.step m.number ≡ true
+      → HearsBy true p m.told told → hearing.crashes_of told ≡ hearing.crashes_of m.told + 1
+      → ((here : List LocalEvent) (c : LocalEvent) → AreLists here m.lists → step_crashes c.event.step (guardian_of m.lists) ≡ true → AreLists (c ∷ here) lists)
+      → guardian_of lists ≡ guardian_of m.lists → EntersBy p m.roster roster
+      → ((opening : Opening) (here : List LocalEvent) (c : LocalEvent) → AreObjects opening here m.objects
+      → ((x : ObjectId) → x.guardian ≡ m.objects.guardian → LeavesSafe opening here x)
+      → ((a : Name) → stays a ≡ is_some (prepared_here opening m.objects.guardian a here))
+      → c.event.step ≡ Crash m.objects.guardian → c.carried.outcomes ≡ [] → c.carried.restored ≡ [] → AreObjects opening (c ∷ here) objects)
+      → objects.guardian ≡ m.objects.guardian → FollowsWhere (AreRecorded stays) p m e n after
+  crash_follows stays crash hears counts forgets own enters crashed owner g news s of same recorded =
+      let c = stamped n news in
+      let step = news.event.step in
+      let down = crashes_is news e true s same crash in
+      sound_next n news s of.agrees (placed s of)
+      (hears g.number g.past c s.tellings of.heard down) (one_counted g.number c g.past _ _ down counts s.lives)
+      (forgets g.past c s.knowledge (ap (λ h. step_crashes step h) s.knower ∙ down)) own
+      (enters g.number g.past c s.actions (actions_at g.number n news g.past of.agrees.actions) of.entry)
+      (crashed g.opening g.past c s.shown (λ x own. s.safe x (own ∙ s.owner)) (survivors_are s stays recorded)
+      (crash_is m.objects.guardian step (ap (λ h. step_crashes step h) s.owner ∙ down))
+      (crash_brings g.number step news.carried.outcomes down of.agrees.outcomes.brought) of.agrees.given) owner
+
+  pub operated_follows : (a : Name) (x : ObjectId) (wanted : op.Op) (answer : Answer) → e.step ≡ Op a x wanted
+      → HearsBy false p m.told told → hearing.crashes_of told ≡ hearing.crashes_of m.told
+      → LearnsBy p m.lists lists → guardian_of lists ≡ guardian_of m.lists → EntersBy p m.roster roster
+      → ((opening : Opening) (here : List LocalEvent) → AreObjects opening here m.objects
+      → answer ≡ operated_by (first_content opening (object_of m.objects x.number)) (standing_here here (object_of m.objects x.number)) a wanted)
+      → Operates a x.number wanted answer m.objects objects → objects.guardian ≡ m.objects.guardian → Follows p m e n after
+  operated_follows a x wanted answer step hears counts learns own enters says operates owner g news s of same =
+      let c = stamped n news in
+      let asked : news.event.step ≡ Op a x wanted = ap (λ k. k.step) same ∙ step in
+      let stays = λ (h : ℕ). operation_stays h news.event.step (ap (λ t. is_operation t) asked) in
+      sound_next n news s of.agrees (placed s of)
+      (hears g.number g.past c s.tellings of.heard (stays g.number)) (not_counted g.number c g.past _ _ (stays g.number) counts s.lives)
+      (learns g.past c s.knowledge (stays (guardian_of m.lists)) of.lesson) own
+      (enters g.number g.past c s.actions (actions_at g.number n news g.past of.agrees.actions) of.entry)
+      (operated s of a x wanted asked n answer objects says operates) owner

@@ -13,101 +13,86 @@ use Rattle.run_model.specs.Answers.{is_concerned_by, operated_by}
 use Rattle.run_model.specs.Lists.{is_orphan_by}
 use Rattle.run_model.specs.LocalReadings.{LocalEvent, aborts_here, count_here, dependency_here, events_here, is_at_home, is_orphan_here, known_crashes_here, standing_here, told_committed_here}
 use Rattle.run_model.specs.Openings.{Opening, first_content, objects_at, opening_in}
-use Rattle.layer_contracts.specs.Guardians.{count_told}
+use Rattle.layer_contracts.specs.Guardians.{GuardianState, MayAsk, count_told}
 use Rattle.tellings.specs.Hearing.{AreTold}
 use Rattle.run_model.specs.Versions.{base_by}
 use Rattle.held_objects.specs.Held.{has_number}
 use Rattle.orphans.specs.Knowing.{AreLists, guardian_of}
 use Rattle.guardian_objects.specs.Objects.{AreObjects, IsAsked, object_of}
-use Rattle.guardian_memory.specs.Memories.{InMemory, IsSound, own_object, state_of}
+use Rattle.guardian_memory.specs.Memories.{InMemory, IsSound, own_object}
 use Rattle.guardian_memory.proofs.Held.{told_counts, untold_counts}
 use Rattle.guardian_memory.proofs.Operated.{answered_of, may_ask}
 
 -- who is on the roster was begun
-pub begun_there : (old m : InMemory) (a : Name) → m ≡ old → is_at_home old.number a old.history.events ≡ true → is_begun a (events_here m.history.events) ≡ true
-begun_there old m a is there =
-    (and_parts (is_begun a (events_here m.history.events)) (home_of a (events_here m.history.events) == m.number)
-    (subst (λ k. is_at_home k.number a k.history.events ≡ true) (sym is) there)).0
+pub begun_there : (g : GuardianState) (a : Name) → is_at_home g.number a g.past ≡ true → is_begun a (events_here g.past) ≡ true
+begun_there g a there = (and_parts (is_begun a (events_here g.past)) (home_of a (events_here g.past) == g.number) there).0
 
--- an orphan is known by the lists and the dependencies
-pub orphan_is : {m : InMemory} → IsSound m → (old : InMemory) (a : Name) (opening : Opening) (depends : ℕ → Option ℕ) (result : Bool) → m ≡ old
-    → opening ≡ opening_in old.opening → ((h : ℕ) → depends h ≡ dependency_here a h m.history.events)
-    → ((here : List LocalEvent) → AreLists here m.lists
-    → result ≡ is_orphan_by opening (λ b. has_name (aborts_here (guardian_of m.lists) here) b) (λ h. known_crashes_here (guardian_of m.lists) h here) depends a)
-    → result ≡ is_orphan_here (opening_in old.opening) old.number old.history.events a
-orphan_is {m} s old a opening depends result is same each says =
-    says m.history.events s.knowledge
-    ∙ (λ i. is_orphan_by (same i) (λ b. has_name (aborts_here (s.knower i) m.history.events) b) (λ h. known_crashes_here (s.knower i) h m.history.events) (λ h. each h i) a)
-    ∙ ap (λ k. is_orphan_here (opening_in old.opening) k.number k.history.events a) is
+module _ {m : InMemory} {g : GuardianState} (s : IsSound m g) where
+  -- an orphan is known by the lists and the dependencies
+  pub orphan_is : (a : Name) (opening : Opening) (depends : ℕ → Option ℕ) (result : Bool) → opening ≡ g.opening → ((h : ℕ) → depends h ≡ dependency_here a h g.past)
+      → ((here : List LocalEvent) → AreLists here m.lists
+      → result ≡ is_orphan_by opening (λ b. has_name (aborts_here (guardian_of m.lists) here) b) (λ h. known_crashes_here (guardian_of m.lists) h here) depends a)
+      → result ≡ is_orphan_here g.opening g.number g.past a
+  orphan_is a opening depends result same each says =
+      says g.past s.knowledge
+      ∙ (λ i. is_orphan_by (same i) (λ b. has_name (aborts_here (s.knower i) g.past) b) (λ h. known_crashes_here (s.knower i) h g.past) (λ h. each h i) a)
 
--- an operation may be asked of the objects
-pub may_answer : {m : InMemory} → IsSound m → (old : InMemory) (x : ObjectId) (wanted : Op) → m ≡ old → x.guardian ≡ old.number → 1 ≤ x.number
-    → x.number ≤ length (objects_at (opening_in old.opening).setup x.guardian) → knows (first_content (opening_in old.opening) x) wanted ≡ true
-    → IsAsked m.objects x.number wanted
-may_answer {m} s old x wanted is own low high known =
-    may_ask (opening_in m.opening) m.number m.history.events x m.objects (own ∙ ap (λ k. k.number) (sym is)) s.owner wanted s.shown low
-    (subst (λ k. x.number ≤ length (objects_at (opening_in k.opening).setup x.guardian)) (sym is) high)
-    (subst (λ k. knows (first_content (opening_in k.opening) x) wanted ≡ true) (sym is) known)
+  -- an operation may be asked of the objects
+  pub may_answer : (x : ObjectId) (wanted : Op) → MayAsk g x wanted → IsAsked m.objects x.number wanted
+  may_answer x wanted may = may_ask g.opening g.number g.past x m.objects may.own s.owner wanted s.shown may.number may.there may.known
 
--- and its answer is that of the history
-pub answer_is : {m : InMemory} → IsSound m → (old : InMemory) (x : ObjectId) (a : Name) (wanted : Op) (answer : Answer) → m ≡ old → x.guardian ≡ old.number
-    → ((opening : Opening) (here : List LocalEvent) → AreObjects opening here m.objects
-    → answer ≡ operated_by (first_content opening (object_of m.objects x.number)) (standing_here here (object_of m.objects x.number)) a wanted)
-    → answer ≡ operated_by (first_content (opening_in old.opening) x) (standing_here old.history.events x) a wanted
-answer_is {m} s old x a wanted answer is own says =
-    answered_of (opening_in m.opening) m.number m.history.events x m.objects (own ∙ ap (λ k. k.number) (sym is)) s.owner a wanted answer
-    (says (opening_in m.opening) m.history.events s.shown)
-    ∙ ap (λ k. operated_by (first_content (opening_in k.opening) x) (standing_here k.history.events x) a wanted) is
+  -- and its answer is that of the history
+  pub answer_is : (x : ObjectId) (a : Name) (wanted : Op) (answer : Answer) → x.guardian ≡ m.number
+      → ((opening : Opening) (here : List LocalEvent) → AreObjects opening here m.objects
+      → answer ≡ operated_by (first_content opening (object_of m.objects x.number)) (standing_here here (object_of m.objects x.number)) a wanted)
+      → answer ≡ operated_by (first_content g.opening x) (standing_here g.past x) a wanted
+  answer_is x a wanted answer own says =
+      answered_of g.opening g.number g.past x m.objects (own ∙ s.own) s.owner a wanted answer (says g.opening g.past s.shown)
 
--- the object of a number
-pub numbered_is : {m : InMemory} → IsSound m → (n : ℕ) → object_of m.objects n ≡ own_object (state_of m) n
-numbered_is {m} s n = let make : ℕ → ObjectId = λ g. record { guardian = g; number = n } in ap make s.owner
+  -- the object of a number
+  pub numbered_is : (n : ℕ) → object_of m.objects n ≡ own_object g n
+  numbered_is n = let make : ℕ → ObjectId = λ h. record { guardian = h; number = n } in ap make s.owner
 
--- how many objects there are
-pub count_is : {m : InMemory} → IsSound m → length m.objects.objects ≡ length (objects_at (opening_in m.opening).setup m.number)
-count_is {m} s = s.shown.count ∙ ap (λ g. length (objects_at (opening_in m.opening).setup g)) s.owner
+  -- how many objects there are
+  pub count_is : length m.objects.objects ≡ length (objects_at g.opening.setup g.number)
+  count_is = s.shown.count ∙ ap (λ h. length (objects_at g.opening.setup h)) s.owner
 
--- ---- how many objects a telling changes
+  -- ---- how many objects a telling changes
 
--- of what was told committed, none
-pub counts_none : {m : InMemory} → IsSound m → (old : InMemory) (a : Name) (committed told : Bool) → m ≡ old
-    → ((g : ℕ) (here : List LocalEvent) → AreTold g here m.told → told ≡ told_committed_here a here) → told ≡ true → 0 ≡ count_told (state_of old) a committed
-counts_none {m} s old a committed told is says was =
-    told_counts (state_of m) a committed (sym (says m.number m.history.events s.tellings) ∙ was) ∙ ap (λ k. count_told (state_of k) a committed) is
+  -- of what was told committed, none
+  pub counts_none : (a : Name) (committed told : Bool) → ((h : ℕ) (here : List LocalEvent) → AreTold h here m.told → told ≡ told_committed_here a here) → told ≡ true
+      → 0 ≡ count_told g a committed
+  counts_none a committed told says was = told_counts g a committed (sym (says g.number g.past s.tellings) ∙ was)
 
--- of other actions, as many as the objects say
-pub counts_some : {m : InMemory} → IsSound m → (old : InMemory) (a : Name) (committed told : Bool) (count : ℕ) → m ≡ old
-    → ((g : ℕ) (here : List LocalEvent) → AreTold g here m.told → told ≡ told_committed_here a here) → told ≡ false
-    → ((opening : Opening) (here : List LocalEvent) → AreObjects opening here m.objects → told_committed_here a here ≡ false
-    → count ≡ count_here opening m.objects.guardian a committed here)
-    → count ≡ count_told (state_of old) a committed
-counts_some {m} s old a committed told count is says never counts =
-    let untold : told_committed_here a m.history.events ≡ false = sym (says m.number m.history.events s.tellings) ∙ never in
-    counts (opening_in m.opening) m.history.events s.shown untold
-    ∙ ap (λ g. count_here (opening_in m.opening) g a committed m.history.events) s.owner
-    ∙ untold_counts (state_of m) a committed untold
-    ∙ ap (λ k. count_told (state_of k) a committed) is
+  -- of other actions, as many as the objects say
+  pub counts_some : (a : Name) (committed told : Bool) (count : ℕ) → ((h : ℕ) (here : List LocalEvent) → AreTold h here m.told → told ≡ told_committed_here a here)
+      → told ≡ false
+      → ((opening : Opening) (here : List LocalEvent) → AreObjects opening here m.objects → told_committed_here a here ≡ false
+      → count ≡ count_here opening m.objects.guardian a committed here)
+      → count ≡ count_told g a committed
+  counts_some a committed told count says never counts =
+      let untold : told_committed_here a g.past ≡ false = sym (says g.number g.past s.tellings) ∙ never in
+      counts g.opening g.past s.shown untold
+      ∙ ap (λ h. count_here g.opening h a committed g.past) s.owner
+      ∙ untold_counts g a committed untold
 
--- ---- single objects
+  -- ---- single objects
 
--- what belongs to the base
-pub base_is : {m : InMemory} → IsSound m → (old : InMemory) (n : ℕ) (base : Option Content) → m ≡ old
-    → IfSome base (λ b. (opening : Opening) (here : List LocalEvent) → AreObjects opening here m.objects
-    → b ≡ base_by (first_content opening (object_of m.objects n)) (standing_here here (object_of m.objects n)))
-    → IfSome base (λ b. b ≡ base_by (first_content (opening_in old.opening) (own_object (state_of old) n)) (standing_here old.history.events (own_object (state_of old) n)))
-base_is s old n None is says = says
-base_is {m} s old n (Some b) is says =
-    says (opening_in m.opening) m.history.events s.shown
-    ∙ ap (λ x. base_by (first_content (opening_in m.opening) x) (standing_here m.history.events x)) (numbered_is s n)
-    ∙ ap (λ k. base_by (first_content (opening_in k.opening) (own_object (state_of k) n)) (standing_here k.history.events (own_object (state_of k) n))) is
+  -- what belongs to the base
+  pub base_is : (n : ℕ) (base : Option Content)
+      → IfSome base (λ b. (opening : Opening) (here : List LocalEvent) → AreObjects opening here m.objects
+      → b ≡ base_by (first_content opening (object_of m.objects n)) (standing_here here (object_of m.objects n)))
+      → IfSome base (λ b. b ≡ base_by (first_content g.opening (own_object g n)) (standing_here g.past (own_object g n)))
+  base_is n None says = says
+  base_is n (Some b) says =
+      says g.opening g.past s.shown ∙ ap (λ x. base_by (first_content g.opening x) (standing_here g.past x)) (numbered_is n)
 
--- at which objects a holder holds something
-pub held_is : {m : InMemory} → IsSound m → (old : InMemory) (n : ℕ) (a : Name) (numbers : List ℕ) → m ≡ old
-    → ((opening : Opening) (here : List LocalEvent) (n : ℕ) → AreObjects opening here m.objects → has_number numbers n
-    ≡ (nat_le 1 n && (nat_le n (length m.objects.objects) && is_concerned_by true (standing_here here (object_of m.objects n)) a)))
-    → has_number numbers n
-    ≡ (nat_le 1 n && (nat_le n (length (objects_at (opening_in old.opening).setup old.number)) && is_concerned_by true (standing_here old.history.events (own_object (state_of old) n)) a))
-held_is {m} s old n a numbers is says =
-    says (opening_in m.opening) m.history.events n s.shown
-    ∙ (λ i. nat_le 1 n && (nat_le n (count_is s i) && is_concerned_by true (standing_here m.history.events (numbered_is s n i)) a))
-    ∙ ap (λ k. nat_le 1 n && (nat_le n (length (objects_at (opening_in k.opening).setup k.number)) && is_concerned_by true (standing_here k.history.events (own_object (state_of k) n)) a)) is
+  -- at which objects a holder holds something
+  pub held_is : (n : ℕ) (a : Name) (numbers : List ℕ)
+      → ((opening : Opening) (here : List LocalEvent) (n : ℕ) → AreObjects opening here m.objects → has_number numbers n
+      ≡ (nat_le 1 n && (nat_le n (length m.objects.objects) && is_concerned_by true (standing_here here (object_of m.objects n)) a)))
+      → has_number numbers n
+      ≡ (nat_le 1 n && (nat_le n (length (objects_at g.opening.setup g.number)) && is_concerned_by true (standing_here g.past (own_object g n)) a))
+  held_is n a numbers says =
+      says g.opening g.past n s.shown
+      ∙ (λ i. nat_le 1 n && (nat_le n (count_is i) && is_concerned_by true (standing_here g.past (numbered_is n i)) a))

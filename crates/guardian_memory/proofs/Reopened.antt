@@ -3,7 +3,6 @@ use Rattle.std.proofs.Common.{add-one, append_assoc, Bool, List, inl, inr, not, 
 use Rattle.std.proofs.lemmas.Bool.{and_from, false≢true, or_cases}
 use Rattle.std.proofs.lemmas.List.Elements.{Contains-append_right, Contains-push, Contains-append_left}
 use Rattle.std.proofs.lemmas.List.Folds.{list_all-append}
-use Rattle.std.proofs.Math.ListN.{length-append, length-replicate}
 use Rattle.std.specs.List.{AllByRecursion}
 use Rattle.std.specs.Prelude.{is_some, replicate}
 use Rattle.action_names.specs.Names.{Name, is_top, same_name}
@@ -11,7 +10,7 @@ use Rattle.atomic_types.specs.declared.part.Part.{Part}
 use Rattle.run_model.specs.declared.step.ObjectId.{ObjectId}
 use Rattle.run_model.specs.Keeping.{outlives_crash}
 use Rattle.run_model.specs.LocalReadings.{LocalEvent, events_here, prepared_here, standing_here, told_committed_here, told_here}
-use Rattle.run_model.specs.Openings.{Held, Opening, OpeningLists, nothing_held, opening_in}
+use Rattle.run_model.specs.Openings.{Held, Opening, OpeningLists, opening_in}
 use Rattle.run_model.specs.Reopening.{crash_before, life_before, vote_before}
 use Rattle.run_model.specs.StableContent.{Prepared}
 use Rattle.run_model.specs.Telling.{holder_by}
@@ -24,9 +23,6 @@ use Rattle.local_laws.proofs.Reopened.{life_before_is}
 use Rattle.local_agreement.specs.Crashes.{LeavesSafe, is_safe}
 use Rattle.local_agreement.specs.Judging.{are_on_objects, is_on_object}
 use Rattle.stored_laws.proofs.Reopened.{prepared_alone, read_back, recorded_before}
-use Rattle.layer_contracts.specs.Guardians.{GuardianState}
-use Rattle.local_histories.specs.Before.{Before, life_in}
-use Rattle.local_histories.specs.Keeping.{Past}
 use Rattle.orphans.specs.Knowing.{AreLists, guardian_of}
 use Rattle.orphans.specs.declared.lists.Lists.{Lists}
 use Rattle.roster.specs.Rosters.{IsRoster}
@@ -38,7 +34,7 @@ use Rattle.tellings.specs.declared.tellings.Tellings.{Tellings}
 use Rattle.guardian_objects.specs.Objects.{AreObjects, Indexed}
 use Rattle.guardian_objects.specs.Restored.{AreGivenBack, AreRestorable}
 use Rattle.guardian_objects.proofs.GivenBack.{all_parts, given_stands, holds_itself, restorable_behind}
-use Rattle.guardian_memory.specs.Memories.{InMemory, IsSound, state_of}
+use Rattle.guardian_memory.specs.Memories.{IsSound}
 use Rattle.guardian_memory.specs.Reopening.{AreOfTops, record_of, records_of}
 use Rattle.guardian_memory.specs.declared.reopening.TopRecord.{TopRecord}
 
@@ -73,17 +69,6 @@ pub none_left : (xs ws : List TopRecord) → length ws ≡ 0 → drop (length ws
 none_left xs ws none = ap (λ n. drop n xs) none
 
 -- ---- the time before
-
--- only the number of recoveries is read of what the store held
-same_life : (g count : ℕ) (held : Held) (records : List (Name × Prepared)) → held.count ≡ count
-    → life_in (record { guardian = g; count = count; records = records }) ≡ life_before g held records
-same_life g count held records e = ap (λ n. replicate (suc n) (crash_before g) ++ map (λ p. vote_before g p) records) (sym e)
-
-long_life : (g : ℕ) (held : Held) (records : List (Name × Prepared)) → held.count + 1 ≤ length (life_before g held records)
-long_life g held records =
-    let all = length-append (replicate (suc held.count) (crash_before g)) (map (λ p. vote_before g p) records) in
-    let crashed = length-replicate (suc held.count) (crash_before g) in
-    omega (arith, all, crashed)
 
 module _ (opening : Opening) (g : ℕ) (records : List (Name × Prepared)) (may : AreRestorable opening g records) where
   abbrev life : List LocalEvent
@@ -151,41 +136,35 @@ life_placed opening g held records =
 
 -- ---- all parts are those of the time before
 
-pub state_reopened : (opening : OpeningLists) (g count : ℕ) (records : List (Name × Prepared)) (before : Before) (events : List LocalEvent)
-    → ((opening_in opening).stores g).count ≡ count → before ≡ record { guardian = g; count = count; records = records } → events ≡ life_in before
-    → ◌≡◌ {A = GuardianState} (record { opening = opening_in opening; number = g; past = events })
-    (record { opening = opening_in opening; number = g; past = life_before g ((opening_in opening).stores g) records })
-state_reopened opening g count records before events counted told is =
-    let make : List LocalEvent → GuardianState = λ l. record { opening = opening_in opening; number = g; past = l } in
-    ap make (is ∙ ap life_in told ∙ same_life g count ((opening_in opening).stores g) records counted)
-
-pub reopened_sound : (opening : OpeningLists) (g count : ℕ) (records : List (Name × Prepared)) (before : Before) (history : Past) (told : Tellings) (lists : Lists)
+pub reopened_sound : (opening : OpeningLists) (g count : ℕ) (records : List (Name × Prepared)) (told : Tellings) (lists : Lists)
     (roster : Roster) (objects : Indexed) → 1 ≤ g → ((opening_in opening).stores g).count ≡ count → AreOfTops records
-    → AreRestorable (opening_in opening) g records → before ≡ record { guardian = g; count = count; records = records } → history.events ≡ life_in before
+    → AreRestorable (opening_in opening) g records
     → ((h : ℕ) (here : List LocalEvent) → ((b : Name) → told_here h b here ≡ false) → ((b : Name) → told_committed_here b here ≡ false) → AreTold h here told)
     → hearing.crashes_of told ≡ count + 1
     → ((here : List LocalEvent) (c : LocalEvent) → step_crashes c.event.step g ≡ true → count + 1 ≡ crashes g (events_here (c ∷ here)) → AreLists (c ∷ here) lists)
     → guardian_of lists ≡ g
     → ((held : Held) (rs : List (Name × Prepared)) → count + 1 ≡ held.count + 1 → IsRoster g (life_before g held rs) (table roster))
     → AreGivenBack (opening_in opening) records objects → objects.guardian ≡ g
-    → IsSound (record { opening = opening; number = g; history = history; told = told; lists = lists; roster = roster; objects = objects })
-reopened_sound opening g count records before history told lists roster objects numbered counted tops may told_is events tellings lives knowledge knower actions given owner =
+    → IsSound (record { opening = opening; number = g; told = told; lists = lists; roster = roster; objects = objects })
+    (record { opening = opening_in opening; number = g; past = life_before g ((opening_in opening).stores g) records })
+reopened_sound opening g count records told lists roster objects numbered counted tops may tellings lives knowledge knower actions given owner =
     let o = opening_in opening in
     let held = o.stores g in
-    let is : history.events ≡ life_before g held records = events ∙ ap life_in told_is ∙ same_life g count held records counted in
     let read = life_before_is g held records in
-    let long = long_life g held records in
+    let one_more = ap (λ n. n + 1) (sym counted) in
+    let all = one_more ∙ add-one held.count ∙ sym read.crashes in
     record {
+      opened = refl;
+      own = refl;
       numbered = numbered;
-      tellings = subst (λ l. AreTold g l told) (sym is) (tellings g (life_before g held records) read.told read.told_committed);
-      lives = subst (λ l. hearing.crashes_of told ≤ length l) (sym is) (omega (arith, lives, long, counted));
-      knowledge = subst (λ l. AreLists l lists) (sym is) (knowledge _ (crash_before g) (eqb_self g) (ap (λ n. n + 1) (sym counted) ∙ add-one held.count ∙ sym read.crashes));
+      tellings = tellings g (life_before g held records) read.told read.told_committed;
+      lives = lives ∙ all;
+      knowledge = knowledge _ (crash_before g) (eqb_self g) all;
       knower = knower;
-      actions = subst (λ l. IsRoster g l (table roster)) (sym is) (actions held records (ap (λ n. n + 1) (sym counted)));
-      shown = subst (λ l. AreObjects o l objects) (sym is) (given_stands o g held records may objects owner given);
+      actions = actions held records one_more;
+      shown = given_stands o g held records may objects owner given;
       owner = owner;
-      safe = λ x own. subst (λ l. LeavesSafe o l x) (sym is) (leaves_safe o g records may x own);
-      tops = λ t. subst (λ l. is_some (prepared_here o g t l) ≡ true → is_top t ≡ true) (sym is)
-          (λ h. top_recorded o g records may records tops t (recorded_before o g records t may.are h));
-      placed = subst (λ l. are_on_objects o l ≡ true) (sym is) (life_placed o g held records);
+      safe = λ x own. leaves_safe o g records may x own;
+      tops = λ t h. top_recorded o g records may records tops t (recorded_before o g records t may.are h);
+      placed = life_placed o g held records;
     }

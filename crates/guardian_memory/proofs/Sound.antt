@@ -1,5 +1,5 @@
--- When all parts of a memory are those of its history.
-use Rattle.std.proofs.Common.{Bool, List, None, Some, [], ap, arith, cond, false, filter, length, refl, subst, suc, sym, true, ℕ, ◌+◌, ◌<◌, ◌^◌, ◌∙◌, ◌∷◌, ◌≡◌, ◌≤◌}
+-- When all parts of a memory are those of one history.
+use Rattle.std.proofs.Common.{Bool, List, None, Some, [], add-one, ap, cond, false, filter, length, refl, subst, suc, sym, true, ℕ, ◌+◌, ◌<◌, ◌^◌, ◌∙◌, ◌∷◌, ◌≡◌, ◌≤◌}
 use Rattle.std.proofs.lemmas.Bool.{and_from, false≢true}
 use Rattle.std.specs.Prelude.{is_some}
 use Rattle.action_names.specs.Names.{Name, is_top}
@@ -14,7 +14,6 @@ use Rattle.local_agreement.specs.Crashes.{LeavesSafe}
 use Rattle.local_agreement.specs.Judging.{are_on_objects, is_on_object}
 use Rattle.local_agreement.specs.Laws.{Agrees}
 use Rattle.layer_contracts.specs.Guardians.{GuardianState, News, kept, stamped}
-use Rattle.local_histories.specs.Keeping.{Past}
 use Rattle.tellings.specs.Hearing.{AreTold}
 use Rattle.tellings.specs.Hearing as hearing
 use Rattle.tellings.specs.declared.tellings.Tellings.{Tellings}
@@ -26,106 +25,95 @@ use Rattle.roster.specs.Rosters as rosters
 use Rattle.roster.specs.Tables.{table}
 use Rattle.roster.specs.declared.roster.Roster.{Roster}
 use Rattle.guardian_objects.specs.Objects.{AreObjects, Indexed, Keeps}
-use Rattle.guardian_memory.specs.Memories.{InMemory, IsSound, state_of}
+use Rattle.guardian_memory.specs.Memories.{InMemory, IsOfSome, IsSound}
 use Rattle.guardian_memory.proofs.Agreed.{safe_at}
 
--- ---- the history as contracts see it
+-- what is inside stands where the memory does
+pub inside : {m old : InMemory} {g : GuardianState} → m ≡ old → IsSound old g → IsSound m g
+inside {m} {old} {g} is at = subst (λ k. IsSound k g) (sym is) at
 
-pub state_same : (old m : InMemory) (events : List LocalEvent) → m ≡ old → events ≡ m.history.events
-    → ◌≡◌ {A = GuardianState} (record { opening = opening_in m.opening; number = m.number; past = events }) (state_of old)
-state_same old m events is same =
-    let make : List LocalEvent → GuardianState = λ l. record { opening = opening_in m.opening; number = m.number; past = l } in
-    ap make same ∙ ap (λ k. state_of k) is
-
-pub state_next : (old m : InMemory) (c : LocalEvent) (events : List LocalEvent) → m ≡ old → events ≡ c ∷ m.history.events
-    → ◌≡◌ {A = GuardianState} (record { opening = opening_in m.opening; number = m.number; past = events }) (kept (state_of old) c)
-state_next old m c events is next =
-    let make : List LocalEvent → GuardianState = λ l. record { opening = opening_in m.opening; number = m.number; past = l } in
-    ap make next ∙ ap (λ k. kept (state_of k) c) is
+pub outside : {m old : InMemory} {g : GuardianState} → m ≡ old → IsSound m g → IsSound old g
+outside {m} {old} {g} is at = subst (λ k. IsSound k g) is at
 
 -- ---- before anything happened
-
-pub state_empty : (opening : OpeningLists) (number : ℕ) (events : List LocalEvent) → events ≡ []
-    → ◌≡◌ {A = GuardianState} (record { opening = opening_in opening; number = number; past = events }) (record { opening = opening_in opening; number = number; past = [] })
-state_empty opening number events none =
-    let make : List LocalEvent → GuardianState = λ l. record { opening = opening_in opening; number = number; past = l } in
-    ap make none
 
 pub nothing_safe : (opening : Opening) (x : ObjectId) → LeavesSafe opening [] x
 nothing_safe opening x = record { kept = tt; restored = tt }
 
-pub nothing_sound : (opening : OpeningLists) (number : ℕ) (history : Past) (told : Tellings) (lists : Lists) (roster : Roster) (objects : Indexed)
-    → 1 ≤ number → history.events ≡ [] → AreTold number [] told → hearing.crashes_of told ≡ 0 → AreLists [] lists → guardian_of lists ≡ number
+abbrev pub nothing_yet : OpeningLists → ℕ → GuardianState
+nothing_yet opening number = record { opening = opening_in opening; number = number; past = [] }
+
+pub nothing_sound : (opening : OpeningLists) (number : ℕ) (told : Tellings) (lists : Lists) (roster : Roster) (objects : Indexed)
+    → 1 ≤ number → AreTold number [] told → hearing.crashes_of told ≡ 0 → AreLists [] lists → guardian_of lists ≡ number
     → IsRoster number [] (table roster) → AreObjects (opening_in opening) [] objects → objects.guardian ≡ number
-    → IsSound (record { opening = opening; number = number; history = history; told = told; lists = lists; roster = roster; objects = objects })
-nothing_sound opening number history told lists roster objects numbered none tellings lives knowledge knower actions shown owner = record {
+    → IsSound (record { opening = opening; number = number; told = told; lists = lists; roster = roster; objects = objects }) (nothing_yet opening number)
+nothing_sound opening number told lists roster objects numbered tellings lives knowledge knower actions shown owner = record {
+  opened = refl;
+  own = refl;
   numbered = numbered;
-  tellings = subst (λ l. AreTold number l told) (sym none) tellings;
-  lives = omega (arith, lives);
-  knowledge = subst (λ l. AreLists l lists) (sym none) knowledge;
+  tellings = tellings;
+  lives = lives;
+  knowledge = knowledge;
   knower = knower;
-  actions = subst (λ l. IsRoster number l (table roster)) (sym none) actions;
-  shown = subst (λ l. AreObjects (opening_in opening) l objects) (sym none) shown;
+  actions = actions;
+  shown = shown;
   owner = owner;
-  safe = λ x own. subst (λ l. LeavesSafe (opening_in opening) l x) (sym none) (nothing_safe (opening_in opening) x);
-  tops = λ t. subst (λ l. is_some (prepared_here (opening_in opening) number t l) ≡ true → is_top t ≡ true) (sym none) (λ h. absurd (false≢true h));
-  placed = subst (λ l. are_on_objects (opening_in opening) l ≡ true) (sym none) refl;
+  safe = λ x own. nothing_safe (opening_in opening) x;
+  tops = λ t h. absurd (false≢true h);
+  placed = refl;
 }
 
 -- ---- while nothing but room is made
 
-pub sound_same : {opening : OpeningLists} {number : ℕ} {history later : Past} {told more_told : Tellings} {lists more_lists : Lists} {roster more_roster : Roster}
-    {objects more_objects : Indexed}
-    → IsSound (record { opening = opening; number = number; history = history; told = told; lists = lists; roster = roster; objects = objects })
-    → later.events ≡ history.events
-    → ((g : ℕ) (here : List LocalEvent) → AreTold g here told → AreTold g here more_told) → hearing.crashes_of more_told ≡ hearing.crashes_of told
+pub sound_same : {opening : OpeningLists} {number : ℕ} {told more_told : Tellings} {lists more_lists : Lists} {roster more_roster : Roster} {objects more_objects : Indexed}
+    {g : GuardianState}
+    → ((h : ℕ) (here : List LocalEvent) → AreTold h here told → AreTold h here more_told) → hearing.crashes_of more_told ≡ hearing.crashes_of told
     → ((here : List LocalEvent) → AreLists here lists → AreLists here more_lists) → guardian_of more_lists ≡ guardian_of lists
-    → ((g : ℕ) (here : List LocalEvent) → IsRoster g here (table roster) → IsRoster g here (table more_roster))
+    → ((h : ℕ) (here : List LocalEvent) → IsRoster h here (table roster) → IsRoster h here (table more_roster))
     → Keeps objects more_objects → more_objects.guardian ≡ objects.guardian
-    → IsSound (record { opening = opening; number = number; history = later; told = more_told; lists = more_lists; roster = more_roster; objects = more_objects })
-sound_same {opening} {number} {history} {later} {told} {more_told} {lists} {more_lists} {roster} {more_roster} {objects} {more_objects} s same tells lives knows knower acts keeps owner = record {
+    → IsSound (record { opening = opening; number = number; told = told; lists = lists; roster = roster; objects = objects }) g
+    → IsSound (record { opening = opening; number = number; told = more_told; lists = more_lists; roster = more_roster; objects = more_objects }) g
+sound_same {g = g} tells lives knows knower acts keeps owner s = record {
+  opened = s.opened;
+  own = s.own;
   numbered = s.numbered;
-  tellings = subst (λ l. AreTold number l more_told) (sym same) (tells number history.events s.tellings);
-  lives = subst (λ l. hearing.crashes_of more_told ≤ length l) (sym same) (subst (λ n. n ≤ length history.events) (sym lives) s.lives);
-  knowledge = subst (λ l. AreLists l more_lists) (sym same) (knows history.events s.knowledge);
+  tellings = tells g.number g.past s.tellings;
+  lives = lives ∙ s.lives;
+  knowledge = knows g.past s.knowledge;
   knower = knower ∙ s.knower;
-  actions = subst (λ l. IsRoster number l (table more_roster)) (sym same) (acts number history.events s.actions);
-  shown = subst (λ l. AreObjects (opening_in opening) l more_objects) (sym same) (keeps (opening_in opening) history.events s.shown);
+  actions = acts g.number g.past s.actions;
+  shown = keeps g.opening g.past s.shown;
   owner = owner ∙ s.owner;
-  safe = λ x own. subst (λ l. LeavesSafe (opening_in opening) l x) (sym same) (s.safe x own);
-  tops = λ t. subst (λ l. is_some (prepared_here (opening_in opening) number t l) ≡ true → is_top t ≡ true) (sym same) (s.tops t);
-  placed = subst (λ l. are_on_objects (opening_in opening) l ≡ true) (sym same) s.placed;
+  safe = s.safe;
+  tops = s.tops;
+  placed = s.placed;
 }
 
--- ---- one crash more can be counted
+-- ---- crashes are counted
 
-crashes_within : (g : ℕ) (here : List LocalEvent) → crashes g (events_here here) ≤ length here
-crashes_within g [] = omega arith
-crashes_within g (c ∷ here) = of (step_crashes c.event.step g) (crashes_within g here)
-  where
-    before : List Event
-    before = filter (λ e. step_crashes e.step g) (events_here here)
+module _ {m : InMemory} {g : GuardianState} (s : IsSound m g) (room : rosters.crashes_of m.roster + 1 < 2 ^ 64) where
+  counted : crashes g.number (events_here g.past) + 1 < 2 ^ 64
+  counted = subst (λ n. n + 1 < 2 ^ 64) s.actions.crashes room
 
-    of : (t : Bool) → length before ≤ length here → length (cond t (c.event ∷ before) before) ≤ suc (length here)
-    of true within = omega (arith, within)
-    of false within = omega (arith, within)
+  -- one more can be counted of what was told, and in the lists
+  pub told_room : hearing.crashes_of m.told + 1 < 2 ^ 64
+  told_room = subst (λ n. n + 1 < 2 ^ 64) (sym s.lives) counted
 
-module _ {m : InMemory} (s : IsSound m) where
-  pub told_within : hearing.crashes_of m.told ≤ length m.history.events
-  told_within = s.lives
+  pub lists_room : knowing.crashes_of m.lists + 1 < 2 ^ 64
+  lists_room = subst (λ n. n + 1 < 2 ^ 64) (sym (s.knowledge.crashes ∙ ap (λ h. crashes h (events_here g.past)) s.knower)) counted
 
-  pub lists_within : knowing.crashes_of m.lists ≤ length m.history.events
-  lists_within = subst (λ n. n ≤ length m.history.events) (sym s.knowledge.crashes) (crashes_within (guardian_of m.lists) m.history.events)
+module _ (g : ℕ) (c : LocalEvent) (here : List LocalEvent) where
+  abbrev before : List Event
+  before = filter (λ e. step_crashes e.step g) (events_here here)
 
-  pub roster_within : rosters.crashes_of m.roster ≤ length m.history.events
-  roster_within = subst (λ n. n ≤ length m.history.events) (sym s.actions.crashes) (crashes_within m.number m.history.events)
+  by_step : {t : Bool} → step_crashes c.event.step g ≡ t → length (cond t (c.event ∷ before) before) ≡ crashes g (events_here (c ∷ here))
+  by_step is = sym (ap (λ t. length (cond t (c.event ∷ before) before)) is)
 
--- by the number of events once there is one more
-pub room_for_one : (crashed count : ℕ) (c : LocalEvent) (before after : List LocalEvent) → crashed ≤ length before → after ≡ c ∷ before → count ≡ length after
-    → count < 2 ^ 64 → crashed + 1 < 2 ^ 64
-room_for_one crashed count c before after within next counted fits =
-    let more : length after ≡ suc (length before) = ap (λ l. length l) next in
-    omega (arith, within, counted, more, fits)
+  pub not_counted : (old new : ℕ) → step_crashes c.event.step g ≡ false → new ≡ old → old ≡ crashes g (events_here here) → new ≡ crashes g (events_here (c ∷ here))
+  not_counted old new up same is = same ∙ is ∙ by_step up
+
+  pub one_counted : (old new : ℕ) → step_crashes c.event.step g ≡ true → new ≡ old + 1 → old ≡ crashes g (events_here here) → new ≡ crashes g (events_here (c ∷ here))
+  one_counted old new down more is = more ∙ add-one old ∙ ap suc is ∙ by_step down
 
 -- ---- with one event more
 
@@ -144,33 +132,27 @@ tops_next opening g c here voted before t = of (votes_yes c.event.step c.event.a
     of false vote true h = absurd (false≢true h)
     of false vote false h = before t h
 
-pub sound_next : {opening : OpeningLists} {number : ℕ} {history later : Past} {told more_told : Tellings} {lists more_lists : Lists} {roster more_roster : Roster}
-    {objects more_objects : Indexed} (n : ℕ) (e : News)
-    → IsSound (record { opening = opening; number = number; history = history; told = told; lists = lists; roster = roster; objects = objects })
-    → Agrees (opening_in opening) number (stamped 0 e) history.events → is_on_object (opening_in opening) e.event.step ≡ true
-    → later.events ≡ stamped n e ∷ history.events
-    → AreTold number (stamped n e ∷ history.events) more_told → hearing.crashes_of more_told ≤ hearing.crashes_of told + 1
-    → AreLists (stamped n e ∷ history.events) more_lists → guardian_of more_lists ≡ guardian_of lists
-    → IsRoster number (stamped n e ∷ history.events) (table more_roster)
-    → AreObjects (opening_in opening) (stamped n e ∷ history.events) more_objects → more_objects.guardian ≡ objects.guardian
-    → IsSound (record { opening = opening; number = number; history = later; told = more_told; lists = more_lists; roster = more_roster; objects = more_objects })
-sound_next {opening} {number} {history} {later} {told} {more_told} {lists} {more_lists} {roster} {more_roster} {objects} {more_objects} n e s agrees there next
-    tellings lives knowledge knower actions shown owner = record {
-      numbered = s.numbered;
-      tellings = subst (λ l. AreTold number l more_told) (sym next) tellings;
-      lives =
-          let more : length later.events ≡ suc (length history.events) = ap (λ l. length l) next in
-          let before : hearing.crashes_of told ≤ length history.events = s.lives in
-          omega (arith, lives, more, before);
-      knowledge = subst (λ l. AreLists l more_lists) (sym next) knowledge;
-      knower = knower ∙ s.knower;
-      actions = subst (λ l. IsRoster number l (table more_roster)) (sym next) actions;
-      shown = subst (λ l. AreObjects (opening_in opening) l more_objects) (sym next) shown;
-      owner = owner ∙ s.owner;
-      safe = λ x own. subst (λ l. LeavesSafe (opening_in opening) l x) (sym next) (safe_at (opening_in opening) n e history.events x (agrees.safe x own));
-      tops = λ t.
-          subst (λ l. is_some (prepared_here (opening_in opening) number t l) ≡ true → is_top t ≡ true) (sym next)
-          (tops_next (opening_in opening) number (stamped n e) history.events agrees.votes.top s.tops t);
-      placed = subst (λ l. are_on_objects (opening_in opening) l ≡ true) (sym next)
-          (and_from (is_on_object (opening_in opening) e.event.step) (are_on_objects (opening_in opening) history.events) there s.placed);
-    }
+pub sound_next : {opening : OpeningLists} {number : ℕ} {told more_told : Tellings} {lists more_lists : Lists} {roster more_roster : Roster} {objects more_objects : Indexed}
+    {g : GuardianState} (n : ℕ) (e : News)
+    → IsSound (record { opening = opening; number = number; told = told; lists = lists; roster = roster; objects = objects }) g
+    → Agrees g.opening g.number (stamped 0 e) g.past → is_on_object g.opening e.event.step ≡ true
+    → AreTold g.number (stamped n e ∷ g.past) more_told → hearing.crashes_of more_told ≡ crashes g.number (events_here (stamped n e ∷ g.past))
+    → AreLists (stamped n e ∷ g.past) more_lists → guardian_of more_lists ≡ guardian_of lists
+    → IsRoster g.number (stamped n e ∷ g.past) (table more_roster)
+    → AreObjects g.opening (stamped n e ∷ g.past) more_objects → more_objects.guardian ≡ objects.guardian
+    → IsSound (record { opening = opening; number = number; told = more_told; lists = more_lists; roster = more_roster; objects = more_objects }) (kept g (stamped n e))
+sound_next {g = g} n e s agrees there tellings lives knowledge knower actions shown owner = record {
+  opened = s.opened;
+  own = s.own;
+  numbered = s.numbered;
+  tellings = tellings;
+  lives = lives;
+  knowledge = knowledge;
+  knower = knower ∙ s.knower;
+  actions = actions;
+  shown = shown;
+  owner = owner ∙ s.owner;
+  safe = λ x own. safe_at g.opening n e g.past x (agrees.safe x own);
+  tops = tops_next g.opening g.number (stamped n e) g.past agrees.votes.top s.tops;
+  placed = and_from (is_on_object g.opening e.event.step) (are_on_objects g.opening g.past) there s.placed;
+}

@@ -5,13 +5,17 @@ use Rattle.run_model.specs.declared.answer.Answer.{Answer}
 use Rattle.run_model.specs.declared.history.Event.{Event}
 use Rattle.run_model.specs.LocalReadings.{LocalEvent, prepared_here, told_committed_here}
 use Rattle.local_agreement.specs.Judging.{is_yes, objects_settled_below}
-use Rattle.layer_contracts.specs.Guardians.{GuardianState, stamped}
+use Rattle.layer_contracts.specs.Guardians.{GuardianState, News, stamped}
 use Rattle.layer_contracts.specs.Messages.{carried_of}
 use Rattle.layer_contracts.specs.declared.message.Message.{Message}
 
--- the event with its message, before it has its stamp
+-- the event with its message
+abbrev pub news_in : Event → Message → News
+news_in e m = record { event = e; carried = carried_of m }
+
+-- before it has its stamp
 abbrev pub local_event : Event → Message → LocalEvent
-local_event e m = stamped 0 (record { event = e; carried = carried_of m })
+local_event e m = stamped 0 (news_in e m)
 
 -- of these actions the store has a record
 abbrev pub AreRecorded : (Name → Bool) → GuardianState → Type 0

@@ -1,15 +1,17 @@
 //! Which events are accepted, by the guardian's own history alone.
-ghost use Rattle.std.specs.Prelude.{◌≡◌, not, true, Some, IfOk, IsTrue};
+ghost use Rattle.std.specs.Prelude.{◌≡◌, ◌&&◌, not, true, Some, IfOk, IsTrue};
 ghost use Rattle.std.specs.Option.{option_copied as name_of};
 ghost use Rattle.std.specs.FinMap as map;
 ghost use Rattle.std.specs.List.{list_all};
 ghost use Rattle.action_names.specs.Names.{is_proper_ancestor, name_cmp, same_name};
 ghost use Rattle.run_model.specs.Refusals.{no_object};
+ghost use Rattle.run_model.specs.LocalReadings.{told_committed_here};
 ghost use Rattle.local_agreement.specs.Judging.{accepts, accepts_actions, accepts_outcomes, accepts_safety, accepts_vote, hands_on, holds_nothing, is_guardian, is_on_object, is_yes, next_holder, none_undone, objects_settled_below};
 ghost use Rattle.local_agreement.specs.Laws.{Agrees, IsByNamed};
 ghost use Rattle.local_agreement.specs.Outcomes.{are_brought, is_by_told};
+ghost use Rattle.layer_contracts.specs.Guardians.{GuardianState};
 ghost use Rattle.guardian_memory.specs.Accepting.{AreRecorded, local_event, may_vote, stays_safe};
-ghost use Rattle.guardian_memory.specs.Memories.{state_of};
+ghost use Rattle.guardian_memory.specs.Memories.{IsSound};
 
 use crate::memory::Memory;
 use guardian_objects::outcome_of;
@@ -27,14 +29,11 @@ impl Memory {
         message: &Message,
         records: &S,
     ) -> Result<bool, AllocError>
-        requires stays { AreRecorded (λ a. S.stays records.now a) (state_of self.now) }
-        ensures accepts { IfOk result (λ yes. yes
-            ≡ accepts (state_of self.now).opening (state_of self.now).number (local_event event.now message.now) (state_of self.now).past) }
-        ensures agrees { IfOk result (λ yes. IsTrue yes
-            → Agrees (state_of self.now).opening (state_of self.now).number (local_event event.now message.now) (state_of self.now).past) }
+        ensures accepts { (s : GuardianState) → IsSound self.now s → AreRecorded (λ a. S.stays records.now a) s → IfOk result (λ yes. yes
+            ≡ accepts s.opening s.number (local_event event.now message.now) s.past) }
+        ensures agrees { (s : GuardianState) → IsSound self.now s → AreRecorded (λ a. S.stays records.now a) s → IfOk result (λ yes. IsTrue yes
+            → Agrees s.opening s.number (local_event event.now message.now) s.past) }
     {
-        // All parts are those of one history, of which a crash leaves what is safe.
-        let _events = self.history.len();
         if !self.accepts_actions(event, message)? {
             return Ok(false);
         }
@@ -52,7 +51,7 @@ impl Memory {
 
     // What the roster asks of the event.
     fn accepts_actions(&self, event: &Event, message: &Message) -> Result<bool, AllocError>
-        ensures { IfOk result (λ yes. yes ≡ accepts_actions (state_of self.now).number (local_event event.now message.now) (state_of self.now).past) }
+        ensures { (s : GuardianState) → IsSound self.now s → IfOk result (λ yes. yes ≡ accepts_actions s.number (local_event event.now message.now) s.past) }
     {
         let dependencies = message.dependencies.as_slice();
         self.roster.accepts(event, dependencies)
@@ -60,7 +59,7 @@ impl Memory {
 
     // What objects ask of the outcomes that come.
     fn accepts_outcomes(&self, event: &Event, message: &Message) -> bool
-        ensures { result ≡ accepts_outcomes (local_event event.now message.now) (state_of self.now).past }
+        ensures { (s : GuardianState) → IsSound self.now s → result ≡ accepts_outcomes (local_event event.now message.now) s.past }
     {
         let outcomes = message.outcomes.as_slice();
         are_brought(&event.step, outcomes)
@@ -71,14 +70,26 @@ impl Memory {
 
     // Whether nothing is told aborted that was told committed.
     fn undoes_none(&self, outcomes: &[(Name, bool)]) -> bool
-        ensures { result ≡ none_undone outcomes.now (state_of self.now).past }
+        ensures { (s : GuardianState) → IsSound self.now s → result ≡ none_undone outcomes.now s.past }
     {
-        outcomes.iter().all(|(name, committed)| *committed || !self.was_told_committed(name))
+        for (name, committed) in outcomes {
+            if self.is_undone(name, *committed) {
+                return false;
+            }
+        }
+        true
+    }
+
+    // Whether it would be told aborted what it was told committed.
+    fn is_undone(&self, name: &Name, committed: bool) -> bool
+        ensures { (s : GuardianState) → IsSound self.now s → result ≡ (not committed && told_committed_here name.now s.past) }
+    {
+        !committed && self.was_told_committed(name)
     }
 
     // Whether it is an operation of an action that was told committed.
     fn is_by_told(&self, step: &Step) -> bool
-        ensures { result ≡ is_by_told step.now (state_of self.now).past }
+        ensures { (s : GuardianState) → IsSound self.now s → result ≡ is_by_told step.now s.past }
     {
         match step {
             Step::Op(action, _, _) => self.was_told_committed(action),
@@ -88,7 +99,7 @@ impl Memory {
 
     // A yes vote of this guardian is on a top action, and a guardian sent the question.
     fn accepts_vote(&self, event: &Event, message: &Message) -> bool
-        ensures { result ≡ accepts_vote (state_of self.now).number (local_event event.now message.now) event.now.step }
+        ensures { (s : GuardianState) → IsSound self.now s → result ≡ accepts_vote s.number (local_event event.now message.now) event.now.step }
     {
         match &event.step {
             Step::Prepare(guardian, top) if *guardian == self.number() && is_yes(&event.answer) => {
@@ -100,7 +111,7 @@ impl Memory {
 
     // Whether an operation is on an object that its guardian has.
     fn is_on_object(&self, step: &Step) -> bool
-        ensures there { result ≡ is_on_object (state_of self.now).opening step.now }
+        ensures there { (s : GuardianState) → IsSound self.now s → result ≡ is_on_object s.opening step.now }
         ensures named { IsByNamed step.now }
     {
         match step {
@@ -114,7 +125,7 @@ impl Memory {
     }
 
     fn has_object(&self, object: ObjectId) -> bool
-        ensures { result ≡ not (no_object (state_of self.now).opening object).1 }
+        ensures { (s : GuardianState) → IsSound self.now s → result ≡ not (no_object s.opening object).1 }
     {
         // There is no guardian 0. The definition reads it as the first.
         let guardian = if object.guardian == 0 {
@@ -133,10 +144,9 @@ impl Memory {
         message: &Message,
         records: &S,
     ) -> Result<bool, AllocError>
-        requires stays { AreRecorded (λ a. S.stays records.now a) (state_of self.now) }
-        requires none { IsTrue (none_undone message.now.outcomes.items (state_of self.now).past) }
-        ensures { IfOk result (λ yes. yes ≡ accepts_safety (state_of self.now).opening (state_of self.now).number (local_event event.now message.now)
-            (state_of self.now).past event.now.step) }
+        ensures { (s : GuardianState) → IsSound self.now s → AreRecorded (λ a. S.stays records.now a) s → IsTrue (none_undone message.now.outcomes.items s.past) →
+            IfOk result (λ yes. yes ≡ accepts_safety s.opening s.number (local_event event.now message.now)
+            s.past event.now.step) }
     {
         let outcomes = message.outcomes.as_slice();
         match &event.step {
@@ -161,9 +171,7 @@ impl Memory {
         outcomes: &[(Name, bool)],
         records: &S,
     ) -> Result<bool, AllocError>
-        requires stays { AreRecorded (λ a. S.stays records.now a) (state_of self.now) }
-        requires none { IsTrue (none_undone outcomes.now (state_of self.now).past) }
-        ensures { IfOk result (λ yes. yes ≡ may_vote (state_of self.now) answer.now top.now outcomes.now) }
+        ensures { (s : GuardianState) → IsSound self.now s → AreRecorded (λ a. S.stays records.now a) s → IsTrue (none_undone outcomes.now s.past) → IfOk result (λ yes. yes ≡ may_vote s answer.now top.now outcomes.now) }
     {
         if records.stays(top) || self.was_told_committed(top) {
             return Ok(false);
@@ -176,9 +184,8 @@ impl Memory {
 
     // Whether all that is kept is settled below the top action, once these outcomes come.
     fn are_settled_below(&self, top: &Name, outcomes: &[(Name, bool)]) -> Result<bool, AllocError>
-        requires { IsTrue (none_undone outcomes.now (state_of self.now).past) }
-        ensures { IfOk result (λ yes. yes
-            ≡ objects_settled_below (state_of self.now).opening (state_of self.now).number top.now outcomes.now (state_of self.now).past) }
+        ensures { (s : GuardianState) → IsSound self.now s → IsTrue (none_undone outcomes.now s.past) → IfOk result (λ yes. yes
+            ≡ objects_settled_below s.opening s.number top.now outcomes.now s.past) }
     {
         self.objects.are_settled_below(top, outcomes, &self.told)
     }
@@ -190,9 +197,8 @@ impl Memory {
         outcome: Option<bool>,
         records: &S,
     ) -> Result<bool, AllocError>
-        requires stays { AreRecorded (λ a. S.stays records.now a) (state_of self.now) }
-        ensures { IfOk result (λ yes. yes
-            ≡ hands_on (state_of self.now).opening (state_of self.now).number action.now outcome (state_of self.now).past) }
+        ensures { (s : GuardianState) → IsSound self.now s → AreRecorded (λ a. S.stays records.now a) s → IfOk result (λ yes. yes
+            ≡ hands_on s.opening s.number action.now outcome s.past) }
     {
         match outcome {
             None => Ok(false),
@@ -202,9 +208,8 @@ impl Memory {
     }
 
     fn hands_on_safely<S: Survivors>(&self, action: &Name, records: &S) -> Result<bool, AllocError>
-        requires stays { AreRecorded (λ a. S.stays records.now a) (state_of self.now) }
-        ensures { IfOk result (λ yes. yes
-            ≡ hands_on (state_of self.now).opening (state_of self.now).number action.now (Some true) (state_of self.now).past) }
+        ensures { (s : GuardianState) → IsSound self.now s → AreRecorded (λ a. S.stays records.now a) s → IfOk result (λ yes. yes
+            ≡ hands_on s.opening s.number action.now (Some true) s.past) }
     {
         if self.holds_nothing(action) {
             return Ok(true);
@@ -214,14 +219,14 @@ impl Memory {
     }
 
     fn holds_nothing(&self, action: &Name) -> bool
-        ensures { result ≡ holds_nothing (state_of self.now).opening (state_of self.now).number action.now (state_of self.now).past }
+        ensures { (s : GuardianState) → IsSound self.now s → result ≡ holds_nothing s.opening s.number action.now s.past }
     {
         self.objects.holds_nothing(action)
     }
 
     // Who holds what the action held, once it is told committed.
     fn next_holder(&self, action: &Name) -> Result<Option<Name>, AllocError>
-        ensures { IfOk result (λ next. next ≡ next_holder action.now (state_of self.now).past) }
+        ensures { (s : GuardianState) → IsSound self.now s → IfOk result (λ next. next ≡ next_holder action.now s.past) }
     {
         // The action has numbers, as the depth of its name says.
         let _depth = action.depth();

@@ -1,11 +1,10 @@
 //! The memory of a guardian.
-ghost use Rattle.std.specs.Prelude.{◌≡◌, ◌≤◌, [], IfOk};
+ghost use Rattle.std.specs.Prelude.{◌≤◌, [], IfOk};
 ghost use Rattle.std.specs.Arc.{arc_value};
 ghost use Rattle.run_model.specs.Openings.{opening_in};
-ghost use Rattle.guardian_memory.specs.Memories.{state_of};
+ghost use Rattle.guardian_memory.specs.Memories.{IsSound};
 
 use guardian_objects::Objects;
-use local_histories::LocalHistory;
 use orphans::Lists;
 use roster::Roster;
 use run_model::Opening;
@@ -14,14 +13,12 @@ use std::marker::Model;
 use std::sync::Arc;
 use tellings::Tellings;
 
-/// What one guardian keeps in memory. All its parts are those of one history.
+/// What one guardian keeps in memory: all its parts are those of one history, which it does not keep.
 #[derive(Drop)]
 pub struct Memory {
     pub(crate) alloc: Global,
     pub(crate) opening: Arc<Opening, Global>,
     pub(crate) number: u32,
-    /// The events that name the guardian.
-    pub(crate) history: LocalHistory,
     /// Of which outcomes it was told.
     pub(crate) told: Tellings,
     /// Which aborts and crashes it knows of.
@@ -37,7 +34,7 @@ impl Model for Memory {
     ghost use Rattle.tellings.specs.contracts.tellings.Tellings as of_tellings;
     ghost use Rattle.orphans.specs.contracts.lists.Lists as of_lists;
     ghost use Rattle.roster.specs.contracts.roster.Roster as of_roster;
-    ghost use Rattle.guardian_memory.specs.Memories.{InMemory, IsSound};
+    ghost use Rattle.guardian_memory.specs.Memories.{InMemory, IsOfSome};
 
     ghost Value = { InMemory };
 
@@ -46,17 +43,15 @@ impl Model for Memory {
     ghost view = { λ a. record {
       opening = arc_value a.opening;
       number = a.number;
-      history = a.history;
       told = a.told;
       lists = a.lists;
       roster = a.roster;
       objects = a.objects;
     } };
 
-    ghost invariant = { λ a. IsSound (record {
+    ghost invariant = { λ a. IsOfSome (record {
       opening = arc_value a.opening;
       number = a.number;
-      history = a.history;
       told = a.told;
       lists = a.lists;
       roster = a.roster;
@@ -72,14 +67,13 @@ impl Memory {
         number: u32,
     ) -> Result<Memory, AllocError>
         requires { 1 ≤ number }
-        ensures { IfOk result (λ memory. state_of memory ≡ record { opening = opening_in (arc_value opening); number = number; past = [] }) }
+        ensures { IfOk result (λ memory. IsSound memory (record { opening = opening_in (arc_value opening); number = number; past = [] })) }
     {
         let objects = Objects::new(alloc, &opening, number)?;
         Ok(Memory {
             alloc,
             opening,
             number,
-            history: LocalHistory::new(alloc),
             told: Tellings::new(alloc),
             lists: Lists::new(alloc, number),
             roster: Roster::new(alloc, number),

@@ -2,17 +2,16 @@
 ghost use Rattle.std.specs.Prelude.{◌≡◌};
 
 use guardian_objects::Planned;
-use layer_contracts::Message;
 use orphans::Lesson;
 use roster::Entry;
-use run_model::{Event, Name};
+use run_model::Name;
 use tellings::Heard;
 
 /// What one event is to change in a guardian's memory, made of copies. The memory has room for it.
 #[derive(Drop)]
 pub struct Plan {
-    pub(crate) event: Event,
-    pub(crate) message: Message,
+    pub(crate) sender: Option<u32>,
+    pub(crate) outcomes: Vec<(Name, bool)>,
     /// For what it was told.
     pub(crate) heard: Heard,
     /// For its lists.
@@ -24,26 +23,17 @@ pub struct Plan {
 }
 
 impl Plan {
-    ghost use Rattle.guardian_memory.specs.Plans.{news_of};
-
-    /// The event that the plan is for.
-    pub fn event(&self) -> &Event
-        ensures { result.now ≡ (news_of self.now).event }
-    {
-        &self.event
-    }
-
-    /// Whose lists come with it, if any.
+    /// Whose lists come with the event, if any.
     pub fn sender(&self) -> Option<u32>
-        ensures { result ≡ (news_of self.now).carried.sender }
+        ensures { result ≡ self.now.sender }
     {
-        self.message.sender
+        self.sender
     }
 
-    /// The outcomes that it brings: which actions, and whether they committed.
+    /// The outcomes that the event brings: which actions, and whether they committed.
     pub fn outcomes(&self) -> &[(Name, bool)]
-        ensures { result.now ≡ (news_of self.now).carried.outcomes }
+        ensures { result.now ≡ self.now.outcomes.items }
     {
-        self.message.outcomes.as_slice()
+        self.outcomes.as_slice()
     }
 }

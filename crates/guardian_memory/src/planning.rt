@@ -1,12 +1,13 @@
 //! Making room for an event.
-ghost use Rattle.std.specs.Prelude.{◌≡◌, IfOk, IsTrue};
+ghost use Rattle.std.specs.Prelude.{IfOk, IsTrue};
+ghost use Rattle.atomic_object.specs.Staying.{OutcomesRise};
 ghost use Rattle.run_model.specs.Runs.{is_accepted};
 ghost use Rattle.local_laws.specs.Owed.{IsOwed};
 ghost use Rattle.local_agreement.specs.Laws.{Agrees};
-ghost use Rattle.layer_contracts.specs.Guardians.{stamped};
-ghost use Rattle.layer_contracts.specs.Messages.{carried_of};
-ghost use Rattle.guardian_memory.specs.Memories.{state_of};
-ghost use Rattle.guardian_memory.specs.Plans.{FitsPlan, news_of};
+ghost use Rattle.layer_contracts.specs.Guardians.{GuardianState};
+ghost use Rattle.guardian_memory.specs.Accepting.{local_event, news_in};
+ghost use Rattle.guardian_memory.specs.Memories.{IsSound};
+ghost use Rattle.guardian_memory.specs.Plans.{FitsPlan, IsPlanOf};
 
 use crate::memory::Memory;
 use crate::plan::Plan;
@@ -16,18 +17,22 @@ use run_model::Event;
 use std::alloc::AllocError;
 
 impl Memory {
-    /// Makes room for an event and computes what it changes, where it brings what this guardian's own history asks of it, and agrees with that
-    /// history. With memory and without, the guardian's history is the one that it was.
+    /// Makes room for an event and computes what it changes. With memory and without, the memory stands where it stood. The plan is for the event in
+    /// each state whose history it agrees with, where it brings what that history asks of it. Fails for want of memory, and where one more crash could
+    /// not be counted.
     pub fn plan(&mut self, event: &Event, message: Message) -> Result<Plan, AllocError>
         requires accepted { IsTrue (is_accepted event.now.answer) }
-        requires owed { IsOwed (state_of self.old).opening (state_of self.old).number
-            (stamped 0 (record { event = event.now; carried = carried_of message })) (state_of self.old).past event.now.step }
-        requires agrees { Agrees (state_of self.old).opening (state_of self.old).number
-            (stamped 0 (record { event = event.now; carried = carried_of message })) (state_of self.old).past }
-        ensures same { state_of self.new ≡ state_of self.old }
-        ensures fits { IfOk result (FitsPlan self.new) }
-        ensures planned { IfOk result (λ plan. news_of plan ≡ record { event = event.now; carried = carried_of message }) }
+        requires rising { OutcomesRise message.outcomes.items }
+        ensures same { (s : GuardianState) → IsSound self.old s → IsSound self.new s }
+        ensures fits { IfOk result (λ plan. FitsPlan plan self.new) }
+        ensures planned { IfOk result (λ plan. (s : GuardianState) → IsSound self.old s
+            → IsOwed s.opening s.number (local_event event.now message) s.past event.now.step
+            → Agrees s.opening s.number (local_event event.now message) s.past
+            → IsPlanOf plan self.new s (news_in event.now message)) }
     {
+        if self.roster.crashes() == u64::MAX {
+            return Err(AllocError);
+        }
         let outcomes = message.outcomes.as_slice();
         let counts = message.counts.as_slice();
         let dependencies = message.dependencies.as_slice();
@@ -38,15 +43,14 @@ impl Memory {
             counts,
             outcomes,
         };
-        self.history.make_room(&message)?;
         let planned = self.objects.plan(outcomes, &self.told)?;
         let heard = self.told.plan(outcomes)?;
         let lesson = self.lists.plan_lesson(self.alloc, news)?;
         let entry = self.roster.plan(event, dependencies)?;
-        let copy = event.copy()?;
+        let sender = message.sender;
         Ok(Plan {
-            event: copy,
-            message,
+            sender,
+            outcomes: message.outcomes,
             heard,
             lesson,
             entry,

@@ -3,9 +3,9 @@ ghost use Rattle.std.specs.Prelude.{◌≡◌, ◌∷◌, IfOk, IsTrue};
 ghost use Rattle.run_model.specs.LocalReadings.{standing_here};
 ghost use Rattle.run_model.specs.StableContent.{parts_by};
 ghost use Rattle.run_model.specs.Visibility.{votes_yes};
-ghost use Rattle.layer_contracts.specs.Guardians.{stamped};
-ghost use Rattle.guardian_memory.specs.Memories.{state_of};
-ghost use Rattle.guardian_memory.specs.Plans.{FitsPlan, news_of};
+ghost use Rattle.layer_contracts.specs.Guardians.{GuardianState, News, stamped};
+ghost use Rattle.guardian_memory.specs.Memories.{IsSound};
+ghost use Rattle.guardian_memory.specs.Plans.{IsPlanOf};
 
 use crate::memory::Memory;
 use crate::plan::Plan;
@@ -18,10 +18,10 @@ impl Memory {
     /// What the top action will hold once the guardian has kept its yes vote on it, by the number of the object. It is read before anything
     /// changes. Fails only for want of memory.
     pub fn parts(&self, top: &Name, plan: &Plan) -> Result<BTreeMap<u32, Part>, AllocError>
-        requires fits { FitsPlan self.now plan.now }
-        requires vote { IsTrue (votes_yes (news_of plan.now).event.step (news_of plan.now).event.answer (state_of self.now).number top.now) }
-        ensures { IfOk result (λ parts. parts.entries ≡ parts_by (state_of self.now).opening (state_of self.now).number
-            (λ x. standing_here (stamped 0 (news_of plan.now) ∷ (state_of self.now).past) x) top.now) }
+        requires { (s : GuardianState) × (news : News) × IsSound self.now s × IsPlanOf plan.now self.now s news }
+        ensures { (s : GuardianState) (news : News) → IsSound self.now s → IsPlanOf plan.now self.now s news
+            → IsTrue (votes_yes news.event.step news.event.answer s.number top.now)
+            → IfOk result (λ parts. parts.entries ≡ parts_by s.opening s.number (λ x. standing_here (stamped 0 news ∷ s.past) x) top.now) }
     {
         if self.told.is_committed(top) {
             // What was told committed holds nothing.

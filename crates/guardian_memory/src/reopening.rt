@@ -4,13 +4,12 @@ ghost use Rattle.std.specs.Arc.{arc_value};
 ghost use Rattle.run_model.specs.Openings.{opening_in};
 ghost use Rattle.run_model.specs.Reopening.{life_before};
 ghost use Rattle.guardian_objects.specs.Restored.{AreRestorable};
-ghost use Rattle.guardian_memory.specs.Memories.{state_of};
+ghost use Rattle.guardian_memory.specs.Memories.{IsSound};
 ghost use Rattle.guardian_memory.specs.Reopening.{AreOfTops, records_of};
 
 use crate::memory::Memory;
 use atomic_types::Part;
 use guardian_objects::Objects;
-use local_histories::{LocalHistory, TimeBefore};
 use orphans::Lists;
 use roster::Roster;
 use run_model::{Name, Opening};
@@ -44,26 +43,23 @@ impl Memory {
         requires counted { ((opening_in (arc_value opening)).stores number).count ≡ count }
         requires tops { AreOfTops (records_of records.items) }
         requires restorable { AreRestorable (opening_in (arc_value opening)) number (records_of records.items) }
-        ensures { IfOk result (λ memory. state_of memory ≡ record {
+        ensures { IfOk result (λ memory. IsSound memory (record {
           opening = opening_in (arc_value opening);
           number = number;
           past = life_before number ((opening_in (arc_value opening)).stores number) (records_of records.items);
-        }) }
+        })) }
     {
         let mut objects = Objects::new(alloc, &opening, number)?;
-        let mut before = TimeBefore::new(alloc, number, count);
         let mut left = records;
         while let Some(record) = left.pop() {
-            let TopRecord { top, home, parts } = record;
+            let TopRecord { top, parts, .. } = record;
             objects.give_back(&top, &parts)?;
-            before.push(top, home, parts)?;
         }
         let crashes = count + 1;
         Ok(Memory {
             alloc,
             opening,
             number,
-            history: LocalHistory::after(alloc, before),
             told: Tellings::reopened(alloc, crashes),
             lists: Lists::reopened(alloc, number, crashes),
             roster: Roster::reopened(alloc, number, crashes),

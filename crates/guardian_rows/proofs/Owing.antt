@@ -1,7 +1,6 @@
 -- What a guardian owes is what its history asks for, where it accepts the event.
 use Rattle.std.proofs.Common.{ap, Bool, None, Option, Some, cond, false, not, refl, subst, sym, true, ℕ, ◌&&◌, ◌==◌, ◌∙◌, ◌∷◌, ◌≡◌}
 use Rattle.std.proofs.lemmas.Bool.{and_parts, false≢true}
-use Rattle.action_names.specs.Names.{Name}
 use Rattle.run_model.specs.declared.answer.Answer.{Answer}
 use Rattle.run_model.specs.declared.answer.Answer.TheVariants.{Done}
 use Rattle.run_model.specs.declared.history.Event.{Event}

@@ -3,12 +3,10 @@ ghost use Rattle.std.specs.Prelude.{◌≡◌, IfOk, IsFalse, IsTrue, if◌then�
 ghost use Rattle.run_model.specs.declared.answer.Answer.TheVariants.{VoteNo, VoteYes};
 ghost use Rattle.run_model.specs.LocalReadings.{beside, least_of, outcome_in, says_committed, vote_here};
 ghost use Rattle.run_model.specs.Runs.{is_accepted};
-ghost use Rattle.local_laws.specs.Owed.{IsOwed};
-ghost use Rattle.local_agreement.specs.Laws.{Agrees};
-ghost use Rattle.layer_contracts.specs.Guardians.{stamped};
+ghost use Rattle.layer_contracts.specs.Guardians.{GuardianState, News};
 ghost use Rattle.layer_contracts.specs.Messages.{carried_of, may_fail, sent_of};
 ghost use Rattle.lent_steps.specs.Keeping.{is_operation};
-ghost use Rattle.guardian_rows.specs.Owing.{Owes};
+ghost use Rattle.guardian_rows.specs.Owing.{MayKeep, Owes};
 
 use crate::alone::Unkept;
 use crate::brought::Brought;
@@ -62,11 +60,11 @@ fn keep_answered<G: Judging>(
     stamp: u64,
 ) -> Result<(), Unkept>
     requires other { IsFalse (is_operation step.now) }
-    requires owes { Owes (G.state guardian.old) (carried_of message) step.now answer.now }
+    requires owes { (s : GuardianState) → G.stands guardian.old s → Owes s (carried_of message) step.now answer.now }
 {
     let event = accepted(guardian, step, answer, &message)?;
     let plan = guardian.plan(&event, message)?;
-    carry_out(guardian, plan, step, stamp)?;
+    carry_out(guardian, plan, &event, stamp)?;
     Ok(())
 }
 
@@ -78,14 +76,13 @@ fn accepted<G: Judging>(
     message: &Message,
 ) -> Result<Event, Unkept>
     requires other { IsFalse (is_operation step.now) }
-    requires owes { Owes (G.state guardian.now) (carried_of message.now) step.now answer.now }
-    ensures event { IfOk result (λ event. event ≡ record { step = step.now; answer = answer.now }) }
+    requires owes { (s : GuardianState) → G.stands guardian.now s → Owes s (carried_of message.now) step.now answer.now }
     ensures accepted { IfOk result (λ event. IsTrue (is_accepted event.answer)) }
-    ensures owed { IfOk result (λ event. IsOwed (G.state guardian.now).opening (G.state guardian.now).number
-        (stamped 0 (record { event = event; carried = carried_of message.now })) (G.state guardian.now).past event.step) }
-    ensures agrees { IfOk result (λ event. Agrees (G.state guardian.now).opening (G.state guardian.now).number
-        (stamped 0 (record { event = event; carried = carried_of message.now })) (G.state guardian.now).past) }
+    ensures kept { IfOk result (λ event. (s : GuardianState) × G.stands guardian.now s
+        × MayKeep s (record { event = event; carried = carried_of message.now })) }
 {
+    // The guardian stands in some state.
+    guardian.opening();
     let event = Event::of(step, answer)?;
     if !answer.is_accepted() {
         return Err(Unkept::NotAccepted);
@@ -96,20 +93,20 @@ fn accepted<G: Judging>(
     Ok(event)
 }
 
-/// Carries out a plan for this step.
+/// Carries out a plan for this event.
 fn carry_out<G: Guardian>(
     guardian: &mut G,
     plan: G::Plan,
-    step: &Step,
+    event: &Event,
     stamp: u64,
 ) -> Result<(), Fault>
     requires fits { G.fits plan guardian.old }
-    requires step { (G.planned plan).event.step ≡ step.now }
+    requires planned { (s : GuardianState) × (news : News) × G.stands guardian.old s × G.is_for plan guardian.old s news × (news.event ≡ event.now) }
 {
-    if may_fail(step, guardian.number()) {
-        guardian.carry_out(plan, || stamp)?;
+    if may_fail(&event.step, guardian.number()) {
+        guardian.carry_out(plan, event, || stamp)?;
     } else {
-        guardian.install(plan, stamp);
+        guardian.install(plan, event, stamp);
     }
     Ok(())
 }
@@ -121,7 +118,7 @@ fn answer_of<G: Guardian>(
     message: &Message,
     begun: &Names,
 ) -> Result<Answer, AllocError>
-    ensures { IfOk result (λ answer. Owes (G.state guardian.now) (carried_of message.now) step.now answer) }
+    ensures { (s : GuardianState) → G.stands guardian.now s → IfOk result (λ answer. Owes s (carried_of message.now) step.now answer) }
 {
     match step {
         Step::Top(_) | Step::NestedTop(_) | Step::Call(_, _) | Step::Arms(_, _) => Ok(Answer::Began(
@@ -138,7 +135,8 @@ fn answer_of<G: Guardian>(
 
 /// The guardian's vote on a top action that brings these dependencies.
 fn vote_of<G: Guardian>(guardian: &G, top: &Name, message: &Message) -> Answer
-    ensures { result ≡ (if vote_here (G.state guardian.now).number top.now (sent_of message.now.dependencies.items) (G.state guardian.now).past then VoteYes else VoteNo) }
+    ensures { (s : GuardianState) → G.stands guardian.now s
+        → result ≡ (if vote_here s.number top.now (sent_of message.now.dependencies.items) s.past then VoteYes else VoteNo) }
 {
     match least_of(message.dependencies.as_slice(), top, guardian.number()) {
         Some(least) if least == guardian.crashes() => Answer::VoteYes,

@@ -1,8 +1,11 @@
 -- What is said of a guardian: its opening, its number and its own history.
-use Rattle.std.specs.Prelude.{ℕ, Bool, not, ◌&&◌, ◌==◌, List, [], ◌∷◌, if◌then◌else◌}
+use Rattle.std.specs.Prelude.{◌≡◌, ◌≤◌, ℕ, Bool, not, ◌&&◌, ◌==◌, List, [], ◌∷◌, if◌then◌else◌, IsTrue, length}
 use Rattle.action_names.specs.Names.{Name}
+use Rattle.atomic_types.specs.Objects.{knows}
+use Rattle.atomic_types.specs.Operations.{Op}
 use Rattle.run_model.specs.declared.history.Event.{Event}
-use Rattle.run_model.specs.Openings.{Opening}
+use Rattle.run_model.specs.declared.step.ObjectId.{ObjectId}
+use Rattle.run_model.specs.Openings.{Opening, first_content, objects_at}
 use Rattle.run_model.specs.LocalReadings.{Carried, LocalEvent, count_here, told_committed_here}
 use Rattle.run_model.specs.LocalHistories.{RegistryEvent, Stamped, history_after_lent}
 
@@ -25,6 +28,14 @@ stamped n news = record { stamp = n; event = news.event; carried = news.carried 
 abbrev pub count_told : GuardianState → Name → Bool → ℕ
 count_told g a committed =
     if told_committed_here a g.past && not committed then 0 else count_here g.opening g.number a committed g.past
+
+-- the object is one of its own, and knows the operation
+pub record MayAsk (g : GuardianState) (x : ObjectId) (wanted : Op) : Type 0 where
+  pub own : x.guardian ≡ g.number
+  pub guardian : 1 ≤ x.guardian
+  pub number : 1 ≤ x.number
+  pub there : x.number ≤ length (objects_at g.opening.setup x.guardian)
+  pub known : IsTrue (knows (first_content g.opening x) wanted)
 
 -- the guardian after it kept an event
 abbrev pub kept : GuardianState → LocalEvent → GuardianState

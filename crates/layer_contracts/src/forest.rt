@@ -11,6 +11,7 @@ ghost use Rattle.run_model.specs.Votes.{has_voted};
 ghost use Rattle.run_model.specs.LocalReadings.{LocalEvent};
 ghost use Rattle.run_model.specs.LocalHistories.{answer_lent, dependency_there, entries_of, events_there, outcomes_below};
 ghost use Rattle.layer_contracts.specs.Forests.{ForestState, RegistryNews, begun_at, entered, new_entries, stamped_there};
+ghost use Rattle.layer_contracts.specs.Guardians.{GuardianState};
 
 use crate::guardian::Guardian;
 use run_model::{Event, Name, Opening};
@@ -98,8 +99,8 @@ pub trait Forest: Drop {
         top: &Name,
         at: &G,
     ) -> Result<Vec<(Name, bool)>, AllocError>
-        ensures { (f : ForestState) → stands self.now f → IfOk result (λ outcomes. outcomes.items ≡
-            outcomes_below top.now (G.state at.now).number (events_there f.registry) (G.state at.now).past) };
+        ensures { (f : ForestState) (s : GuardianState) → stands self.now f → G.stands at.now s → IfOk result (λ outcomes. outcomes.items ≡
+            outcomes_below top.now s.number (events_there f.registry) s.past) };
 
     /// Makes room for an event and computes what it changes. What it begins begins at this home in this life of it. With memory and without, the
     /// forest stands where it stood. The plan is for the event in each state in which that was entered.

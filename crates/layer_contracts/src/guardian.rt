@@ -1,13 +1,14 @@
-ghost use Rattle.std.specs.Prelude.{◌≡◌, ◌≤◌, ◌==◌, ℕ, Bool, true, false, IsTrue, IsFalse, IsErrOf, List, [], ◌∷◌, IfOk, OnErr, length};
-ghost use Rattle.atomic_types.specs.Objects.{knows};
+ghost use Rattle.std.specs.Prelude.{◌≡◌, IsTrue, IsFalse, IsErrOf, IfOk, OnErr, map};
+ghost use Rattle.std.specs.List.Sorted.{IsStrictlySortedBy};
+ghost use Rattle.action_names.specs.Names.{name_cmp};
 ghost use Rattle.run_model.specs.Actions.{crashes, is_busy, is_done, is_down, is_gone};
 ghost use Rattle.run_model.specs.Answers.{operated_by};
-ghost use Rattle.run_model.specs.Openings.{objects_at, first_content, opening_in};
+ghost use Rattle.run_model.specs.Openings.{first_content, opening_in};
 ghost use Rattle.run_model.specs.Runs.{is_accepted};
 ghost use Rattle.run_model.specs.LocalReadings.{events_here, is_at_home, is_orphan_here, standing_here, told_here, unsent_aborts, unsent_counts};
 ghost use Rattle.local_laws.specs.Owed.{IsOwed};
 ghost use Rattle.local_agreement.specs.Laws.{Agrees};
-ghost use Rattle.layer_contracts.specs.Guardians.{GuardianState, News, count_told, kept, stamped};
+ghost use Rattle.layer_contracts.specs.Guardians.{GuardianState, MayAsk, News, count_told, kept, stamped};
 ghost use Rattle.stable_store.specs.Calls.{View};
 ghost use Rattle.layer_contracts.specs.Messages.{carried_of, may_fail};
 ghost use Rattle.layer_contracts.specs.Stores.{CountsFailure, IsStoreOf, LeavesStore, Stays, fault_in};
@@ -35,10 +36,10 @@ impl From<AllocError> for Fault {
     }
 }
 
-/// A guardian, which knows its own history alone.
+/// A guardian, which knows its own history alone. It need not keep that. So what it says is said of each state in which it stands, and there is one.
 pub trait Guardian: Drop {
-    /// Its opening, its number and its own history.
-    ghost state: { Self → GuardianState };
+    /// That the guardian stands in this state: it is of this opening, has this number, and is of this history.
+    ghost stands: { Self → GuardianState → Type 0 };
 
     /// Its stable store.
     ghost stored: { Self → View };
@@ -46,58 +47,60 @@ pub trait Guardian: Drop {
     /// What one event changes here, made of copies and of room.
     type Plan: Drop;
 
-    /// What the plan is for.
-    ghost planned: { Self.Plan → News };
+    /// That the plan is for this event of this guardian, as it stands in this state.
+    ghost is_for: { Self.Plan → Self → GuardianState → News → Type 0 };
 
-    /// That the plan was made of this guardian as it stands, which has the room that the changes take.
+    /// That the guardian has the room that the plan takes.
     ghost fits: { Self.Plan → Self → Type 0 };
 
+    /// The opening, in which the guardian stands at some history.
     fn opening(&self) -> &Opening
-        ensures { opening_in result.now ≡ (state self.now).opening };
+        ensures opening { (s : GuardianState) → stands self.now s → opening_in result.now ≡ s.opening }
+        ensures some { (s : GuardianState) × stands self.now s };
 
     /// The number of the guardian, whose store is at each moment that of its own history.
     fn number(&self) -> u32
-        ensures number { result ≡ (state self.now).number }
-        ensures whole { IsStoreOf (state self.now) (stored self.now) };
+        ensures number { (s : GuardianState) → stands self.now s → result ≡ s.number }
+        ensures whole { (s : GuardianState) → stands self.now s → IsStoreOf s (stored self.now) };
 
     /// Whether the action is on its roster: it was begun, and is at home here.
     fn is_there(&self, action: &Name) -> bool
-        ensures { result ≡ is_at_home (state self.now).number action.now (state self.now).past };
+        ensures { (s : GuardianState) → stands self.now s → result ≡ is_at_home s.number action.now s.past };
 
     /// Whether an action on its roster has ended, or was closed.
     fn is_done(&self, action: &Name) -> bool
-        requires there { IsTrue (is_at_home (state self.now).number action.now (state self.now).past) }
-        ensures { result ≡ is_done action.now (events_here (state self.now).past) };
+        ensures { (s : GuardianState) → stands self.now s → IsTrue (is_at_home s.number action.now s.past)
+            → result ≡ is_done action.now (events_here s.past) };
 
     /// Whether something that an action on its roster made has not ended.
     fn is_busy(&self, action: &Name) -> bool
-        requires there { IsTrue (is_at_home (state self.now).number action.now (state self.now).past) }
-        ensures { result ≡ is_busy action.now (events_here (state self.now).past) };
+        ensures { (s : GuardianState) → stands self.now s → IsTrue (is_at_home s.number action.now s.past)
+            → result ≡ is_busy action.now (events_here s.past) };
 
     /// Whether it has crashed and not recovered since.
     fn is_down(&self) -> bool
-        ensures { result ≡ is_down (state self.now).number (events_here (state self.now).past) };
+        ensures { (s : GuardianState) → stands self.now s → result ≡ is_down s.number (events_here s.past) };
 
     /// How often it has crashed.
     fn crashes(&self) -> u64
-        ensures { result ≡ crashes (state self.now).number (events_here (state self.now).past) };
+        ensures { (s : GuardianState) → stands self.now s → result ≡ crashes s.number (events_here s.past) };
 
     /// Whether it has crashed since the action began here. An action that is not on its roster is not gone.
     fn is_gone(&self, action: &Name) -> bool
-        ensures { result ≡ is_gone action.now (events_here (state self.now).past) };
+        ensures { (s : GuardianState) → stands self.now s → result ≡ is_gone action.now (events_here s.past) };
 
     /// Whether it knows the action as an orphan, by its lists and by what messages said of the action's dependencies, whether the action is
     /// on its roster or not.
     fn is_orphan(&self, action: &Name) -> Result<bool, AllocError>
-        ensures { IfOk result (λ orphan. orphan ≡ is_orphan_here (state self.now).opening (state self.now).number (state self.now).past action.now) };
+        ensures { (s : GuardianState) → stands self.now s → IfOk result (λ orphan. orphan ≡ is_orphan_here s.opening s.number s.past action.now) };
 
     /// Whether it was told of the action since its last crash.
     fn was_told(&self, action: &Name) -> bool
-        ensures { result ≡ told_here (state self.now).number action.now (state self.now).past };
+        ensures { (s : GuardianState) → stands self.now s → result ≡ told_here s.number action.now s.past };
 
     /// How many of its objects a telling of this outcome changes. Fails only for want of memory.
     fn told_count(&self, action: &Name, committed: bool) -> Result<u64, AllocError>
-        ensures { IfOk result (λ count. count ≡ count_told (state self.now) action.now committed) };
+        ensures { (s : GuardianState) → stands self.now s → IfOk result (λ count. count ≡ count_told s action.now committed) };
 
     /// What an operation that nothing refuses is answered: the reply, or for whom it waits.
     fn operated(
@@ -106,49 +109,61 @@ pub trait Guardian: Drop {
         object: ObjectId,
         operation: &Op,
     ) -> Result<Answer, AllocError>
-        requires own { object.guardian ≡ (state self.now).number }
-        requires guardian { 1 ≤ object.guardian }
-        requires number { 1 ≤ object.number }
-        requires there { object.number ≤ length (objects_at (state self.now).opening.setup object.guardian) }
-        requires known { IsTrue (knows (first_content (state self.now).opening object) operation.now) }
-        ensures { IfOk result (λ answer. answer ≡ operated_by (first_content (state self.now).opening object) (standing_here (state self.now).past object) action.now operation.now) };
+        requires asked { (s : GuardianState) × stands self.now s × MayAsk s object operation.now }
+        ensures { (s : GuardianState) → stands self.now s → IfOk result (λ answer. answer
+            ≡ operated_by (first_content s.opening object) (standing_here s.past object) action.now operation.now) };
 
     /// The aborts that it has not sent to the other guardian yet, the newest first.
     fn unsent_aborts(&self, to: &Self) -> Result<Names, AllocError>
-        ensures { IfOk result (λ names. names ≡ unsent_aborts (state self.now).number (state to.now).number (state self.now).past (state to.now).past) };
+        ensures { (s t : GuardianState) → stands self.now s → stands to.now t
+            → IfOk result (λ names. names ≡ unsent_aborts s.number t.number s.past t.past) };
 
     /// And the counts of crashes.
     fn unsent_counts(&self, to: &Self) -> Result<Vec<(u32, u64)>, AllocError>
-        ensures { IfOk result (λ counts. counts.items ≡ unsent_counts (state self.now).number (state to.now).number (state self.now).past (state to.now).past) };
+        ensures { (s t : GuardianState) → stands self.now s → stands to.now t
+            → IfOk result (λ counts. counts.items ≡ unsent_counts s.number t.number s.past t.past) };
 
-    /// Makes room for an event and computes what it changes, where it brings what this guardian's own history asks of it, and agrees with that
-    /// history. With memory and without, the guardian's history and its store are what they were.
+    /// Makes room for an event and computes what it changes. With memory and without, the guardian stands where it stood, and its store is as it was.
+    /// The plan is for the event in each state whose history it agrees with, where it brings what that history asks of it. Also fails where one more
+    /// crash could not be counted.
     fn plan(&mut self, event: &Event, message: Message) -> Result<Self::Plan, AllocError>
         requires accepted { IsTrue (is_accepted event.now.answer) }
-        requires owed { IsOwed (state self.old).opening (state self.old).number
-            (stamped 0 (record { event = event.now; carried = carried_of message })) (state self.old).past event.now.step }
-        requires agrees { Agrees (state self.old).opening (state self.old).number
-            (stamped 0 (record { event = event.now; carried = carried_of message })) (state self.old).past }
-        ensures same { state self.new ≡ state self.old }
+        requires rising { IsStrictlySortedBy name_cmp (map (λ x. x.0) message.outcomes.items) }
+        ensures same { (s : GuardianState) → stands self.old s → stands self.new s }
         ensures store { Stays (stored self.old) (stored self.new) }
         ensures fits { IfOk result (λ plan. fits plan self.new) }
-        ensures planned { IfOk result (λ plan. planned plan ≡ record { event = event.now; carried = carried_of message }) };
+        ensures planned { IfOk result (λ plan. (s : GuardianState) → stands self.old s
+            → IsOwed s.opening s.number (stamped 0 (record { event = event.now; carried = carried_of message })) s.past event.now.step
+            → Agrees s.opening s.number (stamped 0 (record { event = event.now; carried = carried_of message })) s.past
+            → is_for plan self.new s (record { event = event.now; carried = carried_of message })) };
 
-    /// Carries a plan out whose event writes to the stable store, or is an operation: first the store's call, or the object's, then the stamp,
-    /// then the changes, which cannot fail. `Stable` comes of the store, which has counted one failure more and is as it was.
-    fn carry_out<F: FnOnce() -> u64>(&mut self, plan: Self::Plan, stamp: F) -> Result<u64, Fault>
+    /// Carries a plan out that is for this event in some state in which the guardian stands, where the event writes to the stable store or is an
+    /// operation: first the store's call, or the object's, then the stamp, then the changes, which cannot fail. `Stable` comes of the store, which has
+    /// counted one failure more and is as it was.
+    fn carry_out<F: FnOnce() -> u64>(
+        &mut self,
+        plan: Self::Plan,
+        event: &Event,
+        stamp: F,
+    ) -> Result<u64, Fault>
         requires stamp { F.pre stamp }
         requires fits { fits plan self.old }
+        requires planned { (s : GuardianState) × (news : News) × stands self.old s × is_for plan self.old s news × (news.event ≡ event.now) }
         ensures ok { IfOk result (λ n. F.post stamp n) }
-        ensures kept { IfOk result (λ n. state self.new ≡ kept (state self.old) (stamped n (planned plan))) }
-        ensures err { OnErr result (state self.new ≡ state self.old) }
-        ensures store { LeavesStore (state self.old) (planned plan) (stored self.old) (stored self.new) (fault_in result) }
+        ensures kept { IfOk result (λ n. (s : GuardianState) (news : News) → stands self.old s → is_for plan self.old s news → news.event ≡ event.now
+            → stands self.new (kept s (stamped n news))) }
+        ensures err { OnErr result ((s : GuardianState) → stands self.old s → stands self.new s) }
+        ensures store { (s : GuardianState) (news : News) → stands self.old s → is_for plan self.old s news → news.event ≡ event.now
+            → LeavesStore s news (stored self.old) (stored self.new) (fault_in result) }
         ensures cause { IsErrOf result Stable → CountsFailure (stored self.old) (stored self.new) };
 
-    /// Carries a plan out whose event neither writes to this guardian's store nor is an operation. This cannot fail.
-    fn install(&mut self, plan: Self::Plan, stamp: u64)
+    /// Carries a plan out that is for this event in some state in which the guardian stands, where the event neither writes to this guardian's store
+    /// nor is an operation. This cannot fail.
+    fn install(&mut self, plan: Self::Plan, event: &Event, stamp: u64)
         requires fits { fits plan self.old }
-        requires quiet { IsFalse (may_fail (planned plan).event.step (state self.old).number) }
-        ensures kept { state self.new ≡ kept (state self.old) (stamped stamp (planned plan)) }
+        requires planned { (s : GuardianState) × (news : News) × stands self.old s × is_for plan self.old s news × (news.event ≡ event.now) }
+        requires quiet { (s : GuardianState) × stands self.old s × IsFalse (may_fail event.now.step s.number) }
+        ensures kept { (s : GuardianState) (news : News) → stands self.old s → is_for plan self.old s news → news.event ≡ event.now
+            → stands self.new (kept s (stamped stamp news)) }
         ensures store { Stays (stored self.old) (stored self.new) };
 }

@@ -2,7 +2,7 @@ ghost use Rattle.std.specs.Prelude.{◌≡◌, IfOk, IsTrue};
 ghost use Rattle.run_model.specs.LocalReadings.{told_committed_here};
 ghost use Rattle.local_agreement.specs.Judging.{accepts};
 ghost use Rattle.local_agreement.specs.Laws.{Agrees};
-ghost use Rattle.layer_contracts.specs.Guardians.{stamped};
+ghost use Rattle.layer_contracts.specs.Guardians.{GuardianState, stamped};
 ghost use Rattle.layer_contracts.specs.Messages.{carried_of};
 
 use crate::guardian::Guardian;
@@ -15,13 +15,13 @@ use std::alloc::AllocError;
 pub trait Judging: Guardian {
     /// Whether it was ever told that the action committed.
     fn was_told_committed(&self, action: &Name) -> bool
-        ensures { result ≡ told_committed_here action.now (Self.state self.now).past };
+        ensures { (s : GuardianState) → Self.stands self.now s → result ≡ told_committed_here action.now s.past };
 
     /// Whether it accepts the event with this message: by tests of its own history alone, from which it follows that the event agrees with that. In a
     /// run it accepts each event that names it. Fails only for want of memory.
     fn accepts(&self, event: &Event, message: &Message) -> Result<bool, AllocError>
-        ensures accepts { IfOk result (λ yes. yes ≡ accepts (Self.state self.now).opening (Self.state self.now).number
-            (stamped 0 (record { event = event.now; carried = carried_of message.now })) (Self.state self.now).past) }
-        ensures agrees { IfOk result (λ yes. IsTrue yes → Agrees (Self.state self.now).opening (Self.state self.now).number
-            (stamped 0 (record { event = event.now; carried = carried_of message.now })) (Self.state self.now).past) };
+        ensures accepts { (s : GuardianState) → Self.stands self.now s → IfOk result (λ yes. yes
+            ≡ accepts s.opening s.number (stamped 0 (record { event = event.now; carried = carried_of message.now })) s.past) }
+        ensures agrees { (s : GuardianState) → Self.stands self.now s → IfOk result (λ yes. IsTrue yes
+            → Agrees s.opening s.number (stamped 0 (record { event = event.now; carried = carried_of message.now })) s.past) };
 }

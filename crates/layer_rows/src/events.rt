@@ -1,18 +1,20 @@
-//! Events with what their messages carried, as rows spell them.
-use crate::reading::{dependency, name, names_in, read_outcome};
-use layer_contracts::Message;
+//! Events with the dependencies that their messages carried, as rows spell them.
+use crate::reading::{dependency, name, names_in};
 use rows::RowFault;
-use run_model::{Answer, Event, Name, Names, Reply, Step};
+use run_model::{Answer, Event, Name, Reply, Step};
 use std::alloc::Global;
 
+/// Actions with their dependencies.
+pub(crate) type Dependencies = Vec<(Name, Vec<(u32, u64)>)>;
+
 /// The event that is left in a row, `STEP | ANSWER`, and what its messages carried, where ` | CARRIED ..` follows.
-pub(crate) fn read_event(alloc: Global, text: &str) -> Result<(Event, Message), RowFault> {
+pub(crate) fn read_event(alloc: Global, text: &str) -> Result<(Event, Dependencies), RowFault> {
     let (step, rest) = text.split_once(" | ").ok_or(RowFault::Unread)?;
     let (said, carried) = rest.split_once(" | ").unwrap_or((rest, ""));
     let step = Step::read(alloc, step.as_bytes())?.ok_or(RowFault::Unread)?;
     let answer = read_answer(alloc, said)?;
-    let message = read_message(alloc, carried)?;
-    Ok((Event { step, answer }, message))
+    let dependencies = read_carried(alloc, carried)?;
+    Ok((Event { step, answer }, dependencies))
 }
 
 /// An answer without names and without a number, or else with them.
@@ -35,42 +37,14 @@ fn read_answer_of(alloc: Global, text: &str) -> Result<Answer, RowFault> {
     }
 }
 
-/// What messages carried, words `KIND=VALUE`.
-fn read_message(alloc: Global, carried: &str) -> Result<Message, RowFault> {
-    let mut message = Message {
-        sender: None,
-        life: 0,
-        aborts: Names::new(alloc),
-        counts: Vec::new(alloc),
-        dependencies: Vec::new(alloc),
-        outcomes: Vec::new(alloc),
-    };
+/// What messages carried, words `depends=NAME,GUARDIAN:INCARNATION,..`.
+fn read_carried(alloc: Global, carried: &str) -> Result<Dependencies, RowFault> {
+    let mut lists = Vec::new(alloc);
     for word in carried.split_whitespace() {
-        let (kind, value) = word.split_once('=').ok_or(RowFault::Unread)?;
-        carry(alloc, &mut message, kind, value)?;
+        let list = word.strip_prefix("depends=").ok_or(RowFault::Unread)?;
+        push(&mut lists, read_dependencies(alloc, list)?)?;
     }
-    Ok(message)
-}
-
-/// Has the message carry more: `from=GUARDIAN:LIFE`, `abort=NAME`, `count=GUARDIAN:CRASHES`, `depends=NAME,GUARDIAN:INCARNATION,..`,
-/// `outcome=NAME:committed` or `outcome=NAME:aborted`.
-fn carry(alloc: Global, message: &mut Message, kind: &str, value: &str) -> Result<(), RowFault> {
-    match kind {
-        "from" => {
-            let (sender, life) = dependency(value)?;
-            message.sender = Some(sender);
-            message.life = life;
-            Ok(())
-        }
-        "abort" => {
-            let action = name(alloc, value)?;
-            message.aborts.push(action).map_err(|_| RowFault::Memory)
-        }
-        "count" => push(&mut message.counts, dependency(value)?),
-        "depends" => push(&mut message.dependencies, read_dependencies(alloc, value)?),
-        "outcome" => push(&mut message.outcomes, read_outcome(alloc, value)?),
-        _ => Err(RowFault::Unread),
-    }
+    Ok(lists)
 }
 
 /// An action with its dependencies, `NAME,GUARDIAN:INCARNATION,..`.

@@ -1,11 +1,10 @@
-//! Rows of calls of `two_phase`, `orphans`, `tellings`, `action_forest`, `roster`, `held_objects` and `local_histories`, a module a crate. The first
-//! word of a section's name is the crate that its rows call.
+//! Rows of calls of `two_phase`, `orphans`, `tellings`, `action_forest`, `roster` and `held_objects`, a module a crate. The first word of a section's
+//! name is the crate that its rows call.
 #![tactic(auto)]
 
 mod events;
 mod of_action_forest;
 mod of_held_objects;
-mod of_local_histories;
 mod of_orphans;
 mod of_roster;
 mod of_tellings;
@@ -14,7 +13,6 @@ mod reading;
 
 use of_action_forest::Growing;
 use of_held_objects::Indexing;
-use of_local_histories::Recording;
 use of_orphans::Knowing;
 use of_roster::Rostering;
 use of_tellings::Hearing;
@@ -40,7 +38,6 @@ enum Section {
     ActionForest(Growing),
     Roster(Rostering),
     HeldObjects(Indexing),
-    LocalHistories(Recording),
     Unknown,
 }
 
@@ -71,7 +68,6 @@ impl Subject for Tested {
             Section::ActionForest(growing) => growing.answer(row, answer),
             Section::Roster(rostering) => rostering.answer(row, answer),
             Section::HeldObjects(indexing) => indexing.answer(row, answer),
-            Section::LocalHistories(recording) => recording.answer(row, answer),
             Section::Unknown => Err(RowFault::Unread),
         }
     }
@@ -86,7 +82,6 @@ fn new_section(alloc: Global, called: &str) -> Result<Section, AllocError> {
         "action_forest" => Section::ActionForest(Growing::new(alloc)?),
         "roster" => Section::Roster(Rostering::new(alloc)),
         "held_objects" => Section::HeldObjects(Indexing::new(alloc)),
-        "local_histories" => Section::LocalHistories(Recording::new(alloc)),
         _ => Section::Unknown,
     })
 }

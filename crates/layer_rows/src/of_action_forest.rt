@@ -19,9 +19,10 @@ struct Told {
 }
 
 impl Hearer for Told {
+    ghost use Rattle.std.specs.Prelude.{◌≡◌, ℕ, List};
     ghost use Rattle.action_names.specs.Names.{has_name};
 
-    ghost told = { λ x a. has_name x.names a };
+    ghost hears = { λ x told. (a : List ℕ) → told a ≡ has_name x.names a };
 
     fn was_told(&self, action: &Name) -> bool {
         self.names.contains(action)

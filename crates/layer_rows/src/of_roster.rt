@@ -2,9 +2,8 @@
 mod agreeing;
 mod listing;
 
-use crate::events::read_event;
+use crate::events::{Dependencies, read_event};
 use crate::reading::name;
-use layer_contracts::Message;
 use listing::Listing;
 use rows::{Row, RowFault};
 use run_model::{Event, Name};
@@ -38,16 +37,20 @@ impl Rostering {
 
     /// Enters an event that agrees with those before it.
     fn enter(&mut self, given: &str, answer: &mut String) -> Result<(), RowFault> {
-        let (event, message) = read_event(self.alloc, given)?;
-        if self.enter_event(event, message)? {
+        let (event, dependencies) = read_event(self.alloc, given)?;
+        if self.enter_event(event, dependencies)? {
             return Ok(());
         }
         Ok(answer.push_str("refused")?)
     }
 
     /// Says whether the event agrees, and was entered.
-    fn enter_event(&mut self, event: Event, message: Message) -> Result<bool, AllocError> {
-        self.listing.enter(&event, &message.dependencies)
+    fn enter_event(
+        &mut self,
+        event: Event,
+        dependencies: Dependencies,
+    ) -> Result<bool, AllocError> {
+        self.listing.enter(&event, &dependencies)
     }
 }
 

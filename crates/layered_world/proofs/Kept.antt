@@ -20,8 +20,8 @@ use Rattle.stable_store.specs.Calls.{View}
 use Rattle.layer_contracts.specs.Stores.{IsStoreOf}
 use Rattle.layer_contracts.specs.Guardians.{GuardianState, after_step, lent_two, stamped}
 use Rattle.layer_contracts.specs.Forests.{ForestState}
-use Rattle.lent_steps.specs.Keeping.{IsDone, is_operation}
-use Rattle.layered_world.specs.Standings.{AreSame, IsKeptAt, IsReady, IsWorld, Names, forest_of, standing}
+use Rattle.lent_steps.specs.Keeping.{AreAnswered, IsDone, StandsStill, is_operation}
+use Rattle.layered_world.specs.Standings.{AreSame, IsKeptAt, IsReady, IsWholeAt, IsWorld, Names, forest_of, standing}
 use Rattle.layered_world.proofs.Agreed.{agrees_lent}
 use Rattle.layered_world.proofs.Inside.{IsInside, named_inside}
 use Rattle.layered_world.proofs.Led.{answers_two, lent_by, lent_or_out, numbered_events, runs, stands_at}
@@ -36,10 +36,11 @@ inside past opening e low high g r n k =
     ∙ n g ∙ k)
 
 -- both of those that the event names have a place among the guardians
-pub place_of : {X : Type 0} {stored : X → View} {forest : ForestState → Type 0} (state : X → GuardianState) (past : List Event) (opening : Opening) (gs : List X) (e : Event) (low high g : ℕ)
-    → IsWorld state stored forest opening past gs → IsRun opening (e ∷ past) → Names (forest_of opening past) e.step low high → ((low == g) || (high == g)) ≡ true
+pub place_of : {X : Type 0} {stored : X → View} {forest : ForestState → Type 0} (stands : X → GuardianState → Type 0) (past : List Event) (opening : Opening) (gs : List X)
+    (e : Event) (low high g : ℕ)
+    → IsWorld stands stored forest opening past gs → IsRun opening (e ∷ past) → Names (forest_of opening past) e.step low high → ((low == g) || (high == g)) ≡ true
     → (1 ≤ g) × (g ≤ length gs) × (g - 1 < length gs)
-place_of state past opening gs e low high g w r n k =
+place_of stands past opening gs e low high g w r n k =
     let i = inside past opening e low high g r n k in
     let l : 1 ≤ g = i.low in
     let h : g ≤ length gs = subst (λ m. g ≤ m) (sym w.count) i.high in
@@ -62,187 +63,198 @@ owed_operation opening g c d here there (Op a x wanted) o e h k =
 owed_operation opening g c d here there _ o e h k = absurd (false≢true o)
 
 -- an answered event may be kept
-pub ready : {X : Type 0} {stored : X → View} {forest : ForestState → Type 0} (state : X → GuardianState) (past : List Event) (opening : Opening) (gs : List X) (e : Event)
+pub ready : {X : Type 0} {stored : X → View} {forest : ForestState → Type 0} (stands : X → GuardianState → Type 0) (past : List Event) (opening : Opening) (gs : List X) (e : Event)
     (low high : ℕ)
-    → IsWorld state stored forest opening past gs → Names (forest_of opening past) e.step low high → IsRun opening (e ∷ past) → 1 ≤ low → 1 ≤ high
-    → IsReady state forest (forest_of opening past) low high e gs
-ready state past opening gs e low high w n r l k = record {
-  each = λ a b sa sb.
-      let x = stands_at state opening past gs low a w l sa in
-      let y = stands_at state opening past gs high b w k sb in (
-        record {
-          lent = lent_by w x y;
-          answered = record {
-            answer = r.0 ∙ sym (answers_two past opening e.step low high low high (state a) (state b) w.is_run n x y (λ g h. inl h));
-            accepted = r.1;
-            operation = λ g o m. owed_operation opening g (local_event opening (length (e ∷ past), e) (numbered past) g)
-                (stamped 0 (record { event = e; carried = carried_lent opening e g (registry_history opening (numbered past)) (lent_two (state a) (state b)) }))
-                (local_history opening (numbered past) g) (lent_two (state a) (state b) g) e.step o refl
-                (sym (lent_or_out opening past (state a) (state b) low high g w.is_run x y (inl (sym (n g) ∙ m))))
-                (owed_there opening (length (e ∷ past), e) (numbered past) g (runs opening (e ∷ past) r)
-                (sym (names_same (events_there (registry_history opening (numbered past))) (events_of (numbered past)) g (registry_same opening (numbered past) (runs opening past r.2)) e.step)
-                ∙ m));
-            agrees = λ g q m. agrees_lent past opening e low high g (state a) (state b) r n x y
-                (ap₂ (λ u v. (u == g) || (v == g)) (sym (ap (λ s. s.number) x)) (sym (ap (λ s. s.number) y)) ∙ q);
-          };
-        },
-        ap (λ s. s.number) x,
-        ap (λ s. s.number) y,
-      );
-}
+    → IsWorld stands stored forest opening past gs → Names (forest_of opening past) e.step low high → IsRun opening (e ∷ past) → 1 ≤ low → 1 ≤ high
+    → IsReady stands forest (forest_of opening past) (λ g. standing opening past g) low high e gs
+ready stands past opening gs e low high w n r l k =
+    let a : GuardianState = standing opening past low in
+    let b : GuardianState = standing opening past high in
+    record {
+      number = λ g. refl;
+      each = λ x y sx sy. record {
+        lent = lent_by stands opening past gs low high x y w (stands_at stands opening past gs low x w l sx) (stands_at stands opening past gs high y w k sy);
+        answered = record {
+          answer = r.0 ∙ sym (answers_two past opening e.step low high low high a b w.is_run n refl refl (λ g h. inl h));
+          accepted = r.1;
+          operation = λ g o m. owed_operation opening g (local_event opening (length (e ∷ past), e) (numbered past) g)
+              (stamped 0 (record { event = e; carried = carried_lent opening e g (registry_history opening (numbered past)) (lent_two a b) }))
+              (local_history opening (numbered past) g) (lent_two a b g) e.step o refl
+              (sym (lent_or_out opening past a b low high g w.is_run refl refl (inl (sym (n g) ∙ m))))
+              (owed_there opening (length (e ∷ past), e) (numbered past) g (runs opening (e ∷ past) r)
+              (sym (names_same (events_there (registry_history opening (numbered past))) (events_of (numbered past)) g (registry_same opening (numbered past) (runs opening past r.2)) e.step)
+              ∙ m));
+          agrees = λ g q m. agrees_lent past opening e low high g a b r n refl refl q;
+        };
+      };
+    }
 
 -- who is lent and named stands where the longer run leads it
-after_is : (past : List Event) (opening : Opening) (e : Event) (lent : ℕ → List LocalEvent) (x x' : GuardianState) (p : ℕ) → x ≡ standing opening past p
-    → x' ≡ after_step x (length (e ∷ past), e) (registry_history opening (numbered past)) lent
+after_is : (past : List Event) (opening : Opening) (e : Event) (lent : ℕ → List LocalEvent) (p : ℕ)
     → history_after_lent opening (length (e ∷ past), e) (registry_history opening (numbered past)) lent p ≡ local_history opening (numbered (e ∷ past)) p
-    → x' ≡ standing opening (e ∷ past) p
-after_is past opening e lent x x' p k q grown =
-    q ∙ ap (λ y. after_step y (length (e ∷ past), e) (registry_history opening (numbered past)) lent) k
-    ∙ ap (λ l. record { opening = opening; number = p; past = l }) grown
+    → after_step (standing opening past p) (length (e ∷ past), e) (registry_history opening (numbered past)) lent ≡ standing opening (e ∷ past) p
+after_is past opening e lent p grown = ap (λ l. record { opening = opening; number = p; past = l }) grown
 
-pub more : {X : Type 0} {stored : X → View} {stood : ForestState → Type 0} (state : X → GuardianState) (forest : ForestState → Type 0) (past : List Event) (opening : Opening)
-    (gs gs' : List X) (e : Event) (low high : ℕ)
-    → IsWorld state stored stood opening past gs → Names (forest_of opening past) e.step low high → IsRun opening (e ∷ past) → 1 ≤ low → 1 ≤ high → low ≤ length gs
-    → high ≤ length gs → length gs' ≡ length gs → IsKeptAt state forest (forest_of opening past) low high (length (e ∷ past)) e gs gs'
-    → ((i : ℕ) (x : X) → slice_get gs' i ≡ Some x → IsStoreOf (state x) (stored x)) → IsWorld state stored forest opening (e ∷ past) gs'
-more {X} {stored} state forest past opening gs gs' e low high w n r l1 l2 h1 h2 len k whole =
-    let lt1 : low - 1 < length gs = omega arith in
-    let lt2 : high - 1 < length gs = omega arith in
-    let a = there gs (low - 1) lt1 in
-    let b = there gs (high - 1) lt2 in
+-- The stores of all are still those of their histories, if those of the two are, of which each is that of any history in which its guardian stands.
+stores_whole : {X : Type 0} {stands : X → GuardianState → Type 0} {stored : X → View} {low high : ℕ} {gs : List X} (states : ℕ → GuardianState)
+    → IsWholeAt stands stored low gs → IsWholeAt stands stored high gs → ((i : ℕ) (x : X) → slice_get gs i ≡ Some x → stands x (states (i + 1)))
+    → ((i : ℕ) (x : X) → (i ≡ low - 1 → ⊥) → (i ≡ high - 1 → ⊥) → slice_get gs i ≡ Some x → IsStoreOf (states (i + 1)) (stored x))
+    → (i : ℕ) (x : X) → slice_get gs i ≡ Some x → IsStoreOf (states (i + 1)) (stored x)
+stores_whole {X} {stands} {stored} {low} {high} {gs} states first second each others i x q = of (cases_eq i (low - 1)) (cases_eq i (high - 1))
+  where
+    of : (i ≡ low - 1) ⊎ (i ≡ low - 1 → ⊥) → (i ≡ high - 1) ⊎ (i ≡ high - 1 → ⊥) → IsStoreOf (states (i + 1)) (stored x)
+    of (inl m) o = first.at x (states (i + 1)) (ap (λ j. slice_get gs j) (sym m) ∙ q) (each i x q)
+    of (inr m) (inl o) = second.at x (states (i + 1)) (ap (λ j. slice_get gs j) (sym o) ∙ q) (each i x q)
+    of (inr m) (inr o) = others i x m o q
+
+-- a place that is that of no number
+apart : (i p : ℕ) → (i ≡ p - 1 → ⊥) → p ≡ i + 1 → ⊥
+apart i p m t = let back : i ≡ p - 1 = omega arith in m back
+
+pub more : {X : Type 0} {stored : X → View} {stood : ForestState → Type 0} (stands : X → GuardianState → Type 0) (forest : ForestState → Type 0) (past : List Event)
+    (opening : Opening) (gs gs' : List X) (e : Event) (low high : ℕ)
+    → IsWorld stands stored stood opening past gs → Names (forest_of opening past) e.step low high → IsRun opening (e ∷ past) → 1 ≤ low → 1 ≤ high → low ≤ length gs
+    → high ≤ length gs → length gs' ≡ length gs → IsKeptAt stands forest (forest_of opening past) (λ g. standing opening past g) low high (length (e ∷ past)) e gs gs'
+    → IsWholeAt stands stored low gs' → IsWholeAt stands stored high gs' → IsWorld stands stored forest opening (e ∷ past) gs'
+more {X} {stored} stands forest past opening gs gs' e low high w n r l1 l2 h1 h2 len k whole also =
     let lt3 : low - 1 < length gs' = omega arith in
     let lt4 : high - 1 < length gs' = omega arith in
-    of a.0 b.0 (there gs' (low - 1) lt3).0 (there gs' (high - 1) lt4).0 a.1 b.1 (there gs' (low - 1) lt3).1 (there gs' (high - 1) lt4).1
+    of (there gs' (low - 1) lt3).0 (there gs' (high - 1) lt4).0 (there gs' (low - 1) lt3).1 (there gs' (high - 1) lt4).1
   where
     s : Stamped
     s = (length (e ∷ past), e)
 
-    of : (a b a' b' : X) → slice_get gs (low - 1) ≡ Some a → slice_get gs (high - 1) ≡ Some b → slice_get gs' (low - 1) ≡ Some a' → slice_get gs' (high - 1) ≡ Some b'
-        → IsWorld state stored forest opening (e ∷ past) gs'
-    of a b a' b' sa sb sa' sb' =
-        let done = k.two a b a' b' sa sb sa' sb' in
-        let x = stands_at state opening past gs low a w l1 sa in
-        let y = stands_at state opening past gs high b w l2 sb in
-        let lent : ℕ → List LocalEvent = lent_two (state a) (state b) in
+    -- who is not named stands where it stood
+    stays : (i : ℕ) → (i ≡ low - 1 → ⊥) → (i ≡ high - 1 → ⊥) → standing opening past (i + 1) ≡ standing opening (e ∷ past) (i + 1)
+    stays i m o =
+        let unnamed : names_guardian e.step (events_there (registry_history opening (numbered past))) (i + 1) ≡ false =
+        n (i + 1) ∙ ap₂ ◌||◌ (ne_eqb low (i + 1) (apart i low m)) (ne_eqb high (i + 1) (apart i high o)) in
+        ap (λ l. record { opening = opening; number = i + 1; past = l }) (sym (unnamed_stay opening s (numbered past) (i + 1) (runs opening (e ∷ past) r) unnamed))
+
+    of : (x y : X) → slice_get gs' (low - 1) ≡ Some x → slice_get gs' (high - 1) ≡ Some y → IsWorld stands stored forest opening (e ∷ past) gs'
+    of x y sx sy =
+        let done = k.two x y sx sy in
+        let lent : ℕ → List LocalEvent = lent_two (standing opening past low) (standing opening past high) in
         let R = registry_history opening (numbered past) in
         let grown = lent_grows opening s (numbered past) lent (runs opening (e ∷ past) r)
-        (λ g m. lent_or_out opening past (state a) (state b) low high g w.is_run x y (inl (sym (n g) ∙ m))) in
+        (λ g m. lent_or_out opening past (standing opening past low) (standing opening past high) low high g w.is_run refl refl (inl (sym (n g) ∙ m))) in
         let at : (p : ℕ) → ((low == p) || (high == p)) ≡ true → history_after_lent opening s R lent p ≡ local_history opening (numbered (e ∷ past)) p =
         λ p q. grown.1 p (n p ∙ q) in
-        let first : state a' ≡ standing opening (e ∷ past) low =
-        after_is past opening e lent (state a) (state a') low x done.first (at low (or_left _ _ (eqb_self low))) in
-        let second : state b' ≡ standing opening (e ∷ past) high =
-        after_is past opening e lent (state b) (state b') high y done.second (at high (or_right _ _ (eqb_self high))) in
+        let first : stands x (standing opening (e ∷ past) low) =
+        subst (λ t. stands x t) (after_is past opening e lent low (at low (or_left _ _ (eqb_self low)))) done.first in
+        let second : stands y (standing opening (e ∷ past) high) =
+        subst (λ t. stands y t) (after_is past opening e lent high (at high (or_right _ _ (eqb_self high)))) done.second in
+        let each : (i : ℕ) (z : X) → slice_get gs' i ≡ Some z → stands z (standing opening (e ∷ past) (i + 1)) =
+        λ i z q. each_of i z q x y sx sy first second (cases_eq i (low - 1)) (cases_eq i (high - 1)) in
         record {
           is_run = r;
           forest = subst (λ reg. forest (record { opening = opening; registry = reg })) grown.0 done.forest;
           count = len ∙ w.count;
-          each = λ i z q. each_of i z q a' b' sa' sb' first second (cases_eq i (low - 1)) (cases_eq i (high - 1));
-          stores = whole;
+          each = each;
+          stores = stores_whole (λ g. standing opening (e ∷ past) g) whole also each (λ i z m o q.
+              subst (λ t. IsStoreOf t (stored z)) (stays i m o) (w.stores i z (sym (k.others i m o) ∙ q)));
         }
       where
-        each_of : (i : ℕ) (z : X) → slice_get gs' i ≡ Some z → (a' b' : X) → slice_get gs' (low - 1) ≡ Some a' → slice_get gs' (high - 1) ≡ Some b'
-            → state a' ≡ standing opening (e ∷ past) low → state b' ≡ standing opening (e ∷ past) high
-            → (i ≡ low - 1) ⊎ (i ≡ low - 1 → ⊥) → (i ≡ high - 1) ⊎ (i ≡ high - 1 → ⊥) → state z ≡ standing opening (e ∷ past) (i + 1)
-        each_of i z q a' b' sa' sb' first second (inl m) o =
+        each_of : (i : ℕ) (z : X) → slice_get gs' i ≡ Some z → (x y : X) → slice_get gs' (low - 1) ≡ Some x → slice_get gs' (high - 1) ≡ Some y
+            → stands x (standing opening (e ∷ past) low) → stands y (standing opening (e ∷ past) high)
+            → (i ≡ low - 1) ⊎ (i ≡ low - 1 → ⊥) → (i ≡ high - 1) ⊎ (i ≡ high - 1 → ⊥) → stands z (standing opening (e ∷ past) (i + 1))
+        each_of i z q x y sx sy first second (inl m) o =
             let same : low ≡ i + 1 = omega arith in
-            ap state (some_eq z a' (sym q ∙ ap (λ j. slice_get gs' j) m ∙ sa')) ∙ first ∙ ap (λ j. standing opening (e ∷ past) j) same
-        each_of i z q a' b' sa' sb' first second (inr m) (inl o) =
+            subst (λ u. stands u (standing opening (e ∷ past) (i + 1))) (some_eq x z (sym sx ∙ ap (λ j. slice_get gs' j) (sym m) ∙ q))
+            (subst (λ j. stands x (standing opening (e ∷ past) j)) same first)
+        each_of i z q x y sx sy first second (inr m) (inl o) =
             let same : high ≡ i + 1 = omega arith in
-            ap state (some_eq z b' (sym q ∙ ap (λ j. slice_get gs' j) o ∙ sb')) ∙ second ∙ ap (λ j. standing opening (e ∷ past) j) same
-        each_of i z q a' b' sa' sb' first second (inr m) (inr o) =
-            let d1 : (low ≡ i + 1 → ⊥) = λ t. apart low m t in
-            let d2 : (high ≡ i + 1 → ⊥) = λ t. apart high o t in
-            let unnamed : names_guardian e.step (events_there (registry_history opening (numbered past))) (i + 1) ≡ false =
-            n (i + 1) ∙ ap₂ ◌||◌ (ne_eqb low (i + 1) d1) (ne_eqb high (i + 1) d2) in
-            w.each i z (sym (k.others i m o) ∙ q)
-            ∙ ap (λ l. record { opening = opening; number = i + 1; past = l }) (sym (unnamed_stay opening s (numbered past) (i + 1) (runs opening (e ∷ past) r) unnamed))
-          where
-            apart : (p : ℕ) → (i ≡ p - 1 → ⊥) → p ≡ i + 1 → ⊥
-            apart p m t = let back : i ≡ p - 1 = omega arith in m back
+            subst (λ u. stands u (standing opening (e ∷ past) (i + 1))) (some_eq y z (sym sy ∙ ap (λ j. slice_get gs' j) (sym o) ∙ q))
+            (subst (λ j. stands y (standing opening (e ∷ past) j)) same second)
+        each_of i z q x y sx sy first second (inr m) (inr o) = subst (λ t. stands z t) (stays i m o) (w.each i z (sym (k.others i m o) ∙ q))
 
-pub same : {X : Type 0} {stored : X → View} {stood : ForestState → Type 0} (state : X → GuardianState) (forest : ForestState → Type 0) (past : List Event) (opening : Opening)
-    (gs gs' : List X)
-    → IsWorld state stored stood opening past gs → length gs' ≡ length gs → AreSame state stood forest gs gs'
-    → ((i : ℕ) (x : X) → slice_get gs' i ≡ Some x → IsStoreOf (state x) (stored x)) → IsWorld state stored forest opening past gs'
-same state forest past opening gs gs' w len k whole = record {
+pub same : {X : Type 0} {stored : X → View} {stood : ForestState → Type 0} (stands : X → GuardianState → Type 0) (forest : ForestState → Type 0) (past : List Event)
+    (opening : Opening) (gs gs' : List X) (low high : ℕ)
+    → IsWorld stands stored stood opening past gs → length gs' ≡ length gs → AreSame stands stood forest gs gs'
+    → ((i : ℕ) → (i ≡ low - 1 → ⊥) → (i ≡ high - 1 → ⊥) → slice_get gs' i ≡ slice_get gs i)
+    → IsWholeAt stands stored low gs' → IsWholeAt stands stored high gs' → IsWorld stands stored forest opening past gs'
+same {X} {stored} stands forest past opening gs gs' low high w len k others whole also = record {
   is_run = w.is_run;
   forest = k.forest (forest_of opening past) w.forest;
   count = len ∙ w.count;
-  each = λ i z q.
-      let p = there gs i (before i z q) in
-      k.each i p.0 z p.1 q ∙ w.each i p.0 p.1;
-  stores = whole;
+  each = each;
+  stores = stores_whole (λ g. standing opening past g) whole also each (λ i z m o q. w.stores i z (sym (others i m o) ∙ q));
 }
   where
-    before : (i : ℕ) (z : _) → slice_get gs' i ≡ Some z → i < length gs
+    before : (i : ℕ) (z : X) → slice_get gs' i ≡ Some z → i < length gs
     before i z q = let b = slice_get_within gs' i z q in omega arith
 
+    each : (i : ℕ) (z : X) → slice_get gs' i ≡ Some z → stands z (standing opening past (i + 1))
+    each i z q =
+        let p = there gs i (before i z q) in
+        k.each i p.0 z p.1 q (standing opening past (i + 1)) (w.each i p.0 p.1)
+
+pub same_at : {X : Type 0} (stands : X → GuardianState → Type 0) (i : ℕ) (stood forest : ForestState → Type 0) (gs left right : List X) (a' b' d d' : X)
+    → gs ≡ left ++ right → i < length left → 0 < length right → ((f : ForestState) → stood f → forest f) → StandsStill (stands (get_or left i d)) (stands a')
+    → StandsStill (stands (get_or right 0 d')) (stands b')
+    → AreSame stands stood forest gs (set left i a' ++ set right 0 b')
+same_at {X} stands i stood forest gs left right a' b' d d' g lt lt2 h ka kb =
+    record { forest = h; each = λ k x y q r s. of k x y q r s (cases_eq k i) (cases_eq k (length left)) }
+  where
+    of : (k : ℕ) (x y : X) → slice_get gs k ≡ Some x → slice_get (set left i a' ++ set right 0 b') k ≡ Some y → (s : GuardianState)
+        → (k ≡ i) ⊎ (k ≡ i → ⊥) → (k ≡ length left) ⊎ (k ≡ length left → ⊥) → stands x s → stands y s
+    of k x y q r s (inl m) o here =
+        subst (λ u. stands u s) (sym (some_eq y a' (sym r ∙ ap (λ j. slice_get (set left i a' ++ set right 0 b') j) m ∙ set_front left (set right 0 b') i a' lt)))
+        (ka s (subst (λ u. stands u s) (some_eq x (get_or left i d) (sym q ∙ ap₂ (λ l j. slice_get l j) g m ∙ front_at left right i d lt)) here))
+    of k x y q r s (inr m) (inl o) here =
+        subst (λ u. stands u s) (sym (some_eq y b' (sym r ∙ ap (λ j. slice_get (set left i a' ++ set right 0 b') j) o ∙ set_back left right i a' b' lt2)))
+        (kb s (subst (λ u. stands u s) (some_eq x (get_or right 0 d') (sym q ∙ ap₂ (λ l j. slice_get l j) g o ∙ back_at left right d' lt2)) here))
+    of k x y q r s (inr m) (inr o) here =
+        subst (λ u. stands u s) (sym (some_eq y x (sym r ∙ set_other left right i k a' b' m o ∙ ap (λ l. slice_get l k) (sym g) ∙ q))) here
+
+pub same_one : {X : Type 0} (stands : X → GuardianState → Type 0) (i : ℕ) (stood forest : ForestState → Type 0) (gs : List X) (a' d : X)
+    → i < length gs → ((f : ForestState) → stood f → forest f) → StandsStill (stands (get_or gs i d)) (stands a') → AreSame stands stood forest gs (set gs i a')
+same_one {X} stands i stood forest gs a' d lt h ka = record { forest = h; each = λ k x y q r s. of k x y q r s (cases_eq k i) }
+  where
+    of : (k : ℕ) (x y : X) → slice_get gs k ≡ Some x → slice_get (set gs i a') k ≡ Some y → (s : GuardianState) → (k ≡ i) ⊎ (k ≡ i → ⊥) → stands x s → stands y s
+    of k x y q r s (inl m) here =
+        subst (λ u. stands u s) (sym (some_eq y a' (sym r ∙ ap (λ j. slice_get (set gs i a') j) m ∙ set_there gs i a' lt)))
+        (ka s (subst (λ u. stands u s) (some_eq x (get_or gs i d) (sym q ∙ ap (λ j. slice_get gs j) m ∙ slice_get-get_or gs i d lt)) here))
+    of k x y q r s (inr m) here = subst (λ u. stands u s) (sym (some_eq y x (sym r ∙ set_apart gs i k a' m ∙ q))) here
+
 -- two elements of what was split
-pub kept_at : {X : Type 0} (state : X → GuardianState) (low high n : ℕ) (e : Event) (forest : ForestState → Type 0) (f : ForestState) (gs left right : List X)
-    (a' b' d d' : X)
-    → gs ≡ left ++ right → length left ≡ high - 1 → low - 1 < length left → 0 < length right
-    → IsDone forest f (state (get_or left (low - 1) d)) (state (get_or right 0 d')) e n (state a') (state b')
-    → IsKeptAt state forest f low high n e gs (set left (low - 1) a' ++ set right 0 b')
-kept_at state low high n e forest f gs left right a' b' d d' g len lt lt2 done = record {
-  two = λ a b x y sa sb sx sy.
-      let pa = some_eq a (get_or left (low - 1) d) (sym sa ∙ ap (λ l. slice_get l (low - 1)) g ∙ front_at left right (low - 1) d lt) in
-      let pb = some_eq b (get_or right 0 d') (sym sb ∙ ap₂ (λ l m. slice_get l m) g (sym len) ∙ back_at left right d' lt2) in
-      let px = some_eq x a' (sym sx ∙ set_front left (set right 0 b') (low - 1) a' lt) in
-      let py = some_eq y b' (sym sy ∙ ap (λ m. slice_get (set left (low - 1) a' ++ set right 0 b') m) (sym len) ∙ set_back left right (low - 1) a' b' lt2) in
-      subst (λ u. IsDone forest f (state u) (state b) e n (state x) (state y)) (sym pa)
-      (subst (λ u. IsDone forest f (state (get_or left (low - 1) d)) (state u) e n (state x) (state y)) (sym pb)
-      (subst (λ u. IsDone forest f (state (get_or left (low - 1) d)) (state (get_or right 0 d')) e n (state u) (state y)) (sym px)
-      (subst (λ u. IsDone forest f (state (get_or left (low - 1) d)) (state (get_or right 0 d')) e n (state a') (state u)) (sym py) done)));
+pub kept_then : {X : Type 0} (stands : X → GuardianState → Type 0) (states : ℕ → GuardianState) (low high m n : ℕ) (e : Event) (forest : ForestState → Type 0) (f : ForestState)
+    (gs left right : List X) (a' b' : X)
+    → gs ≡ left ++ right → length left ≡ high - 1 → low - 1 < length left → 0 < length right → m ≡ n
+    → IsDone forest (stands a') (stands b') f (states low) (states high) e m
+    → IsKeptAt stands forest f states low high n e gs (set left (low - 1) a' ++ set right 0 b')
+kept_then stands states low high m n e forest f gs left right a' b' g len lt lt2 number done = record {
+  two = λ x y sx sy.
+      let px = some_eq a' x (sym (set_front left (set right 0 b') (low - 1) a' lt) ∙ sx) in
+      let py = some_eq b' y (sym (ap (λ m. slice_get (set left (low - 1) a' ++ set right 0 b') m) (sym len) ∙ set_back left right (low - 1) a' b' lt2) ∙ sy) in
+      subst (λ u. IsDone forest (stands u) (stands y) f (states low) (states high) e n) px
+      (subst (λ u. IsDone forest (stands a') (stands u) f (states low) (states high) e n) py
+      (subst (λ k. IsDone forest (stands a') (stands b') f (states low) (states high) e k) number done));
   others = λ i p q. set_other left right (low - 1) i a' b' p (λ t. q (t ∙ len)) ∙ ap (λ l. slice_get l i) (sym g);
 }
 
-pub same_at : {X : Type 0} (state : X → GuardianState) (i : ℕ) (stood forest : ForestState → Type 0) (gs left right : List X) (a' b' d d' : X)
-    → gs ≡ left ++ right → i < length left → 0 < length right → ((f : ForestState) → stood f → forest f) → state a' ≡ state (get_or left i d)
-    → state b' ≡ state (get_or right 0 d')
-    → AreSame state stood forest gs (set left i a' ++ set right 0 b')
-same_at {X} state i stood forest gs left right a' b' d d' g lt lt2 h ka kb = record { forest = h; each = λ k x y q r. of k x y q r (cases_eq k i) (cases_eq k (length left)) }
-  where
-    of : (k : ℕ) (x y : X) → slice_get gs k ≡ Some x → slice_get (set left i a' ++ set right 0 b') k ≡ Some y
-        → (k ≡ i) ⊎ (k ≡ i → ⊥) → (k ≡ length left) ⊎ (k ≡ length left → ⊥) → state y ≡ state x
-    of k x y q r (inl m) o =
-        ap state (some_eq y a' (sym r ∙ ap (λ j. slice_get (set left i a' ++ set right 0 b') j) m ∙ set_front left (set right 0 b') i a' lt)) ∙ ka
-        ∙ ap state (sym (some_eq x (get_or left i d) (sym q ∙ ap₂ (λ l j. slice_get l j) g m ∙ front_at left right i d lt)))
-    of k x y q r (inr m) (inl o) =
-        ap state (some_eq y b' (sym r ∙ ap (λ j. slice_get (set left i a' ++ set right 0 b') j) o ∙ set_back left right i a' b' lt2)) ∙ kb
-        ∙ ap state (sym (some_eq x (get_or right 0 d') (sym q ∙ ap₂ (λ l j. slice_get l j) g o ∙ back_at left right d' lt2)))
-    of k x y q r (inr m) (inr o) =
-        ap state (some_eq y x (sym r ∙ set_other left right i k a' b' m o ∙ ap (λ l. slice_get l k) (sym g) ∙ q))
-
-pub kept_then : {X : Type 0} (state : X → GuardianState) (low high m n : ℕ) (e : Event) (forest : ForestState → Type 0) (f : ForestState) (gs left right : List X)
-    (a' b' d d' : X)
-    → gs ≡ left ++ right → length left ≡ high - 1 → low - 1 < length left → 0 < length right → m ≡ n
-    → IsDone forest f (state (get_or left (low - 1) d)) (state (get_or right 0 d')) e m (state a') (state b')
-    → IsKeptAt state forest f low high n e gs (set left (low - 1) a' ++ set right 0 b')
-kept_then state low high m n e forest f gs left right a' b' d d' g len lt lt2 q done =
-    kept_at state low high n e forest f gs left right a' b' d d' g len lt lt2
-    (subst (λ k. IsDone forest f (state (get_or left (low - 1) d)) (state (get_or right 0 d')) e k (state a') (state b')) q done)
-
 -- and one element
-pub kept_one : {X : Type 0} (state : X → GuardianState) (low high m n : ℕ) (e : Event) (forest : ForestState → Type 0) (f : ForestState) (gs : List X) (a' d : X)
-    → low ≡ high → low - 1 < length gs → m ≡ n
-    → IsDone forest f (state (get_or gs (low - 1) d)) (state (get_or gs (low - 1) d)) e m (state a') (state a')
-    → IsKeptAt state forest f low high n e gs (set gs (low - 1) a')
-kept_one state low high m n e forest f gs a' d same lt number done =
-    let a0 = get_or gs (low - 1) d in
-    let at_low : slice_get gs (low - 1) ≡ Some a0 = slice_get-get_or gs (low - 1) d lt in
-    let at_high : slice_get gs (high - 1) ≡ Some a0 = ap (λ k. slice_get gs (k - 1)) (sym same) ∙ at_low in
+pub kept_one : {X : Type 0} (stands : X → GuardianState → Type 0) (states : ℕ → GuardianState) (low high m n : ℕ) (e : Event) (forest : ForestState → Type 0) (f : ForestState)
+    (gs : List X) (a' : X)
+    → low ≡ high → low - 1 < length gs → m ≡ n → IsDone forest (stands a') (stands a') f (states low) (states low) e m
+    → IsKeptAt stands forest f states low high n e gs (set gs (low - 1) a')
+kept_one stands states low high m n e forest f gs a' same lt number done =
     let put : slice_get (set gs (low - 1) a') (low - 1) ≡ Some a' = set_there gs (low - 1) a' lt in
     let put_high : slice_get (set gs (low - 1) a') (high - 1) ≡ Some a' = ap (λ k. slice_get (set gs (low - 1) a') (k - 1)) (sym same) ∙ put in
     record {
-      two = λ a b x y sa sb sx sy.
-          subst (λ u. IsDone forest f (state u) (state b) e n (state x) (state y)) (some_eq a0 a (sym at_low ∙ sa))
-          (subst (λ u. IsDone forest f (state a0) (state u) e n (state x) (state y)) (some_eq a0 b (sym at_high ∙ sb))
-          (subst (λ u. IsDone forest f (state a0) (state a0) e n (state u) (state y)) (some_eq a' x (sym put ∙ sx))
-          (subst (λ u. IsDone forest f (state a0) (state a0) e n (state a') (state u)) (some_eq a' y (sym put_high ∙ sy))
-          (subst (λ k. IsDone forest f (state a0) (state a0) e k (state a') (state a')) number done))));
+      two = λ x y sx sy.
+          subst (λ u. IsDone forest (stands u) (stands y) f (states low) (states high) e n) (some_eq a' x (sym put ∙ sx))
+          (subst (λ u. IsDone forest (stands a') (stands u) f (states low) (states high) e n) (some_eq a' y (sym put_high ∙ sy))
+          (subst (λ g. IsDone forest (stands a') (stands a') f (states low) (states g) e n) same
+          (subst (λ k. IsDone forest (stands a') (stands a') f (states low) (states low) e k) number done)));
       others = λ i p q. set_apart gs (low - 1) i a' p;
     }
+
+-- and the one is answered as both
+pub answered_one : {X : Type 0} (stands : X → GuardianState → Type 0) (states : ℕ → GuardianState) (low high : ℕ) (e : Event) (forest : ForestState → Type 0) (f : ForestState)
+    (x : X) → low ≡ high → AreAnswered forest (stands x) (stands x) f (states low) (states high) e
+    → AreAnswered forest (stands x) (stands x) f (states low) (states low) e
+answered_one stands states low high e forest f x same h = subst (λ g. AreAnswered forest (stands x) (stands x) f (states low) (states g) e) (sym same) h
 
 pub differ : (a b low high : ℕ) → a ≡ low → b ≡ high → (low == high) ≡ false → (a == b) ≡ false
 differ a b low high p q h = ap₂ (λ m n. m == n) p q ∙ h

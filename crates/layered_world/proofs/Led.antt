@@ -70,17 +70,17 @@ answers_alone past opening step low high r n o p =
     of g (inr q) = out_at (length opening.setup) high g p q
 
 -- the guardian of a number
-pub stands_at : {X : Type 0} {stored : X → View} {forest : ForestState → Type 0} (state : X → GuardianState) (opening : Opening) (past : List Event) (gs : List X) (n : ℕ) (x : X)
-    → IsWorld state stored forest opening past gs → 1 ≤ n → slice_get gs (n - 1) ≡ Some x → state x ≡ standing opening past n
-stands_at state opening past gs n x w l s =
+pub stands_at : {X : Type 0} {stored : X → View} {forest : ForestState → Type 0} (stands : X → GuardianState → Type 0) (opening : Opening) (past : List Event) (gs : List X)
+    (n : ℕ) (x : X) → IsWorld stands stored forest opening past gs → 1 ≤ n → slice_get gs (n - 1) ≡ Some x → stands x (standing opening past n)
+stands_at stands opening past gs n x w l s =
     let e : (n - 1) + 1 ≡ n = omega arith in
-    w.each (n - 1) x s ∙ ap (λ k. standing opening past k) e
+    subst (λ k. stands x (standing opening past k)) e (w.each (n - 1) x s)
 
 -- two that stand where the run leads them are lent with the forest
-pub lent_by : {X : Type 0} {stored : X → View} {forest : ForestState → Type 0} {state : X → GuardianState} {opening : Opening} {past : List Event} {gs : List X} {p q : ℕ}
-    {a b : GuardianState} → IsWorld state stored forest opening past gs → a ≡ standing opening past p → b ≡ standing opening past q
-    → AreLent forest (forest_of opening past) a b
-lent_by w x y = record { forest = w.forest; opening = record { first = ap (λ s. s.opening) x; second = ap (λ s. s.opening) y } }
+pub lent_by : {X : Type 0} {stored : X → View} {forest : ForestState → Type 0} (stands : X → GuardianState → Type 0) (opening : Opening) (past : List Event) (gs : List X)
+    (p q : ℕ) (x y : X) → IsWorld stands stored forest opening past gs → stands x (standing opening past p) → stands y (standing opening past q)
+    → AreLent forest (stands x) (stands y) (forest_of opening past) (standing opening past p) (standing opening past q)
+lent_by stands opening past gs p q x y w h k = record { forest = w.forest; first = h; second = k; opening = record { first = refl; second = refl } }
 
 -- one of the two is no guardian
 pub answers_low : (past : List Event) (opening : Opening) (step : Step) (low high : ℕ) (a : GuardianState)

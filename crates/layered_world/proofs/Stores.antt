@@ -23,8 +23,8 @@ use Rattle.layer_contracts.proofs.Stores.{left_alone, refused_before, stays_same
 use Rattle.lent_steps.specs.Keeping.{StoreLeft}
 use Rattle.layered_world.specs.Standings.{HasFailed, IsLeftAt, IsWholeAt, IsWorld, Names, StoresLeft, asks_of, brought, content_then, event_next, forest_of, standing}
 use Rattle.layered_world.proofs.Agreed.{carried_there}
-use Rattle.layered_world.proofs.Led.{numbered_events, runs, stands_at}
-use Rattle.layered_world.proofs.Places.{back_at, front_at, set_apart, set_back, set_front, set_other, set_there, some_eq, there}
+use Rattle.layered_world.proofs.Led.{numbered_events, runs}
+use Rattle.layered_world.proofs.Places.{back_at, front_at, set_apart, set_back, set_front, set_other, set_there, some_eq}
 
 -- ---- no guardian was touched
 
@@ -39,8 +39,9 @@ module _ {X : Type 0} (stored : X → View) (opening : Opening) (past : List Eve
   }
 
   -- want of memory came before any guardian was called
-  pub stores_refused : (state : X → GuardianState) (forest : ForestState → Type 0) → IsWorld state stored forest opening past gs → StoresLeft stored opening past step gs gs (Some Memory)
-  stores_refused state forest w = untouched (Some Memory) (λ i x p.
+  pub stores_refused : (stands : X → GuardianState → Type 0) (forest : ForestState → Type 0) → IsWorld stands stored forest opening past gs
+      → StoresLeft stored opening past step gs gs (Some Memory)
+  stores_refused stands forest w = untouched (Some Memory) (λ i x p.
       let whole = w.stores i x p in
       refused_before (asks_of opening step past (i + 1) (stored x).content) (content_then opening step past (i + 1) (stored x).content) (stored x) (stored x)
       (stays_same (stored x)) whole.found whole.rests)
@@ -62,12 +63,13 @@ named_run past opening e g r =
     ∙ ap (λ p. names_guardian e.step p g) (numbered_events past)
 
 -- one of the two that the event names
-left_at : (past : List Event) (opening : Opening) (e : Event) (low high g : ℕ) (a b x : GuardianState) (old new : View) (fault : Option Fault)
-    → IsRun opening (e ∷ past) → Names (forest_of opening past) e.step low high
-    → a ≡ standing opening past low → b ≡ standing opening past high → x ≡ standing opening past g → ((low == g) || (high == g)) ≡ true
-    → StoreLeft (forest_of opening past) a b e x old new fault
+left_at : (past : List Event) (opening : Opening) (e : Event) (low high g : ℕ) (old new : View) (fault : Option Fault)
+    → IsRun opening (e ∷ past) → Names (forest_of opening past) e.step low high → ((low == g) || (high == g)) ≡ true
+    → StoreLeft (forest_of opening past) (standing opening past low) (standing opening past high) e (standing opening past g) old new fault
     → Leaves (asks_of opening e.step past g old.content) (content_then opening e.step past g old.content) old new fault
-left_at past opening e low high g a b x old new fault r n p q s k left =
+left_at past opening e low high g old new fault r n k left =
+    let a : GuardianState = standing opening past low in
+    let b : GuardianState = standing opening past high in
     let here : List LocalEvent = local_history opening (numbered past) g in
     let P : Carried → Bool → Type 0 = λ m t.
     Leaves (t && asks_store g (record { stamp = 0; event = e; carried = m }) old.content)
@@ -79,25 +81,23 @@ left_at past opening e low high g a b x old new fault r n p q s k left =
     let numbered_named : names_guardian e.step (events_of (numbered past)) g ≡ true = ap (λ l. names_guardian e.step l g) (numbered_events past) ∙ run_named in
     let answered : e ≡ event_next opening e.step past = ap (λ answer. record { step = e.step; answer = answer }) r.0 in
     let by_lent : P (carried_lent opening e g (registry_history opening (numbered past)) (lent_two a b)) true =
-    subst (P (carried_lent opening e g (registry_history opening (numbered past)) (lent_two a b))) lent (subst (λ y. StoreLeft (forest_of opening past) a b e y old new fault) s left) in
-    let by_run : Q e true true = subst (λ m. P m true) (carried_there past opening e low high g a b r n p q lent numbered_named) by_lent in
+    subst (P (carried_lent opening e g (registry_history opening (numbered past)) (lent_two a b))) lent left in
+    let by_run : Q e true true = subst (λ m. P m true) (carried_there past opening e low high g a b r n refl refl lent numbered_named) by_lent in
     subst (λ d. Q d (is_accepted d.answer) (names_guardian e.step past g)) answered
     (subst (λ u. Q e u (names_guardian e.step past g)) (sym r.1) (subst (λ t. Q e true t) (sym run_named) by_run))
 
-module _ {X : Type 0} {stored : X → View} {forest : ForestState → Type 0} (state : X → GuardianState) (past : List Event) (opening : Opening) (gs gs' : List X) (e : Event) (low high : ℕ) (fault : Option Fault)
-    (w : IsWorld state stored forest opening past gs) (n : Names (forest_of opening past) e.step low high) (r : IsRun opening (e ∷ past)) (l1 : 1 ≤ low) (l2 : 1 ≤ high)
-    (k : IsLeftAt state stored (forest_of opening past) low high e gs gs' fault) where
+module _ {X : Type 0} {stored : X → View} (past : List Event) (opening : Opening) (gs gs' : List X) (e : Event) (low high : ℕ) (fault : Option Fault)
+    (n : Names (forest_of opening past) e.step low high) (r : IsRun opening (e ∷ past)) (l1 : 1 ≤ low) (l2 : 1 ≤ high)
+    (k : IsLeftAt stored (forest_of opening past) (λ g. standing opening past g) low high e gs gs' fault) where
   abbrev LeftOf : ℕ → View → View → Type 0
   LeftOf g old new = Leaves (asks_of opening e.step past g old.content) (content_then opening e.step past g old.content) old new fault
 
-  two_left : (i p : ℕ) (a b x y : X) → slice_get gs (low - 1) ≡ Some a → slice_get gs (high - 1) ≡ Some b → slice_get gs i ≡ Some x → i ≡ p - 1 → 1 ≤ p
-      → ((low == p) || (high == p)) ≡ true → StoreLeft (forest_of opening past) (state a) (state b) e (state x) (stored x) (stored y) fault → LeftOf (i + 1) (stored x) (stored y)
-  two_left i p a b x y sa sb sx m l q left =
+  two_left : (i p : ℕ) (x y : X) → i ≡ p - 1 → 1 ≤ p → ((low == p) || (high == p)) ≡ true
+      → StoreLeft (forest_of opening past) (standing opening past low) (standing opening past high) e (standing opening past p) (stored x) (stored y) fault
+      → LeftOf (i + 1) (stored x) (stored y)
+  two_left i p x y m l q left =
       let same : p ≡ i + 1 = omega arith in
-      subst (λ g. LeftOf g (stored x) (stored y)) same
-      (left_at past opening e low high p (state a) (state b) (state x) (stored x) (stored y) fault r n
-      (stands_at state opening past gs low a w l1 sa) (stands_at state opening past gs high b w l2 sb)
-      (stands_at state opening past gs p x w l (ap (λ j. slice_get gs j) (sym m) ∙ sx)) q left)
+      subst (λ g. LeftOf g (stored x) (stored y)) same (left_at past opening e low high p (stored x) (stored y) fault r n q left)
 
   other_left : (i : ℕ) (x y : X) → slice_get gs i ≡ Some x → slice_get gs' i ≡ Some y → (i ≡ low - 1 → ⊥) → (i ≡ high - 1 → ⊥) → LeftOf (i + 1) (stored x) (stored y)
   other_left i x y sx sy m o =
@@ -112,84 +112,72 @@ module _ {X : Type 0} {stored : X → View} {forest : ForestState → Type 0} (s
       apart : (p : ℕ) → (i ≡ p - 1 → ⊥) → p ≡ i + 1 → ⊥
       apart p m t = let back : i ≡ p - 1 = omega arith in m back
 
-  left_of : (i : ℕ) (a b x y : X) → slice_get gs (low - 1) ≡ Some a → slice_get gs (high - 1) ≡ Some b → slice_get gs i ≡ Some x → slice_get gs' i ≡ Some y
+  left_of : (i : ℕ) (x y : X) → slice_get gs i ≡ Some x → slice_get gs' i ≡ Some y
       → (i ≡ low - 1) ⊎ (i ≡ low - 1 → ⊥) → (i ≡ high - 1) ⊎ (i ≡ high - 1 → ⊥) → LeftOf (i + 1) (stored x) (stored y)
-  left_of i a b x y sa sb sx sy (inl m) o =
-      two_left i low a b x y sa sb sx m l1 (or_left _ _ (eqb_self low))
-      (subst (λ z. StoreLeft (forest_of opening past) (state a) (state b) e (state z) (stored z) (stored y) fault) (some_eq a x (sym sa ∙ ap (λ j. slice_get gs j) (sym m) ∙ sx))
-      (k.first a b y sa sb (ap (λ j. slice_get gs' j) (sym m) ∙ sy)))
-  left_of i a b x y sa sb sx sy (inr m) (inl o) =
-      two_left i high a b x y sa sb sx o l2 (or_right _ _ (eqb_self high))
-      (subst (λ z. StoreLeft (forest_of opening past) (state a) (state b) e (state z) (stored z) (stored y) fault) (some_eq b x (sym sb ∙ ap (λ j. slice_get gs j) (sym o) ∙ sx))
-      (k.second a b y sa sb (ap (λ j. slice_get gs' j) (sym o) ∙ sy)))
-  left_of i a b x y sa sb sx sy (inr m) (inr o) = other_left i x y sx sy m o
+  left_of i x y sx sy (inl m) o =
+      two_left i low x y m l1 (or_left _ _ (eqb_self low)) (k.first x y (ap (λ j. slice_get gs j) (sym m) ∙ sx) (ap (λ j. slice_get gs' j) (sym m) ∙ sy))
+  left_of i x y sx sy (inr m) (inl o) =
+      two_left i high x y o l2 (or_right _ _ (eqb_self high)) (k.second x y (ap (λ j. slice_get gs j) (sym o) ∙ sx) (ap (λ j. slice_get gs' j) (sym o) ∙ sy))
+  left_of i x y sx sy (inr m) (inr o) = other_left i x y sx sy m o
 
-  pub stores_kept : low - 1 < length gs → high - 1 < length gs → StoresLeft stored opening past e.step gs gs' fault
-  stores_kept h1 h2 =
-      let a = there gs (low - 1) h1 in
-      let b = there gs (high - 1) h2 in
-      record { each = λ i x y p q. left_of i a.0 b.0 x y a.1 b.1 p q (cases_eq i (low - 1)) (cases_eq i (high - 1)) }
-
-  -- the stores of all are still those of their histories, if those of the two are
-  pub stores_whole : ((x : X) → slice_get gs' (low - 1) ≡ Some x → IsStoreOf (state x) (stored x))
-      → ((x : X) → slice_get gs' (high - 1) ≡ Some x → IsStoreOf (state x) (stored x))
-      → (i : ℕ) (x : X) → slice_get gs' i ≡ Some x → IsStoreOf (state x) (stored x)
-  stores_whole first second i x q = of (cases_eq i (low - 1)) (cases_eq i (high - 1))
-    where
-      of : (i ≡ low - 1) ⊎ (i ≡ low - 1 → ⊥) → (i ≡ high - 1) ⊎ (i ≡ high - 1 → ⊥) → IsStoreOf (state x) (stored x)
-      of (inl m) o = first x (ap (λ j. slice_get gs' j) (sym m) ∙ q)
-      of (inr m) (inl o) = second x (ap (λ j. slice_get gs' j) (sym o) ∙ q)
-      of (inr m) (inr o) = w.stores i x (sym (k.others i m o) ∙ q)
+  pub stores_kept : StoresLeft stored opening past e.step gs gs' fault
+  stores_kept = record { each = λ i x y p q. left_of i x y p q (cases_eq i (low - 1)) (cases_eq i (high - 1)) }
 
 -- ---- where the two stand in the list
 
-module _ {X : Type 0} (state : X → GuardianState) (stored : X → View) (low high : ℕ) (e : Event) (f : ForestState) (fault : Option Fault) where
-  abbrev Left : X → X → X → X → Type 0
-  Left a b x y = StoreLeft f (state a) (state b) e (state x) (stored x) (stored y) fault
+module _ {X : Type 0} (stored : X → View) (states : ℕ → GuardianState) (low high : ℕ) (e : Event) (f : ForestState) (fault : Option Fault) where
+  abbrev Left : GuardianState → X → X → Type 0
+  Left s x y = StoreLeft f (states low) (states high) e s (stored x) (stored y) fault
 
   -- two elements of what was split
   pub left_two : (gs left right : List X) (a' b' d d' : X) → gs ≡ left ++ right → length left ≡ high - 1 → low - 1 < length left → 0 < length right
-      → Left (get_or left (low - 1) d) (get_or right 0 d') (get_or left (low - 1) d) a' → Left (get_or left (low - 1) d) (get_or right 0 d') (get_or right 0 d') b'
-      → IsLeftAt state stored f low high e gs (set left (low - 1) a' ++ set right 0 b') fault
+      → Left (states low) (get_or left (low - 1) d) a' → Left (states high) (get_or right 0 d') b'
+      → IsLeftAt stored f states low high e gs (set left (low - 1) a' ++ set right 0 b') fault
   left_two gs left right a' b' d d' g len lt lt2 one other =
       let a0 : X = get_or left (low - 1) d in
       let b0 : X = get_or right 0 d' in
       let at_low : slice_get gs (low - 1) ≡ Some a0 = ap (λ l. slice_get l (low - 1)) g ∙ front_at left right (low - 1) d lt in
       let at_high : slice_get gs (high - 1) ≡ Some b0 = ap₂ (λ l m. slice_get l m) g (sym len) ∙ back_at left right d' lt2 in
       record {
-        first = λ a b x sa sb sx.
-            subst (λ u. Left u b u x) (some_eq a0 a (sym at_low ∙ sa)) (subst (λ u. Left a0 u a0 x) (some_eq b0 b (sym at_high ∙ sb))
-            (subst (λ u. Left a0 b0 a0 u) (some_eq a' x (sym (set_front left (set right 0 b') (low - 1) a' lt) ∙ sx)) one));
-        second = λ a b x sa sb sx.
-            subst (λ u. Left u b b x) (some_eq a0 a (sym at_low ∙ sa)) (subst (λ u. Left a0 u u x) (some_eq b0 b (sym at_high ∙ sb))
-            (subst (λ u. Left a0 b0 b0 u)
-            (some_eq b' x (sym (ap (λ m. slice_get (set left (low - 1) a' ++ set right 0 b') m) (sym len) ∙ set_back left right (low - 1) a' b' lt2) ∙ sx)) other));
+        first = λ x y sx sy.
+            subst (λ u. Left (states low) u y) (some_eq a0 x (sym at_low ∙ sx))
+            (subst (λ u. Left (states low) a0 u) (some_eq a' y (sym (set_front left (set right 0 b') (low - 1) a' lt) ∙ sy)) one);
+        second = λ x y sx sy.
+            subst (λ u. Left (states high) u y) (some_eq b0 x (sym at_high ∙ sx))
+            (subst (λ u. Left (states high) b0 u)
+            (some_eq b' y (sym (ap (λ m. slice_get (set left (low - 1) a' ++ set right 0 b') m) (sym len) ∙ set_back left right (low - 1) a' b' lt2) ∙ sy)) other);
         others = λ i p q. set_other left right (low - 1) i a' b' p (λ t. q (t ∙ len)) ∙ ap (λ l. slice_get l i) (sym g);
       }
 
   -- one element
-  pub left_one : (gs : List X) (a' d : X) → low ≡ high → low - 1 < length gs → Left (get_or gs (low - 1) d) (get_or gs (low - 1) d) (get_or gs (low - 1) d) a'
-      → IsLeftAt state stored f low high e gs (set gs (low - 1) a') fault
+  pub left_one : (gs : List X) (a' d : X) → low ≡ high → low - 1 < length gs
+      → StoreLeft f (states low) (states low) e (states low) (stored (get_or gs (low - 1) d)) (stored a') fault
+      → IsLeftAt stored f states low high e gs (set gs (low - 1) a') fault
   left_one gs a' d q lt one =
       let a0 : X = get_or gs (low - 1) d in
       let at_low : slice_get gs (low - 1) ≡ Some a0 = slice_get-get_or gs (low - 1) d lt in
       let at_high : slice_get gs (high - 1) ≡ Some a0 = ap (λ n. slice_get gs (n - 1)) (sym q) ∙ at_low in
       let put : slice_get (set gs (low - 1) a') (low - 1) ≡ Some a' = set_there gs (low - 1) a' lt in
       let put_high : slice_get (set gs (low - 1) a') (high - 1) ≡ Some a' = ap (λ n. slice_get (set gs (low - 1) a') (n - 1)) (sym q) ∙ put in
+      let both : Left (states low) a0 a' = subst (λ g. StoreLeft f (states low) (states g) e (states low) (stored a0) (stored a') fault) q one in
       record {
-        first = λ a b x sa sb sx.
-            subst (λ u. Left u b u x) (some_eq a0 a (sym at_low ∙ sa)) (subst (λ u. Left a0 u a0 x) (some_eq a0 b (sym at_high ∙ sb))
-            (subst (λ u. Left a0 a0 a0 u) (some_eq a' x (sym put ∙ sx)) one));
-        second = λ a b x sa sb sx.
-            subst (λ u. Left u b b x) (some_eq a0 a (sym at_low ∙ sa)) (subst (λ u. Left a0 u u x) (some_eq a0 b (sym at_high ∙ sb))
-            (subst (λ u. Left a0 a0 a0 u) (some_eq a' x (sym put_high ∙ sx)) one));
+        first = λ x y sx sy.
+            subst (λ u. Left (states low) u y) (some_eq a0 x (sym at_low ∙ sx))
+            (subst (λ u. Left (states low) a0 u) (some_eq a' y (sym put ∙ sy)) both);
+        second = λ x y sx sy.
+            subst (λ u. Left (states high) u y) (some_eq a0 x (sym at_high ∙ sx))
+            (subst (λ u. Left (states high) a0 u) (some_eq a' y (sym put_high ∙ sy)) (subst (λ g. Left (states g) a0 a') q both));
         others = λ i p q. set_apart gs (low - 1) i a' p;
       }
 
 -- the guardian of a number says that its store is that of its history
-pub whole_at : {X : Type 0} (state : X → GuardianState) (stored : X → View) (number : ℕ) (gs : List X) (y : X) → slice_get gs (number - 1) ≡ Some y
-    → IsStoreOf (state y) (stored y) → IsWholeAt state stored number gs
-whole_at state stored number gs y s whole = record { at = λ x q. subst (λ z. IsStoreOf (state z) (stored z)) (some_eq y x (sym s ∙ q)) whole }
+pub whole_at : {X : Type 0} (stands : X → GuardianState → Type 0) (stored : X → View) (number : ℕ) (gs : List X) (y : X) → slice_get gs (number - 1) ≡ Some y
+    → ((s : GuardianState) → stands y s → IsStoreOf s (stored y)) → IsWholeAt stands stored number gs
+whole_at stands stored number gs y there whole = record {
+  at = λ x s q here.
+      let same = some_eq y x (sym there ∙ q) in
+      subst (λ z. IsStoreOf s (stored z)) same (whole s (subst (λ z. stands z s) (sym same) here));
+}
 
 -- ---- whose store failed
 

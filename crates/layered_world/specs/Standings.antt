@@ -16,7 +16,7 @@ use Rattle.layer_contracts.specs.Guardians.{GuardianState}
 use Rattle.layer_contracts.specs.Forests.{ForestState}
 use Rattle.layer_contracts.specs.Stores.{CountsFailure, IsStoreOf, Leaves}
 use Rattle.layer_contracts.specs.declared.guardian.Fault.{Fault}
-use Rattle.lent_steps.specs.Keeping.{AreAnswered, IsDone, StoreLeft}
+use Rattle.lent_steps.specs.Keeping.{AreAnswered, IsDone, StandsStill, StoreLeft}
 
 -- where the run leads guardian g
 abbrev pub standing : Opening → List Event → ℕ → GuardianState
@@ -26,15 +26,15 @@ standing opening past g = record { opening = opening; number = g; past = local_h
 abbrev pub forest_of : Opening → List Event → ForestState
 forest_of opening past = record { opening = opening; registry = registry_history opening (numbered past) }
 
--- Guardians are values of any type, each with the state and the store that contracts see; they stand from number 1 on. The forest stands in many
--- states, and among them where the run leads it.
-pub record IsWorld {X : Type 0} (state : X → GuardianState) (stored : X → View) (stands : ForestState → Type 0) (opening : Opening) (past : List Event) (guardians : List X)
-    : Type 0 where
+-- Guardians are values of any type, each with the store that contracts see; they have their numbers from 1 on. Each of them, and the forest, stands in
+-- many states, and among them where the run leads it.
+pub record IsWorld {X : Type 0} (stands : X → GuardianState → Type 0) (stored : X → View) (forest_stands : ForestState → Type 0) (opening : Opening) (past : List Event)
+    (guardians : List X) : Type 0 where
   pub is_run : IsRun opening past
-  pub forest : stands (forest_of opening past)
+  pub forest : forest_stands (forest_of opening past)
   pub count : length guardians ≡ length opening.setup
-  pub each : (i : ℕ) (x : X) → slice_get guardians i ≡ Some x → state x ≡ standing opening past (i + 1)
-  pub stores : (i : ℕ) (x : X) → slice_get guardians i ≡ Some x → IsStoreOf (state x) (stored x)
+  pub each : (i : ℕ) (x : X) → slice_get guardians i ≡ Some x → stands x (standing opening past (i + 1))
+  pub stores : (i : ℕ) (x : X) → slice_get guardians i ≡ Some x → IsStoreOf (standing opening past (i + 1)) (stored x)
 
 -- the step, with this answer
 abbrev pub event_of : Step → Answer → Event
@@ -77,31 +77,34 @@ IsOut count g = (g ≡ 0) ⊎ (count < g)
 abbrev pub Names : ForestState → Step → ℕ → ℕ → Type 0
 Names f step low high = (g : ℕ) → names_guardian step (events_there f.registry) g ≡ ((low == g) || (high == g))
 
--- what keeping an event asks of the two guardians
-pub record IsReady {X : Type 0} (state : X → GuardianState) (stands : ForestState → Type 0) (f : ForestState) (low high : ℕ) (e : Event) (guardians : List X) : Type 0 where
-  pub each : (a b : X) → slice_get guardians (low - 1) ≡ Some a → slice_get guardians (high - 1) ≡ Some b
-      → AreAnswered stands f (state a) (state b) e × ((state a).number ≡ low) × ((state b).number ≡ high)
+-- What keeping an event asks of the two guardians. The guardian of each number stands in the state of that number.
+pub record IsReady {X : Type 0} (stands : X → GuardianState → Type 0) (forest : ForestState → Type 0) (f : ForestState) (states : ℕ → GuardianState) (low high : ℕ)
+    (e : Event) (guardians : List X) : Type 0 where
+  pub number : (g : ℕ) → (states g).number ≡ g
+  pub each : (x y : X) → slice_get guardians (low - 1) ≡ Some x → slice_get guardians (high - 1) ≡ Some y
+      → AreAnswered forest (stands x) (stands y) f (states low) (states high) e
 
 -- and what it leaves
-pub record IsKeptAt {X : Type 0} (state : X → GuardianState) (stands : ForestState → Type 0) (f : ForestState) (low high n : ℕ) (e : Event) (before after : List X) : Type 0 where
-  pub two : (a b a' b' : X) → slice_get before (low - 1) ≡ Some a → slice_get before (high - 1) ≡ Some b
-      → slice_get after (low - 1) ≡ Some a' → slice_get after (high - 1) ≡ Some b' → IsDone stands f (state a) (state b) e n (state a') (state b')
+pub record IsKeptAt {X : Type 0} (stands : X → GuardianState → Type 0) (forest : ForestState → Type 0) (f : ForestState) (states : ℕ → GuardianState) (low high n : ℕ)
+    (e : Event) (before after : List X) : Type 0 where
+  pub two : (x y : X) → slice_get after (low - 1) ≡ Some x → slice_get after (high - 1) ≡ Some y
+      → IsDone forest (stands x) (stands y) f (states low) (states high) e n
   pub others : (i : ℕ) → i ≢ low - 1 → i ≢ high - 1 → slice_get after i ≡ slice_get before i
 
 -- and what it leaves of the stores of those two; nobody else is touched
-pub record IsLeftAt {X : Type 0} (state : X → GuardianState) (stored : X → View) (f : ForestState) (low high : ℕ) (e : Event) (before after : List X)
+pub record IsLeftAt {X : Type 0} (stored : X → View) (f : ForestState) (states : ℕ → GuardianState) (low high : ℕ) (e : Event) (before after : List X)
     (fault : Option Fault) : Type 0 where
-  pub first : (a b x : X) → slice_get before (low - 1) ≡ Some a → slice_get before (high - 1) ≡ Some b → slice_get after (low - 1) ≡ Some x
-      → StoreLeft f (state a) (state b) e (state a) (stored a) (stored x) fault
-  pub second : (a b x : X) → slice_get before (low - 1) ≡ Some a → slice_get before (high - 1) ≡ Some b → slice_get after (high - 1) ≡ Some x
-      → StoreLeft f (state a) (state b) e (state b) (stored b) (stored x) fault
+  pub first : (x y : X) → slice_get before (low - 1) ≡ Some x → slice_get after (low - 1) ≡ Some y
+      → StoreLeft f (states low) (states high) e (states low) (stored x) (stored y) fault
+  pub second : (x y : X) → slice_get before (high - 1) ≡ Some x → slice_get after (high - 1) ≡ Some y
+      → StoreLeft f (states low) (states high) e (states high) (stored x) (stored y) fault
   pub others : (i : ℕ) → i ≢ low - 1 → i ≢ high - 1 → slice_get after i ≡ slice_get before i
 
--- the store of the guardian of this number is that of its history
-pub record IsWholeAt {X : Type 0} (state : X → GuardianState) (stored : X → View) (number : ℕ) (guardians : List X) : Type 0 where
-  pub at : (x : X) → slice_get guardians (number - 1) ≡ Some x → IsStoreOf (state x) (stored x)
+-- the store of the guardian of this number is that of each history in which it stands
+pub record IsWholeAt {X : Type 0} (stands : X → GuardianState → Type 0) (stored : X → View) (number : ℕ) (guardians : List X) : Type 0 where
+  pub at : (x : X) (s : GuardianState) → slice_get guardians (number - 1) ≡ Some x → stands x s → IsStoreOf s (stored x)
 
--- all stand as they did
-pub record AreSame {X : Type 0} (state : X → GuardianState) (stood stands : ForestState → Type 0) (before after : List X) : Type 0 where
-  pub forest : (f : ForestState) → stood f → stands f
-  pub each : (i : ℕ) (x y : X) → slice_get before i ≡ Some x → slice_get after i ≡ Some y → state y ≡ state x
+-- all stand where they stood
+pub record AreSame {X : Type 0} (stands : X → GuardianState → Type 0) (forest_stood forest_stands : ForestState → Type 0) (before after : List X) : Type 0 where
+  pub forest : (f : ForestState) → forest_stood f → forest_stands f
+  pub each : (i : ℕ) (x y : X) → slice_get before i ≡ Some x → slice_get after i ≡ Some y → StandsStill (stands x) (stands y)

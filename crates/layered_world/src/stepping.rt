@@ -4,7 +4,7 @@ ghost use Rattle.run_model.specs.Runs.{IsRun, history_after, is_accepted};
 ghost use Rattle.run_model.specs.LocalHistories.{answer_lent};
 ghost use Rattle.run_model.specs.Openings.{Opening};
 ghost use Rattle.layer_contracts.specs.Forests.{ForestState};
-ghost use Rattle.layer_contracts.specs.Guardians.{lent_two};
+ghost use Rattle.layer_contracts.specs.Guardians.{GuardianState, lent_two};
 ghost use Rattle.lent_steps.specs.Lending.{nobody};
 ghost use Rattle.layer_contracts.specs.Stores.{fault_in};
 ghost use Rattle.layer_contracts.specs.declared.guardian.Fault.TheVariants.{Stable};
@@ -26,11 +26,11 @@ pub fn step<R: Forest, G: Guardian>(
     step: &Step,
 ) -> Result<Answer, Fault>
     ghost opening: { Opening }
-    requires { IsWorld G.state G.stored (R.stands forest.old) opening history.old guardians.old }
+    requires { IsWorld G.stands G.stored (R.stands forest.old) opening history.old guardians.old }
     ensures answer { IfOk result (λ answer. answer ≡ answer_of opening step.now history.old) }
     ensures after { IfOk result (λ answer. history.new ≡ history_after step.now answer history.old) }
     ensures err { OnErr result (history.new ≡ history.old) }
-    ensures world { IsWorld G.state G.stored (R.stands forest.new) opening history.new guardians.new }
+    ensures world { IsWorld G.stands G.stored (R.stands forest.new) opening history.new guardians.new }
     ensures stores { StoresLeft G.stored opening history.old step.now guardians.old guardians.new (fault_in result) }
     ensures cause { IsErrOf result Stable → HasFailed G.stored guardians.old guardians.new }
 {
@@ -78,7 +78,7 @@ fn answer_at<R: Forest, G: Guardian>(
     step: &Step,
 ) -> Result<Answer, AllocError>
     ghost opening: { Opening }
-    requires world { IsWorld G.state G.stored (R.stands forest.now) opening _history.now guardians.now }
+    requires world { IsWorld G.stands G.stored (R.stands forest.now) opening _history.now guardians.now }
     requires names { Names (forest_of opening _history.now) step.now low high }
     ensures { IfOk result (λ answer. answer ≡ answer_of opening step.now _history.now) }
 {
@@ -106,13 +106,13 @@ fn keep<R: Forest, G: Guardian>(
     answer: &Answer,
 ) -> Result<(), Fault>
     ghost opening: { Opening }
-    requires world { IsWorld G.state G.stored (R.stands forest.old) opening history.old guardians.old }
+    requires world { IsWorld G.stands G.stored (R.stands forest.old) opening history.old guardians.old }
     requires names { Names (forest_of opening history.old) step.now low high }
     requires ordered { low ≤ high }
     requires more { IsRun opening (event_of step.now answer.now ∷ history.old) }
     ensures ok { OnOk result (history.new ≡ event_of step.now answer.now ∷ history.old) }
     ensures err { OnErr result (history.new ≡ history.old) }
-    ensures world { IsWorld G.state G.stored (R.stands forest.new) opening history.new guardians.new }
+    ensures world { IsWorld G.stands G.stored (R.stands forest.new) opening history.new guardians.new }
     ensures stores { StoresLeft G.stored opening history.old step.now guardians.old guardians.new (fault_in result) }
     ensures cause { IsErrOf result Stable → HasFailed G.stored guardians.old guardians.new }
 {
@@ -145,11 +145,11 @@ fn newest(history: &History) -> &Event
     &events[events.len() - 1]
 }
 
-/// Asks a guardian for its number: its store is that of its history.
+/// Asks a guardian for its number: its store is that of each history in which it stands.
 fn ask_number<G: Guardian>(guardians: &[G], number: u32)
     requires first { 1 ≤ number }
     requires last { number ≤ length guardians.now }
-    ensures { IsWholeAt G.state G.stored number guardians.now }
+    ensures { IsWholeAt G.stands G.stored number guardians.now }
 {
     guardians[number as usize - 1].number();
 }
@@ -167,12 +167,12 @@ fn keep_at<R: Forest, G: Guardian>(
     requires first { 1 ≤ low }
     requires ordered { low ≤ high }
     requires last { high ≤ length guardians.old }
-    requires ready { (f : ForestState) × IsReady G.state (R.stands forest.old) f low high event.now guardians.old }
-    ensures ok { OnOk result ((f : ForestState) → IsReady G.state (R.stands forest.old) f low high event.now guardians.old
-        → IsKeptAt G.state (R.stands forest.new) f low high number event.now guardians.old guardians.new) }
-    ensures err { OnErr result (AreSame G.state (R.stands forest.old) (R.stands forest.new) guardians.old guardians.new) }
-    ensures stores { (f : ForestState) → IsReady G.state (R.stands forest.old) f low high event.now guardians.old
-        → IsLeftAt G.state G.stored f low high event.now guardians.old guardians.new (fault_in result) }
+    requires ready { (f : ForestState) × (states : ℕ → GuardianState) × IsReady G.stands (R.stands forest.old) f states low high event.now guardians.old }
+    ensures ok { OnOk result ((f : ForestState) (states : ℕ → GuardianState) → IsReady G.stands (R.stands forest.old) f states low high event.now guardians.old
+        → IsKeptAt G.stands (R.stands forest.new) f states low high number event.now guardians.old guardians.new) }
+    ensures err { OnErr result (AreSame G.stands (R.stands forest.old) (R.stands forest.new) guardians.old guardians.new) }
+    ensures stores { (f : ForestState) (states : ℕ → GuardianState) → IsReady G.stands (R.stands forest.old) f states low high event.now guardians.old
+        → IsLeftAt G.stored f states low high event.now guardians.old guardians.new (fault_in result) }
     ensures cause { IsErrOf result Stable → HasFailed G.stored guardians.old guardians.new }
 {
     if low == high {

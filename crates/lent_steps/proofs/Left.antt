@@ -1,19 +1,21 @@
 -- What plans leave that are carried out.
-use Rattle.std.proofs.Common.{Bool, List, MatchOption, None, Option, Some, [], ap, ap₂, cond, eqb-true, false, refl, subst, sym, true, is_none, ℕ, ◌==◌, ◌∙◌, ◌∷◌, ◌≡◌, IsFalse}
-use Rattle.std.proofs.lemmas.Bool.{false≢true, true≢false}
+use Rattle.std.proofs.Common.{Bool, List, MatchOption, None, Option, Some, [], ap, ap₂, cond, eqb-true, false, map, refl, subst, sym, true, ℕ, ◌==◌, ◌∙◌, ◌∷◌, ◌≡◌, IsFalse}
+use Rattle.std.proofs.lemmas.Bool.{false≢true, or_left, or_right, true≢false}
+use Rattle.std.specs.List.Sorted.{IsStrictlySortedBy}
+use Rattle.action_names.specs.Names.{name_cmp}
 use Rattle.run_model.specs.declared.history.Event.{Event}
 use Rattle.run_model.specs.declared.step.Step.{Step}
 use Rattle.run_model.specs.declared.step.Step.TheVariants.{Abort, Arms, Call, Close, Commit, Crash, Decide, NestedTop, Op, Prepare, Recover, Tell, Top}
 use Rattle.run_model.specs.Actions.{crashes, home_of}
 use Rattle.run_model.specs.LocalHistories.{carried_lent, events_there, home_lent, life_lent, names_guardian, registry_after, registry_event_lent, takes_registry}
-use Rattle.run_model.specs.LocalReadings.{Carried, LocalEvent, events_here}
-use Rattle.local_laws.specs.Owed.{IsOwed}
-use Rattle.local_agreement.specs.Laws.{Agrees}
+use Rattle.run_model.specs.LocalReadings.{LocalEvent, events_here}
 use Rattle.run_laws.proofs.Names.{eqb_self}
 use Rattle.layer_contracts.specs.Guardians.{GuardianState, News, after_step, kept, lent_two, stamped}
 use Rattle.layer_contracts.specs.Forests.{ForestState, RegistryNews, begun_at, stamped_there}
 use Rattle.layer_contracts.specs.Messages.{may_fail}
-use Rattle.lent_steps.specs.Keeping.{IsBrought, IsInstalled, IsPlannedAt, IsPlannedInSome, IsPlannedThere}
+use Rattle.layer_contracts.specs.declared.message.Message.{Message}
+use Rattle.lent_steps.specs.Lending.{IsOneOf}
+use Rattle.lent_steps.specs.Keeping.{Brings, IsInstalled, IsKept, IsPlannedHere, IsPlannedInSome, IsPlannedThere, Plans, StandsStill, news_to}
 
 -- each of two that differ is lent
 pub first_lent : (a b : GuardianState) → a.past ≡ lent_two a b a.number
@@ -22,33 +24,45 @@ first_lent a b = sym (ap (λ t. cond t a.past (cond (b.number == a.number) b.pas
 pub second_lent : (a b : GuardianState) → (a.number == b.number) ≡ false → b.past ≡ lent_two a b b.number
 second_lent a b d = sym (ap₂ (λ t u. cond t a.past (cond u b.past [])) d (eqb_self b.number))
 
+-- so each is one of them
+pub first_one : (a b : GuardianState) → IsOneOf a b a
+first_one a b = record { past = first_lent a b; number = or_left _ _ (eqb_self a.number) }
+
+pub second_one : (a b : GuardianState) → (a.number == b.number) ≡ false → IsOneOf a b b
+second_one a b d = record { past = second_lent a b d; number = or_right _ _ (eqb_self b.number) }
+
+-- a guardian says one number, whatever state it stands in
+pub differ_as : (stands one : GuardianState → Type 0) (a b c d : GuardianState) (m n : ℕ) → ((x : GuardianState) → stands x → m ≡ x.number)
+    → ((x : GuardianState) → one x → n ≡ x.number) → stands a → one b → stands c → one d → (a.number == b.number) ≡ false → (c.number == d.number) ≡ false
+differ_as stands one a b c d m n h k p q r s e = ap₂ (λ u v. u == v) (sym (h c r) ∙ h a p) (sym (k d s) ∙ k b q) ∙ e
+
 -- the guardian after an event that names it, and after another
-left_named : (f : ForestState) (a b x x' : GuardianState) (e : Event) (n : ℕ) → x.opening ≡ f.opening → x.past ≡ lent_two a b x.number
-    → names_guardian e.step (events_there f.registry) x.number ≡ true
-    → x' ≡ kept x (stamped n (record { event = e; carried = carried_lent f.opening e x.number f.registry (lent_two a b) }))
-    → x' ≡ after_step x (n, e) f.registry (lent_two a b)
-left_named f a b x x' e n s p q h =
+named_is : (f : ForestState) (a b x : GuardianState) (e : Event) (n : ℕ) → x.opening ≡ f.opening → x.past ≡ lent_two a b x.number
+    → names_guardian e.step (events_there f.registry) x.number ≡ true → kept x (stamped n (news_to f a b e x)) ≡ after_step x (n, e) f.registry (lent_two a b)
+named_is f a b x e n s p q =
     let new : List LocalEvent → List LocalEvent = λ past. record { stamp = n; event = e; carried = carried_lent x.opening e x.number f.registry (lent_two a b) } ∷ past in
-    h ∙ ap (λ st. kept x (stamped n (record { event = e; carried = carried_lent st e x.number f.registry (lent_two a b) }))) (sym s)
+    ap (λ st. kept x (stamped n (record { event = e; carried = carried_lent st e x.number f.registry (lent_two a b) }))) (sym s)
     ∙ ap (λ past. record x { past = past }) (ap new p
     ∙ sym (ap (λ t. cond t (new (lent_two a b x.number)) (lent_two a b x.number)) q))
 
-left_unnamed : (f : ForestState) (a b x x' : GuardianState) (e : Event) (n : ℕ) → x.past ≡ lent_two a b x.number
-    → names_guardian e.step (events_there f.registry) x.number ≡ false → x' ≡ x
-    → x' ≡ after_step x (n, e) f.registry (lent_two a b)
-left_unnamed f a b x x' e n p q h =
+unnamed_is : (f : ForestState) (a b x : GuardianState) (e : Event) (n : ℕ) → x.past ≡ lent_two a b x.number
+    → names_guardian e.step (events_there f.registry) x.number ≡ false → x ≡ after_step x (n, e) f.registry (lent_two a b)
+unnamed_is f a b x e n p q =
     let new : List LocalEvent → List LocalEvent = λ past. record { stamp = n; event = e; carried = carried_lent x.opening e x.number f.registry (lent_two a b) } ∷ past in
-    h ∙ ap (λ past. record x { past = past }) (p ∙ sym (ap (λ t. cond t (new (lent_two a b x.number)) (lent_two a b x.number)) q))
+    ap (λ past. record x { past = past }) (p ∙ sym (ap (λ t. cond t (new (lent_two a b x.number)) (lent_two a b x.number)) q))
 
 -- by the plan that was carried out
-pub left_at : {P : Type 0} (f : ForestState) (a b x x' : GuardianState) (e : Event) (n : ℕ) (o : Option P) (planned : P → News)
-    → x.opening ≡ f.opening → x.past ≡ lent_two a b x.number
-    → MatchOption o (names_guardian e.step (events_there f.registry) x.number ≡ false) (λ plan. IsPlannedAt f a b e x (planned plan))
-    → MatchOption o (x' ≡ x) (λ plan. x' ≡ kept x (stamped n (planned plan)))
-    → x' ≡ after_step x (n, e) f.registry (lent_two a b)
-left_at f a b x x' e n None planned s p q h = left_unnamed f a b x x' e n p q h
-left_at f a b x x' e n (Some plan) planned s p q h =
-    left_named f a b x x' e n s p q.named (h ∙ ap (λ news. kept x (stamped n news)) q.planned)
+pub left_at : {P : Type 0} (stood stands : GuardianState → Type 0) (is_for : P → GuardianState → News → Type 0) (f : ForestState) (a b x : GuardianState) (e : Event) (n : ℕ)
+    (o : Option P) → x.opening ≡ f.opening → x.past ≡ lent_two a b x.number → stood x → Plans is_for f a b e x o
+    → MatchOption o (StandsStill stood stands) (λ plan. IsKept stood stands (is_for plan) e n) → stands (after_step x (n, e) f.registry (lent_two a b))
+left_at stood stands is_for f a b x e n None s p u q h = subst stands (unnamed_is f a b x e n p q) (h x u)
+left_at stood stands is_for f a b x e n (Some plan) s p u q h = subst stands (named_is f a b x e n s p q.named) (h x (news_to f a b e x) u q.planned refl)
+
+-- such a plan may be carried out
+pub planned_here : {P : Type 0} (stands : GuardianState → Type 0) (is_for : P → GuardianState → News → Type 0) (f : ForestState) (a b x : GuardianState) (e : Event)
+    (o : Option P) → stands x → Plans is_for f a b e x o → MatchOption o (Unit {0}) (λ plan. IsPlannedHere stands (is_for plan) e)
+planned_here stands is_for f a b x e None s q = tt
+planned_here stands is_for f a b x e (Some plan) s q = (x, news_to f a b e x, s, q.planned, refl)
 
 -- and the forest, by the plan that was made for an event that was entered
 pub left_there : {P : Type 0} (stood stands : ForestState → Type 0) (is_for : P → ForestState → RegistryNews → Type 0) (f : ForestState) (a b : GuardianState) (e : Event)
@@ -74,37 +88,11 @@ pub planned_there : {P : Type 0} (stands : ForestState → Type 0) (is_for : P �
 planned_there stands is_for f e home life None s q = tt
 planned_there stands is_for f e home life (Some plan) s q = (f, record { event = e; begun = begun_at f home life e.answer }, s, q.planned, refl)
 
--- what is kept of a guardian that room was made at, which says what it said
-pub kept_from : {P : Type 0} (x y x' : GuardianState) (n : ℕ) (o : Option P) (planned : P → News) → y ≡ x
-    → MatchOption o (x' ≡ y) (λ plan. x' ≡ kept y (stamped n (planned plan))) → MatchOption o (x' ≡ x) (λ plan. x' ≡ kept x (stamped n (planned plan)))
-kept_from x y x' n o planned same h = subst (λ s. MatchOption o (x' ≡ s) (λ plan. x' ≡ kept s (stamped n (planned plan)))) same h
-
--- what is planned of what was brought
-pub planned_at : {M P : Type 0} (f : ForestState) (a b x : GuardianState) (e : Event) (m : Option M) (carried : M → Carried) (o : Option P) (planned : P → News)
-    → MatchOption m (names_guardian e.step (events_there f.registry) x.number ≡ false) (λ message. IsBrought f a b e x (carried message))
-    → MatchOption m (is_none o ≡ true) (λ message. MatchOption o ⊥ (λ plan. planned plan ≡ record { event = e; carried = carried message }))
-    → MatchOption o (names_guardian e.step (events_there f.registry) x.number ≡ false) (λ plan. IsPlannedAt f a b e x (planned plan))
-planned_at f a b x e None carried None planned q h = q
-planned_at f a b x e None carried (Some plan) planned q h = absurd (false≢true h)
-planned_at f a b x e (Some message) carried None planned q h = absurd h
-planned_at f a b x e (Some message) carried (Some plan) planned q h = record {
-  named = q.named;
-  planned = h ∙ ap (λ c. record { event = e; carried = c }) q.carried;
-}
-
--- what was brought is owed
-pub brought_owed : {M : Type 0} (f : ForestState) (a b x : GuardianState) (e : Event) (m : Option M) (carried : M → Carried)
-    → MatchOption m (names_guardian e.step (events_there f.registry) x.number ≡ false) (λ message. IsBrought f a b e x (carried message))
-    → MatchOption m (Unit {0}) (λ message. IsOwed x.opening x.number (stamped 0 (record { event = e; carried = carried message })) x.past e.step)
-brought_owed f a b x e None carried q = tt
-brought_owed f a b x e (Some message) carried q = q.owed
-
--- and agrees
-pub brought_agrees : {M : Type 0} (f : ForestState) (a b x : GuardianState) (e : Event) (m : Option M) (carried : M → Carried)
-    → MatchOption m (names_guardian e.step (events_there f.registry) x.number ≡ false) (λ message. IsBrought f a b e x (carried message))
-    → MatchOption m (Unit {0}) (λ message. Agrees x.opening x.number (stamped 0 (record { event = e; carried = carried message })) x.past)
-brought_agrees f a b x e None carried q = tt
-brought_agrees f a b x e (Some message) carried q = q.agrees
+-- what agrees tells outcomes by name
+pub brought_rising : (f : ForestState) (a b x : GuardianState) (e : Event) (brought : Option Message) → Brings f a b e x brought
+    → MatchOption brought (Unit {0}) (λ message. IsStrictlySortedBy name_cmp (map (λ x. x.0) message.outcomes.items))
+brought_rising f a b x e None q = tt
+brought_rising f a b x e (Some message) q = q.agrees.outcomes.once
 
 -- at one guardian only the event may fail
 quiet : (step : Step) (f : ForestState) (m n : ℕ) → names_guardian step (events_there f.registry) m ≡ true → names_guardian step (events_there f.registry) n ≡ true
@@ -129,10 +117,15 @@ quiet (Abort a) f m n p q d s = absurd (false≢true s)
 quiet (Crash g) f m n p q d s = absurd (false≢true s)
 
 -- so the other plan cannot fail
-pub quiet_plan : {P : Type 0} (f : ForestState) (a b x y : GuardianState) (e : Event) (o : Option P) (planned : P → News)
+pub quiet_plan : {P : Type 0} (is_for : P → GuardianState → News → Type 0) (f : ForestState) (a b x y : GuardianState) (e : Event) (o : Option P)
     → names_guardian e.step (events_there f.registry) x.number ≡ true → may_fail e.step x.number ≡ true → (x.number == y.number) ≡ false
-    → MatchOption o (names_guardian e.step (events_there f.registry) y.number ≡ false) (λ plan. IsPlannedAt f a b e y (planned plan))
-    → MatchOption o (Unit {0}) (λ plan. IsFalse (may_fail (planned plan).event.step y.number))
-quiet_plan f a b x y e None planned n s d q = tt
-quiet_plan f a b x y e (Some plan) planned n s d q =
-    ap (λ news. may_fail news.event.step y.number) q.planned ∙ quiet e.step f x.number y.number n q.named d s
+    → Plans is_for f a b e y o → MatchOption o (Unit {0}) (λ plan. may_fail e.step y.number ≡ false)
+quiet_plan is_for f a b x y e None n s d q = tt
+quiet_plan is_for f a b x y e (Some plan) n s d q = quiet e.step f x.number y.number n q.named d s
+
+-- and may be installed
+pub quiet_here : {P : Type 0} (stands : GuardianState → Type 0) (x : GuardianState) (step : Step) (o : Option P) → stands x
+    → MatchOption o (Unit {0}) (λ plan. may_fail step x.number ≡ false)
+    → MatchOption o (Unit {0}) (λ plan. (y : GuardianState) × stands y × IsFalse (may_fail step y.number))
+quiet_here stands x step None s q = tt
+quiet_here stands x step (Some plan) s q = (x, s, q)

@@ -1,5 +1,5 @@
 -- What is left of the store of a guardian that was lent: by the plan that was carried out for it, by one that was installed, and where none was.
-use Rattle.std.proofs.Common.{Err, IsErrAnd, MatchOption, None, Ok, OnOk, Option, Result, Some, ap, ap₂, false, refl, subst, sym, true, is_some, ℕ, ◌&&◌, ◌==◌, ◌∙◌, ◌≡◌, ◌⊎◌, Bool, IsFalse}
+use Rattle.std.proofs.Common.{Err, IsErrAnd, MatchOption, None, Ok, OnOk, Option, Result, Some, ap, ap₂, false, refl, subst, sym, true, is_some, ℕ, ◌&&◌, ◌==◌, ◌∙◌, ◌≡◌, ◌⊎◌, Bool}
 use Rattle.std.proofs.lemmas.Bool.{false≢true}
 use Rattle.run_model.specs.declared.history.Event.{Event}
 use Rattle.run_model.specs.declared.step.Step.{Step}
@@ -16,7 +16,7 @@ use Rattle.layer_contracts.specs.Stores.{IsStoreOf, Leaves, LeavesStore, Stays, 
 use Rattle.layer_contracts.specs.declared.guardian.Fault.{Fault}
 use Rattle.layer_contracts.specs.declared.guardian.Fault.TheVariants.{Memory, Stable}
 use Rattle.layer_contracts.proofs.Stores.{left_alone, quiet_event, refused_before, stays_then}
-use Rattle.lent_steps.specs.Keeping.{IsPlannedAt, StoreLeft, is_operation, news_to}
+use Rattle.lent_steps.specs.Keeping.{Plans, StoreLeft, WhereverPlanned, is_operation, news_to}
 use Rattle.lent_steps.proofs.Left.{quiet_plan}
 
 -- ---- a call of a store that is as it was
@@ -76,49 +76,38 @@ module _ (f : ForestState) (a b x : GuardianState) (e : Event) (old : View) wher
   left_unnamed : (new : View) (fault : Option Fault) → names_it ≡ false → Stays old new → StoreLeft f a b e x old new fault
   left_unnamed new fault other stays = left_alone (names_it && asks) content_after old new fault (ap (λ t. t && asks) other) stays
 
-  -- a plan was carried out for the guardian as it was when room was made, or there was none
-  pub left_carried : {P : Type 0} (y : GuardianState) (mid new : View) (fault : Option Fault) (o : Option P) (planned : P → News) → y ≡ x → Stays old mid
-      → MatchOption o (names_it ≡ false) (λ plan. IsPlannedAt f a b e x (planned plan))
-      → MatchOption o (Stays mid new) (λ plan. LeavesStore y (planned plan) mid new fault)
+  -- a plan was carried out for the guardian, which stood there when room was made, or there was none
+  pub left_carried : {P : Type 0} (stood : GuardianState → Type 0) (is_for : P → GuardianState → News → Type 0) (mid new : View) (fault : Option Fault) (o : Option P)
+      → stood x → Stays old mid → Plans is_for f a b e x o
+      → MatchOption o (Stays mid new) (λ plan. WhereverPlanned stood (is_for plan) e (λ y news. LeavesStore y news mid new fault))
       → StoreLeft f a b e x old new fault
-  left_carried y mid new fault None planned same stays q h = left_unnamed new fault q (stays_then old mid new stays h)
-  left_carried y mid new fault (Some plan) planned same stays q h =
-      let carried : LeavesStore x (news_to f a b e x) mid new fault =
-      subst (λ s. LeavesStore s (news_to f a b e x) mid new fault) same (subst (λ news. LeavesStore y news mid new fault) q.planned h) in
-      subst (λ t. Leaves (t && asks) content_after old new fault) (sym q.named) (store_from x (news_to f a b e x) old mid new fault stays carried)
+  left_carried stood is_for mid new fault None s stays q h = left_unnamed new fault q (stays_then old mid new stays h)
+  left_carried stood is_for mid new fault (Some plan) s stays q h =
+      subst (λ t. Leaves (t && asks) content_after old new fault) (sym q.named)
+      (store_from x (news_to f a b e x) old mid new fault stays (h x (news_to f a b e x) s q.planned refl))
 
   -- a plan was installed, or is still to be, which asks for nothing; or there is none
-  pub left_quiet : {P : Type 0} (y : GuardianState) (new : View) (fault : Option Fault) (o : Option P) (planned : P → News) → y ≡ x
-      → MatchOption o (names_it ≡ false) (λ plan. IsPlannedAt f a b e x (planned plan))
-      → MatchOption o (Unit {0}) (λ plan. IsFalse (may_fail (planned plan).event.step y.number))
-      → Stays old new → StoreLeft f a b e x old new fault
-  left_quiet y new fault None planned same q quiet stays = left_unnamed new fault q stays
-  left_quiet y new fault (Some plan) planned same q quiet stays =
-      let silent : may_fail e.step x.number ≡ false =
-      sym (ap₂ (λ news s. may_fail news.event.step s.number) q.planned same) ∙ quiet in
+  pub left_quiet : {P : Type 0} (is_for : P → GuardianState → News → Type 0) (new : View) (fault : Option Fault) (o : Option P) → Plans is_for f a b e x o
+      → MatchOption o (Unit {0}) (λ plan. may_fail e.step x.number ≡ false) → Stays old new → StoreLeft f a b e x old new fault
+  left_quiet is_for new fault None q quiet stays = left_unnamed new fault q stays
+  left_quiet is_for new fault (Some plan) q quiet stays =
       left_alone (names_it && asks) content_after old new fault
-      (ap₂ (λ t u. t && u) q.named (quiet_event x.number (stamped 0 (news_to f a b e x)) old.content silent)) stays
+      (ap₂ (λ t u. t && u) q.named (quiet_event x.number (stamped 0 (news_to f a b e x)) old.content quiet)) stays
 
 -- ---- which of two plans asks for nothing
 
 -- the one that was not carried out first, as it cannot fail
-pub quiet_here : {P : Type 0} (f : ForestState) (a b x : GuardianState) (e : Event) (n : ℕ) (o : Option P) (planned : P → News)
-    → (is_some o && may_fail e.step n) ≡ false
-    → MatchOption o (names_guardian e.step (events_there f.registry) x.number ≡ false) (λ plan. IsPlannedAt f a b e x (planned plan))
-    → MatchOption o (Unit {0}) (λ plan. IsFalse (may_fail (planned plan).event.step n))
-quiet_here f a b x e n None planned h q = tt
-quiet_here f a b x e n (Some plan) planned h q = ap (λ news. may_fail news.event.step n) q.planned ∙ h
+pub quiet_first : {P : Type 0} (step : Step) (n : ℕ) (o : Option P) → (is_some o && may_fail step n) ≡ false
+    → MatchOption o (Unit {0}) (λ plan. may_fail step n ≡ false)
+quiet_first step n None h = tt
+quiet_first step n (Some plan) h = h
 
 -- the other one, where the first may fail
-pub quiet_other : {P : Type 0} (f : ForestState) (a b x y x' y' : GuardianState) (e : Event) (o p : Option P) (planned : P → News) → x' ≡ x → y' ≡ y
-    → (is_some o && may_fail e.step x'.number) ≡ true → (x.number == y.number) ≡ false
-    → MatchOption o (names_guardian e.step (events_there f.registry) x.number ≡ false) (λ plan. IsPlannedAt f a b e x (planned plan))
-    → MatchOption p (names_guardian e.step (events_there f.registry) y.number ≡ false) (λ plan. IsPlannedAt f a b e y (planned plan))
-    → MatchOption p (Unit {0}) (λ plan. IsFalse (may_fail (planned plan).event.step y'.number))
-quiet_other f a b x y x' y' e None p planned same also h d q r = absurd (false≢true h)
-quiet_other f a b x y x' y' e (Some plan) p planned same also h d q r =
-    subst (λ s. MatchOption p (Unit {0}) (λ plan. IsFalse (may_fail (planned plan).event.step s.number))) (sym also)
-    (quiet_plan f a b x y e p planned q.named (ap (λ s. may_fail e.step s.number) (sym same) ∙ h) d r)
+pub quiet_other : {P : Type 0} (is_for : P → GuardianState → News → Type 0) (also : P → GuardianState → News → Type 0) (f : ForestState) (a b x y : GuardianState) (e : Event)
+    (o p : Option P) → (is_some o && may_fail e.step x.number) ≡ true → (x.number == y.number) ≡ false → Plans is_for f a b e x o → Plans also f a b e y p
+    → MatchOption p (Unit {0}) (λ plan. may_fail e.step y.number ≡ false)
+quiet_other is_for also f a b x y e None p h d q r = absurd (false≢true h)
+quiet_other is_for also f a b x y e (Some plan) p h d q r = quiet_plan also f a b x y e p q.named h d r
 
 -- ---- an operation
 

@@ -1,5 +1,5 @@
 -- What an accepted step leaves of what it was lent.
-use Rattle.std.specs.Prelude.{◌≡◌, ℕ, Bool, true, false, ◌&&◌, ◌==◌, ◌||◌, ◌∷◌, Option, IsTrue}
+use Rattle.std.specs.Prelude.{◌≡◌, ℕ, Bool, true, false, ◌&&◌, ◌==◌, ◌||◌, ◌∷◌, Option, IsTrue, MatchOption}
 use Rattle.run_model.specs.declared.step.Step.{Step}
 use Rattle.run_model.specs.declared.step.Step.TheVariants.{Op}
 use Rattle.run_model.specs.declared.answer.Answer.{Answer}
@@ -13,8 +13,10 @@ use Rattle.stable_store.specs.Calls.{View}
 use Rattle.stored_laws.specs.Stored.{after_event, asks_store}
 use Rattle.layer_contracts.specs.Guardians.{GuardianState, News, after_step, kept, lent_two, stamped}
 use Rattle.layer_contracts.specs.Forests.{ForestState, RegistryNews, begun_at, stamped_there}
+use Rattle.layer_contracts.specs.Messages.{carried_of}
 use Rattle.layer_contracts.specs.Stores.{Leaves}
 use Rattle.layer_contracts.specs.declared.guardian.Fault.{Fault}
+use Rattle.layer_contracts.specs.declared.message.Message.{Message}
 use Rattle.lent_steps.specs.Lending.{AreLent}
 
 abbrev pub is_operation : Step → Bool
@@ -36,10 +38,18 @@ pub record IsAnswered (f : ForestState) (a b : GuardianState) (e : Event) : Type
       → IsOwed f.opening g (stamped 0 (record { event = e; carried = carried_lent f.opening e g f.registry (lent_two a b) })) (lent_two a b g) e.step
   pub agrees : AgreesTwo f a b e
 
+-- what the event brings to x, of those lent
+abbrev pub news_to : ForestState → GuardianState → GuardianState → Event → GuardianState → News
+news_to f a b e x = record { event = e; carried = carried_lent f.opening e x.number f.registry (lent_two a b) }
+
 -- what is lent, with the event that it answers so
-pub record AreAnswered (stands : ForestState → Type 0) (f : ForestState) (a b : GuardianState) (e : Event) : Type 0 where
-  pub lent : AreLent stands f a b
+pub record AreAnswered (stands : ForestState → Type 0) (one other : GuardianState → Type 0) (f : ForestState) (a b : GuardianState) (e : Event) : Type 0 where
+  pub lent : AreLent stands one other f a b
   pub answered : IsAnswered f a b e
+
+-- the event, if it names the guardian x, agrees with its history
+abbrev pub AgreesAt : ForestState → GuardianState → GuardianState → Event → GuardianState → Type 0
+AgreesAt f a b e x = names_guardian e.step (events_there f.registry) x.number ≡ true → Agrees x.opening x.number (stamped 0 (news_to f a b e x)) x.past
 
 -- what the event brings to a guardian that it names, as that guardian's own history asks of it
 pub record IsBrought (f : ForestState) (a b : GuardianState) (e : Event) (x : GuardianState) (brought : Carried) : Type 0 where
@@ -48,10 +58,32 @@ pub record IsBrought (f : ForestState) (a b : GuardianState) (e : Event) (x : Gu
   pub owed : IsOwed x.opening x.number (stamped 0 (record { event = e; carried = brought })) x.past e.step
   pub agrees : Agrees x.opening x.number (stamped 0 (record { event = e; carried = brought })) x.past
 
+-- and nothing to one that it does not name
+abbrev pub Brings : ForestState → GuardianState → GuardianState → Event → GuardianState → Option Message → Type 0
+Brings f a b e x brought =
+    MatchOption brought (names_guardian e.step (events_there f.registry) x.number ≡ false) (λ message. IsBrought f a b e x (carried_of message))
+
 -- a plan for a guardian that the event names
-pub record IsPlannedAt (f : ForestState) (a b : GuardianState) (e : Event) (x : GuardianState) (news : News) : Type 0 where
+pub record IsPlannedAt (is_for : News → Type 0) (f : ForestState) (a b : GuardianState) (e : Event) (x : GuardianState) : Type 0 where
   pub named : names_guardian e.step (events_there f.registry) x.number ≡ true
-  pub planned : news ≡ record { event = e; carried = carried_lent f.opening e x.number f.registry (lent_two a b) }
+  pub planned : is_for (news_to f a b e x)
+
+-- and none for one that it does not name
+abbrev pub Plans : {P : Type 0} → (P → GuardianState → News → Type 0) → ForestState → GuardianState → GuardianState → Event → GuardianState → Option P → Type 0
+Plans is_for f a b e x planned =
+    MatchOption planned (names_guardian e.step (events_there f.registry) x.number ≡ false) (λ plan. IsPlannedAt (is_for plan x) f a b e x)
+
+-- in some state in which the guardian stands the plan is for this event
+abbrev pub IsPlannedHere : (GuardianState → Type 0) → (GuardianState → News → Type 0) → Event → Type 0
+IsPlannedHere stands is_for e = (x : GuardianState) × (news : News) × stands x × is_for x news × (news.event ≡ e)
+
+-- of each such state and what the plan is for there
+abbrev pub WhereverPlanned : (GuardianState → Type 0) → (GuardianState → News → Type 0) → Event → (GuardianState → News → Type 0) → Type 0
+WhereverPlanned stands is_for e holds = (x : GuardianState) (news : News) → stands x → is_for x news → news.event ≡ e → holds x news
+
+-- the guardian stands where it stood
+abbrev pub StandsStill : (GuardianState → Type 0) → (GuardianState → Type 0) → Type 0
+StandsStill stood stands = (x : GuardianState) → stood x → stands x
 
 -- and for the forest in this state, where what the event begins begins at this home in this life of it
 pub record IsPlannedThere (is_for : RegistryNews → Type 0) (f : ForestState) (home life : ℕ) (e : Event) : Type 0 where
@@ -67,41 +99,42 @@ abbrev pub IsInstalled : (ForestState → Type 0) → (ForestState → Type 0) �
 IsInstalled stood stands is_for e n =
     (f : ForestState) (news : RegistryNews) → stood f → is_for f news → news.event ≡ e → stands (record f { registry = stamped_there n news ∷ f.registry })
 
--- what the event brings to x, of those lent
-abbrev pub news_to : ForestState → GuardianState → GuardianState → Event → GuardianState → News
-news_to f a b e x = record { event = e; carried = carried_lent f.opening e x.number f.registry (lent_two a b) }
-
 -- What a step leaves of the store of x, of those lent. Where the event does not name x, or asks nothing of its store, that is as it was.
 abbrev pub StoreLeft : ForestState → GuardianState → GuardianState → Event → GuardianState → View → View → Option Fault → Type 0
 StoreLeft f a b e x old new fault =
     Leaves (names_guardian e.step (events_there f.registry) x.number && asks_store x.number (stamped 0 (news_to f a b e x)) old.content)
     (after_event x.opening x.number (stamped 0 (news_to f a b e x)) x.past old.content) old new fault
 
--- After the event, with its stamp, the forest stands where this leads from the state f, and two guardians do.
-pub record IsDone (stands : ForestState → Type 0) (f : ForestState) (a b : GuardianState) (e : Event) (n : ℕ) (a' b' : GuardianState) : Type 0 where
-  pub forest : stands (record f { registry = registry_after f.opening (n, e) f.registry (lent_two a b) })
-  pub first : a' ≡ after_step a (n, e) f.registry (lent_two a b)
-  pub second : b' ≡ after_step b (n, e) f.registry (lent_two a b)
+-- once it is carried out the guardian stands, with the event, where it stood
+abbrev pub IsKept : (GuardianState → Type 0) → (GuardianState → Type 0) → (GuardianState → News → Type 0) → Event → ℕ → Type 0
+IsKept stood stands is_for e n = WhereverPlanned stood is_for e (λ x news. stands (kept x (stamped n news)))
 
--- the forest stands where it stood, and two guardians are unchanged
-pub record AreSame (stood stands : ForestState → Type 0) (a b a' b' : GuardianState) : Type 0 where
+-- After the event, with its stamp, the forest stands where this leads from the state f, and two guardians where it leads from a and b.
+pub record IsDone (stands : ForestState → Type 0) (one other : GuardianState → Type 0) (f : ForestState) (a b : GuardianState) (e : Event) (n : ℕ) : Type 0 where
+  pub forest : stands (record f { registry = registry_after f.opening (n, e) f.registry (lent_two a b) })
+  pub first : one (after_step a (n, e) f.registry (lent_two a b))
+  pub second : other (after_step b (n, e) f.registry (lent_two a b))
+
+-- the forest and two guardians stand where they stood
+pub record AreSame (stood stands : ForestState → Type 0) (stood_one stood_other one other : GuardianState → Type 0) : Type 0 where
   pub forest : (f : ForestState) → stood f → stands f
-  pub first : a' ≡ a
-  pub second : b' ≡ b
+  pub first : StandsStill stood_one one
+  pub second : StandsStill stood_other other
 
 -- What a step that was answered leaves of all that it was lent: an accepted one is kept with a stamp that was drawn, and no other leaves a trace.
-abbrev pub IsStepped : (ℕ → Type 0) → Step → Answer → (ForestState → Type 0) → (ForestState → Type 0) → GuardianState → GuardianState → GuardianState → GuardianState
-    → Type 0
-IsStepped drawn step answer stood stands a b a' b' = of (is_accepted answer)
+abbrev pub IsStepped : (ℕ → Type 0) → Step → Answer → (ForestState → Type 0) → (ForestState → Type 0) → (GuardianState → Type 0) → (GuardianState → Type 0)
+    → (GuardianState → Type 0) → (GuardianState → Type 0) → Type 0
+IsStepped drawn step answer stood stands stood_one stood_other one other = of (is_accepted answer)
   where
     of : Bool → Type 0
-    of true = (n : ℕ) × drawn n × ((f : ForestState) → stood f → IsDone stands f a b (record { step = step; answer = answer }) n a' b')
-    of false = AreSame stood stands a b a' b'
+    of true = (n : ℕ) × drawn n × ((f : ForestState) (a b : GuardianState) → stood f → stood_one a → stood_other b
+        → IsDone stands one other f a b (record { step = step; answer = answer }) n)
+    of false = AreSame stood stands stood_one stood_other one other
 
 -- and what an operation leaves of its guardian, which no message reaches
-abbrev pub IsOperated : (ℕ → Type 0) → Step → Answer → GuardianState → GuardianState → Type 0
-IsOperated drawn step answer g g' = of (is_accepted answer)
+abbrev pub IsOperated : (ℕ → Type 0) → Step → Answer → (GuardianState → Type 0) → (GuardianState → Type 0) → Type 0
+IsOperated drawn step answer stood stands = of (is_accepted answer)
   where
     of : Bool → Type 0
-    of true = (n : ℕ) × drawn n × (g' ≡ kept g (stamped n (record { event = record { step = step; answer = answer }; carried = nothing_carried })))
-    of false = g' ≡ g
+    of true = (n : ℕ) × drawn n × ((x : GuardianState) → stood x → stands (kept x (stamped n (record { event = record { step = step; answer = answer }; carried = nothing_carried }))))
+    of false = StandsStill stood stands

@@ -4,11 +4,11 @@ ghost use Rattle.run_model.specs.declared.step.Step.TheVariants as steps;
 ghost use Rattle.run_model.specs.LocalReadings.{nothing_carried, operation_here};
 ghost use Rattle.run_model.specs.Runs.{is_accepted};
 ghost use Rattle.local_laws.specs.Owed.{IsOwed};
-ghost use Rattle.layer_contracts.specs.Guardians.{kept, stamped};
+ghost use Rattle.layer_contracts.specs.Guardians.{GuardianState, kept, stamped};
 ghost use Rattle.layer_contracts.specs.Messages.{carried_of};
 ghost use Rattle.layer_contracts.specs.Stores.{Stays};
-ghost use Rattle.lent_steps.specs.Keeping.{IsOperated, is_operation};
-ghost use Rattle.lent_steps.specs.Lending.{said_here};
+ghost use Rattle.lent_steps.specs.Keeping.{IsOperated, StandsStill, is_operation};
+ghost use Rattle.lent_steps.specs.Lending.{IsSaidHere};
 
 use crate::fault::LockedFault;
 use action_names::{Name, Names};
@@ -24,7 +24,7 @@ pub struct Here<'a, G> {
 }
 
 impl<'a, G: Guardian> ReadsAction for Here<'a, G> {
-    ghost says = { λ x s. s ≡ said_here (G.state x.guardian.now) };
+    ghost says = { λ x. IsSaidHere (G.stands x.guardian.now) };
 
     fn opening(&self) -> &Opening {
         self.guardian.opening()
@@ -65,7 +65,8 @@ impl<'a, G: Guardian> ReadsAction for Here<'a, G> {
 }
 
 /// An operation of an action on the guardian's roster, answered and kept by the guardian alone. One that is refused or waits changes nothing, and
-/// so does a fault: want of memory, or one that does not agree with the guardian's history. The guardian's store is as it was in each case. An action that is not on the roster is no action here: whether there is one elsewhere the forest knows.
+/// so does a fault: want of memory, or one that does not agree with the guardian's history. The guardian's store is as it was in each case. An action
+/// that is not on the roster is no action here: whether there is one elsewhere the forest knows. All is said of each state in which the guardian stands.
 pub fn operate<G: Judging, F: FnOnce() -> u64>(
     alloc: Global,
     guardian: &mut G,
@@ -75,11 +76,11 @@ pub fn operate<G: Judging, F: FnOnce() -> u64>(
     stamp: F,
 ) -> Result<Answer, LockedFault>
     requires { F.pre stamp }
-    ensures answer { IfOk result (λ answer. answer ≡ operation_here (G.state guardian.old).opening (G.state guardian.old).number action.now object operation.now
-        (G.state guardian.old).past) }
-    ensures kept { IfOk result (λ answer. IsOperated (λ n. F.post stamp n) (steps.Op action.now object operation.now) answer (G.state guardian.old)
-        (G.state guardian.new)) }
-    ensures err { OnErr result (G.state guardian.new ≡ G.state guardian.old) }
+    ensures answer { (x : GuardianState) → G.stands guardian.old x
+        → IfOk result (λ answer. answer ≡ operation_here x.opening x.number action.now object operation.now x.past) }
+    ensures kept { IfOk result (λ answer. IsOperated (λ n. F.post stamp n) (steps.Op action.now object operation.now) answer (G.stands guardian.old)
+        (G.stands guardian.new)) }
+    ensures err { OnErr result (StandsStill (G.stands guardian.old) (G.stands guardian.new)) }
     ensures store { Stays (G.stored guardian.old) (G.stored guardian.new) }
 {
     let answer = answer_here(guardian, action, object, operation)?;
@@ -98,9 +99,11 @@ fn answer_here<G: Guardian>(
     object: ObjectId,
     operation: &Op,
 ) -> Result<Answer, AllocError>
-    ensures { IfOk result (λ answer. answer ≡ operation_here (G.state guardian.now).opening (G.state guardian.now).number action.now object operation.now
-        (G.state guardian.now).past) }
+    ensures { (x : GuardianState) → G.stands guardian.now x
+        → IfOk result (λ answer. answer ≡ operation_here x.opening x.number action.now object operation.now x.past) }
 {
+    // It stands in some state.
+    guardian.opening();
     let here = Here { guardian };
     operation_of(&here, action, object, operation)
 }
@@ -132,19 +135,21 @@ fn keep_operation<G: Judging, F: FnOnce() -> u64>(
     requires stamp { F.pre stamp }
     requires operation { IsTrue (is_operation event.now.step) }
     requires accepted { IsTrue (is_accepted event.now.answer) }
-    requires owed { IsOwed (G.state guardian.old).opening (G.state guardian.old).number (stamped 0 (record { event = event.now; carried = nothing_carried }))
-        (G.state guardian.old).past event.now.step }
-    ensures ok { OnOk result ((n : ℕ) × F.post stamp n × (G.state guardian.new ≡ kept (G.state guardian.old)
-        (stamped n (record { event = event.now; carried = nothing_carried })))) }
-    ensures err { OnErr result (G.state guardian.new ≡ G.state guardian.old) }
+    requires owed { (x : GuardianState) → G.stands guardian.old x
+        → IsOwed x.opening x.number (stamped 0 (record { event = event.now; carried = nothing_carried })) x.past event.now.step }
+    ensures ok { OnOk result ((n : ℕ) × F.post stamp n × ((x : GuardianState) → G.stands guardian.old x
+        → G.stands guardian.new (kept x (stamped n (record { event = event.now; carried = nothing_carried }))))) }
+    ensures err { OnErr result (StandsStill (G.stands guardian.old) (G.stands guardian.new)) }
     ensures store { Stays (G.stored guardian.old) (G.stored guardian.new) }
 {
+    // It stands in some state.
+    guardian.opening();
     let nothing = no_message(alloc);
     if !guardian.accepts(event, &nothing)? {
         return Err(LockedFault::Disagrees);
     }
     let plan = guardian.plan(event, nothing)?;
-    guardian.carry_out(plan, stamp)?;
+    guardian.carry_out(plan, event, stamp)?;
     Ok(())
 }
 

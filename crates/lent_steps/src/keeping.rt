@@ -1,16 +1,16 @@
 //! What an accepted step leaves of the forest and of the guardians that it was lent.
-ghost use Rattle.std.specs.Prelude.{◌≡◌, ◌==◌, ◌&&◌, ◌∷◌, ℕ, Bool, true, false, ◌⊎◌, IfOk, OnErr, IsErrOf, IsTrue, IsFalse, MatchOption, is_none, is_some};
+ghost use Rattle.std.specs.Prelude.{◌≡◌, ◌==◌, ◌&&◌, false, ◌⊎◌, IfOk, OnErr, IsErrOf, IsTrue, IsFalse, MatchOption, is_some, map};
+ghost use Rattle.std.specs.List.Sorted.{IsStrictlySortedBy};
+ghost use Rattle.action_names.specs.Names.{name_cmp};
 ghost use Rattle.run_model.specs.Runs.{is_accepted};
-ghost use Rattle.run_model.specs.LocalHistories.{answer_lent, carried_lent, events_there, home_lent, life_lent, names_guardian, registry_after, takes_registry};
-ghost use Rattle.layer_contracts.specs.Guardians.{after_step, kept, lent_two, stamped};
-ghost use Rattle.local_agreement.specs.Laws.{Agrees};
+ghost use Rattle.run_model.specs.LocalHistories.{events_there, names_guardian, takes_registry};
+ghost use Rattle.layer_contracts.specs.Guardians.{GuardianState};
 ghost use Rattle.layer_contracts.specs.Stores.{CountsFailure, LeavesStore, Stays, fault_in};
 ghost use Rattle.layer_contracts.specs.declared.guardian.Fault.TheVariants.{Stable};
-ghost use Rattle.layer_contracts.specs.Messages.{carried_of, may_fail};
+ghost use Rattle.layer_contracts.specs.Messages.{may_fail};
 ghost use Rattle.layer_contracts.specs.Forests.{ForestState, entered};
-ghost use Rattle.local_laws.specs.Owed.{IsOwed};
-ghost use Rattle.lent_steps.specs.Lending.{AreLent, IsOneOf};
-ghost use Rattle.lent_steps.specs.Keeping.{AreAnswered, IsAnswered, IsBrought, IsDone, IsInstalled, IsPlannedInSome, IsPlannedThere, StoreLeft};
+ghost use Rattle.lent_steps.specs.Lending.{IsOneOf, Lends};
+ghost use Rattle.lent_steps.specs.Keeping.{AreAnswered, Brings, IsAnswered, IsDone, IsInstalled, IsKept, IsPlannedHere, IsPlannedInSome, IsPlannedThere, Plans, StandsStill, StoreLeft, WhereverPlanned};
 
 use crate::lent::Lent;
 use crate::names::{home_of_new, named, takes_registry};
@@ -29,11 +29,8 @@ pub(crate) fn is_named<R: Forest>(forest: &R, step: &Step, guardian: u32) -> boo
 impl<'a, R: Forest, G: Guardian> Lent<'a, R, G> {
     /// What the event brings to the guardian, if it names it.
     fn brought_to(&self, event: &Event, at: &G) -> Result<Option<Message>, AllocError>
-        requires { IsOneOf (G.state self.now.first.now) (G.state self.now.second.now) (G.state at.now) }
-        ensures { IfOk result (λ brought. (f : ForestState) → AreLent (R.stands self.now.forest.now) f (G.state self.now.first.now) (G.state self.now.second.now)
-            → (G.state at.now).opening ≡ f.opening → IsAnswered f (G.state self.now.first.now) (G.state self.now.second.now) event.now
-            → MatchOption brought (names_guardian event.now.step (events_there f.registry) (G.state at.now).number ≡ false)
-            (λ message. IsBrought f (G.state self.now.first.now) (G.state self.now.second.now) event.now (G.state at.now) (carried_of message))) }
+        ensures { IfOk result (λ brought. (f : ForestState) (a b x : GuardianState) → Lends R.stands G.stands self.now f a b → G.stands at.now x
+            → IsOneOf a b x → x.opening ≡ f.opening → IsAnswered f a b event.now → Brings f a b event.now x brought) }
     {
         if !is_named(self.forest, &event.step, at.number()) {
             return Ok(None);
@@ -49,15 +46,12 @@ fn plan_at<G: Guardian>(
     brought: Option<Message>,
 ) -> Result<Option<G::Plan>, AllocError>
     requires accepted { IsTrue (is_accepted event.now.answer) }
-    requires owed { MatchOption brought (Unit {0}) (λ message. IsOwed (G.state guardian.old).opening (G.state guardian.old).number
-        (stamped 0 (record { event = event.now; carried = carried_of message })) (G.state guardian.old).past event.now.step) }
-    requires agrees { MatchOption brought (Unit {0}) (λ message. Agrees (G.state guardian.old).opening (G.state guardian.old).number
-        (stamped 0 (record { event = event.now; carried = carried_of message })) (G.state guardian.old).past) }
-    ensures same { G.state guardian.new ≡ G.state guardian.old }
+    requires rising { MatchOption brought (Unit {0}) (λ message. IsStrictlySortedBy name_cmp (map (λ x. x.0) message.outcomes.items)) }
+    ensures same { StandsStill (G.stands guardian.old) (G.stands guardian.new) }
     ensures store { Stays (G.stored guardian.old) (G.stored guardian.new) }
     ensures fits { IfOk result (λ planned. MatchOption planned (Unit {0}) (λ plan. G.fits plan guardian.new)) }
-    ensures planned { IfOk result (λ planned. MatchOption brought (is_none planned ≡ true) (λ message. MatchOption planned ⊥
-        (λ plan. G.planned plan ≡ record { event = event.now; carried = carried_of message }))) }
+    ensures planned { IfOk result (λ planned. (f : ForestState) (a b x : GuardianState) → G.stands guardian.old x → Brings f a b event.now x brought
+        → Plans (λ plan y. G.is_for plan guardian.new y) f a b event.now x planned) }
 {
     match brought {
         Some(message) => Ok(Some(guardian.plan(event, message)?)),
@@ -97,41 +91,46 @@ fn may_fail(step: &Step, guardian: u32) -> bool
 
 /// Whether there is a plan whose changes at this guardian may fail though there is room.
 fn plan_may_fail<G: Guardian>(plan: &Option<G::Plan>, step: &Step, guardian: &G) -> bool
-    ensures { result ≡ (is_some plan.now && may_fail step.now (G.state guardian.now).number) }
+    ensures { (x : GuardianState) → G.stands guardian.now x → result ≡ (is_some plan.now && may_fail step.now x.number) }
 {
     plan.is_some() && may_fail(step, guardian.number())
 }
 
+/// Carries the plan out, if there is one, and draws the stamp.
 fn carry_out<G: Guardian, F: FnOnce() -> u64>(
     guardian: &mut G,
     plan: Option<G::Plan>,
+    event: &Event,
     stamp: F,
 ) -> Result<u64, Fault>
     requires stamp { F.pre stamp }
     requires fits { MatchOption plan (Unit {0}) (λ plan. G.fits plan guardian.old) }
+    requires planned { MatchOption plan (Unit {0}) (λ plan. IsPlannedHere (G.stands guardian.old) (G.is_for plan guardian.old) event.now) }
     ensures drawn { IfOk result (λ n. F.post stamp n) }
-    ensures kept { IfOk result (λ n. MatchOption plan (G.state guardian.new ≡ G.state guardian.old)
-        (λ plan. G.state guardian.new ≡ kept (G.state guardian.old) (stamped n (G.planned plan)))) }
-    ensures err { OnErr result (G.state guardian.new ≡ G.state guardian.old) }
+    ensures kept { IfOk result (λ n. MatchOption plan (StandsStill (G.stands guardian.old) (G.stands guardian.new))
+        (λ plan. IsKept (G.stands guardian.old) (G.stands guardian.new) (G.is_for plan guardian.old) event.now n)) }
+    ensures err { OnErr result (StandsStill (G.stands guardian.old) (G.stands guardian.new)) }
     ensures store { MatchOption plan (Stays (G.stored guardian.old) (G.stored guardian.new))
-        (λ plan. LeavesStore (G.state guardian.old) (G.planned plan) (G.stored guardian.old) (G.stored guardian.new) (fault_in result)) }
+        (λ plan. WhereverPlanned (G.stands guardian.old) (G.is_for plan guardian.old) event.now
+        (λ x news. LeavesStore x news (G.stored guardian.old) (G.stored guardian.new) (fault_in result))) }
     ensures cause { IsErrOf result Stable → CountsFailure (G.stored guardian.old) (G.stored guardian.new) }
 {
     match plan {
-        Some(plan) => guardian.carry_out(plan, stamp),
+        Some(plan) => guardian.carry_out(plan, event, stamp),
         None => Ok(stamp()),
     }
 }
 
-fn install<G: Guardian>(guardian: &mut G, plan: Option<G::Plan>, stamp: u64)
+fn install<G: Guardian>(guardian: &mut G, plan: Option<G::Plan>, event: &Event, stamp: u64)
     requires fits { MatchOption plan (Unit {0}) (λ plan. G.fits plan guardian.old) }
-    requires quiet { MatchOption plan (Unit {0}) (λ plan. IsFalse (may_fail (G.planned plan).event.step (G.state guardian.old).number)) }
-    ensures kept { MatchOption plan (G.state guardian.new ≡ G.state guardian.old)
-        (λ plan. G.state guardian.new ≡ kept (G.state guardian.old) (stamped stamp (G.planned plan))) }
+    requires planned { MatchOption plan (Unit {0}) (λ plan. IsPlannedHere (G.stands guardian.old) (G.is_for plan guardian.old) event.now) }
+    requires quiet { MatchOption plan (Unit {0}) (λ plan. (x : GuardianState) × G.stands guardian.old x × IsFalse (may_fail event.now.step x.number)) }
+    ensures kept { MatchOption plan (StandsStill (G.stands guardian.old) (G.stands guardian.new))
+        (λ plan. IsKept (G.stands guardian.old) (G.stands guardian.new) (G.is_for plan guardian.old) event.now stamp) }
     ensures store { Stays (G.stored guardian.old) (G.stored guardian.new) }
 {
     if let Some(plan) = plan {
-        guardian.install(plan, stamp);
+        guardian.install(plan, event, stamp);
     }
 }
 
@@ -148,7 +147,7 @@ fn install_there<R: Forest>(forest: &mut R, plan: Option<R::Plan>, event: &Event
 
 /// After an accepted step that was lent two guardians: all of them keep its event as far as it names them. Room is made first; then comes
 /// the one call of a store or of an object, if there is one, then the stamp, then what cannot fail. After an error all are as they were. What is left
-/// is said of each state in which the forest stood and by which the event was answered, and there is one.
+/// is said of all states in which they stood and by which the event was answered, and there are such.
 pub fn keep_two<R: Forest, G: Guardian, F: FnOnce() -> u64>(
     alloc: Global,
     forest: &mut R,
@@ -158,20 +157,21 @@ pub fn keep_two<R: Forest, G: Guardian, F: FnOnce() -> u64>(
     stamp: F,
 ) -> Result<u64, Fault>
     requires stamp { F.pre stamp }
-    requires differ { ((G.state first.old).number == (G.state second.old).number) ≡ false }
-    requires answered { (f : ForestState) × AreAnswered (R.stands forest.old) f (G.state first.old) (G.state second.old) event.now }
+    requires answered { (f : ForestState) × (a : GuardianState) × (b : GuardianState)
+        × AreAnswered (R.stands forest.old) (G.stands first.old) (G.stands second.old) f a b event.now × ((a.number == b.number) ≡ false) }
     ensures drawn { IfOk result (λ n. F.post stamp n) }
-    ensures done { IfOk result (λ n. (f : ForestState) → AreAnswered (R.stands forest.old) f (G.state first.old) (G.state second.old) event.now
-        → IsDone (R.stands forest.new) f (G.state first.old) (G.state second.old) event.now n (G.state first.new) (G.state second.new)) }
+    ensures done { IfOk result (λ n. (f : ForestState) (a b : GuardianState)
+        → AreAnswered (R.stands forest.old) (G.stands first.old) (G.stands second.old) f a b event.now
+        → IsDone (R.stands forest.new) (G.stands first.new) (G.stands second.new) f a b event.now n) }
     ensures forest_same { OnErr result ((f : ForestState) → R.stands forest.old f → R.stands forest.new f) }
-    ensures first_same { OnErr result (G.state first.new ≡ G.state first.old) }
-    ensures second_same { OnErr result (G.state second.new ≡ G.state second.old) }
-    ensures first_store { (f : ForestState) → AreAnswered (R.stands forest.old) f (G.state first.old) (G.state second.old) event.now
-        → StoreLeft f (G.state first.old) (G.state second.old) event.now
-        (G.state first.old) (G.stored first.old) (G.stored first.new) (fault_in result) }
-    ensures second_store { (f : ForestState) → AreAnswered (R.stands forest.old) f (G.state first.old) (G.state second.old) event.now
-        → StoreLeft f (G.state first.old) (G.state second.old) event.now
-        (G.state second.old) (G.stored second.old) (G.stored second.new) (fault_in result) }
+    ensures first_same { OnErr result (StandsStill (G.stands first.old) (G.stands first.new)) }
+    ensures second_same { OnErr result (StandsStill (G.stands second.old) (G.stands second.new)) }
+    ensures first_store { (f : ForestState) (a b : GuardianState)
+        → AreAnswered (R.stands forest.old) (G.stands first.old) (G.stands second.old) f a b event.now
+        → StoreLeft f a b event.now a (G.stored first.old) (G.stored first.new) (fault_in result) }
+    ensures second_store { (f : ForestState) (a b : GuardianState)
+        → AreAnswered (R.stands forest.old) (G.stands first.old) (G.stands second.old) f a b event.now
+        → StoreLeft f a b event.now b (G.stored second.old) (G.stored second.new) (fault_in result) }
     ensures cause { IsErrOf result Stable → CountsFailure (G.stored first.old) (G.stored first.new) ⊎ CountsFailure (G.stored second.old) (G.stored second.new) }
 {
     // The stores of both are those of their histories.
@@ -191,13 +191,13 @@ pub fn keep_two<R: Forest, G: Guardian, F: FnOnce() -> u64>(
     let one = plan_at(first, event, to_first)?;
     let other = plan_at(second, event, to_second)?;
     if plan_may_fail(&one, &event.step, &*first) {
-        let number = carry_out(first, one, stamp)?;
-        install(second, other, number);
+        let number = carry_out(first, one, event, stamp)?;
+        install(second, other, event, number);
         install_there(forest, there, event, number);
         Ok(number)
     } else {
-        let number = carry_out(second, other, stamp)?;
-        install(first, one, number);
+        let number = carry_out(second, other, event, stamp)?;
+        install(first, one, event, number);
         install_there(forest, there, event, number);
         Ok(number)
     }
@@ -212,15 +212,17 @@ pub fn keep_one<R: Forest, G: Guardian, F: FnOnce() -> u64>(
     stamp: F,
 ) -> Result<u64, Fault>
     requires stamp { F.pre stamp }
-    requires answered { (f : ForestState) × AreAnswered (R.stands forest.old) f (G.state guardian.old) (G.state guardian.old) event.now }
+    requires answered { (f : ForestState) × (x : GuardianState)
+        × AreAnswered (R.stands forest.old) (G.stands guardian.old) (G.stands guardian.old) f x x event.now }
     ensures drawn { IfOk result (λ n. F.post stamp n) }
-    ensures done { IfOk result (λ n. (f : ForestState) → AreAnswered (R.stands forest.old) f (G.state guardian.old) (G.state guardian.old) event.now
-        → IsDone (R.stands forest.new) f (G.state guardian.old) (G.state guardian.old) event.now n (G.state guardian.new) (G.state guardian.new)) }
+    ensures done { IfOk result (λ n. (f : ForestState) (x : GuardianState)
+        → AreAnswered (R.stands forest.old) (G.stands guardian.old) (G.stands guardian.old) f x x event.now
+        → IsDone (R.stands forest.new) (G.stands guardian.new) (G.stands guardian.new) f x x event.now n) }
     ensures forest_same { OnErr result ((f : ForestState) → R.stands forest.old f → R.stands forest.new f) }
-    ensures guardian_same { OnErr result (G.state guardian.new ≡ G.state guardian.old) }
-    ensures store { (f : ForestState) → AreAnswered (R.stands forest.old) f (G.state guardian.old) (G.state guardian.old) event.now
-        → StoreLeft f (G.state guardian.old) (G.state guardian.old) event.now
-        (G.state guardian.old) (G.stored guardian.old) (G.stored guardian.new) (fault_in result) }
+    ensures guardian_same { OnErr result (StandsStill (G.stands guardian.old) (G.stands guardian.new)) }
+    ensures store { (f : ForestState) (x : GuardianState)
+        → AreAnswered (R.stands forest.old) (G.stands guardian.old) (G.stands guardian.old) f x x event.now
+        → StoreLeft f x x event.now x (G.stored guardian.old) (G.stored guardian.new) (fault_in result) }
     ensures cause { IsErrOf result Stable → CountsFailure (G.stored guardian.old) (G.stored guardian.new) }
 {
     // Its store is that of its history.
@@ -236,7 +238,7 @@ pub fn keep_one<R: Forest, G: Guardian, F: FnOnce() -> u64>(
     let brought = lent.brought_to(event, lent.first)?;
     let there = plan_there(forest, event, home, life)?;
     let here = plan_at(guardian, event, brought)?;
-    let number = carry_out(guardian, here, stamp)?;
+    let number = carry_out(guardian, here, event, stamp)?;
     install_there(forest, there, event, number);
     Ok(number)
 }

@@ -1,6 +1,6 @@
 ghost use Rattle.std.specs.Prelude.{◌≡◌, ◌≤◌, ℕ, [], IfOk, MatchOption, IsTrue, None};
-ghost use Rattle.layer_contracts.specs.Guardians.{lent_two};
-ghost use Rattle.lent_steps.specs.Lending.{IsAt, IsSaidByTwo};
+ghost use Rattle.layer_contracts.specs.Guardians.{GuardianState, lent_two};
+ghost use Rattle.lent_steps.specs.Lending.{IsSaidByTwo, StandsAt};
 
 use action_names::Name;
 use atomic_types::AtomicType;
@@ -21,8 +21,8 @@ pub struct Lent<'a, R, G> {
 impl<'a, R: Forest, G: Guardian> Lent<'a, R, G> {
     /// The guardian of this number, if it is lent.
     pub fn at(&self, guardian: u32) -> Option<&'a G>
-        ensures { MatchOption result (lent_two (G.state self.now.first.now) (G.state self.now.second.now) guardian ≡ [])
-            (λ x. IsAt (G.state self.now.first.now) (G.state self.now.second.now) guardian (G.state x.now)) }
+        ensures { (a b : GuardianState) → G.stands self.now.first.now a → G.stands self.now.second.now b
+            → MatchOption result (lent_two a b guardian ≡ []) (λ x. StandsAt (G.stands x.now) a b guardian) }
     {
         if self.first.number() == guardian {
             return Some(self.first);
@@ -35,7 +35,7 @@ impl<'a, R: Forest, G: Guardian> Lent<'a, R, G> {
 }
 
 impl<'a, R: Forest, G: Guardian> ReadsAction for Lent<'a, R, G> {
-    ghost says = { λ x. IsSaidByTwo (R.stands x.forest.now) (G.state x.first.now) (G.state x.second.now) };
+    ghost says = { λ x. IsSaidByTwo (R.stands x.forest.now) (G.stands x.first.now) (G.stands x.second.now) };
 
     fn opening(&self) -> &Opening {
         self.forest.opening()

@@ -4,9 +4,9 @@ ghost use Rattle.run_model.specs.Actions.{crashes, home_of, names_begun};
 ghost use Rattle.run_model.specs.LocalReadings.{events_here};
 ghost use Rattle.run_model.specs.LocalHistories.{action_lent, aborts_from, carried_lent, counts_of_sender, dependencies_sent, dependency_there, entries_of, events_there, home_lent, life_lent, outcomes_carried, sender_lent, sender_life};
 ghost use Rattle.layer_contracts.specs.Forests.{ForestState};
-ghost use Rattle.layer_contracts.specs.Guardians.{lent_two};
+ghost use Rattle.layer_contracts.specs.Guardians.{GuardianState, lent_two};
 ghost use Rattle.layer_contracts.specs.Messages.{carried_of, sent_of};
-ghost use Rattle.lent_steps.specs.Lending.{AreLent, IsOneOf, dependencies_two, new_from, new_two};
+ghost use Rattle.lent_steps.specs.Lending.{IsOneOf, Lends, dependencies_two, new_from, new_two};
 
 use crate::lent::Lent;
 use crate::names::{home_of_new, names_begun, parent_path};
@@ -19,10 +19,8 @@ use step_answers::Reads;
 impl<'a, R: Forest, G: Guardian> Lent<'a, R, G> {
     /// What the event brings to the guardian, which is one of those that are lent.
     pub fn message(&self, event: &Event, at: &G) -> Result<Message, AllocError>
-        requires { IsOneOf (G.state self.now.first.now) (G.state self.now.second.now) (G.state at.now) }
-        ensures { (f : ForestState) → AreLent (R.stands self.now.forest.now) f (G.state self.now.first.now) (G.state self.now.second.now)
-            → IfOk result (λ message. carried_of message ≡ carried_lent f.opening event.now (G.state at.now).number f.registry
-            (lent_two (G.state self.now.first.now) (G.state self.now.second.now))) }
+        ensures { (f : ForestState) (a b x : GuardianState) → Lends R.stands G.stands self.now f a b → G.stands at.now x → IsOneOf a b x
+            → IfOk result (λ message. carried_of message ≡ carried_lent f.opening event.now x.number f.registry (lent_two a b)) }
     {
         let sender = self.sender(&event.step, at.number());
         let life = self.life_of(sender);
@@ -39,8 +37,8 @@ impl<'a, R: Forest, G: Guardian> Lent<'a, R, G> {
 
     /// Whose lists the step carries to the guardian of this number.
     fn sender(&self, step: &Step, at: u32) -> Option<u32>
-        ensures { (f : ForestState) → AreLent (R.stands self.now.forest.now) f (G.state self.now.first.now) (G.state self.now.second.now)
-            → result ≡ sender_lent step.now at f.registry (lent_two (G.state self.now.first.now) (G.state self.now.second.now)) }
+        ensures { (f : ForestState) (a b : GuardianState) → Lends R.stands G.stands self.now f a b
+            → result ≡ sender_lent step.now at f.registry (lent_two a b) }
     {
         match step {
             Step::Call(caller, to) => {
@@ -67,7 +65,8 @@ impl<'a, R: Forest, G: Guardian> Lent<'a, R, G> {
 
     /// How often the guardian crashed, and 0 where it is not lent.
     pub fn crashes_at(&self, guardian: u32) -> u64
-        ensures { result ≡ crashes guardian (events_here (lent_two (G.state self.now.first.now) (G.state self.now.second.now) guardian)) }
+        ensures { (a b : GuardianState) → G.stands self.now.first.now a → G.stands self.now.second.now b
+            → result ≡ crashes guardian (events_here (lent_two a b guardian)) }
     {
         match self.at(guardian) {
             Some(guardian) => guardian.crashes(),
@@ -76,7 +75,7 @@ impl<'a, R: Forest, G: Guardian> Lent<'a, R, G> {
     }
 
     fn life_of(&self, sender: Option<u32>) -> u64
-        ensures { result ≡ sender_life sender (lent_two (G.state self.now.first.now) (G.state self.now.second.now)) }
+        ensures { (a b : GuardianState) → G.stands self.now.first.now a → G.stands self.now.second.now b → result ≡ sender_life sender (lent_two a b) }
     {
         match sender {
             Some(guardian) => self.crashes_at(guardian),
@@ -86,9 +85,10 @@ impl<'a, R: Forest, G: Guardian> Lent<'a, R, G> {
 
     /// What the sender has not sent yet of its lists.
     fn lists(&self, sender: Option<u32>, at: &G) -> Result<(Names, Vec<(u32, u64)>), AllocError>
-        requires { IsOneOf (G.state self.now.first.now) (G.state self.now.second.now) (G.state at.now) }
-        ensures aborts { IfOk result (λ lists. lists.0 ≡ aborts_from sender (G.state at.now).number (lent_two (G.state self.now.first.now) (G.state self.now.second.now))) }
-        ensures counts { IfOk result (λ lists. lists.1.items ≡ counts_of_sender sender (G.state at.now).number (lent_two (G.state self.now.first.now) (G.state self.now.second.now))) }
+        ensures aborts { (f : ForestState) (a b x : GuardianState) → Lends R.stands G.stands self.now f a b → G.stands at.now x → IsOneOf a b x
+            → IfOk result (λ lists. lists.0 ≡ aborts_from sender x.number (lent_two a b)) }
+        ensures counts { (f : ForestState) (a b x : GuardianState) → Lends R.stands G.stands self.now f a b → G.stands at.now x → IsOneOf a b x
+            → IfOk result (λ lists. lists.1.items ≡ counts_of_sender sender x.number (lent_two a b)) }
     {
         let Some(number) = sender else {
             return Ok((Names::new(self.alloc), Vec::new(self.alloc)));
@@ -107,8 +107,8 @@ impl<'a, R: Forest, G: Guardian> Lent<'a, R, G> {
         event: &Event,
         at: u32,
     ) -> Result<Vec<(Name, Vec<(u32, u64)>)>, AllocError>
-        ensures { (f : ForestState) → R.stands self.now.forest.now f → IfOk result (λ sent. sent_of sent.items ≡ dependencies_two f
-            (G.state self.now.first.now) (G.state self.now.second.now) event.now at) }
+        ensures { (f : ForestState) (a b : GuardianState) → Lends R.stands G.stands self.now f a b
+            → IfOk result (λ sent. sent_of sent.items ≡ dependencies_two f a b event.now at) }
     {
         match &event.step {
             Step::Commit(action) => {
@@ -143,8 +143,8 @@ impl<'a, R: Forest, G: Guardian> Lent<'a, R, G> {
         event: &Event,
         at: u32,
     ) -> Result<Vec<(Name, Vec<(u32, u64)>)>, AllocError>
-        ensures { (f : ForestState) → R.stands self.now.forest.now f → IfOk result (λ sent. sent_of sent.items ≡ new_two f
-            (G.state self.now.first.now) (G.state self.now.second.now) event.now at) }
+        ensures { (f : ForestState) (a b : GuardianState) → Lends R.stands G.stands self.now f a b
+            → IfOk result (λ sent. sent_of sent.items ≡ new_two f a b event.now at) }
     {
         let home = home_of_new(self.forest, &event.step);
         let life = self.crashes_at(home);
@@ -174,10 +174,8 @@ impl<'a, R: Forest, G: Guardian> Lent<'a, R, G> {
 
     /// What outcomes the step brings.
     fn outcomes(&self, step: &Step, at: &G) -> Result<Vec<(Name, bool)>, AllocError>
-        requires { IsOneOf (G.state self.now.first.now) (G.state self.now.second.now) (G.state at.now) }
-        ensures { (f : ForestState) → R.stands self.now.forest.now f → IfOk result (λ outcomes. outcomes.items ≡
-            outcomes_carried step.now (G.state at.now).number (events_there f.registry)
-            (lent_two (G.state self.now.first.now) (G.state self.now.second.now) (G.state at.now).number)) }
+        ensures { (f : ForestState) (a b x : GuardianState) → Lends R.stands G.stands self.now f a b → G.stands at.now x → IsOneOf a b x
+            → IfOk result (λ outcomes. outcomes.items ≡ outcomes_carried step.now x.number (events_there f.registry) (lent_two a b x.number)) }
     {
         match step {
             Step::Tell(to, action) => {

@@ -9,14 +9,15 @@ use Rattle.layer_contracts.specs.Forests.{ForestState}
 use Rattle.layer_contracts.specs.Guardians.{GuardianState}
 use Rattle.lent_steps.specs.Keeping.{IsDone, IsStepped}
 
--- with a stamp that was drawn the step has been taken
-pub taken : (drawn : ℕ → Type 0) (step : Step) (answer : Answer) (stood stands : ForestState → Type 0) (a b a' b' : GuardianState) (n : ℕ)
-    → is_accepted answer ≡ true → drawn n → ((f : ForestState) → stood f → IsDone stands f a b (record { step = step; answer = answer }) n a' b')
-    → IsStepped drawn step answer stood stands a b a' b'
-taken drawn step (Began names) stood stands a b a' b' n h d k = (n, d, k)
-taken drawn step (Granted reply) stood stands a b a' b' n h d k = (n, d, k)
-taken drawn step (Waits names) stood stands a b a' b' n h d k = absurd (false≢true h)
-taken drawn step VoteYes stood stands a b a' b' n h d k = (n, d, k)
-taken drawn step VoteNo stood stands a b a' b' n h d k = (n, d, k)
-taken drawn step (Done count) stood stands a b a' b' n h d k = (n, d, k)
-taken drawn step (Refused why) stood stands a b a' b' n h d k = absurd (false≢true h)
+module _ (drawn : ℕ → Type 0) (step : Step) (stood stands : ForestState → Type 0) (was_one was_other one other : GuardianState → Type 0) where
+  -- with a stamp that was drawn the step has been taken
+  pub taken : (answer : Answer) (n : ℕ) → is_accepted answer ≡ true → drawn n
+      → ((f : ForestState) (a b : GuardianState) → stood f → was_one a → was_other b → IsDone stands one other f a b (record { step = step; answer = answer }) n)
+      → IsStepped drawn step answer stood stands was_one was_other one other
+  taken (Began names) n h d k = (n, d, k)
+  taken (Granted reply) n h d k = (n, d, k)
+  taken (Waits names) n h d k = absurd (false≢true h)
+  taken VoteYes n h d k = (n, d, k)
+  taken VoteNo n h d k = (n, d, k)
+  taken (Done count) n h d k = (n, d, k)
+  taken (Refused why) n h d k = absurd (false≢true h)

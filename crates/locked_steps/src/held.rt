@@ -1,5 +1,5 @@
-//! What stands under a lock of its own: a guardian, or the forest. All that two of them know of each other is that they stand in one opening. Of the
-//! forest all is said of each state in which it stands.
+//! What stands under a lock of its own: a guardian, or the forest. All that two of them know of each other is that they stand in one opening. All is
+//! said of each state in which they stand.
 ghost use Rattle.std.specs.Prelude.{◌≡◌, ◌==◌, ℕ, Bool, true, false, IfOk, IfSome, OnErr, IsTrue, IsFalse, MatchOption, is_some};
 ghost use Rattle.run_model.specs.Openings.{Opening};
 ghost use Rattle.run_model.specs.declared.step.Step.TheVariants as steps;
@@ -7,9 +7,9 @@ ghost use Rattle.run_model.specs.LocalHistories.{answer_lent};
 ghost use Rattle.run_model.specs.LocalReadings.{operation_here};
 ghost use Rattle.run_model.specs.Runs.{is_accepted};
 ghost use Rattle.layer_contracts.specs.Forests.{ForestState};
-ghost use Rattle.layer_contracts.specs.Guardians.{lent_two};
-ghost use Rattle.lent_steps.specs.Keeping.{AreAnswered, AreSame, IsDone, IsOperated, IsStepped, is_operation};
-ghost use Rattle.locked_steps.specs.Pairs.{are_two};
+ghost use Rattle.layer_contracts.specs.Guardians.{GuardianState, lent_two};
+ghost use Rattle.lent_steps.specs.Keeping.{AreAnswered, AreSame, IsDone, IsOperated, IsStepped, StandsStill, is_operation};
+ghost use Rattle.locked_steps.specs.Pairs.{AreOf, are_two};
 
 use layer_contracts::{Fault, Forest, Guardian, Judging};
 use lent_steps::{LockedFault, agree_two, answer_two, keep_two, operate, tellable_two};
@@ -27,7 +27,7 @@ pub trait OfOpening {
 pub struct Held<K: OfOpening, G: Guardian> {
     pub guardian: G,
     pub of: PhantomData<K>,
-    ghost ours: { (G.state guardian).opening ≡ K.opening },
+    ghost ours: { (x : GuardianState) → G.stands guardian x → x.opening ≡ K.opening },
 }
 
 /// The forest under its lock: it stands in the opening, at whatever history.
@@ -49,16 +49,17 @@ pub fn both<K: OfOpening, R: Forest, G: Judging, F: FnOnce() -> u64>(
     stamp: F,
 ) -> Result<Option<Answer>, LockedFault>
     requires { F.pre stamp }
-    ensures answer { IfOk result (λ r. IfSome r (λ answer. (f : ForestState) → R.stands forest.old.forest f
-        → answer ≡ answer_lent K.opening f.registry (lent_two (G.state one.old.guardian) (G.state other.old.guardian)) step.now)) }
+    ensures answer { IfOk result (λ r. IfSome r (λ answer. (f : ForestState) (a b : GuardianState) → R.stands forest.old.forest f → G.stands one.old.guardian a
+        → G.stands other.old.guardian b → answer ≡ answer_lent K.opening f.registry (lent_two a b) step.now)) }
     ensures done { IfOk result (λ r. MatchOption r
-        (AreSame (R.stands forest.old.forest) (R.stands forest.new.forest) (G.state one.old.guardian) (G.state other.old.guardian)
-        (G.state one.new.guardian) (G.state other.new.guardian))
+        (AreSame (R.stands forest.old.forest) (R.stands forest.new.forest) (G.stands one.old.guardian) (G.stands other.old.guardian)
+        (G.stands one.new.guardian) (G.stands other.new.guardian))
         (λ answer. IsStepped (λ n. F.post stamp n) step.now answer (R.stands forest.old.forest) (R.stands forest.new.forest)
-        (G.state one.old.guardian) (G.state other.old.guardian) (G.state one.new.guardian) (G.state other.new.guardian))) }
-    ensures taken { IfOk result (λ r. is_some r ≡ are_two (G.state one.old.guardian) (G.state other.old.guardian) step.now) }
-    ensures err { OnErr result (AreSame (R.stands forest.old.forest) (R.stands forest.new.forest) (G.state one.old.guardian) (G.state other.old.guardian)
-        (G.state one.new.guardian) (G.state other.new.guardian)) }
+        (G.stands one.old.guardian) (G.stands other.old.guardian) (G.stands one.new.guardian) (G.stands other.new.guardian))) }
+    ensures taken { IfOk result (λ r. (a b : GuardianState) → G.stands one.old.guardian a → G.stands other.old.guardian b
+        → is_some r ≡ are_two a b step.now) }
+    ensures err { OnErr result (AreSame (R.stands forest.old.forest) (R.stands forest.new.forest) (G.stands one.old.guardian) (G.stands other.old.guardian)
+        (G.stands one.new.guardian) (G.stands other.new.guardian)) }
 {
     if one.guardian.number() == other.guardian.number() || is_operation(step) {
         return Ok(None);
@@ -82,13 +83,37 @@ pub fn alone<K: OfOpening, G: Judging, F: FnOnce() -> u64>(
     stamp: F,
 ) -> Result<Answer, LockedFault>
     requires { F.pre stamp }
-    ensures answer { IfOk result (λ answer. answer ≡ operation_here K.opening (G.state held.old.guardian).number action.now object operation.now
-        (G.state held.old.guardian).past) }
-    ensures kept { IfOk result (λ answer. IsOperated (λ n. F.post stamp n) (steps.Op action.now object operation.now) answer (G.state held.old.guardian)
-        (G.state held.new.guardian)) }
-    ensures err { OnErr result (G.state held.new.guardian ≡ G.state held.old.guardian) }
+    ensures answer { (x : GuardianState) → G.stands held.old.guardian x
+        → IfOk result (λ answer. answer ≡ operation_here K.opening x.number action.now object operation.now x.past) }
+    ensures kept { IfOk result (λ answer. IsOperated (λ n. F.post stamp n) (steps.Op action.now object operation.now) answer (G.stands held.old.guardian)
+        (G.stands held.new.guardian)) }
+    ensures err { OnErr result (StandsStill (G.stands held.old.guardian) (G.stands held.new.guardian)) }
 {
-    operate(alloc, &mut held.guardian, action, object, operation, stamp)
+    // It stands in some state.
+    held.guardian.opening();
+    operated_by(alloc, &mut held.guardian, action, object, operation, stamp)
+}
+
+/// Makes the operation, and the guardian stays of the opening of which it was.
+fn operated_by<G: Judging, F: FnOnce() -> u64>(
+    alloc: Global,
+    guardian: &mut G,
+    action: &Name,
+    object: ObjectId,
+    operation: &Op,
+    stamp: F,
+) -> Result<Answer, LockedFault>
+    requires { F.pre stamp }
+    ensures answer { (x : GuardianState) → G.stands guardian.old x
+        → IfOk result (λ answer. answer ≡ operation_here x.opening x.number action.now object operation.now x.past) }
+    ensures kept { IfOk result (λ answer. IsOperated (λ n. F.post stamp n) (steps.Op action.now object operation.now) answer (G.stands guardian.old)
+        (G.stands guardian.new)) }
+    ensures err { OnErr result (StandsStill (G.stands guardian.old) (G.stands guardian.new)) }
+    ensures opening { (x y : GuardianState) → G.stands guardian.old x → G.stands guardian.new y → y.opening ≡ x.opening }
+{
+    let answer = operate(alloc, guardian, action, object, operation, stamp);
+    guardian.opening();
+    answer
 }
 
 /// The answer of the step, where what it tells agrees with what these guardians were told.
@@ -99,11 +124,13 @@ fn answered<K: OfOpening, R: Forest, G: Judging>(
     other: &Held<K, G>,
     step: &Step,
 ) -> Result<Answer, LockedFault>
-    ensures { IfOk result (λ answer. (f : ForestState) → R.stands forest.now.forest f
-        → answer ≡ answer_lent f.opening f.registry (lent_two (G.state one.now.guardian) (G.state other.now.guardian)) step.now) }
+    ensures { IfOk result (λ answer. (f : ForestState) (a b : GuardianState) → R.stands forest.now.forest f → G.stands one.now.guardian a
+        → G.stands other.now.guardian b → answer ≡ answer_lent f.opening f.registry (lent_two a b) step.now) }
 {
-    // The forest stands in some state.
+    // Each of them stands in some state.
     forest.forest.opening();
+    one.guardian.opening();
+    other.guardian.opening();
     if !tellable_two(alloc, &forest.forest, &one.guardian, &other.guardian, step) {
         return Err(LockedFault::Disagrees);
     }
@@ -121,19 +148,21 @@ fn keep<K: OfOpening, R: Forest, G: Judging, F: FnOnce() -> u64>(
     stamp: F,
 ) -> Result<u64, LockedFault>
     requires stamp { F.pre stamp }
-    requires differ { ((G.state one.old.guardian).number == (G.state other.old.guardian).number) ≡ false }
-    requires answered { (f : ForestState) → R.stands forest.old.forest f
-        → event.now.answer ≡ answer_lent f.opening f.registry (lent_two (G.state one.old.guardian) (G.state other.old.guardian)) event.now.step }
+    requires differ { (a b : GuardianState) → G.stands one.old.guardian a → G.stands other.old.guardian b → (a.number == b.number) ≡ false }
+    requires answered { (f : ForestState) (a b : GuardianState) → R.stands forest.old.forest f → G.stands one.old.guardian a
+        → G.stands other.old.guardian b → event.now.answer ≡ answer_lent f.opening f.registry (lent_two a b) event.now.step }
     requires accepted { IsTrue (is_accepted event.now.answer) }
     requires step { IsFalse (is_operation event.now.step) }
     ensures drawn { IfOk result (λ n. F.post stamp n) }
-    ensures done { IfOk result (λ n. (f : ForestState) → R.stands forest.old.forest f → IsDone (R.stands forest.new.forest) f
-        (G.state one.old.guardian) (G.state other.old.guardian) event.now n (G.state one.new.guardian) (G.state other.new.guardian)) }
-    ensures err { OnErr result (AreSame (R.stands forest.old.forest) (R.stands forest.new.forest) (G.state one.old.guardian) (G.state other.old.guardian)
-        (G.state one.new.guardian) (G.state other.new.guardian)) }
+    ensures done { IfOk result (λ n. (f : ForestState) (a b : GuardianState) → R.stands forest.old.forest f → G.stands one.old.guardian a
+        → G.stands other.old.guardian b → IsDone (R.stands forest.new.forest) (G.stands one.new.guardian) (G.stands other.new.guardian) f a b event.now n) }
+    ensures err { OnErr result (AreSame (R.stands forest.old.forest) (R.stands forest.new.forest) (G.stands one.old.guardian) (G.stands other.old.guardian)
+        (G.stands one.new.guardian) (G.stands other.new.guardian)) }
 {
-    // The forest stands in some state.
+    // Each of them stands in some state.
     forest.forest.opening();
+    one.guardian.opening();
+    other.guardian.opening();
     if !agree_two(alloc, &forest.forest, &one.guardian, &other.guardian, event)? {
         return Err(LockedFault::Disagrees);
     }
@@ -147,7 +176,7 @@ fn keep<K: OfOpening, R: Forest, G: Judging, F: FnOnce() -> u64>(
     )?)
 }
 
-/// Keeps the event, and the forest stays of the opening of which it was.
+/// Keeps the event, and each stays of the opening of which it was.
 fn keep_of<R: Forest, G: Judging, F: FnOnce() -> u64>(
     alloc: Global,
     forest: &mut R,
@@ -157,18 +186,21 @@ fn keep_of<R: Forest, G: Judging, F: FnOnce() -> u64>(
     stamp: F,
 ) -> Result<u64, Fault>
     requires stamp { F.pre stamp }
-    requires differ { ((G.state one.old).number == (G.state other.old).number) ≡ false }
-    requires answered { (f : ForestState) × AreAnswered (R.stands forest.old) f (G.state one.old) (G.state other.old) event.now }
+    requires answered { (f : ForestState) × (a : GuardianState) × (b : GuardianState)
+        × AreAnswered (R.stands forest.old) (G.stands one.old) (G.stands other.old) f a b event.now × ((a.number == b.number) ≡ false) }
     ensures drawn { IfOk result (λ n. F.post stamp n) }
-    ensures done { IfOk result (λ n. (f : ForestState) → AreAnswered (R.stands forest.old) f (G.state one.old) (G.state other.old) event.now
-        → IsDone (R.stands forest.new) f (G.state one.old) (G.state other.old) event.now n (G.state one.new) (G.state other.new)) }
-    ensures err { OnErr result (AreSame (R.stands forest.old) (R.stands forest.new) (G.state one.old) (G.state other.old)
-        (G.state one.new) (G.state other.new)) }
-    ensures opening { (f k : ForestState) → AreAnswered (R.stands forest.old) f (G.state one.old) (G.state other.old) event.now → R.stands forest.new k
-        → k.opening ≡ f.opening }
+    ensures done { IfOk result (λ n. (f : ForestState) (a b : GuardianState)
+        → AreAnswered (R.stands forest.old) (G.stands one.old) (G.stands other.old) f a b event.now
+        → IsDone (R.stands forest.new) (G.stands one.new) (G.stands other.new) f a b event.now n) }
+    ensures err { OnErr result (AreSame (R.stands forest.old) (R.stands forest.new) (G.stands one.old) (G.stands other.old)
+        (G.stands one.new) (G.stands other.new)) }
+    ensures opening { (f : ForestState) (a b : GuardianState) → AreAnswered (R.stands forest.old) (G.stands one.old) (G.stands other.old) f a b event.now
+        → AreOf f.opening (R.stands forest.new) (G.stands one.new) (G.stands other.new) }
 {
     let kept = keep_two(alloc, forest, one, other, event, stamp);
     forest.opening();
+    one.opening();
+    other.opening();
     kept
 }
 

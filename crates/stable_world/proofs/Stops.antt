@@ -16,7 +16,7 @@ use Rattle.layer_contracts.specs.Forests.{ForestState}
 use Rattle.layer_contracts.specs.Guardians.{GuardianState}
 use Rattle.layer_contracts.specs.Stores.{IsStoreOf, Leaves, fault_in}
 use Rattle.layer_contracts.specs.declared.guardian.Fault.{Fault}
-use Rattle.layered_world.specs.Standings.{IsWorld, StoresLeft, asks_of, brought, content_then, event_next}
+use Rattle.layered_world.specs.Standings.{IsWorld, StoresLeft, asks_of, brought, content_then, event_next, standing}
 use Rattle.settled_stores.specs.Following.{content_after, contents_from, stores_after}
 use Rattle.settled_stores.specs.Opened.{AreBetween, AreLeftAfter}
 use Rattle.settled_stores.specs.Runs.{AreOfRun}
@@ -118,8 +118,8 @@ module _ (opening : Opening) (e : Event) (past : List Event) where
 
 -- ---- a world
 
-module _ {X : Type 0} (state : X → GuardianState) (stored : X → View) (opening : Opening) (past : List Event) (forest : ForestState → Type 0) (guardians : List X)
-    (w : IsWorld state stored forest opening past guardians) where
+module _ {X : Type 0} (stands : X → GuardianState → Type 0) (stored : X → View) (opening : Opening) (past : List Event) (forest : ForestState → Type 0) (guardians : List X)
+    (w : IsWorld stands stored forest opening past guardians) where
   content_of : (i : ℕ) (x : X) → slice_get guardians i ≡ Some x → slice_get (contents_of stored guardians) i ≡ Some (stored x).content
   content_of i x at = slice_get-map (λ x. (stored x).content) guardians i ∙ ap (λ o. option_map (λ x. (stored x).content) o) at
 
@@ -136,8 +136,7 @@ module _ {X : Type 0} (state : X → GuardianState) (stored : X → View) (openi
     count = length-map guardians (λ x. (stored x).content) ∙ w.count;
     each = λ i s at.
         let (x, here, is) = held_at i s at in
-        subst (λ c. AreStored opening (i + 1) (local_history opening (numbered past) (i + 1)) c) is
-        (subst (λ st. AreStored st.opening st.number st.past (stored x).content) (w.each i x here) (w.stores i x here).stored);
+        subst (λ c. AreStored opening (i + 1) (local_history opening (numbered past) (i + 1)) c) is (w.stores i x here).stored;
   }
 
   -- what is found is the content of each store, where a stop leaves no other
@@ -163,8 +162,8 @@ module _ {X : Type 0} (state : X → GuardianState) (stored : X → View) (openi
 
 -- ---- a step of it
 
-module _ {X : Type 0} (state : X → GuardianState) (stored : X → View) (opening : Opening) (past : List Event) (step : Step) (forest : ForestState → Type 0)
-    (before after : List X) (w : IsWorld state stored forest opening past before) (count : length after ≡ length before) where
+module _ {X : Type 0} (stands : X → GuardianState → Type 0) (stored : X → View) (opening : Opening) (past : List Event) (step : Step) (forest : ForestState → Type 0)
+    (before after : List X) (w : IsWorld stands stored forest opening past before) (count : length after ≡ length before) where
   abbrev next : Event
   next = event_next opening step past
 
@@ -176,7 +175,7 @@ module _ {X : Type 0} (state : X → GuardianState) (stored : X → View) (openi
   was_at i y at = at_place before i (subst (λ n. i < n) count (slice_get_within after i y at))
 
   -- what a stop leaves of a store of which a call is asked, or none
-  left_of : (b : Bool) (i : ℕ) (x y : X) (fault : Option Fault) (o : Option Stored) → Leaves b (then i x) (stored x) (stored y) fault → IsStoreOf (state x) (stored x)
+  left_of : (b : Bool) (i : ℕ) (x y : X) (fault : Option Fault) (o : Option Stored) → Leaves b (then i x) (stored x) (stored y) fault → IsStoreOf (standing opening past (i + 1)) (stored x)
       → IsTrusted (stored y) → (stored x).is_up → (stored y).may_leave o → (o ≡ Some (stored x).content) ⊎ ((b ≡ true) × (o ≡ Some (then i x)))
   left_of true i x y fault o makes whole trusted up may = elim (makes.stop trusted up o may) [ inl is ↦ inl is | inr is ↦ inr (refl, is) ]
   left_of false i x y fault o stays whole trusted up may =
@@ -201,7 +200,7 @@ module _ {X : Type 0} (state : X → GuardianState) (stored : X → View) (openi
         let olds = contents_of stored before in
         between olds (stores_after opening next past olds) left (as_before ∙ sym (length-map before (λ x. (stored x).content))) (as_many opening next past 1 olds)
         (λ i old new o at made there.
-        let (x, here, is) = held_at state stored opening past forest before w i old at in
+        let (x, here, is) = held_at stands stored opening past forest before w i old at in
         let known = same_Some (content_after opening next past (i + 1) old) new (sym (made_at opening next past olds i old at) ∙ made) in
         elim (left_at i x o here there) [
           | inl k ↦ inl (k ∙ ap (λ s. Some s) is)
@@ -221,13 +220,13 @@ module _ {X : Type 0} (state : X → GuardianState) (stored : X → View) (openi
         record {
           contents = all.contents;
           found = all.found;
-          are = elim (stop_within_any_step opening next past olds all.contents (refl, accepted, w.is_run) (stores_are_of_run state stored opening past forest before w) all.are) [
+          are = elim (stop_within_any_step opening next past olds all.contents (refl, accepted, w.is_run) (stores_are_of_run stands stored opening past forest before w) all.are) [
             | inl is ↦ inl is
             | inr is ↦ inr (accepted, is)
           ];
         }
     kept false refused =
-        let all = at_rest state stored opening past forest before w left as_before (λ i x o at there. elim (left_at i x o at there) [
+        let all = at_rest stands stored opening past forest before w left as_before (λ i x o at there. elim (left_at i x o at there) [
           | inl is ↦ is
           | inr is ↦ absurd (false≢true (sym (and_left (is_accepted next.answer) _ refused) ∙ is.0))
         ]) in

@@ -6,10 +6,9 @@ use Rattle.stable_store.specs.Calls.{Rests, View}
 use Rattle.stable_store.specs.Plain.{plain_view}
 use Rattle.stable_store.specs.Stored.{empty}
 use Rattle.stable_store.specs.declared.plain.PlainStable.{PlainStable}
-use Rattle.guardian_memory.specs.Memories.{InMemory, state_of as memory_state}
-use Rattle.guardian.specs.Guardians.{InParts, IsSettled, state_in}
+use Rattle.guardian_memory.specs.Memories.{InMemory, IsSound}
+use Rattle.guardian.specs.Guardians.{InParts, IsSettled, IsWhole}
 use Rattle.registry.specs.Registries.{InRegistry, StandsIn}
-use Rattle.layer_contracts.specs.Stores.{IsStoreOf}
 use Rattle.layered_world.specs.Standings.{IsWorld, standing}
 
 pub record InWorld (S : Type 0) : Type 0 where
@@ -28,7 +27,7 @@ seen_of seen g = seen g.store
 -- registry, guardians and stores stand where the run leads them
 abbrev pub IsStanding : {S : Type 0} → (S → View) → InWorld S → Type 0
 IsStanding seen w =
-    IsWorld (λ g. state_in g) (λ g. seen_of seen g) (λ f. StandsIn w.registry f) (opening_in w.run.lists) w.run.past w.guardians
+    IsWorld (λ g s. IsWhole seen g s) (λ g. seen_of seen g) (λ f. StandsIn w.registry f) (opening_in w.run.lists) w.run.past w.guardians
 
 -- the stores from which guardians begin, from the first on: each is at rest, and holds what the opening says that it held, and nothing prepared
 pub record AreOpened {S : Type 0} (seen : S → View) (opening : Opening) (stores : List S) : Type 0 where
@@ -39,13 +38,12 @@ pub record AreOpened {S : Type 0} (seen : S → View) (opening : Opening) (store
 -- the memories of guardians to whom nothing has happened, from the first on
 pub record AreMemories (opening : Opening) (memories : List InMemory) : Type 0 where
   pub count : length memories ≡ length opening.setup
-  pub each : (i : ℕ) (m : InMemory) → slice_get memories i ≡ Some m → memory_state m ≡ standing opening [] (i + 1)
+  pub each : (i : ℕ) (m : InMemory) → slice_get memories i ≡ Some m → IsSound m (standing opening [] (i + 1))
 
 -- and such guardians, each over a store that is that of its history
 pub record AreFirst {S : Type 0} (seen : S → View) (opening : Opening) (guardians : List (InParts S)) : Type 0 where
   pub count : length guardians ≡ length opening.setup
-  pub each : (i : ℕ) (g : InParts S) → slice_get guardians i ≡ Some g → state_in g ≡ standing opening [] (i + 1)
-  pub stores : (i : ℕ) (g : InParts S) → slice_get guardians i ≡ Some g → IsStoreOf (state_in g) (seen_of seen g)
+  pub each : (i : ℕ) (g : InParts S) → slice_get guardians i ≡ Some g → IsWhole seen g (standing opening [] (i + 1))
 
 -- stores in memory to which nothing has happened
 abbrev pub AreEmpty : List PlainStable → Type 0

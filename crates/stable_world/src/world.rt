@@ -7,7 +7,7 @@ ghost use Rattle.run_laws.specs.Laws.{OrphanWhereRefused};
 ghost use Rattle.run_laws.specs.Serving.{IsServed};
 ghost use Rattle.layer_contracts.specs.Stores.{IsStoreOf, fault_in};
 ghost use Rattle.layer_contracts.specs.declared.guardian.Fault.TheVariants.{Stable};
-ghost use Rattle.guardian.specs.Guardians.{state_in};
+ghost use Rattle.guardian.specs.Guardians.{IsWhole};
 ghost use Rattle.layered_world.specs.Standings.{HasFailed, IsOut, StoresLeft, standing};
 ghost use Rattle.settled_stores.specs.Runs.{AreOfRun};
 ghost use Rattle.stable_world.specs.Running.{Ran, RanBefore};
@@ -183,9 +183,9 @@ impl<S: Stable> World<S> {
         ensures found { MatchOption result (IsOut (length self.now.run.lists.setup) number)
             (λ guardian. slice_get self.now.guardians (number - 1) ≡ Some guardian.now) }
         ensures stands { MatchOption result (Unit {0})
-            (λ guardian. state_in guardian.now ≡ standing (opening_in self.now.run.lists) self.now.run.past number) }
+            (λ guardian. IsWhole S.seen guardian.now (standing (opening_in self.now.run.lists) self.now.run.past number)) }
         ensures whole { MatchOption result (Unit {0})
-            (λ guardian. IsStoreOf (state_in guardian.now) (seen_of S.seen guardian.now)) }
+            (λ guardian. IsStoreOf (standing (opening_in self.now.run.lists) self.now.run.past number) (seen_of S.seen guardian.now)) }
     {
         if number == 0 {
             return None;

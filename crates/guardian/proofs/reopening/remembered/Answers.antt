@@ -4,7 +4,6 @@ use Rattle.std.specs.Arc.{arc_value}
 use Rattle.run_model.specs.Openings.{opening_in}
 use Rattle.stable_store.specs.Held.{held}
 use Rattle.stored_laws.specs.Reopened.{IsOpenedAlone}
-use Rattle.guardian_memory.specs.Memories.{state_of}
 use Rattle.guardian.proofs.Remembering.{may_give, numbered, remembers, tops}
 use Rattle.guardian.proofs.reopening.remembered.Goals as goal
 
@@ -27,9 +26,8 @@ pub returns : goal.returns
 returns c =
     IfOk-weaker c.reopened.result _ _
     (λ memory is.
-    remembers c.args.setup.now c.args.number c.args.kept.now c.requires.number c.requires.may c.requires.rising c.in_ok-records.records.items
+    (_, is, remembers c.args.setup.now c.args.number c.args.kept.now c.requires.number c.requires.may c.requires.rising c.in_ok-records.records.items
     c.in_ok-records.ensures.records c.in_ok-records.ensures.listed (arc_value c.in_ok-new.field-0)
     (subst (λ o. IsOpenedAlone c.args.setup.now c.args.number (held c.args.kept.now) (opening_in o)) (sym c.in_ok-new.ensures.ok)
-    (subst (λ s. IsOpenedAlone s c.args.number (held c.args.kept.now) (opening_in c.in_ok-opening.opening)) c.in_ok-copy.ensures c.in_ok-opening.ensures))
-    (state_of memory) is)
+    (subst (λ s. IsOpenedAlone s c.args.number (held c.args.kept.now) (opening_in c.in_ok-opening.opening)) c.in_ok-copy.ensures c.in_ok-opening.ensures))))
     c.reopened.ensures

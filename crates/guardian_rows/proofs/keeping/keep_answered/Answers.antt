@@ -1,17 +1,16 @@
-use Rattle.std.proofs.Common.{ap, ◌∙◌}
+use Rattle.std.proofs.Common.{refl}
 use Rattle.guardian_rows.proofs.keeping.keep_answered.Goals as goal
 
 pub plan-requires-clause-accepted : goal.plan-requires-clause-accepted
 plan-requires-clause-accepted g c = c.in_ok-event.ensures.accepted
 
-pub plan-requires-clause-owed : goal.plan-requires-clause-owed
-plan-requires-clause-owed g c = c.in_ok-event.ensures.owed
-
-pub plan-requires-clause-agrees : goal.plan-requires-clause-agrees
-plan-requires-clause-agrees g c = c.in_ok-event.ensures.agrees
+pub plan-requires-clause-rising : goal.plan-requires-clause-rising
+plan-requires-clause-rising g c = c.in_ok-event.ensures.kept.2.agrees.outcomes.once
 
 pub carry_out-requires-clause-fits : goal.carry_out-requires-clause-fits
 carry_out-requires-clause-fits g c = c.in_ok-plan.ensures.fits
 
-pub carry_out-requires-clause-step : goal.carry_out-requires-clause-step
-carry_out-requires-clause-step g c = ap (λ news. news.event.step) c.in_ok-plan.ensures.planned ∙ ap (λ e. e.step) c.in_ok-event.ensures.event
+pub carry_out-requires-clause-planned : goal.carry_out-requires-clause-planned
+carry_out-requires-clause-planned g c =
+    let kept = c.in_ok-event.ensures.kept in
+    (kept.0, _, c.plan.ensures.same kept.0 kept.1, c.in_ok-plan.ensures.planned kept.0 kept.1 kept.2.owed kept.2.agrees, refl)

@@ -9,7 +9,7 @@ pub returns-in_err-answer-clause-stores : goal.returns-in_err-answer-clause-stor
 returns-in_err-answer-clause-stores g c =
     let gs = c.args.guardians.now in
     with_fault c.from_residual.result _ (λ fault. StoresLeft g.G.Guardian.stored g.opening c.args.history.now c.args.step.now gs gs fault)
-    c.from_residual.ensures.1 (stores_refused g.G.Guardian.stored g.opening c.args.history.now c.args.step.now gs g.G.Guardian.state (g.R.Forest.stands c.args.forest.now) c.requires.1.1.1.1)
+    c.from_residual.ensures.1 (stores_refused g.G.Guardian.stored g.opening c.args.history.now c.args.step.now gs g.G.Guardian.stands (g.R.Forest.stands c.args.forest.now) c.requires.1.1.1.1)
 
 pub returns-then-not-is_accepted-clause-stores : goal.returns-then-not-is_accepted-clause-stores
 returns-then-not-is_accepted-clause-stores g c =

@@ -1,11 +1,11 @@
-use Rattle.std.proofs.lemmas.Bool.{or_right}
-use Rattle.run_laws.proofs.Names.{eqb_self}
-use Rattle.layer_contracts.specs.Guardians.{GuardianState}
-use Rattle.lent_steps.proofs.Left.{second_lent}
+use Rattle.std.proofs.lemmas.Result.{IfOk-weaker}
+use Rattle.lent_steps.proofs.Agreed.{agrees_two}
+use Rattle.lent_steps.proofs.Left.{first_one, second_one}
 use Rattle.lent_steps.proofs.agreeing.agree_two.Goals as goal
 
-pub agrees_at-requires-2 : goal.agrees_at-requires-2
-agrees_at-requires-2 g c =
-    let a : GuardianState = g.G.Guardian.state c.args.first.now in
-    let b : GuardianState = g.G.Guardian.state c.args.second.now in
-    record { past = second_lent a b c.requires; number = or_right _ _ (eqb_self b.number) }
+pub returns : goal.returns
+returns g c =
+    IfOk-weaker c.agrees_at-2.result _ _ (λ yes h t f a b lent apart.
+    agrees_two f a b c.args.event.now lent.opening
+    (c.in_ok-agrees_at.ensures c.if-not-branch.false f a b a lent lent.first (first_one a b)) (h t f a b b lent lent.second (second_one a b apart)))
+    c.agrees_at-2.ensures

@@ -1,6 +1,8 @@
-use Rattle.std.proofs.Common.{[], ap₂, rules, sym, ◌+◌, ◌∙◌, ◌≡◌}
+use Rattle.std.proofs.Common.{[], ap₂, rules, subst, sym, ◌+◌, ◌≡◌}
 use Rattle.run_model.specs.Openings.{opening_in}
-use Rattle.stable_world.proofs.First.{memories_more}
+use Rattle.guardian_memory.specs.Memories.{IsSound}
+use Rattle.layered_world.specs.Standings.{standing}
+use Rattle.stable_world.proofs.First.{each_more}
 use Rattle.stable_world.proofs.beginning.memories.Goals as goal
 
 pub loop-index-preserved : goal.loop-index-preserved
@@ -10,8 +12,10 @@ loop-index-preserved c =
     record {
       count = search rules;
       each =
-          memories_more (opening_in lists) c.loop-index.memories.items c.push.new.self.items c.in_ok-new.field-0 c.in_ok-push.ensures.items c.loop-index.invariant.each
-          (c.in_ok-new.ensures ∙ ap₂ (λ l n. record { opening = opening_in l; number = n + 1; past = [] }) same (sym c.loop-index.invariant.count));
+          each_more (λ i m. IsSound m (standing (opening_in lists) [] (i + 1))) c.loop-index.memories.items c.push.new.self.items c.in_ok-new.field-0
+          c.in_ok-push.ensures.items c.loop-index.invariant.each
+          (subst (λ s. IsSound c.in_ok-new.field-0 s)
+          (ap₂ (λ l n. record { opening = opening_in l; number = n + 1; past = [] }) same (sym c.loop-index.invariant.count)) c.in_ok-new.ensures);
     }
 
 pub returns : goal.returns

@@ -1,11 +1,11 @@
 use Rattle.std.proofs.Common.{Some, [], length, slice_get, ℕ, ◌+◌, ◌≡◌}
 use Rattle.run_model.specs.Openings.{opening_in}
-use Rattle.guardian_memory.specs.Memories.{InMemory, state_of}
+use Rattle.guardian_memory.specs.Memories.{InMemory, IsSound}
 use Rattle.layered_world.specs.Standings.{standing}
 use Rattle.stable_world.proofs.beginning.memories.Given as goal
 
 abbrev pub invariant-loop-index : goal.invariant-loop-index
 invariant-loop-index l = record {
   count : length l.memories.items ≡ l.index;
-  each : (i : ℕ) (m : InMemory) → slice_get l.memories.items i ≡ Some m → state_of m ≡ standing (opening_in l.opening.value) [] (i + 1);
+  each : (i : ℕ) (m : InMemory) → slice_get l.memories.items i ≡ Some m → IsSound m (standing (opening_in l.opening.value) [] (i + 1));
 }

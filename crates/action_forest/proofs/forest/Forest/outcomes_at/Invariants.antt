@@ -1,4 +1,5 @@
-use Rattle.std.proofs.Common.{take, ◌≡◌}
+use Rattle.std.proofs.Common.{Bool, take, ◌≡◌}
+use Rattle.action_names.specs.Names.{Name}
 use Rattle.run_model.specs.LocalHistories.{events_there}
 use Rattle.action_forest.specs.Forests.{AtEach}
 use Rattle.action_forest.specs.Trees.{trees}
@@ -7,5 +8,5 @@ use Rattle.action_forest.proofs.forest.Forest.outcomes_at.Given as goal
 
 abbrev pub invariant-loop-place : goal.invariant-loop-place
 invariant-loop-place g l =
-    AtEach (trees l.self) (λ opening registry.
-    l.outcomes.items ≡ untold_at (trees l.self) (g.H.Hearer.told l.hearer) (events_there registry) (take l.place-index l.places))
+    (told : Name → Bool) → g.H.Hearer.hears l.hearer told → AtEach (trees l.self) (λ opening registry.
+    l.outcomes.items ≡ untold_at (trees l.self) told (events_there registry) (take l.place-index l.places))

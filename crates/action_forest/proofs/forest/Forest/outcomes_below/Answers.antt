@@ -6,11 +6,10 @@ use Rattle.action_forest.specs.Walks.{untold_at}
 use Rattle.action_forest.proofs.forest.Forest.outcomes_below.Goals as goal
 
 pub returns : goal.returns
-returns g c = λ opening registry h.
+returns g c = λ told hears opening registry h.
     let forest = trees c.args.self.now in
-    let told = g.H.Hearer.told c.args.hearer.now in
     let found : c.in_ok-outcomes.outcomes.items ≡ untold_at forest told (events_there registry) c.in_ok-places.places.items =
-    c.in_ok-outcomes.ensures opening registry h ∙ ap (untold_at forest told (events_there registry)) c.deref.ensures.value in
+    c.in_ok-outcomes.ensures told hears opening registry h ∙ ap (untold_at forest told (events_there registry)) c.deref.ensures.value in
     sorted_outcomes forest told (events_there registry) c.args.path.now c.in_ok-places.places.items c.sort_unstable.new.self.items
     (c.in_ok-places.ensures opening registry h)
     (subst (λ before. IsPermutation before c.sort_unstable.new.self.items) found c.sort_unstable.ensures.permutation)

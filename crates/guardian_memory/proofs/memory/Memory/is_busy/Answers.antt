@@ -1,12 +1,6 @@
-use Rattle.std.proofs.Common.{ap, ◌∙◌}
-use Rattle.run_model.specs.Actions.{is_busy}
-use Rattle.run_model.specs.LocalReadings.{events_here}
-use Rattle.guardian_memory.specs.Memories.{InMemory}
 use Rattle.guardian_memory.proofs.Readings.{begun_there}
+use Rattle.guardian_memory.proofs.Sound.{inside}
 use Rattle.guardian_memory.proofs.memory.Memory.is_busy.Goals as goal
 
 pub returns : goal.returns
-returns c =
-    c.is_busy.ensures c.self.inside.number c.self.inside.history.events c.self.invariant.actions
-    (begun_there c.args.self.now _ c.args.action.now c.self.view_is c.requires.there)
-    ∙ ap (λ (m : InMemory). is_busy c.args.action.now (events_here m.history.events)) c.self.view_is
+returns c = λ s at there. c.is_busy.ensures s.number s.past (inside c.self.view_is at).actions (begun_there s c.args.action.now there)

@@ -1,10 +1,5 @@
-use Rattle.std.proofs.Common.{ap, ◌∙◌}
-use Rattle.run_model.specs.Actions.{is_down}
-use Rattle.run_model.specs.LocalReadings.{events_here}
-use Rattle.guardian_memory.specs.Memories.{InMemory}
+use Rattle.guardian_memory.proofs.Sound.{inside}
 use Rattle.guardian_memory.proofs.memory.Memory.is_down.Goals as goal
 
 pub returns : goal.returns
-returns c =
-    c.is_down.ensures c.self.inside.number c.self.inside.history.events c.self.invariant.actions
-    ∙ ap (λ (m : InMemory). is_down m.number (events_here m.history.events)) c.self.view_is
+returns c = λ s at. c.is_down.ensures s.number s.past (inside c.self.view_is at).actions

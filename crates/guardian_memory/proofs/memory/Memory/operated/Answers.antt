@@ -1,12 +1,15 @@
+use Rattle.std.proofs.Common.{ap, sym, ◌∙◌}
 use Rattle.std.proofs.lemmas.Result.{IfOk-weaker}
 use Rattle.guardian_memory.proofs.Readings.{answer_is, may_answer}
+use Rattle.guardian_memory.proofs.Sound.{inside}
 use Rattle.guardian_memory.proofs.memory.Memory.operated.Goals as goal
 
 pub answer-requires : goal.answer-requires
 answer-requires c =
-    may_answer c.self.invariant c.args.self.now c.args.object c.args.operation.now c.self.view_is c.requires.own c.requires.number c.requires.there c.requires.known
+    may_answer (inside c.self.view_is c.requires.asked.1) c.args.object c.args.operation.now c.requires.asked.2
 
 pub returns : goal.returns
-returns c =
+returns c = λ s at.
+    let own = c.requires.asked.2.own ∙ sym (inside c.self.view_is c.requires.asked.1).own in
     IfOk-weaker c.answer.result _ _
-    (λ answer says. answer_is c.self.invariant c.args.self.now c.args.object c.args.action.now c.args.operation.now answer c.self.view_is c.requires.own says) c.answer.ensures
+    (λ answer says. answer_is (inside c.self.view_is at) c.args.object c.args.action.now c.args.operation.now answer own says) c.answer.ensures

@@ -3,10 +3,9 @@ use Rattle.std.proofs.Math.Seq.{drop-length}
 use Rattle.std.specs.Arc.{arc_value}
 use Rattle.run_model.specs.Openings.{opening_in}
 use Rattle.guardian_objects.specs.Restored.{AreGivenBack, AreRestorable, with_record}
-use Rattle.local_histories.specs.Before.{Before}
 use Rattle.guardian_memory.specs.Reopening.{record_of, records_of}
 use Rattle.guardian_memory.specs.declared.reopening.TopRecord.{TopRecord}
-use Rattle.guardian_memory.proofs.Reopened.{all_are, behind_next, fewer_restorable, none_left, reopened_sound, state_reopened, still_all}
+use Rattle.guardian_memory.proofs.Reopened.{all_are, behind_next, fewer_restorable, none_left, reopened_sound, still_all}
 use Rattle.guardian_memory.proofs.memory.Memory.reopened.Goals.{After-deref-in-Some}
 use Rattle.guardian_memory.proofs.memory.Memory.reopened.Goals as goal
 
@@ -16,7 +15,6 @@ loop-record-init c =
     let none : drop (length xs) xs ≡ [] = drop-length xs in
     record {
       left = ap (λ l. xs ++ l) none ∙ append-nil xs;
-      before = c.new-before.ensures ∙ ap (λ l. record { guardian = c.args.number; count = c.args.count; records = records_of l }) (sym none);
       guardian = c.in_ok-objects.ensures.guardian;
       given = subst (λ l. AreGivenBack (opening_in (arc_value c.args.opening)) (records_of l) c.in_ok-objects.objects) (sym none)
           (subst (λ o. AreGivenBack (opening_in o) [] c.in_ok-objects.objects) c.deref.ensures c.in_ok-objects.ensures.given);
@@ -52,6 +50,23 @@ give_back-requires c = (
   may_give c,
 )
 
+pub loop-record-preserved-in_ok-give_back : goal.loop-record-preserved-in_ok-give_back
+loop-record-preserved-in_ok-give_back c =
+    let xs = c.args.records.items in
+    let ws = c.loop-record.left.items in
+    let ys = c.pop.new.self.items in
+    let r = c.in-Some.record in
+    let opening = opening_in (arc_value c.args.opening) in
+    let next = behind_next xs ys ws r c.in-Some.ensures.items c.loop-record.invariant.left in
+    let behind = records_of (drop (length ws) xs) in
+    record {
+      left = still_all xs ys ws r c.in-Some.ensures.items c.loop-record.invariant.left;
+      guardian = c.give_back.ensures.guardian ∙ c.loop-record.invariant.guardian;
+      given = subst (λ l. AreGivenBack opening (records_of l) c.give_back.new.self) (sym next)
+          (subst (λ ps. AreGivenBack opening (with_record r.top r.home ps behind) c.give_back.new.self) c.deref-in-Some.ensures.value
+          (c.in_ok-give_back.ensures.given opening behind r.home c.loop-record.invariant.given (may_give (goal.at.loop-record-preserved-in_ok-give_back c).After-deref-in-Some)));
+    }
+
 pub loop-record-preserved : goal.loop-record-preserved
 loop-record-preserved c =
     let xs = c.args.records.items in
@@ -63,8 +78,6 @@ loop-record-preserved c =
     let behind = records_of (drop (length ws) xs) in
     record {
       left = still_all xs ys ws r c.in-Some.ensures.items c.loop-record.invariant.left;
-      before = c.in_ok-push.ensures.ok ∙ ap (λ (b : Before). record b { records = record_of r ∷ b.records }) c.loop-record.invariant.before
-          ∙ ap (λ l. record { guardian = c.args.number; count = c.args.count; records = records_of l }) (sym next);
       guardian = c.give_back.ensures.guardian ∙ c.loop-record.invariant.guardian;
       given = subst (λ l. AreGivenBack opening (records_of l) c.give_back.new.self) (sym next)
           (subst (λ ps. AreGivenBack opening (with_record r.top r.home ps behind) c.give_back.new.self) c.deref-in-Some.ensures.value
@@ -76,18 +89,19 @@ invariant_of-result c =
     let xs = c.args.records.items in
     let ws = c.loop-record.left.items in
     let all : drop (length ws) xs ≡ xs = none_left xs ws (sym c.loop-record.left.ok.0 ∙ c.in_default.ensures.cases.0) in
-    let told : ◌≡◌ {A = Before} c.loop-record.before (record { guardian = c.args.number; count = c.args.count; records = records_of xs }) =
-    c.loop-record.invariant.before ∙ ap (λ l. record { guardian = c.args.number; count = c.args.count; records = records_of l }) all in
-    reopened_sound (arc_value c.args.opening) c.args.number c.args.count (records_of xs) c.loop-record.before c.after.result c.reopened.result c.reopened-2.result
-    c.reopened-3.result c.loop-record.objects c.requires.number c.requires.counted c.requires.tops c.requires.restorable told c.after.ensures
+    (_, reopened_sound (arc_value c.args.opening) c.args.number c.args.count (records_of xs) c.reopened.result c.reopened-2.result
+    c.reopened-3.result c.loop-record.objects c.requires.number c.requires.counted c.requires.tops c.requires.restorable
     c.reopened.ensures.told c.reopened.ensures.crashes c.reopened-2.ensures.lists c.reopened-2.ensures.own c.reopened-3.ensures.roster
     (subst (λ l. AreGivenBack (opening_in (arc_value c.args.opening)) (records_of l) c.loop-record.objects) all c.loop-record.invariant.given)
-    c.loop-record.invariant.guardian
+    c.loop-record.invariant.guardian)
 
 pub returns : goal.returns
 returns c =
     let xs = c.args.records.items in
     let ws = c.loop-record.left.items in
     let all : drop (length ws) xs ≡ xs = none_left xs ws (sym c.loop-record.left.ok.0 ∙ c.in_default.ensures.cases.0) in
-    state_reopened (arc_value c.args.opening) c.args.number c.args.count (records_of xs) c.loop-record.before c.after.result.events c.requires.counted
-    (c.loop-record.invariant.before ∙ ap (λ l. record { guardian = c.args.number; count = c.args.count; records = records_of l }) all) c.after.ensures
+    reopened_sound (arc_value c.args.opening) c.args.number c.args.count (records_of xs) c.reopened.result c.reopened-2.result
+    c.reopened-3.result c.loop-record.objects c.requires.number c.requires.counted c.requires.tops c.requires.restorable
+    c.reopened.ensures.told c.reopened.ensures.crashes c.reopened-2.ensures.lists c.reopened-2.ensures.own c.reopened-3.ensures.roster
+    (subst (λ l. AreGivenBack (opening_in (arc_value c.args.opening)) (records_of l) c.loop-record.objects) all c.loop-record.invariant.given)
+    c.loop-record.invariant.guardian

@@ -12,7 +12,6 @@ decreases-loop-record l = vec_len l.left
 abbrev pub invariant-loop-record : goal.invariant-loop-record
 invariant-loop-record l = record {
   left : l.left.items ++ drop (length l.left.items) l.fn.records.items ≡ l.fn.records.items;
-  before : l.before ≡ record { guardian = l.number; count = l.count; records = records_of (drop (length l.left.items) l.fn.records.items) };
   guardian : l.objects.guardian ≡ l.number;
   given : AreGivenBack (opening_in (arc_value l.opening)) (records_of (drop (length l.left.items) l.fn.records.items)) l.objects;
 }

@@ -1,15 +1,13 @@
-use Rattle.std.proofs.Common.{ap, ◌∙◌}
+use Rattle.std.proofs.Common.{◌∙◌}
 use Rattle.std.proofs.lemmas.Result.{IfOk-weaker}
 use Rattle.run_model.specs.LocalReadings.{unsent_aborts}
-use Rattle.guardian_memory.specs.Memories.{InMemory}
+use Rattle.guardian_memory.proofs.Sound.{inside}
 use Rattle.guardian_memory.proofs.memory.Memory.unsent_aborts.Goals as goal
 
 pub returns : goal.returns
-returns c =
+returns c = λ s t at to.
+    let here = inside c.self.view_is at in
+    let there = inside c.to.view_is to in
     IfOk-weaker c.unsent_aborts.result _ _
-    (λ x says.
-    says c.self.inside.history.events c.to.inside.history.events c.self.invariant.knowledge c.to.invariant.knowledge
-    ∙ (λ i. unsent_aborts (c.self.invariant.knower i) (c.to.invariant.knower i) c.self.inside.history.events c.to.inside.history.events)
-    ∙ ap (λ (m : InMemory). unsent_aborts m.number c.to.inside.number m.history.events c.to.inside.history.events) c.self.view_is
-    ∙ ap (λ (m : InMemory). unsent_aborts c.args.self.now.number m.number c.args.self.now.history.events m.history.events) c.to.view_is)
+    (λ x says. says s.past t.past here.knowledge there.knowledge ∙ (λ i. unsent_aborts (here.knower i) (there.knower i) s.past t.past))
     c.unsent_aborts.ensures

@@ -40,9 +40,9 @@ carried_is f a b e g k m sender life aborts counts dependencies outcomes n o s l
     ∙ ap (λ x. made from (sender_life from lent) (aborts_from from g lent) (counts_of_sender from g lent) (dependencies_two f a b e g) x) r
 
 pub returns : goal.returns
-returns g c = λ f lent.
-    carried_is f (g.G.Guardian.state c.args.self.now.first.now) (g.G.Guardian.state c.args.self.now.second.now)
-    c.args.event.now (g.G.Guardian.state c.args.at.now).number c.number.result c.number-2.result c.sender-sender.result c.life_of-life.result
+returns g c = λ f a b x lent stood one.
+    carried_is f a b c.args.event.now x.number c.number.result c.number-2.result c.sender-sender.result c.life_of-life.result
     c.in_ok-aborts.aborts c.in_ok-aborts.counts.items (sent_of c.in_ok-dependencies.field-0.items) c.in_ok-outcomes.field-0.items
-    c.number.ensures.number c.number-2.ensures.number (c.sender-sender.ensures f lent) c.life_of-life.ensures c.in_ok-aborts.ensures.aborts
-    c.in_ok-aborts.ensures.counts (c.in_ok-dependencies.ensures f lent.forest) (c.in_ok-outcomes.ensures f lent.forest)
+    (c.number.ensures.number x stood) (c.number-2.ensures.number x stood) (c.sender-sender.ensures f a b lent)
+    (c.life_of-life.ensures a b lent.first lent.second) (c.in_ok-aborts.ensures.aborts f a b x lent stood one)
+    (c.in_ok-aborts.ensures.counts f a b x lent stood one) (c.in_ok-dependencies.ensures f a b lent) (c.in_ok-outcomes.ensures f a b x lent stood one)

@@ -1,7 +1,7 @@
 use Rattle.std.proofs.Common.{IfOk, ap, false, subst, ◌∙◌, ◌≡◌}
 use Rattle.run_model.specs.Actions.{home_of}
 use Rattle.run_model.specs.LocalHistories.{events_there}
-use Rattle.layer_contracts.specs.Guardians.{GuardianState, lent_two}
+use Rattle.layer_contracts.specs.Guardians.{lent_two}
 use Rattle.lent_steps.proofs.Nothing.{nobody_orphan, same_orphan}
 use Rattle.lent_steps.proofs.Saying.{by_two}
 use Rattle.lent_steps.proofs.lent.LentReadsAction.is_orphan.Goals as goal
@@ -9,21 +9,19 @@ use Rattle.lent_steps.proofs.lent.LentReadsAction.is_orphan.Goals as goal
 pub returns-in-Some : goal.returns-in-Some
 returns-in-Some g c = λ s says.
     let f = says.state in
-    let a : GuardianState = g.G.Guardian.state c.args.self.now.first.now in
-    let b : GuardianState = g.G.Guardian.state c.args.self.now.second.now in
+    let here = c.in-Some.ensures says.a says.b says.lent.first says.lent.second in
     let name = c.args.action.now in
     let home : c.home-home.result ≡ home_of name (events_there f.registry) =
     c.home-home.ensures f says.lent.forest ∙ ap (λ path. home_of path (events_there f.registry)) c.components.ensures.numbers in
     by_two (λ k. IfOk c.is_orphan.result (λ orphan. orphan ≡ k.facts.orphan name)) says
     (subst (λ k. IfOk c.is_orphan.result (λ orphan. orphan ≡ k))
-    (same_orphan f.opening (home_of name (events_there f.registry)) (lent_two a b (home_of name (events_there f.registry))) name
-    (g.G.Guardian.state c.in-Some.guardian.now) (c.in-Some.ensures.opening f says.lent.opening) (c.in-Some.ensures.number ∙ home)
-    (c.in-Some.ensures.past ∙ ap (lent_two a b) home))
-    c.is_orphan.ensures)
+    (same_orphan f.opening (home_of name (events_there f.registry)) (lent_two says.a says.b (home_of name (events_there f.registry))) name
+    here.state (here.at.opening f says.lent.opening) (here.at.number ∙ home) (here.at.past ∙ ap (lent_two says.a says.b) home))
+    (c.is_orphan.ensures here.state here.guardian))
 
 pub returns-in-None : goal.returns-in-None
 returns-in-None g c = λ s says.
     let f = says.state in
     let e = nobody_orphan f.opening c.home-home.result c.args.action.now in
     by_two (λ k. false ≡ k.facts.orphan c.args.action.now) says
-    (cc (e, c.in-None.ensures, c.home-home.ensures f says.lent.forest, c.components.ensures.numbers))
+    (cc (e, c.in-None.ensures says.a says.b says.lent.first says.lent.second, c.home-home.ensures f says.lent.forest, c.components.ensures.numbers))

@@ -6,7 +6,7 @@ use Rattle.run_laws.proofs.Serving.{runs_are_served}
 use Rattle.run_model.specs.Answers.{answer_of}
 use Rattle.run_model.specs.Openings.{opening_in}
 use Rattle.run_model.specs.Runs.{IsRun}
-use Rattle.guardian.specs.Guardians.{InParts, state_in}
+use Rattle.guardian.specs.Guardians.{InParts, IsWhole}
 use Rattle.registry.specs.Registries.{StandsIn}
 use Rattle.stable_store.specs.Calls.{View}
 use Rattle.layer_contracts.specs.Stores.{fault_in}
@@ -23,9 +23,9 @@ step-requires g c = λ κs within.
     let stored : InParts _ → View = λ x. seen_of g.S.Stable.seen x in
     let registry = c.self.inside.registry in
     let past = c.self.inside.history in
-    let world : IsWorld (λ x. state_in x) stored (λ f. StandsIn registry f) (opening_in registry.opening) past c.self.inside.guardians.items =
-    subst (λ o. IsWorld (λ x. state_in x) stored (λ f. StandsIn registry f) o past c.self.inside.guardians.items) c.self.invariant.forest.opening c.self.invariant in
-    let lent = subst (λ gs. IsWorld (λ x. state_in x) stored (λ f. StandsIn registry f) (opening_in registry.opening) past gs) (sym c.deref_mut.ensures.value) world in
+    let world : IsWorld (λ x s. IsWhole g.S.Stable.seen x s) stored (λ f. StandsIn registry f) (opening_in registry.opening) past c.self.inside.guardians.items =
+    subst (λ o. IsWorld (λ x s. IsWhole g.S.Stable.seen x s) stored (λ f. StandsIn registry f) o past c.self.inside.guardians.items) c.self.invariant.forest.opening c.self.invariant in
+    let lent = subst (λ gs. IsWorld (λ x s. IsWhole g.S.Stable.seen x s) stored (λ f. StandsIn registry f) (opening_in registry.opening) past gs) (sym c.deref_mut.ensures.value) world in
     let store = ⊑_meet _ _ _ within (⊑_static _) in
     (⊑_static _, (⊑_meet _ _ _ store store, (⊑_static _, (⊑_static _, lent))))
 
@@ -84,7 +84,7 @@ returns-clause-stop g c =
     subst (λ w. IsKeptThroughStops stored (opening_in w.run.lists) w.run.past step w.guardians (take c.self.inside.guardians.len (new ++ drop (length new) gs)))
     c.self.view_is
     (subst (λ news. IsKeptThroughStops stored (opening_in lists) past step gs news) (sym back)
-    (kept_through_stops (λ x. state_in x) stored (opening_in lists) past step _ gs new c.self.invariant count fault
+    (kept_through_stops (λ x s. IsWhole g.S.Stable.seen x s) stored (opening_in lists) past step _ gs new c.self.invariant count fault
     (subst (λ o. StoresLeft stored o past step gs new fault) same
     (subst (λ gs. StoresLeft stored (opening_in c.self.inside.registry.opening) past step gs new fault) c.deref_mut.ensures.value c.step.ensures.stores))))
 
@@ -102,6 +102,16 @@ returns-clause-up g c =
     let fault = fault_in c.step.result in
     subst (λ w. OnOk c.step.result (StayUp stored w.guardians (take c.self.inside.guardians.len (new ++ drop (length new) gs)))) c.self.view_is
     (subst (λ news. OnOk c.step.result (StayUp stored gs news)) (sym back)
-    (stay_up (λ x. state_in x) stored (opening_in lists) past step _ gs new c.self.invariant count c.step.result
+    (stay_up (λ x s. IsWhole g.S.Stable.seen x s) stored (opening_in lists) past step _ gs new c.self.invariant count c.step.result
     (subst (λ o. StoresLeft stored o past step gs new fault) same
     (subst (λ gs. StoresLeft stored (opening_in c.self.inside.registry.opening) past step gs new fault) c.deref_mut.ensures.value c.step.ensures.stores))))
+
+pub invariant_of-self : goal.invariant_of-self
+invariant_of-self g c =
+    let stored : InParts _ → View = λ x. seen_of g.S.Stable.seen x in
+    let lists = arc_value c.self.inside.opening in
+    let same : opening_in c.self.inside.registry.opening ≡ opening_in lists = sym c.self.invariant.forest.opening in
+    let new = c.step.new.guardians in
+    let back = back_is c.self.inside.guardians.len new (drop (length new) c.self.inside.guardians.items) (omega (arith, c.step.auto.guardians, c.deref_mut.ensures.len)) in
+    subst (λ gs. IsWorld (λ x s. IsWhole g.S.Stable.seen x s) stored (λ f. StandsIn c.step.new.forest f) (opening_in lists) c.step.new.history gs) (sym back)
+    (subst (λ o. IsWorld (λ x s. IsWhole g.S.Stable.seen x s) stored (λ f. StandsIn c.step.new.forest f) o c.step.new.history new) same c.step.ensures.world)
