@@ -1,6 +1,6 @@
 -- Entries of dependencies: where a search by guardian ends, and what a change at that place does.
-use Rattle.std.proofs.Common.{◌≡◌, ℕ, zero, suc, ◌+◌, ◌<◌, ◌≤◌, T, Bool, true, false, cond, not, ◌&&◌, [], ◌∷◌, length, get_or, set, drop, Option, Some, None, is_some, IsSome, Result, Ok, Err, is_ok, IfOk, IfErr, refl, sym, ap, ◌∙◌, arith}
-use Rattle.std.specs.List.{insert}
+use Rattle.std.proofs.Common.{◌≡◌, ℕ, List, zero, suc, ◌+◌, ◌<◌, ◌≤◌, T, Bool, true, false, cond, not, ◌&&◌, [], ◌∷◌, length, get_or, set, drop, Option, Some, None, is_some, IsSome, Result, Ok, Err, is_ok, IfOk, IfErr, refl, sym, ap, ◌∙◌, arith}
+use Rattle.std.specs.List.{insert, refill}
 use Rattle.std.specs.List.Sorted.{IsSearchInRange, IsBinarySearchResult, IsNonDecreasingBy}
 use Rattle.std.specs.Ordering.{nat_cmp, ordering_index, is_lt, is_eq, eq_by_cmp}
 use Rattle.std.specs.declared.cmp.Ordering.{Ordering}
@@ -9,6 +9,7 @@ use Rattle.std.specs.Cmp.{nat_cmp_total}
 use Rattle.std.specs.FinMap as map
 use Rattle.std.specs.FinMap.Entries.{put, below_all, find-put, length-put, is_sorted-put}
 use Rattle.std.proofs.lemmas.Cmp.{ranked}
+use Rattle.std.proofs.lemmas.List.{take-append-le, take_all}
 use Rattle.std.proofs.lemmas.List.Sorted.{IsNonDecreasingBy-from_default}
 use Rattle.std.proofs.lemmas.List.Sums.{sum_by-cons}
 use Rattle.std.proofs.lemmas.Bool.Decides.{nat_tests}
@@ -131,6 +132,11 @@ with_least-absent (e ∷ es) g n (suc i) gap =
 pub known_from_search : (es : Entries) (g : ℕ) (r : Result ℕ ℕ) → IsRising es → IfOk r (IsAt es g) → IfErr r (IsGapFor es g) → is_ok r ≡ is_some (least_at es g)
 known_from_search es g (Ok i) s found absent = ap is_some (sym (least_at-found es g i s found (0, 0)))
 known_from_search es g (Err i) s found absent = ap is_some (sym (least_at-absent es g i absent))
+
+-- a list that is written over by one of its own length is that one
+pub refill_same : {X : Type 0} (xs ws : List X) → length ws ≡ length xs → refill (length xs) xs ws ≡ ws
+refill_same xs ws same =
+    take-append-le (length xs) ws (drop (length ws) xs) (omega (arith, same)) ∙ take_all (length xs) ws (omega (arith, same))
 
 -- ---- a new least incarnation
 least_at-with_least : (es : Entries) (g n q : ℕ) → least_at (with_least es g n) q ≡ cond (eq_by_cmp nat_cmp q g) (Some n) (least_at es q)

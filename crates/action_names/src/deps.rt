@@ -1,16 +1,18 @@
 //! On which incarnations of guardians an action depends: the least of each guardian, in the order of the guardians.
-ghost use Rattle.std.specs.Prelude.{◌≡◌, ◌==◌, ◌+◌, ◌<◌, ◌≤◌, ℕ, List, IsSome, is_some, IsOk, IfOk, IfErr, OnOk, OnErr, vec_len, vec_capacity};
+ghost use Rattle.std.specs.Prelude.{◌≡◌, ◌==◌, ◌+◌, ◌<◌, ◌≤◌, ℕ, List, IsSome, is_some, IsOk, IfOk, IfErr, OnOk, OnErr};
+ghost use Rattle.smallvec.specs.SmallVec.{small_vec_len};
 ghost use Rattle.std.specs.Ordering.{nat_cmp};
 ghost use Rattle.std.specs.FinMap as map;
 ghost use Rattle.action_names.specs.Deps.{lesser, lowered, Entries, IsRising, least_at, with_least, count_new, IsAt, IsGapFor};
 
+use smallvec::SmallVec;
 use std::alloc::{AllocError, Global};
 use std::marker::Model;
 
-/// On which incarnation of each guardian an action depends, the least.
+/// On which incarnation of each guardian an action depends, the least. Most actions depend on one guardian, whose entry lies in the value itself.
 #[derive(Debug, Drop)]
 pub struct Deps {
-    least: Vec<(u32, u64)>,
+    least: SmallVec<(u32, u64), 1>,
 }
 
 impl Model for Deps {
@@ -35,7 +37,7 @@ impl Deps {
         ensures { result ≡ map.empty }
     {
         Deps {
-            least: Vec::new(alloc),
+            least: SmallVec::new(alloc),
         }
     }
 
@@ -43,8 +45,8 @@ impl Deps {
     pub fn get(&self, guardian: u32) -> Option<u64>
         ensures { result ≡ map.get self.now guardian }
     {
-        match search(&self.least, guardian) {
-            Ok(at) => Some(self.least[at].1),
+        match search(self.least.as_slice(), guardian) {
+            Ok(at) => Some(self.least.as_slice()[at].1),
             Err(_) => None,
         }
     }
@@ -68,14 +70,14 @@ impl Deps {
         ensures err { OnErr result (self.new ≡ self.old) }
         ensures known { ((g : ℕ) → IsSome (map.get other.now g) → IsSome (map.get self.old g)) → IsOk result }
     {
-        merge_in(&mut self.least, &other.least)
+        merge_in(&mut self.least, other.least.as_slice())
     }
 
     /// A copy of the dependencies.
     pub fn copy(&self) -> Result<Deps, AllocError>
         ensures { IfOk result (λ deps. deps ≡ self.now) }
     {
-        let least = Vec::from_slice(*self.least.allocator(), &self.least)?;
+        let least = SmallVec::from_slice(*self.least.allocator(), self.least.as_slice())?;
         Ok(Deps { least })
     }
 
@@ -97,7 +99,7 @@ impl Deps {
     pub fn entries(&self) -> &[(u32, u64)]
         ensures { result.now ≡ map.entries self.now }
     {
-        &self.least
+        self.least.as_slice()
     }
 }
 
@@ -128,45 +130,28 @@ fn is_known(least: &[(u32, u64)], guardian: u32) -> bool
 }
 
 // Adds one dependency. It takes memory only for a new guardian for whom no room is left.
-fn lower_in(least: &mut Vec<(u32, u64)>, guardian: u32, incarnation: u64) -> Result<(), AllocError>
+fn lower_in(least: &mut SmallVec<(u32, u64), 1>, guardian: u32, incarnation: u64) -> Result<(), AllocError>
     requires { IsRising least.old.items }
     ensures rising { IsRising least.new.items }
     ensures ok { OnOk result (least.new.items
         ≡ with_least least.old.items guardian (lowered (least_at least.old.items guardian) incarnation)) }
     ensures err { OnErr result (least.new.items ≡ least.old.items) }
     ensures known { IsSome (least_at least.old.items guardian) → IsOk result }
-    ensures room { vec_len least.old < vec_capacity least.old → IsOk result }
-    ensures capacity { vec_capacity least.old ≤ vec_capacity least.new }
+    ensures room { small_vec_len least.old < least.old.capacity → IsOk result }
+    ensures capacity { least.old.capacity ≤ least.new.capacity }
 {
-    match search(least, guardian) {
+    match search(least.as_slice(), guardian) {
         Ok(at) => {
-            let entry = &mut least[at];
+            let entry = &mut least.as_mut_slice()[at];
             entry.1 = entry.1.min(incarnation);
             Ok(())
         }
-        Err(at) => {
-            reserve_first(least)?;
-            Ok(least.insert(at, (guardian, incarnation))?)
-        }
-    }
-}
-
-// Room for a first entry alone: as a rule none follows.
-fn reserve_first(least: &mut Vec<(u32, u64)>) -> Result<(), AllocError>
-    ensures items { least.new.items ≡ least.old.items }
-    ensures len { vec_len least.new ≡ vec_len least.old }
-    ensures capacity { vec_capacity least.old ≤ vec_capacity least.new }
-    ensures succeeds { vec_len least.old < vec_capacity least.old → IsOk result }
-{
-    if least.is_empty() {
-        least.reserve_exact(1)
-    } else {
-        Ok(())
+        Err(at) => Ok(least.insert(at, (guardian, incarnation))?),
     }
 }
 
 // Adds the dependencies of the others, once there is room for those on new guardians.
-fn merge_in(least: &mut Vec<(u32, u64)>, others: &[(u32, u64)]) -> Result<(), AllocError>
+fn merge_in(least: &mut SmallVec<(u32, u64), 1>, others: &[(u32, u64)]) -> Result<(), AllocError>
     requires own { IsRising least.old.items }
     requires others { IsRising others.now }
     ensures rising { IsRising least.new.items }
@@ -175,7 +160,10 @@ fn merge_in(least: &mut Vec<(u32, u64)>, others: &[(u32, u64)]) -> Result<(), Al
     ensures err { OnErr result (least.new.items ≡ least.old.items) }
     ensures known { count_new least.old.items others.now ≡ 0 → IsOk result }
 {
-    least.reserve(count_new(least, others))?;
+    let new = count_new(least.as_slice(), others);
+    if least.capacity() - least.len() < new {
+        least.reserve(new)?;
+    }
     for &(guardian, incarnation) in others {
         lower_in(least, guardian, incarnation).unwrap();
     }

@@ -1,4 +1,5 @@
-use Rattle.std.proofs.Common.{◌≡◌, ◌+◌, ◌∷◌, length, get_or, drop, vec_len, ap, ◌∙◌, arith}
+use Rattle.smallvec.specs.SmallVec.{small_vec_len}
+use Rattle.std.proofs.Common.{◌≡◌, ◌+◌, ◌∷◌, length, get_or, drop, ap, ◌∙◌, arith}
 use Rattle.std.proofs.lemmas.List.{drop_more}
 use Rattle.std.proofs.lemmas.Result.{IfOk-at_ok}
 use Rattle.action_names.specs.Deps.{IsRising, with_least, lowered, least_at, count_new}
@@ -7,7 +8,10 @@ use Rattle.action_names.proofs.deps.merge_in.Goals as goal
 
 -- with no new guardian no room is asked for, and that is always there
 pub returns-in_err-reserve-clause-known : goal.returns-in_err-reserve-clause-known
-returns-in_err-reserve-clause-known c none = absurd (omega (arith, c.in_err-reserve.ensures.full, c.count_new.ensures, rw c.deref.ensures.value at c.count_new.ensures, c.args.least.now.ok))
+returns-in_err-reserve-clause-known c none =
+    let nothing : c.count_new-new.result ≡ 0 =
+    c.count_new-new.ensures ∙ ap (λ es. count_new es c.args.others.now) c.as_slice.ensures ∙ none in
+    absurd (omega (arith, c.if-capacity-len.true, nothing))
 
 pub loop-guardian-preserved : goal.loop-guardian-preserved
 loop-guardian-preserved c =
@@ -20,7 +24,7 @@ loop-guardian-preserved c =
     let after : c.lower_in.new.least.items ≡ with_least es e.0 n = IfOk-at_ok (λ _. c.lower_in.new.least.items ≡ with_least es e.0 n) c.unwrap.ensures c.lower_in.ensures.ok in
     let left : drop at others ≡ e ∷ rest = drop_more others at (0, 0) c.loop-guardian-test.true in
     let rises : IsRising (e ∷ rest) = rw left at (rising_drop others at c.requires.others) in
-    let long : vec_len c.lower_in.new.least ≡ length (with_least es e.0 n) = omega (arith, c.lower_in.new.least.ok, ap length after) in
+    let long : small_vec_len c.lower_in.new.least ≡ length (with_least es e.0 n) = ap length after in
     record {
       rising = c.lower_in.ensures.rising;
       merged = λ g. rw after (merge_step es e rest rises g ∙ rw left at (c.loop-guardian.invariant.merged g));

@@ -1,4 +1,5 @@
-use Rattle.std.proofs.Common.{◌≡◌, ℕ, ◌+◌, ◌≤◌, drop, vec_len, vec_capacity}
+use Rattle.smallvec.specs.SmallVec.{small_vec_len}
+use Rattle.std.proofs.Common.{◌≡◌, ℕ, ◌+◌, ◌≤◌, drop}
 use Rattle.action_names.specs.Deps.{lesser, IsRising, least_at, count_new}
 use Rattle.action_names.proofs.deps.merge_in.Given as goal
 
@@ -7,5 +8,5 @@ abbrev pub invariant-loop-guardian : goal.invariant-loop-guardian
 invariant-loop-guardian l = record {
   rising : IsRising l.least.items;
   merged : (g : ℕ) → lesser (least_at l.least.items g) (least_at (drop l.guardian-index l.others) g) ≡ lesser (least_at l.initial.least.items g) (least_at l.others g);
-  room : vec_len l.least + count_new l.least.items (drop l.guardian-index l.others) ≤ vec_capacity l.least;
+  room : small_vec_len l.least + count_new l.least.items (drop l.guardian-index l.others) ≤ l.least.capacity;
 }

@@ -4,4 +4,4 @@ use Rattle.action_names.proofs.deps.Deps.is_empty.Goals as goal
 
 pub returns : goal.returns
 returns c =
-    rw (← c.self.view_is) (c.is_empty.ensures ∙ ap (λ n. n == 0) (c.self.inside.least.ok.0 ∙ sym (len_of c.self.inside.least.items c.self.invariant)))
+    rw (← c.self.view_is) (c.is_empty.ensures ∙ ap (λ n. n == 0) (sym (len_of c.self.inside.least.items c.self.invariant)))
