@@ -1,18 +1,18 @@
 -- When a ballot says what a history says of the votes on a top action.
-use Rattle.std.specs.Prelude.{◌≡◌, ◌<◌, ℕ, Bool, false, List, Option, Some, None, is_some, if◌then◌else◌, nat_eq}
-use Rattle.std.specs.HashMap as hash
+use Rattle.std.specs.Prelude.{◌≡◌, ◌<◌, ℕ, Bool, false, List, Option, Some, None, is_some, if◌then◌else◌, vec_len, vec_capacity}
 use Rattle.action_names.specs.Names.{Name}
 use Rattle.run_model.specs.declared.answer.Answer.TheVariants.{VoteNo, VoteYes}
 use Rattle.run_model.specs.declared.history.Event.{Event}
 use Rattle.run_model.specs.declared.step.Step.TheVariants.{Prepare}
 use Rattle.run_model.specs.Visibility.{has_prepared}
 use Rattle.run_model.specs.Votes.{has_voted}
+use Rattle.two_phase.specs.Votes.{vote_in}
 use Rattle.two_phase.specs.declared.ballot.Ballot.{Ballot}
 use Rattle.two_phase.specs.declared.ballot.VotePlan.{VotePlan}
 
 -- what is noted of a guardian: whether it voted yes, if it voted
 abbrev pub vote_of : Ballot → ℕ → Option Bool
-vote_of ballot g = hash.get nat_eq ballot.votes g
+vote_of ballot g = vote_in ballot.votes.items g
 
 abbrev pub is_yes : Option Bool → Bool
 is_yes None = false
@@ -40,4 +40,4 @@ IsVote g v plan = (voter_of plan ≡ g) × (has_yes plan ≡ v)
 
 -- the ballot has room for the vote
 abbrev pub FitsVote : Ballot → VotePlan → Type 0
-FitsVote ballot plan = 0 < hash.spare ballot.votes
+FitsVote ballot plan = vec_len ballot.votes < vec_capacity ballot.votes

@@ -1,22 +1,23 @@
-ghost use Rattle.std.specs.Prelude.{◌≡◌, ◌∷◌, ℕ, List, IsFalse, IfOk, is_none, ◌||◌};
+ghost use Rattle.std.specs.Prelude.{◌≡◌, ◌∷◌, ℕ, List, IsFalse, IfOk, IfErr, is_none, ◌||◌};
 ghost use Rattle.std.specs.List.{list_all};
 ghost use Rattle.std.specs.FinMap as map;
+ghost use Rattle.std.proofs.Props.{props};
 ghost use Rattle.action_names.specs.Names.{Name};
 ghost use Rattle.run_model.specs.declared.history.Event.{Event};
 ghost use Rattle.run_model.specs.Lists.{guardians_of};
 ghost use Rattle.run_model.specs.Openings.{opening_in};
 ghost use Rattle.run_model.specs.Visibility.{has_prepared};
 ghost use Rattle.run_model.specs.Votes.{has_voted};
-ghost use Rattle.two_phase.specs.Ballots.{FitsVote, IsBallot, IsVote, has_yes, is_yes, vote, vote_of, voter_of};
+ghost use Rattle.two_phase.specs.Votes.{AreRising, IsGapFor, IsVoteAt};
 
 use run_model::{Deps, Opening};
 use std::alloc::{AllocError, Global};
-use std::collections::HashMap;
 
-/// The votes on one top action: of each guardian that voted, whether it ever voted yes.
+/// The votes on one top action: of each guardian that voted, whether it ever voted yes, in the order of the guardians.
 #[derive(Drop)]
 pub struct Ballot {
-    votes: HashMap<u32, bool>,
+    votes: Vec<(u32, bool)>,
+    ghost rising: { AreRising votes.items } by { Prim.hlevel props },
 }
 
 /// A vote for which a ballot has room.
@@ -27,12 +28,14 @@ pub struct VotePlan {
 }
 
 impl Ballot {
+    ghost use Rattle.two_phase.specs.Ballots.{FitsVote, IsBallot, IsVote, has_yes, is_yes, vote, vote_of, voter_of};
+
     /// The ballot of a top action on which nobody has voted. This takes no memory.
     pub fn new(alloc: Global) -> Ballot
         ensures { (top : Name) (past : List Event) → ((g : ℕ) → IsFalse (has_voted g top past)) → IsBallot top past result }
     {
         Ballot {
-            votes: HashMap::new(alloc),
+            votes: Vec::new(alloc),
         }
     }
 
@@ -51,16 +54,25 @@ impl Ballot {
         requires { FitsVote self.old plan }
         ensures { (top : Name) (past : List Event) → IsBallot top past self.old → IsBallot top (vote (voter_of plan) top (has_yes plan) ∷ past) self.new }
     {
-        let ever = plan.yes || self.says_yes(plan.guardian);
-        let noted: Result<_, _> = self.votes.insert(plan.guardian, ever);
-        noted.unwrap();
+        match place(&self.votes, plan.guardian) {
+            Ok(at) => {
+                if plan.yes {
+                    let vote = &mut self.votes[at];
+                    vote.1 = true;
+                }
+            }
+            Err(at) => {
+                let noted: Result<_, _> = self.votes.insert(at, (plan.guardian, plan.yes));
+                noted.unwrap();
+            }
+        }
     }
 
     /// Whether the guardian voted, either way. This takes no memory.
     pub fn has_voted(&self, guardian: u32) -> bool
         ensures { (top : Name) (past : List Event) → IsBallot top past self.now → result ≡ has_voted guardian top past }
     {
-        self.votes.contains_key(&guardian)
+        place(&self.votes, guardian).is_ok()
     }
 
     /// Whether all guardians of the opening on which the top action depends voted yes. This takes no memory.
@@ -81,15 +93,26 @@ impl Ballot {
     pub fn copy(&self) -> Result<Ballot, AllocError>
         ensures { IfOk result (λ copy. (g : ℕ) → vote_of copy g ≡ vote_of self.now g) }
     {
-        Ok(Ballot {
-            votes: self.votes.clone()?,
-        })
+        let votes = Vec::from_slice(*self.votes.allocator(), &self.votes)?;
+        Ok(Ballot { votes })
     }
 
     // Whether the guardian ever voted yes.
     fn says_yes(&self, guardian: u32) -> bool
         ensures { result ≡ is_yes (vote_of self.now guardian) }
     {
-        self.votes.get(&guardian).copied().unwrap_or(false)
+        match place(&self.votes, guardian) {
+            Ok(at) => self.votes[at].1,
+            Err(_) => false,
+        }
     }
+}
+
+// Where the guardian's vote stands, or would stand.
+fn place(votes: &[(u32, bool)], guardian: u32) -> Result<usize, usize>
+    requires { AreRising votes.now }
+    ensures found { IfOk result (IsVoteAt votes.now guardian) }
+    ensures absent { IfErr result (IsGapFor votes.now guardian) }
+{
+    votes.binary_search_by_key(&guardian, |&(known, _)| known)
 }
