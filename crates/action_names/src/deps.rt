@@ -130,7 +130,11 @@ fn is_known(least: &[(u32, u64)], guardian: u32) -> bool
 }
 
 // Adds one dependency. It takes memory only for a new guardian for whom no room is left.
-fn lower_in(least: &mut SmallVec<(u32, u64), 1>, guardian: u32, incarnation: u64) -> Result<(), AllocError>
+fn lower_in(
+    least: &mut SmallVec<(u32, u64), 1>,
+    guardian: u32,
+    incarnation: u64,
+) -> Result<(), AllocError>
     requires { IsRising least.old.items }
     ensures rising { IsRising least.new.items }
     ensures ok { OnOk result (least.new.items

@@ -19,7 +19,7 @@ use Rattle.run_model.specs.declared.answer.Answer.TheVariants.{Granted, Waits}
 use Rattle.run_model.specs.Answers.{granted_by, operated_by}
 use Rattle.run_model.specs.Keeping.{Performed, Standing, blockers_by}
 use Rattle.run_model.specs.Versions.{under}
-use Rattle.moss_locks.proofs.Waiting.{free}
+use Rattle.moss_locks.proofs.Waiting.{free, none_waited}
 use Rattle.object_model.specs.Deltas.{delta_sum}
 use Rattle.object_model.specs.Locks.{must_wait}
 use Rattle.object_model.specs.Objects.{IsOperated, Seen, with_sum}
@@ -28,7 +28,7 @@ use Rattle.object_laws.specs.Changes.{with_operation}
 use Rattle.object_laws.specs.Laws.{left_by}
 use Rattle.object_laws.proofs.Names.{none_rise}
 use Rattle.object_laws.proofs.Operated.{operated_shows}
-use Rattle.object_laws.proofs.Standing.{blockers_shown_law}
+use Rattle.object_laws.proofs.Standing.{blockers_shown_law, in_the_way_shown}
 use Rattle.object_laws.proofs.Topmost.{reads_shown, writes_shown}
 use Rattle.atomic_object.specs.Kept.{Kept, number_in, replied, seen}
 
@@ -103,3 +103,14 @@ pub sum_shown : (c : Content) (ds : List (Name × ℤ)) (wanted : Op) (r reply :
     → r ≡ reply_of (content_after c (Add (Int sum))) wanted → (sum ≡ pos 0 → r ≡ reply) → reply ≡ reply_of c wanted → r ≡ reply_of (with_sum c ds) wanted
 sum_shown c [] wanted r reply sum e added none p = none e ∙ p
 sum_shown c (d ∷ ds) wanted r reply sum e added none p = added ∙ ap (λ z. reply_of (content_after c (Add (Int z))) wanted) e
+
+-- where an operation is granted, the locks let it through
+pub let_through : (c : Content) (s : Standing) (object : Seen) (a : Name) (wanted : Op) (r : Reply) → Shows c s object → Granted r ≡ operated_by c s a wanted
+    → must_wait object.locks a (class_of wanted) ≡ false
+let_through c s object a wanted r shows granted =
+    (none_waited object.locks a (class_of wanted) (blockers_by s a wanted) (λ b. in_the_way_shown c s object a wanted shows b)).0
+    (none (blockers_by s a wanted) granted)
+  where
+    none : (names : List Name) → Granted r ≡ granted_by (under c (λ b. true) s.restored) s.kept wanted names → names ≡ []
+    none [] e = refl
+    none (b ∷ bs) e = cc

@@ -6,7 +6,8 @@ ghost use Rattle.values.specs.declared.value.Value.TheVariants.{Int};
 ghost use Rattle.atomic_types.specs.declared.operation.Operation.TheVariants.{Add};
 ghost use Rattle.atomic_types.specs.Objects.{knows, reply_of, content_after};
 ghost use Rattle.atomic_types.specs.Operations.{class_of, is_read, is_write, is_add};
-ghost use Rattle.run_model.specs.declared.answer.Answer.TheVariants.{Waits};
+ghost use Rattle.run_model.specs.declared.answer.Answer.TheVariants.{Granted, Waits};
+ghost use Rattle.atomic_types.specs.declared.op.Reply.{Reply};
 ghost use Rattle.run_model.specs.Answers.{operated_by};
 ghost use Rattle.run_model.specs.Keeping.{Standing};
 ghost use Rattle.object_model.specs.Stacks.{AreAbove, is_on_top, owners_of, top_of};
@@ -38,8 +39,26 @@ impl Object {
     {
         match self.waited_for(action, op)? {
             Some(names) => Ok(Answer::Waits(names)),
-            None => Ok(Answer::Granted(self.granted(action, op)?)),
+            None => {
+                let reply = self.reply(op)?;
+                self.grant(action, op)?;
+                Ok(Answer::Granted(reply))
+            }
         }
+    }
+
+    /// Keeps an operation of an action that waits for nobody, so that it is granted; what it is answered, `answer` says. After want of memory
+    /// what is held of the object stays.
+    pub fn grant(&mut self, action: &Name, op: &Op) -> Result<(), AllocError>
+        requires named { IsTrue (is_ancestor action.now action.now) }
+        requires shown { IsShown (seen self.old) }
+        requires known { IsTrue (knows (seen self.old).stack.base op.now) }
+        requires free { IsFalse (must_wait (seen self.old).locks action.now (class_of op.now)) }
+        ensures operates { OnOk result ((r : Reply) → Operates action.now op.now (Granted r) (seen self.old) (seen self.new)) }
+        ensures room { KeepsOthersRoom self.old self.new action.now }
+        ensures err { OnErr result (seen self.new ≡ seen self.old) }
+    {
+        self.granted(action, op)
     }
 
     /// What the operation of an action would be answered, with nothing changed. Fails only for want of memory.
@@ -78,13 +97,12 @@ impl Object {
         }
     }
 
-    // Makes an operation for which nobody is waited for.
-    fn granted(&mut self, action: &Name, op: &Op) -> Result<Reply, AllocError>
+    // Keeps an operation for which nobody is waited for.
+    fn granted(&mut self, action: &Name, op: &Op) -> Result<(), AllocError>
         requires above { IsFalse (is_read op.now) → AreAbove (seen self.old).stack.versions action.now }
         requires owned { IsTrue (is_add op.now) → IsTrue (owns (seen self.old) action.now) → IsTrue (is_on_top (owners_of (seen self.old).stack.versions) action.now) }
         requires known { IsTrue (knows (top_of (seen self.old).stack) op.now) }
         requires rising { NamesRise (seen self.old).deltas }
-        ensures replies { IfOk result (λ r. r ≡ replied (seen self.old) op.now) }
         ensures ok { OnOk result (IsOperated action.now op.now (seen self.old) (seen self.new)) }
         ensures room { KeepsOthersRoom self.old self.new action.now }
         ensures err { OnErr result (seen self.new ≡ seen self.old) }
@@ -96,19 +114,16 @@ impl Object {
         }
     }
 
-    // A read of the content on top, with what is added beside it.
-    fn read(&mut self, action: &Name, op: &Op) -> Result<Reply, AllocError>
-        requires known { IsTrue (knows (top_of (seen self.old).stack) op.now) }
+    // A read, which leaves its lock alone.
+    fn read(&mut self, action: &Name, op: &Op) -> Result<(), AllocError>
         requires reads { IsTrue (is_read op.now) }
         requires rising { NamesRise (seen self.old).deltas }
-        ensures replies { IfOk result (λ r. r ≡ reply_of (total_of (seen self.old)) op.now) }
         ensures ok { OnOk result (IsOperated action.now op.now (seen self.old) (seen self.new)) }
         ensures room { KeepsOthersRoom self.old self.new action.now }
         ensures err { OnErr result (seen self.new ≡ seen self.old) }
     {
-        let reply = self.read_total(op)?;
         self.locks.grant(action, Class::Read)?;
-        Ok(reply)
+        Ok(())
     }
 
     // The reply of the content on top, with what is added beside it.
@@ -123,34 +138,30 @@ impl Object {
     }
 
     // A write on top, which leaves nothing of what the action added.
-    fn write(&mut self, action: &Name, op: &Op) -> Result<Reply, AllocError>
+    fn write(&mut self, action: &Name, op: &Op) -> Result<(), AllocError>
         requires above { AreAbove (seen self.old).stack.versions action.now }
         requires known { IsTrue (knows (top_of (seen self.old).stack) op.now) }
         requires writes { IsTrue (is_write op.now) }
-        ensures replies { IfOk result (λ r. r ≡ reply_of (top_of (seen self.old).stack) op.now) }
         ensures ok { OnOk result (IsOperated action.now op.now (seen self.old) (seen self.new)) }
         ensures room { KeepsOthersRoom self.old self.new action.now }
         ensures err { OnErr result (seen self.new ≡ seen self.old) }
     {
         let is_new = self.locks.grant(action, Class::Write)?;
-        let written = self.versions.write(action, op);
-        match &written {
-            Ok(_) => {
-                self.deltas.take(action);
-            }
-            Err(_) => self.take_back(action, Class::Write, is_new),
+        if let Err(refused) = self.versions.write(action, op) {
+            self.take_back(action, Class::Write, is_new);
+            return Err(refused);
         }
-        written
+        self.deltas.take(action);
+        Ok(())
     }
 
     // An add to the action's version, or else to its delta.
-    fn add(&mut self, action: &Name, op: &Op) -> Result<Reply, AllocError>
+    fn add(&mut self, action: &Name, op: &Op) -> Result<(), AllocError>
         requires above { AreAbove (seen self.old).stack.versions action.now }
         requires owned { IsTrue (owns (seen self.old) action.now) → IsTrue (is_on_top (owners_of (seen self.old).stack.versions) action.now) }
         requires known { IsTrue (knows (top_of (seen self.old).stack) op.now) }
         requires adds { IsTrue (is_add op.now) }
         requires rising { NamesRise (seen self.old).deltas }
-        ensures replies { IfOk result (λ r. r ≡ reply_of (top_of (seen self.old).stack) op.now) }
         ensures ok { OnOk result (IsOperated action.now op.now (seen self.old) (seen self.new)) }
         ensures room { KeepsOthersRoom self.old self.new action.now }
         ensures err { OnErr result (seen self.new ≡ seen self.old) }
@@ -164,13 +175,12 @@ impl Object {
     }
 
     // Adds to the action's version, or else to its delta.
-    fn add_up(&mut self, action: &Name, op: &Op) -> Result<Reply, AllocError>
+    fn add_up(&mut self, action: &Name, op: &Op) -> Result<(), AllocError>
         requires above { AreAbove (seen self.old).stack.versions action.now }
         requires owned { IsTrue (owns (seen self.old) action.now) → IsTrue (is_on_top (owners_of (seen self.old).stack.versions) action.now) }
         requires known { IsTrue (knows (top_of (seen self.old).stack) op.now) }
         requires adds { IsTrue (is_add op.now) }
         requires rising { NamesRise (seen self.old).deltas }
-        ensures replies { IfOk result (λ r. r ≡ reply_of (top_of (seen self.old).stack) op.now) }
         ensures ok { OnOk result (AddsBy (owns (seen self.old) action.now) (seen self.old) (seen self.new) action.now op.now) }
         ensures rising { OnOk result (NamesRise (seen self.new).deltas) }
         ensures room { (b : Name) → IsTrue (has_name self.old.deltas.room b) → IsTrue (has_name self.new.deltas.room b) }
@@ -178,10 +188,10 @@ impl Object {
         ensures err { OnErr result (seen self.new ≡ seen self.old) }
     {
         if self.owns(action) {
-            return self.versions.write(action, op);
+            self.versions.write(action, op)?;
+            return Ok(());
         }
-        self.deltas.add(action, amount_of(op))?;
-        Ok(Reply::Done)
+        self.deltas.add(action, amount_of(op))
     }
 
     // Takes a lock back that was given for an operation which then failed.

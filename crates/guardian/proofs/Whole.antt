@@ -1,5 +1,5 @@
 -- The memory and the store of a guardian, once an event is kept and the store holds what it asks for.
-use Rattle.std.proofs.Common.{Bool, List, None, Option, Some, [], ap, false, inl, inr, refl, subst, sym, option_map, true, ℕ, ◌&&◌, ◌==◌, ◌∙◌, ◌∷◌, ◌≡◌}
+use Rattle.std.proofs.Common.{Bool, Err, IfOk, List, None, Ok, OnErr, Option, Result, Some, [], ap, false, inl, inr, refl, subst, sym, option_map, true, ℕ, ◌&&◌, ◌==◌, ◌∙◌, ◌∷◌, ◌≡◌}
 use Rattle.run_model.specs.declared.step.Step.{Step}
 use Rattle.run_model.specs.declared.step.Step.TheVariants.{Abort, Arms, Call, Close, Commit, Crash, Decide, NestedTop, Op, Prepare, Recover, Tell, Top}
 use Rattle.std.proofs.lemmas.Bool.{false_from_ne_true, false≢true, true≢false}
@@ -14,22 +14,23 @@ use Rattle.run_model.specs.StableContent.{Prepared}
 use Rattle.run_model.specs.Openings.{Opening}
 use Rattle.local_laws.specs.Owed.{IsOwed, begins, goes_on}
 use Rattle.local_agreement.specs.Outcomes.{AgreesOnVotes}
-use Rattle.layer_contracts.specs.Guardians.{GuardianState, News, kept, stamped}
+use Rattle.layer_contracts.specs.Guardians.{GuardianState, IsNext, News, by_itself, kept, stamped}
 use Rattle.standing_laws.specs.Laws.{is_crash}
 use Rattle.stable_store.specs.Calls.{Rests, View}
 use Rattle.stable_store.specs.Stored.{Stored}
 use Rattle.stored_laws.specs.Stored.{AreStored, has_record, record_of}
 use Rattle.stored_laws.proofs.Following.{nothing_is_stored, store_follows}
 use Rattle.guardian_memory.specs.Memories.{InMemory, IsSound}
-use Rattle.guardian_memory.specs.Plans.{FitsPlan, IsPlanOf}
+use Rattle.guardian_memory.specs.Plans.{FitsPlan, IsPlanOf, Operated}
 use Rattle.guardian_memory.specs.declared.plan.Plan.{Plan}
-use Rattle.guardian.specs.Guardians.{GoesOn, InParts, IsPlannedHere, IsRecordedAt, IsSettled, IsWhole}
-use Rattle.layer_contracts.specs.Messages.{may_fail}
+use Rattle.guardian.specs.Guardians.{GoesOn, InParts, IsPlannedHere, IsRecordedAt, IsSettled, IsWhole, IsWholeOfSome}
+use Rattle.layer_contracts.specs.Messages.{is_operation, may_fail}
 use Rattle.local_agreement.specs.Actions.{is_own}
 use Rattle.layer_contracts.specs.Stores.{IsStoreOf, LeavesStore}
-use Rattle.guardian.proofs.Asked.{crash_event, stamp_alike, unasked}
+use Rattle.guardian.proofs.Asked.{crash_event, operation_event, stamp_alike, unasked}
 use Rattle.layer_contracts.specs.declared.guardian.Fault.{Fault}
-use Rattle.guardian.proofs.Stores.{made_of, refused_of}
+use Rattle.guardian.proofs.Stores.{alone, made_of, refused_of}
+use Rattle.std.specs.declared.alloc.AllocError.{AllocError}
 
 -- ---- a stamp changes nothing
 
@@ -80,10 +81,10 @@ module _ {S : Type 0} (seen : S → View) where
   }
 
   -- an event is kept, and the store holds what it asks for
-  pub whole_next : (m : InMemory) (s : S) (p : Plan) (n : ℕ) (g : GuardianState) (news : News) (m' : InMemory) (s' : S) → IsWhole seen (record { memory = m; store = s }) g
-      → IsPlanOf p m g news → IsSound m' (kept g (stamped n news)) → LeavesStore g news (seen s) (seen s') None
+  pub whole_next : (m : InMemory) (s : S) (n : ℕ) (g : GuardianState) (news : News) (m' : InMemory) (s' : S) → IsWhole seen (record { memory = m; store = s }) g
+      → IsNext g news → IsSound m' (kept g (stamped n news)) → LeavesStore g news (seen s) (seen s') None
       → IsWhole seen (record { memory = m'; store = s' }) (kept g (stamped n news))
-  whole_next m s p n g news m' s' whole of sound leaves =
+  whole_next m s n g news m' s' whole next sound leaves =
       let c = stamped n news in
       let now = made_of g news (seen s) (seen s') whole.store leaves in record {
         memory = sound;
@@ -92,9 +93,9 @@ module _ {S : Type 0} (seen : S → View) where
           rests = now.rests;
           stored =
               subst (λ held. AreStored g.opening g.number (c ∷ g.past) held) (stamp_alike g.opening g.number n news g.past (seen s).content ∙ sym now.content)
-              (store_follows g.opening g.number c g.past (seen s).content whole.store.stored (votes_at g.number n news of.agrees.votes));
+              (store_follows g.opening g.number c g.past (seen s).content whole.store.stored (votes_at g.number n news next.agrees.votes));
         };
-        run = (whole.run.0, whole.run.1, goes_on c (owed_at g.opening g.number n news g.past news.event.step of.owed) of.agrees.given whole.run.2);
+        run = (whole.run.0, whole.run.1, goes_on c (owed_at g.opening g.number n news g.past news.event.step next.owed) next.agrees.given whole.run.2);
       }
 
   -- the memory alone changed, and stands where it stood
@@ -110,6 +111,18 @@ module _ {S : Type 0} (seen : S → View) where
     store = refused_of g h news (seen s) (seen s') fault whole.store leaves;
     run = whole.run;
   }
+
+  -- an operation was made, or lacked memory; it asks the store for nothing
+  pub whole_operated : (m m' : InMemory) (s : S) (e : Event) (g : GuardianState) (r : Result ℕ AllocError) → is_operation e.step ≡ true
+      → IsWhole seen (record { memory = m; store = s }) g → IsNext g (by_itself e) → IfOk r (λ n. Operated m e n m')
+      → OnErr r ((h : GuardianState) → IsSound m h → IsSound m' h) → IsWholeOfSome seen (record { memory = m'; store = s })
+  whole_operated m m' s e g (Ok n) is whole next made same =
+      let news = by_itself e in (
+        _,
+        whole_next m s n g news m' s whole next (made g whole.memory next)
+            (alone g news (seen s) None (operation_event g.number (stamped 0 news) (seen s).content is)),
+      )
+  whole_operated m m' s e g (Err refused) is whole next made same = (_, whole_same m m' s g whole (same g whole.memory))
 
   -- a crash finds in the store what the history says, since it asks it for nothing
   pub recorded_at : (g : GuardianState) (news : News) (e : Event) (s s' : S) → IsStoreOf g (seen s) → news.event ≡ e → LeavesStore g news (seen s) (seen s') None
@@ -130,6 +143,11 @@ module _ {S : Type 0} (seen : S → View) where
       → IsPlannedHere seen (record { memory = m; store = s }) p e
   planned_within p e is planned = subst (λ k. IsPlannedHere seen k p e) (sym is) planned
 
+-- in some state the event may come next
+pub next_within : {S : Type 0} {m : InMemory} {s : S} {now : InParts S} {news : News} (seen : S → View) → record { memory = m; store = s } ≡ now
+    → (g : GuardianState) × IsWhole seen now g × IsNext g news → (g : GuardianState) × IsWhole seen (record { memory = m; store = s }) g × IsNext g news
+next_within {S} {m} {s} {now} {news} seen is next = subst (λ k. (g : GuardianState) × IsWhole seen k g × IsNext g news) (sym is) next
+
 module _ {S : Type 0} {m : InMemory} {s : S} {now : InParts S} (is : record { memory = m; store = s } ≡ now) where
   pub fits_within : (p : Plan) → FitsPlan p now.memory → FitsPlan p m
   fits_within p fits = subst (λ (k : InParts S). FitsPlan p k.memory) (sym is) fits
@@ -146,7 +164,7 @@ module _ {m : InMemory} {g h : GuardianState} (s : IsSound m g) (t : IsSound m h
 pub down_of : {m : InMemory} {p : Plan} {g : GuardianState} {news : News} (k : ℕ) (e : Event) → IsSound m g → IsPlanOf p m g news → news.event ≡ e → e.step ≡ Crash k
     → step_crashes e.step m.number ≡ true
 down_of {m} {p} {g} {news} k e s of same is =
-    ap (λ x. step_crashes x m.number) is ∙ ap (λ n. k == n) s.own ∙ subst (λ x. is_own g.number x ≡ true) (ap (λ x. x.step) same ∙ is) of.agrees.actions.own
+    ap (λ x. step_crashes x m.number) is ∙ ap (λ n. k == n) s.own ∙ subst (λ x. is_own g.number x ≡ true) (ap (λ x. x.step) same ∙ is) of.next.agrees.actions.own
 
 -- and no other step is a crash
 pub up_of : (g : ℕ) (step : Step) → ((k : ℕ) → step ≡ Crash k → ⊥) → step_crashes step g ≡ false

@@ -2,7 +2,8 @@
 ghost use Rattle.std.specs.Prelude.{◌≡◌, true, IsErrOf, IsFalse};
 ghost use Rattle.layer_contracts.specs.Stores.{CountsFailure, LeavesStore, fault_in};
 ghost use Rattle.layer_contracts.specs.declared.guardian.Fault.TheVariants.{Stable};
-ghost use Rattle.guardian_memory.specs.Plans.{FitsPlan, FollowsWhere, IsPlannedWhere, is_operation};
+ghost use Rattle.layer_contracts.specs.Messages.{is_operation};
+ghost use Rattle.guardian_memory.specs.Plans.{FitsPlan, FollowsWhere, IsPlannedWhere};
 ghost use Rattle.guardian.specs.Guardians.{IsPlannedHere, IsRecordedAt, WhereverPlanned};
 ghost use Rattle.guardian.specs.Writes.{fault_by};
 
@@ -94,15 +95,16 @@ impl<S: Stable> layer_contracts::Guardian for Guardian<S> {
         self.memory.plan(event, message)
     }
 
+    fn operate<F: FnOnce() -> u64>(&mut self, event: &Event, stamp: F) -> Result<u64, AllocError> {
+        self.memory.operate(event, stamp)
+    }
+
     fn carry_out<F: FnOnce() -> u64>(
         &mut self,
         plan: Plan,
         event: &Event,
         stamp: F,
     ) -> Result<u64, Fault> {
-        if let Step::Op(_, _, _) = &event.step {
-            return Ok(self.memory.operate(plan, event, stamp)?);
-        }
         if let Err(fault) = write(self.alloc, &self.memory, &mut self.store, &plan, event) {
             return Err(fault);
         }

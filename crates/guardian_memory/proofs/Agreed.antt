@@ -17,12 +17,12 @@ use Rattle.local_agreement.specs.Crashes.{LeavesSafe}
 use Rattle.local_agreement.specs.Laws.{Agrees}
 use Rattle.local_agreement.specs.Outcomes.{AgreesOnOutcomes, are_brought, are_none}
 use Rattle.layer_contracts.specs.Guardians.{News, stamped}
+use Rattle.layer_contracts.specs.Messages.{is_operation}
 use Rattle.standing_laws.specs.Laws.{is_crash}
 use Rattle.guardian_objects.specs.Objects.{AreObjects, Indexed}
 use Rattle.guardian_objects.specs.Outcomes.{ArePlanned, AreSound, IsHearing, OnlyTells, is_granted, outcomes_of}
 use Rattle.guardian_objects.specs.declared.outcomes.Telling.{Telling}
 use Rattle.guardian_objects.proofs.Turning.{sound_pairs}
-use Rattle.guardian_memory.specs.Plans.{is_operation}
 
 -- ---- a stamp changes nothing
 

@@ -1,11 +1,13 @@
 -- What each part becomes once a planned event is kept.
-use Rattle.std.proofs.Common.{Bool, List, [], ap, false, subst, sym, true, ℕ, ◌+◌, ◌∙◌, ◌∷◌, ◌≡◌}
+use Rattle.std.proofs.Common.{Bool, List, [], ap, false, refl, subst, sym, true, ℕ, ◌+◌, ◌∙◌, ◌∷◌, ◌≡◌}
 use Rattle.std.specs.List.{AllByRecursion}
 use Rattle.std.specs.Prelude.{is_some}
 use Rattle.action_names.specs.Names.{Name, is_proper_ancestor, is_top}
 use Rattle.atomic_types.specs.Operations as op
+use Rattle.atomic_types.specs.declared.op.Reply.{Reply}
 use Rattle.atomic_types.specs.declared.part.Part.{Part}
 use Rattle.run_model.specs.declared.answer.Answer.{Answer}
+use Rattle.run_model.specs.declared.answer.Answer.TheVariants.{Granted}
 use Rattle.run_model.specs.declared.history.Event.{Event}
 use Rattle.run_model.specs.declared.step.ObjectId.{ObjectId}
 use Rattle.run_model.specs.declared.step.Step.{Step}
@@ -18,7 +20,8 @@ use Rattle.run_model.specs.StableContent.{parts_by}
 use Rattle.run_model.specs.Visibility.{votes_yes}
 use Rattle.local_agreement.specs.Crashes.{LeavesSafe}
 use Rattle.local_agreement.specs.Judging.{is_on_object}
-use Rattle.layer_contracts.specs.Guardians.{GuardianState, News, stamped}
+use Rattle.layer_contracts.specs.Guardians.{GuardianState, IsNext, News, by_itself, stamped}
+use Rattle.layer_contracts.specs.Messages.{is_operation}
 use Rattle.object_laws.specs.OnceTold.{HoldsItsTree}
 use Rattle.tellings.specs.Hearing.{AreTold, IsHeard}
 use Rattle.tellings.specs.Hearing as hearing
@@ -30,16 +33,18 @@ use Rattle.roster.specs.Entries.{IsEntry}
 use Rattle.roster.specs.Rosters.{IsRoster}
 use Rattle.roster.specs.Tables.{table}
 use Rattle.roster.specs.declared.roster.Roster.{Roster}
-use Rattle.guardian_objects.specs.Objects.{AreObjects, Indexed, IsAsked, Operates, object_of}
+use Rattle.guardian_objects.specs.Objects.{AreObjects, Indexed, Operates}
+use Rattle.guardian_objects.specs.Objects as indexed
 use Rattle.guardian_objects.specs.Outcomes.{ArePlanned, IsHearing, OnlyTells, outcomes_of}
 use Rattle.guardian_memory.specs.Accepting.{AreRecorded}
 use Rattle.guardian_memory.specs.Memories.{InMemory, IsOfSome, IsSound}
-use Rattle.guardian_memory.specs.Plans.{FitsPlan, Follows, FollowsWhere, IsPlanOf, IsPlanned, IsPlannedWhere, is_operation}
+use Rattle.guardian_memory.specs.Plans.{FitsPlan, Follows, FollowsWhere, IsPlanOf, IsPlanned, IsPlannedWhere, Operated}
 use Rattle.guardian_memory.specs.declared.plan.Plan.{Plan}
 use Rattle.guardian_memory.proofs.Agreed.{actions_at, crash_brings, crash_is, may_tell, only_tells, operation_brings, operation_stays, vote_only_tells}
 use Rattle.guardian_memory.proofs.Held.{holds_tree, no_parts, vote_brings}
-use Rattle.guardian_memory.proofs.Operated.{IsGranted, granted_facts, may_ask, on_object, operated_next}
+use Rattle.guardian_memory.proofs.Operated.{IsGranted, answer_is, granted_facts, may_grant, on_object, operated_next}
 use Rattle.guardian_memory.proofs.Sound.{inside, not_counted, one_counted, sound_next, tops_next}
+use Rattle.guardian_memory.proofs.Untouched.{after_operation}
 
 -- ---- as the fields say
 
@@ -51,6 +56,12 @@ planned_within {m} {old} {p} {e} is planned = subst (λ k. IsPlanned p k e) (sym
 
 pub plan_within : {m old : InMemory} {p : Plan} {g : GuardianState} {news : News} → m ≡ old → IsPlanOf p old g news → IsPlanOf p m g news
 plan_within {m} {old} {p} {g} {news} is of = subst (λ k. IsPlanOf p k g news) (sym is) of
+
+pub next_within : {m old : InMemory} {news : News} → m ≡ old → (g : GuardianState) × IsSound old g × IsNext g news → (g : GuardianState) × IsSound m g × IsNext g news
+next_within {m} {old} {news} is next = subst (λ k. (g : GuardianState) × IsSound k g × IsNext g news) (sym is) next
+
+pub operated_within : {m old new : InMemory} {e : Event} {n : ℕ} → m ≡ old → Operated m e n new → Operated old e n new
+operated_within {m} {old} {new} {e} {n} is operated = subst (λ k. Operated k e n new) is operated
 
 -- and where more holds of the state
 pub planned_where : {m old : InMemory} {p : Plan} {e : Event} (holds : GuardianState → Type 0) → m ≡ old → IsPlannedWhere holds p old e → IsPlannedWhere holds p m e
@@ -78,33 +89,39 @@ pub crashes_is : {m : InMemory} {g : GuardianState} (news : News) (e : Event) (t
     → step_crashes news.event.step g.number ≡ t
 crashes_is news e t s same is = (λ i. step_crashes (same i).step (sym s.own i)) ∙ is
 
-module _ {m : InMemory} {p : Plan} {g : GuardianState} {news : News} (s : IsSound m g) (of : IsPlanOf p m g news) where
-  -- the outcomes may be told
-  pub may_hear : IsHearing m.objects p.planned.tellings.items
-  may_hear = may_tell g.opening g.past (stamped 0 news) m.objects p.planned.tellings.items s.shown of.planned of.outcomes of.agrees.outcomes
-
+module _ {m : InMemory} {g : GuardianState} {news : News} (s : IsSound m g) (next : IsNext g news) where
   -- an operation is on an object that its guardian has
   pub placed : is_on_object g.opening news.event.step ≡ true
-  placed = on_object g.opening g.number (stamped 0 news) g.past of.owed of.accepted
+  placed = on_object g.opening g.number (stamped 0 news) g.past next.owed next.accepted
 
   -- ---- an operation
 
   module _ (a : Name) (x : ObjectId) (wanted : op.Op) (step : news.event.step ≡ Op a x wanted) where
     granted : IsGranted g.opening g.number (stamped 0 news) g.past a x wanted
-    granted = granted_facts g.opening g.number (stamped 0 news) g.past a x wanted step of.owed of.accepted
+    granted = granted_facts g.opening g.number (stamped 0 news) g.past a x wanted step next.owed next.accepted
 
-    pub may_operate : IsAsked m.objects x.number wanted
-    may_operate = may_ask g.opening g.number g.past x m.objects granted.own s.owner wanted s.shown granted.low granted.high granted.known
+    reply : (r : Reply) × (news.event.answer ≡ Granted r)
+    reply = answer_is (first_content g.opening x) (standing_here g.past x) a wanted news.event.answer granted.answered next.accepted
 
-    pub operated : (n : ℕ) (answer : Answer) (new : Indexed)
-        → ((opening : Opening) (here : List LocalEvent) → AreObjects opening here m.objects
-        → answer ≡ operated_by (first_content opening (object_of m.objects x.number)) (standing_here here (object_of m.objects x.number)) a wanted)
-        → Operates a x.number wanted answer m.objects new → AreObjects g.opening (stamped n news ∷ g.past) new
-    operated n answer new says operates =
-        operated_next g.opening g.number g.past x m.objects granted.own s.owner (stamped n news) a wanted new answer step
-        granted.answered of.accepted (says g.opening g.past s.shown) operates s.shown
-        (operation_brings news.event.step news.carried.outcomes (ap (λ t. is_operation t) step) of.agrees.outcomes.brought) of.agrees.given
-        of.agrees.outcomes.operation
+    -- so the event is that operation, granted
+    pub event_is : (r : Reply) × (news.event ≡ record { step = Op a x wanted; answer = Granted r })
+    event_is = (reply.0, λ i. record { step = step i; answer = reply.1 i })
+
+    pub may_operate : indexed.IsGranted m.objects x.number a wanted
+    may_operate =
+        may_grant g.opening g.number g.past x m.objects granted.own s.owner a wanted reply.0 s.shown granted.low granted.high granted.known
+        (sym reply.1 ∙ granted.answered)
+
+    pub operated : (n : ℕ) (new : Indexed) → ((r : Reply) → Operates a x.number wanted r m.objects new) → AreObjects g.opening (stamped n news ∷ g.past) new
+    operated n new operates =
+        operated_next g.opening g.number g.past x m.objects granted.own s.owner (stamped n news) a wanted new reply.0 step reply.1 (operates reply.0) s.shown
+        (operation_brings news.event.step news.carried.outcomes (ap (λ t. is_operation t) step) next.agrees.outcomes.brought) next.agrees.given
+        next.agrees.outcomes.operation
+
+module _ {m : InMemory} {p : Plan} {g : GuardianState} {news : News} (s : IsSound m g) (of : IsPlanOf p m g news) where
+  -- the outcomes may be told
+  pub may_hear : IsHearing m.objects p.planned.tellings.items
+  may_hear = may_tell g.opening g.past (stamped 0 news) m.objects p.planned.tellings.items s.shown of.planned of.outcomes of.next.agrees.outcomes
 
   -- ---- a yes vote
 
@@ -114,8 +131,8 @@ module _ {m : InMemory} {p : Plan} {g : GuardianState} {news : News} (s : IsSoun
   tree_held top vote x own =
       let same : x.guardian ≡ g.number = own ∙ s.owner in
       holds_tree g.opening x (stamped 0 news) g.past top
-      (subst (λ h. votes_yes news.event.step news.event.answer h top ≡ true) (sym same) vote) (of.agrees.votes.top top vote) (of.agrees.safe x same)
-      (subst (λ h. TopsAt h) (sym same) (tops_next g.opening g.number (stamped 0 news) g.past of.agrees.votes.top s.tops))
+      (subst (λ h. votes_yes news.event.step news.event.answer h top ≡ true) (sym same) vote) (of.next.agrees.votes.top top vote) (of.next.agrees.safe x same)
+      (subst (λ h. TopsAt h) (sym same) (tops_next g.opening g.number (stamped 0 news) g.past of.next.agrees.votes.top s.tops))
     where
       TopsAt : ℕ → Type 0
       TopsAt h = (t : Name) → is_some (prepared_here g.opening h t (stamped 0 news ∷ g.past)) ≡ true → is_top t ≡ true
@@ -137,10 +154,10 @@ module _ {m : InMemory} {p : Plan} {g : GuardianState} {news : News} (s : IsSoun
       → parts ≡ parts_by opening m.objects.guardian (λ x. standing_here (c ∷ here) x) top)
       → parts ≡ parts_by g.opening g.number (λ x. standing_here (stamped 0 news ∷ g.past) x) top
   parts_are top told parts outcomes says never same vote makes =
-      makes g.opening g.past c s.shown (of.agrees.votes.top top vote) (sym (says g.number g.past s.tellings) ∙ never) (sym same)
-      (vote_only_tells g.opening g.number 0 top news g.past of.agrees vote)
+      makes g.opening g.past c s.shown (of.next.agrees.votes.top top vote) (sym (says g.number g.past s.tellings) ∙ never) (sym same)
+      (vote_only_tells g.opening g.number 0 top news g.past of.next.agrees vote)
       (subst (λ l. AllByRecursion (λ x. is_proper_ancestor top x.0 ≡ true) l) (sym same)
-      (vote_brings g.number top news.event.step news.event.answer c.carried.outcomes vote of.agrees.outcomes.brought))
+      (vote_brings g.number top news.event.step news.event.answer c.carried.outcomes vote of.next.agrees.outcomes.brought))
       (tree_held top vote)
       ∙ ap (λ h. parts_by g.opening h (λ x. standing_here (c ∷ g.past) x) top) s.owner
     where
@@ -186,12 +203,12 @@ module _ (m : InMemory) (p : Plan) (e : Event) (n : ℕ) (told : Tellings) (list
   kept_follows other quiet hears counts learns own enters tells owner g news s of same =
       let c = stamped n news in
       let up = crashes_is news e false s same quiet in
-      sound_next n news s of.agrees (placed s of)
+      sound_next n news s of.next.agrees (placed s of.next)
       (hears g.number g.past c s.tellings of.heard up) (not_counted g.number c g.past _ _ up counts s.lives)
       (learns g.past c s.knowledge (ap (λ h. step_crashes news.event.step h) s.knower ∙ up) of.lesson) own
-      (enters g.number g.past c s.actions (actions_at g.number n news g.past of.agrees.actions) of.entry)
+      (enters g.number g.past c s.actions (actions_at g.number n news g.past of.next.agrees.actions) of.entry)
       (tells g.opening g.past c s.shown of.planned of.outcomes
-      (only_tells g.opening g.number n news g.past of.agrees (ap (λ k. is_operation k.step) same ∙ other) up)) owner
+      (only_tells g.opening g.number n news g.past of.next.agrees (ap (λ k. is_operation k.step) same ∙ other) up)) owner
 
   pub crash_follows : (stays : Name → Bool)
       → step_crashes e.step m.number ≡ true
@@ -207,26 +224,23 @@ module _ (m : InMemory) (p : Plan) (e : Event) (n : ℕ) (told : Tellings) (list
       let c = stamped n news in
       let step = news.event.step in
       let down = crashes_is news e true s same crash in
-      sound_next n news s of.agrees (placed s of)
+      sound_next n news s of.next.agrees (placed s of.next)
       (hears g.number g.past c s.tellings of.heard down) (one_counted g.number c g.past _ _ down counts s.lives)
       (forgets g.past c s.knowledge (ap (λ h. step_crashes step h) s.knower ∙ down)) own
-      (enters g.number g.past c s.actions (actions_at g.number n news g.past of.agrees.actions) of.entry)
+      (enters g.number g.past c s.actions (actions_at g.number n news g.past of.next.agrees.actions) of.entry)
       (crashed g.opening g.past c s.shown (λ x own. s.safe x (own ∙ s.owner)) (survivors_are s stays recorded)
       (crash_is m.objects.guardian step (ap (λ h. step_crashes step h) s.owner ∙ down))
-      (crash_brings g.number step news.carried.outcomes down of.agrees.outcomes.brought) of.agrees.given) owner
+      (crash_brings g.number step news.carried.outcomes down of.next.agrees.outcomes.brought) of.next.agrees.given) owner
 
-  pub operated_follows : (a : Name) (x : ObjectId) (wanted : op.Op) (answer : Answer) → e.step ≡ Op a x wanted
-      → HearsBy false p m.told told → hearing.crashes_of told ≡ hearing.crashes_of m.told
-      → LearnsBy p m.lists lists → guardian_of lists ≡ guardian_of m.lists → EntersBy p m.roster roster
-      → ((opening : Opening) (here : List LocalEvent) → AreObjects opening here m.objects
-      → answer ≡ operated_by (first_content opening (object_of m.objects x.number)) (standing_here here (object_of m.objects x.number)) a wanted)
-      → Operates a x.number wanted answer m.objects objects → objects.guardian ≡ m.objects.guardian → Follows p m e n after
-  operated_follows a x wanted answer step hears counts learns own enters says operates owner g news s of same =
-      let c = stamped n news in
-      let asked : news.event.step ≡ Op a x wanted = ap (λ k. k.step) same ∙ step in
-      let stays = λ (h : ℕ). operation_stays h news.event.step (ap (λ t. is_operation t) asked) in
-      sound_next n news s of.agrees (placed s of)
-      (hears g.number g.past c s.tellings of.heard (stays g.number)) (not_counted g.number c g.past _ _ (stays g.number) counts s.lives)
-      (learns g.past c s.knowledge (stays (guardian_of m.lists)) of.lesson) own
-      (enters g.number g.past c s.actions (actions_at g.number n news g.past of.agrees.actions) of.entry)
-      (operated s of a x wanted asked n answer objects says operates) owner
+-- an operation leaves all but its object as it was
+pub operated_follows : (m : InMemory) (e : Event) (n : ℕ) (objects : Indexed) (a : Name) (x : ObjectId) (wanted : op.Op) → e.step ≡ Op a x wanted
+    → ((r : Reply) → Operates a x.number wanted r m.objects objects) → objects.guardian ≡ m.objects.guardian → Operated m e n (record m { objects = objects })
+operated_follows m e n objects a x wanted step operates owner g s next =
+    let news = by_itself e in
+    let is = event_is s next a x wanted step in
+    let untouched = after_operation n a x wanted is.0 g.number g.past e is.1 in
+    sound_next n news s next.agrees (placed s next)
+    (untouched.told m.told s.tellings) (s.lives ∙ untouched.crashes)
+    (untouched.lists m.lists s.knowledge) refl
+    (untouched.roster (table m.roster) s.actions)
+    (operated s next a x wanted step n objects operates) owner

@@ -2,6 +2,7 @@ pub mod Agreed
 pub mod Operated
 pub mod Held
 pub mod Sound
+pub mod Untouched
 pub mod Planned
 pub mod Readings
 pub mod Kept

@@ -25,9 +25,10 @@ use Rattle.run_model.specs.Versions.{under}
 use Rattle.run_laws.proofs.Accepted.{NoneApplies, none_applies}
 use Rattle.local_laws.specs.Owed.{IsOwed}
 use Rattle.local_agreement.specs.Judging.{is_on_object}
+use Rattle.layer_contracts.specs.Messages.{is_operation}
 use Rattle.local_agreement.specs.Outcomes.{is_by_told}
 use Rattle.guardian_objects.specs.Objects.{AreObjects, Indexed, IsAsked, Operates, object_of}
-use Rattle.guardian_memory.specs.Plans.{is_operation}
+use Rattle.guardian_objects.specs.Objects as indexed
 
 -- where the step is no operation, it is not one of an action
 pub no_operation : (step : Step) → is_operation step ≡ true → ((a : Name) (x : ObjectId) (wanted : op.Op) → step ≡ Op a x wanted → ⊥) → ⊥
@@ -100,6 +101,10 @@ granted_is : (c : Content) (kept : List Performed) (wanted : op.Op) (names : Lis
 granted_is c kept wanted [] answer is accepted = (_, is)
 granted_is c kept wanted (b ∷ names) answer is accepted = absurd (false≢true (sym (ap is_accepted is) ∙ accepted))
 
+pub answer_is : (c : Content) (s : Standing) (a : Name) (wanted : op.Op) (answer : Answer) → answer ≡ operated_by c s a wanted → is_accepted answer ≡ true
+    → (r : Reply) × (answer ≡ Granted r)
+answer_is c s a wanted answer is accepted = granted_is (under c (λ b. true) s.restored) s.kept wanted (blockers_by s a wanted) answer is accepted
+
 -- ---- the object under its number
 
 module _ (opening : Opening) (g : ℕ) (here : List LocalEvent) (x : ObjectId) (old : Indexed) (own : x.guardian ≡ g) (owner : old.guardian ≡ g) where
@@ -126,15 +131,26 @@ module _ (opening : Opening) (g : ℕ) (here : List LocalEvent) (x : ObjectId) (
       → answer ≡ operated_by (first_content opening x) (standing_here here x) a wanted
   answered_of a wanted answer is = is ∙ ap (λ y. operated_by (first_content opening y) (standing_here here y) a wanted) own_is
 
-  -- once the operation was granted, as the event says, the objects are those of the history with the event
-  pub operated_next : (c : LocalEvent) (a : Name) (wanted : op.Op) (new : Indexed) (answer : Answer) → c.event.step ≡ Op a x wanted
-      → c.event.answer ≡ operated_by (first_content opening x) (standing_here here x) a wanted → is_accepted c.event.answer ≡ true
-      → answer ≡ operated_by (first_content opening (object_of old x.number)) (standing_here here (object_of old x.number)) a wanted
-      → Operates a x.number wanted answer old new → AreObjects opening here old → c.carried.outcomes ≡ [] → c.carried.restored ≡ []
+  -- what the history grants, the objects may keep
+  pub may_grant : (a : Name) (wanted : op.Op) (r : Reply) → AreObjects opening here old → 1 ≤ x.number → x.number ≤ length (objects_at opening.setup x.guardian)
+      → knows (first_content opening x) wanted ≡ true → Granted r ≡ operated_by (first_content opening x) (standing_here here x) a wanted
+      → indexed.IsGranted old x.number a wanted
+  unfolding may_ask
+  may_grant a wanted r are low high known granted =
+      let asked = may_ask wanted are low high known in (
+        opening,
+        here,
+        r,
+        are,
+        asked.3,
+        asked.4,
+        asked.5,
+        granted ∙ ap (λ y. operated_by (first_content opening y) (standing_here here y) a wanted) (sym own_is),
+      )
+
+  -- once the operation is kept, as the event says, the objects are those of the history with the event
+  pub operated_next : (c : LocalEvent) (a : Name) (wanted : op.Op) (new : Indexed) (r : Reply) → c.event.step ≡ Op a x wanted → c.event.answer ≡ Granted r
+      → Operates a x.number wanted r old new → AreObjects opening here old → c.carried.outcomes ≡ [] → c.carried.restored ≡ []
       → is_by_told c.event.step here ≡ false → AreObjects opening (c ∷ here) new
-  operated_next c a wanted new answer step answered accepted says operates are outcomes restored untold =
-      let s : Standing = standing_here here x in
-      let r = granted_is (under (first_content opening x) (λ b. true) s.restored) s.kept wanted (blockers_by s a wanted) c.event.answer answered accepted in
-      let same : answer ≡ Granted r.0 = answered_of a wanted answer says ∙ sym answered ∙ r.1 in
-      let stands : Operates a x.number wanted (Granted r.0) old new = subst (λ w. Operates a x.number wanted w old new) same operates in
-      stands opening here c are (step ∙ ap (λ y. Op a y wanted) (sym own_is)) r.1 outcomes restored (sym (ap (λ t. is_by_told t here) step) ∙ untold)
+  operated_next c a wanted new r step answer operates are outcomes restored untold =
+      operates opening here c are (step ∙ ap (λ y. Op a y wanted) (sym own_is)) answer outcomes restored (sym (ap (λ t. is_by_told t here) step) ∙ untold)

@@ -1,10 +1,11 @@
 //! Keeping an event.
 ghost use Rattle.std.specs.Prelude.{◌≡◌, IfOk, OnErr, IsFalse, IsTrue};
 ghost use Rattle.run_model.specs.Actions.{step_crashes};
-ghost use Rattle.layer_contracts.specs.Guardians.{GuardianState};
+ghost use Rattle.layer_contracts.specs.Guardians.{GuardianState, IsNext, by_itself};
+ghost use Rattle.layer_contracts.specs.Messages.{is_operation};
 ghost use Rattle.guardian_memory.specs.Accepting.{AreRecorded};
 ghost use Rattle.guardian_memory.specs.Memories.{IsSound};
-ghost use Rattle.guardian_memory.specs.Plans.{FitsPlan, Follows, FollowsWhere, IsPlanned, IsPlannedWhere, is_operation};
+ghost use Rattle.guardian_memory.specs.Plans.{FitsPlan, Follows, FollowsWhere, IsPlanned, IsPlannedWhere, Operated};
 
 use crate::memory::Memory;
 use crate::plan::Plan;
@@ -50,35 +51,24 @@ impl Memory {
         self.objects.crash(survivors);
     }
 
-    /// Makes an operation on its object, and follows it with the stamp that is drawn then. Fails only for want of memory.
+    /// Makes an operation on its object, and follows it with the stamp that is drawn then. No message comes with it, and nothing changes beside the
+    /// object. Fails only for want of memory.
     pub fn operate<F: FnOnce() -> u64>(
         &mut self,
-        plan: Plan,
         event: &Event,
         stamp: F,
     ) -> Result<u64, AllocError>
         requires stamp { F.pre stamp }
-        requires fits { FitsPlan plan self.old }
-        requires planned { IsPlanned plan self.old event.now }
         requires operation { IsTrue (is_operation event.now.step) }
+        requires next { (s : GuardianState) × IsSound self.old s × IsNext s (by_itself event.now) }
         ensures ok { IfOk result (λ n. F.post stamp n) }
-        ensures kept { IfOk result (λ n. Follows plan self.old event.now n self.new) }
+        ensures kept { IfOk result (λ n. Operated self.old event.now n self.new) }
         ensures err { OnErr result ((s : GuardianState) → IsSound self.old s → IsSound self.new s) }
     {
-        let Plan {
-            heard,
-            lesson,
-            entry,
-            ..
-        } = plan;
         let Step::Op(action, object, operation) = &event.step else {
             unreachable!();
         };
-        self.objects.op(action, object.number, operation)?;
-        let drawn = stamp();
-        self.told.hear(heard);
-        self.lists.learn(lesson);
-        self.roster.enter(entry);
-        Ok(drawn)
+        self.objects.grant(action, object.number, operation)?;
+        Ok(stamp())
     }
 }

@@ -6,12 +6,8 @@ use Rattle.std.proofs.lemmas.Option.{none-some, same_Some}
 use Rattle.action_names.specs.Names.{Name, is_ancestor, same_name}
 use Rattle.atomic_types.specs.Operations.{Op}
 use Rattle.atomic_types.specs.declared.op.Reply.{Reply}
-use Rattle.run_model.specs.Answers.{operated_by}
-use Rattle.run_model.specs.declared.answer.Answer.{Answer}
-use Rattle.run_model.specs.declared.answer.Answer.TheVariants.{Began, Done, Granted, Refused, VoteNo, VoteYes, Waits}
 use Rattle.run_model.specs.LocalReadings.{LocalEvent, standing_here}
 use Rattle.run_model.specs.Openings.{Opening, first_content}
-use Rattle.object_model.specs.Objects.{Seen}
 use Rattle.object_laws.specs.Changes.{with_operation}
 use Rattle.object_laws.specs.Laws.{is_concerned}
 use Rattle.object_laws.specs.Shown.{Shows}
@@ -21,10 +17,10 @@ use Rattle.standing_laws.proofs.Events.{operation_is_kept_is, outcomes_are_heard
 use Rattle.standing_laws.proofs.Turns.{heard_in_turn_is}
 use Rattle.standing_laws.specs.Heard.{heard}
 use Rattle.atomic_object.specs.Kept.{Kept, seen}
-use Rattle.atomic_object.specs.Ways as ways
+use Rattle.atomic_object.proofs.Granting.{let_through}
 use Rattle.held_objects.specs.Held.{has_number, has_object, objects_at}
-use Rattle.guardian_objects.specs.Objects.{AreObjects, Indexed, IsAsked, Keeps, Operates, object_at, object_of}
-use Rattle.guardian_objects.specs.Operations.{IsAnsweredBy, IsShownAt, StaysHeld}
+use Rattle.guardian_objects.specs.Objects.{AreObjects, Indexed, IsAsked, IsGranted, Keeps, Operates, object_at, object_of}
+use Rattle.guardian_objects.specs.Operations.{IsFreeAt, IsGrantedBy, IsShownAt, StaysHeld}
 use Rattle.guardian_objects.specs.Turns.{AreChanged}
 use Rattle.guardian_objects.proofs.Holding.{granted_holds}
 use Rattle.guardian_objects.proofs.Places.{object_there, same_guardian, stand_after}
@@ -41,15 +37,14 @@ asked_at o n wanted asked =
       (knows_shown_law (first_content asked.0 (object_of o n)) (standing_here asked.1 (object_of o n)) (seen f.0) wanted shows).0 ∙ asked.5,
     )
 
--- the answer of the object is that of the history
-pub answered_here : (o : Indexed) (n : ℕ) (a : Name) (wanted : Op) (answer : Answer) → IsAsked o n wanted
-    → ((k : Kept) → object_at o.objects n ≡ Some k → (opening : Opening) (here : List LocalEvent)
-    → Shows (first_content opening (object_of o n)) (standing_here here (object_of o n)) (seen k)
-    → answer ≡ operated_by (first_content opening (object_of o n)) (standing_here here (object_of o n)) a wanted)
-    → (opening : Opening) (here : List LocalEvent) → AreObjects opening here o
-    → answer ≡ operated_by (first_content opening (object_of o n)) (standing_here here (object_of o n)) a wanted
-answered_here o n a wanted answer asked says opening here are =
-    let f = object_there o.objects n asked.3 asked.4 in says f.0 f.1 opening here (are.shown n f.0 f.1)
+-- where it is granted, the locks let it through
+pub free_at : (o : Indexed) (n : ℕ) (a : Name) (wanted : Op) → IsGranted o n a wanted → IsFreeAt o.objects n a wanted
+free_at o n a wanted granted =
+    let f = object_there o.objects n granted.4 granted.5 in
+    let c = first_content granted.0 (object_of o n) in
+    let s = standing_here granted.1 (object_of o n) in
+    let shows = granted.3.shown n f.0 f.1 in
+    (f.0, f.1, (c, s, shows), (knows_shown_law c s (seen f.0) wanted shows).0 ∙ granted.6, let_through c s (seen f.0) a wanted granted.2 shows granted.7)
 
 -- what is said on an error
 pub on_err : {X Y P : Type 0} (r : Result X Y) → P → OnErr r P
@@ -77,41 +72,12 @@ same_keeps old new guardian objects held opening here are =
     same_stands old new guardian (ap (λ l. length l) objects)
     (λ n k l before after. ap (λ x. seen x) (sym (same_Some k l (sym before ∙ sym (ap (λ os. object_at os n) objects) ∙ after)))) held opening (λ x. standing_here here x) are
 
--- an answer that is no grant leaves the object
-pub unchanged : (a : Name) (wanted : Op) (answer : Answer) (ns : List ℕ) (old new : List Kept) → ((r : Reply) → answer ≡ Granted r → ⊥)
-    → AreChanged (IsAnsweredBy a wanted answer) ns old new → AreChanged StaysHeld ns old new
-unchanged a wanted answer ns old new other changed = record {
-  count = changed.count;
-  changed = λ n k l h before after. of answer other (seen k) (seen l) (changed.changed n k l h before after);
-  others = changed.others;
-}
-  where
-    of : (answer : Answer) → ((r : Reply) → answer ≡ Granted r → ⊥) → (k l : Seen) → ways.Operates a wanted answer k l → l ≡ k
-    of (Granted r) other k l h = absurd (other r refl)
-    of (Began names) other k l h = h
-    of (Waits names) other k l h = h
-    of VoteYes other k l h = h
-    of VoteNo other k l h = h
-    of (Done m) other k l h = h
-    of (Refused why) other k l h = h
-
--- so the objects are those of the same history
-pub operates_else : (a : Name) (n : ℕ) (wanted : Op) (answer : Answer) (old new : Indexed) → ((r : Reply) → answer ≡ Granted r → ⊥) → Keeps old new
-    → Operates a n wanted answer old new
-operates_else a n wanted (Granted r) old new other keeps = absurd (other r refl)
-operates_else a n wanted (Began names) old new other keeps = keeps
-operates_else a n wanted (Waits names) old new other keeps = keeps
-operates_else a n wanted VoteYes old new other keeps = keeps
-operates_else a n wanted VoteNo old new other keeps = keeps
-operates_else a n wanted (Done m) old new other keeps = keeps
-operates_else a n wanted (Refused why) old new other keeps = keeps
-
 -- ---- what is granted
 
 module _ (a : Name) (n : ℕ) (wanted : Op) (r : Reply) (old new : Indexed) (own : is_ancestor a a ≡ true) (low : 1 ≤ n) (high : n ≤ length old.objects)
-    (guardian : new.guardian ≡ old.guardian) (changed : AreChanged (IsAnsweredBy a wanted (Granted r)) (n ∷ []) old.objects new.objects)
+    (guardian : new.guardian ≡ old.guardian) (changed : AreChanged (IsGrantedBy a wanted r) (n ∷ []) old.objects new.objects)
     (held : (b : Name) (m : ℕ) → has_object new.held b m ≡ ((same_name a b && (n == m)) || has_object old.held b m)) where
-  pub granted_stands : Operates a n wanted (Granted r) old new
+  pub granted_stands : Operates a n wanted r old new
   granted_stands opening here c are step answer outcomes restored untold =
       same_guardian opening (λ x. standing_here (c ∷ here) x) old.guardian new guardian
       (stand_after opening (λ x. standing_here here x) (λ x. standing_here (c ∷ here) x) old new.objects new.held are changed.count

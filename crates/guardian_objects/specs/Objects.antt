@@ -3,10 +3,11 @@ use Rattle.std.specs.Prelude.{◌≡◌, ◌≤◌, ℕ, zero, suc, Bool, true, 
 use Rattle.action_names.specs.Names.{Name}
 use Rattle.atomic_types.specs.Objects.{knows}
 use Rattle.atomic_types.specs.Operations.{Op}
-use Rattle.run_model.specs.declared.answer.Answer.{Answer}
+use Rattle.atomic_types.specs.declared.op.Reply.{Reply}
 use Rattle.run_model.specs.declared.answer.Answer.TheVariants.{Granted}
 use Rattle.run_model.specs.declared.step.ObjectId.{ObjectId}
 use Rattle.run_model.specs.declared.step.Step.TheVariants as steps
+use Rattle.run_model.specs.Answers.{operated_by}
 use Rattle.run_model.specs.Keeping.{Standing}
 use Rattle.run_model.specs.LocalReadings.{LocalEvent, standing_here, told_committed_here}
 use Rattle.run_model.specs.Openings.{Opening, first_content, objects_at}
@@ -69,11 +70,16 @@ IsAsked o n wanted =
     (opening : Opening) × (here : List LocalEvent) × AreObjects opening here o
     × (1 ≤ n) × (n ≤ length o.objects) × IsTrue (knows (first_content opening (object_of o n)) wanted)
 
--- Once an operation of an action was answered that was not told committed: one that was granted is kept, as the event says, and after any other
--- answer the objects are those of the same history.
-abbrev pub Operates : Name → ℕ → Op → Answer → Indexed → Indexed → Type 0
-Operates a n wanted (Granted r) old new =
+-- the objects are those of some history, by which the operation on the one of this number is granted
+abbrev pub IsGranted : Indexed → ℕ → Name → Op → Type 0
+IsGranted o n a wanted =
+    (opening : Opening) × (here : List LocalEvent) × (r : Reply) × AreObjects opening here o
+    × (1 ≤ n) × (n ≤ length o.objects) × IsTrue (knows (first_content opening (object_of o n)) wanted)
+    × (Granted r ≡ operated_by (first_content opening (object_of o n)) (standing_here here (object_of o n)) a wanted)
+
+-- Once an operation was granted to an action that was not told committed: it is kept, as the event says.
+abbrev pub Operates : Name → ℕ → Op → Reply → Indexed → Indexed → Type 0
+Operates a n wanted r old new =
     (opening : Opening) (here : List LocalEvent) (c : LocalEvent) → AreObjects opening here old
     → c.event.step ≡ steps.Op a (object_of old n) wanted → c.event.answer ≡ Granted r → c.carried.outcomes ≡ [] → c.carried.restored ≡ []
     → IsFalse (told_committed_here a here) → AreObjects opening (c ∷ here) new
-Operates a n wanted _ old new = Keeps old new

@@ -1,7 +1,8 @@
 //! The objects, and what is asked of them.
-ghost use Rattle.std.specs.Prelude.{◌≡◌, ◌≤◌, ◌&&◌, ◌∷◌, [], ℕ, List, length, nat_le, true, Some, IsTrue, IsFalse, IfOk, IfSome, IsNone, OnErr};
+ghost use Rattle.std.specs.Prelude.{◌≡◌, ◌≤◌, ◌&&◌, ◌∷◌, [], ℕ, List, length, nat_le, true, Some, IsTrue, IsFalse, IfOk, IfSome, IsNone, OnErr, OnOk};
 ghost use Rattle.std.specs.Option.{option_copied};
 ghost use Rattle.action_names.specs.Names.{Name, is_ancestor};
+ghost use Rattle.atomic_types.specs.declared.op.Reply.{Reply};
 ghost use Rattle.values.specs.declared.content.Content.{Content};
 ghost use Rattle.run_model.specs.Keeping.{Standing};
 ghost use Rattle.run_model.specs.Answers.{is_concerned_by, operated_by};
@@ -12,8 +13,8 @@ ghost use Rattle.local_agreement.specs.Judging.{holds_nothing};
 ghost use Rattle.held_objects.specs.Held.{has_number, IsRising};
 ghost use Rattle.object_laws.specs.Shown.{Shows};
 ghost use Rattle.atomic_object.specs.Kept.{Kept, seen};
-ghost use Rattle.guardian_objects.specs.Objects.{AreObjects, IsAsked, Keeps, Operates, object_at, object_of};
-ghost use Rattle.guardian_objects.specs.Operations.{IsAnsweredBy, IsShownAt, StaysHeld};
+ghost use Rattle.guardian_objects.specs.Objects.{AreObjects, IsAsked, IsGranted, Keeps, Operates, object_at, object_of};
+ghost use Rattle.guardian_objects.specs.Operations.{IsFreeAt, IsGrantedBy, StaysHeld};
 ghost use Rattle.guardian_objects.specs.Restored.{AreGivenBack};
 ghost use Rattle.guardian_objects.specs.Turns.{AreChanged};
 
@@ -140,40 +141,32 @@ impl Objects {
         self.objects[number as usize - 1].answer(action, op)
     }
 
-    /// Makes the operation on the object of this number, where it need not wait. After any answer but `Granted`, and after want of memory, the
-    /// objects are those of the same history.
-    pub fn op(&mut self, action: &Name, number: u32, op: &Op) -> Result<Answer, AllocError>
-        requires { IsAsked self.old number op.now }
-        ensures answers { IfOk result (λ answer. (opening : Opening) (here : List LocalEvent) → AreObjects opening here self.old
-            → answer ≡ operated_by (first_content opening (object_of self.old number)) (standing_here here (object_of self.old number)) action.now op.now) }
-        ensures operates { IfOk result (λ answer. Operates action.now number op.now answer self.old self.new) }
+    /// Keeps an operation on the object of this number that is granted; what it is answered, `answer` says. After want of memory the objects are those
+    /// of the same history.
+    pub fn grant(&mut self, action: &Name, number: u32, op: &Op) -> Result<(), AllocError>
+        requires { IsGranted self.old number action.now op.now }
+        ensures operates { OnOk result ((r : Reply) → Operates action.now number op.now r self.old self.new) }
         ensures guardian { self.new.guardian ≡ self.old.guardian }
         ensures count { length self.new.objects ≡ length self.old.objects }
         ensures err { OnErr result (Keeps self.old self.new) }
     {
         self.held.make_room(action)?;
-        match self.op_at(action, number, op)? {
-            Answer::Granted(reply) => {
-                self.held.insert(action, number);
-                Ok(Answer::Granted(reply))
-            }
-            answer => Ok(answer),
-        }
+        self.grant_at(action, number, op)?;
+        self.held.insert(action, number);
+        Ok(())
     }
 
-    // Makes the operation on the object of this number, with nothing noted.
-    fn op_at(&mut self, action: &Name, number: u32, op: &Op) -> Result<Answer, AllocError>
-        requires { IsShownAt self.old.objects number op.now }
+    // Keeps the operation at the object of this number, with nothing noted.
+    fn grant_at(&mut self, action: &Name, number: u32, op: &Op) -> Result<(), AllocError>
+        requires { IsFreeAt self.old.objects number action.now op.now }
         ensures named { IsTrue (is_ancestor action.now action.now) }
-        ensures answers { IfOk result (λ answer. (k : Kept) (c : Content) (s : Standing) → object_at self.old.objects number ≡ Some k → Shows c s (seen k)
-            → answer ≡ operated_by c s action.now op.now) }
-        ensures answered { IfOk result (λ answer. AreChanged (IsAnsweredBy action.now op.now answer) (number ∷ []) self.old.objects self.new.objects) }
+        ensures granted { OnOk result ((r : Reply) → AreChanged (IsGrantedBy action.now op.now r) (number ∷ []) self.old.objects self.new.objects) }
         ensures guardian { self.new.guardian ≡ self.old.guardian }
         ensures held { self.new.held ≡ self.old.held }
         ensures err { OnErr result (AreChanged StaysHeld (number ∷ []) self.old.objects self.new.objects) }
     {
         // The action has numbers, as the depth of its name says.
         let _depth = action.depth();
-        self.objects[number as usize - 1].op(action, op)
+        self.objects[number as usize - 1].grant(action, op)
     }
 }

@@ -11,7 +11,7 @@ use Rattle.local_laws.specs.Owed.{IsOwed}
 use Rattle.local_agreement.specs.Judging.{accepts, accepts_actions, accepts_outcomes, accepts_safety, accepts_vote, are_on_objects, hands_on, is_nothing_restored}
 use Rattle.local_agreement.specs.Laws.{Agrees}
 use Rattle.layer_contracts.specs.Guardians.{GuardianState, stamped}
-use Rattle.lent_steps.specs.Keeping.{is_operation}
+use Rattle.layer_contracts.specs.Messages.{is_operation}
 use Rattle.guardian_rows.specs.Owing.{Owes}
 
 -- the count of a telling that brings an outcome, which is no abort of what was told committed

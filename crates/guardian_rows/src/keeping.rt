@@ -5,7 +5,7 @@ ghost use Rattle.run_model.specs.LocalReadings.{beside, least_of, outcome_in, sa
 ghost use Rattle.run_model.specs.Runs.{is_accepted};
 ghost use Rattle.layer_contracts.specs.Guardians.{GuardianState, News};
 ghost use Rattle.layer_contracts.specs.Messages.{carried_of, may_fail, sent_of};
-ghost use Rattle.lent_steps.specs.Keeping.{is_operation};
+ghost use Rattle.layer_contracts.specs.Messages.{is_operation};
 ghost use Rattle.guardian_rows.specs.Owing.{MayKeep, Owes};
 
 use crate::alone::Unkept;
@@ -78,6 +78,7 @@ fn accepted<G: Judging>(
     requires other { IsFalse (is_operation step.now) }
     requires owes { (s : GuardianState) → G.stands guardian.now s → Owes s (carried_of message.now) step.now answer.now }
     ensures accepted { IfOk result (λ event. IsTrue (is_accepted event.answer)) }
+    ensures other { IfOk result (λ event. IsFalse (is_operation event.step)) }
     ensures kept { IfOk result (λ event. (s : GuardianState) × G.stands guardian.now s
         × MayKeep s (record { event = event; carried = carried_of message.now })) }
 {
@@ -100,6 +101,7 @@ fn carry_out<G: Guardian>(
     event: &Event,
     stamp: u64,
 ) -> Result<(), Fault>
+    requires other { IsFalse (is_operation event.now.step) }
     requires fits { G.fits plan guardian.old }
     requires planned { (s : GuardianState) × (news : News) × G.stands guardian.old s × G.is_for plan guardian.old s news × (news.event ≡ event.now) }
 {

@@ -6,8 +6,11 @@ use Rattle.atomic_types.specs.Operations.{Op}
 use Rattle.run_model.specs.declared.history.Event.{Event}
 use Rattle.run_model.specs.declared.step.ObjectId.{ObjectId}
 use Rattle.run_model.specs.Openings.{Opening, first_content, objects_at}
-use Rattle.run_model.specs.LocalReadings.{Carried, LocalEvent, count_here, told_committed_here}
+use Rattle.run_model.specs.LocalReadings.{Carried, LocalEvent, count_here, nothing_carried, told_committed_here}
+use Rattle.run_model.specs.Runs.{is_accepted}
 use Rattle.run_model.specs.LocalHistories.{RegistryEvent, Stamped, history_after_lent}
+use Rattle.local_laws.specs.Owed.{IsOwed}
+use Rattle.local_agreement.specs.Laws.{Agrees}
 
 -- a guardian as contracts see it
 pub record GuardianState : Type 0 where
@@ -22,6 +25,16 @@ pub record News : Type 0 where
 
 abbrev pub stamped : ℕ → News → LocalEvent
 stamped n news = record { stamp = n; event = news.event; carried = news.carried }
+
+-- an event that comes without a message
+abbrev pub by_itself : Event → News
+by_itself e = record { event = e; carried = nothing_carried }
+
+-- The news may come next: it is accepted, brings what the guardian's own history asks of it, and agrees with that history.
+pub record IsNext (g : GuardianState) (news : News) : Type 0 where
+  pub accepted : IsTrue (is_accepted news.event.answer)
+  pub owed : IsOwed g.opening g.number (stamped 0 news) g.past news.event.step
+  pub agrees : Agrees g.opening g.number (stamped 0 news) g.past
 
 -- How many objects a telling of this outcome changes. What was told committed holds nothing any more, and is never told aborted; so such a telling
 -- counts as one that changes nothing.

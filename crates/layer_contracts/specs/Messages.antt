@@ -23,6 +23,11 @@ carried_of m = record {
   restored = [];
 }
 
+-- an operation on an object
+abbrev pub is_operation : Step → Bool
+is_operation (Op a x wanted) = true
+is_operation _ = false
+
 -- What the event changes at g may fail though there is room, where g is among those that the event names: it may write to g's store, or it is an
 -- operation, which an object makes by one call that takes memory.
 abbrev pub may_fail : Step → ℕ → Bool

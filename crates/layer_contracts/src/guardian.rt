@@ -8,9 +8,9 @@ ghost use Rattle.run_model.specs.Runs.{is_accepted};
 ghost use Rattle.run_model.specs.LocalReadings.{events_here, is_at_home, is_orphan_here, standing_here, told_here, unsent_aborts, unsent_counts};
 ghost use Rattle.local_laws.specs.Owed.{IsOwed};
 ghost use Rattle.local_agreement.specs.Laws.{Agrees};
-ghost use Rattle.layer_contracts.specs.Guardians.{GuardianState, MayAsk, News, count_told, kept, stamped};
+ghost use Rattle.layer_contracts.specs.Guardians.{GuardianState, IsNext, MayAsk, News, by_itself, count_told, kept, stamped};
 ghost use Rattle.stable_store.specs.Calls.{View};
-ghost use Rattle.layer_contracts.specs.Messages.{carried_of, may_fail};
+ghost use Rattle.layer_contracts.specs.Messages.{carried_of, is_operation, may_fail};
 ghost use Rattle.layer_contracts.specs.Stores.{CountsFailure, IsStoreOf, LeavesStore, Stays, fault_in};
 ghost use Rattle.layer_contracts.specs.declared.guardian.Fault.TheVariants.{Stable};
 
@@ -137,9 +137,21 @@ pub trait Guardian: Drop {
             → Agrees s.opening s.number (stamped 0 (record { event = event.now; carried = carried_of message })) s.past
             → is_for plan self.new s (record { event = event.now; carried = carried_of message })) };
 
-    /// Carries a plan out that is for this event in some state in which the guardian stands, where the event writes to the stable store or is an
-    /// operation: first the store's call, or the object's, then the stamp, then the changes, which cannot fail. `Stable` comes of the store, which has
-    /// counted one failure more and is as it was.
+    /// Makes an operation, with which no message comes: first the object's call, then the stamp, after which nothing can fail. Nothing changes beside
+    /// the object, so there is nothing to plan. Fails only for want of memory.
+    fn operate<F: FnOnce() -> u64>(&mut self, event: &Event, stamp: F) -> Result<u64, AllocError>
+        requires stamp { F.pre stamp }
+        requires operation { IsTrue (is_operation event.now.step) }
+        requires next { (s : GuardianState) × stands self.old s × IsNext s (by_itself event.now) }
+        ensures ok { IfOk result (λ n. F.post stamp n) }
+        ensures kept { IfOk result (λ n. (s : GuardianState) → stands self.old s → IsNext s (by_itself event.now)
+            → stands self.new (kept s (stamped n (by_itself event.now)))) }
+        ensures err { OnErr result ((s : GuardianState) → stands self.old s → stands self.new s) }
+        ensures store { Stays (stored self.old) (stored self.new) };
+
+    /// Carries a plan out that is for this event in some state in which the guardian stands, where the event writes to the stable store: first the
+    /// store's call, then the stamp, then the changes, which cannot fail. `Stable` comes of the store, which has counted one failure more and is as it
+    /// was. An operation goes through `operate`.
     fn carry_out<F: FnOnce() -> u64>(
         &mut self,
         plan: Self::Plan,
@@ -147,6 +159,7 @@ pub trait Guardian: Drop {
         stamp: F,
     ) -> Result<u64, Fault>
         requires stamp { F.pre stamp }
+        requires other { IsFalse (is_operation event.now.step) }
         requires fits { fits plan self.old }
         requires planned { (s : GuardianState) × (news : News) × stands self.old s × is_for plan self.old s news × (news.event ≡ event.now) }
         ensures ok { IfOk result (λ n. F.post stamp n) }

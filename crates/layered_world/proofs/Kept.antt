@@ -20,7 +20,8 @@ use Rattle.stable_store.specs.Calls.{View}
 use Rattle.layer_contracts.specs.Stores.{IsStoreOf}
 use Rattle.layer_contracts.specs.Guardians.{GuardianState, after_step, lent_two, stamped}
 use Rattle.layer_contracts.specs.Forests.{ForestState}
-use Rattle.lent_steps.specs.Keeping.{AreAnswered, IsDone, StandsStill, is_operation}
+use Rattle.layer_contracts.specs.Messages.{is_operation}
+use Rattle.lent_steps.specs.Keeping.{AreAnswered, IsDone, StandsStill}
 use Rattle.layered_world.specs.Standings.{AreSame, IsKeptAt, IsReady, IsWholeAt, IsWorld, Names, forest_of, standing}
 use Rattle.layered_world.proofs.Agreed.{agrees_lent}
 use Rattle.layered_world.proofs.Inside.{IsInside, named_inside}

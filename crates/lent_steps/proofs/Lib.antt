@@ -6,4 +6,5 @@ pub mod Left
 pub mod Own
 pub mod Agreed
 pub mod Stores
+pub mod Operating
 pub mod Senders

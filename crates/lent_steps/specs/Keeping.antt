@@ -13,15 +13,11 @@ use Rattle.stable_store.specs.Calls.{View}
 use Rattle.stored_laws.specs.Stored.{after_event, asks_store}
 use Rattle.layer_contracts.specs.Guardians.{GuardianState, News, after_step, kept, lent_two, stamped}
 use Rattle.layer_contracts.specs.Forests.{ForestState, RegistryNews, begun_at, stamped_there}
-use Rattle.layer_contracts.specs.Messages.{carried_of}
+use Rattle.layer_contracts.specs.Messages.{is_operation, carried_of}
 use Rattle.layer_contracts.specs.Stores.{Leaves}
 use Rattle.layer_contracts.specs.declared.guardian.Fault.{Fault}
 use Rattle.layer_contracts.specs.declared.message.Message.{Message}
-use Rattle.lent_steps.specs.Lending.{AreLent}
-
-abbrev pub is_operation : Step → Bool
-is_operation (Op a x wanted) = true
-is_operation _ = false
+use Rattle.lent_steps.specs.Lending.{AreLent, IsOneOf}
 
 -- the event agrees with the histories of those lent that it names
 abbrev pub AgreesTwo : ForestState → GuardianState → GuardianState → Event → Type 0
@@ -45,6 +41,14 @@ news_to f a b e x = record { event = e; carried = carried_lent f.opening e x.num
 -- what is lent, with the event that it answers so
 pub record AreAnswered (stands : ForestState → Type 0) (one other : GuardianState → Type 0) (f : ForestState) (a b : GuardianState) (e : Event) : Type 0 where
   pub lent : AreLent stands one other f a b
+  pub answered : IsAnswered f a b e
+
+-- the guardian x is one of those that are lent, in the forest's opening, and the event is answered so
+pub record IsLentAt (stands : ForestState → Type 0) (one : GuardianState → Type 0) (f : ForestState) (a b : GuardianState) (e : Event) (x : GuardianState) : Type 0 where
+  pub forest : stands f
+  pub here : one x
+  pub lent : IsOneOf a b x
+  pub opening : x.opening ≡ f.opening
   pub answered : IsAnswered f a b e
 
 -- the event, if it names the guardian x, agrees with its history

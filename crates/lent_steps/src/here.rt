@@ -7,7 +7,8 @@ ghost use Rattle.local_laws.specs.Owed.{IsOwed};
 ghost use Rattle.layer_contracts.specs.Guardians.{GuardianState, kept, stamped};
 ghost use Rattle.layer_contracts.specs.Messages.{carried_of};
 ghost use Rattle.layer_contracts.specs.Stores.{Stays};
-ghost use Rattle.lent_steps.specs.Keeping.{IsOperated, StandsStill, is_operation};
+ghost use Rattle.layer_contracts.specs.Messages.{is_operation};
+ghost use Rattle.lent_steps.specs.Keeping.{IsOperated, StandsStill};
 ghost use Rattle.lent_steps.specs.Lending.{IsSaidHere};
 
 use crate::fault::LockedFault;
@@ -148,8 +149,7 @@ fn keep_operation<G: Judging, F: FnOnce() -> u64>(
     if !guardian.accepts(event, &nothing)? {
         return Err(LockedFault::Disagrees);
     }
-    let plan = guardian.plan(event, nothing)?;
-    guardian.carry_out(plan, event, stamp)?;
+    guardian.operate(event, stamp)?;
     Ok(())
 }
 

@@ -4,16 +4,16 @@ ghost use Rattle.std.specs.List.Sorted.{IsStrictlySortedBy};
 ghost use Rattle.action_names.specs.Names.{name_cmp};
 ghost use Rattle.run_model.specs.Runs.{is_accepted};
 ghost use Rattle.run_model.specs.LocalHistories.{events_there, names_guardian, takes_registry};
-ghost use Rattle.layer_contracts.specs.Guardians.{GuardianState};
+ghost use Rattle.layer_contracts.specs.Guardians.{GuardianState, after_step, lent_two};
 ghost use Rattle.layer_contracts.specs.Stores.{CountsFailure, LeavesStore, Stays, fault_in};
 ghost use Rattle.layer_contracts.specs.declared.guardian.Fault.TheVariants.{Stable};
-ghost use Rattle.layer_contracts.specs.Messages.{may_fail};
+ghost use Rattle.layer_contracts.specs.Messages.{is_operation, may_fail};
 ghost use Rattle.layer_contracts.specs.Forests.{ForestState, entered};
 ghost use Rattle.lent_steps.specs.Lending.{IsOneOf, Lends};
-ghost use Rattle.lent_steps.specs.Keeping.{AreAnswered, Brings, IsAnswered, IsDone, IsInstalled, IsKept, IsPlannedHere, IsPlannedInSome, IsPlannedThere, Plans, StandsStill, StoreLeft, WhereverPlanned};
+ghost use Rattle.lent_steps.specs.Keeping.{AreAnswered, Brings, IsAnswered, IsDone, IsInstalled, IsKept, IsLentAt, IsPlannedHere, IsPlannedInSome, IsPlannedThere, Plans, StandsStill, StoreLeft, WhereverPlanned};
 
 use crate::lent::Lent;
-use crate::names::{home_of_new, named, takes_registry};
+use crate::names::{home_of_new, is_operation, named, takes_registry};
 use layer_contracts::{Fault, Forest, Guardian, Message};
 use run_model::{Event, Step};
 use std::alloc::{AllocError, Global};
@@ -104,6 +104,7 @@ fn carry_out<G: Guardian, F: FnOnce() -> u64>(
     stamp: F,
 ) -> Result<u64, Fault>
     requires stamp { F.pre stamp }
+    requires other { IsFalse (is_operation event.now.step) }
     requires fits { MatchOption plan (Unit {0}) (λ plan. G.fits plan guardian.old) }
     requires planned { MatchOption plan (Unit {0}) (λ plan. IsPlannedHere (G.stands guardian.old) (G.is_for plan guardian.old) event.now) }
     ensures drawn { IfOk result (λ n. F.post stamp n) }
@@ -145,6 +146,31 @@ fn install_there<R: Forest>(forest: &mut R, plan: Option<R::Plan>, event: &Event
     }
 }
 
+/// Keeps an operation at one of the guardians that are lent: with the stamp, if it is that guardian's, and else it draws the stamp alone. No message
+/// comes with an operation, and the forest keeps none. Fails only for want of memory.
+fn operate<R: Forest, G: Guardian, F: FnOnce() -> u64>(
+    forest: &R,
+    guardian: &mut G,
+    event: &Event,
+    stamp: F,
+) -> Result<u64, AllocError>
+    requires stamp { F.pre stamp }
+    requires operation { IsTrue (is_operation event.now.step) }
+    requires answered { (f : ForestState) × (a : GuardianState) × (b : GuardianState) × (x : GuardianState)
+        × IsLentAt (R.stands forest.now) (G.stands guardian.old) f a b event.now x }
+    ensures drawn { IfOk result (λ n. F.post stamp n) }
+    ensures kept { IfOk result (λ n. (f : ForestState) (a b x : GuardianState) → IsLentAt (R.stands forest.now) (G.stands guardian.old) f a b event.now x
+        → G.stands guardian.new (after_step x (n, event.now) f.registry (lent_two a b))) }
+    ensures err { OnErr result (StandsStill (G.stands guardian.old) (G.stands guardian.new)) }
+    ensures store { Stays (G.stored guardian.old) (G.stored guardian.new) }
+{
+    if is_named(forest, &event.step, guardian.number()) {
+        guardian.operate(event, stamp)
+    } else {
+        Ok(stamp())
+    }
+}
+
 /// After an accepted step that was lent two guardians: all of them keep its event as far as it names them. Room is made first; then comes
 /// the one call of a store or of an object, if there is one, then the stamp, then what cannot fail. After an error all are as they were. What is left
 /// is said of all states in which they stood and by which the event was answered, and there are such.
@@ -177,6 +203,12 @@ pub fn keep_two<R: Forest, G: Guardian, F: FnOnce() -> u64>(
     // The stores of both are those of their histories.
     first.number();
     second.number();
+    if is_operation(&event.step) {
+        if is_named(forest, &event.step, first.number()) {
+            return Ok(operate(forest, first, event, stamp)?);
+        }
+        return Ok(operate(forest, second, event, stamp)?);
+    }
     let lent = Lent {
         alloc,
         forest: &*forest,
@@ -227,6 +259,9 @@ pub fn keep_one<R: Forest, G: Guardian, F: FnOnce() -> u64>(
 {
     // Its store is that of its history.
     guardian.number();
+    if is_operation(&event.step) {
+        return Ok(operate(forest, guardian, event, stamp)?);
+    }
     let lent = Lent {
         alloc,
         forest: &*forest,

@@ -4,6 +4,7 @@ ghost use Rattle.run_model.specs.Actions.{home_of, names_begun};
 ghost use Rattle.action_names.specs.Names.{parent_of};
 ghost use Rattle.run_model.specs.LocalHistories.{events_there, home_lent, names_guardian, takes_registry};
 ghost use Rattle.layer_contracts.specs.Forests.{ForestState};
+ghost use Rattle.layer_contracts.specs.Messages.{is_operation};
 
 use action_names::Name;
 use layer_contracts::Forest;
@@ -53,6 +54,13 @@ pub fn parent_path(name: &Name) -> &[u32]
 {
     let numbers = name.components();
     &numbers[..numbers.len() - 1]
+}
+
+/// Whether the step is an operation on an object.
+pub fn is_operation(step: &Step) -> bool
+    ensures { result ≡ is_operation step.now }
+{
+    matches!(step, Step::Op(..))
 }
 
 /// Whether the step reads or changes the forest.

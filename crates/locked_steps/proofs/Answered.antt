@@ -11,7 +11,8 @@ use Rattle.run_model.specs.Runs.{is_accepted}
 use Rattle.layer_contracts.specs.Forests.{ForestState}
 use Rattle.layer_contracts.specs.Guardians.{GuardianState, after_step, lent_two}
 use Rattle.layer_contracts.specs.declared.guardian.Fault.{Fault}
-use Rattle.lent_steps.specs.Keeping.{AgreesTwo, AreAnswered, IsAnswered, IsDone, IsOperated, StandsStill, is_operation}
+use Rattle.layer_contracts.specs.Messages.{is_operation}
+use Rattle.lent_steps.specs.Keeping.{AgreesTwo, AreAnswered, IsAnswered, IsDone, IsOperated, StandsStill}
 use Rattle.lent_steps.specs.Lending.{AreLent}
 use Rattle.lent_steps.specs.declared.fault.LockedFault.{LockedFault}
 use Rattle.locked_steps.specs.Pairs.{AreOf}

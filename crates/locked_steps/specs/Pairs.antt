@@ -4,7 +4,7 @@ use Rattle.run_model.specs.declared.step.Step.{Step}
 use Rattle.run_model.specs.Openings.{Opening}
 use Rattle.layer_contracts.specs.Forests.{ForestState}
 use Rattle.layer_contracts.specs.Guardians.{GuardianState}
-use Rattle.lent_steps.specs.Keeping.{is_operation}
+use Rattle.layer_contracts.specs.Messages.{is_operation}
 
 -- these are two guardians, and the step is no operation
 abbrev pub are_two : GuardianState → GuardianState → Step → Bool

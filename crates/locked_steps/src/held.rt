@@ -8,7 +8,8 @@ ghost use Rattle.run_model.specs.LocalReadings.{operation_here};
 ghost use Rattle.run_model.specs.Runs.{is_accepted};
 ghost use Rattle.layer_contracts.specs.Forests.{ForestState};
 ghost use Rattle.layer_contracts.specs.Guardians.{GuardianState, lent_two};
-ghost use Rattle.lent_steps.specs.Keeping.{AreAnswered, AreSame, IsDone, IsOperated, IsStepped, StandsStill, is_operation};
+ghost use Rattle.layer_contracts.specs.Messages.{is_operation};
+ghost use Rattle.lent_steps.specs.Keeping.{AreAnswered, AreSame, IsDone, IsOperated, IsStepped, StandsStill};
 ghost use Rattle.locked_steps.specs.Pairs.{AreOf, are_two};
 
 use layer_contracts::{Fault, Forest, Guardian, Judging};

@@ -24,7 +24,7 @@ use Rattle.local_laws.proofs.Replying.{others_free}
 use Rattle.local_laws.proofs.Rising.{rising_is}
 use Rattle.local_laws.proofs.Waiting.{blockers_by_locks}
 use Rattle.local_laws.specs.Orderly as orderly
-use Rattle.object_model.specs.Locks.{holds_conflicting}
+use Rattle.object_model.specs.Locks.{holds_conflicting, is_in_the_way}
 use Rattle.object_model.specs.Objects.{Seen}
 use Rattle.object_model.specs.Stacks.{AreAbove, IsNextHolder, RisesByAncestry, is_on_top, is_passed_by, last_version, owners_of, top_of, version_at}
 use Rattle.object_laws.specs.Laws.{AddersOnTop, BlockersShown, KnowsShown, NoneBetween, OwnersAbove}
@@ -240,11 +240,11 @@ any_split p b (l ∷ ls) =
     at true Write r w a = second (p Write) (p Read && r) w (p class.Add && a)
     at true class.Add r w a = third (p class.Add) (p Read && r) (p Write && w) a
 
-pub blockers_shown_law : BlockersShown
-blockers_shown_law c s object a wanted names shows sorted each =
-    rising_same names (blockers_by s a wanted) (rising_from names sorted)
-    (rising_is (filter (λ d. not (is_ancestor d a)) (conflicting_holders s wanted)))
-    (λ b. each b ∙ sym (blockers_by_locks s a b wanted ∙ ap (λ t. t && not (is_ancestor b a)) (conflicts b) ∙ turned (holds_conflicting object.locks (class_of wanted) b) (not (is_ancestor b a))))
+-- an operation waits for just those that are in its way by the locks
+pub in_the_way_shown : (c : Content) (s : Standing) (object : Seen) (a : Name) (wanted : op.Op) → Shows c s object
+    → (b : Name) → has_name (blockers_by s a wanted) b ≡ is_in_the_way object.locks a (class_of wanted) b
+in_the_way_shown c s object a wanted shows b =
+    blockers_by_locks s a b wanted ∙ ap (λ t. t && not (is_ancestor b a)) conflicts ∙ turned (holds_conflicting object.locks (class_of wanted) b) (not (is_ancestor b a))
   where
     turned : (x y : Bool) → (x && y) ≡ (y && x)
     turned true true = refl
@@ -270,10 +270,16 @@ blockers_shown_law c s object a wanted names shows sorted each =
         rest false true u v h = refl
         rest false false u v h = refl
 
-    conflicts : (b : Name) → list_any (λ l. orderly.is_in_the_way wanted b l) (locks_by s) ≡ holds_conflicting object.locks (class_of wanted) b
-    conflicts b =
+    conflicts : list_any (λ l. orderly.is_in_the_way wanted b l) (locks_by s) ≡ holds_conflicting object.locks (class_of wanted) b
+    conflicts =
         any_split (λ k. classes_conflict k (class_of wanted)) b (locks_by s)
         ∙ ap (λ t. (classes_conflict Read (class_of wanted) && t) || ((classes_conflict Write (class_of wanted) && list_any (λ l. is_lock b Write l) (locks_by s)) || (classes_conflict class.Add (class_of wanted) && list_any (λ l. is_lock b class.Add l) (locks_by s)))) (sym (shows.readers b))
         ∙ ap₂ (λ t u. (classes_conflict Read (class_of wanted) && has_name object.locks.readers b) || ((classes_conflict Write (class_of wanted) && t) || (classes_conflict class.Add (class_of wanted) && u))) (sym (shows.writers b)) (sym (shows.adders b))
         ∙ hidden (classes_conflict Read (class_of wanted)) (has_name object.locks.writers b) (has_name object.locks.adders b)
         (classes_conflict Write (class_of wanted)) (classes_conflict class.Add (class_of wanted)) (has_name object.locks.readers b) (λ h. refl)
+
+pub blockers_shown_law : BlockersShown
+blockers_shown_law c s object a wanted names shows sorted each =
+    rising_same names (blockers_by s a wanted) (rising_from names sorted)
+    (rising_is (filter (λ d. not (is_ancestor d a)) (conflicting_holders s wanted)))
+    (λ b. each b ∙ sym (in_the_way_shown c s object a wanted shows b))

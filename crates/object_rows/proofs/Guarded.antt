@@ -5,8 +5,8 @@ use Rattle.std.proofs.lemmas.Bool.{and_from, false≢true}
 use Rattle.std.specs.List.{AllByRecursion, list_all, list_any}
 use Rattle.action_names.specs.Names.{Name, is_proper_ancestor, same_name}
 use Rattle.atomic_types.specs.Operations.{Op}
-use Rattle.run_model.specs.declared.answer.Answer.{Answer}
-use Rattle.run_model.specs.declared.answer.Answer.TheVariants.{Began, Done, Granted, Refused, VoteNo, VoteYes, Waits}
+use Rattle.atomic_types.specs.declared.op.Reply.{Reply}
+use Rattle.run_model.specs.declared.answer.Answer.TheVariants.{Done, Granted}
 use Rattle.run_model.specs.declared.history.Event.{Event}
 use Rattle.run_model.specs.declared.step.Step.{Step}
 use Rattle.run_model.specs.declared.step.Step.TheVariants as steps
@@ -54,23 +54,17 @@ pub told_kept : (lists : OpeningLists) (objects : Indexed) (old new : Tellings)
     → ((g : ℕ) (here : List LocalEvent) → AreTold g here old → AreTold g here new) → AreOfSome lists objects old → AreOfSome lists objects new
 told_kept lists objects old new same h = record { here = h.here; objects = h.objects; told = λ g. same g h.here (h.told g) }
 
--- an operation was answered, of an action that was not told committed
-pub operated_too : (lists : OpeningLists) (old new : Indexed) (told : Tellings) (a : Name) (n : ℕ) (wanted : Op) (answer : Answer)
-    → Operates a n wanted answer old new → ((g : ℕ) (here : List LocalEvent) → AreTold g here told → told_committed_here a here ≡ false)
+-- an operation was granted to an action that was not told committed
+pub operated_too : (lists : OpeningLists) (old new : Indexed) (told : Tellings) (a : Name) (n : ℕ) (wanted : Op) (r : Reply)
+    → Operates a n wanted r old new → ((g : ℕ) (here : List LocalEvent) → AreTold g here told → told_committed_here a here ≡ false)
     → AreOfSome lists old told → AreOfSome lists new told
-operated_too lists old new told a n wanted (Granted r) is untold h =
+operated_too lists old new told a n wanted r is untold h =
     let e : Event = record { step = steps.Op a (object_of old n) wanted; answer = Granted r } in
     let c : LocalEvent = record { stamp = 0; event = e; carried = nothing_carried } in record {
       here = c ∷ h.here;
       objects = is (opening_in lists) h.here c h.objects refl refl refl refl (untold 0 h.here (h.told 0));
       told = λ g. same_told g c h.here told refl refl (h.told g);
     }
-operated_too lists old new told a n wanted (Began bs) is untold h = kept_too lists old new told is h
-operated_too lists old new told a n wanted (Waits bs) is untold h = kept_too lists old new told is h
-operated_too lists old new told a n wanted VoteYes is untold h = kept_too lists old new told is h
-operated_too lists old new told a n wanted VoteNo is untold h = kept_too lists old new told is h
-operated_too lists old new told a n wanted (Done m) is untold h = kept_too lists old new told is h
-operated_too lists old new told a n wanted (Refused why) is untold h = kept_too lists old new told is h
 
 -- ---- which event may bring outcomes
 

@@ -88,7 +88,11 @@ impl Guarding {
         if self.told.is_committed(action) || !self.may_ask(number, op) {
             return Ok(None);
         }
-        Ok(Some(self.objects.op(action, number, op)?))
+        let answer = self.objects.answer(action, number, op)?;
+        if let Answer::Granted(_) = &answer {
+            self.objects.grant(action, number, op)?;
+        }
+        Ok(Some(answer))
     }
 
     /// Tells outcomes that one event may bring: of one action, or of descendants of the action above. Not where an action aborted that was

@@ -5,9 +5,14 @@ use Rattle.guardian.proofs.carrying.keep.Goals as goal
 pub crash-requires-clause-planned : goal.crash-requires-clause-planned
 crash-requires-clause-planned g c =
     let planned = c.requires.planned in
-    let stored = planned.5 (crash_of c.in-Crash.field-0 c.args.event.now.step c.in-Crash.is) in
-    (planned.0, planned.1, planned.2, planned.3, planned.4,
-      λ a. c.recorded_in.ensures a ∙ record_is planned.0.opening planned.0.number planned.0.past (g.S.Stable.seen c.args.store.now).content stored a)
+    let stored = planned.5 (crash_of c.in-Crash.field-0 c.args.event.now.step c.in-Crash.is) in (
+      planned.0,
+      planned.1,
+      planned.2,
+      planned.3,
+      planned.4,
+      λ a. c.recorded_in.ensures a ∙ record_is planned.0.opening planned.0.number planned.0.past (g.S.Stable.seen c.args.store.now).content stored a,
+    )
 
 pub crash-requires-clause-down : goal.crash-requires-clause-down
 crash-requires-clause-down g c =

@@ -25,9 +25,12 @@ reopened-requires-clause-restorable c =
 pub returns : goal.returns
 returns c =
     IfOk-weaker c.reopened.result _ _
-    (λ memory is.
-    (_, is, remembers c.args.setup.now c.args.number c.args.kept.now c.requires.number c.requires.may c.requires.rising c.in_ok-records.records.items
-    c.in_ok-records.ensures.records c.in_ok-records.ensures.listed (arc_value c.in_ok-new.field-0)
-    (subst (λ o. IsOpenedAlone c.args.setup.now c.args.number (held c.args.kept.now) (opening_in o)) (sym c.in_ok-new.ensures.ok)
-    (subst (λ s. IsOpenedAlone s c.args.number (held c.args.kept.now) (opening_in c.in_ok-opening.opening)) c.in_ok-copy.ensures c.in_ok-opening.ensures))))
+    (λ memory is. (
+      _,
+      is,
+      remembers c.args.setup.now c.args.number c.args.kept.now c.requires.number c.requires.may c.requires.rising c.in_ok-records.records.items
+          c.in_ok-records.ensures.records c.in_ok-records.ensures.listed (arc_value c.in_ok-new.field-0)
+          (subst (λ o. IsOpenedAlone c.args.setup.now c.args.number (held c.args.kept.now) (opening_in o)) (sym c.in_ok-new.ensures.ok)
+          (subst (λ s. IsOpenedAlone s c.args.number (held c.args.kept.now) (opening_in c.in_ok-opening.opening)) c.in_ok-copy.ensures c.in_ok-opening.ensures)),
+    ))
     c.reopened.ensures

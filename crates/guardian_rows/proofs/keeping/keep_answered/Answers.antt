@@ -7,6 +7,9 @@ plan-requires-clause-accepted g c = c.in_ok-event.ensures.accepted
 pub plan-requires-clause-rising : goal.plan-requires-clause-rising
 plan-requires-clause-rising g c = c.in_ok-event.ensures.kept.2.agrees.outcomes.once
 
+pub carry_out-requires-clause-other : goal.carry_out-requires-clause-other
+carry_out-requires-clause-other g c = c.in_ok-event.ensures.other
+
 pub carry_out-requires-clause-fits : goal.carry_out-requires-clause-fits
 carry_out-requires-clause-fits g c = c.in_ok-plan.ensures.fits
 

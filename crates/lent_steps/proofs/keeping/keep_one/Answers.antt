@@ -1,4 +1,4 @@
-use Rattle.std.proofs.Common.{None}
+use Rattle.std.proofs.Common.{None, sym, ◌∙◌}
 use Rattle.run_model.specs.declared.history.Event.{Event}
 use Rattle.stable_store.specs.Calls.{View}
 use Rattle.layer_contracts.specs.Guardians.{GuardianState, lent_two}
@@ -6,6 +6,7 @@ use Rattle.layer_contracts.specs.Forests.{ForestState}
 use Rattle.layer_contracts.proofs.Stores.{stays_same}
 use Rattle.lent_steps.specs.Keeping.{Brings, Plans, StoreLeft}
 use Rattle.lent_steps.proofs.Left.{brought_rising, first_lent, first_one, left_at, left_there, planned_here, planned_there}
+use Rattle.lent_steps.proofs.Operating.{forest_stays}
 use Rattle.lent_steps.proofs.Stores.{left_carried, left_early, with_fault}
 use Rattle.lent_steps.proofs.keeping.keep_one.Goals as goal
 
@@ -44,6 +45,17 @@ carry_out-requires-clause-planned g c =
     let stood = c.plan_at.ensures.same x here.lent.first in
     planned_here (g.G.Guardian.stands c.plan_at.new.guardian) (λ plan. g.G.Guardian.is_for plan c.plan_at.new.guardian) f x x x e c.in_ok-here.here stood planned
 
+pub returns-then-is_operation-clause-done : goal.returns-then-is_operation-clause-done
+returns-then-is_operation-clause-done g c = λ f x here.
+    let is = sym c.is_operation.ensures ∙ c.if-is_operation.true in
+    let after = c.in_ok-operate.ensures.kept f x x x
+    (record { forest = here.lent.forest; here = here.lent.first; lent = first_one x x; opening = here.lent.opening.first; answered = here.answered }) in
+    record {
+      forest = forest_stays f x x c.args.event.now here.answered is (g.R.Forest.stands c.args.forest.now) c.in_ok-operate.field-0 here.lent.forest;
+      first = after;
+      second = after;
+    }
+
 pub returns-clause-done : goal.returns-clause-done
 returns-clause-done g c = λ f x here.
     let e : Event = c.args.event.now in
@@ -67,7 +79,7 @@ returns-clause-done g c = λ f x here.
 pub returns-in_err-brought-clause-store : goal.returns-in_err-brought-clause-store
 returns-in_err-brought-clause-store g c = λ f x here.
     let old : View = g.G.Guardian.stored c.args.guardian.now in
-    left_early f x x x c.args.event.now old c.from_residual.result old c.from_residual.ensures.1 (stays_same old)
+    left_early f x x x c.args.event.now old c.from_residual-in_err-brought.result old c.from_residual-in_err-brought.ensures.1 (stays_same old)
     (c.number.ensures.whole x here.lent.first)
 
 pub returns-in_err-there-clause-store : goal.returns-in_err-there-clause-store

@@ -1,11 +1,14 @@
-use Rattle.std.proofs.Common.{None, false, sym, ◌==◌, ◌∙◌, ◌≡◌}
+use Rattle.std.proofs.Common.{None, ap, false, sym, true, ◌==◌, ◌∙◌, ◌≡◌}
 use Rattle.run_model.specs.declared.history.Event.{Event}
+use Rattle.run_model.specs.LocalHistories.{events_there, names_guardian}
 use Rattle.stable_store.specs.Calls.{View}
 use Rattle.layer_contracts.specs.Guardians.{GuardianState, lent_two}
 use Rattle.layer_contracts.specs.Forests.{ForestState}
+use Rattle.layer_contracts.specs.Messages.{is_operation}
 use Rattle.layer_contracts.proofs.Stores.{stays_same, stays_then}
-use Rattle.lent_steps.specs.Keeping.{Brings, Plans, StoreLeft}
+use Rattle.lent_steps.specs.Keeping.{Brings, IsLentAt, Plans, StoreLeft}
 use Rattle.lent_steps.proofs.Left.{brought_rising, differ_as, first_lent, first_one, left_at, left_there, planned_here, planned_there, quiet_here, second_lent, second_one}
+use Rattle.lent_steps.proofs.Operating.{forest_stays, one_named, passed_at}
 use Rattle.lent_steps.proofs.Stores.{left_carried, left_early, left_quiet, quiet_first, quiet_other, with_fault}
 use Rattle.lent_steps.proofs.keeping.keep_two.Goals as goal
 
@@ -146,13 +149,13 @@ install-requires-else-plan_may_fail-clause-quiet g c =
 pub returns-in_err-to_first-clause-first_store : goal.returns-in_err-to_first-clause-first_store
 returns-in_err-to_first-clause-first_store g c = λ f a b here.
     let old : View = g.G.Guardian.stored c.args.first.now in
-    left_early f a b a c.args.event.now old c.from_residual.result old c.from_residual.ensures.1 (stays_same old)
+    left_early f a b a c.args.event.now old c.from_residual-in_err-to_first.result old c.from_residual-in_err-to_first.ensures.1 (stays_same old)
     (c.number.ensures.whole a here.lent.first)
 
 pub returns-in_err-to_first-clause-second_store : goal.returns-in_err-to_first-clause-second_store
 returns-in_err-to_first-clause-second_store g c = λ f a b here.
     let old : View = g.G.Guardian.stored c.args.second.now in
-    left_early f a b b c.args.event.now old c.from_residual.result old c.from_residual.ensures.1 (stays_same old)
+    left_early f a b b c.args.event.now old c.from_residual-in_err-to_first.result old c.from_residual-in_err-to_first.ensures.1 (stays_same old)
     (c.number-2.ensures.whole b here.lent.second)
 
 pub returns-in_err-to_second-clause-first_store : goal.returns-in_err-to_second-clause-first_store
@@ -332,6 +335,56 @@ returns-in_ok-number-2-clause-second_store g c = λ f a b here.
     let new : View = g.G.Guardian.stored c.carry_out-else-plan_may_fail.new.guardian in
     left_carried f a b b e old (g.G.Guardian.stands c.plan_at-2.new.guardian) (λ plan. g.G.Guardian.is_for plan c.plan_at-2.new.guardian) mid new None c.in_ok-other.other stood_also c.plan_at-2.ensures.store other
     c.in_ok-number-2.ensures.store
+
+pub operate-requires-clause-answered : goal.operate-requires-clause-answered
+operate-requires-clause-answered g c =
+    let f : ForestState = c.requires.answered.0 in
+    let a : GuardianState = c.requires.answered.1 in
+    let b : GuardianState = c.requires.answered.2 in
+    let here = c.requires.answered.3 in
+    (f, a, b, a, record { forest = here.lent.forest; here = here.lent.first; lent = first_one a b; opening = here.lent.opening.first; answered = here.answered })
+
+pub returns-then-is_named-clause-done : goal.returns-then-is_named-clause-done
+returns-then-is_named-clause-done g c = λ f a b here.
+    let e : Event = c.args.event.now in
+    let some = c.requires.answered in
+    let apart : (a.number == b.number) ≡ false =
+    differ_as (g.G.Guardian.stands c.args.first.now) (g.G.Guardian.stands c.args.second.now) some.1 some.2 a b c.number.result c.number-2.result
+    c.number.ensures.number c.number-2.ensures.number some.3.lent.first some.3.lent.second here.lent.first here.lent.second some.4 in
+    let is : is_operation e.step ≡ true = sym c.is_operation.ensures ∙ c.if-is_operation.true in
+    let named : names_guardian e.step (events_there f.registry) a.number ≡ true =
+    sym (c.is_named.ensures f here.lent.forest
+    ∙ ap (λ k. names_guardian e.step (events_there f.registry) k) (c.number-then-is_operation.ensures.number a here.lent.first)) ∙ c.if-is_named.true in
+    let beside : IsLentAt (g.R.Forest.stands c.args.forest.now) (g.G.Guardian.stands c.args.second.now) f a b e b =
+    record { forest = here.lent.forest; here = here.lent.second; lent = second_one a b apart; opening = here.lent.opening.second; answered = here.answered } in
+    record {
+      forest = forest_stays f a b e here.answered is (g.R.Forest.stands c.args.forest.now) c.in_ok-operate.field-0 here.lent.forest;
+      first =
+          c.in_ok-operate.ensures.kept f a b a
+          (record { forest = here.lent.forest; here = here.lent.first; lent = first_one a b; opening = here.lent.opening.first; answered = here.answered });
+      second = passed_at beside is c.in_ok-operate.field-0 (one_named e.step (events_there f.registry) a.number b.number is named apart);
+    }
+
+pub returns-then-is_operation-clause-done : goal.returns-then-is_operation-clause-done
+returns-then-is_operation-clause-done g c = λ f a b here.
+    let e : Event = c.args.event.now in
+    let some = c.requires.answered in
+    let apart : (a.number == b.number) ≡ false =
+    differ_as (g.G.Guardian.stands c.args.first.now) (g.G.Guardian.stands c.args.second.now) some.1 some.2 a b c.number.result c.number-2.result
+    c.number.ensures.number c.number-2.ensures.number some.3.lent.first some.3.lent.second here.lent.first here.lent.second some.4 in
+    let is : is_operation e.step ≡ true = sym c.is_operation.ensures ∙ c.if-is_operation.true in
+    let other : names_guardian e.step (events_there f.registry) a.number ≡ false =
+    sym (c.is_named.ensures f here.lent.forest
+    ∙ ap (λ k. names_guardian e.step (events_there f.registry) k) (c.number-then-is_operation.ensures.number a here.lent.first)) ∙ c.if-is_named.false in
+    let beside : IsLentAt (g.R.Forest.stands c.args.forest.now) (g.G.Guardian.stands c.args.first.now) f a b e a =
+    record { forest = here.lent.forest; here = here.lent.first; lent = first_one a b; opening = here.lent.opening.first; answered = here.answered } in
+    record {
+      forest = forest_stays f a b e here.answered is (g.R.Forest.stands c.args.forest.now) c.in_ok-operate-2.field-0 here.lent.forest;
+      first = passed_at beside is c.in_ok-operate-2.field-0 other;
+      second =
+          c.in_ok-operate-2.ensures.kept f a b b
+          (record { forest = here.lent.forest; here = here.lent.second; lent = second_one a b apart; opening = here.lent.opening.second; answered = here.answered });
+    }
 
 pub returns-in_ok-number-clause-done : goal.returns-in_ok-number-clause-done
 returns-in_ok-number-clause-done g c = λ f a b here.

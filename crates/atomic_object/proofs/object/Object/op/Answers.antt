@@ -1,53 +1,29 @@
 use Rattle.std.proofs.Common.{sym, ◌∙◌}
-use Rattle.object_laws.proofs.Standing.{adders_on_top_shown, knows_shown_law, owners_above_shown}
+use Rattle.object_laws.proofs.Standing.{knows_shown_law}
 use Rattle.atomic_object.specs.Kept.{seen}
-use Rattle.atomic_object.proofs.Granting.{answered, nobody, operated_as}
+use Rattle.atomic_object.proofs.Granting.{answered, nobody}
 use Rattle.atomic_object.proofs.object.Object.op.Goals as goal
 
 pub returns-in-Some-clause-answers : goal.returns-in-Some-clause-answers
 returns-in-Some-clause-answers c = rw c.in-Some.is at c.in_ok-names.ensures.waits
 
-pub granted-requires-clause-above : goal.granted-requires-clause-above
-granted-requires-clause-above c = λ changes.
-    let h = c.requires.shown in
-    let now = c.args.self.now in
-    let a = c.args.action.now in
-    let op = c.args.op.now in
-    let free = rw c.in-None.is at c.in_ok-names.ensures.free in
-    owners_above_shown h.0 h.1 (seen now) a op h.2 changes (nobody h.0 h.1 (seen now) a op h.2 free)
-
-pub granted-requires-clause-owned : goal.granted-requires-clause-owned
-granted-requires-clause-owned c = λ adds own.
-    let h = c.requires.shown in
-    let now = c.args.self.now in
-    let a = c.args.action.now in
-    let op = c.args.op.now in
-    let free = rw c.in-None.is at c.in_ok-names.ensures.free in
-    adders_on_top_shown h.0 h.1 (seen now) a op h.2 adds (nobody h.0 h.1 (seen now) a op h.2 free) own
-
-pub granted-requires-clause-known : goal.granted-requires-clause-known
-granted-requires-clause-known c =
+pub reply-requires : goal.reply-requires
+reply-requires c =
     let h = c.requires.shown in
     let k = knows_shown_law h.0 h.1 (seen c.args.self.now) c.args.op.now h.2 in
     k.1 ∙ sym k.0 ∙ c.requires.known
 
-pub granted-requires-clause-rising : goal.granted-requires-clause-rising
-granted-requires-clause-rising c = c.requires.shown.2.names_rise
+pub grant-requires-clause-free : goal.grant-requires-clause-free
+grant-requires-clause-free c = rw c.in-None.is at c.in_ok-names.ensures.free
 
-pub returns-in_ok-granted-in-None-clause-answers : goal.returns-in_ok-granted-in-None-clause-answers
-returns-in_ok-granted-in-None-clause-answers c = λ d s shows.
+pub returns-in_ok-grant-in-None-clause-answers : goal.returns-in_ok-grant-in-None-clause-answers
+returns-in_ok-grant-in-None-clause-answers c = λ d s shows.
     let now = c.args.self.now in
     let a = c.args.action.now in
     let op = c.args.op.now in
     let free = rw c.in-None.is at c.in_ok-names.ensures.free in
     let known = sym (knows_shown_law d s (seen now) op shows).0 ∙ c.requires.known in
-    answered d s (seen now) a op c.in_ok-granted-in-None.field-0 shows known (nobody d s (seen now) a op shows free) c.in_ok-granted-in-None.ensures.replies
+    answered d s (seen now) a op c.in_ok-reply-in-None.reply shows known (nobody d s (seen now) a op shows free) c.in_ok-reply-in-None.ensures
 
-pub returns-in_ok-granted-in-None-clause-operates : goal.returns-in_ok-granted-in-None-clause-operates
-returns-in_ok-granted-in-None-clause-operates c = λ d s o shows e f untold.
-    let now = c.args.self.now in
-    let a = c.args.action.now in
-    let op = c.args.op.now in
-    let free = rw c.in-None.is at c.in_ok-names.ensures.free in
-    let known = sym (knows_shown_law d s (seen now) op shows).0 ∙ c.requires.known in
-    operated_as d s (seen now) (seen c.granted.new.self) o a op shows e f c.requires.named untold known (nobody d s (seen now) a op shows free) c.in_ok-granted-in-None.ensures.ok
+pub returns-in_ok-grant-in-None-clause-operates : goal.returns-in_ok-grant-in-None-clause-operates
+returns-in_ok-grant-in-None-clause-operates c = c.in_ok-grant-in-None.ensures.operates c.in_ok-reply-in-None.reply

@@ -1,26 +1,15 @@
-use Rattle.std.proofs.Common.{Err, None, Ok, Result, Some, ap, is_ok, subst, ℕ, ◌∙◌}
+use Rattle.std.proofs.Common.{Err, None, Ok, Result, Some, ap, is_ok, subst, ℕ}
 use Rattle.std.proofs.lemmas.Bool.{true≢false}
-use Rattle.layer_contracts.specs.Guardians.{stamped}
 use Rattle.layer_contracts.specs.Stores.{CountsFailure, LeavesStore}
 use Rattle.layer_contracts.specs.declared.guardian.Fault.{Fault}
-use Rattle.guardian_memory.specs.Plans.{is_operation}
-use Rattle.guardian.proofs.Asked.{operation_event}
-use Rattle.guardian.proofs.Stores.{alone, made_of}
-use Rattle.guardian.proofs.Whole.{fits_within, inside, plan_within, planned_within, recorded_at, whole_next, whole_same, whole_still}
+use Rattle.guardian.proofs.Stores.{made_of}
+use Rattle.guardian.proofs.Whole.{fits_within, inside, plan_within, planned_within, recorded_at, whole_next, whole_still}
 use Rattle.guardian.proofs.carrying.GuardianGuardian.carry_out.Goals as goal
 
 -- an answer without its stamp
 abbrev as_written : Result ℕ Fault → Result (Unit {0}) Fault
 as_written (Ok n) = Ok tt
 as_written (Err fault) = Err fault
-
-pub operate-requires-clause-fits : goal.operate-requires-clause-fits
-operate-requires-clause-fits g c = fits_within c.self.view_is c.args.plan c.requires.fits
-
-pub operate-requires-clause-planned : goal.operate-requires-clause-planned
-operate-requires-clause-planned g c =
-    let planned = planned_within g.S.Stable.seen c.args.plan c.args.event.now c.self.view_is c.requires.planned in
-    (planned.0, planned.1, planned.2.memory, planned.3, planned.4)
 
 pub write-requires : goal.write-requires
 write-requires g c = planned_within g.S.Stable.seen c.args.plan c.args.event.now c.self.view_is c.requires.planned
@@ -30,34 +19,23 @@ keep-requires-clause-fits g c = fits_within c.self.view_is c.args.plan c.require
 
 pub keep-requires-clause-planned : goal.keep-requires-clause-planned
 keep-requires-clause-planned g c =
-    let planned = planned_within g.S.Stable.seen c.args.plan c.args.event.now c.self.view_is c.requires.planned in
-    (planned.0, planned.1, planned.2.memory, planned.3, planned.4,
+    let planned = planned_within g.S.Stable.seen c.args.plan c.args.event.now c.self.view_is c.requires.planned in (
+      planned.0,
+      planned.1,
+      planned.2.memory,
+      planned.3,
+      planned.4,
       recorded_at g.S.Stable.seen planned.0 planned.1 c.args.event.now c.self.inside.store c.write.new.store planned.2.store planned.4
-      (c.in_default-write.ensures.leaves planned.0 planned.1 planned.2 planned.3 planned.4))
+          (c.in_default.ensures.leaves planned.0 planned.1 planned.2 planned.3 planned.4),
+    )
 
 pub invariant_of-self : goal.invariant_of-self
 invariant_of-self g c =
-    let whole = c.self.invariant.1 in
-    (_, whole_same g.S.Stable.seen c.self.inside.memory c.operate.new.self c.self.inside.store c.self.invariant.0 whole
-      (c.in_err-operate.ensures.err c.self.invariant.0 whole.memory))
-
-pub invariant_of-self-in-Op : goal.invariant_of-self-in-Op
-invariant_of-self-in-Op g c =
-    let m = c.self.inside.memory in
-    let s = c.self.inside.store in
-    let seen = g.S.Stable.seen in
-    let planned = planned_within seen c.args.plan c.args.event.now c.self.view_is c.requires.planned in
-    let news = planned.1 in
-    (_, whole_next seen m s c.args.plan c.in_ok-operate.field-0 planned.0 news c.operate.new.self s planned.2 planned.3
-      (c.in_ok-operate.ensures.kept planned.0 news planned.2.memory planned.3 planned.4)
-      (alone planned.0 news (seen s) None
-      (operation_event planned.0.number (stamped 0 news) (seen s).content (ap (λ e. is_operation e.step) planned.4 ∙ ap is_operation c.in-Op.is))))
-
-pub invariant_of-self-in-Err : goal.invariant_of-self-in-Err
-invariant_of-self-in-Err g c =
-    let planned = planned_within g.S.Stable.seen c.args.plan c.args.event.now c.self.view_is c.requires.planned in
-    (_, whole_still g.S.Stable.seen c.self.inside.memory c.self.inside.store planned.0 planned.0 planned.1 c.write.new.store c.in-Err.fault planned.2
-      (c.in-Err.ensures.leaves planned.0 planned.1 planned.2 planned.3 planned.4))
+    let planned = planned_within g.S.Stable.seen c.args.plan c.args.event.now c.self.view_is c.requires.planned in (
+      _,
+      whole_still g.S.Stable.seen c.self.inside.memory c.self.inside.store planned.0 planned.0 planned.1 c.write.new.store c.in-Err.fault planned.2
+          (c.in-Err.ensures.leaves planned.0 planned.1 planned.2 planned.3 planned.4),
+    )
 
 pub invariant_of-self-2 : goal.invariant_of-self-2
 invariant_of-self-2 g c =
@@ -65,21 +43,12 @@ invariant_of-self-2 g c =
     let s = c.self.inside.store in
     let seen = g.S.Stable.seen in
     let planned = planned_within seen c.args.plan c.args.event.now c.self.view_is c.requires.planned in
-    let leaves = c.in_default-write.ensures.leaves planned.0 planned.1 planned.2 planned.3 planned.4 in
-    (_, whole_next seen m s c.args.plan c.stamp-drawn.result planned.0 planned.1 c.keep.new.memory c.write.new.store planned.2 planned.3
-      (c.keep.ensures planned.0 planned.1 planned.2.memory planned.3 planned.4
-      (recorded_at seen planned.0 planned.1 c.args.event.now s c.write.new.store planned.2.store planned.4 leaves)) leaves)
-
-pub returns-in-Op-clause-kept : goal.returns-in-Op-clause-kept
-returns-in-Op-clause-kept g c = λ h news at of same.
-    let m = c.self.inside.memory in
-    let s = c.self.inside.store in
-    let seen = g.S.Stable.seen in
-    let whole = inside seen c.self.view_is at in
-    let planned = plan_within c.self.view_is c.args.plan h news of in
-    whole_next seen m s c.args.plan c.in_ok-operate.field-0 h news c.operate.new.self s whole planned (c.in_ok-operate.ensures.kept h news whole.memory planned same)
-    (alone h news (seen s) None
-    (operation_event h.number (stamped 0 news) (seen s).content (ap (λ e. is_operation e.step) same ∙ ap is_operation c.in-Op.is)))
+    let leaves = c.in_default.ensures.leaves planned.0 planned.1 planned.2 planned.3 planned.4 in (
+      _,
+      whole_next seen m s c.stamp-drawn.result planned.0 planned.1 c.keep.new.memory c.write.new.store planned.2 planned.3.next
+          (c.keep.ensures planned.0 planned.1 planned.2.memory planned.3 planned.4
+          (recorded_at seen planned.0 planned.1 c.args.event.now s c.write.new.store planned.2.store planned.4 leaves)) leaves,
+    )
 
 pub returns-in-Err : goal.returns-in-Err
 returns-in-Err g c =
@@ -101,7 +70,7 @@ pub keep-requires-clause-found : goal.keep-requires-clause-found
 keep-requires-clause-found g c =
     let planned = planned_within g.S.Stable.seen c.args.plan c.args.event.now c.self.view_is c.requires.planned in
     (made_of planned.0 planned.1 (g.S.Stable.seen c.self.inside.store) (g.S.Stable.seen c.write.new.store) planned.2.store
-    (c.in_default-write.ensures.leaves planned.0 planned.1 planned.2 planned.3 planned.4)).found
+    (c.in_default.ensures.leaves planned.0 planned.1 planned.2 planned.3 planned.4)).found
 
 pub returns : goal.returns
 returns g c =
@@ -113,11 +82,11 @@ returns g c =
       kept = λ h news at of same.
           let whole = inside seen c.self.view_is at in
           let planned = plan_within c.self.view_is c.args.plan h news of in
-          let leaves = c.in_default-write.ensures.leaves h news whole planned same in
-          whole_next seen m s c.args.plan c.stamp-drawn.result h news c.keep.new.memory c.write.new.store whole planned
+          let leaves = c.in_default.ensures.leaves h news whole planned same in
+          whole_next seen m s c.stamp-drawn.result h news c.keep.new.memory c.write.new.store whole planned.next
           (c.keep.ensures h news whole.memory planned same (recorded_at seen h news c.args.event.now s c.write.new.store whole.store same leaves)) leaves;
       err = tt;
       store = λ h news at of same. subst (λ k. LeavesStore h news (seen k.store) (seen c.write.new.store) None) c.self.view_is
-          (c.in_default-write.ensures.leaves h news (inside seen c.self.view_is at) (plan_within c.self.view_is c.args.plan h news of) same);
+          (c.in_default.ensures.leaves h news (inside seen c.self.view_is at) (plan_within c.self.view_is c.args.plan h news of) same);
       cause = λ failed. absurd (true≢false (ap (λ r. is_ok r) failed));
     }

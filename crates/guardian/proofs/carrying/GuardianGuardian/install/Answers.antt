@@ -19,11 +19,13 @@ invariant_of-self g c =
     let s = c.self.inside.store in
     let seen = g.S.Stable.seen in
     let planned = planned_within seen c.args.plan c.args.event.now c.self.view_is c.requires.planned in
-    let here = inside seen c.self.view_is c.requires.quiet.1 in
-    (_, whole_next seen m s c.args.plan c.args.stamp planned.0 planned.1 c.keep.new.memory s planned.2 planned.3
-      (c.keep.ensures planned.0 planned.1 planned.2.memory planned.3 planned.4 (λ crash. planned.2.store.stored))
-      (alone planned.0 planned.1 (seen s) None
-      (quiet_event planned.0.number (stamped 0 planned.1) (seen s).content (quiet_in planned.2.memory here.memory planned.1 c.args.event.now planned.4 c.requires.quiet.2))))
+    let here = inside seen c.self.view_is c.requires.quiet.1 in (
+      _,
+      whole_next seen m s c.args.stamp planned.0 planned.1 c.keep.new.memory s planned.2 planned.3.next
+          (c.keep.ensures planned.0 planned.1 planned.2.memory planned.3 planned.4 (λ crash. planned.2.store.stored))
+          (alone planned.0 planned.1 (seen s) None
+          (quiet_event planned.0.number (stamped 0 planned.1) (seen s).content (quiet_in planned.2.memory here.memory planned.1 c.args.event.now planned.4 c.requires.quiet.2))),
+    )
 
 pub returns-clause-kept : goal.returns-clause-kept
 returns-clause-kept g c = λ h news at of same.
@@ -33,7 +35,7 @@ returns-clause-kept g c = λ h news at of same.
     let whole = inside seen c.self.view_is at in
     let here = inside seen c.self.view_is c.requires.quiet.1 in
     let planned = plan_within c.self.view_is c.args.plan h news of in
-    whole_next seen m s c.args.plan c.args.stamp h news c.keep.new.memory s whole planned
+    whole_next seen m s c.args.stamp h news c.keep.new.memory s whole planned.next
     (c.keep.ensures h news whole.memory planned same (λ crash. whole.store.stored))
     (alone h news (seen s) None
     (quiet_event h.number (stamped 0 news) (seen s).content (quiet_in whole.memory here.memory news c.args.event.now same c.requires.quiet.2)))

@@ -6,7 +6,7 @@ use Rattle.guardian_memory.proofs.Sound.{inside}
 use Rattle.guardian_memory.proofs.memory.Memory.parts.Goals as goal
 
 pub parts_once_told-requires : goal.parts_once_told-requires
-parts_once_told-requires c = subst (λ l. OutcomesRise l) (sym (c.outcomes.ensures ∙ c.requires.3.brought)) c.requires.3.agrees.outcomes.once
+parts_once_told-requires c = subst (λ l. OutcomesRise l) (sym (c.outcomes.ensures ∙ c.requires.3.brought)) c.requires.3.next.agrees.outcomes.once
 
 pub returns-then-is_committed : goal.returns-then-is_committed
 returns-then-is_committed c = λ s news at of vote.

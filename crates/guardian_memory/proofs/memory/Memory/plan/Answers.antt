@@ -47,9 +47,7 @@ pub returns-clause-planned : goal.returns-clause-planned
 returns-clause-planned c = λ s at owed agrees.
     let here = inside c.self.view_is at in
     record {
-      accepted = c.requires.accepted;
-      owed = owed;
-      agrees = agrees;
+      next = record { accepted = c.requires.accepted; owed = owed; agrees = agrees };
       sender = refl;
       brought = refl;
       heard = subst (λ l. IsHeard c.plan-2.new.self l c.in_ok-heard.heard) c.as_slice-outcomes.ensures.value c.in_ok-heard.ensures.heard;

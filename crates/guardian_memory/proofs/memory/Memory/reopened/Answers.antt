@@ -88,12 +88,14 @@ pub invariant_of-result : goal.invariant_of-result
 invariant_of-result c =
     let xs = c.args.records.items in
     let ws = c.loop-record.left.items in
-    let all : drop (length ws) xs ≡ xs = none_left xs ws (sym c.loop-record.left.ok.0 ∙ c.in_default.ensures.cases.0) in
-    (_, reopened_sound (arc_value c.args.opening) c.args.number c.args.count (records_of xs) c.reopened.result c.reopened-2.result
-    c.reopened-3.result c.loop-record.objects c.requires.number c.requires.counted c.requires.tops c.requires.restorable
-    c.reopened.ensures.told c.reopened.ensures.crashes c.reopened-2.ensures.lists c.reopened-2.ensures.own c.reopened-3.ensures.roster
-    (subst (λ l. AreGivenBack (opening_in (arc_value c.args.opening)) (records_of l) c.loop-record.objects) all c.loop-record.invariant.given)
-    c.loop-record.invariant.guardian)
+    let all : drop (length ws) xs ≡ xs = none_left xs ws (sym c.loop-record.left.ok.0 ∙ c.in_default.ensures.cases.0) in (
+      _,
+      reopened_sound (arc_value c.args.opening) c.args.number c.args.count (records_of xs) c.reopened.result c.reopened-2.result
+          c.reopened-3.result c.loop-record.objects c.requires.number c.requires.counted c.requires.tops c.requires.restorable
+          c.reopened.ensures.told c.reopened.ensures.crashes c.reopened-2.ensures.lists c.reopened-2.ensures.own c.reopened-3.ensures.roster
+          (subst (λ l. AreGivenBack (opening_in (arc_value c.args.opening)) (records_of l) c.loop-record.objects) all c.loop-record.invariant.given)
+          c.loop-record.invariant.guardian,
+    )
 
 pub returns : goal.returns
 returns c =
