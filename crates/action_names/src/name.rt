@@ -1,5 +1,6 @@
 //! Names of actions: how they are read, printed, made from one another and compared.
-ghost use Rattle.std.specs.Prelude.{◌≡◌, ◌≢◌, ◌↔◌, ◌<◌, ◌≤◌, ◌+◌, ◌-◌, ◌*◌, ◌^◌, ◌++◌, [], ◌∷◌, length, List, ℕ, refl, decimal, Some, IsTrue, IsOk, IsNone, IfSome, IfOk, OnOk, OnErr, IsErrOf, MatchOption, string_bytes};
+ghost use Rattle.std.specs.Prelude.{◌≡◌, ◌≢◌, ◌↔◌, ◌<◌, ◌≤◌, ◌+◌, ◌-◌, ◌*◌, ◌^◌, ◌++◌, [], ◌∷◌, length, List, ℕ, refl, decimal, Some, IsTrue, IsOk};
+ghost use Rattle.std.specs.Prelude.{IsNone, IfSome, IfOk, OnOk, OnErr, IsErrOf, MatchOption, string_bytes};
 ghost use Rattle.std.specs.Ordering.{as_partial_cmp};
 ghost use Rattle.action_names.specs.Fronts.{BeginsWithNumber, BeginsWithName};
 ghost use Rattle.action_names.specs.Names.{IsName, name_text, child_of, parent_of, last_of, same_name, is_ancestor, is_top, meet_of, name_cmp, max_depth};

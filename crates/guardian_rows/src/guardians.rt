@@ -143,7 +143,6 @@ impl Alone for Guardian<Store> {
     }
 }
 
-/// The opening of a system to which nothing has happened.
 ghost use Rattle.std.specs.Prelude.{◌≡◌, IfOk};
 ghost use Rattle.std.specs.Arc.{arc_value};
 ghost use Rattle.run_model.specs.Openings.{fresh, opening_in};
@@ -151,6 +150,7 @@ ghost use Rattle.stable_store.specs.Failing.{failing_view};
 ghost use Rattle.stable_store.specs.Plain.{plain_view};
 ghost use Rattle.stable_store.specs.Stored.{empty};
 
+/// The opening of a system to which nothing has happened.
 fn fresh(alloc: Global, place: Place<'_>) -> Result<Arc<run_model::Opening, Global>, AllocError>
     ensures { IfOk result (λ opening. opening_in (arc_value opening) ≡ fresh place.entry.setup.now) }
 {

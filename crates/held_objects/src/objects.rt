@@ -2,7 +2,8 @@
 ghost use Rattle.std.specs.Prelude.{◌≡◌, ◌↔◌, ◌||◌, ◌&&◌, ◌==◌, ◌≤◌, ◌+◌, ℕ, not, true, false, [], length, filter, IsTrue, IsFalse, IfOk, OnOk, OnErr, IfSome, if◌then◌else◌};
 ghost use Rattle.std.specs.Option.{option_copied as name_of};
 ghost use Rattle.action_names.specs.Names.{Name, same_name, is_ancestor, is_proper_ancestor};
-ghost use Rattle.held_objects.specs.Held.{IsRising, has_number, has_object, objects_at, room_at, has_room, HoldsBelow, HoldsSomethingBelow, HasRoomBelow, IsHeld, count_below, is_in_row, is_name_of, rows_in};
+ghost use Rattle.held_objects.specs.Held.{IsRising, has_number, has_object, objects_at, room_at, has_room, HoldsBelow, HoldsSomethingBelow};
+ghost use Rattle.held_objects.specs.Held.{HasRoomBelow, IsHeld, count_below, is_in_row, is_name_of, rows_in};
 
 use crate::asking::Asking;
 use crate::holding::Holding;

@@ -193,7 +193,8 @@ impl Roster {
     ghost use Rattle.roster.specs.Entries.{Adds, AreAbove, AreBorn, CanCount, FitsBegun, HaveRoom, IsBorn, IsClimbed, IsLeft, IsMerged, came_in};
     ghost use Rattle.roster.specs.Steps.{above};
     ghost use Rattle.roster.specs.Rosters.{crashes_of};
-    ghost use Rattle.roster.specs.Tables.{added, all_added, changed_at, ended, home_at, is_known, life_at, life_in, maker_left, merged, more_by, one_less, place_of, placed, row_at, row_of, said, table, turned, with_closed, with_ended};
+    ghost use Rattle.roster.specs.Tables.{added, all_added, changed_at, ended, home_at, is_known, life_at, life_in, maker_left, merged, more_by};
+    ghost use Rattle.roster.specs.Tables.{one_less, place_of, placed, row_at, row_of, said, table, turned, with_closed, with_ended};
 
     // The place of the action's row.
     pub(crate) fn place(&self, action: &Name) -> Option<usize>
