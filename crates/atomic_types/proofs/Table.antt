@@ -1,5 +1,5 @@
 -- The table of operations: names are told apart by their texts, and an operation is put together again from its name and its arguments.
-use Rattle.std.proofs.Common.{◌≡◌, ℕ, Bool, true, false, List, [], ◌∷◌, Option, Some, None, refl, sym, ap, subst, ◌∙◌}
+use Rattle.std.proofs.Common.{◌≡◌, ℕ, Bool, true, false, List, [], ◌∷◌, Some, None, refl, sym, ap, subst, ◌∙◌}
 use Rattle.std.specs.Prelude.{find}
 use Rattle.std.proofs.lemmas.Slice.Eq.{slice_eq-Decides}
 use Rattle.std.proofs.lemmas.Bool.Decides.{Decides-eqb}
@@ -10,6 +10,7 @@ use Rattle.atomic_types.specs.declared.operation.OpName.{OpName}
 use Rattle.atomic_types.specs.declared.operation.OpName.TheVariants as name
 use Rattle.atomic_types.specs.declared.operation.Arguments.{Arguments}
 use Rattle.atomic_types.specs.declared.operation.Arguments.TheVariants as with
+use Rattle.atomic_types.specs.declared.operation.Form.TheVariants as form
 use Rattle.atomic_types.specs.Operations.{all_names, arguments_of, form_of, form_with, name_of, word_of, named, operation_of}
 
 -- an operation takes the arguments of its name
@@ -58,6 +59,52 @@ takes_form (with.IndexValue i v) name.Store f e = cc
 takes_form (with.IndexValue i v) _ f e = cc
 takes_form (with.Value v) name.Add f e = cc
 takes_form (with.Value v) _ f e = cc
+
+-- and no arguments of another form
+pub unfit : {I V : Type 0} (n : OpName) (a : Arguments (List ℕ) I V) → (form_with a ≡ form_of n → ⊥) → None ≡ operation_of n a
+unfit name.Low with.Nothing other = absurd (other refl)
+unfit name.High with.Nothing other = absurd (other refl)
+unfit name.Size with.Nothing other = absurd (other refl)
+unfit name.RemoveHigh with.Nothing other = absurd (other refl)
+unfit name.RemoveLow with.Nothing other = absurd (other refl)
+unfit name.Total with.Nothing other = absurd (other refl)
+unfit name.Get (with.Word field) other = absurd (other refl)
+unfit name.Is (with.Word tag) other = absurd (other refl)
+unfit name.ValueOf (with.Word tag) other = absurd (other refl)
+unfit name.Set (with.WordValue field v) other = absurd (other refl)
+unfit name.Change (with.WordValue tag v) other = absurd (other refl)
+unfit name.Fetch (with.Index index) other = absurd (other refl)
+unfit name.Store (with.IndexValue index v) other = absurd (other refl)
+unfit name.AddHigh (with.Value v) other = absurd (other refl)
+unfit name.AddLow (with.Value v) other = absurd (other refl)
+unfit name.Put (with.Value v) other = absurd (other refl)
+unfit name.Add (with.Value v) other = absurd (other refl)
+unfit _ _ other = refl
+
+-- arguments that are no such have another form
+pub not_nothing : {I V : Type 0} (a : Arguments (List ℕ) I V) → (a ≡ with.Nothing → ⊥) → form_with a ≡ form.Nothing → ⊥
+not_nothing with.Nothing other e = other refl
+not_nothing _ other e = cc
+
+pub not_word : {I V : Type 0} (a : Arguments (List ℕ) I V) → ((w : List ℕ) → a ≡ with.Word w → ⊥) → form_with a ≡ form.Word → ⊥
+not_word (with.Word w) other e = other w refl
+not_word _ other e = cc
+
+pub not_word_value : {I V : Type 0} (a : Arguments (List ℕ) I V) → ((w : List ℕ) (v : V) → a ≡ with.WordValue w v → ⊥) → form_with a ≡ form.WordValue → ⊥
+not_word_value (with.WordValue w v) other e = other w v refl
+not_word_value _ other e = cc
+
+pub not_index : {I V : Type 0} (a : Arguments (List ℕ) I V) → ((i : I) → a ≡ with.Index i → ⊥) → form_with a ≡ form.Index → ⊥
+not_index (with.Index i) other e = other i refl
+not_index _ other e = cc
+
+pub not_index_value : {I V : Type 0} (a : Arguments (List ℕ) I V) → ((i : I) (v : V) → a ≡ with.IndexValue i v → ⊥) → form_with a ≡ form.IndexValue → ⊥
+not_index_value (with.IndexValue i v) other e = other i v refl
+not_index_value _ other e = cc
+
+pub not_value : {I V : Type 0} (a : Arguments (List ℕ) I V) → ((v : V) → a ≡ with.Value v → ⊥) → form_with a ≡ form.Value → ⊥
+not_value (with.Value v) other e = other v refl
+not_value _ other e = cc
 
 -- each name is read back from its word
 pub named_word : (n : OpName) → named (word_of n) ≡ Some n
