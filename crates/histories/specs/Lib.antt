@@ -1,0 +1,4 @@
+pub mod Plain
+pub mod Steps
+pub mod Answers
+pub mod Arenas
