@@ -66,7 +66,8 @@ fn answer<S: Stable>(
         (Ended::Stopped, _) => Ok(ExitCode::FAILURE),
         (Ended::Done, None) => Ok(ExitCode::SUCCESS),
         (Ended::Done, Some(action)) => {
-            explain_text(rt.alloc(), world.history(), action, &mut io::writer(rt))?;
+            let history = world.history().unpacked()?;
+            explain_text(rt.alloc(), &history, action, &mut io::writer(rt))?;
             Ok(ExitCode::SUCCESS)
         }
     }

@@ -137,7 +137,7 @@ fn made(alloc: Global, script: &Checked) -> Result<Lines, RowFault>
 {
     let mut world = World::in_memory(alloc, setup_of(alloc, script)?)?;
     run_serial(alloc, &mut world, script).map_err(fault_of_step)?;
-    Ok(lines_of(alloc, world.history())?)
+    Ok(lines_of(alloc, &world.history().unpacked()?)?)
 }
 
 fn lines_of(alloc: Global, history: &History) -> Result<Lines, AllocError> {

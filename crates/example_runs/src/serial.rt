@@ -74,12 +74,8 @@ pub(crate) fn print_event(
 ) -> Result<(), RowFault> {
     let number = words.number()?;
     let index = number.checked_sub(1).ok_or(RowFault::Unread)? as usize;
-    let event = examples
-        .world
-        .history()
-        .events()
-        .get(index)
-        .ok_or(RowFault::Unread)?;
+    let history = examples.world.history().unpacked()?;
+    let event = history.events().get(index).ok_or(RowFault::Unread)?;
     answer.push_str(event.step.text(examples.alloc)?.as_str())?;
     answer.push_str(" -> ")?;
     Ok(event.answer.write_to(answer)?)

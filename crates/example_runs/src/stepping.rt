@@ -141,8 +141,8 @@ pub(crate) fn explain_action(
 ) -> Result<(), RowFault> {
     let mut words = row.words();
     let mut writer = Writer::of_word(examples.alloc, words.word()?)?;
-    let history = examples.world.history();
-    let ended = explain_text(examples.alloc, history, words.rest(), &mut writer);
+    let history = examples.world.history().unpacked()?;
+    let ended = explain_text(examples.alloc, &history, words.rest(), &mut writer);
     writer.tell(examples.alloc, ended, row.answer, answer)
 }
 

@@ -3,6 +3,7 @@ use crate::reading;
 use rows::{RowFault, again};
 use run_model::{Answer, Refusal, Reply, Signal, Value};
 use std::alloc::Global;
+use values::ValueFault;
 
 /// `answer ANSWER`: the line of a copy of the answer, and what comes of appending it to `1 `.
 pub(crate) fn copy(alloc: Global, said: &str, answer: &mut String) -> Result<(), RowFault> {
@@ -45,7 +46,7 @@ pub(crate) fn read(alloc: Global, text: &str) -> Result<Answer, RowFault> {
     match kind {
         "began" => Ok(Answer::Began(reading::names(alloc, rest)?)),
         "waits" => Ok(Answer::Waits(reading::names(alloc, rest)?)),
-        "granted" => Ok(Answer::Granted(reply(rest)?)),
+        "granted" => Ok(Answer::Granted(reply(alloc, rest)?)),
         _ => read_plain(kind, rest),
     }
 }
@@ -61,12 +62,20 @@ fn read_plain(kind: &str, rest: &str) -> Result<Answer, RowFault> {
     }
 }
 
-fn reply(text: &str) -> Result<Reply, RowFault> {
+fn reply(alloc: Global, text: &str) -> Result<Reply, RowFault> {
     match text {
         "no" => Ok(Reply::Truth(false)),
         "well" => Ok(Reply::Done),
         "wrong_tag" => Ok(Reply::Signals(Signal::WrongTag)),
-        number => Ok(Reply::Gives(Value::Int(number.parse().ok().ok_or(RowFault::Unread)?))),
+        spelling => Ok(Reply::Gives(value(alloc, spelling)?)),
+    }
+}
+
+fn value(alloc: Global, spelling: &str) -> Result<Value, RowFault> {
+    match Value::from_spelling(alloc, spelling) {
+        Ok(value) => Ok(value),
+        Err(ValueFault::Memory) => Err(RowFault::Memory),
+        Err(_) => Err(RowFault::Unread),
     }
 }
 

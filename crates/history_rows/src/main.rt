@@ -1,10 +1,11 @@
-//! Tests of `run_model` and `history_facts`, and of worlds that are opened again from stores, as rows of data. In a section a setup and an opening
+//! Tests of `run_model`, `histories` and `history_facts`, and of worlds that are opened again from stores, as rows of data. In a section a setup and an opening
 //! are put together and a history grows, row by row; other rows read and write steps and answers, or ask what the history says.
 #![tactic(auto)]
 
 mod answers;
 mod facts;
 mod openings;
+mod packed;
 mod past;
 mod reading;
 mod setups;

@@ -1,5 +1,5 @@
 //! A history that grows row by row.
-use crate::{answers, reading, steps};
+use crate::{answers, packed, reading, steps};
 use rows::{RowFault, Words};
 use run_model::{Event, History};
 use std::alloc::{AllocError, Global};
@@ -37,6 +37,7 @@ impl Past {
             "rebuild" => self.rebuild(alloc, answer),
             "size" => write_size(&self.history, answer),
             "events" => write_events(alloc, &self.history, answer),
+            "packed" => packed::write(alloc, &self.history, answer),
             _ => Err(RowFault::Unread),
         }
     }

@@ -259,7 +259,3 @@ answered_one stands states low high e forest f x same h = subst (λ g. AreAnswer
 
 pub differ : (a b low high : ℕ) → a ≡ low → b ≡ high → (low == high) ≡ false → (a == b) ≡ false
 differ a b low high p q h = ap₂ (λ m n. m == n) p q ∙ h
-
--- the event that was recorded is the newest
-pub newest_is : (x y : Event) (rest past : List Event) {history : List Event} → history ≡ x ∷ rest → history ≡ y ∷ past → x ≡ y
-newest_is x y rest past p q = let both : x ∷ rest ≡ y ∷ past = sym p ∙ q in cc

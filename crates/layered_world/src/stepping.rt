@@ -10,9 +10,10 @@ ghost use Rattle.layer_contracts.specs.Stores.{fault_in};
 ghost use Rattle.layer_contracts.specs.declared.guardian.Fault.TheVariants.{Stable};
 ghost use Rattle.layered_world.specs.Standings.{AreSame, HasFailed, event_of, forest_of, IsKeptAt, IsLeftAt, IsOut, IsReady, IsWholeAt, IsWorld, Names, StoresLeft};
 
+use histories::PackedHistory;
 use layer_contracts::{Fault, Forest, Guardian};
 use lent_steps::{answer_alone, answer_two, keep_one, keep_two, named};
-use run_model::{Answer, Event, History, Step};
+use run_model::{Answer, Event, Step};
 use std::alloc::{AllocError, Global};
 
 /// Makes one step of a world and gives its answer. An accepted step is in the history from then on, and with the forest and the guardians
@@ -22,7 +23,7 @@ pub fn step<R: Forest, G: Guardian>(
     alloc: Global,
     forest: &mut R,
     guardians: &mut [G],
-    history: &mut History,
+    history: &mut PackedHistory,
     step: &Step,
 ) -> Result<Answer, Fault>
     ghost opening: { Opening }
@@ -39,8 +40,7 @@ pub fn step<R: Forest, G: Guardian>(
     if !answer.is_accepted() {
         return Ok(answer);
     }
-    keep(alloc, forest, guardians, history, low, high, step, &answer)?;
-    Ok(answer)
+    keep(alloc, forest, guardians, history, low, high, step, answer)
 }
 
 /// The guardians that the step names, the lower number first.
@@ -72,7 +72,7 @@ fn answer_at<R: Forest, G: Guardian>(
     alloc: Global,
     forest: &R,
     guardians: &[G],
-    _history: &History,
+    _history: &PackedHistory,
     low: u32,
     high: u32,
     step: &Step,
@@ -94,55 +94,52 @@ fn answer_at<R: Forest, G: Guardian>(
     }
 }
 
-/// Keeps an accepted step with its answer: in the history, in the forest and at the guardians that it names.
+/// Keeps an accepted step with its answer, which it gives back: in the history, in the forest and at the guardians that it names.
 fn keep<R: Forest, G: Guardian>(
     alloc: Global,
     forest: &mut R,
     guardians: &mut [G],
-    history: &mut History,
+    history: &mut PackedHistory,
     low: u32,
     high: u32,
     step: &Step,
-    answer: &Answer,
-) -> Result<(), Fault>
+    answer: Answer,
+) -> Result<Answer, Fault>
     ghost opening: { Opening }
     requires world { IsWorld G.stands G.stored (R.stands forest.old) opening history.old guardians.old }
     requires names { Names (forest_of opening history.old) step.now low high }
     requires ordered { low ≤ high }
-    requires more { IsRun opening (event_of step.now answer.now ∷ history.old) }
-    ensures ok { OnOk result (history.new ≡ event_of step.now answer.now ∷ history.old) }
+    requires more { IsRun opening (event_of step.now answer ∷ history.old) }
+    ensures answer { IfOk result (λ back. back ≡ answer) }
+    ensures ok { OnOk result (history.new ≡ event_of step.now answer ∷ history.old) }
     ensures err { OnErr result (history.new ≡ history.old) }
     ensures world { IsWorld G.stands G.stored (R.stands forest.new) opening history.new guardians.new }
     ensures stores { StoresLeft G.stored opening history.old step.now guardians.old guardians.new (fault_in result) }
     ensures cause { IsErrOf result Stable → HasFailed G.stored guardians.old guardians.new }
 {
     let number = history.next_stamp();
-    record(history, step, answer)?;
-    let kept = keep_at(alloc, forest, guardians, low, high, newest(history), number);
+    let event = Event {
+        step: step.copy()?,
+        answer,
+    };
+    history.push(&event.step, &event.answer)?;
+    let kept = keep_at(alloc, forest, guardians, low, high, &event, number);
     ask_number(guardians, low);
     ask_number(guardians, high);
-    if kept.is_err() {
-        history.pop();
+    match kept {
+        Ok(()) => Ok(answer_in(event)),
+        Err(fault) => {
+            history.pop();
+            Err(fault)
+        }
     }
-    kept
 }
 
-/// Records the event that this step with this answer is, of copies.
-fn record(history: &mut History, step: &Step, answer: &Answer) -> Result<(), AllocError>
-    ensures ok { OnOk result (history.new ≡ event_of step.now answer.now ∷ history.old) }
-    ensures err { OnErr result (history.new ≡ history.old) }
+/// The answer of an event.
+fn answer_in(event: Event) -> Answer
+    ensures { result ≡ event.answer }
 {
-    history.push(Event::of(step, answer)?)?;
-    Ok(())
-}
-
-/// The newest event of a history that has one.
-fn newest(history: &History) -> &Event
-    requires { 1 ≤ length history.now }
-    ensures { history.now ≡ result.now ∷ drop 1 history.now }
-{
-    let events = history.events();
-    &events[events.len() - 1]
+    event.answer
 }
 
 /// Asks a guardian for its number: its store is that of each history in which it stands.

@@ -1,5 +1,5 @@
 -- What a stop leaves of the stores of a world.
-use Rattle.std.proofs.Common.{Bool, List, None, Ok, Err, OnOk, Option, Result, Some, [], ap, ap₂, arith, cond, false, inl, inr, length, map as each, option_map, refl, slice_get, subst, suc, sym, true, zero, ℕ, IsTrue, ◌&&◌, ◌+◌, ◌<◌, ◌∙◌, ◌∷◌, ◌≡◌, ◌⊎◌}
+use Rattle.std.proofs.Common.{Bool, List, None, Ok, Err, OnOk, Option, Result, Some, [], ap, ap₂, arith, cond, false, inl, inr, length, option_map, refl, slice_get, subst, suc, sym, true, zero, ℕ, IsTrue, ◌&&◌, ◌+◌, ◌<◌, ◌∙◌, ◌∷◌, ◌≡◌, ◌⊎◌}
 use Rattle.std.specs.List.{AllByRecursion, AllZip}
 use Rattle.std.proofs.lemmas.Bool.{and_left, false≢true}
 use Rattle.std.proofs.lemmas.List.{length-map}

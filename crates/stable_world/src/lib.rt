@@ -9,6 +9,7 @@ mod reopening;
 mod world;
 
 pub use guardian::Guardian;
+pub use histories::PackedHistory;
 pub use layer_contracts::Fault;
 pub use run_model::{Answer, Event, Held, History, Opening, Part, Setup, Step};
 pub use store_settling::Refused;

@@ -16,9 +16,10 @@ ghost use Rattle.stable_world.specs.Worlds.{AreOpened, seen_of, store_in};
 
 use crate::beginning::{Beginning, empty_stores, guardians};
 use guardian::Guardian;
+use histories::PackedHistory;
 use layer_contracts::Fault;
 use registry::Registry;
-use run_model::{Answer, Content, History, ObjectId, Opening, Setup, Step};
+use run_model::{Answer, Content, ObjectId, Opening, Setup, Step};
 use stable_store::{PlainStable, Stable};
 use std::alloc::{AllocError, Global};
 use std::marker::Model;
@@ -29,7 +30,7 @@ use std::sync::Arc;
 pub struct World<S: Stable> {
     alloc: Global,
     opening: Arc<Opening, Global>,
-    history: History,
+    history: PackedHistory,
     registry: Registry,
     guardians: Vec<Guardian<S>>,
 }
@@ -120,7 +121,7 @@ impl<S: Stable> World<S> {
         Ok(World {
             alloc,
             opening,
-            history: History::new(alloc),
+            history: PackedHistory::new(alloc),
             registry,
             guardians,
         })
@@ -167,9 +168,9 @@ impl<S: Stable> World<S> {
         Ok(())
     }
 
-    /// What has happened: the accepted steps with their answers. The stores are those of this run, and a stop now leaves them so. This takes
-    /// no memory.
-    pub fn history(&self) -> &History
+    /// What has happened: the accepted steps with their answers, kept compactly. The stores are those of this run, and a stop now leaves them so.
+    /// This takes no memory; `unpacked` gives them as a `History`.
+    pub fn history(&self) -> &PackedHistory
         ensures past { result.now ≡ self.now.run.past }
         ensures served { IsServed (opening_in self.now.run.lists) self.now.run.past }
         ensures stores { AreOfRun (opening_in self.now.run.lists) self.now.run.past (contents_of (λ g. seen_of S.seen g) self.now.guardians) }

@@ -6,5 +6,6 @@
 
 mod world;
 
+pub use histories::PackedHistory;
 pub use run_model::{Answer, Event, Held, History, Opening, Part, Setup, Step};
 pub use world::World;

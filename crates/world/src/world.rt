@@ -7,7 +7,8 @@ ghost use Rattle.run_laws.specs.Laws.{OrphanWhereRefused};
 ghost use Rattle.run_laws.specs.Serving.{IsServed};
 ghost use Rattle.stable_world.specs.Running.{Ran, RanBefore};
 
-use run_model::{Answer, Content, History, ObjectId, Opening, Setup, Step};
+use histories::PackedHistory;
+use run_model::{Answer, Content, ObjectId, Opening, Setup, Step};
 use stable_store::PlainStable;
 use stable_world::Fault;
 use std::alloc::{AllocError, Global};
@@ -66,8 +67,8 @@ impl World {
         }
     }
 
-    /// What has happened: the accepted steps with their answers. This takes no memory.
-    pub fn history(&self) -> &History
+    /// What has happened: the accepted steps with their answers, kept compactly. This takes no memory; `unpacked` gives them as a `History`.
+    pub fn history(&self) -> &PackedHistory
         ensures past { result.now ≡ self.now.past }
         ensures served { IsServed (opening_in self.now.lists) self.now.past }
     {

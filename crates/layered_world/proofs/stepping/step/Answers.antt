@@ -16,14 +16,6 @@ returns-then-not-is_accepted-clause-stores g c =
     stores_idle g.G.Guardian.stored g.opening c.args.history.now c.args.step.now c.args.guardians.now None
     (ap is_accepted (sym c.in_ok-answer.ensures) ∙ sym c.is_accepted.ensures ∙ c.if-not-is_accepted.true)
 
-pub returns-in_err-keep-clause-stores : goal.returns-in_err-keep-clause-stores
-returns-in_err-keep-clause-stores g c =
-    let gs = c.args.guardians.now in
-    let gs' = c.keep.new.guardians in
-    with_fault c.from_residual-in_err-keep.result c.in_err-keep.field-0.0 (λ fault. StoresLeft g.G.Guardian.stored g.opening c.args.history.now c.args.step.now gs gs' fault)
-    c.from_residual-in_err-keep.ensures.1
-    c.in_err-keep.ensures.stores
-
 pub answer_at-requires : goal.answer_at-requires
 answer_at-requires g c = λ κs within.
     let world = c.requires.1.1.1.1 in
