@@ -2,3 +2,4 @@ pub mod Names
 pub mod Fronts
 pub mod Deps
 pub mod Comparison
+pub mod Numbers

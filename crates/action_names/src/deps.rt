@@ -9,10 +9,10 @@ use smallvec::SmallVec;
 use std::alloc::{AllocError, Global};
 use std::marker::Model;
 
-/// On which incarnation of each guardian an action depends, the least. Most actions depend on one guardian, whose entry lies in the value itself.
+/// On which incarnation of each guardian an action depends, the least. Most actions depend on one guardian or two, whose entries lie in the value itself.
 #[derive(Debug, Drop)]
 pub struct Deps {
-    least: SmallVec<(u32, u64), 1>,
+    least: SmallVec<(u32, u64), 2>,
 }
 
 impl Model for Deps {
@@ -131,7 +131,7 @@ fn is_known(least: &[(u32, u64)], guardian: u32) -> bool
 
 // Adds one dependency. It takes memory only for a new guardian for whom no room is left.
 fn lower_in(
-    least: &mut SmallVec<(u32, u64), 1>,
+    least: &mut SmallVec<(u32, u64), 2>,
     guardian: u32,
     incarnation: u64,
 ) -> Result<(), AllocError>
@@ -155,7 +155,7 @@ fn lower_in(
 }
 
 // Adds the dependencies of the others, once there is room for those on new guardians.
-fn merge_in(least: &mut SmallVec<(u32, u64), 1>, others: &[(u32, u64)]) -> Result<(), AllocError>
+fn merge_in(least: &mut SmallVec<(u32, u64), 2>, others: &[(u32, u64)]) -> Result<(), AllocError>
     requires own { IsRising least.old.items }
     requires others { IsRising others.now }
     ensures rising { IsRising least.new.items }

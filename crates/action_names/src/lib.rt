@@ -7,6 +7,7 @@
 mod deps;
 mod name;
 mod names;
+mod numbers;
 
 pub use deps::Deps;
 pub use name::{MAX_DEPTH, Name, NameFault, number_at_front};

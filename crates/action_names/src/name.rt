@@ -7,6 +7,8 @@ ghost use Rattle.action_names.specs.Names.{IsName, name_text, child_of, parent_o
 ghost use Rattle.action_names.specs.Comparison.{same_name-partial_equivalence, same_name-equivalence, name_cmp-total, same_name-ties, name_cmp-partial_order, same_name-fed, fed_name};
 ghost use Rattle.action_names.specs.declared.name.NameFault.TheVariants.{Memory};
 
+use crate::numbers::Numbers;
+use arrayvec::ArrayVec;
 use itoa::Buffer;
 use smallvec::SmallVec;
 use std::alloc::{AllocError, AllocFailed, Global};
@@ -24,7 +26,7 @@ pub const MAX_DEPTH: usize = 32;
 /// Names are ordered number by number, and a name stands before those that it begins.
 #[derive(Drop)]
 pub struct Name {
-    parts: SmallVec<u32, 8>,
+    parts: Numbers,
 }
 
 impl Model for Name {
@@ -33,9 +35,9 @@ impl Model for Name {
 
     ghost Value = { List ℕ };
 
-    ghost view = { λ a. a.parts.items };
+    ghost view = { λ a. a.parts };
 
-    ghost invariant = { λ a. IsName a.parts.items };
+    ghost invariant = { λ a. IsName a.parts };
 }
 
 /// Why there is no such name.
@@ -89,19 +91,22 @@ impl Name {
         ensures never_deep { IsErrOf result NameFault.TooDeep → ⊥ }
         ensures inline { (a : List ℕ) (rest : List ℕ) → BeginsWithName bytes.now a rest → length a ≤ 8 → IsOk result }
     {
-        let mut parts = SmallVec::new(alloc);
+        let mut numbers = ArrayVec::<u32, MAX_DEPTH>::new();
         let mut left = bytes;
         loop {
             let Some((number, rest)) = number_at_front(left) else {
                 return Err(NameFault::NotAName);
             };
-            if parts.len() == MAX_DEPTH {
+            if numbers.len() == MAX_DEPTH {
                 return Err(NameFault::NotAName);
             }
-            parts.push(number)?;
+            numbers.push(number);
             match rest {
                 [b'.', behind @ ..] => left = behind,
-                _ => return Ok((Name { parts }, rest)),
+                _ => {
+                    let parts = Numbers::from_slice(alloc, numbers.as_slice())?;
+                    return Ok((Name { parts }, rest));
+                }
             }
         }
     }
@@ -115,8 +120,7 @@ impl Name {
         if number == 0 {
             return Err(NameFault::NotAName);
         }
-        let mut parts = SmallVec::new(alloc);
-        parts.push_reserved(number);
+        let parts = Numbers::from_slice(alloc, &[number])?;
         Ok(Name { parts })
     }
 
@@ -131,26 +135,23 @@ impl Name {
         if number == 0 {
             return Err(NameFault::NotAName);
         }
-        let depth = self.depth();
-        if depth == MAX_DEPTH {
+        if self.depth() == MAX_DEPTH {
             return Err(NameFault::TooDeep);
         }
-        let mut parts = SmallVec::with_capacity(*self.parts.allocator(), depth + 1)?;
-        parts.extend_from_slice(self.parts.as_slice())?;
-        parts.push(number)?;
+        let parts = self.parts.with(number)?;
         Ok(Name { parts })
     }
 
-    /// A copy of the name. This takes no memory up to 8 numbers.
+    /// A copy of the name. This takes no memory: up to 8 numbers are copied in one piece, and more are shared.
     pub fn copy(&self) -> Result<Name, AllocError>
         ensures ok { IfOk result (λ a. IsName a × (a ≡ self.now)) }
         ensures inline { length self.now ≤ 8 → IsOk result }
     {
-        let parts = copied(*self.parts.allocator(), self.parts.as_slice())?;
+        let parts = self.parts.copy()?;
         Ok(Name { parts })
     }
 
-    /// The parent of a subaction, and `None` exactly for a top action. This takes no memory up to 9 numbers.
+    /// The parent of a subaction, and `None` exactly for a top action. This takes no memory.
     pub fn parent(&self) -> Result<Option<Name>, AllocError>
         ensures top { IfOk result (λ p. IsNone p ↔ IsTrue (is_top self.now)) }
         ensures parent { IfOk result (λ p. IfSome p (λ a. IsName a × (a ≡ parent_of self.now))) }
@@ -159,9 +160,7 @@ impl Name {
         if self.is_top() {
             return Ok(None);
         }
-        let numbers = self.parts.as_slice();
-        let above = &numbers[..numbers.len() - 1];
-        let parts = copied(*self.parts.allocator(), above)?;
+        let parts = self.parts.front(self.depth() - 1)?;
         Ok(Some(Name { parts }))
     }
 
@@ -225,7 +224,7 @@ impl Name {
     fn spelled(&self) -> Result<SmallVec<u8, 96>, AllocError>
         ensures { IfOk result (λ bytes. bytes.items ≡ name_text self.now) }
     {
-        let mut bytes = SmallVec::new(*self.parts.allocator());
+        let mut bytes = SmallVec::new(self.parts.allocator());
         if let [first, rest @ ..] = self.parts.as_slice() {
             bytes.extend_from_slice(Buffer::new().format(*first).as_bytes())?;
             for number in rest {
@@ -235,18 +234,6 @@ impl Name {
         }
         Ok(bytes)
     }
-}
-
-/// A copy of these numbers. Names are short: they are there one by one before a copy of many has begun.
-fn copied(alloc: Global, numbers: &[u32]) -> Result<SmallVec<u32, 8>, AllocError>
-    ensures ok { IfOk result (λ parts. parts.items ≡ numbers.now) }
-    ensures inline { length numbers.now ≤ 8 → IsOk result }
-{
-    let mut parts = SmallVec::with_capacity(alloc, numbers.len())?;
-    for number in numbers {
-        parts.push_reserved(*number);
-    }
-    Ok(parts)
 }
 
 /// The number of a name that the bytes begin with, from 1 to 4294967295 without leading zeros, and the bytes that follow its digits.

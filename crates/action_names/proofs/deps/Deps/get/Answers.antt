@@ -1,4 +1,4 @@
-use Rattle.std.proofs.Common.{ℕ, Some, sym, ap, ◌∙◌}
+use Rattle.std.proofs.Common.{sym, ◌∙◌}
 use Rattle.action_names.specs.Deps.{IsAt}
 use Rattle.action_names.proofs.Entries.{get_of, least_at-found, least_at-absent}
 use Rattle.action_names.proofs.deps.Deps.get.Goals as goal

@@ -10,8 +10,8 @@ use Rattle.action_names.proofs.name.Name.meet.Goals as goal
 
 pub returns : goal.returns
 returns c =
-    let a = c.self.inside.parts.items in
-    let b = c.other.inside.parts.items in
+    let a = c.self.inside.parts in
+    let b = c.other.inside.parts in
     let same = λ (p : ℕ × ℕ). p.0 == p.1 in
     let counted =
     count_from_yields_List c.take_while.result c.count.result c.count.ensures.ran

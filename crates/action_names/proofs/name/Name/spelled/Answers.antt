@@ -9,8 +9,8 @@ pub returns : goal.returns
 returns c =
     let numbers = c.as_slice.result.now in
     let same : numbers ≡ c.args.self.now = cc in
-    let view : c.self.inside.parts.items ≡ c.args.self.now = cc in
-    let some : 1 ≤ length c.self.inside.parts.items = c.self.invariant.not_empty in
+    let view : c.self.inside.parts ≡ c.args.self.now = cc in
+    let some : 1 ≤ length c.self.inside.parts = c.self.invariant.not_empty in
     elim c.if-as_slice-lt1.branch [
       | in_default w ↦ absurd (omega (arith, ap length same, ap length view))
       | in-len1-up+in_ok-extend_from_slice+else-loop-number-test w ↦
