@@ -14,6 +14,9 @@ use std::collections::BTreeMap;
 use std::collections::btree_map::Values;
 use std::marker::Model;
 
+/// For how many objects a holder's first room is at least: the least piece of memory has as much.
+const FIRST_ROOM: usize = 4;
+
 /// At which objects each holder holds something, and for how many more there is room.
 #[derive(Drop)]
 pub struct HeldObjects {
@@ -182,7 +185,7 @@ impl HeldObjects {
         if let Some(objects) = self.rows.get_mut(holder) {
             return objects.reserve(additional);
         }
-        let objects = Vec::with_capacity(self.alloc, additional)?;
+        let objects = Vec::with_capacity(self.alloc, additional.max(FIRST_ROOM))?;
         self.rows.insert(holder.copy()?, objects)?;
         Ok(())
     }

@@ -1,4 +1,4 @@
-use Rattle.std.proofs.Common.{◌≡◌, ◌∙◌, ◌+◌, ◌≤◌, ap, subst, sym}
+use Rattle.std.proofs.Common.{◌≡◌, ◌∙◌, ◌+◌, ◌≤◌, ap, arith, subst, sym}
 use Rattle.std.specs.Prelude.{vec_len, vec_capacity}
 use Rattle.std.proofs.lemmas.Result.{on_ok_weaker, on_err_weaker}
 use Rattle.std.specs.BTreeMap.{BTreeMap, insert_entry}
@@ -58,7 +58,7 @@ pub returns-clause-room : goal.returns-clause-room
 returns-clause-room c =
     added_reserved _ c.self.inside.rows.entries _ c.args.holder.now c.in_ok-copy.field-0 c.in_ok-objects.objects c.args.additional c.self.view_is c.in_default.ensures.value
     (c.in_ok-insert.ensures.entries ∙ ap (λ (m : BTreeMap _ _). insert_entry name_cmp m.entries c.in_ok-copy.field-0 c.in_ok-objects.objects) c.get_mut.follows.holds-at-none)
-    c.in_ok-copy.ensures.ok.1 c.in_ok-objects.ensures.capacity
+    c.in_ok-copy.ensures.ok.1 (omega (arith, c.max.ensures, c.in_ok-objects.ensures.capacity))
 
 pub returns-clause-others : goal.returns-clause-others
 returns-clause-others c = λ b.
