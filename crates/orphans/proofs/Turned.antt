@@ -28,6 +28,10 @@ or_turn true false = refl
 or_turn false true = refl
 or_turn false false = refl
 
+pub nobody_named : (xs : List Name) (a : Name) → length xs ≡ 0 → has_name xs a ≡ false
+nobody_named [] a none = refl
+nobody_named (x ∷ xs) a none = absurd (omega (arith, none))
+
 pub has_name_append : (xs ys : List Name) (a : Name) → has_name (xs ++ ys) a ≡ (has_name xs a || has_name ys a)
 has_name_append [] ys a = refl
 has_name_append (x ∷ xs) ys a = ap (λ b. same_name x a || b) (has_name_append xs ys a) ∙ or_assoc (same_name x a) (has_name xs a) (has_name ys a)

@@ -191,6 +191,10 @@ impl Lists {
     fn knows_abort_above(&self, path: &[u32]) -> bool
         ensures { result ≡ list_any (λ b. has_name (known_names self.now.aborts) b) (ancestors path.now) }
     {
+        // Where none is known, no path is looked up.
+        if self.aborts.len() == 0 {
+            return false;
+        }
         for depth in 0..path.len() {
             if self.aborts.contains(&path[..depth + 1]) {
                 return true;
