@@ -153,8 +153,7 @@ impl Deltas {
         self.amounts.take(holder)
     }
 
-    /// Forgets what the action and its descendants add, and drops their room. It cannot fail, and takes memory, for a moment, only for names of more than 8
-    /// numbers.
+    /// Forgets what the action and its descendants add, and drops their room. It cannot fail, and takes no memory.
     #[tactic(auto, using(crate::proofs::Amounts::delta_below))]
     pub fn drop_below(&mut self, action: &Name)
         ensures left { HasNoneBelow self.old.held self.new.held action.now }

@@ -155,8 +155,7 @@ impl HeldObjects {
         self.insert_all(to, &objects);
     }
 
-    /// Drops what the action and its descendants have, and their room. It looks at their rows and one more. It takes memory, for a moment, only for
-    /// names of more than 8 numbers; where there is none it does without, and looks at all.
+    /// Drops what the action and its descendants have, and their room. It looks at their rows and one more. This takes no memory.
     pub fn drop_below(&mut self, action: &Name)
         ensures held { (b : Name) (n : ℕ) → has_object self.new b n ≡ (not (is_ancestor action.now b) && has_object self.old b n) }
         ensures room { (b : Name) → HasRoomBelow self.old b → HasRoomBelow self.new b }

@@ -106,8 +106,7 @@ impl<V: Drop> Holders<V> {
         self.rows.remove(holder)?
     }
 
-    /// Drops what the action and its descendants hold, and their room. It looks at these and one more. It takes memory, for a moment, only for
-    /// names of more than 8 numbers; where there is none it does without, and looks at all.
+    /// Drops what the action and its descendants hold, and their room. It looks at these and one more. This takes no memory.
     pub fn drop_below(&mut self, action: &Name)
         ensures held { self.new.held ≡ without_below self.old.held action.now }
         ensures room { self.new.room ≡ filter (λ b. not (is_ancestor action.now b)) self.old.room }
@@ -227,8 +226,8 @@ fn first_below<'a, R>(rows: &'a BTreeMap<Name, R>, action: &Name) -> Option<&'a 
     }
 }
 
-/// Removes the rows of the action and its descendants, whatever a row is. It looks at these and one more. It takes memory, for a moment, only
-/// for names of more than 8 numbers; where there is none it does without, and looks at all.
+/// Removes the rows of the action and its descendants, whatever a row is. It looks at these and one more, and at all where a name has too many
+/// copies for one more. This takes no memory.
 pub fn remove_below<R: Drop>(rows: &mut BTreeMap<Name, R>, action: &Name)
     ensures { rows.new.entries ≡ filter (λ r. not (is_ancestor action.now r.0)) rows.old.entries }
 {

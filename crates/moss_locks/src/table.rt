@@ -166,8 +166,7 @@ impl LockTable {
         of_class::pass(&mut self.adders, action, to);
     }
 
-    /// Drops the locks of the action and its descendants, and their room. It cannot fail, and takes memory, for a moment, only for names of more
-    /// than 8 numbers.
+    /// Drops the locks of the action and its descendants, and their room. It cannot fail, and takes no memory.
     pub fn drop_below(&mut self, action: &Name)
         ensures locks { self.new.locks ≡ dropped_below self.old.locks action.now }
         ensures room { KeepsRoomBeside self.old self.new action.now }

@@ -86,7 +86,7 @@ impl Tellings {
     }
 
     /// To whom the action hands on what it did when it commits: the nearest ancestor above it that was not told committed; nobody where that is the base
-    /// (Moss 1981). Fails only for want of memory, which names of up to 8 numbers do not take.
+    /// (Moss 1981). This takes no memory, and fails only where a name of more than 8 numbers has too many copies for one more.
     pub fn next_holder(&self, action: &Name) -> Result<Option<Name>, AllocError>
         ensures { IfOk result (λ to. (g : ℕ) (here : List LocalEvent) → AreTold g here self.now
             → to ≡ holder_by (λ b. told_committed_here b here) (parent_of action.now)) }
