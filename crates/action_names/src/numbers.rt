@@ -10,6 +10,9 @@ use std::sync::Arc;
 /// How many numbers lie in the value itself.
 const FEW: usize = 8;
 
+/// How many numbers the smaller of the shared arrays has.
+const SOME: usize = 16;
+
 /// At most 32 numbers, which never change. A copy takes no memory: up to 8 numbers are copied in one piece, and more are shared.
 #[derive(Drop)]
 pub(crate) struct Numbers {
@@ -24,7 +27,8 @@ const _: () = prove!(size_of::<Numbers>() == 48);
 #[derive(Drop)]
 enum Place {
     Here([u32; FEW]),
-    Shared(Arc<[u32; MAX_DEPTH], Global>),
+    Shared(Arc<[u32; SOME], Global>),
+    Deep(Arc<[u32; MAX_DEPTH], Global>),
 }
 
 impl Model for Numbers {
@@ -48,8 +52,10 @@ impl Numbers {
         let count = numbers.len();
         let place = if count <= FEW {
             Place::Here(at_front_of(numbers))
-        } else {
+        } else if count <= SOME {
             Place::Shared(Arc::new(alloc, at_front_of(numbers))?)
+        } else {
+            Place::Deep(Arc::new(alloc, at_front_of(numbers))?)
         };
         Ok(Numbers {
             alloc,
@@ -64,7 +70,8 @@ impl Numbers {
     {
         match &self.place {
             Place::Here(few) => &few[..self.count],
-            Place::Shared(many) => &many[..self.count],
+            Place::Shared(some) => &some[..self.count],
+            Place::Deep(many) => &many[..self.count],
         }
     }
 
@@ -89,17 +96,13 @@ impl Numbers {
         ensures ok { IfOk result (λ a. a ≡ take count self.now) }
         ensures inline { count ≤ 8 → IsOk result }
     {
+        let alloc = self.alloc;
         let place = match &self.place {
             Place::Here(few) => Place::Here(*few),
-            Place::Shared(many) => {
-                if count <= FEW {
-                    Place::Here(at_front_of(&many[..count]))
-                } else {
-                    Place::Shared(many.clone()?)
-                }
-            }
+            _ if count <= FEW => Place::Here(at_front_of(&self.as_slice()[..count])),
+            Place::Shared(some) => Place::Shared(some.clone()?),
+            Place::Deep(many) => Place::Deep(many.clone()?),
         };
-        let alloc = self.alloc;
         Ok(Numbers {
             alloc,
             count,
@@ -127,14 +130,9 @@ impl Numbers {
                 });
             }
         }
-        let mut many = at_front_of(self.as_slice());
+        let mut many: [u32; MAX_DEPTH] = at_front_of(self.as_slice());
         many[self.count] = number;
-        let place = Place::Shared(Arc::new(alloc, many)?);
-        Ok(Numbers {
-            alloc,
-            count,
-            place,
-        })
+        Numbers::from_slice(alloc, &many[..count])
     }
 
     /// Where the memory of the numbers comes from.
