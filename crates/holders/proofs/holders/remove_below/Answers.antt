@@ -14,6 +14,12 @@ loop-first-preserved-in-Ok g c =
     let below = subst (λ n. is_ancestor a n ≡ true) (sym c.in-Ok.ensures.ok.1) c.in-Some.ensures.below in
     ap (filter (λ r. not (is_ancestor a r.0))) c.remove.ensures.entries ∙ others_stay a c.in-Ok.name c.loop-first.rows.entries below ∙ c.loop-first.invariant
 
+pub loop-first-preserved-in-Ok-2 : goal.loop-first-preserved-in-Ok-2
+loop-first-preserved-in-Ok-2 g c =
+    let a = c.args.action.now in
+    let below = subst (λ n. is_ancestor a n ≡ true) (sym c.in-Ok.ensures.ok.1) c.in-Some.ensures.below in
+    ap (filter (λ r. not (is_ancestor a r.0))) c.remove.ensures.entries ∙ others_stay a c.in-Ok.name c.loop-first.rows.entries below ∙ c.loop-first.invariant
+
 pub loop-first-preserved : goal.loop-first-preserved
 loop-first-preserved g c =
     let a = c.args.action.now in

@@ -77,6 +77,19 @@ loop-number-preserved-in-Some-3 c =
       will = step.2;
     }
 
+pub loop-number-preserved-in-Some-4 : goal.loop-number-preserved-in-Some-4
+loop-number-preserved-in-Some-4 c =
+    let step = abort_step c.args.telling.action c.args.telling.at.items c.pop.new.self.items c.loop-number.at.items c.in-Some.number _
+    c.in-Some.ensures.items c.args.self.now.objects c.loop-number.self.objects c.drop_below_at.new.self.objects c.loop-number.invariant.rising c.loop-number.invariant.there
+    c.loop-number.invariant.will c.drop_below_at.ensures.objects in
+    record {
+      guardian = c.drop_below_at.ensures.guardian ∙ c.loop-number.invariant.guardian;
+      held = c.drop_below_at.ensures.held ∙ c.loop-number.invariant.held;
+      rising = step.0;
+      there = step.1;
+      will = step.2;
+    }
+
 pub returns-clause-told : goal.returns-clause-told
 returns-clause-told c = λ opening stands stand may.
     let t = c.args.telling in

@@ -27,6 +27,20 @@ loop-name-preserved-in-Some c =
           c.in-Some.ensures.items c.add.ensures.added c.loop-name.invariant.same;
     }
 
+pub loop-name-preserved-in-Some-2 : goal.loop-name-preserved-in-Some-2
+loop-name-preserved-in-Some-2 c =
+    let items = c.loop-name.begun.items in
+    let rest = c.pop.new.self.items in
+    record {
+      fits = record {
+        rows = omega (arith, c.add.ensures.len, c.add.ensures.capacity, c.in-Some.ensures.cases, c.loop-name.invariant.fits.rows);
+        places = (places_rest c.loop-name.self.places.room c.add.new.self.places.room rest items (c.in-Some.name, c.in-Some.row) c.in-Some.ensures.items
+            c.add.ensures.places c.loop-name.invariant.fits.places).0;
+      };
+      same = same_added rest items (c.in-Some.name, c.in-Some.row) (table c.loop-name.self) (table c.add.new.self) (all_added c.args.begun.items (table c.args.self.now))
+          c.in-Some.ensures.items c.add.ensures.added c.loop-name.invariant.same;
+    }
+
 pub loop-name-preserved : goal.loop-name-preserved
 loop-name-preserved c =
     let items = c.loop-name.begun.items in

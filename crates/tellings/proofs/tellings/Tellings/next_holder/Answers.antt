@@ -25,8 +25,21 @@ pub loop-above-smaller-in_ok-above-2 : goal.loop-above-smaller-in_ok-above-2
 loop-above-smaller-in_ok-above-2 c =
     height_falls c.loop-above.above c.in-Some.name c.in-Some.is c.loop-above.invariant.named c.in_ok-above-2.above c.in_ok-above-2.ensures.parent
 
+pub loop-above-smaller-in_ok-above-2-2 : goal.loop-above-smaller-in_ok-above-2-2
+loop-above-smaller-in_ok-above-2-2 c =
+    height_falls c.loop-above.above c.in-Some.name c.in-Some.is c.loop-above.invariant.named c.in_ok-above-2.above c.in_ok-above-2.ensures.parent
+
 pub loop-above-preserved-in_ok-above-2 : goal.loop-above-preserved-in_ok-above-2
 loop-above-preserved-in_ok-above-2 c = record {
+  named = parent_named c.in-Some.name c.in_ok-above-2.above c.in_ok-above-2.ensures.parent;
+  same =
+      nearest_is_above c.loop-above.above c.in-Some.name c.in-Some.is c.loop-above.invariant.named c.in_ok-above-2.above c.in_ok-above-2.ensures.parent
+      c.in_ok-above-2.ensures.top (λ b. not (is_told_committed (value_at c.args.self.now.told.held b))) (ap not (sym c.knows_commit.ensures ∙ c.if-not-knows_commit.false))
+      ∙ c.loop-above.invariant.same;
+}
+
+pub loop-above-preserved-in_ok-above-2-2 : goal.loop-above-preserved-in_ok-above-2-2
+loop-above-preserved-in_ok-above-2-2 c = record {
   named = parent_named c.in-Some.name c.in_ok-above-2.above c.in_ok-above-2.ensures.parent;
   same =
       nearest_is_above c.loop-above.above c.in-Some.name c.in-Some.is c.loop-above.invariant.named c.in_ok-above-2.above c.in_ok-above-2.ensures.parent

@@ -14,6 +14,15 @@ loop-action-preserved-in-Some c = record {
       before_parts life c.pop.new.self.items _ _ _ _ _ c.in-Some.ensures.items c.put.ensures.held (c.loop-action.invariant.lives life old heard);
 }
 
+pub loop-action-preserved-in-Some-2 : goal.loop-action-preserved-in-Some-2
+loop-action-preserved-in-Some-2 c = record {
+  crashes = c.loop-action.invariant.crashes;
+  fits = (fits_parts c.loop-action.self.told.room c.put.new.self.room _ _ _ c.in-Some.ensures.items c.put.ensures.room c.loop-action.invariant.fits).0;
+  values = λ b. put_last c.pop.new.self.items _ _ _ _ _ c.in-Some.ensures.items c.put.ensures.held b ∙ c.loop-action.invariant.values b;
+  lives = λ life old heard.
+      before_parts life c.pop.new.self.items _ _ _ _ _ c.in-Some.ensures.items c.put.ensures.held (c.loop-action.invariant.lives life old heard);
+}
+
 pub loop-action-preserved : goal.loop-action-preserved
 loop-action-preserved c = record {
   crashes = c.loop-action.invariant.crashes;
