@@ -67,6 +67,23 @@ loop-record-preserved-in_ok-give_back c =
           (c.in_ok-give_back.ensures.given opening behind r.home c.loop-record.invariant.given (may_give (goal.at.loop-record-preserved-in_ok-give_back c).After-deref-in-Some)));
     }
 
+pub loop-record-preserved-in_ok-give_back-2 : goal.loop-record-preserved-in_ok-give_back-2
+loop-record-preserved-in_ok-give_back-2 c =
+    let xs = c.args.records.items in
+    let ws = c.loop-record.left.items in
+    let ys = c.pop.new.self.items in
+    let r = c.in-Some.record in
+    let opening = opening_in (arc_value c.args.opening) in
+    let next = behind_next xs ys ws r c.in-Some.ensures.items c.loop-record.invariant.left in
+    let behind = records_of (drop (length ws) xs) in
+    record {
+      left = still_all xs ys ws r c.in-Some.ensures.items c.loop-record.invariant.left;
+      guardian = c.give_back.ensures.guardian ∙ c.loop-record.invariant.guardian;
+      given = subst (λ l. AreGivenBack opening (records_of l) c.give_back.new.self) (sym next)
+          (subst (λ ps. AreGivenBack opening (with_record r.top r.home ps behind) c.give_back.new.self) c.deref-in-Some.ensures.value
+          (c.in_ok-give_back.ensures.given opening behind r.home c.loop-record.invariant.given (may_give (goal.at.loop-record-preserved-in_ok-give_back-2 c).After-deref-in-Some)));
+    }
+
 pub loop-record-preserved : goal.loop-record-preserved
 loop-record-preserved c =
     let xs = c.args.records.items in
