@@ -184,10 +184,15 @@ impl<G: Alone> Section<G> {
 
     /// `keep LINE`: the guardian keeps the step with what its messages bring; what they bring is gone then.
     fn keep(&mut self, line: &str, answer: &mut String) -> Result<(), RowFault> {
-        let step = read_step(self.alloc, line)?;
         answer.reserve(ROOM)?;
-        let kept = self.keep_step(&step, answer)?;
+        let kept = self.keep_line(line, answer)?;
         Ok(write_kept_step(kept, answer)?)
+    }
+
+    /// Keeps the step that the line spells.
+    fn keep_line(&mut self, line: &str, answer: &mut String) -> Result<Option<Answer>, RowFault> {
+        let step = read_step(self.alloc, line)?;
+        self.keep_step(&step, answer)
     }
 
     /// Keeps the step, once more where the store failed; `None` where it is not accepted. Where memory is refused, nothing has happened.
