@@ -1,7 +1,7 @@
 //! Rows of what `run_serial` makes and leaves.
 use crate::examples::Examples;
 use crate::scripts::script_of;
-use crate::stepping::{fault_of_step, world_of};
+use crate::stepping::{fault_of_step, made, world_of};
 use activities::{ClientEnd, run_serial};
 use rows::{Row, RowFault, Words};
 use run_model::{Answer, ObjectId, Step};
@@ -140,10 +140,7 @@ fn push_probe<S: Stable>(
     answer: &mut String,
 ) -> Result<(), RowFault> {
     let line = operation_line(alloc, world, guardian, operation)?;
-    let Some(step) = Step::read(alloc, line.as_bytes())? else {
-        return Err(RowFault::Unread);
-    };
-    let given = world.step(&step).map_err(fault_of_step)?;
+    let given = made(alloc, world, line.as_str())?;
     Ok(given.write_to(answer)?)
 }
 

@@ -62,15 +62,24 @@ pub(crate) fn make_step<S: Stable>(
     line: &str,
     answer: &mut String,
 ) -> Result<(), RowFault> {
-    let Some(step) = Step::read(alloc, line.as_bytes())? else {
-        return Err(RowFault::Unread);
-    };
-    let given = world.step(&step).map_err(fault_of_step)?;
+    let given = made(alloc, world, line)?;
     // the step is made: only its answer's text can be asked for once more
     if given.write_to(answer).is_err() {
         given.write_to(answer)?;
     }
     Ok(())
+}
+
+/// The answer of the world to the step that the line spells.
+pub(crate) fn made<S: Stable>(
+    alloc: Global,
+    world: &mut World<S>,
+    line: &str,
+) -> Result<Answer, RowFault> {
+    match Step::read(alloc, line.as_bytes())? {
+        Some(step) => world.step(&step).map_err(fault_of_step),
+        None => Err(RowFault::Unread),
+    }
 }
 
 /// `list`: what a new world answers to the section's steps as one list.
@@ -149,9 +158,14 @@ pub(crate) fn explain_action(
 /// `rewrite LINE`: the step of the line, written again.
 pub(crate) fn rewrite_step(alloc: Global, line: &str, answer: &mut String) -> Result<(), RowFault> {
     match Step::read(alloc, line.as_bytes())? {
-        Some(step) => Ok(answer.push_str(step.text(alloc)?.as_str())?),
+        Some(step) => write_step(alloc, &step, answer),
         None => Err(RowFault::Unread),
     }
+}
+
+fn write_step(alloc: Global, step: &Step, answer: &mut String) -> Result<(), RowFault> {
+    let text = step.text(alloc)?;
+    Ok(answer.push_str(text.as_str())?)
 }
 
 /// `fault NAME`: the text of the engine's fault.
