@@ -6,13 +6,14 @@ ghost use Rattle.layer_contracts.specs.Messages.{is_operation};
 ghost use Rattle.guardian_memory.specs.Plans.{FitsPlan, FollowsWhere, IsPlannedWhere};
 ghost use Rattle.guardian.specs.Guardians.{IsPlannedHere, IsRecordedAt, WhereverPlanned};
 ghost use Rattle.guardian.specs.Writes.{fault_by};
+ghost use Rattle.layer_contracts.specs.Guardians.{event_of};
 
 use crate::guardian::Guardian;
 use crate::records::recorded_in;
 use crate::writes::Write;
 use guardian_memory::{Memory, Plan};
 use layer_contracts::{Fault, Message};
-use run_model::{Answer, Event, Name, Names, ObjectId, Op, Opening, Step};
+use run_model::{Answer, Name, Names, ObjectId, Op, Opening, Step};
 use stable_store::{Stable, StoreFault};
 use std::alloc::{AllocError, Global};
 
@@ -91,44 +92,44 @@ impl<S: Stable> layer_contracts::Guardian for Guardian<S> {
         self.memory.unsent_counts(&to.memory)
     }
 
-    fn plan(&mut self, event: &Event, message: Message) -> Result<Plan, AllocError> {
-        self.memory.plan(event, message)
+    fn plan(&mut self, step: &Step, answer: &Answer, message: Message) -> Result<Plan, AllocError> {
+        self.memory.plan(step, answer, message)
     }
 
-    fn operate<F: FnOnce() -> u64>(&mut self, event: &Event, stamp: F) -> Result<u64, AllocError> {
-        self.memory.operate(event, stamp)
+    fn operate<F: FnOnce() -> u64>(&mut self, step: &Step, answer: &Answer, stamp: F) -> Result<u64, AllocError> {
+        self.memory.operate(step, answer, stamp)
     }
 
     fn carry_out<F: FnOnce() -> u64>(
         &mut self,
         plan: Plan,
-        event: &Event,
+        step: &Step, answer: &Answer,
         stamp: F,
     ) -> Result<u64, Fault> {
-        if let Err(fault) = write(self.alloc, &self.memory, &mut self.store, &plan, event) {
+        if let Err(fault) = write(self.alloc, &self.memory, &mut self.store, &plan, step, answer) {
             return Err(fault);
         }
         let drawn = stamp();
-        keep(&mut self.memory, &self.store, plan, event, drawn);
+        keep(&mut self.memory, &self.store, plan, step, answer, drawn);
         Ok(drawn)
     }
 
-    fn install(&mut self, plan: Plan, event: &Event, stamp: u64) {
-        keep(&mut self.memory, &self.store, plan, event, stamp);
+    fn install(&mut self, plan: Plan, step: &Step, answer: &Answer, stamp: u64) {
+        keep(&mut self.memory, &self.store, plan, step, answer, stamp);
     }
 }
 
 // The memory follows an event that is no operation, once the store holds what it asks for. A crash asks for nothing.
-fn keep<S: Stable>(memory: &mut Memory, store: &S, plan: Plan, event: &Event, stamp: u64)
+fn keep<S: Stable>(memory: &mut Memory, store: &S, plan: Plan, step: &Step, answer: &Answer, stamp: u64)
     requires fits { FitsPlan plan memory.old }
-    requires planned { IsPlannedWhere (IsRecordedAt event.now.step (S.seen store.now).content) plan memory.old event.now }
-    requires other { IsFalse (is_operation event.now.step) }
+    requires planned { IsPlannedWhere (IsRecordedAt step.now (S.seen store.now).content) plan memory.old (event_of step.now answer.now) }
+    requires other { IsFalse (is_operation step.now) }
     requires found { (S.seen store.now).holds_content ≡ true }
-    ensures { FollowsWhere (IsRecordedAt event.now.step (S.seen store.now).content) plan memory.old event.now stamp memory.new }
+    ensures { FollowsWhere (IsRecordedAt step.now (S.seen store.now).content) plan memory.old (event_of step.now answer.now) stamp memory.new }
 {
-    match &event.step {
-        Step::Crash(_) => memory.crash(plan, event, stamp, &recorded_in(store)),
-        _ => memory.keep(plan, event, stamp),
+    match step {
+        Step::Crash(_) => memory.crash(plan, step, answer, stamp, &recorded_in(store)),
+        _ => memory.keep(plan, step, answer, stamp),
     }
 }
 
@@ -138,14 +139,14 @@ fn write<S: Stable>(
     memory: &Memory,
     store: &mut S,
     plan: &Plan,
-    event: &Event,
+    step: &Step, answer: &Answer,
 ) -> Result<(), Fault>
-    requires { IsPlannedHere S.seen (record { memory = memory.now; store = store.old }) plan.now event.now }
-    ensures leaves { WhereverPlanned S.seen (record { memory = memory.now; store = store.old }) plan.now event.now
+    requires { IsPlannedHere S.seen (record { memory = memory.now; store = store.old }) plan.now (event_of step.now answer.now) }
+    ensures leaves { WhereverPlanned S.seen (record { memory = memory.now; store = store.old }) plan.now (event_of step.now answer.now)
         (λ s news. LeavesStore s news (S.seen store.old) (S.seen store.new) (fault_in result)) }
     ensures cause { IsErrOf result Stable → CountsFailure (S.seen store.old) (S.seen store.new) }
 {
-    let write = Write::of(memory, store, plan, event)?;
+    let write = Write::of(memory, store, plan, step, answer)?;
     match write.perform(alloc, store) {
         Ok(()) => Ok(()),
         Err(fault) => Err(fault_of(fault)),

@@ -6,7 +6,7 @@ ghost use Rattle.stable_store.specs.Calls.{Makes};
 ghost use Rattle.stable_store.specs.Stored.{Stored, after_bump};
 ghost use Rattle.stored_laws.specs.Stored.{after_event, asks_store, has_record};
 ghost use Rattle.local_agreement.specs.Judging.{is_yes};
-ghost use Rattle.layer_contracts.specs.Guardians.{GuardianState, News, stamped};
+ghost use Rattle.layer_contracts.specs.Guardians.{GuardianState, News, event_of, stamped};
 ghost use Rattle.guardian_memory.specs.Memories.{IsSound};
 ghost use Rattle.guardian_memory.specs.Plans.{IsPlanOf};
 ghost use Rattle.guardian.specs.Guardians.{IsPlannedHere, WhereverPlanned};
@@ -16,7 +16,7 @@ use crate::records::recorded_in;
 use atomic_types::Part;
 use guardian_memory::{Memory, Plan};
 use holders::Survivors;
-use run_model::{Answer, Event, Name, Step};
+use run_model::{Answer, Name, Step};
 use stable_store::{Stable, StoreFault};
 use std::alloc::{AllocError, Global};
 use std::collections::BTreeMap;
@@ -43,18 +43,18 @@ impl Write {
         memory: &Memory,
         store: &S,
         plan: &Plan,
-        event: &Event,
+        step: &Step, answer: &Answer,
     ) -> Result<Write, AllocError>
-        requires { IsPlannedHere S.seen (record { memory = memory.now; store = store.now }) plan.now event.now }
-        ensures written { WhereverPlanned S.seen (record { memory = memory.now; store = store.now }) plan.now event.now (λ s news. IfOk result (λ write.
+        requires { IsPlannedHere S.seen (record { memory = memory.now; store = store.now }) plan.now (event_of step.now answer.now) }
+        ensures written { WhereverPlanned S.seen (record { memory = memory.now; store = store.now }) plan.now (event_of step.now answer.now) (λ s news. IfOk result (λ write.
             written write (S.seen store.now).content ≡ after_event s.opening s.number (stamped 0 news) s.past (S.seen store.now).content)) }
-        ensures asked { WhereverPlanned S.seen (record { memory = memory.now; store = store.now }) plan.now event.now (λ s news. IfOk result (λ write.
+        ensures asked { WhereverPlanned S.seen (record { memory = memory.now; store = store.now }) plan.now (event_of step.now answer.now) (λ s news. IfOk result (λ write.
             is_nothing write ≡ not (asks_store s.number (stamped 0 news) (S.seen store.now).content))) }
     {
         let number = memory.number();
-        match &event.step {
+        match step {
             Step::Prepare(voter, top) if *voter == number => {
-                Write::of_vote(memory, plan, &event.answer, top)
+                Write::of_vote(memory, plan, answer, top)
             }
             Step::Tell(told, action) if *told == number => Ok(Write::of_telling(
                 store, plan, action,

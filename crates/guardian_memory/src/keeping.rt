@@ -1,7 +1,7 @@
 //! Keeping an event.
 ghost use Rattle.std.specs.Prelude.{◌≡◌, IfOk, OnErr, IsFalse, IsTrue};
 ghost use Rattle.run_model.specs.Actions.{step_crashes};
-ghost use Rattle.layer_contracts.specs.Guardians.{GuardianState, IsNext, by_itself};
+ghost use Rattle.layer_contracts.specs.Guardians.{GuardianState, IsNext, by_itself, event_of};
 ghost use Rattle.layer_contracts.specs.Messages.{is_operation};
 ghost use Rattle.guardian_memory.specs.Accepting.{AreRecorded};
 ghost use Rattle.guardian_memory.specs.Memories.{IsSound};
@@ -10,17 +10,17 @@ ghost use Rattle.guardian_memory.specs.Plans.{FitsPlan, Follows, FollowsWhere, I
 use crate::memory::Memory;
 use crate::plan::Plan;
 use holders::Survivors;
-use run_model::{Event, Step};
+use run_model::{Answer, Step};
 use std::alloc::AllocError;
 
 impl Memory {
     /// Follows an event that is neither an operation nor a crash of the guardian. This cannot fail.
-    pub fn keep(&mut self, plan: Plan, event: &Event, stamp: u64)
+    pub fn keep(&mut self, plan: Plan, step: &Step, answer: &Answer, stamp: u64)
         requires fits { FitsPlan plan self.old }
-        requires planned { IsPlanned plan self.old event.now }
-        requires other { IsFalse (is_operation event.now.step) }
-        requires up { IsFalse (step_crashes event.now.step self.old.number) }
-        ensures { Follows plan self.old event.now stamp self.new }
+        requires planned { IsPlanned plan self.old (event_of step.now answer.now) }
+        requires other { IsFalse (is_operation step.now) }
+        requires up { IsFalse (step_crashes step.now self.old.number) }
+        ensures { Follows plan self.old (event_of step.now answer.now) stamp self.new }
     {
         let Plan {
             heard,
@@ -37,11 +37,11 @@ impl Memory {
 
     /// The guardian crashes: it forgets its lists, what it was told but for commits, and of its objects all but the base and what the survivors wrote
     /// and added. It stands in the state that follows wherever the survivors are the top actions of which the store has a record. This cannot fail.
-    pub fn crash<S: Survivors>(&mut self, plan: Plan, event: &Event, stamp: u64, survivors: &S)
+    pub fn crash<S: Survivors>(&mut self, plan: Plan, step: &Step, answer: &Answer, stamp: u64, survivors: &S)
         requires fits { FitsPlan plan self.old }
-        requires planned { IsPlannedWhere (AreRecorded (λ a. S.stays survivors.now a)) plan self.old event.now }
-        requires down { IsTrue (step_crashes event.now.step self.old.number) }
-        ensures { FollowsWhere (AreRecorded (λ a. S.stays survivors.now a)) plan self.old event.now stamp self.new }
+        requires planned { IsPlannedWhere (AreRecorded (λ a. S.stays survivors.now a)) plan self.old (event_of step.now answer.now) }
+        requires down { IsTrue (step_crashes step.now self.old.number) }
+        ensures { FollowsWhere (AreRecorded (λ a. S.stays survivors.now a)) plan self.old (event_of step.now answer.now) stamp self.new }
     {
         let Plan { heard, entry, .. } = plan;
         let alloc = self.alloc;
@@ -55,17 +55,17 @@ impl Memory {
     /// object. Fails only for want of memory.
     pub fn operate<F: FnOnce() -> u64>(
         &mut self,
-        event: &Event,
+        step: &Step, answer: &Answer,
         stamp: F,
     ) -> Result<u64, AllocError>
         requires stamp { F.pre stamp }
-        requires operation { IsTrue (is_operation event.now.step) }
-        requires next { (s : GuardianState) × IsSound self.old s × IsNext s (by_itself event.now) }
+        requires operation { IsTrue (is_operation step.now) }
+        requires next { (s : GuardianState) × IsSound self.old s × IsNext s (by_itself (event_of step.now answer.now)) }
         ensures ok { IfOk result (λ n. F.post stamp n) }
-        ensures kept { IfOk result (λ n. Operated self.old event.now n self.new) }
+        ensures kept { IfOk result (λ n. Operated self.old (event_of step.now answer.now) n self.new) }
         ensures err { OnErr result ((s : GuardianState) → IsSound self.old s → IsSound self.new s) }
     {
-        let Step::Op(action, object, operation) = &event.step else {
+        let Step::Op(action, object, operation) = step else {
             unreachable!();
         };
         self.objects.grant(action, object.number, operation)?;

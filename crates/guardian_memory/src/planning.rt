@@ -4,7 +4,7 @@ ghost use Rattle.atomic_object.specs.Staying.{OutcomesRise};
 ghost use Rattle.run_model.specs.Runs.{is_accepted};
 ghost use Rattle.local_laws.specs.Owed.{IsOwed};
 ghost use Rattle.local_agreement.specs.Laws.{Agrees};
-ghost use Rattle.layer_contracts.specs.Guardians.{GuardianState};
+ghost use Rattle.layer_contracts.specs.Guardians.{GuardianState, event_of};
 ghost use Rattle.guardian_memory.specs.Accepting.{local_event, news_in};
 ghost use Rattle.guardian_memory.specs.Memories.{IsSound};
 ghost use Rattle.guardian_memory.specs.Plans.{FitsPlan, IsPlanOf};
@@ -13,22 +13,22 @@ use crate::memory::Memory;
 use crate::plan::Plan;
 use layer_contracts::Message;
 use orphans::News;
-use run_model::Event;
+use run_model::{Answer, Step};
 use std::alloc::AllocError;
 
 impl Memory {
     /// Makes room for an event and computes what it changes. With memory and without, the memory stands where it stood. The plan is for the event in
     /// each state whose history it agrees with, where it brings what that history asks of it. Fails for want of memory, and where one more crash could
     /// not be counted.
-    pub fn plan(&mut self, event: &Event, message: Message) -> Result<Plan, AllocError>
-        requires accepted { IsTrue (is_accepted event.now.answer) }
+    pub fn plan(&mut self, step: &Step, answer: &Answer, message: Message) -> Result<Plan, AllocError>
+        requires accepted { IsTrue (is_accepted answer.now) }
         requires rising { OutcomesRise message.outcomes.items }
         ensures same { (s : GuardianState) → IsSound self.old s → IsSound self.new s }
         ensures fits { IfOk result (λ plan. FitsPlan plan self.new) }
         ensures planned { IfOk result (λ plan. (s : GuardianState) → IsSound self.old s
-            → IsOwed s.opening s.number (local_event event.now message) s.past event.now.step
-            → Agrees s.opening s.number (local_event event.now message) s.past
-            → IsPlanOf plan self.new s (news_in event.now message)) }
+            → IsOwed s.opening s.number (local_event (event_of step.now answer.now) message) s.past step.now
+            → Agrees s.opening s.number (local_event (event_of step.now answer.now) message) s.past
+            → IsPlanOf plan self.new s (news_in (event_of step.now answer.now) message)) }
     {
         if self.roster.crashes() == u64::MAX {
             return Err(AllocError);
@@ -46,7 +46,7 @@ impl Memory {
         let planned = self.objects.plan(outcomes, &self.told)?;
         let heard = self.told.plan(outcomes)?;
         let lesson = self.lists.plan_lesson(self.alloc, news)?;
-        let entry = self.roster.plan(event, dependencies)?;
+        let entry = self.roster.plan(step, answer, dependencies)?;
         let sender = message.sender;
         Ok(Plan {
             sender,

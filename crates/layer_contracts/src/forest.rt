@@ -11,10 +11,10 @@ ghost use Rattle.run_model.specs.Votes.{has_voted};
 ghost use Rattle.run_model.specs.LocalReadings.{LocalEvent};
 ghost use Rattle.run_model.specs.LocalHistories.{answer_lent, dependency_there, entries_of, events_there, outcomes_below};
 ghost use Rattle.layer_contracts.specs.Forests.{ForestState, RegistryNews, begun_at, entered, new_entries, stamped_there};
-ghost use Rattle.layer_contracts.specs.Guardians.{GuardianState};
+ghost use Rattle.layer_contracts.specs.Guardians.{GuardianState, event_of};
 
 use crate::guardian::Guardian;
-use run_model::{Event, Name, Opening};
+use run_model::{Answer, Name, Opening, Step};
 use std::alloc::AllocError;
 
 /// The forest of actions and the ballots, as a step uses them: readings of the registry's history, which the forest need not keep. So what it says is
@@ -104,17 +104,17 @@ pub trait Forest: Drop {
 
     /// Makes room for an event and computes what it changes. What it begins begins at this home in this life of it. With memory and without, the
     /// forest stands where it stood. The plan is for the event in each state in which that was entered.
-    fn plan(&mut self, event: &Event, home: u32, life: u64) -> Result<Self::Plan, AllocError>
-        requires accepted { IsTrue (is_accepted event.now.answer) }
+    fn plan(&mut self, step: &Step, answer: &Answer, home: u32, life: u64) -> Result<Self::Plan, AllocError>
+        requires accepted { IsTrue (is_accepted answer.now) }
         ensures same { (f : ForestState) → stands self.old f → stands self.new f }
         ensures fits { IfOk result (λ plan. fits plan self.new) }
-        ensures planned { IfOk result (λ plan. (f : ForestState) → stands self.old f → entered f event.now
-            → is_for plan self.new f (record { event = event.now; begun = begun_at f home life event.now.answer })) };
+        ensures planned { IfOk result (λ plan. (f : ForestState) → stands self.old f → entered f (event_of step.now answer.now)
+            → is_for plan self.new f (record { event = (event_of step.now answer.now); begun = begun_at f home life answer.now })) };
 
     /// Carries a plan out that is for this event in some state in which the forest stands. This cannot fail.
-    fn install(&mut self, plan: Self::Plan, event: &Event, stamp: u64)
+    fn install(&mut self, plan: Self::Plan, step: &Step, answer: &Answer, stamp: u64)
         requires fits { fits plan self.old }
-        requires planned { (f : ForestState) × (news : RegistryNews) × stands self.old f × is_for plan self.old f news × (news.event ≡ event.now) }
-        ensures { (f : ForestState) (news : RegistryNews) → stands self.old f → is_for plan self.old f news → news.event ≡ event.now
+        requires planned { (f : ForestState) × (news : RegistryNews) × stands self.old f × is_for plan self.old f news × (news.event ≡ (event_of step.now answer.now)) }
+        ensures { (f : ForestState) (news : RegistryNews) → stands self.old f → is_for plan self.old f news → news.event ≡ (event_of step.now answer.now)
             → stands self.new (record f { registry = stamped_there stamp news ∷ f.registry }) };
 }

@@ -8,14 +8,14 @@ ghost use Rattle.run_model.specs.Runs.{is_accepted};
 ghost use Rattle.run_model.specs.LocalReadings.{events_here, is_at_home, is_orphan_here, standing_here, told_here, unsent_aborts, unsent_counts};
 ghost use Rattle.local_laws.specs.Owed.{IsOwed};
 ghost use Rattle.local_agreement.specs.Laws.{Agrees};
-ghost use Rattle.layer_contracts.specs.Guardians.{GuardianState, IsNext, MayAsk, News, by_itself, count_told, kept, stamped};
+ghost use Rattle.layer_contracts.specs.Guardians.{GuardianState, IsNext, MayAsk, News, by_itself, count_told, event_of, kept, stamped};
 ghost use Rattle.stable_store.specs.Calls.{View};
 ghost use Rattle.layer_contracts.specs.Messages.{carried_of, is_operation, may_fail};
 ghost use Rattle.layer_contracts.specs.Stores.{CountsFailure, IsStoreOf, LeavesStore, Stays, fault_in};
 ghost use Rattle.layer_contracts.specs.declared.guardian.Fault.TheVariants.{Stable};
 
 use crate::message::Message;
-use run_model::{Answer, Event, Name, Names, ObjectId, Op, Opening};
+use run_model::{Answer, Name, Names, ObjectId, Op, Opening, Step};
 use std::alloc::AllocError;
 
 /// Why a call did not come about.
@@ -126,26 +126,26 @@ pub trait Guardian: Drop {
     /// Makes room for an event and computes what it changes. With memory and without, the guardian stands where it stood, and its store is as it was.
     /// The plan is for the event in each state whose history it agrees with, where it brings what that history asks of it. Also fails where one more
     /// crash could not be counted.
-    fn plan(&mut self, event: &Event, message: Message) -> Result<Self::Plan, AllocError>
-        requires accepted { IsTrue (is_accepted event.now.answer) }
+    fn plan(&mut self, step: &Step, answer: &Answer, message: Message) -> Result<Self::Plan, AllocError>
+        requires accepted { IsTrue (is_accepted answer.now) }
         requires rising { IsStrictlySortedBy name_cmp (map (λ x. x.0) message.outcomes.items) }
         ensures same { (s : GuardianState) → stands self.old s → stands self.new s }
         ensures store { Stays (stored self.old) (stored self.new) }
         ensures fits { IfOk result (λ plan. fits plan self.new) }
         ensures planned { IfOk result (λ plan. (s : GuardianState) → stands self.old s
-            → IsOwed s.opening s.number (stamped 0 (record { event = event.now; carried = carried_of message })) s.past event.now.step
-            → Agrees s.opening s.number (stamped 0 (record { event = event.now; carried = carried_of message })) s.past
-            → is_for plan self.new s (record { event = event.now; carried = carried_of message })) };
+            → IsOwed s.opening s.number (stamped 0 (record { event = (event_of step.now answer.now); carried = carried_of message })) s.past step.now
+            → Agrees s.opening s.number (stamped 0 (record { event = (event_of step.now answer.now); carried = carried_of message })) s.past
+            → is_for plan self.new s (record { event = (event_of step.now answer.now); carried = carried_of message })) };
 
     /// Makes an operation, with which no message comes: first the object's call, then the stamp, after which nothing can fail. Nothing changes beside
     /// the object, so there is nothing to plan. Fails only for want of memory.
-    fn operate<F: FnOnce() -> u64>(&mut self, event: &Event, stamp: F) -> Result<u64, AllocError>
+    fn operate<F: FnOnce() -> u64>(&mut self, step: &Step, answer: &Answer, stamp: F) -> Result<u64, AllocError>
         requires stamp { F.pre stamp }
-        requires operation { IsTrue (is_operation event.now.step) }
-        requires next { (s : GuardianState) × stands self.old s × IsNext s (by_itself event.now) }
+        requires operation { IsTrue (is_operation step.now) }
+        requires next { (s : GuardianState) × stands self.old s × IsNext s (by_itself (event_of step.now answer.now)) }
         ensures ok { IfOk result (λ n. F.post stamp n) }
-        ensures kept { IfOk result (λ n. (s : GuardianState) → stands self.old s → IsNext s (by_itself event.now)
-            → stands self.new (kept s (stamped n (by_itself event.now)))) }
+        ensures kept { IfOk result (λ n. (s : GuardianState) → stands self.old s → IsNext s (by_itself (event_of step.now answer.now))
+            → stands self.new (kept s (stamped n (by_itself (event_of step.now answer.now))))) }
         ensures err { OnErr result ((s : GuardianState) → stands self.old s → stands self.new s) }
         ensures store { Stays (stored self.old) (stored self.new) };
 
@@ -155,28 +155,28 @@ pub trait Guardian: Drop {
     fn carry_out<F: FnOnce() -> u64>(
         &mut self,
         plan: Self::Plan,
-        event: &Event,
+        step: &Step, answer: &Answer,
         stamp: F,
     ) -> Result<u64, Fault>
         requires stamp { F.pre stamp }
-        requires other { IsFalse (is_operation event.now.step) }
+        requires other { IsFalse (is_operation step.now) }
         requires fits { fits plan self.old }
-        requires planned { (s : GuardianState) × (news : News) × stands self.old s × is_for plan self.old s news × (news.event ≡ event.now) }
+        requires planned { (s : GuardianState) × (news : News) × stands self.old s × is_for plan self.old s news × (news.event ≡ (event_of step.now answer.now)) }
         ensures ok { IfOk result (λ n. F.post stamp n) }
-        ensures kept { IfOk result (λ n. (s : GuardianState) (news : News) → stands self.old s → is_for plan self.old s news → news.event ≡ event.now
+        ensures kept { IfOk result (λ n. (s : GuardianState) (news : News) → stands self.old s → is_for plan self.old s news → news.event ≡ (event_of step.now answer.now)
             → stands self.new (kept s (stamped n news))) }
         ensures err { OnErr result ((s : GuardianState) → stands self.old s → stands self.new s) }
-        ensures store { (s : GuardianState) (news : News) → stands self.old s → is_for plan self.old s news → news.event ≡ event.now
+        ensures store { (s : GuardianState) (news : News) → stands self.old s → is_for plan self.old s news → news.event ≡ (event_of step.now answer.now)
             → LeavesStore s news (stored self.old) (stored self.new) (fault_in result) }
         ensures cause { IsErrOf result Stable → CountsFailure (stored self.old) (stored self.new) };
 
     /// Carries a plan out that is for this event in some state in which the guardian stands, where the event neither writes to this guardian's store
     /// nor is an operation. This cannot fail.
-    fn install(&mut self, plan: Self::Plan, event: &Event, stamp: u64)
+    fn install(&mut self, plan: Self::Plan, step: &Step, answer: &Answer, stamp: u64)
         requires fits { fits plan self.old }
-        requires planned { (s : GuardianState) × (news : News) × stands self.old s × is_for plan self.old s news × (news.event ≡ event.now) }
-        requires quiet { (s : GuardianState) × stands self.old s × IsFalse (may_fail event.now.step s.number) }
-        ensures kept { (s : GuardianState) (news : News) → stands self.old s → is_for plan self.old s news → news.event ≡ event.now
+        requires planned { (s : GuardianState) × (news : News) × stands self.old s × is_for plan self.old s news × (news.event ≡ (event_of step.now answer.now)) }
+        requires quiet { (s : GuardianState) × stands self.old s × IsFalse (may_fail step.now s.number) }
+        ensures kept { (s : GuardianState) (news : News) → stands self.old s → is_for plan self.old s news → news.event ≡ (event_of step.now answer.now)
             → stands self.new (kept s (stamped stamp news)) }
         ensures store { Stays (stored self.old) (stored self.new) };
 }

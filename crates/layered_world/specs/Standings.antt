@@ -12,7 +12,7 @@ use Rattle.stable_store.specs.Stored.{Stored}
 use Rattle.stored_laws.specs.Stored.{after_event, asks_store}
 use Rattle.local_agreement.specs.Laws.{kept_event}
 use Rattle.run_model.specs.LocalHistories.{events_there, local_history, names_guardian, registry_history, numbered}
-use Rattle.layer_contracts.specs.Guardians.{GuardianState}
+use Rattle.layer_contracts.specs.Guardians.{GuardianState, event_of}
 use Rattle.layer_contracts.specs.Forests.{ForestState}
 use Rattle.layer_contracts.specs.Stores.{CountsFailure, IsStoreOf, Leaves}
 use Rattle.layer_contracts.specs.declared.guardian.Fault.{Fault}
@@ -35,10 +35,6 @@ pub record IsWorld {X : Type 0} (stands : X → GuardianState → Type 0) (store
   pub count : length guardians ≡ length opening.setup
   pub each : (i : ℕ) (x : X) → slice_get guardians i ≡ Some x → stands x (standing opening past (i + 1))
   pub stores : (i : ℕ) (x : X) → slice_get guardians i ≡ Some x → IsStoreOf (standing opening past (i + 1)) (stored x)
-
--- the step, with this answer
-abbrev pub event_of : Step → Answer → Event
-event_of step answer = record { step = step; answer = answer }
 
 -- the step, with the answer that it has then
 abbrev pub event_next : Opening → Step → List Event → Event

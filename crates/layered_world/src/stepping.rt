@@ -4,16 +4,16 @@ ghost use Rattle.run_model.specs.Runs.{IsRun, history_after, is_accepted};
 ghost use Rattle.run_model.specs.LocalHistories.{answer_lent};
 ghost use Rattle.run_model.specs.Openings.{Opening};
 ghost use Rattle.layer_contracts.specs.Forests.{ForestState};
-ghost use Rattle.layer_contracts.specs.Guardians.{GuardianState, lent_two};
+ghost use Rattle.layer_contracts.specs.Guardians.{GuardianState, event_of, lent_two};
 ghost use Rattle.lent_steps.specs.Lending.{nobody};
 ghost use Rattle.layer_contracts.specs.Stores.{fault_in};
 ghost use Rattle.layer_contracts.specs.declared.guardian.Fault.TheVariants.{Stable};
-ghost use Rattle.layered_world.specs.Standings.{AreSame, HasFailed, event_of, forest_of, IsKeptAt, IsLeftAt, IsOut, IsReady, IsWholeAt, IsWorld, Names, StoresLeft};
+ghost use Rattle.layered_world.specs.Standings.{AreSame, HasFailed, forest_of, IsKeptAt, IsLeftAt, IsOut, IsReady, IsWholeAt, IsWorld, Names, StoresLeft};
 
 use histories::PackedHistory;
 use layer_contracts::{Fault, Forest, Guardian};
 use lent_steps::{answer_alone, answer_two, keep_one, keep_two, named};
-use run_model::{Answer, Event, Step};
+use run_model::{Answer, Step};
 use std::alloc::{AllocError, Global};
 
 /// Makes one step of a world and gives its answer. An accepted step is in the history from then on, and with the forest and the guardians
@@ -118,28 +118,19 @@ fn keep<R: Forest, G: Guardian>(
     ensures cause { IsErrOf result Stable → HasFailed G.stored guardians.old guardians.new }
 {
     let number = history.next_stamp();
-    let event = Event {
-        step: step.copy()?,
-        answer,
-    };
-    history.push(&event.step, &event.answer)?;
-    let kept = keep_at(alloc, forest, guardians, low, high, &event, number);
+    history.push(step, &answer)?;
+    let kept = keep_at(
+        alloc, forest, guardians, low, high, step, &answer, number,
+    );
     ask_number(guardians, low);
     ask_number(guardians, high);
     match kept {
-        Ok(()) => Ok(answer_in(event)),
+        Ok(()) => Ok(answer),
         Err(fault) => {
             history.pop();
             Err(fault)
         }
     }
-}
-
-/// The answer of an event.
-fn answer_in(event: Event) -> Answer
-    ensures { result ≡ event.answer }
-{
-    event.answer
 }
 
 /// Asks a guardian for its number: its store is that of each history in which it stands.
@@ -158,18 +149,18 @@ fn keep_at<R: Forest, G: Guardian>(
     guardians: &mut [G],
     low: u32,
     high: u32,
-    event: &Event,
+    step: &Step, answer: &Answer,
     number: u64,
 ) -> Result<(), Fault>
     requires first { 1 ≤ low }
     requires ordered { low ≤ high }
     requires last { high ≤ length guardians.old }
-    requires ready { (f : ForestState) × (states : ℕ → GuardianState) × IsReady G.stands (R.stands forest.old) f states low high event.now guardians.old }
-    ensures ok { OnOk result ((f : ForestState) (states : ℕ → GuardianState) → IsReady G.stands (R.stands forest.old) f states low high event.now guardians.old
-        → IsKeptAt G.stands (R.stands forest.new) f states low high number event.now guardians.old guardians.new) }
+    requires ready { (f : ForestState) × (states : ℕ → GuardianState) × IsReady G.stands (R.stands forest.old) f states low high (event_of step.now answer.now) guardians.old }
+    ensures ok { OnOk result ((f : ForestState) (states : ℕ → GuardianState) → IsReady G.stands (R.stands forest.old) f states low high (event_of step.now answer.now) guardians.old
+        → IsKeptAt G.stands (R.stands forest.new) f states low high number (event_of step.now answer.now) guardians.old guardians.new) }
     ensures err { OnErr result (AreSame G.stands (R.stands forest.old) (R.stands forest.new) guardians.old guardians.new) }
-    ensures stores { (f : ForestState) (states : ℕ → GuardianState) → IsReady G.stands (R.stands forest.old) f states low high event.now guardians.old
-        → IsLeftAt G.stored f states low high event.now guardians.old guardians.new (fault_in result) }
+    ensures stores { (f : ForestState) (states : ℕ → GuardianState) → IsReady G.stands (R.stands forest.old) f states low high (event_of step.now answer.now) guardians.old
+        → IsLeftAt G.stored f states low high (event_of step.now answer.now) guardians.old guardians.new (fault_in result) }
     ensures cause { IsErrOf result Stable → HasFailed G.stored guardians.old guardians.new }
 {
     if low == high {
@@ -177,7 +168,7 @@ fn keep_at<R: Forest, G: Guardian>(
             alloc,
             forest,
             &mut guardians[low as usize - 1],
-            event,
+            step, answer,
             || number,
         )?;
         return Ok(());
@@ -188,7 +179,7 @@ fn keep_at<R: Forest, G: Guardian>(
         forest,
         &mut left[low as usize - 1],
         &mut right[0],
-        event,
+        step, answer,
         || number,
     )?;
     Ok(())

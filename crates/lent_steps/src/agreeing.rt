@@ -20,7 +20,7 @@ impl<'a, R: Forest, G: Judging> Lent<'a, R, G> {
         if !is_named(self.forest, &event.step, at.number()) {
             return Ok(true);
         }
-        let message = self.message(event, at)?;
+        let message = self.message(&event.step, &event.answer, at)?;
         at.accepts(event, &message)
     }
 

@@ -149,7 +149,7 @@ fn keep_operation<G: Judging, F: FnOnce() -> u64>(
     if !guardian.accepts(event, &nothing)? {
         return Err(LockedFault::Disagrees);
     }
-    guardian.operate(event, stamp)?;
+    guardian.operate(&event.step, &event.answer, stamp)?;
     Ok(())
 }
 

@@ -4,7 +4,7 @@ ghost use Rattle.std.specs.List.Sorted.{IsStrictlySortedBy};
 ghost use Rattle.action_names.specs.Names.{name_cmp};
 ghost use Rattle.run_model.specs.Runs.{is_accepted};
 ghost use Rattle.run_model.specs.LocalHistories.{events_there, names_guardian, takes_registry};
-ghost use Rattle.layer_contracts.specs.Guardians.{GuardianState, after_step, lent_two};
+ghost use Rattle.layer_contracts.specs.Guardians.{GuardianState, after_step, event_of, lent_two};
 ghost use Rattle.layer_contracts.specs.Stores.{CountsFailure, LeavesStore, Stays, fault_in};
 ghost use Rattle.layer_contracts.specs.declared.guardian.Fault.TheVariants.{Stable};
 ghost use Rattle.layer_contracts.specs.Messages.{is_operation, may_fail};
@@ -15,7 +15,7 @@ ghost use Rattle.lent_steps.specs.Keeping.{AreAnswered, Brings, IsAnswered, IsDo
 use crate::lent::Lent;
 use crate::names::{home_of_new, is_operation, named, takes_registry};
 use layer_contracts::{Fault, Forest, Guardian, Message};
-use run_model::{Event, Step};
+use run_model::{Answer, Step};
 use std::alloc::{AllocError, Global};
 
 /// Whether the step names the guardian of this number.
@@ -28,33 +28,33 @@ pub(crate) fn is_named<R: Forest>(forest: &R, step: &Step, guardian: u32) -> boo
 
 impl<'a, R: Forest, G: Guardian> Lent<'a, R, G> {
     /// What the event brings to the guardian, if it names it.
-    fn brought_to(&self, event: &Event, at: &G) -> Result<Option<Message>, AllocError>
+    fn brought_to(&self, step: &Step, answer: &Answer, at: &G) -> Result<Option<Message>, AllocError>
         ensures { IfOk result (λ brought. (f : ForestState) (a b x : GuardianState) → Lends R.stands G.stands self.now f a b → G.stands at.now x
-            → IsOneOf a b x → x.opening ≡ f.opening → IsAnswered f a b event.now → Brings f a b event.now x brought) }
+            → IsOneOf a b x → x.opening ≡ f.opening → IsAnswered f a b (event_of step.now answer.now) → Brings f a b (event_of step.now answer.now) x brought) }
     {
-        if !is_named(self.forest, &event.step, at.number()) {
+        if !is_named(self.forest, step, at.number()) {
             return Ok(None);
         }
-        Ok(Some(self.message(event, at)?))
+        Ok(Some(self.message(step, answer, at)?))
     }
 }
 
 /// Makes room at the guardian for an event that brings this to it, if it brings something.
 fn plan_at<G: Guardian>(
     guardian: &mut G,
-    event: &Event,
+    step: &Step, answer: &Answer,
     brought: Option<Message>,
 ) -> Result<Option<G::Plan>, AllocError>
-    requires accepted { IsTrue (is_accepted event.now.answer) }
+    requires accepted { IsTrue (is_accepted answer.now) }
     requires rising { MatchOption brought (Unit {0}) (λ message. IsStrictlySortedBy name_cmp (map (λ x. x.0) message.outcomes.items)) }
     ensures same { StandsStill (G.stands guardian.old) (G.stands guardian.new) }
     ensures store { Stays (G.stored guardian.old) (G.stored guardian.new) }
     ensures fits { IfOk result (λ planned. MatchOption planned (Unit {0}) (λ plan. G.fits plan guardian.new)) }
-    ensures planned { IfOk result (λ planned. (f : ForestState) (a b x : GuardianState) → G.stands guardian.old x → Brings f a b event.now x brought
-        → Plans (λ plan y. G.is_for plan guardian.new y) f a b event.now x planned) }
+    ensures planned { IfOk result (λ planned. (f : ForestState) (a b x : GuardianState) → G.stands guardian.old x → Brings f a b (event_of step.now answer.now) x brought
+        → Plans (λ plan y. G.is_for plan guardian.new y) f a b (event_of step.now answer.now) x planned) }
 {
     match brought {
-        Some(message) => Ok(Some(guardian.plan(event, message)?)),
+        Some(message) => Ok(Some(guardian.plan(step, answer, message)?)),
         None => Ok(None),
     }
 }
@@ -62,20 +62,20 @@ fn plan_at<G: Guardian>(
 /// Makes room in the forest for an event, if the forest keeps it.
 fn plan_there<R: Forest>(
     forest: &mut R,
-    event: &Event,
+    step: &Step, answer: &Answer,
     home: u32,
     life: u64,
 ) -> Result<Option<R::Plan>, AllocError>
-    requires accepted { IsTrue (is_accepted event.now.answer) }
+    requires accepted { IsTrue (is_accepted answer.now) }
     ensures same { (f : ForestState) → R.stands forest.old f → R.stands forest.new f }
     ensures fits { IfOk result (λ planned. MatchOption planned (Unit {0}) (λ plan. R.fits plan forest.new)) }
-    ensures planned { IfOk result (λ planned. (f : ForestState) → R.stands forest.old f → entered f event.now
-        → MatchOption planned (takes_registry event.now.step ≡ false) (λ plan. IsPlannedThere (R.is_for plan forest.new f) f home life event.now)) }
+    ensures planned { IfOk result (λ planned. (f : ForestState) → R.stands forest.old f → entered f (event_of step.now answer.now)
+        → MatchOption planned (takes_registry step.now ≡ false) (λ plan. IsPlannedThere (R.is_for plan forest.new f) f home life (event_of step.now answer.now))) }
 {
-    if !takes_registry(&event.step) {
+    if !takes_registry(step) {
         return Ok(None);
     }
-    Ok(Some(forest.plan(event, home, life)?))
+    Ok(Some(forest.plan(step, answer, home, life)?))
 }
 
 /// Whether what the event changes at this guardian, which it names, may fail though there is room.
@@ -100,49 +100,49 @@ fn plan_may_fail<G: Guardian>(plan: &Option<G::Plan>, step: &Step, guardian: &G)
 fn carry_out<G: Guardian, F: FnOnce() -> u64>(
     guardian: &mut G,
     plan: Option<G::Plan>,
-    event: &Event,
+    step: &Step, answer: &Answer,
     stamp: F,
 ) -> Result<u64, Fault>
     requires stamp { F.pre stamp }
-    requires other { IsFalse (is_operation event.now.step) }
+    requires other { IsFalse (is_operation step.now) }
     requires fits { MatchOption plan (Unit {0}) (λ plan. G.fits plan guardian.old) }
-    requires planned { MatchOption plan (Unit {0}) (λ plan. IsPlannedHere (G.stands guardian.old) (G.is_for plan guardian.old) event.now) }
+    requires planned { MatchOption plan (Unit {0}) (λ plan. IsPlannedHere (G.stands guardian.old) (G.is_for plan guardian.old) (event_of step.now answer.now)) }
     ensures drawn { IfOk result (λ n. F.post stamp n) }
     ensures kept { IfOk result (λ n. MatchOption plan (StandsStill (G.stands guardian.old) (G.stands guardian.new))
-        (λ plan. IsKept (G.stands guardian.old) (G.stands guardian.new) (G.is_for plan guardian.old) event.now n)) }
+        (λ plan. IsKept (G.stands guardian.old) (G.stands guardian.new) (G.is_for plan guardian.old) (event_of step.now answer.now) n)) }
     ensures err { OnErr result (StandsStill (G.stands guardian.old) (G.stands guardian.new)) }
     ensures store { MatchOption plan (Stays (G.stored guardian.old) (G.stored guardian.new))
-        (λ plan. WhereverPlanned (G.stands guardian.old) (G.is_for plan guardian.old) event.now
+        (λ plan. WhereverPlanned (G.stands guardian.old) (G.is_for plan guardian.old) (event_of step.now answer.now)
         (λ x news. LeavesStore x news (G.stored guardian.old) (G.stored guardian.new) (fault_in result))) }
     ensures cause { IsErrOf result Stable → CountsFailure (G.stored guardian.old) (G.stored guardian.new) }
 {
     match plan {
-        Some(plan) => guardian.carry_out(plan, event, stamp),
+        Some(plan) => guardian.carry_out(plan, step, answer, stamp),
         None => Ok(stamp()),
     }
 }
 
-fn install<G: Guardian>(guardian: &mut G, plan: Option<G::Plan>, event: &Event, stamp: u64)
+fn install<G: Guardian>(guardian: &mut G, plan: Option<G::Plan>, step: &Step, answer: &Answer, stamp: u64)
     requires fits { MatchOption plan (Unit {0}) (λ plan. G.fits plan guardian.old) }
-    requires planned { MatchOption plan (Unit {0}) (λ plan. IsPlannedHere (G.stands guardian.old) (G.is_for plan guardian.old) event.now) }
-    requires quiet { MatchOption plan (Unit {0}) (λ plan. (x : GuardianState) × G.stands guardian.old x × IsFalse (may_fail event.now.step x.number)) }
+    requires planned { MatchOption plan (Unit {0}) (λ plan. IsPlannedHere (G.stands guardian.old) (G.is_for plan guardian.old) (event_of step.now answer.now)) }
+    requires quiet { MatchOption plan (Unit {0}) (λ plan. (x : GuardianState) × G.stands guardian.old x × IsFalse (may_fail step.now x.number)) }
     ensures kept { MatchOption plan (StandsStill (G.stands guardian.old) (G.stands guardian.new))
-        (λ plan. IsKept (G.stands guardian.old) (G.stands guardian.new) (G.is_for plan guardian.old) event.now stamp) }
+        (λ plan. IsKept (G.stands guardian.old) (G.stands guardian.new) (G.is_for plan guardian.old) (event_of step.now answer.now) stamp) }
     ensures store { Stays (G.stored guardian.old) (G.stored guardian.new) }
 {
     if let Some(plan) = plan {
-        guardian.install(plan, event, stamp);
+        guardian.install(plan, step, answer, stamp);
     }
 }
 
-fn install_there<R: Forest>(forest: &mut R, plan: Option<R::Plan>, event: &Event, stamp: u64)
+fn install_there<R: Forest>(forest: &mut R, plan: Option<R::Plan>, step: &Step, answer: &Answer, stamp: u64)
     requires fits { MatchOption plan (Unit {0}) (λ plan. R.fits plan forest.old) }
-    requires planned { MatchOption plan (Unit {0}) (λ plan. IsPlannedInSome (R.stands forest.old) (R.is_for plan forest.old) event.now) }
+    requires planned { MatchOption plan (Unit {0}) (λ plan. IsPlannedInSome (R.stands forest.old) (R.is_for plan forest.old) (event_of step.now answer.now)) }
     ensures { MatchOption plan ((f : ForestState) → R.stands forest.old f → R.stands forest.new f)
-        (λ plan. IsInstalled (R.stands forest.old) (R.stands forest.new) (R.is_for plan forest.old) event.now stamp) }
+        (λ plan. IsInstalled (R.stands forest.old) (R.stands forest.new) (R.is_for plan forest.old) (event_of step.now answer.now) stamp) }
 {
     if let Some(plan) = plan {
-        forest.install(plan, event, stamp);
+        forest.install(plan, step, answer, stamp);
     }
 }
 
@@ -151,21 +151,21 @@ fn install_there<R: Forest>(forest: &mut R, plan: Option<R::Plan>, event: &Event
 fn operate<R: Forest, G: Guardian, F: FnOnce() -> u64>(
     forest: &R,
     guardian: &mut G,
-    event: &Event,
+    step: &Step, answer: &Answer,
     stamp: F,
 ) -> Result<u64, AllocError>
     requires stamp { F.pre stamp }
-    requires operation { IsTrue (is_operation event.now.step) }
+    requires operation { IsTrue (is_operation step.now) }
     requires answered { (f : ForestState) × (a : GuardianState) × (b : GuardianState) × (x : GuardianState)
-        × IsLentAt (R.stands forest.now) (G.stands guardian.old) f a b event.now x }
+        × IsLentAt (R.stands forest.now) (G.stands guardian.old) f a b (event_of step.now answer.now) x }
     ensures drawn { IfOk result (λ n. F.post stamp n) }
-    ensures kept { IfOk result (λ n. (f : ForestState) (a b x : GuardianState) → IsLentAt (R.stands forest.now) (G.stands guardian.old) f a b event.now x
-        → G.stands guardian.new (after_step x (n, event.now) f.registry (lent_two a b))) }
+    ensures kept { IfOk result (λ n. (f : ForestState) (a b x : GuardianState) → IsLentAt (R.stands forest.now) (G.stands guardian.old) f a b (event_of step.now answer.now) x
+        → G.stands guardian.new (after_step x (n, (event_of step.now answer.now)) f.registry (lent_two a b))) }
     ensures err { OnErr result (StandsStill (G.stands guardian.old) (G.stands guardian.new)) }
     ensures store { Stays (G.stored guardian.old) (G.stored guardian.new) }
 {
-    if is_named(forest, &event.step, guardian.number()) {
-        guardian.operate(event, stamp)
+    if is_named(forest, step, guardian.number()) {
+        guardian.operate(step, answer, stamp)
     } else {
         Ok(stamp())
     }
@@ -179,35 +179,35 @@ pub fn keep_two<R: Forest, G: Guardian, F: FnOnce() -> u64>(
     forest: &mut R,
     first: &mut G,
     second: &mut G,
-    event: &Event,
+    step: &Step, answer: &Answer,
     stamp: F,
 ) -> Result<u64, Fault>
     requires stamp { F.pre stamp }
     requires answered { (f : ForestState) × (a : GuardianState) × (b : GuardianState)
-        × AreAnswered (R.stands forest.old) (G.stands first.old) (G.stands second.old) f a b event.now × ((a.number == b.number) ≡ false) }
+        × AreAnswered (R.stands forest.old) (G.stands first.old) (G.stands second.old) f a b (event_of step.now answer.now) × ((a.number == b.number) ≡ false) }
     ensures drawn { IfOk result (λ n. F.post stamp n) }
     ensures done { IfOk result (λ n. (f : ForestState) (a b : GuardianState)
-        → AreAnswered (R.stands forest.old) (G.stands first.old) (G.stands second.old) f a b event.now
-        → IsDone (R.stands forest.new) (G.stands first.new) (G.stands second.new) f a b event.now n) }
+        → AreAnswered (R.stands forest.old) (G.stands first.old) (G.stands second.old) f a b (event_of step.now answer.now)
+        → IsDone (R.stands forest.new) (G.stands first.new) (G.stands second.new) f a b (event_of step.now answer.now) n) }
     ensures forest_same { OnErr result ((f : ForestState) → R.stands forest.old f → R.stands forest.new f) }
     ensures first_same { OnErr result (StandsStill (G.stands first.old) (G.stands first.new)) }
     ensures second_same { OnErr result (StandsStill (G.stands second.old) (G.stands second.new)) }
     ensures first_store { (f : ForestState) (a b : GuardianState)
-        → AreAnswered (R.stands forest.old) (G.stands first.old) (G.stands second.old) f a b event.now
-        → StoreLeft f a b event.now a (G.stored first.old) (G.stored first.new) (fault_in result) }
+        → AreAnswered (R.stands forest.old) (G.stands first.old) (G.stands second.old) f a b (event_of step.now answer.now)
+        → StoreLeft f a b (event_of step.now answer.now) a (G.stored first.old) (G.stored first.new) (fault_in result) }
     ensures second_store { (f : ForestState) (a b : GuardianState)
-        → AreAnswered (R.stands forest.old) (G.stands first.old) (G.stands second.old) f a b event.now
-        → StoreLeft f a b event.now b (G.stored second.old) (G.stored second.new) (fault_in result) }
+        → AreAnswered (R.stands forest.old) (G.stands first.old) (G.stands second.old) f a b (event_of step.now answer.now)
+        → StoreLeft f a b (event_of step.now answer.now) b (G.stored second.old) (G.stored second.new) (fault_in result) }
     ensures cause { IsErrOf result Stable → CountsFailure (G.stored first.old) (G.stored first.new) ⊎ CountsFailure (G.stored second.old) (G.stored second.new) }
 {
     // The stores of both are those of their histories.
     first.number();
     second.number();
-    if is_operation(&event.step) {
-        if is_named(forest, &event.step, first.number()) {
-            return Ok(operate(forest, first, event, stamp)?);
+    if is_operation(step) {
+        if is_named(forest, step, first.number()) {
+            return Ok(operate(forest, first, step, answer, stamp)?);
         }
-        return Ok(operate(forest, second, event, stamp)?);
+        return Ok(operate(forest, second, step, answer, stamp)?);
     }
     let lent = Lent {
         alloc,
@@ -215,22 +215,22 @@ pub fn keep_two<R: Forest, G: Guardian, F: FnOnce() -> u64>(
         first: &*first,
         second: &*second,
     };
-    let home = home_of_new(lent.forest, &event.step);
+    let home = home_of_new(lent.forest, step);
     let life = lent.crashes_at(home);
-    let to_first = lent.brought_to(event, lent.first)?;
-    let to_second = lent.brought_to(event, lent.second)?;
-    let there = plan_there(forest, event, home, life)?;
-    let one = plan_at(first, event, to_first)?;
-    let other = plan_at(second, event, to_second)?;
-    if plan_may_fail(&one, &event.step, &*first) {
-        let number = carry_out(first, one, event, stamp)?;
-        install(second, other, event, number);
-        install_there(forest, there, event, number);
+    let to_first = lent.brought_to(step, answer, lent.first)?;
+    let to_second = lent.brought_to(step, answer, lent.second)?;
+    let there = plan_there(forest, step, answer, home, life)?;
+    let one = plan_at(first, step, answer, to_first)?;
+    let other = plan_at(second, step, answer, to_second)?;
+    if plan_may_fail(&one, step, &*first) {
+        let number = carry_out(first, one, step, answer, stamp)?;
+        install(second, other, step, answer, number);
+        install_there(forest, there, step, answer, number);
         Ok(number)
     } else {
-        let number = carry_out(second, other, event, stamp)?;
-        install(first, one, event, number);
-        install_there(forest, there, event, number);
+        let number = carry_out(second, other, step, answer, stamp)?;
+        install(first, one, step, answer, number);
+        install_there(forest, there, step, answer, number);
         Ok(number)
     }
 }
@@ -240,27 +240,27 @@ pub fn keep_one<R: Forest, G: Guardian, F: FnOnce() -> u64>(
     alloc: Global,
     forest: &mut R,
     guardian: &mut G,
-    event: &Event,
+    step: &Step, answer: &Answer,
     stamp: F,
 ) -> Result<u64, Fault>
     requires stamp { F.pre stamp }
     requires answered { (f : ForestState) × (x : GuardianState)
-        × AreAnswered (R.stands forest.old) (G.stands guardian.old) (G.stands guardian.old) f x x event.now }
+        × AreAnswered (R.stands forest.old) (G.stands guardian.old) (G.stands guardian.old) f x x (event_of step.now answer.now) }
     ensures drawn { IfOk result (λ n. F.post stamp n) }
     ensures done { IfOk result (λ n. (f : ForestState) (x : GuardianState)
-        → AreAnswered (R.stands forest.old) (G.stands guardian.old) (G.stands guardian.old) f x x event.now
-        → IsDone (R.stands forest.new) (G.stands guardian.new) (G.stands guardian.new) f x x event.now n) }
+        → AreAnswered (R.stands forest.old) (G.stands guardian.old) (G.stands guardian.old) f x x (event_of step.now answer.now)
+        → IsDone (R.stands forest.new) (G.stands guardian.new) (G.stands guardian.new) f x x (event_of step.now answer.now) n) }
     ensures forest_same { OnErr result ((f : ForestState) → R.stands forest.old f → R.stands forest.new f) }
     ensures guardian_same { OnErr result (StandsStill (G.stands guardian.old) (G.stands guardian.new)) }
     ensures store { (f : ForestState) (x : GuardianState)
-        → AreAnswered (R.stands forest.old) (G.stands guardian.old) (G.stands guardian.old) f x x event.now
-        → StoreLeft f x x event.now x (G.stored guardian.old) (G.stored guardian.new) (fault_in result) }
+        → AreAnswered (R.stands forest.old) (G.stands guardian.old) (G.stands guardian.old) f x x (event_of step.now answer.now)
+        → StoreLeft f x x (event_of step.now answer.now) x (G.stored guardian.old) (G.stored guardian.new) (fault_in result) }
     ensures cause { IsErrOf result Stable → CountsFailure (G.stored guardian.old) (G.stored guardian.new) }
 {
     // Its store is that of its history.
     guardian.number();
-    if is_operation(&event.step) {
-        return Ok(operate(forest, guardian, event, stamp)?);
+    if is_operation(step) {
+        return Ok(operate(forest, guardian, step, answer, stamp)?);
     }
     let lent = Lent {
         alloc,
@@ -268,12 +268,12 @@ pub fn keep_one<R: Forest, G: Guardian, F: FnOnce() -> u64>(
         first: &*guardian,
         second: &*guardian,
     };
-    let home = home_of_new(lent.forest, &event.step);
+    let home = home_of_new(lent.forest, step);
     let life = lent.crashes_at(home);
-    let brought = lent.brought_to(event, lent.first)?;
-    let there = plan_there(forest, event, home, life)?;
-    let here = plan_at(guardian, event, brought)?;
-    let number = carry_out(guardian, here, event, stamp)?;
-    install_there(forest, there, event, number);
+    let brought = lent.brought_to(step, answer, lent.first)?;
+    let there = plan_there(forest, step, answer, home, life)?;
+    let here = plan_at(guardian, step, answer, brought)?;
+    let number = carry_out(guardian, here, step, answer, stamp)?;
+    install_there(forest, there, step, answer, number);
     Ok(number)
 }

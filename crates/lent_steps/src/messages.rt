@@ -4,7 +4,7 @@ ghost use Rattle.run_model.specs.Actions.{crashes, home_of, names_begun};
 ghost use Rattle.run_model.specs.LocalReadings.{events_here};
 ghost use Rattle.run_model.specs.LocalHistories.{action_lent, aborts_from, carried_lent, counts_of_sender, dependencies_sent, dependency_there, entries_of, events_there, home_lent, life_lent, outcomes_carried, sender_lent, sender_life};
 ghost use Rattle.layer_contracts.specs.Forests.{ForestState};
-ghost use Rattle.layer_contracts.specs.Guardians.{GuardianState, lent_two};
+ghost use Rattle.layer_contracts.specs.Guardians.{GuardianState, event_of, lent_two};
 ghost use Rattle.layer_contracts.specs.Messages.{carried_of, sent_of};
 ghost use Rattle.lent_steps.specs.Lending.{IsOneOf, Lends, dependencies_two, new_from, new_two};
 
@@ -12,17 +12,17 @@ use crate::lent::Lent;
 use crate::names::{home_of_new, names_begun, parent_path};
 use action_names::{Name, Names};
 use layer_contracts::{Forest, Guardian, Message};
-use run_model::{Event, Step};
+use run_model::{Answer, Step};
 use std::alloc::AllocError;
 use step_answers::Reads;
 
 impl<'a, R: Forest, G: Guardian> Lent<'a, R, G> {
     /// What the event brings to the guardian, which is one of those that are lent.
-    pub fn message(&self, event: &Event, at: &G) -> Result<Message, AllocError>
+    pub fn message(&self, step: &Step, answer: &Answer, at: &G) -> Result<Message, AllocError>
         ensures { (f : ForestState) (a b x : GuardianState) → Lends R.stands G.stands self.now f a b → G.stands at.now x → IsOneOf a b x
-            → IfOk result (λ message. carried_of message ≡ carried_lent f.opening event.now x.number f.registry (lent_two a b)) }
+            → IfOk result (λ message. carried_of message ≡ carried_lent f.opening (event_of step.now answer.now) x.number f.registry (lent_two a b)) }
     {
-        let sender = self.sender(&event.step, at.number());
+        let sender = self.sender(step, at.number());
         let life = self.life_of(sender);
         let (aborts, counts) = self.lists(sender, at)?;
         Ok(Message {
@@ -30,8 +30,8 @@ impl<'a, R: Forest, G: Guardian> Lent<'a, R, G> {
             life,
             aborts,
             counts,
-            dependencies: self.dependencies(event, at.number())?,
-            outcomes: self.outcomes(&event.step, at)?,
+            dependencies: self.dependencies(step, answer, at.number())?,
+            outcomes: self.outcomes(step, at)?,
         })
     }
 
@@ -104,13 +104,13 @@ impl<'a, R: Forest, G: Guardian> Lent<'a, R, G> {
     /// What the event says of dependencies to the guardian of this number.
     fn dependencies(
         &self,
-        event: &Event,
+        step: &Step, answer: &Answer,
         at: u32,
     ) -> Result<Vec<(Name, Vec<(u32, u64)>)>, AllocError>
         ensures { (f : ForestState) (a b : GuardianState) → Lends R.stands G.stands self.now f a b
-            → IfOk result (λ sent. sent_of sent.items ≡ dependencies_two f a b event.now at) }
+            → IfOk result (λ sent. sent_of sent.items ≡ dependencies_two f a b (event_of step.now answer.now) at) }
     {
-        match &event.step {
+        match step {
             Step::Commit(action) => {
                 if self.forest.home(parent_path(action)) == at {
                     return self.dependencies_of(action);
@@ -123,7 +123,7 @@ impl<'a, R: Forest, G: Guardian> Lent<'a, R, G> {
                 }
                 Ok(Vec::new(self.alloc))
             }
-            _ => self.new_dependencies(event, at),
+            _ => self.new_dependencies(step, answer, at),
         }
     }
 
@@ -140,18 +140,18 @@ impl<'a, R: Forest, G: Guardian> Lent<'a, R, G> {
 
     fn new_dependencies(
         &self,
-        event: &Event,
+        step: &Step, answer: &Answer,
         at: u32,
     ) -> Result<Vec<(Name, Vec<(u32, u64)>)>, AllocError>
         ensures { (f : ForestState) (a b : GuardianState) → Lends R.stands G.stands self.now f a b
-            → IfOk result (λ sent. sent_of sent.items ≡ new_two f a b event.now at) }
+            → IfOk result (λ sent. sent_of sent.items ≡ new_two f a b (event_of step.now answer.now) at) }
     {
-        let home = home_of_new(self.forest, &event.step);
+        let home = home_of_new(self.forest, step);
         let life = self.crashes_at(home);
         if home != at {
             return Ok(Vec::new(self.alloc));
         }
-        self.dependencies_of_new(names_begun(&event.answer), home, life)
+        self.dependencies_of_new(names_begun(answer), home, life)
     }
 
     fn dependencies_of_new(

@@ -198,7 +198,7 @@ fn keep_of<R: Forest, G: Judging, F: FnOnce() -> u64>(
     ensures opening { (f : ForestState) (a b : GuardianState) → AreAnswered (R.stands forest.old) (G.stands one.old) (G.stands other.old) f a b event.now
         → AreOf f.opening (R.stands forest.new) (G.stands one.new) (G.stands other.new) }
 {
-    let kept = keep_two(alloc, forest, one, other, event, stamp);
+    let kept = keep_two(alloc, forest, one, other, &event.step, &event.answer, stamp);
     forest.opening();
     one.opening();
     other.opening();

@@ -7,7 +7,7 @@ use crate::actions::Actions;
 use crate::change::Change;
 use crate::hearing::Told;
 use layer_contracts::{Forest, Guardian};
-use run_model::{Event, Name, Opening};
+use run_model::{Answer, Name, Opening, Step};
 use std::alloc::{AllocError, Global};
 use std::marker::Model;
 use std::sync::Arc;
@@ -135,11 +135,11 @@ impl Forest for Registry {
         self.actions.forest.outcomes_below(top.components(), &told)
     }
 
-    fn plan(&mut self, event: &Event, home: u32, life: u64) -> Result<Change, AllocError> {
-        self.actions.plan(event, home, life)
+    fn plan(&mut self, step: &Step, answer: &Answer, home: u32, life: u64) -> Result<Change, AllocError> {
+        self.actions.plan(step, answer, home, life)
     }
 
-    fn install(&mut self, plan: Change, event: &Event, stamp: u64) {
-        self.actions.apply(plan, &event.step, stamp);
+    fn install(&mut self, plan: Change, step: &Step, answer: &Answer, stamp: u64) {
+        self.actions.apply(plan, step, stamp);
     }
 }

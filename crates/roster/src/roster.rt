@@ -17,7 +17,7 @@ use crate::entry::{
     Entry, Row, Turn, closed_in, depends_in, ended_in, maker_in, names_in, turn_in,
 };
 use holders::Index;
-use run_model::{Deps, Event, Name, Step};
+use run_model::{Answer, Deps, Name, Step};
 use std::alloc::{AllocError, Global};
 
 /// Which actions are at home at one guardian, and what the guardian's own history says of them and of itself.
@@ -136,22 +136,21 @@ impl Roster {
     /// memory for it, the roster is that of the same history.
     pub fn plan(
         &mut self,
-        event: &Event,
+        step: &Step, answer: &Answer,
         dependencies: &[(Name, Vec<(u32, u64)>)],
     ) -> Result<Entry, AllocError>
         ensures same { (g : ℕ) (here : List LocalEvent) → IsRoster g here (table self.old) → IsRoster g here (table self.new) }
         ensures crashes { crashes_of self.new ≡ crashes_of self.old }
         ensures fits { IfOk result (FitsEntry self.new) }
-        ensures planned { IfOk result (IsEntry (table self.new) event.now (came_in dependencies.now)) }
+        ensures planned { IfOk result (IsEntry (table self.new) (record { step = step.now; answer = answer.now }) (came_in dependencies.now)) }
     {
-        let step = &event.step;
         let ended = self.placed(ended_in(step));
         let closed = self.placed(closed_in(step));
         let merged = self.plan_merge(step, dependencies)?;
         let maker = self.placed(maker_in(step));
-        let begun = self.plan_begun(event, dependencies)?;
+        let begun = self.plan_begun(step, answer, dependencies)?;
         self.plan_count(maker, begun.len())?;
-        let above = self.plan_above(names_in(&event.answer))?;
+        let above = self.plan_above(names_in(answer))?;
         Ok(Entry {
             ended,
             closed,
@@ -321,19 +320,19 @@ impl Roster {
     // The rows of what the event begins, and room for them.
     fn plan_begun(
         &mut self,
-        event: &Event,
+        step: &Step, answer: &Answer,
         dependencies: &[(Name, Vec<(u32, u64)>)],
     ) -> Result<Vec<(Name, Row)>, AllocError>
         ensures same { table self.new ≡ table self.old }
         ensures fits { IfOk result (λ begun. FitsBegun self.new begun.items (vec_len begun)) }
-        ensures born { IfOk result (λ begun. AreBorn (table self.old) event.now (came_in dependencies.now) begun.items) }
+        ensures born { IfOk result (λ begun. AreBorn (table self.old) (record { step = step.now; answer = answer.now }) (came_in dependencies.now) begun.items) }
     {
-        let names = names_in(&event.answer);
+        let names = names_in(answer);
         self.rows.reserve(names.len())?;
         let mut begun = Vec::with_capacity(self.alloc, names.len())?;
         for name in names {
             self.places.make_room(name)?;
-            let row = self.born(&event.step, name, dependencies)?;
+            let row = self.born(step, name, dependencies)?;
             begun.push((name.copy()?, row))?;
         }
         Ok(begun)

@@ -2,10 +2,10 @@ use Rattle.std.proofs.Common.{None, Some, ap, arith, drop, length, subst, sym, â
 use Rattle.std.proofs.lemmas.Bool.{or_left, or_right}
 use Rattle.run_laws.proofs.Names.{eqb_self}
 use Rattle.layer_contracts.specs.Forests.{ForestState}
-use Rattle.layer_contracts.specs.Guardians.{GuardianState}
+use Rattle.layer_contracts.specs.Guardians.{GuardianState, event_of}
 use Rattle.layer_contracts.specs.declared.guardian.Fault.TheVariants.{Stable}
 use Rattle.lent_steps.proofs.Stores.{with_fault}
-use Rattle.layered_world.specs.Standings.{IsKeptAt, IsLeftAt, IsReady, IsWorld, StoresLeft, event_of, forest_of, standing}
+use Rattle.layered_world.specs.Standings.{IsKeptAt, IsLeftAt, IsReady, IsWorld, StoresLeft, forest_of, standing}
 use Rattle.layered_world.proofs.Kept.{more, place_of, ready, same}
 use Rattle.layered_world.proofs.Places.{passed_on}
 use Rattle.layered_world.proofs.Stores.{stores_kept, stores_refused}

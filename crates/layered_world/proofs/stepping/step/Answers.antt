@@ -1,7 +1,8 @@
 use Rattle.std.proofs.Common.{None, ap, sym, ◌∙◌, ◌∷◌}
 use Rattle.run_model.specs.Runs.{IsRun, is_accepted}
 use Rattle.lent_steps.proofs.Stores.{with_fault}
-use Rattle.layered_world.specs.Standings.{StoresLeft, event_of, forest_of}
+use Rattle.layer_contracts.specs.Guardians.{event_of}
+use Rattle.layered_world.specs.Standings.{StoresLeft, forest_of}
 use Rattle.layered_world.proofs.Stores.{stores_idle, stores_refused}
 use Rattle.layered_world.proofs.stepping.step.Goals as goal
 

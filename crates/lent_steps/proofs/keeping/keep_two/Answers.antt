@@ -2,7 +2,7 @@ use Rattle.std.proofs.Common.{None, ap, false, sym, true, ◌==◌, ◌∙◌, �
 use Rattle.run_model.specs.declared.history.Event.{Event}
 use Rattle.run_model.specs.LocalHistories.{events_there, names_guardian}
 use Rattle.stable_store.specs.Calls.{View}
-use Rattle.layer_contracts.specs.Guardians.{GuardianState, lent_two}
+use Rattle.layer_contracts.specs.Guardians.{GuardianState, event_of, lent_two}
 use Rattle.layer_contracts.specs.Forests.{ForestState}
 use Rattle.layer_contracts.specs.Messages.{is_operation}
 use Rattle.layer_contracts.proofs.Stores.{stays_same, stays_then}
@@ -22,7 +22,7 @@ plan_at-requires-clause-rising g c =
     let a : GuardianState = c.requires.answered.1 in
     let b : GuardianState = c.requires.answered.2 in
     let here = c.requires.answered.3 in
-    let e : Event = c.args.event.now in
+    let e : Event = (event_of c.args.step.now c.args.answer.now) in
     let to_first : Brings f a b e a c.in_ok-to_first.to_first =
     c.in_ok-to_first.ensures f a b a here.lent here.lent.first (first_one a b) here.lent.opening.first here.answered in
     brought_rising f a b a e c.in_ok-to_first.to_first to_first
@@ -33,7 +33,7 @@ plan_at-requires-2-clause-rising g c =
     let a : GuardianState = c.requires.answered.1 in
     let b : GuardianState = c.requires.answered.2 in
     let here = c.requires.answered.3 in
-    let e : Event = c.args.event.now in
+    let e : Event = (event_of c.args.step.now c.args.answer.now) in
     let apart : (a.number == b.number) ≡ false = c.requires.answered.4 in
     let to_second : Brings f a b e b c.in_ok-to_second.to_second =
     c.in_ok-to_second.ensures f a b b here.lent here.lent.second (second_one a b apart) here.lent.opening.second here.answered in
@@ -45,7 +45,7 @@ install_there-requires-clause-planned g c =
     let a : GuardianState = c.requires.answered.1 in
     let b : GuardianState = c.requires.answered.2 in
     let here = c.requires.answered.3 in
-    planned_there (g.R.Forest.stands c.plan_there.new.forest) (λ plan. g.R.Forest.is_for plan c.plan_there.new.forest) f c.args.event.now
+    planned_there (g.R.Forest.stands c.plan_there.new.forest) (λ plan. g.R.Forest.is_for plan c.plan_there.new.forest) f (event_of c.args.step.now c.args.answer.now)
     c.home_of_new-home.result c.crashes_at-life.result c.in_ok-there.there (c.plan_there.ensures.same f here.lent.forest)
     (c.in_ok-there.ensures.planned f here.lent.forest (lent_two a b, here.answered.answer))
 
@@ -55,7 +55,7 @@ install_there-requires-else-plan_may_fail-clause-planned g c =
     let a : GuardianState = c.requires.answered.1 in
     let b : GuardianState = c.requires.answered.2 in
     let here = c.requires.answered.3 in
-    planned_there (g.R.Forest.stands c.plan_there.new.forest) (λ plan. g.R.Forest.is_for plan c.plan_there.new.forest) f c.args.event.now
+    planned_there (g.R.Forest.stands c.plan_there.new.forest) (λ plan. g.R.Forest.is_for plan c.plan_there.new.forest) f (event_of c.args.step.now c.args.answer.now)
     c.home_of_new-home.result c.crashes_at-life.result c.in_ok-there.there (c.plan_there.ensures.same f here.lent.forest)
     (c.in_ok-there.ensures.planned f here.lent.forest (lent_two a b, here.answered.answer))
 
@@ -65,7 +65,7 @@ carry_out-requires-clause-planned g c =
     let a : GuardianState = c.requires.answered.1 in
     let b : GuardianState = c.requires.answered.2 in
     let here = c.requires.answered.3 in
-    let e : Event = c.args.event.now in
+    let e : Event = (event_of c.args.step.now c.args.answer.now) in
     let to_first : Brings f a b e a c.in_ok-to_first.to_first =
     c.in_ok-to_first.ensures f a b a here.lent here.lent.first (first_one a b) here.lent.opening.first here.answered in
     let one : Plans (λ plan. g.G.Guardian.is_for plan c.plan_at.new.guardian) f a b e a c.in_ok-one.one = c.in_ok-one.ensures.planned f a b a here.lent.first to_first in
@@ -78,7 +78,7 @@ carry_out-requires-else-plan_may_fail-clause-planned g c =
     let a : GuardianState = c.requires.answered.1 in
     let b : GuardianState = c.requires.answered.2 in
     let here = c.requires.answered.3 in
-    let e : Event = c.args.event.now in
+    let e : Event = (event_of c.args.step.now c.args.answer.now) in
     let apart : (a.number == b.number) ≡ false = c.requires.answered.4 in
     let to_second : Brings f a b e b c.in_ok-to_second.to_second =
     c.in_ok-to_second.ensures f a b b here.lent here.lent.second (second_one a b apart) here.lent.opening.second here.answered in
@@ -92,7 +92,7 @@ install-requires-clause-planned g c =
     let a : GuardianState = c.requires.answered.1 in
     let b : GuardianState = c.requires.answered.2 in
     let here = c.requires.answered.3 in
-    let e : Event = c.args.event.now in
+    let e : Event = (event_of c.args.step.now c.args.answer.now) in
     let apart : (a.number == b.number) ≡ false = c.requires.answered.4 in
     let to_second : Brings f a b e b c.in_ok-to_second.to_second =
     c.in_ok-to_second.ensures f a b b here.lent here.lent.second (second_one a b apart) here.lent.opening.second here.answered in
@@ -106,7 +106,7 @@ install-requires-else-plan_may_fail-clause-planned g c =
     let a : GuardianState = c.requires.answered.1 in
     let b : GuardianState = c.requires.answered.2 in
     let here = c.requires.answered.3 in
-    let e : Event = c.args.event.now in
+    let e : Event = (event_of c.args.step.now c.args.answer.now) in
     let to_first : Brings f a b e a c.in_ok-to_first.to_first =
     c.in_ok-to_first.ensures f a b a here.lent here.lent.first (first_one a b) here.lent.opening.first here.answered in
     let one : Plans (λ plan. g.G.Guardian.is_for plan c.plan_at.new.guardian) f a b e a c.in_ok-one.one = c.in_ok-one.ensures.planned f a b a here.lent.first to_first in
@@ -119,7 +119,7 @@ install-requires-clause-quiet g c =
     let a : GuardianState = c.requires.answered.1 in
     let b : GuardianState = c.requires.answered.2 in
     let here = c.requires.answered.3 in
-    let e : Event = c.args.event.now in
+    let e : Event = (event_of c.args.step.now c.args.answer.now) in
     let apart : (a.number == b.number) ≡ false = c.requires.answered.4 in
     let to_first : Brings f a b e a c.in_ok-to_first.to_first =
     c.in_ok-to_first.ensures f a b a here.lent here.lent.first (first_one a b) here.lent.opening.first here.answered in
@@ -138,7 +138,7 @@ install-requires-else-plan_may_fail-clause-quiet g c =
     let a : GuardianState = c.requires.answered.1 in
     let b : GuardianState = c.requires.answered.2 in
     let here = c.requires.answered.3 in
-    let e : Event = c.args.event.now in
+    let e : Event = (event_of c.args.step.now c.args.answer.now) in
     let to_first : Brings f a b e a c.in_ok-to_first.to_first =
     c.in_ok-to_first.ensures f a b a here.lent here.lent.first (first_one a b) here.lent.opening.first here.answered in
     let one : Plans (λ plan. g.G.Guardian.is_for plan c.plan_at.new.guardian) f a b e a c.in_ok-one.one = c.in_ok-one.ensures.planned f a b a here.lent.first to_first in
@@ -149,66 +149,66 @@ install-requires-else-plan_may_fail-clause-quiet g c =
 pub returns-in_err-to_first-clause-first_store : goal.returns-in_err-to_first-clause-first_store
 returns-in_err-to_first-clause-first_store g c = λ f a b here.
     let old : View = g.G.Guardian.stored c.args.first.now in
-    left_early f a b a c.args.event.now old c.from_residual-in_err-to_first.result old c.from_residual-in_err-to_first.ensures.1 (stays_same old)
+    left_early f a b a (event_of c.args.step.now c.args.answer.now) old c.from_residual-in_err-to_first.result old c.from_residual-in_err-to_first.ensures.1 (stays_same old)
     (c.number.ensures.whole a here.lent.first)
 
 pub returns-in_err-to_first-clause-second_store : goal.returns-in_err-to_first-clause-second_store
 returns-in_err-to_first-clause-second_store g c = λ f a b here.
     let old : View = g.G.Guardian.stored c.args.second.now in
-    left_early f a b b c.args.event.now old c.from_residual-in_err-to_first.result old c.from_residual-in_err-to_first.ensures.1 (stays_same old)
+    left_early f a b b (event_of c.args.step.now c.args.answer.now) old c.from_residual-in_err-to_first.result old c.from_residual-in_err-to_first.ensures.1 (stays_same old)
     (c.number-2.ensures.whole b here.lent.second)
 
 pub returns-in_err-to_second-clause-first_store : goal.returns-in_err-to_second-clause-first_store
 returns-in_err-to_second-clause-first_store g c = λ f a b here.
     let old : View = g.G.Guardian.stored c.args.first.now in
-    left_early f a b a c.args.event.now old c.from_residual-in_err-to_second.result old c.from_residual-in_err-to_second.ensures.1 (stays_same old)
+    left_early f a b a (event_of c.args.step.now c.args.answer.now) old c.from_residual-in_err-to_second.result old c.from_residual-in_err-to_second.ensures.1 (stays_same old)
     (c.number.ensures.whole a here.lent.first)
 
 pub returns-in_err-to_second-clause-second_store : goal.returns-in_err-to_second-clause-second_store
 returns-in_err-to_second-clause-second_store g c = λ f a b here.
     let old : View = g.G.Guardian.stored c.args.second.now in
-    left_early f a b b c.args.event.now old c.from_residual-in_err-to_second.result old c.from_residual-in_err-to_second.ensures.1 (stays_same old)
+    left_early f a b b (event_of c.args.step.now c.args.answer.now) old c.from_residual-in_err-to_second.result old c.from_residual-in_err-to_second.ensures.1 (stays_same old)
     (c.number-2.ensures.whole b here.lent.second)
 
 pub returns-in_err-there-clause-first_store : goal.returns-in_err-there-clause-first_store
 returns-in_err-there-clause-first_store g c = λ f a b here.
     let old : View = g.G.Guardian.stored c.args.first.now in
-    left_early f a b a c.args.event.now old c.from_residual-in_err-there.result old c.from_residual-in_err-there.ensures.1 (stays_same old)
+    left_early f a b a (event_of c.args.step.now c.args.answer.now) old c.from_residual-in_err-there.result old c.from_residual-in_err-there.ensures.1 (stays_same old)
     (c.number.ensures.whole a here.lent.first)
 
 pub returns-in_err-there-clause-second_store : goal.returns-in_err-there-clause-second_store
 returns-in_err-there-clause-second_store g c = λ f a b here.
     let old : View = g.G.Guardian.stored c.args.second.now in
-    left_early f a b b c.args.event.now old c.from_residual-in_err-there.result old c.from_residual-in_err-there.ensures.1 (stays_same old)
+    left_early f a b b (event_of c.args.step.now c.args.answer.now) old c.from_residual-in_err-there.result old c.from_residual-in_err-there.ensures.1 (stays_same old)
     (c.number-2.ensures.whole b here.lent.second)
 
 pub returns-in_err-one-clause-first_store : goal.returns-in_err-one-clause-first_store
 returns-in_err-one-clause-first_store g c = λ f a b here.
     let old : View = g.G.Guardian.stored c.args.first.now in
-    left_early f a b a c.args.event.now old c.from_residual-in_err-one.result (g.G.Guardian.stored c.plan_at.new.guardian) c.from_residual-in_err-one.ensures.1 c.plan_at.ensures.store
+    left_early f a b a (event_of c.args.step.now c.args.answer.now) old c.from_residual-in_err-one.result (g.G.Guardian.stored c.plan_at.new.guardian) c.from_residual-in_err-one.ensures.1 c.plan_at.ensures.store
     (c.number.ensures.whole a here.lent.first)
 
 pub returns-in_err-one-clause-second_store : goal.returns-in_err-one-clause-second_store
 returns-in_err-one-clause-second_store g c = λ f a b here.
     let old : View = g.G.Guardian.stored c.args.second.now in
-    left_early f a b b c.args.event.now old c.from_residual-in_err-one.result old c.from_residual-in_err-one.ensures.1 (stays_same old)
+    left_early f a b b (event_of c.args.step.now c.args.answer.now) old c.from_residual-in_err-one.result old c.from_residual-in_err-one.ensures.1 (stays_same old)
     (c.number-2.ensures.whole b here.lent.second)
 
 pub returns-in_err-other-clause-first_store : goal.returns-in_err-other-clause-first_store
 returns-in_err-other-clause-first_store g c = λ f a b here.
     let old : View = g.G.Guardian.stored c.args.first.now in
-    left_early f a b a c.args.event.now old c.from_residual-in_err-other.result (g.G.Guardian.stored c.plan_at.new.guardian) c.from_residual-in_err-other.ensures.1 c.plan_at.ensures.store
+    left_early f a b a (event_of c.args.step.now c.args.answer.now) old c.from_residual-in_err-other.result (g.G.Guardian.stored c.plan_at.new.guardian) c.from_residual-in_err-other.ensures.1 c.plan_at.ensures.store
     (c.number.ensures.whole a here.lent.first)
 
 pub returns-in_err-other-clause-second_store : goal.returns-in_err-other-clause-second_store
 returns-in_err-other-clause-second_store g c = λ f a b here.
     let old : View = g.G.Guardian.stored c.args.second.now in
-    left_early f a b b c.args.event.now old c.from_residual-in_err-other.result (g.G.Guardian.stored c.plan_at-2.new.guardian) c.from_residual-in_err-other.ensures.1 c.plan_at-2.ensures.store
+    left_early f a b b (event_of c.args.step.now c.args.answer.now) old c.from_residual-in_err-other.result (g.G.Guardian.stored c.plan_at-2.new.guardian) c.from_residual-in_err-other.ensures.1 c.plan_at-2.ensures.store
     (c.number-2.ensures.whole b here.lent.second)
 
 pub returns-in_err-number-clause-first_store : goal.returns-in_err-number-clause-first_store
 returns-in_err-number-clause-first_store g c = λ f a b here.
-    let e : Event = c.args.event.now in
+    let e : Event = (event_of c.args.step.now c.args.answer.now) in
     let to_first : Brings f a b e a c.in_ok-to_first.to_first =
     c.in_ok-to_first.ensures f a b a here.lent here.lent.first (first_one a b) here.lent.opening.first here.answered in
     let one : Plans (λ plan. g.G.Guardian.is_for plan c.plan_at.new.guardian) f a b e a c.in_ok-one.one = c.in_ok-one.ensures.planned f a b a here.lent.first to_first in
@@ -221,7 +221,7 @@ returns-in_err-number-clause-first_store g c = λ f a b here.
 
 pub returns-in_err-number-clause-second_store : goal.returns-in_err-number-clause-second_store
 returns-in_err-number-clause-second_store g c = λ f a b here.
-    let e : Event = c.args.event.now in
+    let e : Event = (event_of c.args.step.now c.args.answer.now) in
     let some = c.requires.answered in
     let apart : (a.number == b.number) ≡ false =
     differ_as (g.G.Guardian.stands c.args.first.now) (g.G.Guardian.stands c.args.second.now) some.1 some.2 a b c.number.result c.number-2.result
@@ -242,7 +242,7 @@ returns-in_err-number-clause-second_store g c = λ f a b here.
 
 pub returns-in_err-number-2-clause-first_store : goal.returns-in_err-number-2-clause-first_store
 returns-in_err-number-2-clause-first_store g c = λ f a b here.
-    let e : Event = c.args.event.now in
+    let e : Event = (event_of c.args.step.now c.args.answer.now) in
     let to_first : Brings f a b e a c.in_ok-to_first.to_first =
     c.in_ok-to_first.ensures f a b a here.lent here.lent.first (first_one a b) here.lent.opening.first here.answered in
     let one : Plans (λ plan. g.G.Guardian.is_for plan c.plan_at.new.guardian) f a b e a c.in_ok-one.one = c.in_ok-one.ensures.planned f a b a here.lent.first to_first in
@@ -255,7 +255,7 @@ returns-in_err-number-2-clause-first_store g c = λ f a b here.
 
 pub returns-in_err-number-2-clause-second_store : goal.returns-in_err-number-2-clause-second_store
 returns-in_err-number-2-clause-second_store g c = λ f a b here.
-    let e : Event = c.args.event.now in
+    let e : Event = (event_of c.args.step.now c.args.answer.now) in
     let some = c.requires.answered in
     let apart : (a.number == b.number) ≡ false =
     differ_as (g.G.Guardian.stands c.args.first.now) (g.G.Guardian.stands c.args.second.now) some.1 some.2 a b c.number.result c.number-2.result
@@ -272,7 +272,7 @@ returns-in_err-number-2-clause-second_store g c = λ f a b here.
 
 pub returns-in_ok-number-clause-first_store : goal.returns-in_ok-number-clause-first_store
 returns-in_ok-number-clause-first_store g c = λ f a b here.
-    let e : Event = c.args.event.now in
+    let e : Event = (event_of c.args.step.now c.args.answer.now) in
     let to_first : Brings f a b e a c.in_ok-to_first.to_first =
     c.in_ok-to_first.ensures f a b a here.lent here.lent.first (first_one a b) here.lent.opening.first here.answered in
     let one : Plans (λ plan. g.G.Guardian.is_for plan c.plan_at.new.guardian) f a b e a c.in_ok-one.one = c.in_ok-one.ensures.planned f a b a here.lent.first to_first in
@@ -285,7 +285,7 @@ returns-in_ok-number-clause-first_store g c = λ f a b here.
 
 pub returns-in_ok-number-clause-second_store : goal.returns-in_ok-number-clause-second_store
 returns-in_ok-number-clause-second_store g c = λ f a b here.
-    let e : Event = c.args.event.now in
+    let e : Event = (event_of c.args.step.now c.args.answer.now) in
     let some = c.requires.answered in
     let apart : (a.number == b.number) ≡ false =
     differ_as (g.G.Guardian.stands c.args.first.now) (g.G.Guardian.stands c.args.second.now) some.1 some.2 a b c.number.result c.number-2.result
@@ -307,7 +307,7 @@ returns-in_ok-number-clause-second_store g c = λ f a b here.
 
 pub returns-in_ok-number-2-clause-first_store : goal.returns-in_ok-number-2-clause-first_store
 returns-in_ok-number-2-clause-first_store g c = λ f a b here.
-    let e : Event = c.args.event.now in
+    let e : Event = (event_of c.args.step.now c.args.answer.now) in
     let to_first : Brings f a b e a c.in_ok-to_first.to_first =
     c.in_ok-to_first.ensures f a b a here.lent here.lent.first (first_one a b) here.lent.opening.first here.answered in
     let one : Plans (λ plan. g.G.Guardian.is_for plan c.plan_at.new.guardian) f a b e a c.in_ok-one.one = c.in_ok-one.ensures.planned f a b a here.lent.first to_first in
@@ -321,7 +321,7 @@ returns-in_ok-number-2-clause-first_store g c = λ f a b here.
 
 pub returns-in_ok-number-2-clause-second_store : goal.returns-in_ok-number-2-clause-second_store
 returns-in_ok-number-2-clause-second_store g c = λ f a b here.
-    let e : Event = c.args.event.now in
+    let e : Event = (event_of c.args.step.now c.args.answer.now) in
     let some = c.requires.answered in
     let apart : (a.number == b.number) ≡ false =
     differ_as (g.G.Guardian.stands c.args.first.now) (g.G.Guardian.stands c.args.second.now) some.1 some.2 a b c.number.result c.number-2.result
@@ -346,7 +346,7 @@ operate-requires-clause-answered g c =
 
 pub returns-then-is_named-clause-done : goal.returns-then-is_named-clause-done
 returns-then-is_named-clause-done g c = λ f a b here.
-    let e : Event = c.args.event.now in
+    let e : Event = (event_of c.args.step.now c.args.answer.now) in
     let some = c.requires.answered in
     let apart : (a.number == b.number) ≡ false =
     differ_as (g.G.Guardian.stands c.args.first.now) (g.G.Guardian.stands c.args.second.now) some.1 some.2 a b c.number.result c.number-2.result
@@ -367,7 +367,7 @@ returns-then-is_named-clause-done g c = λ f a b here.
 
 pub returns-then-is_operation-clause-done : goal.returns-then-is_operation-clause-done
 returns-then-is_operation-clause-done g c = λ f a b here.
-    let e : Event = c.args.event.now in
+    let e : Event = (event_of c.args.step.now c.args.answer.now) in
     let some = c.requires.answered in
     let apart : (a.number == b.number) ≡ false =
     differ_as (g.G.Guardian.stands c.args.first.now) (g.G.Guardian.stands c.args.second.now) some.1 some.2 a b c.number.result c.number-2.result
@@ -388,7 +388,7 @@ returns-then-is_operation-clause-done g c = λ f a b here.
 
 pub returns-in_ok-number-clause-done : goal.returns-in_ok-number-clause-done
 returns-in_ok-number-clause-done g c = λ f a b here.
-    let e : Event = c.args.event.now in
+    let e : Event = (event_of c.args.step.now c.args.answer.now) in
     let some = c.requires.answered in
     let apart : (a.number == b.number) ≡ false =
     differ_as (g.G.Guardian.stands c.args.first.now) (g.G.Guardian.stands c.args.second.now) some.1 some.2 a b c.number.result c.number-2.result
@@ -418,7 +418,7 @@ returns-in_ok-number-clause-done g c = λ f a b here.
 
 pub returns-in_ok-number-2-clause-done : goal.returns-in_ok-number-2-clause-done
 returns-in_ok-number-2-clause-done g c = λ f a b here.
-    let e : Event = c.args.event.now in
+    let e : Event = (event_of c.args.step.now c.args.answer.now) in
     let some = c.requires.answered in
     let apart : (a.number == b.number) ≡ false =
     differ_as (g.G.Guardian.stands c.args.first.now) (g.G.Guardian.stands c.args.second.now) some.1 some.2 a b c.number.result c.number-2.result

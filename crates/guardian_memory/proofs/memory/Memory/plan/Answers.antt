@@ -5,6 +5,7 @@ use Rattle.roster.specs.Tables.{table}
 use Rattle.atomic_object.specs.Staying.{OutcomesRise}
 use Rattle.guardian_memory.proofs.Planned.{entry_of}
 use Rattle.guardian_memory.proofs.Sound.{inside, sound_same}
+use Rattle.layer_contracts.specs.Guardians.{event_of}
 use Rattle.guardian_memory.proofs.memory.Memory.plan.Goals as goal
 
 pub plan-requires-clause-shown : goal.plan-requires-clause-shown
@@ -57,7 +58,7 @@ returns-clause-planned c = λ s at owed agrees.
           (subst (λ l. IsLesson c.args.message.sender c.args.message.life c.args.message.aborts c.as_slice-counts.result.now l c.in_ok-lesson.lesson)
           c.as_slice-outcomes.ensures.value c.in_ok-lesson.ensures.news);
       entry =
-          entry_of (table c.plan-3.new.self) c.args.event.now c.args.message.dependencies.items c.as_slice-dependencies.result.now c.in_ok-entry.entry
+          entry_of (table c.plan-3.new.self) (event_of c.args.step.now c.args.answer.now) c.args.message.dependencies.items c.as_slice-dependencies.result.now c.in_ok-entry.entry
           c.as_slice-dependencies.ensures.value c.in_ok-entry.ensures.planned;
       outcomes = c.in_ok-planned.ensures.outcomes ∙ c.as_slice-outcomes.ensures.value;
       planned = c.in_ok-planned.ensures.planned s.number s.past here.tellings;

@@ -4,11 +4,12 @@ use Rattle.run_model.specs.LocalHistories.{events_there, names_guardian}
 use Rattle.layer_contracts.specs.Messages.{carried_of}
 use Rattle.lent_steps.proofs.Agreed.{agrees_at}
 use Rattle.lent_steps.proofs.Owing.{owed_at}
+use Rattle.layer_contracts.specs.Guardians.{event_of}
 use Rattle.lent_steps.proofs.lent.Lent.brought_to.Goals as goal
 
 pub returns : goal.returns
 returns g c = λ f a b x lent stood one opening answered.
-    let e : Event = c.args.event.now in
+    let e : Event = (event_of c.args.step.now c.args.answer.now) in
     let yes : c.is_named.result ≡ true = grind arith in
     let named : names_guardian e.step (events_there f.registry) x.number ≡ true =
     ap (λ k. names_guardian e.step (events_there f.registry) k) (sym (c.number.ensures.number x stood)) ∙ sym (c.is_named.ensures f lent.forest) ∙ yes in

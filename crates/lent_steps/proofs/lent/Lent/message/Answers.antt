@@ -3,7 +3,7 @@ use Rattle.action_names.specs.Names.{Name}
 use Rattle.run_model.specs.declared.history.Event.{Event}
 use Rattle.run_model.specs.LocalReadings.{Carried, LocalEvent}
 use Rattle.run_model.specs.LocalHistories.{aborts_from, carried_lent, counts_of_sender, events_there, outcomes_carried, sender_lent, sender_life}
-use Rattle.layer_contracts.specs.Guardians.{GuardianState, lent_two}
+use Rattle.layer_contracts.specs.Guardians.{GuardianState, event_of, lent_two}
 use Rattle.layer_contracts.specs.Forests.{ForestState}
 use Rattle.layer_contracts.specs.Messages.{sent_of}
 use Rattle.lent_steps.specs.Lending.{dependencies_two}
@@ -41,7 +41,7 @@ carried_is f a b e g k m sender life aborts counts dependencies outcomes n o s l
 
 pub returns : goal.returns
 returns g c = λ f a b x lent stood one.
-    carried_is f a b c.args.event.now x.number c.number.result c.number-2.result c.sender-sender.result c.life_of-life.result
+    carried_is f a b (event_of c.args.step.now c.args.answer.now) x.number c.number.result c.number-2.result c.sender-sender.result c.life_of-life.result
     c.in_ok-aborts.aborts c.in_ok-aborts.counts.items (sent_of c.in_ok-dependencies.field-0.items) c.in_ok-outcomes.field-0.items
     (c.number.ensures.number x stood) (c.number-2.ensures.number x stood) (c.sender-sender.ensures f a b lent)
     (c.life_of-life.ensures a b lent.first lent.second) (c.in_ok-aborts.ensures.aborts f a b x lent stood one)

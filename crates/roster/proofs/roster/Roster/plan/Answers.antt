@@ -49,7 +49,7 @@ returns-clause-fits c =
 pub returns-clause-planned : goal.returns-clause-planned
 returns-clause-planned c =
     let before = table c.args.self.now in
-    let step = c.args.event.now.step in
+    let step = c.args.step.now in
     let came = came_in c.args.dependencies.now in
     let climbed : table c.plan_begun.new.self ≡ table c.plan_above.new.self = sym c.plan_above.ensures.same in
     let same : before ≡ table c.plan_above.new.self = sym c.plan_begun.ensures.same ∙ climbed in
@@ -58,9 +58,9 @@ returns-clause-planned c =
       closed = c.placed-closed.ensures ∙ ap (placed before) c.closed_in.ensures ∙ ap (λ t. placed t (closed_in step)) same;
       merged = subst (λ t. IsMerged t step came c.in_ok-merged.merged) same c.in_ok-merged.ensures;
       maker = c.placed-maker.ensures ∙ ap (placed before) c.maker_in.ensures ∙ ap (λ t. placed t (maker_in step)) same;
-      begun = subst (λ t. AreBorn t c.args.event.now came c.in_ok-begun.begun.items) same c.in_ok-begun.ensures.born;
+      begun = subst (λ t. AreBorn t (record { step = c.args.step.now; answer = c.args.answer.now }) came c.in_ok-begun.begun.items) same c.in_ok-begun.ensures.born;
       above =
-          subst (λ t. AreAbove t (names_begun c.args.event.now.answer) c.in_ok-above.above.items) climbed
+          subst (λ t. AreAbove t (names_begun c.args.answer.now) c.in_ok-above.above.items) climbed
           (subst (λ ns. AreAbove (table c.plan_begun.new.self) ns c.in_ok-above.above.items) c.names_in.ensures c.in_ok-above.ensures.above);
       turn = c.turn_in.ensures;
     }

@@ -23,7 +23,7 @@ loop-name-init c = record {
   places = subst (HavePlaces c.args.self.now.places.room) (sym c.in_ok-begun.ensures.items) tt;
   named = ap names_of c.in_ok-begun.ensures.items;
   are_names = subst (AllByRecursion (λ (x : Name × Row). IsName x.0)) (sym c.in_ok-begun.ensures.items) tt;
-  born = subst (AllByRecursion (λ (x : Name × Row). IsBorn (table c.args.self.now) c.args.event.now.step (came_in c.args.dependencies.now) x.0 x.1))
+  born = subst (AllByRecursion (λ (x : Name × Row). IsBorn (table c.args.self.now) c.args.step.now (came_in c.args.dependencies.now) x.0 x.1))
       (sym c.in_ok-begun.ensures.items) tt;
 }
 
@@ -46,7 +46,7 @@ returns-in_err-push-clause-same c =
 pub loop-name-preserved : goal.loop-name-preserved
 loop-name-preserved c =
     let before = table c.args.self.now in
-    let step = c.args.event.now.step in
+    let step = c.args.step.now in
     let came = came_in c.args.dependencies.now in
     let names = c.names_in-names.result.now in
     let i = c.loop-name.name-index in
