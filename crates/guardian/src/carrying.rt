@@ -96,17 +96,30 @@ impl<S: Stable> layer_contracts::Guardian for Guardian<S> {
         self.memory.plan(step, answer, message)
     }
 
-    fn operate<F: FnOnce() -> u64>(&mut self, step: &Step, answer: &Answer, stamp: F) -> Result<u64, AllocError> {
+    fn operate<F: FnOnce() -> u64>(
+        &mut self,
+        step: &Step,
+        answer: &Answer,
+        stamp: F,
+    ) -> Result<u64, AllocError> {
         self.memory.operate(step, answer, stamp)
     }
 
     fn carry_out<F: FnOnce() -> u64>(
         &mut self,
         plan: Plan,
-        step: &Step, answer: &Answer,
+        step: &Step,
+        answer: &Answer,
         stamp: F,
     ) -> Result<u64, Fault> {
-        if let Err(fault) = write(self.alloc, &self.memory, &mut self.store, &plan, step, answer) {
+        if let Err(fault) = write(
+            self.alloc,
+            &self.memory,
+            &mut self.store,
+            &plan,
+            step,
+            answer,
+        ) {
             return Err(fault);
         }
         let drawn = stamp();
@@ -120,7 +133,14 @@ impl<S: Stable> layer_contracts::Guardian for Guardian<S> {
 }
 
 // The memory follows an event that is no operation, once the store holds what it asks for. A crash asks for nothing.
-fn keep<S: Stable>(memory: &mut Memory, store: &S, plan: Plan, step: &Step, answer: &Answer, stamp: u64)
+fn keep<S: Stable>(
+    memory: &mut Memory,
+    store: &S,
+    plan: Plan,
+    step: &Step,
+    answer: &Answer,
+    stamp: u64,
+)
     requires fits { FitsPlan plan memory.old }
     requires planned { IsPlannedWhere (IsRecordedAt step.now (S.seen store.now).content) plan memory.old (event_of step.now answer.now) }
     requires other { IsFalse (is_operation step.now) }
@@ -139,7 +159,8 @@ fn write<S: Stable>(
     memory: &Memory,
     store: &mut S,
     plan: &Plan,
-    step: &Step, answer: &Answer,
+    step: &Step,
+    answer: &Answer,
 ) -> Result<(), Fault>
     requires { IsPlannedHere S.seen (record { memory = memory.now; store = store.old }) plan.now (event_of step.now answer.now) }
     ensures leaves { WhereverPlanned S.seen (record { memory = memory.now; store = store.old }) plan.now (event_of step.now answer.now)

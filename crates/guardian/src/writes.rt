@@ -43,7 +43,8 @@ impl Write {
         memory: &Memory,
         store: &S,
         plan: &Plan,
-        step: &Step, answer: &Answer,
+        step: &Step,
+        answer: &Answer,
     ) -> Result<Write, AllocError>
         requires { IsPlannedHere S.seen (record { memory = memory.now; store = store.now }) plan.now (event_of step.now answer.now) }
         ensures written { WhereverPlanned S.seen (record { memory = memory.now; store = store.now }) plan.now (event_of step.now answer.now) (λ s news. IfOk result (λ write.

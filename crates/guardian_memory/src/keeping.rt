@@ -37,7 +37,14 @@ impl Memory {
 
     /// The guardian crashes: it forgets its lists, what it was told but for commits, and of its objects all but the base and what the survivors wrote
     /// and added. It stands in the state that follows wherever the survivors are the top actions of which the store has a record. This cannot fail.
-    pub fn crash<S: Survivors>(&mut self, plan: Plan, step: &Step, answer: &Answer, stamp: u64, survivors: &S)
+    pub fn crash<S: Survivors>(
+        &mut self,
+        plan: Plan,
+        step: &Step,
+        answer: &Answer,
+        stamp: u64,
+        survivors: &S,
+    )
         requires fits { FitsPlan plan self.old }
         requires planned { IsPlannedWhere (AreRecorded (λ a. S.stays survivors.now a)) plan self.old (event_of step.now answer.now) }
         requires down { IsTrue (step_crashes step.now self.old.number) }
@@ -55,7 +62,8 @@ impl Memory {
     /// object. Fails only for want of memory.
     pub fn operate<F: FnOnce() -> u64>(
         &mut self,
-        step: &Step, answer: &Answer,
+        step: &Step,
+        answer: &Answer,
         stamp: F,
     ) -> Result<u64, AllocError>
         requires stamp { F.pre stamp }

@@ -20,7 +20,12 @@ impl Memory {
     /// Makes room for an event and computes what it changes. With memory and without, the memory stands where it stood. The plan is for the event in
     /// each state whose history it agrees with, where it brings what that history asks of it. Fails for want of memory, and where one more crash could
     /// not be counted.
-    pub fn plan(&mut self, step: &Step, answer: &Answer, message: Message) -> Result<Plan, AllocError>
+    pub fn plan(
+        &mut self,
+        step: &Step,
+        answer: &Answer,
+        message: Message,
+    ) -> Result<Plan, AllocError>
         requires accepted { IsTrue (is_accepted answer.now) }
         requires rising { OutcomesRise message.outcomes.items }
         ensures same { (s : GuardianState) → IsSound self.old s → IsSound self.new s }

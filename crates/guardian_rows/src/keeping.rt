@@ -63,7 +63,7 @@ fn keep_answered<G: Judging>(
     requires owes { (s : GuardianState) → G.stands guardian.old s → Owes s (carried_of message) step.now answer.now }
 {
     let event = accepted(guardian, step, answer, &message)?;
-    let plan = guardian.plan(&event, message)?;
+    let plan = guardian.plan(&event.step, &event.answer, message)?;
     carry_out(guardian, plan, &event, stamp)?;
     Ok(())
 }
@@ -106,9 +106,9 @@ fn carry_out<G: Guardian>(
     requires planned { (s : GuardianState) × (news : News) × G.stands guardian.old s × G.is_for plan guardian.old s news × (news.event ≡ event.now) }
 {
     if may_fail(&event.step, guardian.number()) {
-        guardian.carry_out(plan, event, || stamp)?;
+        guardian.carry_out(plan, &event.step, &event.answer, || stamp)?;
     } else {
-        guardian.install(plan, event, stamp);
+        guardian.install(plan, &event.step, &event.answer, stamp);
     }
     Ok(())
 }

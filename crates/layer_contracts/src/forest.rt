@@ -104,7 +104,13 @@ pub trait Forest: Drop {
 
     /// Makes room for an event and computes what it changes. What it begins begins at this home in this life of it. With memory and without, the
     /// forest stands where it stood. The plan is for the event in each state in which that was entered.
-    fn plan(&mut self, step: &Step, answer: &Answer, home: u32, life: u64) -> Result<Self::Plan, AllocError>
+    fn plan(
+        &mut self,
+        step: &Step,
+        answer: &Answer,
+        home: u32,
+        life: u64,
+    ) -> Result<Self::Plan, AllocError>
         requires accepted { IsTrue (is_accepted answer.now) }
         ensures same { (f : ForestState) → stands self.old f → stands self.new f }
         ensures fits { IfOk result (λ plan. fits plan self.new) }

@@ -126,7 +126,12 @@ pub trait Guardian: Drop {
     /// Makes room for an event and computes what it changes. With memory and without, the guardian stands where it stood, and its store is as it was.
     /// The plan is for the event in each state whose history it agrees with, where it brings what that history asks of it. Also fails where one more
     /// crash could not be counted.
-    fn plan(&mut self, step: &Step, answer: &Answer, message: Message) -> Result<Self::Plan, AllocError>
+    fn plan(
+        &mut self,
+        step: &Step,
+        answer: &Answer,
+        message: Message,
+    ) -> Result<Self::Plan, AllocError>
         requires accepted { IsTrue (is_accepted answer.now) }
         requires rising { IsStrictlySortedBy name_cmp (map (λ x. x.0) message.outcomes.items) }
         ensures same { (s : GuardianState) → stands self.old s → stands self.new s }
@@ -139,7 +144,12 @@ pub trait Guardian: Drop {
 
     /// Makes an operation, with which no message comes: first the object's call, then the stamp, after which nothing can fail. Nothing changes beside
     /// the object, so there is nothing to plan. Fails only for want of memory.
-    fn operate<F: FnOnce() -> u64>(&mut self, step: &Step, answer: &Answer, stamp: F) -> Result<u64, AllocError>
+    fn operate<F: FnOnce() -> u64>(
+        &mut self,
+        step: &Step,
+        answer: &Answer,
+        stamp: F,
+    ) -> Result<u64, AllocError>
         requires stamp { F.pre stamp }
         requires operation { IsTrue (is_operation step.now) }
         requires next { (s : GuardianState) × stands self.old s × IsNext s (by_itself (event_of step.now answer.now)) }
@@ -155,7 +165,8 @@ pub trait Guardian: Drop {
     fn carry_out<F: FnOnce() -> u64>(
         &mut self,
         plan: Self::Plan,
-        step: &Step, answer: &Answer,
+        step: &Step,
+        answer: &Answer,
         stamp: F,
     ) -> Result<u64, Fault>
         requires stamp { F.pre stamp }

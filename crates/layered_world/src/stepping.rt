@@ -119,9 +119,7 @@ fn keep<R: Forest, G: Guardian>(
 {
     let number = history.next_stamp();
     history.push(step, &answer)?;
-    let kept = keep_at(
-        alloc, forest, guardians, low, high, step, &answer, number,
-    );
+    let kept = keep_at(alloc, forest, guardians, low, high, step, &answer, number);
     ask_number(guardians, low);
     ask_number(guardians, high);
     match kept {
@@ -149,7 +147,8 @@ fn keep_at<R: Forest, G: Guardian>(
     guardians: &mut [G],
     low: u32,
     high: u32,
-    step: &Step, answer: &Answer,
+    step: &Step,
+    answer: &Answer,
     number: u64,
 ) -> Result<(), Fault>
     requires first { 1 ≤ low }
@@ -168,7 +167,8 @@ fn keep_at<R: Forest, G: Guardian>(
             alloc,
             forest,
             &mut guardians[low as usize - 1],
-            step, answer,
+            step,
+            answer,
             || number,
         )?;
         return Ok(());
@@ -179,7 +179,8 @@ fn keep_at<R: Forest, G: Guardian>(
         forest,
         &mut left[low as usize - 1],
         &mut right[0],
-        step, answer,
+        step,
+        answer,
         || number,
     )?;
     Ok(())

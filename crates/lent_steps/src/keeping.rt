@@ -28,7 +28,12 @@ pub(crate) fn is_named<R: Forest>(forest: &R, step: &Step, guardian: u32) -> boo
 
 impl<'a, R: Forest, G: Guardian> Lent<'a, R, G> {
     /// What the event brings to the guardian, if it names it.
-    fn brought_to(&self, step: &Step, answer: &Answer, at: &G) -> Result<Option<Message>, AllocError>
+    fn brought_to(
+        &self,
+        step: &Step,
+        answer: &Answer,
+        at: &G,
+    ) -> Result<Option<Message>, AllocError>
         ensures { IfOk result (λ brought. (f : ForestState) (a b x : GuardianState) → Lends R.stands G.stands self.now f a b → G.stands at.now x
             → IsOneOf a b x → x.opening ≡ f.opening → IsAnswered f a b (event_of step.now answer.now) → Brings f a b (event_of step.now answer.now) x brought) }
     {
@@ -42,7 +47,8 @@ impl<'a, R: Forest, G: Guardian> Lent<'a, R, G> {
 /// Makes room at the guardian for an event that brings this to it, if it brings something.
 fn plan_at<G: Guardian>(
     guardian: &mut G,
-    step: &Step, answer: &Answer,
+    step: &Step,
+    answer: &Answer,
     brought: Option<Message>,
 ) -> Result<Option<G::Plan>, AllocError>
     requires accepted { IsTrue (is_accepted answer.now) }
@@ -62,7 +68,8 @@ fn plan_at<G: Guardian>(
 /// Makes room in the forest for an event, if the forest keeps it.
 fn plan_there<R: Forest>(
     forest: &mut R,
-    step: &Step, answer: &Answer,
+    step: &Step,
+    answer: &Answer,
     home: u32,
     life: u64,
 ) -> Result<Option<R::Plan>, AllocError>
@@ -100,7 +107,8 @@ fn plan_may_fail<G: Guardian>(plan: &Option<G::Plan>, step: &Step, guardian: &G)
 fn carry_out<G: Guardian, F: FnOnce() -> u64>(
     guardian: &mut G,
     plan: Option<G::Plan>,
-    step: &Step, answer: &Answer,
+    step: &Step,
+    answer: &Answer,
     stamp: F,
 ) -> Result<u64, Fault>
     requires stamp { F.pre stamp }
@@ -122,7 +130,13 @@ fn carry_out<G: Guardian, F: FnOnce() -> u64>(
     }
 }
 
-fn install<G: Guardian>(guardian: &mut G, plan: Option<G::Plan>, step: &Step, answer: &Answer, stamp: u64)
+fn install<G: Guardian>(
+    guardian: &mut G,
+    plan: Option<G::Plan>,
+    step: &Step,
+    answer: &Answer,
+    stamp: u64,
+)
     requires fits { MatchOption plan (Unit {0}) (λ plan. G.fits plan guardian.old) }
     requires planned { MatchOption plan (Unit {0}) (λ plan. IsPlannedHere (G.stands guardian.old) (G.is_for plan guardian.old) (event_of step.now answer.now)) }
     requires quiet { MatchOption plan (Unit {0}) (λ plan. (x : GuardianState) × G.stands guardian.old x × IsFalse (may_fail step.now x.number)) }
@@ -135,7 +149,13 @@ fn install<G: Guardian>(guardian: &mut G, plan: Option<G::Plan>, step: &Step, an
     }
 }
 
-fn install_there<R: Forest>(forest: &mut R, plan: Option<R::Plan>, step: &Step, answer: &Answer, stamp: u64)
+fn install_there<R: Forest>(
+    forest: &mut R,
+    plan: Option<R::Plan>,
+    step: &Step,
+    answer: &Answer,
+    stamp: u64,
+)
     requires fits { MatchOption plan (Unit {0}) (λ plan. R.fits plan forest.old) }
     requires planned { MatchOption plan (Unit {0}) (λ plan. IsPlannedInSome (R.stands forest.old) (R.is_for plan forest.old) (event_of step.now answer.now)) }
     ensures { MatchOption plan ((f : ForestState) → R.stands forest.old f → R.stands forest.new f)
@@ -151,7 +171,8 @@ fn install_there<R: Forest>(forest: &mut R, plan: Option<R::Plan>, step: &Step, 
 fn operate<R: Forest, G: Guardian, F: FnOnce() -> u64>(
     forest: &R,
     guardian: &mut G,
-    step: &Step, answer: &Answer,
+    step: &Step,
+    answer: &Answer,
     stamp: F,
 ) -> Result<u64, AllocError>
     requires stamp { F.pre stamp }
@@ -179,7 +200,8 @@ pub fn keep_two<R: Forest, G: Guardian, F: FnOnce() -> u64>(
     forest: &mut R,
     first: &mut G,
     second: &mut G,
-    step: &Step, answer: &Answer,
+    step: &Step,
+    answer: &Answer,
     stamp: F,
 ) -> Result<u64, Fault>
     requires stamp { F.pre stamp }
@@ -240,7 +262,8 @@ pub fn keep_one<R: Forest, G: Guardian, F: FnOnce() -> u64>(
     alloc: Global,
     forest: &mut R,
     guardian: &mut G,
-    step: &Step, answer: &Answer,
+    step: &Step,
+    answer: &Answer,
     stamp: F,
 ) -> Result<u64, Fault>
     requires stamp { F.pre stamp }

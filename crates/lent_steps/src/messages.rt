@@ -104,7 +104,8 @@ impl<'a, R: Forest, G: Guardian> Lent<'a, R, G> {
     /// What the event says of dependencies to the guardian of this number.
     fn dependencies(
         &self,
-        step: &Step, answer: &Answer,
+        step: &Step,
+        answer: &Answer,
         at: u32,
     ) -> Result<Vec<(Name, Vec<(u32, u64)>)>, AllocError>
         ensures { (f : ForestState) (a b : GuardianState) → Lends R.stands G.stands self.now f a b
@@ -140,7 +141,8 @@ impl<'a, R: Forest, G: Guardian> Lent<'a, R, G> {
 
     fn new_dependencies(
         &self,
-        step: &Step, answer: &Answer,
+        step: &Step,
+        answer: &Answer,
         at: u32,
     ) -> Result<Vec<(Name, Vec<(u32, u64)>)>, AllocError>
         ensures { (f : ForestState) (a b : GuardianState) → Lends R.stands G.stands self.now f a b

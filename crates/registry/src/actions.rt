@@ -84,7 +84,13 @@ impl Actions {
 
     /// Makes room for an event and computes what it changes. What it begins begins at this home in this life of it. With memory and without, the
     /// actions and votes stay what they were.
-    pub(crate) fn plan(&mut self, step: &Step, answer: &Answer, home: u32, life: u64) -> Result<Change, AllocError>
+    pub(crate) fn plan(
+        &mut self,
+        step: &Step,
+        answer: &Answer,
+        home: u32,
+        life: u64,
+    ) -> Result<Change, AllocError>
         ensures same { AtEachOf self.old (λ opening registry. AreActions opening registry self.new) }
         ensures room { IfOk result (HasRoomFor self.new) }
         ensures fits { AtEachOf self.old (λ opening registry. IfOk result (FitsChange opening registry (event_of step.now answer.now) home life self.new)) }

@@ -135,7 +135,13 @@ impl Forest for Registry {
         self.actions.forest.outcomes_below(top.components(), &told)
     }
 
-    fn plan(&mut self, step: &Step, answer: &Answer, home: u32, life: u64) -> Result<Change, AllocError> {
+    fn plan(
+        &mut self,
+        step: &Step,
+        answer: &Answer,
+        home: u32,
+        life: u64,
+    ) -> Result<Change, AllocError> {
         self.actions.plan(step, answer, home, life)
     }
 

@@ -136,7 +136,8 @@ impl Roster {
     /// memory for it, the roster is that of the same history.
     pub fn plan(
         &mut self,
-        step: &Step, answer: &Answer,
+        step: &Step,
+        answer: &Answer,
         dependencies: &[(Name, Vec<(u32, u64)>)],
     ) -> Result<Entry, AllocError>
         ensures same { (g : ℕ) (here : List LocalEvent) → IsRoster g here (table self.old) → IsRoster g here (table self.new) }
@@ -320,7 +321,8 @@ impl Roster {
     // The rows of what the event begins, and room for them.
     fn plan_begun(
         &mut self,
-        step: &Step, answer: &Answer,
+        step: &Step,
+        answer: &Answer,
         dependencies: &[(Name, Vec<(u32, u64)>)],
     ) -> Result<Vec<(Name, Row)>, AllocError>
         ensures same { table self.new ≡ table self.old }

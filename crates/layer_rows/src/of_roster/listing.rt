@@ -58,7 +58,7 @@ impl Listing {
             return Ok(false);
         }
         let begun = in_front(self.alloc, names_in(&event.answer), &self.begun)?;
-        let entry = self.roster.plan(event, dependencies)?;
+        let entry = self.roster.plan(&event.step, &event.answer, dependencies)?;
         self.roster.enter(entry);
         self.begun = begun;
         Ok(true)
