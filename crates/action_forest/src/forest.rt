@@ -182,7 +182,8 @@ impl Forest {
 
     /// Who made the action.
     pub fn maker(&self, path: &[u32]) -> Option<&Name>
-        ensures { AtEach (trees self.now) (λ opening registry. MatchOption result (maker_of path.now (events_there registry) ≡ None) (λ maker. maker_of path.now (events_there registry) ≡ Some maker.now)) }
+        ensures { AtEach (trees self.now) (λ opening registry. MatchOption result (maker_of path.now (events_there registry) ≡ None)
+            (λ maker. maker_of path.now (events_there registry) ≡ Some maker.now)) }
     {
         let maker = self.node(path)?.maker?;
         Some(&self.nodes.get(maker)?.name)

@@ -172,7 +172,8 @@ impl Memory {
         outcomes: &[(Name, bool)],
         records: &S,
     ) -> Result<bool, AllocError>
-        ensures { (s : GuardianState) → IsSound self.now s → AreRecorded (λ a. S.stays records.now a) s → IsTrue (none_undone outcomes.now s.past) → IfOk result (λ yes. yes ≡ may_vote s answer.now top.now outcomes.now) }
+        ensures { (s : GuardianState) → IsSound self.now s → AreRecorded (λ a. S.stays records.now a) s → IsTrue (none_undone outcomes.now s.past)
+            → IfOk result (λ yes. yes ≡ may_vote s answer.now top.now outcomes.now) }
     {
         if records.stays(top) || self.was_told_committed(top) {
             return Ok(false);
