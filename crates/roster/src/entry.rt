@@ -2,7 +2,7 @@
 ghost use Rattle.std.specs.Prelude.{◌≡◌, ◌==◌, ℕ, IfOk, OnOk, if◌then◌else◌, None, Some};
 ghost use Rattle.std.specs.FinMap as map;
 ghost use Rattle.std.specs.Option.{option_map};
-ghost use Rattle.run_model.specs.Actions.{maker_in, names_begun};
+ghost use Rattle.run_model.specs.Actions.{names_begun};
 ghost use Rattle.run_model.specs.LocalReadings.{beside, least_of};
 ghost use Rattle.run_model.specs.Telling.{or_else};
 
@@ -22,6 +22,17 @@ pub struct Row {
     pub(crate) closed: bool,
     /// How many of the things that it made have not ended.
     pub(crate) unended: u64,
+}
+
+/// The places of the rows of those of whom a step speaks, where they have rows.
+#[derive(Clone, Copy)]
+pub(crate) struct Places {
+    /// Of the action that it ends.
+    pub(crate) ended: Option<usize>,
+    /// Of the action that it closes.
+    pub(crate) closed: Option<usize>,
+    /// Of who makes what it begins.
+    pub(crate) maker: Option<usize>,
 }
 
 /// What an event makes of the guardian that keeps it.
@@ -49,38 +60,8 @@ pub struct Entry {
     pub(crate) turn: Turn,
 }
 
-ghost use Rattle.roster.specs.Steps.{closed_in, ended_in, turn_in};
+ghost use Rattle.roster.specs.Steps.{turn_in};
 ghost use Rattle.roster.specs.Entries.{came_in};
-
-/// The action that the step ends.
-pub(crate) fn ended_in(step: &Step) -> Option<&Name>
-    ensures { option_map (λ name. name.now) result ≡ ended_in step.now }
-{
-    match step {
-        Step::Commit(action) | Step::Decide(action) | Step::Abort(action) => Some(action),
-        _ => None,
-    }
-}
-
-/// The action whose closing step it is.
-pub(crate) fn closed_in(step: &Step) -> Option<&Name>
-    ensures { option_map (λ name. name.now) result ≡ closed_in step.now }
-{
-    match step {
-        Step::Commit(action) | Step::Close(action) => Some(action),
-        _ => None,
-    }
-}
-
-/// Who makes what the step begins.
-pub(crate) fn maker_in(step: &Step) -> Option<&Name>
-    ensures { option_map (λ name. name.now) result ≡ maker_in step.now }
-{
-    match step {
-        Step::NestedTop(action) | Step::Call(action, _) | Step::Arms(action, _) => Some(action),
-        _ => None,
-    }
-}
 
 /// What becomes of the guardian that keeps the step. Of crashes and recoveries it keeps its own.
 pub(crate) fn turn_in(step: &Step) -> Turn

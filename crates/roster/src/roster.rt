@@ -13,9 +13,7 @@ ghost use Rattle.run_model.specs.Reopening.{life_before};
 ghost use Rattle.run_model.specs.StableContent.{Prepared};
 ghost use Rattle.local_agreement.specs.Actions.{AgreesOnActions};
 
-use crate::entry::{
-    Entry, Row, Turn, closed_in, depends_in, ended_in, maker_in, names_in, turn_in,
-};
+use crate::entry::{Entry, Places, Row, Turn, depends_in, names_in, turn_in};
 use holders::Index;
 use run_model::{Answer, Deps, Name, Step};
 use std::alloc::{AllocError, Global};
@@ -145,11 +143,13 @@ impl Roster {
         ensures fits { IfOk result (FitsEntry self.new) }
         ensures planned { IfOk result (IsEntry (table self.new) (record { step = step.now; answer = answer.now }) (came_in dependencies.now)) }
     {
-        let ended = self.placed(ended_in(step));
-        let closed = self.placed(closed_in(step));
+        let Places {
+            ended,
+            closed,
+            maker,
+        } = self.places_in(step);
         let merged = self.plan_merge(step, dependencies)?;
-        let maker = self.placed(maker_in(step));
-        let begun = self.plan_begun(step, answer, dependencies)?;
+        let begun = self.plan_begun(step, answer, dependencies, maker)?;
         self.plan_count(maker, begun.len())?;
         let above = self.plan_above(names_in(answer))?;
         Ok(Entry {
@@ -191,7 +191,7 @@ impl Roster {
 
 impl Roster {
     ghost use Rattle.roster.specs.Entries.{Adds, AreAbove, AreBorn, CanCount, FitsBegun, HaveRoom, IsBorn, IsClimbed, IsLeft, IsMerged, came_in};
-    ghost use Rattle.roster.specs.Steps.{above};
+    ghost use Rattle.roster.specs.Steps.{above, closed_in, ended_in};
     ghost use Rattle.roster.specs.Rosters.{crashes_of};
     ghost use Rattle.roster.specs.Tables.{added, all_added, changed_at, ended, home_at, is_known, life_at, life_in, maker_left, merged, more_by};
     ghost use Rattle.roster.specs.Tables.{one_less, place_of, placed, row_at, row_of, said, table, turned, with_closed, with_ended};
@@ -203,10 +203,29 @@ impl Roster {
         self.places.get(action).copied()
     }
 
-    fn placed(&self, action: Option<&Name>) -> Option<usize>
-        ensures { result ≡ placed (table self.now) (option_map (λ name. name.now) action.entry) }
+    // The places of those of whom the step speaks, of whom one is looked up at most.
+    fn places_in(&self, step: &Step) -> Places
+        ensures ended { result.ended ≡ placed (table self.now) (ended_in step.now) }
+        ensures closed { result.closed ≡ placed (table self.now) (closed_in step.now) }
+        ensures maker { result.maker ≡ placed (table self.now) (maker_in step.now) }
     {
-        self.place(action?)
+        let (ended, closed, maker) = match step {
+            Step::Commit(action) => {
+                let at = self.place(action);
+                (at, at, None)
+            }
+            Step::Decide(action) | Step::Abort(action) => (self.place(action), None, None),
+            Step::Close(action) => (None, self.place(action), None),
+            Step::NestedTop(action) | Step::Call(action, _) | Step::Arms(action, _) => {
+                (None, None, self.place(action))
+            }
+            _ => (None, None, None),
+        };
+        Places {
+            ended,
+            closed,
+            maker,
+        }
     }
 
     fn row_at(&self, at: Option<usize>) -> Option<&Row>
@@ -318,13 +337,15 @@ impl Roster {
         Ok(depends)
     }
 
-    // The rows of what the event begins, and room for them.
+    // The rows of what the event begins, whose maker has its row at the place, and room for them.
     fn plan_begun(
         &mut self,
         step: &Step,
         answer: &Answer,
         dependencies: &[(Name, Vec<(u32, u64)>)],
+        maker: Option<usize>,
     ) -> Result<Vec<(Name, Row)>, AllocError>
+        requires { maker ≡ placed (table self.old) (maker_in step.now) }
         ensures same { table self.new ≡ table self.old }
         ensures fits { IfOk result (λ begun. FitsBegun self.new begun.items (vec_len begun)) }
         ensures born { IfOk result (λ begun. AreBorn (table self.old) (record { step = step.now; answer = answer.now }) (came_in dependencies.now) begun.items) }
@@ -334,7 +355,7 @@ impl Roster {
         let mut begun = Vec::with_capacity(self.alloc, names.len())?;
         for name in names {
             self.places.make_room(name)?;
-            let row = self.born(step, name, dependencies)?;
+            let row = self.born(step, name, dependencies, maker)?;
             begun.push((name.copy()?, row))?;
         }
         Ok(begun)
@@ -385,18 +406,19 @@ impl Roster {
         self.place(action).is_some() || self.above.get(action).is_some()
     }
 
-    // The row of an action that the step begins.
+    // The row of an action that the step begins, whose maker has its row at the place.
     fn born(
         &self,
         step: &Step,
         action: &Name,
         dependencies: &[(Name, Vec<(u32, u64)>)],
+        maker: Option<usize>,
     ) -> Result<Row, AllocError>
+        requires { maker ≡ placed (table self.now) (maker_in step.now) }
         ensures { IfOk result (IsBorn (table self.now) step.now (came_in dependencies.now) action.now) }
     {
         let home = self.home_in(step);
         let life = self.life_in(home);
-        let maker = self.placed(maker_in(step));
         let depends = depends_in(self.alloc, dependencies, action)?;
         Ok(Row {
             home,

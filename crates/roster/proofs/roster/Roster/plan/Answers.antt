@@ -41,8 +41,8 @@ returns-clause-fits c =
         places = subst (λ p. HavePlaces p.room begun.items) (sym c.plan_above.ensures.places) c.in_ok-begun.ensures.fits.places;
       };
       count =
-          subst (λ r. CanCount r.items c.placed-maker.result (vec_len begun)) (sym rows)
-          (subst (CanCount c.plan_begun.new.self.rows.items c.placed-maker.result) c.len.ensures c.in_ok-plan_count.ensures);
+          subst (λ r. CanCount r.items c.places_in-ended.result.maker (vec_len begun)) (sym rows)
+          (subst (CanCount c.plan_begun.new.self.rows.items c.places_in-ended.result.maker) c.len.ensures c.in_ok-plan_count.ensures);
       above = c.in_ok-above.ensures.fits;
     }
 
@@ -54,10 +54,10 @@ returns-clause-planned c =
     let climbed : table c.plan_begun.new.self ≡ table c.plan_above.new.self = sym c.plan_above.ensures.same in
     let same : before ≡ table c.plan_above.new.self = sym c.plan_begun.ensures.same ∙ climbed in
     record {
-      ended = c.placed-ended.ensures ∙ ap (placed before) c.ended_in.ensures ∙ ap (λ t. placed t (ended_in step)) same;
-      closed = c.placed-closed.ensures ∙ ap (placed before) c.closed_in.ensures ∙ ap (λ t. placed t (closed_in step)) same;
+      ended = c.places_in-ended.ensures.ended ∙ ap (λ t. placed t (ended_in step)) same;
+      closed = c.places_in-ended.ensures.closed ∙ ap (λ t. placed t (closed_in step)) same;
       merged = subst (λ t. IsMerged t step came c.in_ok-merged.merged) same c.in_ok-merged.ensures;
-      maker = c.placed-maker.ensures ∙ ap (placed before) c.maker_in.ensures ∙ ap (λ t. placed t (maker_in step)) same;
+      maker = c.places_in-ended.ensures.maker ∙ ap (λ t. placed t (maker_in step)) same;
       begun = subst (λ t. AreBorn t (record { step = c.args.step.now; answer = c.args.answer.now }) came c.in_ok-begun.begun.items) same c.in_ok-begun.ensures.born;
       above =
           subst (λ t. AreAbove t (names_begun c.args.answer.now) c.in_ok-above.above.items) climbed

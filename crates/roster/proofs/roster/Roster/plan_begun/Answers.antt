@@ -5,7 +5,8 @@ use Rattle.action_names.specs.Names.{IsName, Name}
 use Rattle.holders.specs.Held.{names_of}
 use Rattle.roster.proofs.Planning.{HavePlaces, all_last, places_more, same_held}
 use Rattle.roster.specs.Entries.{IsBorn, came_in}
-use Rattle.roster.specs.Tables.{table}
+use Rattle.roster.specs.Tables.{placed, table}
+use Rattle.run_model.specs.Actions.{maker_in}
 use Rattle.roster.specs.declared.entry.Row.{Row}
 use Rattle.roster.proofs.roster.Roster.plan_begun.Goals as goal
 
@@ -30,6 +31,12 @@ loop-name-init c = record {
 pub returns-in_err-make_room-clause-same : goal.returns-in_err-make_room-clause-same
 returns-in_err-make_room-clause-same c =
     same_held (table c.loop-name.self) (table c.args.self.now) c.make_room.new.self.held c.make_room.ensures.held c.loop-name.invariant.same
+
+pub born-requires : goal.born-requires
+born-requires c =
+    subst (λ t. c.args.maker ≡ placed t (maker_in c.args.step.now))
+    (sym (same_held (table c.loop-name.self) (table c.args.self.now) c.make_room.new.self.held c.make_room.ensures.held c.loop-name.invariant.same))
+    c.requires
 
 pub returns-in_err-row-clause-same : goal.returns-in_err-row-clause-same
 returns-in_err-row-clause-same c =

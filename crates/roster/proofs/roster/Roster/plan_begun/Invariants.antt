@@ -17,5 +17,5 @@ invariant-loop-name l = record {
   places : HavePlaces l.self.places.room l.begun.items;
   named : names_of l.begun.items ≡ take l.name-index l.names;
   are_names : AllByRecursion (λ (x : Name × Row). IsName x.0) l.begun.items;
-  born : AllByRecursion (λ (x : Name × Row). IsBorn (table l.fn.self) l.event.step (came_in l.dependencies) x.0 x.1) l.begun.items;
+  born : AllByRecursion (λ (x : Name × Row). IsBorn (table l.fn.self) l.step (came_in l.dependencies) x.0 x.1) l.begun.items;
 }
