@@ -1,6 +1,5 @@
 -- What a world is: its history is a run, and its forest and its guardians stand where that run leads them.
 use Rattle.std.specs.Prelude.{◌≡◌, ◌<◌, ◌⊎◌, ◌≢◌, ◌-◌, ℕ, Bool, ◌+◌, ◌==◌, ◌&&◌, ◌||◌, List, length, Option, Some, slice_get}
-use Rattle.run_model.specs.declared.answer.Answer.{Answer}
 use Rattle.run_model.specs.declared.history.Event.{Event}
 use Rattle.run_model.specs.declared.step.Step.{Step}
 use Rattle.run_model.specs.Openings.{Opening}

@@ -5,7 +5,7 @@ use Rattle.layer_contracts.specs.Forests.{ForestState}
 use Rattle.layer_contracts.specs.Guardians.{GuardianState, event_of}
 use Rattle.layer_contracts.specs.declared.guardian.Fault.TheVariants.{Stable}
 use Rattle.lent_steps.proofs.Stores.{with_fault}
-use Rattle.layered_world.specs.Standings.{IsKeptAt, IsLeftAt, IsReady, IsWorld, StoresLeft, forest_of, standing}
+use Rattle.layered_world.specs.Standings.{IsKeptAt, IsReady, IsWorld, StoresLeft, forest_of, standing}
 use Rattle.layered_world.proofs.Kept.{more, place_of, ready, same}
 use Rattle.layered_world.proofs.Places.{passed_on}
 use Rattle.layered_world.proofs.Stores.{stores_kept, stores_refused}
@@ -26,16 +26,14 @@ keep_at-kept-requires-clause-last g c =
 pub keep_at-kept-requires-clause-ready : goal.keep_at-kept-requires-clause-ready
 keep_at-kept-requires-clause-ready g c =
     let e = event_of c.args.step.now c.args.answer in
-    let is = ap (λ s. event_of s c.args.answer) c.in_ok-copy.ensures in
     let low = place_of g.G.Guardian.stands c.args.history.now g.opening c.args.guardians.now e c.args.low c.args.high c.args.low
     c.requires.1.1.1.1.0 c.requires.1.1.1.1.1.1.1 c.requires.1.1.1.1.1.0 (or_left _ _ (eqb_self c.args.low)) in
     let high = place_of g.G.Guardian.stands c.args.history.now g.opening c.args.guardians.now e c.args.low c.args.high c.args.high
     c.requires.1.1.1.1.0 c.requires.1.1.1.1.1.1.1 c.requires.1.1.1.1.1.0 (or_right _ _ (eqb_self c.args.high)) in
     let f : ForestState = forest_of g.opening c.args.history.now in
     let states : ℕ → GuardianState = λ h. standing g.opening c.args.history.now h in
-    let prepared : IsReady g.G.Guardian.stands (g.R.Forest.stands c.args.forest.now) f states c.args.low c.args.high (event_of c.in_ok-copy.field-0 c.args.answer) c.args.guardians.now =
-    subst (λ x. IsReady g.G.Guardian.stands (g.R.Forest.stands c.args.forest.now) f states c.args.low c.args.high x c.args.guardians.now) (sym is)
-    (ready g.G.Guardian.stands c.args.history.now g.opening c.args.guardians.now e c.args.low c.args.high c.requires.1.1.1.1.0 c.requires.1.1.1.1.1.0 c.requires.1.1.1.1.1.1.1 low.0 high.0) in
+    let prepared : IsReady g.G.Guardian.stands (g.R.Forest.stands c.args.forest.now) f states c.args.low c.args.high e c.args.guardians.now =
+    ready g.G.Guardian.stands c.args.history.now g.opening c.args.guardians.now e c.args.low c.args.high c.requires.1.1.1.1.0 c.requires.1.1.1.1.1.0 c.requires.1.1.1.1.1.1.1 low.0 high.0 in
     (f, states, prepared)
 
 pub ask_number-requires-clause-first : goal.ask_number-requires-clause-first
@@ -64,60 +62,46 @@ ask_number-requires-2-clause-last g c =
     c.requires.1.1.1.1.0 c.requires.1.1.1.1.1.1.1 c.requires.1.1.1.1.1.0 (or_right _ _ (eqb_self c.args.high)) in
     omega (arith, c.keep_at-kept.auto.guardians, high.1)
 
-pub returns-in_err-copy-clause-stores : goal.returns-in_err-copy-clause-stores
-returns-in_err-copy-clause-stores g c =
+pub returns-in_err-push-clause-stores : goal.returns-in_err-push-clause-stores
+returns-in_err-push-clause-stores g c =
     let e = event_of c.args.step.now c.args.answer in
     with_fault c.from_residual.result _ (λ fault. StoresLeft g.G.Guardian.stored g.opening c.args.history.now c.args.step.now c.args.guardians.now c.args.guardians.now fault)
     c.from_residual.ensures.1
     (stores_refused g.G.Guardian.stored g.opening c.args.history.now c.args.step.now c.args.guardians.now g.G.Guardian.stands (g.R.Forest.stands c.args.forest.now) c.requires.1.1.1.1.0)
 
-pub returns-in_err-push-clause-stores : goal.returns-in_err-push-clause-stores
-returns-in_err-push-clause-stores g c =
-    let e = event_of c.args.step.now c.args.answer in
-    with_fault c.from_residual-in_err-push.result _ (λ fault. StoresLeft g.G.Guardian.stored g.opening c.args.history.now c.args.step.now c.args.guardians.now c.args.guardians.now fault)
-    c.from_residual-in_err-push.ensures.1
-    (stores_refused g.G.Guardian.stored g.opening c.args.history.now c.args.step.now c.args.guardians.now g.G.Guardian.stands (g.R.Forest.stands c.args.forest.now) c.requires.1.1.1.1.0)
-
 pub returns-in-Ok-clause-stores : goal.returns-in-Ok-clause-stores
 returns-in-Ok-clause-stores g c =
     let e = event_of c.args.step.now c.args.answer in
-    let is = ap (λ s. event_of s c.args.answer) c.in_ok-copy.ensures in
     let low = place_of g.G.Guardian.stands c.args.history.now g.opening c.args.guardians.now e c.args.low c.args.high c.args.low
     c.requires.1.1.1.1.0 c.requires.1.1.1.1.1.1.1 c.requires.1.1.1.1.1.0 (or_left _ _ (eqb_self c.args.low)) in
     let high = place_of g.G.Guardian.stands c.args.history.now g.opening c.args.guardians.now e c.args.low c.args.high c.args.high
     c.requires.1.1.1.1.0 c.requires.1.1.1.1.1.1.1 c.requires.1.1.1.1.1.0 (or_right _ _ (eqb_self c.args.high)) in
     let f : ForestState = forest_of g.opening c.args.history.now in
     let states : ℕ → GuardianState = λ h. standing g.opening c.args.history.now h in
-    let prepared : IsReady g.G.Guardian.stands (g.R.Forest.stands c.args.forest.now) f states c.args.low c.args.high (event_of c.in_ok-copy.field-0 c.args.answer) c.args.guardians.now =
-    subst (λ x. IsReady g.G.Guardian.stands (g.R.Forest.stands c.args.forest.now) f states c.args.low c.args.high x c.args.guardians.now) (sym is)
-    (ready g.G.Guardian.stands c.args.history.now g.opening c.args.guardians.now e c.args.low c.args.high c.requires.1.1.1.1.0 c.requires.1.1.1.1.1.0 c.requires.1.1.1.1.1.1.1 low.0 high.0) in
+    let prepared : IsReady g.G.Guardian.stands (g.R.Forest.stands c.args.forest.now) f states c.args.low c.args.high e c.args.guardians.now =
+    ready g.G.Guardian.stands c.args.history.now g.opening c.args.guardians.now e c.args.low c.args.high c.requires.1.1.1.1.0 c.requires.1.1.1.1.1.0 c.requires.1.1.1.1.1.1.1 low.0 high.0 in
     stores_kept c.args.history.now g.opening c.args.guardians.now c.keep_at-kept.new.guardians e c.args.low c.args.high None
     c.requires.1.1.1.1.1.0 c.requires.1.1.1.1.1.1.1 low.0 high.0
-    (subst (λ x. IsLeftAt g.G.Guardian.stored f states c.args.low c.args.high x c.args.guardians.now c.keep_at-kept.new.guardians None) is
-    (c.in-Ok.ensures.stores f states prepared))
+    (c.in-Ok.ensures.stores f states prepared)
 
 pub returns-in-Err-clause-stores : goal.returns-in-Err-clause-stores
 returns-in-Err-clause-stores g c =
     let e = event_of c.args.step.now c.args.answer in
-    let is = ap (λ s. event_of s c.args.answer) c.in_ok-copy.ensures in
     let low = place_of g.G.Guardian.stands c.args.history.now g.opening c.args.guardians.now e c.args.low c.args.high c.args.low
     c.requires.1.1.1.1.0 c.requires.1.1.1.1.1.1.1 c.requires.1.1.1.1.1.0 (or_left _ _ (eqb_self c.args.low)) in
     let high = place_of g.G.Guardian.stands c.args.history.now g.opening c.args.guardians.now e c.args.low c.args.high c.args.high
     c.requires.1.1.1.1.0 c.requires.1.1.1.1.1.1.1 c.requires.1.1.1.1.1.0 (or_right _ _ (eqb_self c.args.high)) in
     let f : ForestState = forest_of g.opening c.args.history.now in
     let states : ℕ → GuardianState = λ h. standing g.opening c.args.history.now h in
-    let prepared : IsReady g.G.Guardian.stands (g.R.Forest.stands c.args.forest.now) f states c.args.low c.args.high (event_of c.in_ok-copy.field-0 c.args.answer) c.args.guardians.now =
-    subst (λ x. IsReady g.G.Guardian.stands (g.R.Forest.stands c.args.forest.now) f states c.args.low c.args.high x c.args.guardians.now) (sym is)
-    (ready g.G.Guardian.stands c.args.history.now g.opening c.args.guardians.now e c.args.low c.args.high c.requires.1.1.1.1.0 c.requires.1.1.1.1.1.0 c.requires.1.1.1.1.1.1.1 low.0 high.0) in
+    let prepared : IsReady g.G.Guardian.stands (g.R.Forest.stands c.args.forest.now) f states c.args.low c.args.high e c.args.guardians.now =
+    ready g.G.Guardian.stands c.args.history.now g.opening c.args.guardians.now e c.args.low c.args.high c.requires.1.1.1.1.0 c.requires.1.1.1.1.1.0 c.requires.1.1.1.1.1.1.1 low.0 high.0 in
     stores_kept c.args.history.now g.opening c.args.guardians.now c.keep_at-kept.new.guardians e c.args.low c.args.high (Some c.in-Err.fault)
     c.requires.1.1.1.1.1.0 c.requires.1.1.1.1.1.1.1 low.0 high.0
-    (subst (λ x. IsLeftAt g.G.Guardian.stored f states c.args.low c.args.high x c.args.guardians.now c.keep_at-kept.new.guardians (Some c.in-Err.fault)) is
-    (c.in-Err.ensures.stores f states prepared))
+    (c.in-Err.ensures.stores f states prepared)
 
 pub returns-in-Err-clause-world : goal.returns-in-Err-clause-world
 returns-in-Err-clause-world g c =
     let e = event_of c.args.step.now c.args.answer in
-    let is = ap (λ s. event_of s c.args.answer) c.in_ok-copy.ensures in
     let stands = g.R.Forest.stands c.keep_at-kept.new.forest in
     let gs = c.args.guardians.now in
     let gs' = c.keep_at-kept.new.guardians in
@@ -129,9 +113,8 @@ returns-in-Err-clause-world g c =
     c.requires.1.1.1.1.0 c.requires.1.1.1.1.1.1.1 c.requires.1.1.1.1.1.0 (or_right _ _ (eqb_self c.args.high)) in
     let f : ForestState = forest_of g.opening c.args.history.now in
     let states : ℕ → GuardianState = λ h. standing g.opening c.args.history.now h in
-    let prepared : IsReady g.G.Guardian.stands (g.R.Forest.stands c.args.forest.now) f states c.args.low c.args.high (event_of c.in_ok-copy.field-0 c.args.answer) gs =
-    subst (λ x. IsReady g.G.Guardian.stands (g.R.Forest.stands c.args.forest.now) f states c.args.low c.args.high x gs) (sym is)
-    (ready g.G.Guardian.stands c.args.history.now g.opening gs e c.args.low c.args.high c.requires.1.1.1.1.0 c.requires.1.1.1.1.1.0 c.requires.1.1.1.1.1.1.1 low.0 high.0) in
+    let prepared : IsReady g.G.Guardian.stands (g.R.Forest.stands c.args.forest.now) f states c.args.low c.args.high e gs =
+    ready g.G.Guardian.stands c.args.history.now g.opening gs e c.args.low c.args.high c.requires.1.1.1.1.0 c.requires.1.1.1.1.1.0 c.requires.1.1.1.1.1.1.1 low.0 high.0 in
     subst (λ h. IsWorld g.G.Guardian.stands g.G.Guardian.stored stands g.opening h gs')
     (sym (c.pop.ensures ∙ ap (λ past. drop 1 past) c.in_ok-push.ensures.ok))
     (same g.G.Guardian.stands stands c.args.history.now g.opening gs gs' c.args.low c.args.high c.requires.1.1.1.1.0 len k
@@ -140,7 +123,6 @@ returns-in-Err-clause-world g c =
 pub returns-in-Ok-clause-world : goal.returns-in-Ok-clause-world
 returns-in-Ok-clause-world g c =
     let e = event_of c.args.step.now c.args.answer in
-    let is = ap (λ s. event_of s c.args.answer) c.in_ok-copy.ensures in
     let stands = g.R.Forest.stands c.keep_at-kept.new.forest in
     let gs = c.args.guardians.now in
     let gs' = c.keep_at-kept.new.guardians in
@@ -153,15 +135,14 @@ returns-in-Ok-clause-world g c =
     c.requires.1.1.1.1.0 c.requires.1.1.1.1.1.1.1 c.requires.1.1.1.1.1.0 (or_right _ _ (eqb_self c.args.high)) in
     let f : ForestState = forest_of g.opening c.args.history.now in
     let states : ℕ → GuardianState = λ h. standing g.opening c.args.history.now h in
-    let prepared : IsReady g.G.Guardian.stands (g.R.Forest.stands c.args.forest.now) f states c.args.low c.args.high (event_of c.in_ok-copy.field-0 c.args.answer) gs =
-    subst (λ x. IsReady g.G.Guardian.stands (g.R.Forest.stands c.args.forest.now) f states c.args.low c.args.high x gs) (sym is)
-    (ready g.G.Guardian.stands c.args.history.now g.opening gs e c.args.low c.args.high c.requires.1.1.1.1.0 c.requires.1.1.1.1.1.0 c.requires.1.1.1.1.1.1.1 low.0 high.0) in
+    let prepared : IsReady g.G.Guardian.stands (g.R.Forest.stands c.args.forest.now) f states c.args.low c.args.high e gs =
+    ready g.G.Guardian.stands c.args.history.now g.opening gs e c.args.low c.args.high c.requires.1.1.1.1.0 c.requires.1.1.1.1.1.0 c.requires.1.1.1.1.1.1.1 low.0 high.0 in
     subst (λ h. IsWorld g.G.Guardian.stands g.G.Guardian.stored stands g.opening h gs')
-    (sym (c.in_ok-push.ensures.ok ∙ ap (λ x. x ∷ c.args.history.now) is))
+    (sym c.in_ok-push.ensures.ok)
     (more g.G.Guardian.stands stands c.args.history.now g.opening gs gs' e c.args.low c.args.high
     c.requires.1.1.1.1.0 c.requires.1.1.1.1.1.0 c.requires.1.1.1.1.1.1.1 low.0 high.0 low.1 high.1 len
     (subst (λ n. IsKeptAt g.G.Guardian.stands stands f states c.args.low c.args.high n e gs gs') number
-    (subst (λ x. IsKeptAt g.G.Guardian.stands stands f states c.args.low c.args.high c.next_stamp-number.result x gs gs') is (k f states prepared)))
+    (k f states prepared))
     c.ask_number.ensures c.ask_number-2.ensures)
 
 pub returns-in-Err-clause-cause : goal.returns-in-Err-clause-cause
