@@ -1,15 +1,12 @@
 -- The opening of a guardian that is opened again by itself.
-use Rattle.std.proofs.Common.{Bool, List, None, Option, Some, [], ap, ap₂, arith, cond, eqb-true, false, inl, inr, length, refl, slice_get, subst, suc, sym, true, zero, ℕ, ◌+◌, ◌&&◌, ◌++◌, ◌-◌, ◌<◌, ◌==◌, ◌∙◌, ◌∷◌, ◌≡◌, ◌≤◌, ◌||◌, ◌⊎◌}
+use Rattle.std.proofs.Common.{Bool, List, Some, [], ap, ap₂, arith, cond, eqb-true, false, inl, inr, length, refl, slice_get, subst, suc, sym, true, zero, ℕ, ◌+◌, ◌&&◌, ◌++◌, ◌-◌, ◌<◌, ◌==◌, ◌∙◌, ◌∷◌, ◌≡◌, ◌≤◌, ◌||◌, ◌⊎◌}
 use Rattle.std.proofs.lemmas.Bool.{eq-eqb, false≢true, ltb-false, ltb-true}
 use Rattle.std.specs.Prelude.{nat_lt}
 use Rattle.std.proofs.lemmas.Option.{slice_get_past}
 use Rattle.std.proofs.Math.ListN.{length-append}
-use Rattle.std.specs.FinMap as map
-use Rattle.std.specs.FinSet as set
 use Rattle.std.specs.List.{AllByRecursion, list_any}
-use Rattle.action_names.specs.Names.{Name, is_top, last_of, same_name}
-use Rattle.run_model.specs.Openings.{Held, OpeningLists, Setup, StoreLists, held_in, held_of, nothing_held, opening_in}
-use Rattle.run_model.specs.Reopening.{opened_alone}
+use Rattle.action_names.specs.Names.{Name, same_name}
+use Rattle.run_model.specs.Openings.{Setup, StoreLists, held_in, held_of, nothing_held, opening_in}
 use Rattle.stable_store.specs.Held.{held}
 use Rattle.stable_store.specs.declared.kept.Kept.{Kept}
 use Rattle.store_settling.specs.Saying.{lists_of}

@@ -4,14 +4,14 @@ use Rattle.std.proofs.lemmas.List.{map_push}
 use Rattle.std.specs.FinMap as map
 use Rattle.std.specs.List.{AllByRecursion}
 use Rattle.action_names.specs.Names.{Name}
-use Rattle.run_model.specs.Openings.{Held, Opening, OpeningLists, Setup, nothing_held, opening_in}
+use Rattle.run_model.specs.Openings.{Held, OpeningLists, Setup, nothing_held, opening_in}
 use Rattle.run_model.specs.Reopening.{life_before}
 use Rattle.run_model.specs.StableContent.{Prepared}
 use Rattle.run_laws.proofs.Names.{eqb_self}
 use Rattle.local_laws.specs.Reopened.{AreRecords}
 use Rattle.stable_store.specs.Held.{held}
 use Rattle.stable_store.specs.Held as store
-use Rattle.stable_store.specs.Stored.{Record, Stored, greatest_count}
+use Rattle.stable_store.specs.Stored.{Record, greatest_count}
 use Rattle.stable_store.specs.declared.kept.Kept.{Kept}
 use Rattle.stable_store.specs.declared.kept.Prepared as kept
 use Rattle.store_settling.proofs.Said.{listed_more}
@@ -23,6 +23,7 @@ use Rattle.guardian_objects.specs.Restored.{AreRestorable}
 use Rattle.guardian_memory.specs.Reopening.{AreOfTops, record_of, records_of}
 use Rattle.guardian_memory.specs.declared.reopening.TopRecord.{TopRecord}
 use Rattle.stable_store.specs.Calls.{Rests, View}
+use Rattle.guardian_memory.specs.declared.plan.Plan.{Plan}
 use Rattle.guardian_memory.specs.Memories.{InMemory, IsSound}
 use Rattle.guardian.specs.Guardians.{IsWhole}
 use Rattle.guardian.proofs.Whole.{whole_reopened}
@@ -110,8 +111,8 @@ module _ (setup : Setup) (g : ℕ) (k : Kept) (low : 1 ≤ g) (may : may_reopen 
 
 -- a guardian that remembers so is whole
 module _ {S : Type 0} (seen : S → View) where
-  pub whole_remembered : (setup : Setup) (g : ℕ) (m : InMemory) (s : S) (state : GuardianState) → 1 ≤ g → IsSound m state → Remembers setup g (seen s).content state
-      → (seen s).holds_content ≡ true → Rests (seen s) → IsWhole seen (record { memory = m; store = s }) state
+  pub whole_remembered : {p : Plan} (setup : Setup) (g : ℕ) (m : InMemory) (s : S) (state : GuardianState) → 1 ≤ g → IsSound m state → Remembers setup g (seen s).content state
+      → (seen s).holds_content ≡ true → Rests (seen s) → IsWhole seen (record { memory = m; plan = p; store = s }) state
   whole_remembered setup g m s state low sound rem found rests =
       let c = (seen s).content in
       let own : state.opening.stores g ≡ held_by c = rem.opening.stores g low ∙ ap (λ b. cond b (held_by c) nothing_held) (eqb_self g) in

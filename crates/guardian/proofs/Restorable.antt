@@ -1,6 +1,6 @@
 -- The records of a store from which a guardian may be opened again by itself may be given back.
 use Rattle.std.proofs.Common.{Bool, Equal, Greater, Less, Ordering, is_eq, is_lt, List, None, Option, Some, T, [], ap, ap₂, arith, cond, eqb-true, false, filter, inl, inr, length, map as each, nat_cmp, option_map, refl, slice_get, subst, suc, sym, true, unwrap_or, zero, ℕ, ◌&&◌, ◌++◌, ◌-◌, ◌<◌, ◌==◌, ◌∙◌, ◌∷◌, ◌≡◌, ◌≤◌, ◌||◌, find}
-use Rattle.std.proofs.lemmas.Bool.{and_parts, eq-eqb, false≢true, leb-true, ltb-true, or_cases, ne_eqb}
+use Rattle.std.proofs.lemmas.Bool.{and_parts, eq-eqb, false≢true, leb-true, ltb-true, ne_eqb}
 use Rattle.std.proofs.lemmas.Cmp.{ranked}
 use Rattle.std.proofs.lemmas.Map.Keys.{sorted_head, sorted_tail}
 use Rattle.std.proofs.lemmas.Option.{none-some, same_Some, slice_get_within}
@@ -10,9 +10,8 @@ use Rattle.std.specs.FinMap.Entries.{below_all}
 use Rattle.std.specs.List.{AllByRecursion, list_all}
 use Rattle.std.specs.List.Sorted.{IsStrictlySortedBy}
 use Rattle.std.specs.Map.{keys_of}
-use Rattle.std.specs.Ordering.{eq_by_cmp}
 use Rattle.std.specs.Prelude.{nat_le, nat_lt}
-use Rattle.action_names.specs.Names.{Name, is_top, same_name}
+use Rattle.action_names.specs.Names.{Name, is_top}
 use Rattle.values.specs.declared.content.Content.{Content}
 use Rattle.values.specs.declared.content.Content.TheVariants as content
 use Rattle.atomic_types.specs.declared.part.Part.{Part}
@@ -24,7 +23,7 @@ use Rattle.run_laws.proofs.Names.{eqb_self}
 use Rattle.local_laws.specs.Reopened as records
 use Rattle.local_laws.specs.Reopened.{AreApart, AreRising, IsDelta, IsPart, MayStand, is_prepared, parts_of}
 use Rattle.stable_store.specs.Stored.{Record, Stored, greatest_count}
-use Rattle.store_settling.specs.Belonging.{all_suit, belongs, object_at, record_belongs, same_type, suits}
+use Rattle.store_settling.specs.Belonging.{all_suit, belongs, object_at, record_belongs, suits}
 use Rattle.stored_laws.specs.Reopened.{IsOpenedAlone, held_by, records_in}
 use Rattle.stored_laws.specs.Stored.{prepared_of}
 use Rattle.overlays.specs.ContentOverlays.{HaveSameOps}

@@ -1,5 +1,5 @@
 -- Contents of one type have the same operations.
-use Rattle.std.proofs.Common.{Bool, List, None, Option, Some, [], ap, ap₂, arith, cond, eqb-true, false, length, refl, sym, true, ℕ, ℤ, ◌&&◌, ◌==◌, ◌∙◌, ◌∷◌, ◌≡◌}
+use Rattle.std.proofs.Common.{Bool, List, None, Option, Some, [], ap, ap₂, arith, cond, eqb-true, false, length, refl, sym, true, ℕ, ℤ, ◌==◌, ◌∙◌, ◌∷◌, ◌≡◌}
 use Rattle.std.proofs.lemmas.Bool.{and_from, and_parts, eq-eqb, false≢true}
 use Rattle.std.specs.List.{list_all, zip}
 use Rattle.std.specs.Prelude.{is_some}
@@ -16,7 +16,6 @@ use Rattle.values.specs.Values.{kind_of, same_kind}
 use Rattle.values.specs.Words.{same_bytes}
 use Rattle.atomic_types.specs.Arrays.{array_knows}
 use Rattle.atomic_types.specs.Counters.{counter_knows}
-use Rattle.atomic_types.specs.Objects.{knows}
 use Rattle.atomic_types.specs.Operations.{Op}
 use Rattle.atomic_types.specs.declared.operation.Operation.TheVariants.{AddHigh, AddLow, Change, Get, Is, Set, Store, ValueOf}
 use Rattle.atomic_types.specs.Parts.{laid, laid_where}

@@ -55,8 +55,8 @@ votes_at g n news v = record { top = v.top; sender = v.sender }
 
 module _ {S : Type 0} (seen : S → View) where
   -- nothing has happened
-  pub whole_first : (m : InMemory) (s : S) (g : GuardianState) → IsSound m g → g.past ≡ [] → (seen s).holds_content ≡ true → Rests (seen s)
-      → IsSettled g.opening g.number (seen s).content → IsWhole seen (record { memory = m; store = s }) g
+  pub whole_first : {p : Plan} (m : InMemory) (s : S) (g : GuardianState) → IsSound m g → g.past ≡ [] → (seen s).holds_content ≡ true → Rests (seen s)
+      → IsSettled g.opening g.number (seen s).content → IsWhole seen (record { memory = m; plan = p; store = s }) g
   whole_first m s g sound none found rests settled = record {
     memory = sound;
     store = record {
@@ -70,10 +70,10 @@ module _ {S : Type 0} (seen : S → View) where
   }
 
   -- it was opened again by itself
-  pub whole_reopened : (m : InMemory) (s : S) (g : GuardianState) (records : List (Name × Prepared)) → IsSound m g
+  pub whole_reopened : {p : Plan} (m : InMemory) (s : S) (g : GuardianState) (records : List (Name × Prepared)) → IsSound m g
       → g.past ≡ life_before g.number (g.opening.stores g.number) records
       → (seen s).holds_content ≡ true → Rests (seen s) → AreStored g.opening g.number g.past (seen s).content
-      → IsWhole seen (record { memory = m; store = s }) g
+      → IsWhole seen (record { memory = m; plan = p; store = s }) g
   whole_reopened m s g records sound is found rests stored = record {
     memory = sound;
     store = record { found = found; rests = rests; stored = stored };
@@ -81,9 +81,10 @@ module _ {S : Type 0} (seen : S → View) where
   }
 
   -- an event is kept, and the store holds what it asks for
-  pub whole_next : (m : InMemory) (s : S) (n : ℕ) (g : GuardianState) (news : News) (m' : InMemory) (s' : S) → IsWhole seen (record { memory = m; store = s }) g
+  pub whole_next : {p p' : Plan} (m : InMemory) (s : S) (n : ℕ) (g : GuardianState) (news : News) (m' : InMemory) (s' : S)
+      → IsWhole seen (record { memory = m; plan = p; store = s }) g
       → IsNext g news → IsSound m' (kept g (stamped n news)) → LeavesStore g news (seen s) (seen s') None
-      → IsWhole seen (record { memory = m'; store = s' }) (kept g (stamped n news))
+      → IsWhole seen (record { memory = m'; plan = p'; store = s' }) (kept g (stamped n news))
   whole_next m s n g news m' s' whole next sound leaves =
       let c = stamped n news in
       let now = made_of g news (seen s) (seen s') whole.store leaves in record {
@@ -99,13 +100,14 @@ module _ {S : Type 0} (seen : S → View) where
       }
 
   -- the memory alone changed, and stands where it stood
-  pub whole_same : (m m' : InMemory) (s : S) (g : GuardianState) → IsWhole seen (record { memory = m; store = s }) g → IsSound m' g
-      → IsWhole seen (record { memory = m'; store = s }) g
+  pub whole_same : {p p' : Plan} (m m' : InMemory) (s : S) (g : GuardianState) → IsWhole seen (record { memory = m; plan = p; store = s }) g → IsSound m' g
+      → IsWhole seen (record { memory = m'; plan = p'; store = s }) g
   whole_same m m' s g whole sound = record { memory = sound; store = whole.store; run = whole.run }
 
   -- no event is kept, and the store refused
-  pub whole_still : (m : InMemory) (s : S) (g h : GuardianState) (news : News) (s' : S) (fault : Fault) → IsWhole seen (record { memory = m; store = s }) h
-      → LeavesStore g news (seen s) (seen s') (Some fault) → IsWhole seen (record { memory = m; store = s' }) h
+  pub whole_still : {p : Plan} (m : InMemory) (s : S) (g h : GuardianState) (news : News) (s' : S) (fault : Fault)
+      → IsWhole seen (record { memory = m; plan = p; store = s }) h → LeavesStore g news (seen s) (seen s') (Some fault)
+      → IsWhole seen (record { memory = m; plan = p; store = s' }) h
   whole_still m s g h news s' fault whole leaves = record {
     memory = whole.memory;
     store = refused_of g h news (seen s) (seen s') fault whole.store leaves;
@@ -113,9 +115,9 @@ module _ {S : Type 0} (seen : S → View) where
   }
 
   -- an operation was made, or lacked memory; it asks the store for nothing
-  pub whole_operated : (m m' : InMemory) (s : S) (e : Event) (g : GuardianState) (r : Result ℕ AllocError) → is_operation e.step ≡ true
-      → IsWhole seen (record { memory = m; store = s }) g → IsNext g (by_itself e) → IfOk r (λ n. Operated m e n m')
-      → OnErr r ((h : GuardianState) → IsSound m h → IsSound m' h) → IsWholeOfSome seen (record { memory = m'; store = s })
+  pub whole_operated : {p : Plan} (m m' : InMemory) (s : S) (e : Event) (g : GuardianState) (r : Result ℕ AllocError) → is_operation e.step ≡ true
+      → IsWhole seen (record { memory = m; plan = p; store = s }) g → IsNext g (by_itself e) → IfOk r (λ n. Operated m e n m')
+      → OnErr r ((h : GuardianState) → IsSound m h → IsSound m' h) → IsWholeOfSome seen (record { memory = m'; plan = p; store = s })
   whole_operated m m' s e g (Ok n) is whole next made same =
       let news = by_itself e in (
         _,
@@ -135,25 +137,26 @@ module _ {S : Type 0} (seen : S → View) where
 
   -- ---- as the fields say
 
-  pub inside : {m : InMemory} {s : S} {now : InParts S} {g : GuardianState} → record { memory = m; store = s } ≡ now → IsWhole seen now g
-      → IsWhole seen (record { memory = m; store = s }) g
-  inside {m} {s} {now} {g} is at = subst (λ k. IsWhole seen k g) (sym is) at
+  pub inside : {m : InMemory} {p : Plan} {s : S} {now : InParts S} {g : GuardianState} → record { memory = m; plan = p; store = s } ≡ now → IsWhole seen now g
+      → IsWhole seen (record { memory = m; plan = p; store = s }) g
+  inside {m} {p} {s} {now} {g} is at = subst (λ k. IsWhole seen k g) (sym is) at
 
-  pub planned_within : {m : InMemory} {s : S} {now : InParts S} (p : Plan) (e : Event) → record { memory = m; store = s } ≡ now → IsPlannedHere seen now p e
-      → IsPlannedHere seen (record { memory = m; store = s }) p e
-  planned_within p e is planned = subst (λ k. IsPlannedHere seen k p e) (sym is) planned
+  pub planned_within : {m : InMemory} {p : Plan} {s : S} {now : InParts S} (e : Event) → record { memory = m; plan = p; store = s } ≡ now → IsPlannedHere seen now e
+      → IsPlannedHere seen (record { memory = m; plan = p; store = s }) e
+  planned_within e is planned = subst (λ k. IsPlannedHere seen k e) (sym is) planned
 
 -- in some state the event may come next
-pub next_within : {S : Type 0} {m : InMemory} {s : S} {now : InParts S} {news : News} (seen : S → View) → record { memory = m; store = s } ≡ now
-    → (g : GuardianState) × IsWhole seen now g × IsNext g news → (g : GuardianState) × IsWhole seen (record { memory = m; store = s }) g × IsNext g news
-next_within {S} {m} {s} {now} {news} seen is next = subst (λ k. (g : GuardianState) × IsWhole seen k g × IsNext g news) (sym is) next
+pub next_within : {S : Type 0} {m : InMemory} {p : Plan} {s : S} {now : InParts S} {news : News} (seen : S → View)
+    → record { memory = m; plan = p; store = s } ≡ now → (g : GuardianState) × IsWhole seen now g × IsNext g news
+    → (g : GuardianState) × IsWhole seen (record { memory = m; plan = p; store = s }) g × IsNext g news
+next_within {S} {m} {p} {s} {now} {news} seen is next = subst (λ k. (g : GuardianState) × IsWhole seen k g × IsNext g news) (sym is) next
 
-module _ {S : Type 0} {m : InMemory} {s : S} {now : InParts S} (is : record { memory = m; store = s } ≡ now) where
-  pub fits_within : (p : Plan) → FitsPlan p now.memory → FitsPlan p m
-  fits_within p fits = subst (λ (k : InParts S). FitsPlan p k.memory) (sym is) fits
+module _ {S : Type 0} {m : InMemory} {p : Plan} {s : S} {now : InParts S} (is : record { memory = m; plan = p; store = s } ≡ now) where
+  pub fits_within : FitsPlan now.plan now.memory → FitsPlan p m
+  fits_within fits = subst (λ (k : InParts S). FitsPlan k.plan k.memory) (sym is) fits
 
-  pub plan_within : (p : Plan) (g : GuardianState) (news : News) → IsPlanOf p now.memory g news → IsPlanOf p m g news
-  plan_within p g news of = subst (λ (k : InParts S). IsPlanOf p k.memory g news) (sym is) of
+  pub plan_within : (g : GuardianState) (news : News) → IsPlanOf now.plan now.memory g news → IsPlanOf p m g news
+  plan_within g news of = subst (λ (k : InParts S). IsPlanOf k.plan k.memory g news) (sym is) of
 
 -- the steps that one guardian crashes or may fail, by the number in either state
 module _ {m : InMemory} {g h : GuardianState} (s : IsSound m g) (t : IsSound m h) where

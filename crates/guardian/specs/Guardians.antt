@@ -18,9 +18,10 @@ use Rattle.guardian_memory.specs.Plans.{IsPlanOf}
 use Rattle.guardian_memory.specs.declared.plan.Plan.{Plan}
 use Rattle.guardian.specs.Reopening.{IsTimeBefore}
 
--- the memory and the store
+-- the memory, the plan of the event that was planned last, and the store
 pub record InParts (S : Type 0) : Type 0 where
   pub memory : InMemory
+  pub plan : Plan
   pub store : S
 
 -- The history goes on from a time before with events of which each reply, own vote and count is the one of the events before it.
@@ -38,12 +39,12 @@ abbrev pub IsWholeOfSome : {S : Type 0} → (S → View) → InParts S → Type 
 IsWholeOfSome seen g = (s : GuardianState) × IsWhole seen g s
 
 -- the plan is for this event, in some state in which memory and store stand
-abbrev pub IsPlannedHere : {S : Type 0} → (S → View) → InParts S → Plan → Event → Type 0
-IsPlannedHere seen g p e = (s : GuardianState) × (news : News) × IsWhole seen g s × IsPlanOf p g.memory s news × (news.event ≡ e)
+abbrev pub IsPlannedHere : {S : Type 0} → (S → View) → InParts S → Event → Type 0
+IsPlannedHere seen g e = (s : GuardianState) × (news : News) × IsWhole seen g s × IsPlanOf g.plan g.memory s news × (news.event ≡ e)
 
 -- of each such state and what the plan is for there
-abbrev pub WhereverPlanned : {S : Type 0} → (S → View) → InParts S → Plan → Event → (GuardianState → News → Type 0) → Type 0
-WhereverPlanned seen g p e holds = (s : GuardianState) (news : News) → IsWhole seen g s → IsPlanOf p g.memory s news → news.event ≡ e → holds s news
+abbrev pub WhereverPlanned : {S : Type 0} → (S → View) → InParts S → Event → (GuardianState → News → Type 0) → Type 0
+WhereverPlanned seen g e holds = (s : GuardianState) (news : News) → IsWhole seen g s → IsPlanOf g.plan g.memory s news → news.event ≡ e → holds s news
 
 -- a crash finds in the store what the history says
 abbrev pub IsRecordedAt : Step → Stored → GuardianState → Type 0

@@ -1,10 +1,10 @@
 -- When a guardian may be opened again by itself from what its store contains.
-use Rattle.std.specs.Prelude.{◌≡◌, ◌⊎◌, ℕ, Bool, true, false, ◌&&◌, ◌||◌, ◌==◌, nat_le, nat_lt, List, [], Option, Some, None, if◌then◌else◌}
+use Rattle.std.specs.Prelude.{◌≡◌, ◌⊎◌, ℕ, Bool, true, false, ◌&&◌, ◌||◌, ◌==◌, nat_le, nat_lt, List, [], Option, Some, None}
 use Rattle.std.specs.List.{list_all}
 use Rattle.std.specs.FinMap as map
 use Rattle.action_names.specs.Names.{Name}
 use Rattle.atomic_types.specs.declared.part.Part.{Part}
-use Rattle.atomic_types.specs.declared.part.Part.TheVariants.{Value, Delta}
+use Rattle.atomic_types.specs.declared.part.Part.TheVariants.{Delta}
 use Rattle.run_model.specs.LocalReadings.{LocalEvent}
 use Rattle.run_model.specs.Openings.{Opening, Setup, part_at}
 use Rattle.run_model.specs.Reopening.{life_before}

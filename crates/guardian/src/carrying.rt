@@ -25,11 +25,12 @@ impl<S: Stable> layer_contracts::Guardian for Guardian<S> {
 
     ghost stored = { λ g. S.seen g.store };
 
-    type Plan = Plan;
+    // The plan stays with the guardian.
+    type Plan = ();
 
-    ghost is_for = { λ plan g s news. IsPlanOf plan g.memory s news };
+    ghost is_for = { λ _ g s news. IsPlanOf g.plan g.memory s news };
 
-    ghost fits = { λ plan g. FitsPlan plan g.memory };
+    ghost fits = { λ _ g. FitsPlan g.plan g.memory };
 
     fn opening(&self) -> &Opening {
         self.memory.opening()
@@ -92,8 +93,8 @@ impl<S: Stable> layer_contracts::Guardian for Guardian<S> {
         self.memory.unsent_counts(&to.memory)
     }
 
-    fn plan(&mut self, step: &Step, answer: &Answer, message: Message) -> Result<Plan, AllocError> {
-        self.memory.plan(step, answer, message)
+    fn plan(&mut self, step: &Step, answer: &Answer, message: Message) -> Result<(), AllocError> {
+        self.memory.plan(step, answer, message, &mut self.plan)
     }
 
     fn operate<F: FnOnce() -> u64>(
@@ -107,7 +108,7 @@ impl<S: Stable> layer_contracts::Guardian for Guardian<S> {
 
     fn carry_out<F: FnOnce() -> u64>(
         &mut self,
-        plan: Plan,
+        _plan: (),
         step: &Step,
         answer: &Answer,
         stamp: F,
@@ -115,37 +116,51 @@ impl<S: Stable> layer_contracts::Guardian for Guardian<S> {
         if let Err(fault) = write(
             self.alloc,
             &self.memory,
+            &self.plan,
             &mut self.store,
-            &plan,
             step,
             answer,
         ) {
             return Err(fault);
         }
         let drawn = stamp();
-        keep(&mut self.memory, &self.store, plan, step, answer, drawn);
+        keep(
+            &mut self.memory,
+            &mut self.plan,
+            &self.store,
+            step,
+            answer,
+            drawn,
+        );
         Ok(drawn)
     }
 
-    fn install(&mut self, plan: Plan, step: &Step, answer: &Answer, stamp: u64) {
-        keep(&mut self.memory, &self.store, plan, step, answer, stamp);
+    fn install(&mut self, _plan: (), step: &Step, answer: &Answer, stamp: u64) {
+        keep(
+            &mut self.memory,
+            &mut self.plan,
+            &self.store,
+            step,
+            answer,
+            stamp,
+        );
     }
 }
 
 // The memory follows an event that is no operation, once the store holds what it asks for. A crash asks for nothing.
 fn keep<S: Stable>(
     memory: &mut Memory,
+    plan: &mut Plan,
     store: &S,
-    plan: Plan,
     step: &Step,
     answer: &Answer,
     stamp: u64,
 )
-    requires fits { FitsPlan plan memory.old }
-    requires planned { IsPlannedWhere (IsRecordedAt step.now (S.seen store.now).content) plan memory.old (event_of step.now answer.now) }
+    requires fits { FitsPlan plan.old memory.old }
+    requires planned { IsPlannedWhere (IsRecordedAt step.now (S.seen store.now).content) plan.old memory.old (event_of step.now answer.now) }
     requires other { IsFalse (is_operation step.now) }
     requires found { (S.seen store.now).holds_content ≡ true }
-    ensures { FollowsWhere (IsRecordedAt step.now (S.seen store.now).content) plan memory.old (event_of step.now answer.now) stamp memory.new }
+    ensures { FollowsWhere (IsRecordedAt step.now (S.seen store.now).content) plan.old memory.old (event_of step.now answer.now) stamp memory.new }
 {
     match step {
         Step::Crash(_) => memory.crash(plan, step, answer, stamp, &recorded_in(store)),
@@ -157,17 +172,17 @@ fn keep<S: Stable>(
 fn write<S: Stable>(
     alloc: Global,
     memory: &Memory,
-    store: &mut S,
     plan: &Plan,
+    store: &mut S,
     step: &Step,
     answer: &Answer,
 ) -> Result<(), Fault>
-    requires { IsPlannedHere S.seen (record { memory = memory.now; store = store.old }) plan.now (event_of step.now answer.now) }
-    ensures leaves { WhereverPlanned S.seen (record { memory = memory.now; store = store.old }) plan.now (event_of step.now answer.now)
+    requires { IsPlannedHere S.seen (record { memory = memory.now; plan = plan.now; store = store.old }) (event_of step.now answer.now) }
+    ensures leaves { WhereverPlanned S.seen (record { memory = memory.now; plan = plan.now; store = store.old }) (event_of step.now answer.now)
         (λ s news. LeavesStore s news (S.seen store.old) (S.seen store.new) (fault_in result)) }
     ensures cause { IsErrOf result Stable → CountsFailure (S.seen store.old) (S.seen store.new) }
 {
-    let write = Write::of(memory, store, plan, step, answer)?;
+    let write = Write::of(memory, plan, store, step, answer)?;
     match write.perform(alloc, store) {
         Ok(()) => Ok(()),
         Err(fault) => Err(fault_of(fault)),

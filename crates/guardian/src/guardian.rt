@@ -11,7 +11,7 @@ ghost use Rattle.layer_contracts.specs.Guardians.{GuardianState};
 ghost use Rattle.guardian_memory.specs.Memories.{IsSound, own_object};
 ghost use Rattle.guardian.specs.Guardians.{IsSettled, IsWhole};
 
-use guardian_memory::Memory;
+use guardian_memory::{Memory, Plan};
 use run_model::{Content, Name, Opening};
 use stable_store::Stable;
 use std::alloc::{AllocError, Global};
@@ -24,6 +24,8 @@ use version_stack::View;
 pub struct Guardian<S: Stable> {
     pub(crate) alloc: Global,
     pub(crate) memory: Memory,
+    /// Of the event that was planned last, in place, so that its room is used again.
+    pub(crate) plan: Plan,
     pub(crate) store: S,
 }
 
@@ -32,15 +34,16 @@ impl<S: Stable> Model for Guardian<S> {
     ghost use Rattle.tellings.specs.contracts.tellings.Tellings as of_tellings;
     ghost use Rattle.orphans.specs.contracts.lists.Lists as of_lists;
     ghost use Rattle.roster.specs.contracts.roster.Roster as of_roster;
+    ghost use Rattle.guardian_memory.specs.contracts.plan.Plan as of_plan;
     ghost use Rattle.guardian.specs.Guardians.{InParts, IsWholeOfSome};
 
     ghost Value = { InParts S };
 
-    ghost coded = { Prim.hlevel (codes, of_tellings.the_row.coded, of_lists.the_row.coded, of_roster.the_row.coded) };
+    ghost coded = { Prim.hlevel (codes, of_tellings.the_row.coded, of_lists.the_row.coded, of_roster.the_row.coded, of_plan.the_row.coded) };
 
-    ghost view = { λ a. record { memory = a.memory; store = a.store } };
+    ghost view = { λ a. record { memory = a.memory; plan = a.plan; store = a.store } };
 
-    ghost invariant = { λ a. IsWholeOfSome S.seen (record { memory = a.memory; store = a.store }) };
+    ghost invariant = { λ a. IsWholeOfSome S.seen (record { memory = a.memory; plan = a.plan; store = a.store }) };
 }
 
 impl<S: Stable> Guardian<S> {
@@ -77,6 +80,7 @@ impl<S: Stable> Guardian<S> {
         Guardian {
             alloc,
             memory,
+            plan: Plan::new(alloc),
             store,
         }
     }

@@ -20,7 +20,7 @@ use crate::checking::may_reopen;
 use crate::guardian::Guardian;
 use action_names::Name;
 use atomic_types::Part;
-use guardian_memory::{Memory, TopRecord};
+use guardian_memory::{Memory, Plan, TopRecord};
 use run_model::{Held, Opening, Setup};
 use stable_store::{Kept, Prepared, Stable};
 use std::alloc::{AllocError, Global};
@@ -57,6 +57,7 @@ impl<S: Stable> Guardian<S> {
             Ok(memory) => Ok(Guardian {
                 alloc,
                 memory,
+                plan: Plan::new(alloc),
                 store,
             }),
             Err(refused) => Err((refused, store)),

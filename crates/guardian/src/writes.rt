@@ -41,15 +41,15 @@ impl Write {
     /// What the event asks for, read before anything changes. Fails only for want of memory.
     pub(crate) fn of<S: Stable>(
         memory: &Memory,
-        store: &S,
         plan: &Plan,
+        store: &S,
         step: &Step,
         answer: &Answer,
     ) -> Result<Write, AllocError>
-        requires { IsPlannedHere S.seen (record { memory = memory.now; store = store.now }) plan.now (event_of step.now answer.now) }
-        ensures written { WhereverPlanned S.seen (record { memory = memory.now; store = store.now }) plan.now (event_of step.now answer.now) (λ s news. IfOk result (λ write.
+        requires { IsPlannedHere S.seen (record { memory = memory.now; plan = plan.now; store = store.now }) (event_of step.now answer.now) }
+        ensures written { WhereverPlanned S.seen (record { memory = memory.now; plan = plan.now; store = store.now }) (event_of step.now answer.now) (λ s news. IfOk result (λ write.
             written write (S.seen store.now).content ≡ after_event s.opening s.number (stamped 0 news) s.past (S.seen store.now).content)) }
-        ensures asked { WhereverPlanned S.seen (record { memory = memory.now; store = store.now }) plan.now (event_of step.now answer.now) (λ s news. IfOk result (λ write.
+        ensures asked { WhereverPlanned S.seen (record { memory = memory.now; plan = plan.now; store = store.now }) (event_of step.now answer.now) (λ s news. IfOk result (λ write.
             is_nothing write ≡ not (asks_store s.number (stamped 0 news) (S.seen store.now).content))) }
     {
         let number = memory.number();

@@ -6,14 +6,12 @@ use Rattle.action_names.specs.Names.{Name, is_proper_ancestor, is_top}
 use Rattle.atomic_types.specs.Operations as op
 use Rattle.atomic_types.specs.declared.op.Reply.{Reply}
 use Rattle.atomic_types.specs.declared.part.Part.{Part}
-use Rattle.run_model.specs.declared.answer.Answer.{Answer}
 use Rattle.run_model.specs.declared.answer.Answer.TheVariants.{Granted}
 use Rattle.run_model.specs.declared.history.Event.{Event}
 use Rattle.run_model.specs.declared.step.ObjectId.{ObjectId}
 use Rattle.run_model.specs.declared.step.Step.{Step}
 use Rattle.run_model.specs.declared.step.Step.TheVariants.{Crash, Op}
 use Rattle.run_model.specs.Actions.{step_crashes}
-use Rattle.run_model.specs.Answers.{operated_by}
 use Rattle.run_model.specs.LocalReadings.{LocalEvent, prepared_here, standing_here, told_committed_here}
 use Rattle.run_model.specs.Openings.{Opening, first_content}
 use Rattle.run_model.specs.StableContent.{parts_by}
@@ -40,10 +38,10 @@ use Rattle.guardian_memory.specs.Accepting.{AreRecorded}
 use Rattle.guardian_memory.specs.Memories.{InMemory, IsOfSome, IsSound}
 use Rattle.guardian_memory.specs.Plans.{FitsPlan, Follows, FollowsWhere, IsPlanOf, IsPlanned, IsPlannedWhere, Operated}
 use Rattle.guardian_memory.specs.declared.plan.Plan.{Plan}
-use Rattle.guardian_memory.proofs.Agreed.{actions_at, crash_brings, crash_is, may_tell, only_tells, operation_brings, operation_stays, vote_only_tells}
+use Rattle.guardian_memory.proofs.Agreed.{actions_at, crash_brings, crash_is, may_tell, only_tells, operation_brings, vote_only_tells}
 use Rattle.guardian_memory.proofs.Held.{holds_tree, no_parts, vote_brings}
 use Rattle.guardian_memory.proofs.Operated.{IsGranted, answer_is, granted_facts, may_grant, on_object, operated_next}
-use Rattle.guardian_memory.proofs.Sound.{inside, not_counted, one_counted, sound_next, tops_next}
+use Rattle.guardian_memory.proofs.Sound.{not_counted, one_counted, sound_next, tops_next}
 use Rattle.guardian_memory.proofs.Untouched.{after_operation}
 
 -- ---- as the fields say

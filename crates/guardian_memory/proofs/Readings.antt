@@ -1,10 +1,9 @@
 -- What is read in a memory whose parts are those of its history.
-use Rattle.std.proofs.Common.{Bool, List, None, Option, Some, ap, false, length, subst, sym, true, ℕ, ◌&&◌, ◌==◌, ◌∙◌, ◌≡◌, ◌≤◌}
+use Rattle.std.proofs.Common.{Bool, List, None, Option, Some, ap, false, length, sym, true, ℕ, ◌&&◌, ◌==◌, ◌∙◌, ◌≡◌}
 use Rattle.std.specs.Prelude.{IfSome, nat_le}
 use Rattle.std.proofs.lemmas.Bool.{and_parts}
 use Rattle.action_names.specs.Names.{Name, has_name}
 use Rattle.values.specs.declared.content.Content.{Content}
-use Rattle.atomic_types.specs.Objects.{knows}
 use Rattle.atomic_types.specs.Operations.{Op}
 use Rattle.run_model.specs.declared.answer.Answer.{Answer}
 use Rattle.run_model.specs.declared.step.ObjectId.{ObjectId}
@@ -12,7 +11,7 @@ use Rattle.run_model.specs.Actions.{home_of, is_begun}
 use Rattle.run_model.specs.Answers.{is_concerned_by, operated_by}
 use Rattle.run_model.specs.Lists.{is_orphan_by}
 use Rattle.run_model.specs.LocalReadings.{LocalEvent, aborts_here, count_here, dependency_here, events_here, is_at_home, is_orphan_here, known_crashes_here, standing_here, told_committed_here}
-use Rattle.run_model.specs.Openings.{Opening, first_content, objects_at, opening_in}
+use Rattle.run_model.specs.Openings.{Opening, first_content, objects_at}
 use Rattle.layer_contracts.specs.Guardians.{GuardianState, MayAsk, count_told}
 use Rattle.tellings.specs.Hearing.{AreTold}
 use Rattle.run_model.specs.Versions.{base_by}

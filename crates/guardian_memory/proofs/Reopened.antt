@@ -1,5 +1,5 @@
 -- The memory of a guardian that is opened again by itself.
-use Rattle.std.proofs.Common.{add-one, append_assoc, Bool, List, inl, inr, not, ◌&&◌, ◌==◌, None, Option, Some, [], ap, arith, drop, false, length, map, refl, subst, suc, sym, take, true, zero, ℕ, ◌+◌, ◌++◌, ◌<◌, ◌∙◌, ◌∷◌, ◌≡◌, ◌≤◌, Contains}
+use Rattle.std.proofs.Common.{add-one, append_assoc, Bool, List, inl, inr, not, ◌&&◌, ◌==◌, [], ap, drop, false, length, map, refl, subst, suc, sym, true, zero, ℕ, ◌+◌, ◌++◌, ◌∙◌, ◌∷◌, ◌≡◌, ◌≤◌, Contains}
 use Rattle.std.proofs.lemmas.Bool.{and_from, false≢true, or_cases}
 use Rattle.std.proofs.lemmas.List.Elements.{Contains-append_right, Contains-push, Contains-append_left}
 use Rattle.std.proofs.lemmas.List.Folds.{list_all-append}
@@ -18,7 +18,7 @@ use Rattle.run_model.specs.Actions.{crashes, step_crashes}
 use Rattle.run_model.specs.Versions.{holder_at}
 use Rattle.atomic_types.specs.Operations.{is_read}
 use Rattle.run_laws.proofs.Names.{eqb_self, same_name_true}
-use Rattle.local_laws.specs.Reopened.{AreRecords, IsReopened, is_prepared, parts_of}
+use Rattle.local_laws.specs.Reopened.{IsReopened, is_prepared, parts_of}
 use Rattle.local_laws.proofs.Reopened.{life_before_is}
 use Rattle.local_agreement.specs.Crashes.{LeavesSafe, is_safe}
 use Rattle.local_agreement.specs.Judging.{are_on_objects, is_on_object}
@@ -31,7 +31,7 @@ use Rattle.roster.specs.declared.roster.Roster.{Roster}
 use Rattle.tellings.specs.Hearing.{AreTold}
 use Rattle.tellings.specs.Hearing as hearing
 use Rattle.tellings.specs.declared.tellings.Tellings.{Tellings}
-use Rattle.guardian_objects.specs.Objects.{AreObjects, Indexed}
+use Rattle.guardian_objects.specs.Objects.{Indexed}
 use Rattle.guardian_objects.specs.Restored.{AreGivenBack, AreRestorable}
 use Rattle.guardian_objects.proofs.GivenBack.{all_parts, given_stands, holds_itself, restorable_behind}
 use Rattle.guardian_memory.specs.Memories.{IsSound}

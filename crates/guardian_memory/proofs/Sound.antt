@@ -25,7 +25,7 @@ use Rattle.roster.specs.Rosters as rosters
 use Rattle.roster.specs.Tables.{table}
 use Rattle.roster.specs.declared.roster.Roster.{Roster}
 use Rattle.guardian_objects.specs.Objects.{AreObjects, Indexed, Keeps}
-use Rattle.guardian_memory.specs.Memories.{InMemory, IsOfSome, IsSound}
+use Rattle.guardian_memory.specs.Memories.{InMemory, IsSound}
 use Rattle.guardian_memory.proofs.Agreed.{safe_at}
 
 -- what is inside stands where the memory does

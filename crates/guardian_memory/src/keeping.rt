@@ -14,47 +14,39 @@ use run_model::{Answer, Step};
 use std::alloc::AllocError;
 
 impl Memory {
-    /// Follows an event that is neither an operation nor a crash of the guardian. This cannot fail.
-    pub fn keep(&mut self, plan: Plan, step: &Step, answer: &Answer, stamp: u64)
-        requires fits { FitsPlan plan self.old }
-        requires planned { IsPlanned plan self.old (event_of step.now answer.now) }
+    /// Follows an event that is neither an operation nor a crash of the guardian, and leaves a plan for no event. This cannot fail.
+    pub fn keep(&mut self, plan: &mut Plan, step: &Step, answer: &Answer, stamp: u64)
+        requires fits { FitsPlan plan.old self.old }
+        requires planned { IsPlanned plan.old self.old (event_of step.now answer.now) }
         requires other { IsFalse (is_operation step.now) }
         requires up { IsFalse (step_crashes step.now self.old.number) }
-        ensures { Follows plan self.old (event_of step.now answer.now) stamp self.new }
+        ensures { Follows plan.old self.old (event_of step.now answer.now) stamp self.new }
     {
-        let Plan {
-            heard,
-            lesson,
-            entry,
-            planned,
-            ..
-        } = plan;
-        self.told.hear(heard);
-        self.lists.learn(lesson);
-        self.roster.enter(entry);
-        self.objects.tell(planned);
+        self.told.hear(&mut plan.heard);
+        self.lists.learn(&mut plan.lesson);
+        self.roster.enter(&mut plan.entry);
+        self.objects.tell(&mut plan.planned);
     }
 
     /// The guardian crashes: it forgets its lists, what it was told but for commits, and of its objects all but the base and what the survivors wrote
     /// and added. It stands in the state that follows wherever the survivors are the top actions of which the store has a record. This cannot fail.
     pub fn crash<S: Survivors>(
         &mut self,
-        plan: Plan,
+        plan: &mut Plan,
         step: &Step,
         answer: &Answer,
         stamp: u64,
         survivors: &S,
     )
-        requires fits { FitsPlan plan self.old }
-        requires planned { IsPlannedWhere (AreRecorded (λ a. S.stays survivors.now a)) plan self.old (event_of step.now answer.now) }
+        requires fits { FitsPlan plan.old self.old }
+        requires planned { IsPlannedWhere (AreRecorded (λ a. S.stays survivors.now a)) plan.old self.old (event_of step.now answer.now) }
         requires down { IsTrue (step_crashes step.now self.old.number) }
-        ensures { FollowsWhere (AreRecorded (λ a. S.stays survivors.now a)) plan self.old (event_of step.now answer.now) stamp self.new }
+        ensures { FollowsWhere (AreRecorded (λ a. S.stays survivors.now a)) plan.old self.old (event_of step.now answer.now) stamp self.new }
     {
-        let Plan { heard, entry, .. } = plan;
         let alloc = self.alloc;
-        self.told.crash(heard);
+        self.told.crash(&mut plan.heard);
         self.lists.crash(alloc);
-        self.roster.enter(entry);
+        self.roster.enter(&mut plan.entry);
         self.objects.crash(survivors);
     }
 

@@ -1,5 +1,5 @@
 //! Making room for an event.
-ghost use Rattle.std.specs.Prelude.{IfOk, IsTrue};
+ghost use Rattle.std.specs.Prelude.{OnOk, IsTrue};
 ghost use Rattle.atomic_object.specs.Staying.{OutcomesRise};
 ghost use Rattle.run_model.specs.Runs.{is_accepted};
 ghost use Rattle.local_laws.specs.Owed.{IsOwed};
@@ -17,23 +17,24 @@ use run_model::{Answer, Step};
 use std::alloc::AllocError;
 
 impl Memory {
-    /// Makes room for an event and computes what it changes. With memory and without, the memory stands where it stood. The plan is for the event in
-    /// each state whose history it agrees with, where it brings what that history asks of it. Fails for want of memory, and where one more crash could
-    /// not be counted.
+    /// Makes room for an event, and writes what it changes into a plan, over what that was for before. With memory and without, the memory stands where
+    /// it stood. The plan is for the event in each state whose history it agrees with, where it brings what that history asks of it. Fails for want of
+    /// memory, and where one more crash could not be counted; then the plan is for no event.
     pub fn plan(
         &mut self,
         step: &Step,
         answer: &Answer,
         message: Message,
-    ) -> Result<Plan, AllocError>
+        plan: &mut Plan,
+    ) -> Result<(), AllocError>
         requires accepted { IsTrue (is_accepted answer.now) }
         requires rising { OutcomesRise message.outcomes.items }
         ensures same { (s : GuardianState) → IsSound self.old s → IsSound self.new s }
-        ensures fits { IfOk result (λ plan. FitsPlan plan self.new) }
-        ensures planned { IfOk result (λ plan. (s : GuardianState) → IsSound self.old s
+        ensures fits { OnOk result (FitsPlan plan.new self.new) }
+        ensures planned { OnOk result ((s : GuardianState) → IsSound self.old s
             → IsOwed s.opening s.number (local_event (event_of step.now answer.now) message) s.past step.now
             → Agrees s.opening s.number (local_event (event_of step.now answer.now) message) s.past
-            → IsPlanOf plan self.new s (news_in (event_of step.now answer.now) message)) }
+            → IsPlanOf plan.new self.new s (news_in (event_of step.now answer.now) message)) }
     {
         if self.roster.crashes() == u64::MAX {
             return Err(AllocError);
@@ -48,18 +49,13 @@ impl Memory {
             counts,
             outcomes,
         };
-        let planned = self.objects.plan(outcomes, &self.told)?;
-        let heard = self.told.plan(outcomes)?;
-        let lesson = self.lists.plan_lesson(self.alloc, news)?;
-        let entry = self.roster.plan(step, answer, dependencies)?;
-        let sender = message.sender;
-        Ok(Plan {
-            sender,
-            outcomes: message.outcomes,
-            heard,
-            lesson,
-            entry,
-            planned,
-        })
+        self.objects.plan(outcomes, &self.told, &mut plan.planned)?;
+        self.told.plan(outcomes, &mut plan.heard)?;
+        self.lists.plan_lesson(self.alloc, news, &mut plan.lesson)?;
+        self.roster
+            .plan(step, answer, dependencies, &mut plan.entry)?;
+        plan.sender = message.sender;
+        plan.outcomes = message.outcomes;
+        Ok(())
     }
 }

@@ -5,7 +5,7 @@ use Rattle.std.proofs.Math.ListN.{length-append}
 use Rattle.std.proofs.lemmas.Option.{none-some, same_Some}
 use Rattle.std.specs.List.{AllByRecursion}
 use Rattle.std.specs.Prelude.{is_some, slice_get}
-use Rattle.action_names.specs.Names.{Name, has_name, is_ancestor, same_name}
+use Rattle.action_names.specs.Names.{Name, has_name, same_name}
 use Rattle.values.specs.declared.content.Content.{Content}
 use Rattle.atomic_types.specs.declared.part.Part.{Part}
 use Rattle.atomic_types.specs.declared.part.Part.TheVariants.{Delta, Value}

@@ -6,8 +6,8 @@ use Rattle.std.proofs.lemmas.Option.{none-some, same_Some}
 use Rattle.action_names.specs.Names.{Name, is_ancestor, same_name}
 use Rattle.atomic_types.specs.Operations.{Op}
 use Rattle.atomic_types.specs.declared.op.Reply.{Reply}
-use Rattle.run_model.specs.LocalReadings.{LocalEvent, standing_here}
-use Rattle.run_model.specs.Openings.{Opening, first_content}
+use Rattle.run_model.specs.LocalReadings.{standing_here}
+use Rattle.run_model.specs.Openings.{first_content}
 use Rattle.object_laws.specs.Changes.{with_operation}
 use Rattle.object_laws.specs.Laws.{is_concerned}
 use Rattle.object_laws.specs.Shown.{Shows}
@@ -19,7 +19,7 @@ use Rattle.standing_laws.specs.Heard.{heard}
 use Rattle.atomic_object.specs.Kept.{Kept, seen}
 use Rattle.atomic_object.proofs.Granting.{let_through}
 use Rattle.held_objects.specs.Held.{has_number, has_object, objects_at}
-use Rattle.guardian_objects.specs.Objects.{AreObjects, Indexed, IsAsked, IsGranted, Keeps, Operates, object_at, object_of}
+use Rattle.guardian_objects.specs.Objects.{Indexed, IsAsked, IsGranted, Keeps, Operates, object_at, object_of}
 use Rattle.guardian_objects.specs.Operations.{IsFreeAt, IsGrantedBy, IsShownAt, StaysHeld}
 use Rattle.guardian_objects.specs.Turns.{AreChanged}
 use Rattle.guardian_objects.proofs.Holding.{granted_holds}

@@ -14,7 +14,7 @@ ghost use Rattle.guardian_objects.specs.Turns.{Aborts, AreChanged, Commits, HasR
 
 use crate::objects::Objects;
 use action_names::Name;
-use std::alloc::AllocError;
+use std::alloc::{AllocError, Global};
 use tellings::Tellings;
 
 /// One outcome: which objects it concerns, and for a commit the next holder.
@@ -28,49 +28,62 @@ pub(crate) struct Telling {
     pub(crate) at: Vec<(u32, Option<Name>)>,
 }
 
-/// Outcomes that are to be told, in copies, for which there is room.
+/// Outcomes that are to be told, in copies, for which there is room. Its own room is used again for the next ones.
 #[derive(Drop)]
 pub struct Planned {
     pub(crate) tellings: Vec<Telling>,
 }
 
+impl Planned {
+    /// No outcomes. This takes no memory.
+    pub fn new(alloc: Global) -> Planned
+        ensures { outcomes_of result.tellings.items ≡ [] }
+    {
+        Planned {
+            tellings: Vec::new(alloc),
+        }
+    }
+}
+
 impl Objects {
-    /// Copies outcomes, which rise by name, finds the next holders, and makes room for what they are handed. Whether or not there is memory for it,
-    /// the objects are those of the same history.
+    /// Copies outcomes, which rise by name, in place of those that were to be told, finds the next holders, and makes room for what they are handed.
+    /// Whether or not there is memory for it, the objects are those of the same history.
     pub fn plan(
         &mut self,
         outcomes: &[(Name, bool)],
         told: &Tellings,
-    ) -> Result<Planned, AllocError>
+        planned: &mut Planned,
+    ) -> Result<(), AllocError>
         requires shown { AreSome self.old }
         requires rising { OutcomesRise outcomes.now }
         ensures same { Keeps self.old self.new }
         ensures guardian { self.new.guardian ≡ self.old.guardian }
         ensures count { length self.new.objects ≡ length self.old.objects }
-        ensures fits { IfOk result (λ planned. Fits self.new planned.tellings.items) }
-        ensures outcomes { IfOk result (λ planned. outcomes_of planned.tellings.items ≡ outcomes.now) }
-        ensures planned { IfOk result (λ planned. (g : ℕ) (here : List LocalEvent) → AreTold g here told.now → ArePlanned here planned.tellings.items) }
+        ensures fits { OnOk result (Fits self.new planned.new.tellings.items) }
+        ensures outcomes { OnOk result (outcomes_of planned.new.tellings.items ≡ outcomes.now) }
+        ensures planned { OnOk result ((g : ℕ) (here : List LocalEvent) → AreTold g here told.now → ArePlanned here planned.new.tellings.items) }
     {
-        let mut tellings = Vec::with_capacity(self.alloc, outcomes.len())?;
+        planned.tellings.clear();
         for (action, committed) in outcomes {
-            tellings.push(self.plan_one(action, *committed, told)?)?;
+            planned
+                .tellings
+                .push(self.plan_one(action, *committed, told)?)?;
         }
-        Ok(Planned { tellings })
+        Ok(())
     }
 
     /// Tells the objects the outcomes that an event brings, the last of them first, so that descendants come before their ancestors. It looks at the
     /// objects alone that the outcomes concern. This cannot fail.
-    pub fn tell(&mut self, planned: Planned)
-        requires fits { Fits self.old planned.tellings.items }
-        requires heard { IsHearing self.old planned.tellings.items }
+    pub fn tell(&mut self, planned: &mut Planned)
+        requires fits { Fits self.old planned.old.tellings.items }
+        requires heard { IsHearing self.old planned.old.tellings.items }
         ensures told { (opening : Opening) (here : List LocalEvent) (c : LocalEvent) → AreObjects opening here self.old
-            → ArePlanned here planned.tellings.items → outcomes_of planned.tellings.items ≡ c.carried.outcomes → OnlyTells c here
+            → ArePlanned here planned.old.tellings.items → outcomes_of planned.old.tellings.items ≡ c.carried.outcomes → OnlyTells c here
             → AreObjects opening (c ∷ here) self.new }
         ensures guardian { self.new.guardian ≡ self.old.guardian }
         ensures count { length self.new.objects ≡ length self.old.objects }
     {
-        let mut tellings = planned.tellings;
-        while let Some(telling) = tellings.pop() {
+        while let Some(telling) = planned.tellings.pop() {
             self.tell_one(telling);
         }
     }

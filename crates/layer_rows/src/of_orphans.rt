@@ -2,7 +2,7 @@
 use crate::reading::{
     GUARDIANS, deps, next_name, next_small_number, opening, read_outcomes, small_number,
 };
-use orphans::{Lists, News};
+use orphans::{Lesson, Lists, News};
 use rows::{Row, RowFault, Words};
 use run_model::{Names, Opening};
 use std::alloc::{AllocError, Global};
@@ -187,7 +187,8 @@ fn write_unsent(unsent: &Unsent, answer: &mut String) -> Result<(), AllocError> 
 
 /// Has the lists learn news.
 fn teach(alloc: Global, lists: &mut Lists, news: News<'_>) -> Result<(), AllocError> {
-    let lesson = lists.plan_lesson(alloc, news)?;
-    lists.learn(lesson);
+    let mut lesson = Lesson::new(alloc);
+    lists.plan_lesson(alloc, news, &mut lesson)?;
+    lists.learn(&mut lesson);
     Ok(())
 }

@@ -3,13 +3,14 @@ use crate::reading::{next_name, read_outcomes};
 use action_names::Name;
 use rows::{Row, RowFault, Words};
 use std::alloc::{AllocError, Global};
-use tellings::Tellings;
+use tellings::{Heard, Tellings};
 
 /// What one guardian was told.
 #[derive(Drop)]
 pub(crate) struct Hearing {
     alloc: Global,
     tellings: Tellings,
+    heard: Heard,
 }
 
 impl Hearing {
@@ -17,6 +18,7 @@ impl Hearing {
         Hearing {
             alloc,
             tellings: Tellings::new(alloc),
+            heard: Heard::new(alloc),
         }
     }
 
@@ -31,8 +33,8 @@ impl Hearing {
     /// Tells it outcomes, words `NAME:committed` or `NAME:aborted`.
     fn tell(&mut self, words: Words<'_>) -> Result<(), RowFault> {
         let outcomes = read_outcomes(self.alloc, words)?;
-        let heard = self.tellings.plan(&outcomes)?;
-        self.tellings.hear(heard);
+        self.tellings.plan(&outcomes, &mut self.heard)?;
+        self.tellings.hear(&mut self.heard);
         Ok(())
     }
 
@@ -42,8 +44,8 @@ impl Hearing {
         if self.tellings.crashes() == u64::MAX {
             return Err(RowFault::Unread);
         }
-        let heard = self.tellings.plan(&outcomes)?;
-        self.tellings.crash(heard);
+        self.tellings.plan(&outcomes, &mut self.heard)?;
+        self.tellings.crash(&mut self.heard);
         Ok(())
     }
 

@@ -6,7 +6,7 @@
 #![tactic(auto)]
 
 use anyhow::Error;
-use orphans::{Lists, News};
+use orphans::{Lesson, Lists, News};
 use run_model::{Deps, Name, Names, Opening, Setup};
 use std::alloc::{AllocError, Global};
 use std::env;
@@ -107,8 +107,9 @@ fn call(alloc: Global, from: &Lists, to: &mut Lists) -> Result<(), AllocError> {
 
 /// Has the lists learn news.
 fn teach(alloc: Global, lists: &mut Lists, news: News<'_>) -> Result<(), AllocError> {
-    let lesson = lists.plan_lesson(alloc, news)?;
-    lists.learn(lesson);
+    let mut lesson = Lesson::new(alloc);
+    lists.plan_lesson(alloc, news, &mut lesson)?;
+    lists.learn(&mut lesson);
     Ok(())
 }
 

@@ -44,10 +44,10 @@ impl Counts {
         self.greatest.reserve(more)
     }
 
-    /// Puts in those counts that raise what is known, the last of them first. This cannot fail.
-    pub fn learn(&mut self, mut counts: Vec<(u32, u64)>)
-        requires { HasCountRoom self.old (vec_len counts) }
-        ensures { known_counts self.new ≡ raised counts.items (known_counts self.old) }
+    /// Takes the counts, the last of them first, and puts those in that raise what is known. This cannot fail.
+    pub fn learn(&mut self, counts: &mut Vec<(u32, u64)>)
+        requires { HasCountRoom self.old (vec_len counts.old) }
+        ensures { known_counts self.new ≡ raised counts.old.items (known_counts self.old) }
     {
         while let Some((guardian, count)) = counts.pop() {
             self.put(guardian, count);

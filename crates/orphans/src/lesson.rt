@@ -1,5 +1,5 @@
 //! What messages bring of aborts and crashes, and copies of it.
-ghost use Rattle.std.specs.Prelude.{◌≡◌, ◌++◌, IfOk};
+ghost use Rattle.std.specs.Prelude.{◌≡◌, ◌++◌, ◌∷◌, [], None, OnOk};
 ghost use Rattle.run_model.specs.LocalReadings.{aborted_in};
 ghost use Rattle.orphans.specs.Logs.{names_of};
 ghost use Rattle.orphans.specs.Indexes.{with_own};
@@ -20,6 +20,7 @@ pub struct News<'a> {
 }
 
 /// News, in copies. Of the aborts those come first that the message carried, and then those that were told; of the counts the sender's own comes first.
+/// Its room is used again for the next news.
 #[derive(Drop)]
 pub struct Lesson {
     pub(crate) sender: Option<u32>,
@@ -33,55 +34,81 @@ pub struct Lesson {
 impl Lesson {
     ghost use Rattle.orphans.specs.Knowing.{IsLesson};
 
-    // Copies of news.
-    pub(crate) fn of(alloc: Global, news: News<'_>) -> Result<Lesson, AllocError>
-        ensures { IfOk result (IsLesson news.entry.sender news.entry.life news.entry.aborts.now news.entry.counts.now news.entry.outcomes.now) }
+    /// A lesson of nothing. This takes no memory.
+    pub fn new(alloc: Global) -> Lesson
+        ensures { IsLesson None 0 [] [] [] result }
     {
-        Ok(Lesson {
-            sender: news.sender,
-            life: news.life,
-            aborts: all_aborts(alloc, news.aborts.as_slice(), news.outcomes)?,
-            counts: all_counts(alloc, news.sender, news.life, news.counts)?,
-            sent_aborts: news.aborts.len(),
-            sent_counts: news.counts.len(),
-        })
+        Lesson {
+            sender: None,
+            life: 0,
+            aborts: Vec::new(alloc),
+            counts: Vec::new(alloc),
+            sent_aborts: 0,
+            sent_counts: 0,
+        }
+    }
+
+    // Copies news, in place of what was to be learnt.
+    pub(crate) fn fill(&mut self, alloc: Global, news: News<'_>) -> Result<(), AllocError>
+        ensures { OnOk result (IsLesson news.entry.sender news.entry.life news.entry.aborts.now news.entry.counts.now news.entry.outcomes.now self.new) }
+    {
+        self.sender = news.sender;
+        self.life = news.life;
+        self.sent_aborts = news.aborts.len();
+        self.sent_counts = news.counts.len();
+        fill_aborts(
+            &mut self.aborts,
+            alloc,
+            news.aborts.as_slice(),
+            news.outcomes,
+        )?;
+        fill_counts(&mut self.counts, news.sender, news.life, news.counts)
     }
 }
 
-// The aborts that came, and after them those that were told, in copies.
-#[tactic(auto, using(crate::proofs::Told::names_more))]
-fn all_aborts(
+// The aborts that came, and after them those that were told, in copies, in place of those that were there.
+fn fill_aborts(
+    all: &mut Vec<Abort>,
     alloc: Global,
     aborts: &[Name],
     outcomes: &[(Name, bool)],
-) -> Result<Vec<Abort>, AllocError>
-    ensures { IfOk result (λ all. names_of all.items ≡ aborts.now ++ aborted_in outcomes.now) }
+) -> Result<(), AllocError>
+    ensures { OnOk result (names_of all.new.items ≡ aborts.now ++ aborted_in outcomes.now) }
 {
-    let mut all = Vec::new(alloc);
+    all.clear();
     for name in aborts {
-        all.push(Abort::of(alloc, name)?)?;
+        add_abort(all, alloc, name)?;
     }
     for (told, committed) in outcomes {
         if !*committed {
-            all.push(Abort::of(alloc, told)?)?;
+            add_abort(all, alloc, told)?;
         }
     }
-    Ok(all)
+    Ok(())
 }
 
-// A sender's own count, and after it those that it sent.
-fn all_counts(
-    alloc: Global,
+// Copies one abort more.
+#[tactic(auto, using(crate::proofs::Told::names_more))]
+fn add_abort(all: &mut Vec<Abort>, alloc: Global, name: &Name) -> Result<(), AllocError>
+    ensures { OnOk result (names_of all.new.items ≡ names_of all.old.items ++ name.now ∷ []) }
+{
+    all.push(Abort::of(alloc, name)?)?;
+    Ok(())
+}
+
+// A sender's own count, and after it those that it sent, in place of those that were there.
+fn fill_counts(
+    into: &mut Vec<(u32, u64)>,
     sender: Option<u32>,
     life: u64,
     counts: &[(u32, u64)],
-) -> Result<Vec<(u32, u64)>, AllocError>
-    ensures { IfOk result (λ all. all.items ≡ with_own sender life counts.now) }
+) -> Result<(), AllocError>
+    ensures { OnOk result (into.new.items ≡ with_own sender life counts.now) }
 {
-    let mut all = Vec::new(alloc);
+    into.clear();
     if let Some(sender) = sender {
-        all.push((sender, life))?;
-        all.extend_from_slice(counts)?;
+        into.push((sender, life))?;
+        into.extend_from_slice(counts)?;
     }
-    Ok(all)
+    Ok(())
 }

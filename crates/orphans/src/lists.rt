@@ -1,5 +1,5 @@
 //! What a guardian knows.
-ghost use Rattle.std.specs.Prelude.{◌≡◌, ◌<◌, ◌^◌, ◌+◌, [], ◌∷◌, ℕ, List, IsTrue, IsFalse, IfOk};
+ghost use Rattle.std.specs.Prelude.{◌≡◌, ◌<◌, ◌^◌, ◌+◌, [], ◌∷◌, ℕ, List, IsTrue, IsFalse, IfOk, OnOk};
 ghost use Rattle.std.specs.FinMap as map;
 ghost use Rattle.action_names.specs.Names.{has_name};
 ghost use Rattle.run_model.specs.Actions.{crashes, step_crashes};
@@ -57,39 +57,40 @@ impl Lists {
         }
     }
 
-    /// Copies news, and makes room for learning it. Whether or not there is memory for it, the lists are those of the same history.
-    pub fn plan_lesson(&mut self, alloc: Global, news: News<'_>) -> Result<Lesson, AllocError>
+    /// Copies news, in place of what was to be learnt, and makes room for learning it. Whether or not there is memory for it, the lists are those of
+    /// the same history.
+    pub fn plan_lesson(
+        &mut self,
+        alloc: Global,
+        news: News<'_>,
+        lesson: &mut Lesson,
+    ) -> Result<(), AllocError>
         ensures own { guardian_of self.new ≡ guardian_of self.old }
         ensures same { (here : List LocalEvent) → AreLists here self.old → AreLists here self.new }
-        ensures fits { IfOk result (FitsLesson self.new) }
-        ensures news { IfOk result (IsLesson news.entry.sender news.entry.life news.entry.aborts.now news.entry.counts.now news.entry.outcomes.now) }
+        ensures fits { OnOk result (FitsLesson self.new lesson.new) }
+        ensures news { OnOk result (IsLesson news.entry.sender news.entry.life news.entry.aborts.now news.entry.counts.now news.entry.outcomes.now lesson.new) }
     {
-        let lesson = Lesson::of(alloc, news)?;
+        lesson.fill(alloc, news)?;
         self.aborts.plan_room(lesson.aborts.len())?;
         self.counts.plan_room(lesson.counts.len())?;
-        self.sent.plan_place()?;
-        Ok(lesson)
+        self.sent.plan_place()
     }
 
     /// Learns the news of a lesson for which the lists have room. This cannot fail.
-    pub fn learn(&mut self, lesson: Lesson)
-        requires { FitsLesson self.old lesson }
+    pub fn learn(&mut self, lesson: &mut Lesson)
+        requires { FitsLesson self.old lesson.old }
         ensures own { guardian_of self.new ≡ guardian_of self.old }
         ensures lists { (here : List LocalEvent) (c : LocalEvent) → AreLists here self.old → IsFalse (step_crashes c.event.step (guardian_of self.old))
-            → IsLesson c.carried.sender c.carried.life c.carried.aborts c.carried.counts c.carried.outcomes lesson → AreLists (c ∷ here) self.new }
+            → IsLesson c.carried.sender c.carried.life c.carried.aborts c.carried.counts c.carried.outcomes lesson.old → AreLists (c ∷ here) self.new }
     {
-        let Lesson {
-            sender,
-            life,
-            aborts,
-            counts,
-            sent_aborts,
-            sent_counts,
-        } = lesson;
-        self.aborts.learn(aborts);
-        self.counts.learn(counts);
-        self.sent
-            .count(sender, life, sent_aborts as u64, sent_counts as u64);
+        self.aborts.learn(&mut lesson.aborts);
+        self.counts.learn(&mut lesson.counts);
+        self.sent.count(
+            lesson.sender,
+            lesson.life,
+            lesson.sent_aborts as u64,
+            lesson.sent_counts as u64,
+        );
     }
 
     /// Forgets all but the own crashes, of which there is one more. This cannot fail.

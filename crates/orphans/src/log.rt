@@ -60,10 +60,10 @@ impl Log {
         self.paths.reserve(more)
     }
 
-    /// Puts the names in that it lacks, the last of them first. This cannot fail.
-    pub fn learn(&mut self, mut aborts: Vec<Abort>)
-        requires { HasRoom self.old (vec_len aborts) }
-        ensures { known_names self.new ≡ learnt (names_of aborts.items) (known_names self.old) }
+    /// Takes the names, the last of them first, and puts those in that it lacks. This cannot fail.
+    pub fn learn(&mut self, aborts: &mut Vec<Abort>)
+        requires { HasRoom self.old (vec_len aborts.old) }
+        ensures { known_names self.new ≡ learnt (names_of aborts.old.items) (known_names self.old) }
     {
         while let Some(abort) = aborts.pop() {
             self.put(abort);

@@ -15,12 +15,12 @@ Follow ch old event stamp new =
     AtEachOf old (λ opening registry. (e : Event) (home life : ℕ) → IsEntered opening registry e → FitsChange opening registry e home life old ch → event.step ≡ e.step
     → AreActions opening (event_after opening registry stamp e home life ∷ registry) new)
 
-pub stands_after : (m old : InRegistry) (ch : Change) (f : ForestState) (news : RegistryNews) (event : Event) (stamp : ℕ) (new : Actions) → m ≡ old → StandsIn old f
-    → IsChangeOf ch old f news → news.event ≡ event → Follow ch m.actions event stamp new
-    → StandsIn (record { opening = m.opening; actions = new }) (record f { registry = stamped_there stamp news ∷ f.registry })
-stands_after m old ch f news event stamp new is at of same grows =
+pub stands_after : {after : Change} (m old : InRegistry) (f : ForestState) (news : RegistryNews) (event : Event) (stamp : ℕ) (new : Actions) → m ≡ old
+    → StandsIn old f → IsChangeOf old f news → news.event ≡ event → Follow m.change m.actions event stamp new
+    → StandsIn (record { opening = m.opening; actions = new; change = after }) (record f { registry = stamped_there stamp news ∷ f.registry })
+stands_after m old f news event stamp new is at of same grows =
     let here : StandsIn m f = inside is at in
-    let made : IsChangeOf ch m f news = subst (λ k. IsChangeOf ch k f news) (sym is) of in
+    let made : IsChangeOf m f news = subst (λ k. IsChangeOf k f news) (sym is) of in
     record {
       opening = here.opening;
       actions =

@@ -6,10 +6,11 @@ use Rattle.registry.specs.Following.{AreActions, FitsChange, HasRoomFor, IsEnter
 use Rattle.registry.specs.declared.actions.Actions.{Actions}
 use Rattle.registry.specs.declared.change.Change.{Change}
 
--- the opening, and the actions with the votes
+-- the opening, the actions with the votes, and what the event changes that was planned last
 pub record InRegistry : Type 0 where
   pub opening : OpeningLists
   pub actions : Actions
+  pub change : Change
 
 -- The registry stands in this state: the opening is its own, and its actions and votes are those of this history.
 pub record StandsIn (m : InRegistry) (f : ForestState) : Type 0 where
@@ -17,12 +18,12 @@ pub record StandsIn (m : InRegistry) (f : ForestState) : Type 0 where
   pub actions : AreActions f.opening f.registry m.actions
 
 -- The change is what this event changes, which was entered in this state. What it begins begins at one home in one life of it.
-pub record IsChangeOf (ch : Change) (m : InRegistry) (f : ForestState) (news : RegistryNews) : Type 0 where
+pub record IsChangeOf (m : InRegistry) (f : ForestState) (news : RegistryNews) : Type 0 where
   pub home : ℕ
   pub life : ℕ
   pub entered : IsEntered f.opening f.registry news.event
-  pub change : FitsChange f.opening f.registry news.event home life m.actions ch
+  pub change : FitsChange f.opening f.registry news.event home life m.actions m.change
   pub begun : news.begun ≡ begun_at f home life news.event.answer
 
-abbrev pub FitsRegistry : Change → InRegistry → Type 0
-FitsRegistry ch m = HasRoomFor m.actions ch
+abbrev pub FitsRegistry : InRegistry → Type 0
+FitsRegistry m = HasRoomFor m.actions m.change

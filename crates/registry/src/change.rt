@@ -5,7 +5,7 @@ use action_forest::{Begun, Commitment};
 
 /// What an event changes among the actions and the votes, where that takes room. The registry has room for it.
 #[derive(Drop)]
-pub enum Change {
+pub(crate) enum Change {
     /// Actions begin.
     Begin(Begun),
     /// A subaction commits to its parent.

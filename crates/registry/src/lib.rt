@@ -11,5 +11,4 @@ mod change;
 mod hearing;
 mod registry;
 
-pub use change::Change;
 pub use registry::Registry;

@@ -10,6 +10,7 @@ use layer_contracts::{Forest, Guardian};
 use run_model::{Answer, Name, Opening, Step};
 use std::alloc::{AllocError, Global};
 use std::marker::Model;
+use std::mem;
 use std::sync::Arc;
 
 /// The actions of a world and the votes on its top actions: what the registry's history says of them, which it does not keep.
@@ -17,6 +18,8 @@ use std::sync::Arc;
 pub struct Registry {
     opening: Arc<Opening, Global>,
     actions: Actions,
+    /// Of the event that was planned last, in place.
+    change: Change,
 }
 
 impl Model for Registry {
@@ -24,14 +27,15 @@ impl Model for Registry {
     ghost use Rattle.std.specs.Coded.{codes};
     ghost use Rattle.run_model.specs.Openings.{opening_in};
     ghost use Rattle.registry.specs.contracts.actions.Actions as of_actions;
+    ghost use Rattle.registry.specs.contracts.change.Change as of_change;
     ghost use Rattle.registry.specs.Following.{AreOfSome};
     ghost use Rattle.registry.specs.Registries.{InRegistry};
 
     ghost Value = { InRegistry };
 
-    ghost coded = { Prim.hlevel (codes, of_actions.the_row.coded) };
+    ghost coded = { Prim.hlevel (codes, of_actions.the_row.coded, of_change.the_row.coded) };
 
-    ghost view = { λ a. record { opening = arc_value a.opening; actions = a.actions } };
+    ghost view = { λ a. record { opening = arc_value a.opening; actions = a.actions; change = a.change } };
 
     ghost invariant = { λ a. AreOfSome (opening_in (arc_value a.opening)) a.actions };
 }
@@ -44,7 +48,11 @@ impl Registry {
         ensures { IfOk result (λ registry. StandsIn registry (record { opening = opening_in (arc_value opening); registry = [] })) }
     {
         let actions = Actions::new(alloc, &opening)?;
-        Ok(Registry { opening, actions })
+        Ok(Registry {
+            opening,
+            actions,
+            change: Change::Other,
+        })
     }
 }
 
@@ -53,11 +61,12 @@ impl Forest for Registry {
 
     ghost stands = { StandsIn };
 
-    type Plan = Change;
+    // The plan stays with the registry.
+    type Plan = ();
 
-    ghost is_for = { IsChangeOf };
+    ghost is_for = { λ _ m f news. IsChangeOf m f news };
 
-    ghost fits = { FitsRegistry };
+    ghost fits = { λ _ m. FitsRegistry m };
 
     fn opening(&self) -> &Opening {
         &self.opening
@@ -141,11 +150,13 @@ impl Forest for Registry {
         answer: &Answer,
         home: u32,
         life: u64,
-    ) -> Result<Change, AllocError> {
-        self.actions.plan(step, answer, home, life)
+    ) -> Result<(), AllocError> {
+        self.change = self.actions.plan(step, answer, home, life)?;
+        Ok(())
     }
 
-    fn install(&mut self, plan: Change, step: &Step, answer: &Answer, stamp: u64) {
-        self.actions.apply(plan, step, stamp);
+    fn install(&mut self, _plan: (), step: &Step, answer: &Answer, stamp: u64) {
+        let change = mem::replace(&mut self.change, Change::Other);
+        self.actions.apply(change, step, stamp);
     }
 }

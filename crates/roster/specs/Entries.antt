@@ -1,5 +1,5 @@
 -- What a plan has for an event, and when there is room for it.
-use Rattle.std.specs.Prelude.{◌≡◌, ◌+◌, ◌<◌, ◌≤◌, ◌^◌, ◌⊎◌, ℕ, List, Vec, false, map, Option, Some, None, MatchOption, IsTrue, slice_get, vec_capacity, vec_len}
+use Rattle.std.specs.Prelude.{◌≡◌, ◌+◌, ◌<◌, ◌≤◌, ◌^◌, ◌⊎◌, ℕ, List, [], Vec, false, map, Option, Some, None, MatchOption, IsTrue, slice_get, vec_capacity, vec_len}
 use Rattle.std.specs.List.{AllByRecursion, list_any}
 use Rattle.std.specs.FinMap as tree
 use Rattle.std.specs.declared.alloc.Global.{Global}
@@ -15,6 +15,7 @@ use Rattle.roster.specs.Steps.{above, closed_in, ended_in, turn_in}
 use Rattle.roster.specs.Tables.{Table, home_at, is_known, life_in, placed, row_at, said}
 use Rattle.roster.specs.declared.entry.Entry.{Entry}
 use Rattle.roster.specs.declared.entry.Row.{Row}
+use Rattle.roster.specs.declared.entry.Turn.TheVariants.{Stays}
 use Rattle.roster.specs.declared.roster.Roster.{Roster}
 
 -- dependencies as messages carry them
@@ -84,6 +85,16 @@ pub record Adds (b : Name) (before now : List Name) : Type 0 where
 pub record AreAbove (t : Table) (names : List Name) (above : List Name) : Type 0 where
   pub within : (a : Name) → IsTrue (has_name above a) → IsTrue (list_any (λ b. is_ancestor a b) names)
   pub climbed : AllByRecursion (IsClimbed t above) names
+
+-- the entry makes nothing of a roster
+pub record IsIdle (entry : Entry) : Type 0 where
+  pub ended : entry.ended ≡ None
+  pub closed : entry.closed ≡ None
+  pub merged : entry.merged ≡ None
+  pub maker : entry.maker ≡ None
+  pub begun : entry.begun.items ≡ []
+  pub above : entry.above.items ≡ []
+  pub turn : entry.turn ≡ Stays
 
 -- the entry is that of an event which brings these dependencies
 pub record IsEntry (t : Table) (e : Event) (came : Came) (entry : Entry) : Type 0 where

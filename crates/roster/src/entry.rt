@@ -43,7 +43,7 @@ pub enum Turn {
     Recovers,
 }
 
-/// What an event makes of a roster, in copies.
+/// What an event makes of a roster, in copies. Its room is used again for the next event.
 #[derive(Drop)]
 pub struct Entry {
     /// The place of the action that it ends.
@@ -60,8 +60,25 @@ pub struct Entry {
     pub(crate) turn: Turn,
 }
 
+impl Entry {
+    /// What makes nothing of a roster. This takes no memory.
+    pub fn new(alloc: Global) -> Entry
+        ensures { IsIdle result }
+    {
+        Entry {
+            ended: None,
+            closed: None,
+            merged: None,
+            maker: None,
+            begun: Vec::new(alloc),
+            above: Vec::new(alloc),
+            turn: Turn::Stays,
+        }
+    }
+}
+
 ghost use Rattle.roster.specs.Steps.{turn_in};
-ghost use Rattle.roster.specs.Entries.{came_in};
+ghost use Rattle.roster.specs.Entries.{IsIdle, came_in};
 
 /// What becomes of the guardian that keeps the step. Of crashes and recoveries it keeps its own.
 pub(crate) fn turn_in(step: &Step) -> Turn

@@ -130,62 +130,50 @@ impl Roster {
         Some(&self.row(action)?.depends)
     }
 
-    /// Copies what an event makes of the roster, with the dependencies that its messages brought, and makes room for it. Whether or not there is
-    /// memory for it, the roster is that of the same history.
+    /// Copies what an event makes of the roster, with the dependencies that its messages brought, in place of what another made of it, and makes room.
+    /// Whether or not there is memory for it, the roster is that of the same history.
     pub fn plan(
         &mut self,
         step: &Step,
         answer: &Answer,
         dependencies: &[(Name, Vec<(u32, u64)>)],
-    ) -> Result<Entry, AllocError>
+        entry: &mut Entry,
+    ) -> Result<(), AllocError>
         ensures same { (g : ℕ) (here : List LocalEvent) → IsRoster g here (table self.old) → IsRoster g here (table self.new) }
         ensures crashes { crashes_of self.new ≡ crashes_of self.old }
-        ensures fits { IfOk result (FitsEntry self.new) }
-        ensures planned { IfOk result (IsEntry (table self.new) (record { step = step.now; answer = answer.now }) (came_in dependencies.now)) }
+        ensures fits { OnOk result (FitsEntry self.new entry.new) }
+        ensures planned { OnOk result (IsEntry (table self.new) (record { step = step.now; answer = answer.now }) (came_in dependencies.now) entry.new) }
     {
         let Places {
             ended,
             closed,
             maker,
         } = self.places_in(step);
-        let merged = self.plan_merge(step, dependencies)?;
-        let begun = self.plan_begun(step, answer, dependencies, maker)?;
-        self.plan_count(maker, begun.len())?;
-        let above = self.plan_above(names_in(answer))?;
-        Ok(Entry {
-            ended,
-            closed,
-            merged,
-            maker,
-            begun,
-            above,
-            turn: turn_in(step),
-        })
+        entry.ended = ended;
+        entry.closed = closed;
+        entry.maker = maker;
+        entry.turn = turn_in(step);
+        entry.merged = self.plan_merge(step, dependencies)?;
+        self.plan_begun(step, answer, dependencies, maker, &mut entry.begun)?;
+        self.plan_count(maker, entry.begun.len())?;
+        self.plan_above(names_in(answer), &mut entry.above)?;
+        Ok(())
     }
 
     /// Enters an event for which there is room. This cannot fail.
-    pub fn enter(&mut self, entry: Entry)
-        requires fits { FitsEntry self.old entry }
+    pub fn enter(&mut self, entry: &mut Entry)
+        requires fits { FitsEntry self.old entry.old }
         requires count { crashes_of self.old + 1 < 2 ^ 64 }
         ensures { (g : ℕ) (here : List LocalEvent) (c : LocalEvent) → IsRoster g here (table self.old) → AgreesOnActions g c here
-            → IsEntry (table self.old) c.event c.carried.dependencies entry → IsRoster g (c ∷ here) (table self.new) }
+            → IsEntry (table self.old) c.event c.carried.dependencies entry.old → IsRoster g (c ∷ here) (table self.new) }
     {
-        let Entry {
-            ended,
-            closed,
-            merged,
-            maker,
-            begun,
-            above,
-            turn,
-        } = entry;
-        self.put_above(above);
-        self.count_more(maker, begun.len());
-        self.add_all(begun);
-        self.end(ended);
-        self.close(closed);
-        self.merge(merged);
-        self.turn(turn);
+        self.put_above(&mut entry.above);
+        self.count_more(entry.maker, entry.begun.len());
+        self.add_all(&mut entry.begun);
+        self.end(entry.ended);
+        self.close(entry.closed);
+        self.merge(entry.merged.take());
+        self.turn(entry.turn);
     }
 }
 
@@ -344,36 +332,37 @@ impl Roster {
         answer: &Answer,
         dependencies: &[(Name, Vec<(u32, u64)>)],
         maker: Option<usize>,
-    ) -> Result<Vec<(Name, Row)>, AllocError>
+        begun: &mut Vec<(Name, Row)>,
+    ) -> Result<(), AllocError>
         requires { maker ≡ placed (table self.old) (maker_in step.now) }
         ensures same { table self.new ≡ table self.old }
-        ensures fits { IfOk result (λ begun. FitsBegun self.new begun.items (vec_len begun)) }
-        ensures born { IfOk result (λ begun. AreBorn (table self.old) (record { step = step.now; answer = answer.now }) (came_in dependencies.now) begun.items) }
+        ensures fits { OnOk result (FitsBegun self.new begun.new.items (vec_len begun.new)) }
+        ensures born { OnOk result (AreBorn (table self.old) (record { step = step.now; answer = answer.now }) (came_in dependencies.now) begun.new.items) }
     {
         let names = names_in(answer);
+        begun.clear();
         self.rows.reserve(names.len())?;
-        let mut begun = Vec::with_capacity(self.alloc, names.len())?;
         for name in names {
             self.places.make_room(name)?;
             let row = self.born(step, name, dependencies, maker)?;
             begun.push((name.copy()?, row))?;
         }
-        Ok(begun)
+        Ok(())
     }
 
     // The ancestors of these names of which nothing is known yet, and room for them.
-    fn plan_above(&mut self, names: &[Name]) -> Result<Vec<Name>, AllocError>
+    fn plan_above(&mut self, names: &[Name], above: &mut Vec<Name>) -> Result<(), AllocError>
         ensures same { table self.new ≡ table self.old }
         ensures rows { self.new.rows ≡ self.old.rows }
         ensures places { self.new.places ≡ self.old.places }
-        ensures fits { IfOk result (λ above. HaveRoom self.new.above.room above.items) }
-        ensures above { IfOk result (λ above. AreAbove (table self.old) names.now above.items) }
+        ensures fits { OnOk result (HaveRoom self.new.above.room above.new.items) }
+        ensures above { OnOk result (AreAbove (table self.old) names.now above.new.items) }
     {
-        let mut above = Vec::new(self.alloc);
+        above.clear();
         for name in names {
-            self.climb(name, &mut above)?;
+            self.climb(name, above)?;
         }
-        Ok(above)
+        Ok(())
     }
 
     // Adds the ancestors of the action up to the first of which something is known, whose ancestors are known too.
@@ -459,9 +448,9 @@ impl Roster {
     }
 
     // Puts in the rows of what begins, for which there is room.
-    fn add_all(&mut self, mut begun: Vec<(Name, Row)>)
-        requires { FitsBegun self.old begun.items (vec_len begun) }
-        ensures { table self.new ≡ all_added begun.items (table self.old) }
+    fn add_all(&mut self, begun: &mut Vec<(Name, Row)>)
+        requires { FitsBegun self.old begun.old.items (vec_len begun.old) }
+        ensures { table self.new ≡ all_added begun.old.items (table self.old) }
     {
         while let Some((name, row)) = begun.pop() {
             self.add(&name, row);
@@ -469,12 +458,12 @@ impl Roster {
     }
 
     // Puts in those above what begins, for whom there is room.
-    fn put_above(&mut self, mut above: Vec<Name>)
-        requires { HaveRoom self.old.above.room above.items }
+    fn put_above(&mut self, above: &mut Vec<Name>)
+        requires { HaveRoom self.old.above.room above.old.items }
         ensures same { table self.new ≡ record (table self.old) { above = self.new.above.held } }
         ensures rows { self.new.rows ≡ self.old.rows }
         ensures places { self.new.places ≡ self.old.places }
-        ensures above { (a : Name) → is_some (value_at self.new.above.held a) ≡ (has_name above.items a || is_some (value_at self.old.above.held a)) }
+        ensures above { (a : Name) → is_some (value_at self.new.above.held a) ≡ (has_name above.old.items a || is_some (value_at self.old.above.held a)) }
     {
         while let Some(name) = above.pop() {
             self.above.put(&name, ());

@@ -41,12 +41,22 @@ impl<S: Stable> Model for World<S> {
     ghost use Rattle.tellings.specs.contracts.tellings.Tellings as of_tellings;
     ghost use Rattle.orphans.specs.contracts.lists.Lists as of_lists;
     ghost use Rattle.roster.specs.contracts.roster.Roster as of_roster;
+    ghost use Rattle.guardian_memory.specs.contracts.plan.Plan as of_plan;
     ghost use Rattle.registry.specs.contracts.actions.Actions as of_actions;
+    ghost use Rattle.registry.specs.contracts.change.Change as of_change;
     ghost use Rattle.stable_world.specs.Worlds.{InWorld, IsStanding};
 
     ghost Value = { InWorld S };
 
-    ghost coded = { Prim.hlevel (codes, of_tellings.the_row.coded, of_lists.the_row.coded, of_roster.the_row.coded, of_actions.the_row.coded) };
+    ghost coded = { Prim.hlevel (
+      codes,
+      of_tellings.the_row.coded,
+      of_lists.the_row.coded,
+      of_roster.the_row.coded,
+      of_plan.the_row.coded,
+      of_actions.the_row.coded,
+      of_change.the_row.coded,
+    ) };
 
     ghost view = { λ a. record {
       run = record { lists = arc_value a.opening; past = a.history };

@@ -1,5 +1,5 @@
 -- When tellings are those of a guardian's history, and what outcomes make of them.
-use Rattle.std.specs.Prelude.{◌≡◌, ◌≤◌, ℕ, Bool, true, false, ◌||◌, ◌==◌, List, Option, Some, None, IsTrue, is_some}
+use Rattle.std.specs.Prelude.{◌≡◌, ◌≤◌, ℕ, Bool, true, false, ◌||◌, ◌==◌, List, [], Option, Some, None, IsTrue, is_some}
 use Rattle.std.specs.List.{AllByRecursion}
 use Rattle.action_names.specs.Names.{Name, has_name}
 use Rattle.holders.specs.Held.{value_at}
@@ -30,6 +30,10 @@ pub record AreTold (g : ℕ) (here : List LocalEvent) (told : Tellings) : Type 0
   pub since : (b : Name) → is_in told.crashes (value_at told.told.held b) ≡ told_here g b here
   pub committed : (b : Name) → is_told_committed (value_at told.told.held b) ≡ told_committed_here b here
   pub lives : AreBefore told.crashes told.told.held
+
+-- nothing is to be heard
+abbrev pub AreNone : Heard → Type 0
+AreNone heard = heard.told.items ≡ []
 
 -- there is room for each of them
 abbrev pub FitsHeard : Tellings → Heard → Type 0

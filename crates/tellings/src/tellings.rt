@@ -26,11 +26,24 @@ pub struct Tellings {
     told: Index<Told>,
 }
 
-/// Outcomes that are to be told, in copies; the first of an action's counts.
+/// Outcomes that are to be told, in copies; the first of an action's counts. Its room is used again for the next ones.
 #[derive(Drop)]
 pub struct Heard {
     /// What will have been told of each, in the order of the outcomes.
     told: Vec<(Name, Told)>,
+}
+
+impl Heard {
+    ghost use Rattle.tellings.specs.Hearing.{AreNone};
+
+    /// No outcomes. This takes no memory.
+    pub fn new(alloc: Global) -> Heard
+        ensures { AreNone result }
+    {
+        Heard {
+            told: Vec::new(alloc),
+        }
+    }
 }
 
 impl Tellings {
@@ -101,37 +114,37 @@ impl Tellings {
         Ok(None)
     }
 
-    /// Copies outcomes, each with whether the action committed, and makes room for them. Whether or not there is memory for it, the tellings are
-    /// those of the same history.
-    pub fn plan(&mut self, outcomes: &[(Name, bool)]) -> Result<Heard, AllocError>
+    /// Copies outcomes, each with whether the action committed, in place of what was to be heard, and makes room for them. Whether or not there is
+    /// memory for it, the tellings are those of the same history.
+    pub fn plan(&mut self, outcomes: &[(Name, bool)], heard: &mut Heard) -> Result<(), AllocError>
         ensures same { (g : ℕ) (here : List LocalEvent) → AreTold g here self.old → AreTold g here self.new }
         ensures crashes { crashes_of self.new ≡ crashes_of self.old }
-        ensures fits { IfOk result (FitsHeard self.new) }
-        ensures heard { IfOk result (IsHeard self.new outcomes.now) }
+        ensures fits { OnOk result (FitsHeard self.new heard.new) }
+        ensures heard { OnOk result (IsHeard self.new outcomes.now heard.new) }
     {
-        let mut told = Vec::with_capacity(self.alloc, outcomes.len())?;
+        heard.told.clear();
         for (action, committed) in outcomes {
-            told.push(self.plan_one(action, *committed)?)?;
+            heard.told.push(self.plan_one(action, *committed)?)?;
         }
-        Ok(Heard { told })
+        Ok(())
     }
 
     /// Hears the outcomes that an event brings, for which there is room. This cannot fail.
-    pub fn hear(&mut self, heard: Heard)
-        requires { FitsHeard self.old heard }
+    pub fn hear(&mut self, heard: &mut Heard)
+        requires { FitsHeard self.old heard.old }
         ensures crashes { crashes_of self.new ≡ crashes_of self.old }
-        ensures told { (g : ℕ) (here : List LocalEvent) (c : LocalEvent) → AreTold g here self.old → IsHeard self.old c.carried.outcomes heard
+        ensures told { (g : ℕ) (here : List LocalEvent) (c : LocalEvent) → AreTold g here self.old → IsHeard self.old c.carried.outcomes heard.old
             → step_crashes c.event.step g ≡ false → AreTold g (c ∷ here) self.new }
     {
         self.put_all(heard);
     }
 
     /// Hears the outcomes that came with a crash, and forgets what was told before it but for commits. This cannot fail.
-    pub fn crash(&mut self, heard: Heard)
-        requires fits { FitsHeard self.old heard }
+    pub fn crash(&mut self, heard: &mut Heard)
+        requires fits { FitsHeard self.old heard.old }
         requires count { crashes_of self.old + 1 < 2 ^ 64 }
         ensures crashes { crashes_of self.new ≡ crashes_of self.old + 1 }
-        ensures told { (g : ℕ) (here : List LocalEvent) (c : LocalEvent) → AreTold g here self.old → IsHeard self.old c.carried.outcomes heard
+        ensures told { (g : ℕ) (here : List LocalEvent) (c : LocalEvent) → AreTold g here self.old → IsHeard self.old c.carried.outcomes heard.old
             → step_crashes c.event.step g ≡ true → AreTold g (c ∷ here) self.new }
     {
         self.put_all(heard);
@@ -173,11 +186,11 @@ impl Tellings {
     }
 
     // Puts in what is heard, the last of it first, so that the first that is said of an action stays.
-    fn put_all(&mut self, mut heard: Heard)
-        requires { FitsHeard self.old heard }
+    fn put_all(&mut self, heard: &mut Heard)
+        requires { FitsHeard self.old heard.old }
         ensures crashes { crashes_of self.new ≡ crashes_of self.old }
-        ensures values { (b : Name) → value_at self.new.told.held b ≡ or_else (value_at heard.told.items b) (value_at self.old.told.held b) }
-        ensures lives { (life : ℕ) → AreBefore life self.old.told.held → AreBefore life heard.told.items → AreBefore life self.new.told.held }
+        ensures values { (b : Name) → value_at self.new.told.held b ≡ or_else (value_at heard.old.told.items b) (value_at self.old.told.held b) }
+        ensures lives { (life : ℕ) → AreBefore life self.old.told.held → AreBefore life heard.old.told.items → AreBefore life self.new.told.held }
     {
         while let Some((action, told)) = heard.told.pop() {
             self.told.put(&action, told);

@@ -3,7 +3,7 @@ ghost use Rattle.std.specs.Prelude.{◌≡◌, ◌++◌, IfOk, OnOk};
 ghost use Rattle.run_model.specs.Actions.{names_begun};
 
 use crate::of_roster::agreeing::agrees;
-use roster::Roster;
+use roster::{Entry, Roster};
 use run_model::{Answer, Event, Name, Names};
 use std::alloc::{AllocError, Global};
 use std::marker::Model;
@@ -14,6 +14,7 @@ pub(crate) struct Listing {
     alloc: Global,
     guardian: u32,
     roster: Roster,
+    entry: Entry,
     begun: Names,
 }
 
@@ -37,6 +38,7 @@ impl Listing {
             alloc,
             guardian,
             roster: Roster::new(alloc, guardian),
+            entry: Entry::new(alloc),
             begun: Names::new(alloc),
         }
     }
@@ -58,8 +60,9 @@ impl Listing {
             return Ok(false);
         }
         let begun = in_front(self.alloc, names_in(&event.answer), &self.begun)?;
-        let entry = self.roster.plan(&event.step, &event.answer, dependencies)?;
-        self.roster.enter(entry);
+        self.roster
+            .plan(&event.step, &event.answer, dependencies, &mut self.entry)?;
+        self.roster.enter(&mut self.entry);
         self.begun = begun;
         Ok(true)
     }

@@ -7,18 +7,20 @@ use crate::of_guardian_objects::telling::{are_brought, are_sound};
 use crate::surviving::Prepared;
 use action_names::Name;
 use atomic_types::Op;
-use guardian_objects::Objects;
+use guardian_objects::{Objects, Planned};
 use run_model::{Answer, ObjectId, Opening, Setup};
 use std::alloc::{AllocError, Global};
 use std::marker::Model;
-use tellings::Tellings;
+use tellings::{Heard, Tellings};
 
 /// The objects of a guardian, what it was told, and what stood before all that. Once it has crashed, no more is known of its history.
 #[derive(Drop)]
 pub(crate) struct Guarding {
     opening: Opening,
     objects: Objects,
+    planned: Planned,
     told: Tellings,
+    heard: Heard,
     crashed: bool,
 }
 
@@ -44,7 +46,9 @@ impl Guarding {
         Ok(Guarding {
             opening,
             objects,
+            planned: Planned::new(alloc),
             told: Tellings::new(alloc),
+            heard: Heard::new(alloc),
             crashed: false,
         })
     }
@@ -107,10 +111,10 @@ impl Guarding {
         if self.crashed || !are_brought(above, outcomes) || !are_sound(&self.told, outcomes) {
             return Ok(false);
         }
-        let planned = self.objects.plan(outcomes, &self.told)?;
-        let heard = self.told.plan(outcomes)?;
-        self.objects.tell(planned);
-        self.told.hear(heard);
+        self.objects.plan(outcomes, &self.told, &mut self.planned)?;
+        self.told.plan(outcomes, &mut self.heard)?;
+        self.objects.tell(&mut self.planned);
+        self.told.hear(&mut self.heard);
         Ok(true)
     }
 

@@ -6,11 +6,11 @@ use Rattle.guardian.proofs.Whole.{fits_within, inside, plan_within, planned_with
 use Rattle.guardian.proofs.carrying.GuardianGuardian.install.Goals as goal
 
 pub keep-requires-clause-fits : goal.keep-requires-clause-fits
-keep-requires-clause-fits g c = fits_within c.self.view_is c.args.plan c.requires.fits
+keep-requires-clause-fits g c = fits_within c.self.view_is c.requires.fits
 
 pub keep-requires-clause-planned : goal.keep-requires-clause-planned
 keep-requires-clause-planned g c =
-    let planned = planned_within g.S.Stable.seen c.args.plan (event_of c.args.step.now c.args.answer.now) c.self.view_is c.requires.planned in
+    let planned = planned_within g.S.Stable.seen (event_of c.args.step.now c.args.answer.now) c.self.view_is c.requires.planned in
     (planned.0, planned.1, planned.2.memory, planned.3, planned.4, λ crash. planned.2.store.stored)
 
 pub invariant_of-self : goal.invariant_of-self
@@ -18,7 +18,7 @@ invariant_of-self g c =
     let m = c.self.inside.memory in
     let s = c.self.inside.store in
     let seen = g.S.Stable.seen in
-    let planned = planned_within seen c.args.plan (event_of c.args.step.now c.args.answer.now) c.self.view_is c.requires.planned in
+    let planned = planned_within seen (event_of c.args.step.now c.args.answer.now) c.self.view_is c.requires.planned in
     let here = inside seen c.self.view_is c.requires.quiet.1 in (
       _,
       whole_next seen m s c.args.stamp planned.0 planned.1 c.keep.new.memory s planned.2 planned.3.next
@@ -34,7 +34,7 @@ returns-clause-kept g c = λ h news at of same.
     let seen = g.S.Stable.seen in
     let whole = inside seen c.self.view_is at in
     let here = inside seen c.self.view_is c.requires.quiet.1 in
-    let planned = plan_within c.self.view_is c.args.plan h news of in
+    let planned = plan_within c.self.view_is h news of in
     whole_next seen m s c.args.stamp h news c.keep.new.memory s whole planned.next
     (c.keep.ensures h news whole.memory planned same (λ crash. whole.store.stored))
     (alone h news (seen s) None

@@ -1,4 +1,4 @@
-use Rattle.std.proofs.Common.{ap, sym, ◌∙◌}
+use Rattle.std.proofs.Common.{sym, ◌∙◌}
 use Rattle.std.proofs.lemmas.Result.{IfOk-weaker}
 use Rattle.guardian_memory.proofs.Readings.{answer_is, may_answer}
 use Rattle.guardian_memory.proofs.Sound.{inside}

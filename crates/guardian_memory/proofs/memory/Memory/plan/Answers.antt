@@ -17,26 +17,26 @@ plan-requires-clause-rising c = subst (λ l. OutcomesRise l) (sym c.as_slice-out
 pub invariant_of-self : goal.invariant_of-self
 invariant_of-self c = (_, sound_same (λ h here k. k) refl (λ here k. k) refl (λ h here k. k) c.plan.ensures.same c.plan.ensures.guardian c.self.invariant.1)
 
-pub returns-in_err-planned-clause-same : goal.returns-in_err-planned-clause-same
-returns-in_err-planned-clause-same c = λ s at. sound_same (λ h here k. k) refl (λ here k. k) refl (λ h here k. k) c.plan.ensures.same c.plan.ensures.guardian (inside c.self.view_is at)
+pub returns-in_err-plan-clause-same : goal.returns-in_err-plan-clause-same
+returns-in_err-plan-clause-same c = λ s at. sound_same (λ h here k. k) refl (λ here k. k) refl (λ h here k. k) c.plan.ensures.same c.plan.ensures.guardian (inside c.self.view_is at)
 
-pub invariant_of-self-in_err-heard : goal.invariant_of-self-in_err-heard
-invariant_of-self-in_err-heard c = (_, sound_same c.plan-2.ensures.same c.plan-2.ensures.crashes (λ here k. k) refl (λ h here k. k) c.plan.ensures.same c.plan.ensures.guardian c.self.invariant.1)
+pub invariant_of-self-in_err-plan-2 : goal.invariant_of-self-in_err-plan-2
+invariant_of-self-in_err-plan-2 c = (_, sound_same c.plan-2.ensures.same c.plan-2.ensures.crashes (λ here k. k) refl (λ h here k. k) c.plan.ensures.same c.plan.ensures.guardian c.self.invariant.1)
 
-pub returns-in_err-heard-clause-same : goal.returns-in_err-heard-clause-same
-returns-in_err-heard-clause-same c = λ s at. sound_same c.plan-2.ensures.same c.plan-2.ensures.crashes (λ here k. k) refl (λ h here k. k) c.plan.ensures.same c.plan.ensures.guardian (inside c.self.view_is at)
+pub returns-in_err-plan-2-clause-same : goal.returns-in_err-plan-2-clause-same
+returns-in_err-plan-2-clause-same c = λ s at. sound_same c.plan-2.ensures.same c.plan-2.ensures.crashes (λ here k. k) refl (λ h here k. k) c.plan.ensures.same c.plan.ensures.guardian (inside c.self.view_is at)
 
-pub invariant_of-self-in_err-lesson : goal.invariant_of-self-in_err-lesson
-invariant_of-self-in_err-lesson c = (_, sound_same c.plan-2.ensures.same c.plan-2.ensures.crashes c.plan_lesson.ensures.same c.plan_lesson.ensures.own (λ h here k. k) c.plan.ensures.same c.plan.ensures.guardian c.self.invariant.1)
+pub invariant_of-self-in_err-plan_lesson : goal.invariant_of-self-in_err-plan_lesson
+invariant_of-self-in_err-plan_lesson c = (_, sound_same c.plan-2.ensures.same c.plan-2.ensures.crashes c.plan_lesson.ensures.same c.plan_lesson.ensures.own (λ h here k. k) c.plan.ensures.same c.plan.ensures.guardian c.self.invariant.1)
 
-pub returns-in_err-lesson-clause-same : goal.returns-in_err-lesson-clause-same
-returns-in_err-lesson-clause-same c = λ s at. sound_same c.plan-2.ensures.same c.plan-2.ensures.crashes c.plan_lesson.ensures.same c.plan_lesson.ensures.own (λ h here k. k) c.plan.ensures.same c.plan.ensures.guardian (inside c.self.view_is at)
+pub returns-in_err-plan_lesson-clause-same : goal.returns-in_err-plan_lesson-clause-same
+returns-in_err-plan_lesson-clause-same c = λ s at. sound_same c.plan-2.ensures.same c.plan-2.ensures.crashes c.plan_lesson.ensures.same c.plan_lesson.ensures.own (λ h here k. k) c.plan.ensures.same c.plan.ensures.guardian (inside c.self.view_is at)
 
-pub invariant_of-self-in_err-entry : goal.invariant_of-self-in_err-entry
-invariant_of-self-in_err-entry c = (_, sound_same c.plan-2.ensures.same c.plan-2.ensures.crashes c.plan_lesson.ensures.same c.plan_lesson.ensures.own c.plan-3.ensures.same c.plan.ensures.same c.plan.ensures.guardian c.self.invariant.1)
+pub invariant_of-self-in_err-plan-3 : goal.invariant_of-self-in_err-plan-3
+invariant_of-self-in_err-plan-3 c = (_, sound_same c.plan-2.ensures.same c.plan-2.ensures.crashes c.plan_lesson.ensures.same c.plan_lesson.ensures.own c.plan-3.ensures.same c.plan.ensures.same c.plan.ensures.guardian c.self.invariant.1)
 
-pub returns-in_err-entry-clause-same : goal.returns-in_err-entry-clause-same
-returns-in_err-entry-clause-same c = λ s at. sound_same c.plan-2.ensures.same c.plan-2.ensures.crashes c.plan_lesson.ensures.same c.plan_lesson.ensures.own c.plan-3.ensures.same c.plan.ensures.same c.plan.ensures.guardian (inside c.self.view_is at)
+pub returns-in_err-plan-3-clause-same : goal.returns-in_err-plan-3-clause-same
+returns-in_err-plan-3-clause-same c = λ s at. sound_same c.plan-2.ensures.same c.plan-2.ensures.crashes c.plan_lesson.ensures.same c.plan_lesson.ensures.own c.plan-3.ensures.same c.plan.ensures.same c.plan.ensures.guardian (inside c.self.view_is at)
 
 pub invariant_of-self-2 : goal.invariant_of-self-2
 invariant_of-self-2 c = (_, sound_same c.plan-2.ensures.same c.plan-2.ensures.crashes c.plan_lesson.ensures.same c.plan_lesson.ensures.own c.plan-3.ensures.same c.plan.ensures.same c.plan.ensures.guardian c.self.invariant.1)
@@ -51,15 +51,15 @@ returns-clause-planned c = λ s at owed agrees.
       next = record { accepted = c.requires.accepted; owed = owed; agrees = agrees };
       sender = refl;
       brought = refl;
-      heard = subst (λ l. IsHeard c.plan-2.new.self l c.in_ok-heard.heard) c.as_slice-outcomes.ensures.value c.in_ok-heard.ensures.heard;
+      heard = subst (λ l. IsHeard c.plan-2.new.self l c.plan-2.new.heard) c.as_slice-outcomes.ensures.value c.in_ok-plan-2.ensures.heard;
       lesson =
-          subst (λ l. IsLesson c.args.message.sender c.args.message.life c.args.message.aborts l c.args.message.outcomes.items c.in_ok-lesson.lesson)
+          subst (λ l. IsLesson c.args.message.sender c.args.message.life c.args.message.aborts l c.args.message.outcomes.items c.plan_lesson.new.lesson)
           c.as_slice-counts.ensures.value
-          (subst (λ l. IsLesson c.args.message.sender c.args.message.life c.args.message.aborts c.as_slice-counts.result.now l c.in_ok-lesson.lesson)
-          c.as_slice-outcomes.ensures.value c.in_ok-lesson.ensures.news);
+          (subst (λ l. IsLesson c.args.message.sender c.args.message.life c.args.message.aborts c.as_slice-counts.result.now l c.plan_lesson.new.lesson)
+          c.as_slice-outcomes.ensures.value c.in_ok-plan_lesson.ensures.news);
       entry =
-          entry_of (table c.plan-3.new.self) (event_of c.args.step.now c.args.answer.now) c.args.message.dependencies.items c.as_slice-dependencies.result.now c.in_ok-entry.entry
-          c.as_slice-dependencies.ensures.value c.in_ok-entry.ensures.planned;
-      outcomes = c.in_ok-planned.ensures.outcomes ∙ c.as_slice-outcomes.ensures.value;
-      planned = c.in_ok-planned.ensures.planned s.number s.past here.tellings;
+          entry_of (table c.plan-3.new.self) (event_of c.args.step.now c.args.answer.now) c.args.message.dependencies.items c.as_slice-dependencies.result.now c.plan-3.new.entry
+          c.as_slice-dependencies.ensures.value c.in_ok-plan-3.ensures.planned;
+      outcomes = c.in_ok-plan.ensures.outcomes ∙ c.as_slice-outcomes.ensures.value;
+      planned = c.in_ok-plan.ensures.planned s.number s.past here.tellings;
     }

@@ -1,10 +1,9 @@
-use Rattle.std.proofs.Common.{List, [], ap, append-nil, drop, length, refl, subst, sym, ◌++◌, ◌∙◌, ◌∷◌, ◌≡◌}
+use Rattle.std.proofs.Common.{[], ap, append-nil, drop, length, subst, sym, ◌++◌, ◌∙◌, ◌∷◌, ◌≡◌}
 use Rattle.std.proofs.Math.Seq.{drop-length}
 use Rattle.std.specs.Arc.{arc_value}
 use Rattle.run_model.specs.Openings.{opening_in}
 use Rattle.guardian_objects.specs.Restored.{AreGivenBack, AreRestorable, with_record}
-use Rattle.guardian_memory.specs.Reopening.{record_of, records_of}
-use Rattle.guardian_memory.specs.declared.reopening.TopRecord.{TopRecord}
+use Rattle.guardian_memory.specs.Reopening.{records_of}
 use Rattle.guardian_memory.proofs.Reopened.{all_are, behind_next, fewer_restorable, none_left, reopened_sound, still_all}
 use Rattle.guardian_memory.proofs.memory.Memory.reopened.Goals.{After-deref-in-Some}
 use Rattle.guardian_memory.proofs.memory.Memory.reopened.Goals as goal

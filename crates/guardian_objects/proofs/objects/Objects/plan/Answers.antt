@@ -12,9 +12,9 @@ use Rattle.guardian_objects.proofs.objects.Objects.plan.Goals as goal
 pub loop-action-init : goal.loop-action-init
 loop-action-init c = record {
   roomier = roomier_same c.args.self.now;
-  room = none_planned (HasRoomFor c.args.self.now) c.in_ok-tellings.tellings.items c.in_ok-tellings.ensures.items;
-  outcomes = ap (λ l. outcomes_of l) c.in_ok-tellings.ensures.items;
-  planned = λ g here told. none_planned _ c.in_ok-tellings.tellings.items c.in_ok-tellings.ensures.items;
+  room = none_planned (HasRoomFor c.args.self.now) c.clear.new.self.items c.clear.ensures.items;
+  outcomes = ap (λ l. outcomes_of l) c.clear.ensures.items;
+  planned = λ g here told. none_planned _ c.clear.new.self.items c.clear.ensures.items;
 }
 
 pub plan_one-requires : goal.plan_one-requires
@@ -31,18 +31,15 @@ loop-action-preserved c =
     record {
       roomier = roomier_more c.args.self.now c.loop-action.self c.plan_one.new.self c.loop-action.invariant.roomier c.plan_one.ensures.roomier;
       room = subst (λ l. AllByRecursion (HasRoomFor c.plan_one.new.self) l) (sym c.in_ok-push.ensures.items)
-          (each_last (HasRoomFor c.plan_one.new.self) c.loop-action.tellings.items t
-          (each_weaker (HasRoomFor c.loop-action.self) (HasRoomFor c.plan_one.new.self) c.loop-action.tellings.items
+          (each_last (HasRoomFor c.plan_one.new.self) c.loop-action.planned.tellings.items t
+          (each_weaker (HasRoomFor c.loop-action.self) (HasRoomFor c.plan_one.new.self) c.loop-action.planned.tellings.items
           (λ u had. roomier_fits c.loop-action.self c.plan_one.new.self c.plan_one.ensures.roomier u had) c.loop-action.invariant.room) c.in_ok-plan_one.ensures.room);
-      outcomes = one_planned c.loop-action.tellings.items c.push.new.self.items t (take i outcomes) (take (i + 1) outcomes) x c.in_ok-push.ensures.items more
+      outcomes = one_planned c.loop-action.planned.tellings.items c.push.new.self.items t (take i outcomes) (take (i + 1) outcomes) x c.in_ok-push.ensures.items more
           c.in_ok-plan_one.ensures.action c.in_ok-plan_one.ensures.committed c.loop-action.invariant.outcomes;
       planned = λ g here told.
-          next_planned here c.loop-action.tellings.items c.push.new.self.items t x c.in_ok-push.ensures.items c.in_ok-plan_one.ensures.action c.in_ok-plan_one.ensures.committed
+          next_planned here c.loop-action.planned.tellings.items c.push.new.self.items t x c.in_ok-push.ensures.items c.in_ok-plan_one.ensures.action c.in_ok-plan_one.ensures.committed
           (λ committed. c.in_ok-plan_one.ensures.next g here told committed) (c.loop-action.invariant.planned g here told);
     }
-
-pub returns-in_err-tellings-clause-same : goal.returns-in_err-tellings-clause-same
-returns-in_err-tellings-clause-same c = λ opening here are. are
 
 pub returns-in_err-plan_one-clause-same : goal.returns-in_err-plan_one-clause-same
 returns-in_err-plan_one-clause-same c =
@@ -61,7 +58,7 @@ returns-clause-fits c =
     let all : take c.loop-action.action-index outcomes ≡ outcomes = take_all c.loop-action.action-index outcomes (omega (arith, c.loop-action-test.false)) in
     record {
       rising = subst (λ l. IsStrictlySortedBy name_cmp l)
-          (ap (λ l. map (λ x. x.0) l) (sym (c.loop-action.invariant.outcomes ∙ all)) ∙ same_names c.loop-action.tellings.items) c.requires.rising;
+          (ap (λ l. map (λ x. x.0) l) (sym (c.loop-action.invariant.outcomes ∙ all)) ∙ same_names c.loop-action.planned.tellings.items) c.requires.rising;
       room = c.loop-action.invariant.room;
     }
 

@@ -10,7 +10,7 @@ use Rattle.guardian_objects.proofs.objects.Objects.plan.Given as goal
 abbrev pub invariant-loop-action : goal.invariant-loop-action
 invariant-loop-action l = record {
   roomier : IsRoomier l.fn.self l.self;
-  room : AllByRecursion (HasRoomFor l.self) l.tellings.items;
-  outcomes : outcomes_of l.tellings.items ≡ take l.action-index l.outcomes;
-  planned : (g : ℕ) (here : List LocalEvent) → AreTold g here l.told → ArePlanned here l.tellings.items;
+  room : AllByRecursion (HasRoomFor l.self) l.planned.tellings.items;
+  outcomes : outcomes_of l.planned.tellings.items ≡ take l.action-index l.outcomes;
+  planned : (g : ℕ) (here : List LocalEvent) → AreTold g here l.told → ArePlanned here l.planned.tellings.items;
 }

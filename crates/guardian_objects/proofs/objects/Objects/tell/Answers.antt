@@ -10,8 +10,8 @@ pub loop-telling-init : goal.loop-telling-init
 loop-telling-init c = record {
   guardian = refl;
   count = refl;
-  ready = fit_ready c.args.self.now c.args.planned.tellings.items c.requires.fits.room;
-  stands = told_nothing c.args.planned.tellings.items c.args.self.now;
+  ready = fit_ready c.args.self.now c.args.planned.now.tellings.items c.requires.fits.room;
+  stands = told_nothing c.args.planned.now.tellings.items c.args.self.now;
 }
 
 pub tell_one-requires-clause-ready : goal.tell_one-requires-clause-ready
@@ -21,21 +21,21 @@ tell_one-requires-clause-ready c =
 
 pub tell_one-requires-clause-heard : goal.tell_one-requires-clause-heard
 tell_one-requires-clause-heard c =
-    last_heard c.args.planned.tellings.items c.pop.new.self.items c.loop-telling.tellings.items c.in-Some.telling c.args.self.now c.loop-telling.self c.in-Some.ensures.items
+    last_heard c.args.planned.now.tellings.items c.pop.new.self.items c.loop-telling.planned.tellings.items c.in-Some.telling c.args.self.now c.loop-telling.self c.in-Some.ensures.items
     c.requires.fits.rising c.loop-telling.invariant.stands c.requires.heard
 
 pub loop-telling-preserved : goal.loop-telling-preserved
 loop-telling-preserved c = record {
   guardian = c.tell_one.ensures.guardian ∙ c.loop-telling.invariant.guardian;
   count = c.tell_one.ensures.count ∙ c.loop-telling.invariant.count;
-  ready = rest_ready c.args.planned.tellings.items c.pop.new.self.items c.loop-telling.tellings.items c.in-Some.telling c.args.self.now c.loop-telling.self c.in-Some.ensures.items
+  ready = rest_ready c.args.planned.now.tellings.items c.pop.new.self.items c.loop-telling.planned.tellings.items c.in-Some.telling c.args.self.now c.loop-telling.self c.in-Some.ensures.items
       c.requires.fits.rising c.loop-telling.invariant.stands c.tell_one.new.self c.requires.heard c.loop-telling.invariant.ready c.tell_one.ensures.ready;
-  stands = told_one_more c.args.planned.tellings.items c.pop.new.self.items c.loop-telling.tellings.items c.in-Some.telling c.args.self.now c.loop-telling.self c.in-Some.ensures.items
+  stands = told_one_more c.args.planned.now.tellings.items c.pop.new.self.items c.loop-telling.planned.tellings.items c.in-Some.telling c.args.self.now c.loop-telling.self c.in-Some.ensures.items
       c.requires.fits.rising c.loop-telling.invariant.stands c.tell_one.new.self c.tell_one.ensures.told;
 }
 
 pub returns-clause-told : goal.returns-clause-told
 returns-clause-told c =
-    let none : c.loop-telling.tellings.items ≡ [] =
-    nil_from_length c.loop-telling.tellings.items (omega (arith, c.loop-telling.tellings.ok.0, c.in_default.ensures.cases)) in
-    told_all c.args.planned.tellings.items c.loop-telling.tellings.items c.args.self.now c.loop-telling.self none c.loop-telling.invariant.stands
+    let none : c.loop-telling.planned.tellings.items ≡ [] =
+    nil_from_length c.loop-telling.planned.tellings.items (omega (arith, c.loop-telling.planned.tellings.ok.0, c.in_default.ensures.cases)) in
+    told_all c.args.planned.now.tellings.items c.loop-telling.planned.tellings.items c.args.self.now c.loop-telling.self none c.loop-telling.invariant.stands

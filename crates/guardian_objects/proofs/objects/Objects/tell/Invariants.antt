@@ -9,8 +9,8 @@ abbrev pub invariant-loop-telling : goal.invariant-loop-telling
 invariant-loop-telling l = record {
   guardian : l.self.guardian ≡ l.fn.self.guardian;
   count : length l.self.objects ≡ length l.fn.self.objects;
-  ready : AllByRecursion (IsReady l.self) l.tellings.items;
-  stands : StandsTold l.fn.planned.tellings.items l.fn.self l.tellings.items l.self;
+  ready : AllByRecursion (IsReady l.self) l.planned.tellings.items;
+  stands : StandsTold l.fn.planned.tellings.items l.fn.self l.planned.tellings.items l.self;
 }
 
 abbrev pub decreases-loop-telling : goal.decreases-loop-telling

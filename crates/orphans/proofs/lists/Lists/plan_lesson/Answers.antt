@@ -8,10 +8,6 @@ returns-in_err-plan_room-clause-same c = λ here are. kept c.args.self.now _ _ _
 pub returns-in_err-plan_room-2-clause-same : goal.returns-in_err-plan_room-2-clause-same
 returns-in_err-plan_room-2-clause-same c = λ here are. kept c.args.self.now _ _ _ c.plan_room.ensures.names c.plan_room-2.ensures.counts (λ h life. refl) here are
 
-pub returns-in_err-plan_place-clause-same : goal.returns-in_err-plan_place-clause-same
-returns-in_err-plan_place-clause-same c = λ here are.
-    kept c.args.self.now _ _ _ c.plan_room.ensures.names c.plan_room-2.ensures.counts c.plan_place.ensures.same here are
-
 pub returns-clause-same : goal.returns-clause-same
 returns-clause-same c = λ here are.
     kept c.args.self.now _ _ _ c.plan_room.ensures.names c.plan_room-2.ensures.counts c.plan_place.ensures.same here are

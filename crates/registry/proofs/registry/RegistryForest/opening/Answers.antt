@@ -10,6 +10,6 @@ returns-clause-opening c = λ f at. ap (λ o. opening_in o) c.deref.ensures ∙ 
 
 pub returns-clause-some : goal.returns-clause-some
 returns-clause-some c =
-    let m : InRegistry = record { opening = c.self.inside.opening.value; actions = c.self.inside.actions } in
+    let m : InRegistry = record { opening = c.self.inside.opening.value; actions = c.self.inside.actions; change = c.self.inside.change } in
     let f : ForestState = record { opening = opening_in m.opening; registry = c.self.invariant.0 } in
     (f, subst (λ k. StandsIn k f) c.self.view_is (record { opening = refl; actions = c.self.invariant.1 }))

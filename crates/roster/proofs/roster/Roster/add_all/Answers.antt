@@ -23,7 +23,7 @@ loop-name-preserved-in-Some c =
         places = (places_rest c.loop-name.self.places.room c.add.new.self.places.room rest items (c.in-Some.name, c.in-Some.row) c.in-Some.ensures.items
             c.add.ensures.places c.loop-name.invariant.fits.places).0;
       };
-      same = same_added rest items (c.in-Some.name, c.in-Some.row) (table c.loop-name.self) (table c.add.new.self) (all_added c.args.begun.items (table c.args.self.now))
+      same = same_added rest items (c.in-Some.name, c.in-Some.row) (table c.loop-name.self) (table c.add.new.self) (all_added c.args.begun.now.items (table c.args.self.now))
           c.in-Some.ensures.items c.add.ensures.added c.loop-name.invariant.same;
     }
 
@@ -37,7 +37,7 @@ loop-name-preserved-in-Some-2 c =
         places = (places_rest c.loop-name.self.places.room c.add.new.self.places.room rest items (c.in-Some.name, c.in-Some.row) c.in-Some.ensures.items
             c.add.ensures.places c.loop-name.invariant.fits.places).0;
       };
-      same = same_added rest items (c.in-Some.name, c.in-Some.row) (table c.loop-name.self) (table c.add.new.self) (all_added c.args.begun.items (table c.args.self.now))
+      same = same_added rest items (c.in-Some.name, c.in-Some.row) (table c.loop-name.self) (table c.add.new.self) (all_added c.args.begun.now.items (table c.args.self.now))
           c.in-Some.ensures.items c.add.ensures.added c.loop-name.invariant.same;
     }
 
@@ -51,7 +51,7 @@ loop-name-preserved c =
         places = (places_rest c.loop-name.self.places.room c.add.new.self.places.room rest items (c.in-Some.name, c.in-Some.row) c.in-Some.ensures.items
             c.add.ensures.places c.loop-name.invariant.fits.places).0;
       };
-      same = same_added rest items (c.in-Some.name, c.in-Some.row) (table c.loop-name.self) (table c.add.new.self) (all_added c.args.begun.items (table c.args.self.now))
+      same = same_added rest items (c.in-Some.name, c.in-Some.row) (table c.loop-name.self) (table c.add.new.self) (all_added c.args.begun.now.items (table c.args.self.now))
           c.in-Some.ensures.items c.add.ensures.added c.loop-name.invariant.same;
     }
 

@@ -8,26 +8,27 @@ use Rattle.roster.proofs.roster.Roster.enter.Goals as goal
 
 pub count_more-requires : goal.count_more-requires
 count_more-requires c =
-    subst (λ rows. CanCount rows.items c.args.entry.maker c.len.result) (sym c.put_above.ensures.rows)
-    (subst (CanCount c.args.self.now.rows.items c.args.entry.maker) (sym c.len.ensures) c.requires.fits.count)
+    subst (λ rows. CanCount rows.items c.args.entry.now.maker c.len.result) (sym c.put_above.ensures.rows)
+    (subst (CanCount c.args.self.now.rows.items c.args.entry.now.maker) (sym c.len.ensures) c.requires.fits.count)
 
 pub add_all-requires : goal.add_all-requires
 add_all-requires c =
     let same = c.put_above.ensures.rows in
     record {
       rows = omega (arith, c.count_more.ensures.len, c.count_more.ensures.capacity, ap vec_len same, ap vec_capacity same, c.requires.fits.begun.rows);
-      places = subst (λ p. HavePlaces p.room c.args.entry.begun.items) (sym (c.count_more.ensures.places ∙ c.put_above.ensures.places)) c.requires.fits.begun.places;
+      places = subst (λ p. HavePlaces p.room c.args.entry.now.begun.items) (sym (c.count_more.ensures.places ∙ c.put_above.ensures.places)) c.requires.fits.begun.places;
     }
 
 pub turn-requires : goal.turn-requires
 turn-requires c =
-    let entry = c.args.entry in
+    let entry = c.args.entry.now in
     let before = table c.put_above.new.self in
     let many : c.len.result ≡ length entry.begun.items = c.len.ensures ∙ entry.begun.ok.0 in
     let begins : table c.add_all.new.self ≡ grown entry before =
     c.add_all.ensures ∙ ap (all_added entry.begun.items) (c.count_more.ensures.counted ∙ ap (λ n. changed_at (more_by n) entry.maker before) many) in
     let merges : table c.merge.new.self ≡ merged entry.merged (changed_at with_closed entry.closed (ended entry.ended (grown entry before))) =
     c.merge.ensures
+    ∙ ap (λ m. merged m (table c.close.new.self)) c.take.ensures.value
     ∙ ap (merged entry.merged) (c.close.ensures ∙ ap (changed_at with_closed entry.closed) (c.end.ensures ∙ ap (ended entry.ended) begins)) in
     let same : c.merge.new.self.crashes ≡ c.args.self.now.crashes =
     ap (λ (t : Table). t.crashes) merges
@@ -37,7 +38,7 @@ turn-requires c =
 
 pub returns : goal.returns
 returns c = λ g here e is agrees planned.
-    let entry = c.args.entry in
+    let entry = c.args.entry.now in
     let first = table c.args.self.now in
     let before = table c.put_above.new.self in
     let many : c.len.result ≡ length entry.begun.items = c.len.ensures ∙ entry.begun.ok.0 in
@@ -46,6 +47,7 @@ returns c = λ g here e is agrees planned.
     let whole : table c.turn.new.self ≡ entered entry before =
     c.turn.ensures
     ∙ ap (turned entry.turn) (c.merge.ensures
+    ∙ ap (λ m. merged m (table c.close.new.self)) c.take.ensures.value
     ∙ ap (merged entry.merged) (c.close.ensures ∙ ap (changed_at with_closed entry.closed) (c.end.ensures ∙ ap (ended entry.ended) begins))) in
     let held = c.put_above.new.self.above.held in
     let with_those : entered entry before ≡ record (entered entry first) { above = held } =

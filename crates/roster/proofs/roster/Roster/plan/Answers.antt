@@ -7,23 +7,23 @@ use Rattle.run_model.specs.Actions.{maker_in, names_begun}
 use Rattle.roster.proofs.Planning.{HavePlaces}
 use Rattle.roster.proofs.roster.Roster.plan.Goals as goal
 
-pub returns-in_err-begun-clause-same : goal.returns-in_err-begun-clause-same
-returns-in_err-begun-clause-same c = λ g here is. subst (IsRoster g here) (sym c.plan_begun.ensures.same) is
+pub returns-in_err-plan_begun-clause-same : goal.returns-in_err-plan_begun-clause-same
+returns-in_err-plan_begun-clause-same c = λ g here is. subst (IsRoster g here) (sym c.plan_begun.ensures.same) is
 
 pub returns-in_err-plan_count-clause-same : goal.returns-in_err-plan_count-clause-same
 returns-in_err-plan_count-clause-same c = λ g here is. subst (IsRoster g here) (sym c.plan_begun.ensures.same) is
 
-pub returns-in_err-above-clause-same : goal.returns-in_err-above-clause-same
-returns-in_err-above-clause-same c = λ g here is. subst (IsRoster g here) (sym (c.plan_above.ensures.same ∙ c.plan_begun.ensures.same)) is
+pub returns-in_err-plan_above-clause-same : goal.returns-in_err-plan_above-clause-same
+returns-in_err-plan_above-clause-same c = λ g here is. subst (IsRoster g here) (sym (c.plan_above.ensures.same ∙ c.plan_begun.ensures.same)) is
 
-pub returns-in_err-begun-clause-crashes : goal.returns-in_err-begun-clause-crashes
-returns-in_err-begun-clause-crashes c = ap (λ (t : Table). t.crashes) c.plan_begun.ensures.same
+pub returns-in_err-plan_begun-clause-crashes : goal.returns-in_err-plan_begun-clause-crashes
+returns-in_err-plan_begun-clause-crashes c = ap (λ (t : Table). t.crashes) c.plan_begun.ensures.same
 
 pub returns-in_err-plan_count-clause-crashes : goal.returns-in_err-plan_count-clause-crashes
 returns-in_err-plan_count-clause-crashes c = ap (λ (t : Table). t.crashes) c.plan_begun.ensures.same
 
-pub returns-in_err-above-clause-crashes : goal.returns-in_err-above-clause-crashes
-returns-in_err-above-clause-crashes c = ap (λ (t : Table). t.crashes) (c.plan_above.ensures.same ∙ c.plan_begun.ensures.same)
+pub returns-in_err-plan_above-clause-crashes : goal.returns-in_err-plan_above-clause-crashes
+returns-in_err-plan_above-clause-crashes c = ap (λ (t : Table). t.crashes) (c.plan_above.ensures.same ∙ c.plan_begun.ensures.same)
 
 pub returns-clause-same : goal.returns-clause-same
 returns-clause-same c = λ g here is. subst (IsRoster g here) (sym (c.plan_above.ensures.same ∙ c.plan_begun.ensures.same)) is
@@ -34,16 +34,16 @@ returns-clause-crashes c = ap (λ (t : Table). t.crashes) (c.plan_above.ensures.
 pub returns-clause-fits : goal.returns-clause-fits
 returns-clause-fits c =
     let rows = c.plan_above.ensures.rows in
-    let begun = c.in_ok-begun.begun in
+    let begun = c.plan_begun.new.begun in
     record {
       begun = record {
-        rows = subst (λ r. vec_len r + vec_len begun ≤ vec_capacity r) (sym rows) c.in_ok-begun.ensures.fits.rows;
-        places = subst (λ p. HavePlaces p.room begun.items) (sym c.plan_above.ensures.places) c.in_ok-begun.ensures.fits.places;
+        rows = subst (λ r. vec_len r + vec_len begun ≤ vec_capacity r) (sym rows) c.in_ok-plan_begun.ensures.fits.rows;
+        places = subst (λ p. HavePlaces p.room begun.items) (sym c.plan_above.ensures.places) c.in_ok-plan_begun.ensures.fits.places;
       };
       count =
           subst (λ r. CanCount r.items c.places_in-ended.result.maker (vec_len begun)) (sym rows)
           (subst (CanCount c.plan_begun.new.self.rows.items c.places_in-ended.result.maker) c.len.ensures c.in_ok-plan_count.ensures);
-      above = c.in_ok-above.ensures.fits;
+      above = c.in_ok-plan_above.ensures.fits;
     }
 
 pub returns-clause-planned : goal.returns-clause-planned
@@ -56,11 +56,11 @@ returns-clause-planned c =
     record {
       ended = c.places_in-ended.ensures.ended ∙ ap (λ t. placed t (ended_in step)) same;
       closed = c.places_in-ended.ensures.closed ∙ ap (λ t. placed t (closed_in step)) same;
-      merged = subst (λ t. IsMerged t step came c.in_ok-merged.merged) same c.in_ok-merged.ensures;
+      merged = subst (λ t. IsMerged t step came c.in_ok-entry.field-0) same c.in_ok-entry.ensures;
       maker = c.places_in-ended.ensures.maker ∙ ap (λ t. placed t (maker_in step)) same;
-      begun = subst (λ t. AreBorn t (record { step = c.args.step.now; answer = c.args.answer.now }) came c.in_ok-begun.begun.items) same c.in_ok-begun.ensures.born;
+      begun = subst (λ t. AreBorn t (record { step = c.args.step.now; answer = c.args.answer.now }) came c.plan_begun.new.begun.items) same c.in_ok-plan_begun.ensures.born;
       above =
-          subst (λ t. AreAbove t (names_begun c.args.answer.now) c.in_ok-above.above.items) climbed
-          (subst (λ ns. AreAbove (table c.plan_begun.new.self) ns c.in_ok-above.above.items) c.names_in.ensures c.in_ok-above.ensures.above);
-      turn = c.turn_in.ensures;
+          subst (λ t. AreAbove t (names_begun c.args.answer.now) c.plan_above.new.above.items) climbed
+          (subst (λ ns. AreAbove (table c.plan_begun.new.self) ns c.plan_above.new.above.items) c.names_in.ensures c.in_ok-plan_above.ensures.above);
+      turn = c.turn_in-entry.ensures;
     }

@@ -13,19 +13,16 @@ use Rattle.roster.proofs.roster.Roster.plan_begun.Goals as goal
 pub returns-in_err-reserve-clause-same : goal.returns-in_err-reserve-clause-same
 returns-in_err-reserve-clause-same c = λ i. record (table c.args.self.now) { rows = c.reserve.ensures.items i }
 
-pub returns-in_err-begun-clause-same : goal.returns-in_err-begun-clause-same
-returns-in_err-begun-clause-same c = λ i. record (table c.args.self.now) { rows = c.reserve.ensures.items i }
-
 pub loop-name-init : goal.loop-name-init
 loop-name-init c = record {
   same = λ i. record (table c.args.self.now) { rows = c.reserve.ensures.items i };
   room = omega (arith, c.in_ok-reserve.ensures.ok);
-  count = c.in_ok-begun.ensures.len;
-  places = subst (HavePlaces c.args.self.now.places.room) (sym c.in_ok-begun.ensures.items) tt;
-  named = ap names_of c.in_ok-begun.ensures.items;
-  are_names = subst (AllByRecursion (λ (x : Name × Row). IsName x.0)) (sym c.in_ok-begun.ensures.items) tt;
+  count = c.clear.ensures.len;
+  places = subst (HavePlaces c.args.self.now.places.room) (sym c.clear.ensures.items) tt;
+  named = ap names_of c.clear.ensures.items;
+  are_names = subst (AllByRecursion (λ (x : Name × Row). IsName x.0)) (sym c.clear.ensures.items) tt;
   born = subst (AllByRecursion (λ (x : Name × Row). IsBorn (table c.args.self.now) c.args.step.now (came_in c.args.dependencies.now) x.0 x.1))
-      (sym c.in_ok-begun.ensures.items) tt;
+      (sym c.clear.ensures.items) tt;
 }
 
 pub returns-in_err-make_room-clause-same : goal.returns-in_err-make_room-clause-same

@@ -45,3 +45,13 @@ returns-in_err-answer-clause-err g c =
           subst (λ w. Ran c.args.self.now.run w (take i steps) c.args.answers.now.items c.reserve.new.self.items) (sym c.in_err-answer.ensures.err)
           (subst (λ l. Ran c.args.self.now.run c.loop-step.self.run (take i steps) c.args.answers.now.items l) (sym c.reserve.ensures.items) c.loop-step.invariant.ran);
     })
+
+pub returns-in_err-reserve-clause-err : goal.returns-in_err-reserve-clause-err
+returns-in_err-reserve-clause-err g c =
+    let steps : List Step = c.args.steps.now in
+    let i = c.loop-step.step-index in
+    on_err c.from_residual.result _ (record {
+      count = i;
+      within = c.loop-step-test.true;
+      ran = subst (λ l. Ran c.args.self.now.run c.loop-step.self.run (take i steps) c.args.answers.now.items l) (sym c.reserve.ensures.items) c.loop-step.invariant.ran;
+    })

@@ -11,8 +11,8 @@ pub loop-action-init : goal.loop-action-init
 loop-action-init c = record {
   crashes = refl;
   held = refl;
-  fits = none_fits c.args.self.now (record { told = c.in_ok-told.told }) c.in_ok-told.ensures.items;
-  heard = none_heard c.args.self.now (record { told = c.in_ok-told.told }) c.in_ok-told.ensures.items;
+  fits = none_fits c.args.self.now (record { told = c.clear.new.self }) c.clear.ensures.items;
+  heard = none_heard c.args.self.now (record { told = c.clear.new.self }) c.clear.ensures.items;
 }
 
 pub returns-in_err-plan_one-clause-same : goal.returns-in_err-plan_one-clause-same
@@ -34,10 +34,10 @@ loop-action-preserved c =
     record {
       crashes = c.plan_one.ensures.crashes ∙ c.loop-action.invariant.crashes;
       held = c.plan_one.ensures.held ∙ c.loop-action.invariant.held;
-      fits = fits_more c.loop-action.self.told.room c.plan_one.new.self.told.room c.loop-action.told.items c.push.new.self.items x.0 row
+      fits = fits_more c.loop-action.self.told.room c.plan_one.new.self.told.room c.loop-action.heard.told.items c.push.new.self.items x.0 row
           c.in_ok-push.ensures.items c.in_ok-plan_one.ensures.named c.in_ok-plan_one.ensures.room c.loop-action.invariant.fits;
       heard = subst (λ os. IsHeard c.args.self.now os (record { told = c.push.new.self })) (sym more)
-          (heard_more c.args.self.now (take i outcomes) x (record { told = c.loop-action.told }) (record { told = c.push.new.self }) row c.in_ok-push.ensures.items
+          (heard_more c.args.self.now (take i outcomes) x c.loop-action.heard (record { told = c.push.new.self }) row c.in_ok-push.ensures.items
           c.in_ok-plan_one.ensures.named (c.in_ok-plan_one.ensures.lives ∙ c.loop-action.invariant.crashes)
           (c.in_ok-plan_one.ensures.committed ∙ ap (λ hs. x.1 || is_told_committed (value_at hs x.0)) c.loop-action.invariant.held)
           c.loop-action.invariant.heard);
@@ -50,5 +50,5 @@ pub returns-clause-heard : goal.returns-clause-heard
 returns-clause-heard c =
     let outcomes = c.args.outcomes.now in
     let all : take c.loop-action.action-index outcomes ≡ outcomes = take_all c.loop-action.action-index outcomes (omega (arith, c.loop-action-test.false)) in
-    heard_kept c.args.self.now c.loop-action.self c.loop-action.invariant.crashes c.loop-action.invariant.held outcomes (record { told = c.loop-action.told })
-    (subst (λ os. IsHeard c.args.self.now os (record { told = c.loop-action.told })) all c.loop-action.invariant.heard)
+    heard_kept c.args.self.now c.loop-action.self c.loop-action.invariant.crashes c.loop-action.invariant.held outcomes c.loop-action.heard
+    (subst (λ os. IsHeard c.args.self.now os c.loop-action.heard) all c.loop-action.invariant.heard)

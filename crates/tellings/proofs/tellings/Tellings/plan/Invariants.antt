@@ -7,6 +7,6 @@ abbrev pub invariant-loop-action : goal.invariant-loop-action
 invariant-loop-action l = record {
   crashes : crashes_of l.self ≡ crashes_of l.fn.self;
   held : l.self.told.held ≡ l.fn.self.told.held;
-  fits : FitsHeard l.self (record { told = l.told });
-  heard : IsHeard l.fn.self (take l.action-index l.outcomes) (record { told = l.told });
+  fits : FitsHeard l.self l.heard;
+  heard : IsHeard l.fn.self (take l.action-index l.outcomes) l.heard;
 }

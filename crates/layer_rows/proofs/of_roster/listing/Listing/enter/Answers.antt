@@ -16,4 +16,4 @@ invariant_of-self-2 c =
     let more : c.in_ok-begun.begun ≡ names_begun event.answer ++ known =
     c.in_ok-begun.ensures ∙ ap (λ names. names ++ known) c.names_in.ensures in
     with_event g known c.in_ok-begun.begun (table c.self.inside.roster) (table c.plan.new.self) (table c.enter.new.self) event came
-    c.in_ok-entry.entry agrees more c.plan.ensures.same c.in_ok-entry.ensures.planned c.enter.ensures c.self.invariant
+    c.plan.new.entry agrees more c.plan.ensures.same c.in_ok-plan.ensures.planned c.enter.ensures c.self.invariant
