@@ -14,7 +14,7 @@ use run_model::{Answer, Step};
 use std::alloc::AllocError;
 
 impl Memory {
-    /// Follows an event that is neither an operation nor a crash of the guardian, and leaves a plan for no event. This cannot fail.
+    /// Follows an event that is neither an operation nor a crash of the guardian. This cannot fail. Nothing is said of what is left in the plan.
     pub fn keep(&mut self, plan: &mut Plan, step: &Step, answer: &Answer, stamp: u64)
         requires fits { FitsPlan plan.old self.old }
         requires planned { IsPlanned plan.old self.old (event_of step.now answer.now) }
