@@ -40,7 +40,8 @@ pub fn step<R: Forest, G: Guardian>(
     if !answer.is_accepted() {
         return Ok(answer);
     }
-    keep(alloc, forest, guardians, history, low, high, step, answer)
+    keep(alloc, forest, guardians, history, low, high, step, &answer)?;
+    Ok(answer)
 }
 
 /// The guardians that the step names, the lower number first.
@@ -94,7 +95,7 @@ fn answer_at<R: Forest, G: Guardian>(
     }
 }
 
-/// Keeps an accepted step with its answer, which it gives back: in the history, in the forest and at the guardians that it names.
+/// Keeps an accepted step with its answer: in the history, in the forest and at the guardians that it names.
 fn keep<R: Forest, G: Guardian>(
     alloc: Global,
     forest: &mut R,
@@ -103,27 +104,26 @@ fn keep<R: Forest, G: Guardian>(
     low: u32,
     high: u32,
     step: &Step,
-    answer: Answer,
-) -> Result<Answer, Fault>
+    answer: &Answer,
+) -> Result<(), Fault>
     ghost opening: { Opening }
     requires world { IsWorld G.stands G.stored (R.stands forest.old) opening history.old guardians.old }
     requires names { Names (forest_of opening history.old) step.now low high }
     requires ordered { low ≤ high }
-    requires more { IsRun opening (event_of step.now answer ∷ history.old) }
-    ensures answer { IfOk result (λ back. back ≡ answer) }
-    ensures ok { OnOk result (history.new ≡ event_of step.now answer ∷ history.old) }
+    requires more { IsRun opening (event_of step.now answer.now ∷ history.old) }
+    ensures ok { OnOk result (history.new ≡ event_of step.now answer.now ∷ history.old) }
     ensures err { OnErr result (history.new ≡ history.old) }
     ensures world { IsWorld G.stands G.stored (R.stands forest.new) opening history.new guardians.new }
     ensures stores { StoresLeft G.stored opening history.old step.now guardians.old guardians.new (fault_in result) }
     ensures cause { IsErrOf result Stable → HasFailed G.stored guardians.old guardians.new }
 {
     let number = history.next_stamp();
-    history.push(step, &answer)?;
-    let kept = keep_at(alloc, forest, guardians, low, high, step, &answer, number);
+    history.push(step, answer)?;
+    let kept = keep_at(alloc, forest, guardians, low, high, step, answer, number);
     ask_number(guardians, low);
     ask_number(guardians, high);
     match kept {
-        Ok(()) => Ok(answer),
+        Ok(()) => Ok(()),
         Err(fault) => {
             history.pop();
             Err(fault)

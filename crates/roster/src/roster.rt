@@ -104,6 +104,10 @@ impl Roster {
     pub fn is_gone(&self, action: &Name) -> bool
         ensures { (g : ℕ) (here : List LocalEvent) → IsRoster g here (table self.now) → result ≡ is_gone action.now (events_here here) }
     {
+        // Nothing is looked up where there was no crash.
+        if self.crashes == 0 {
+            return false;
+        }
         let (home, life) = self.birth(action);
         home == self.guardian && life < self.crashes
     }
