@@ -1,5 +1,5 @@
 -- What holders add, as it changes.
-use Rattle.std.proofs.Common.{◌≡◌, ℤ, Bool, true, false, not, map, filter, List, [], ◌∷◌, ◌++◌, append-nil, refl, sym, ap, ◌∙◌, subst}
+use Rattle.std.proofs.Common.{◌≡◌, ℕ, ℤ, ◌+◌, ◌<◌, Bool, true, false, not, filter, take, List, [], ◌∷◌, ◌++◌, length, get_or, append-nil, refl, sym, ap, ◌∙◌, subst}
 use Rattle.std.specs.Prelude.{Option, Some, None, pos, unwrap_or, if◌then◌else◌}
 use Rattle.std.proofs.lemmas.Bool.{true≢false}
 use Rattle.std.specs.Ordering.{is_eq}
@@ -12,11 +12,11 @@ use Rattle.action_names.proofs.Ancestry.{same_is}
 use Rattle.atomic_types.specs.Counters.{sum_of}
 use Rattle.atomic_types.specs.TypeLaws.{sums_commute}
 use Rattle.holders.specs.Held.{value_at, without, without_below, with_row, held_in}
-use Rattle.holders.proofs.Rows.{held_more}
+use Rattle.holders.proofs.FewRows.{held_more, next_row}
 use Rattle.holders.proofs.Sorted.{at_name}
 use Rattle.object_model.specs.Deltas.{delta_at, delta_sum}
 use Rattle.object_model.specs.Objects.{is_beside}
-use Rattle.deltas.specs.Beside.{sum_beside, sum_if_any}
+use Rattle.deltas.specs.Beside.{sum_beside, sum_if_any, with_beside, with_left}
 
 -- what a holder adds is what it holds
 pub delta_held : (ds : List (Name × ℤ)) (a : Name) → delta_at ds a ≡ value_at ds a
@@ -111,25 +111,42 @@ sum_same (c ∷ ds) d owner e = by_case (sum_same ds d owner e) (is_beside owner
   by_case later false k = simp k later
 
 -- one more row whose holder stands beside the owner adds its amount to the sum
-pub counted : {A : Type 0} (shows : A → Name × Option ℤ) (xs : List A) (x : A) (owner : Option Name) (z : ℤ) → (shows x).1 ≡ Some z
-    → is_beside owner (shows x).0 ≡ true → sum_beside (held_in (map shows (xs ++ x ∷ []))) owner ≡ sum_of (sum_beside (held_in (map shows xs)) owner) z
-counted shows xs x owner z e k =
-    let before = held_in (map shows xs) in
-    ap (λ ds. sum_beside ds owner) (held_more shows xs x ∙ ap (λ o. before ++ with_row (shows x).0 o []) e) ∙ sum_end before ((shows x).0, z) owner k
+pub counted : (xs : List (Name × Option ℤ)) (x : Name × Option ℤ) (owner : Option Name) (z : ℤ) → x.1 ≡ Some z
+    → is_beside owner x.0 ≡ true → sum_beside (held_in (xs ++ x ∷ [])) owner ≡ sum_of (sum_beside (held_in xs) owner) z
+counted xs x owner z e k =
+    let before = held_in xs in
+    ap (λ ds. sum_beside ds owner) (held_more xs x ∙ ap (λ o. before ++ with_row x.0 o []) e) ∙ sum_end before (x.0, z) owner k
 
 -- one more row whose holder does not stand beside the owner leaves the sum
-pub not_counted : {A : Type 0} (shows : A → Name × Option ℤ) (xs : List A) (x : A) (owner : Option Name) (z : ℤ) → (shows x).1 ≡ Some z
-    → is_beside owner (shows x).0 ≡ false → sum_beside (held_in (map shows (xs ++ x ∷ []))) owner ≡ sum_beside (held_in (map shows xs)) owner
-not_counted shows xs x owner z e k =
-    let before = held_in (map shows xs) in
-    ap (λ ds. sum_beside ds owner) (held_more shows xs x ∙ ap (λ o. before ++ with_row (shows x).0 o []) e) ∙ sum_same before ((shows x).0, z) owner k
+pub not_counted : (xs : List (Name × Option ℤ)) (x : Name × Option ℤ) (owner : Option Name) (z : ℤ) → x.1 ≡ Some z
+    → is_beside owner x.0 ≡ false → sum_beside (held_in (xs ++ x ∷ [])) owner ≡ sum_beside (held_in xs) owner
+not_counted xs x owner z e k =
+    let before = held_in xs in
+    ap (λ ds. sum_beside ds owner) (held_more xs x ∙ ap (λ o. before ++ with_row x.0 o []) e) ∙ sum_same before (x.0, z) owner k
 
 -- one more row that is empty leaves the sum
-pub empty_row : {A : Type 0} (shows : A → Name × Option ℤ) (xs : List A) (x : A) (owner : Option Name) → (shows x).1 ≡ None
-    → sum_beside (held_in (map shows (xs ++ x ∷ []))) owner ≡ sum_beside (held_in (map shows xs)) owner
-empty_row shows xs x owner e =
-    let before = held_in (map shows xs) in
-    ap (λ ds. sum_beside ds owner) (held_more shows xs x ∙ ap (λ o. before ++ with_row (shows x).0 o []) e ∙ append-nil before)
+pub empty_row : (xs : List (Name × Option ℤ)) (x : Name × Option ℤ) (owner : Option Name) → x.1 ≡ None
+    → sum_beside (held_in (xs ++ x ∷ [])) owner ≡ sum_beside (held_in xs) owner
+empty_row xs x owner e =
+    let before = held_in xs in
+    ap (λ ds. sum_beside ds owner) (held_more xs x ∙ ap (λ o. before ++ with_row x.0 o []) e ∙ append-nil before)
+
+-- the sum with one more row
+pub beside_more : (xs : List (Name × Option ℤ)) (x : Name × Option ℤ) (owner : Option Name) (sum : ℤ)
+    → sum ≡ sum_beside (held_in xs) owner → with_beside sum owner x.0 x.1 ≡ sum_beside (held_in (xs ++ x ∷ [])) owner
+beside_more xs x owner sum so_far = by_row x.1 refl where
+  by_row : (o : Option ℤ) → x.1 ≡ o → with_beside sum owner x.0 o ≡ sum_beside (held_in (xs ++ x ∷ [])) owner
+  by_row None e = so_far ∙ sym (empty_row xs x owner e)
+  by_row (Some z) e = by_case (is_beside owner x.0) refl where
+    by_case : (t : Bool) → is_beside owner x.0 ≡ t → (if t then sum_of sum z else sum) ≡ sum_beside (held_in (xs ++ x ∷ [])) owner
+    by_case true k = ap (λ s. sum_of s z) so_far ∙ sym (counted xs x owner z e k)
+    by_case false k = so_far ∙ sym (not_counted xs x owner z e k)
+
+-- the sum of the first rows, with one more of them
+pub beside_next : (items : List (Name × Option ℤ)) (i : ℕ) (x : Name × Option ℤ) (owner : Option Name) (sum : ℤ) → x ≡ get_or items i x → i < length items
+    → sum ≡ sum_beside (held_in (take i items)) owner → with_beside sum owner x.0 x.1 ≡ sum_beside (held_in (take (i + 1) items)) owner
+beside_next items i x owner sum is lt so_far =
+    beside_more (take i items) x owner sum so_far ∙ ap (λ rs. sum_beside (held_in rs) owner) (sym (next_row items i x lt is))
 
 -- without an owner all deltas are summed
 pub sum_all : (ds : List (Name × ℤ)) → sum_beside ds None ≡ delta_sum ds
@@ -161,29 +178,48 @@ chosen_end (c ∷ ds) d p = by_case (chosen_end ds d p) (p c.0) (p d.0) refl whe
   by_case later false false e = later
 
 -- one more row of a holder that passes adds its amount to the sum of those that pass
-pub left_counted : {A : Type 0} (shows : A → Name × Option ℤ) (xs : List A) (x : A) (p : Name → Bool) (z : ℤ) → (shows x).1 ≡ Some z → p (shows x).0 ≡ true
-    → sum_if_any (filter (λ e. p e.0) (held_in (map shows (xs ++ x ∷ []))))
-    ≡ Some (sum_of (unwrap_or (sum_if_any (filter (λ e. p e.0) (held_in (map shows xs)))) (pos 0)) z)
-left_counted shows xs x p z e k =
-    let before = held_in (map shows xs) in
-    ap (λ ds. sum_if_any (filter (λ e. p e.0) ds)) (held_more shows xs x ∙ ap (λ o. before ++ with_row (shows x).0 o []) e)
-    ∙ ap (λ ds. sum_if_any ds) (chosen_end before ((shows x).0, z) p)
-    ∙ ap (λ t. sum_if_any (if t then filter (λ e. p e.0) before ++ ((shows x).0, z) ∷ [] else filter (λ e. p e.0) before)) k
-    ∙ some_end (filter (λ e. p e.0) before) ((shows x).0, z)
+pub left_counted : (xs : List (Name × Option ℤ)) (x : Name × Option ℤ) (p : Name → Bool) (z : ℤ) → x.1 ≡ Some z → p x.0 ≡ true
+    → sum_if_any (filter (λ e. p e.0) (held_in (xs ++ x ∷ [])))
+    ≡ Some (sum_of (unwrap_or (sum_if_any (filter (λ e. p e.0) (held_in xs))) (pos 0)) z)
+left_counted xs x p z e k =
+    let before = held_in xs in
+    ap (λ ds. sum_if_any (filter (λ e. p e.0) ds)) (held_more xs x ∙ ap (λ o. before ++ with_row x.0 o []) e)
+    ∙ ap (λ ds. sum_if_any ds) (chosen_end before (x.0, z) p)
+    ∙ ap (λ t. sum_if_any (if t then filter (λ e. p e.0) before ++ (x.0, z) ∷ [] else filter (λ e. p e.0) before)) k
+    ∙ some_end (filter (λ e. p e.0) before) (x.0, z)
 
 -- one more row of a holder that does not pass leaves it
-pub left_uncounted : {A : Type 0} (shows : A → Name × Option ℤ) (xs : List A) (x : A) (p : Name → Bool) (z : ℤ) → (shows x).1 ≡ Some z → p (shows x).0 ≡ false
-    → sum_if_any (filter (λ e. p e.0) (held_in (map shows (xs ++ x ∷ [])))) ≡ sum_if_any (filter (λ e. p e.0) (held_in (map shows xs)))
-left_uncounted shows xs x p z e k =
-    let before = held_in (map shows xs) in
-    ap (λ ds. sum_if_any (filter (λ e. p e.0) ds)) (held_more shows xs x ∙ ap (λ o. before ++ with_row (shows x).0 o []) e)
-    ∙ ap (λ ds. sum_if_any ds) (chosen_end before ((shows x).0, z) p)
-    ∙ ap (λ t. sum_if_any (if t then filter (λ e. p e.0) before ++ ((shows x).0, z) ∷ [] else filter (λ e. p e.0) before)) k
+pub left_uncounted : (xs : List (Name × Option ℤ)) (x : Name × Option ℤ) (p : Name → Bool) (z : ℤ) → x.1 ≡ Some z → p x.0 ≡ false
+    → sum_if_any (filter (λ e. p e.0) (held_in (xs ++ x ∷ []))) ≡ sum_if_any (filter (λ e. p e.0) (held_in xs))
+left_uncounted xs x p z e k =
+    let before = held_in xs in
+    ap (λ ds. sum_if_any (filter (λ e. p e.0) ds)) (held_more xs x ∙ ap (λ o. before ++ with_row x.0 o []) e)
+    ∙ ap (λ ds. sum_if_any ds) (chosen_end before (x.0, z) p)
+    ∙ ap (λ t. sum_if_any (if t then filter (λ e. p e.0) before ++ (x.0, z) ∷ [] else filter (λ e. p e.0) before)) k
 
 -- and so does an empty row
-pub left_empty : {A : Type 0} (shows : A → Name × Option ℤ) (xs : List A) (x : A) (p : Name → Bool) → (shows x).1 ≡ None
-    → sum_if_any (filter (λ e. p e.0) (held_in (map shows (xs ++ x ∷ [])))) ≡ sum_if_any (filter (λ e. p e.0) (held_in (map shows xs)))
-left_empty shows xs x p e =
-    let before = held_in (map shows xs) in
+pub left_empty : (xs : List (Name × Option ℤ)) (x : Name × Option ℤ) (p : Name → Bool) → x.1 ≡ None
+    → sum_if_any (filter (λ e. p e.0) (held_in (xs ++ x ∷ []))) ≡ sum_if_any (filter (λ e. p e.0) (held_in xs))
+left_empty xs x p e =
+    let before = held_in xs in
     ap (λ ds. sum_if_any (filter (λ e. p e.0) ds))
-    (held_more shows xs x ∙ ap (λ o. before ++ with_row (shows x).0 o []) e ∙ append-nil before)
+    (held_more xs x ∙ ap (λ o. before ++ with_row x.0 o []) e ∙ append-nil before)
+
+-- the sum of those that pass, with one more row
+pub left_more : (xs : List (Name × Option ℤ)) (x : Name × Option ℤ) (p : Name → Bool) (sum : Option ℤ)
+    → sum ≡ sum_if_any (filter (λ e. p e.0) (held_in xs)) → with_left sum x.1 (p x.0) ≡ sum_if_any (filter (λ e. p e.0) (held_in (xs ++ x ∷ [])))
+left_more xs x p sum so_far = by_row x.1 refl where
+  by_row : (o : Option ℤ) → x.1 ≡ o → with_left sum o (p x.0) ≡ sum_if_any (filter (λ e. p e.0) (held_in (xs ++ x ∷ [])))
+  by_row None e = so_far ∙ sym (left_empty xs x p e)
+  by_row (Some z) e = by_case (p x.0) refl where
+    by_case : (t : Bool) → p x.0 ≡ t
+        → (if t then Some (sum_of (unwrap_or sum (pos 0)) z) else sum) ≡ sum_if_any (filter (λ e. p e.0) (held_in (xs ++ x ∷ [])))
+    by_case true k = ap (λ o. Some (sum_of (unwrap_or o (pos 0)) z)) so_far ∙ sym (left_counted xs x p z e k)
+    by_case false k = so_far ∙ sym (left_uncounted xs x p z e k)
+
+-- the sum of those of the first rows that pass, with one more row
+pub left_next : (items : List (Name × Option ℤ)) (i : ℕ) (x : Name × Option ℤ) (p : Name → Bool) (sum : Option ℤ) → x ≡ get_or items i x → i < length items
+    → sum ≡ sum_if_any (filter (λ e. p e.0) (held_in (take i items)))
+    → with_left sum x.1 (p x.0) ≡ sum_if_any (filter (λ e. p e.0) (held_in (take (i + 1) items)))
+left_next items i x p sum is lt so_far =
+    left_more (take i items) x p sum so_far ∙ ap (λ rs. sum_if_any (filter (λ e. p e.0) (held_in rs))) (sym (next_row items i x lt is))

@@ -2,15 +2,16 @@ ghost use Rattle.std.specs.Prelude.{◌≡◌, [], None, pos, unwrap_or, IsTrue,
 ghost use Rattle.std.specs.List.Sorted.{IsStrictlySortedBy};
 ghost use Rattle.std.specs.Option.{option_copied as name_of};
 ghost use Rattle.action_names.specs.Names.{Name, has_name, name_cmp, is_ancestor};
-ghost use Rattle.holders.specs.Held.{names_of, HasMoreRoom, HasLessRoom};
+ghost use Rattle.holders.specs.Held.{names_of, held_in, HasMoreRoom, HasLessRoom};
 ghost use Rattle.object_model.specs.Deltas.{delta_at, delta_sum, more_at, HasDelta, HasNoneBelow};
 ghost use Rattle.object_model.specs.Objects.{is_beside};
 ghost use Rattle.atomic_types.specs.Counters.{sum_of};
-ghost use Rattle.deltas.specs.Beside.{sum_beside, sum_if_any};
+ghost use Rattle.deltas.specs.Beside.{sum_beside, sum_if_any, with_beside, with_left};
 
 use action_names::Name;
-use holders::{Holders, Survivors};
+use holders::{HolderRows, Holders, Survivors};
 use std::alloc::{AllocError, Global};
+use std::collections::btree_map::Iter;
 use std::marker::Model;
 
 /// How much actions add to a counter that own no version of it. Its holders need not be ancestors of one another.
@@ -70,15 +71,10 @@ impl Deltas {
         ensures sum { result ≡ sum_beside self.now.held (name_of owner.entry) }
         ensures rising { IsStrictlySortedBy name_cmp (names_of self.now.held) }
     {
-        let mut sum: i64 = 0;
-        for (holder, row) in self.amounts.rows() {
-            if let Some(amount) = row {
-                if is_beside(holder, owner) {
-                    sum = sum.wrapping_add(*amount);
-                }
-            }
+        match self.amounts.rows() {
+            HolderRows::Few(rows) => few_beside(rows, owner),
+            HolderRows::Many(rows) => many_beside(rows, owner),
         }
-        sum
     }
 
     /// How much those holders add that stay, modulo 2 to the 64, if there are any that add. This takes no memory.
@@ -86,15 +82,10 @@ impl Deltas {
         ensures sum { result ≡ sum_if_any (filter (λ d. S.stays survivors.now d.0) self.now.held) }
         ensures rising { IsStrictlySortedBy name_cmp (names_of self.now.held) }
     {
-        let mut sum = None;
-        for (holder, row) in self.amounts.rows() {
-            if let Some(amount) = row {
-                if survivors.stays(holder) {
-                    sum = Some(with_more(sum, *amount));
-                }
-            }
+        match self.amounts.rows() {
+            HolderRows::Few(rows) => few_left(rows, survivors),
+            HolderRows::Many(rows) => many_left(rows, survivors),
         }
-        sum
     }
 
     /// Adds to what the holder adds. After want of memory nothing is changed.
@@ -170,6 +161,81 @@ impl Deltas {
         ensures rising { IsStrictlySortedBy name_cmp (names_of self.new.held) }
     {
         self.amounts.keep(survivors);
+    }
+}
+
+// How much those rows add whose holders are no ancestors of the owner.
+fn few_beside(rows: &[(Name, Option<i64>)], owner: Option<&Name>) -> i64
+    ensures { result ≡ sum_beside (held_in rows.now) (name_of owner.entry) }
+{
+    let mut sum: i64 = 0;
+    for (holder, row) in rows {
+        sum = with_beside(sum, holder, *row, owner);
+    }
+    sum
+}
+
+fn many_beside(rows: Iter<'_, Name, Option<i64>>, owner: Option<&Name>) -> i64
+    ensures { result ≡ sum_beside (held_in rows.entry) (name_of owner.entry) }
+{
+    let mut sum: i64 = 0;
+    for (holder, row) in rows {
+        sum = with_beside(sum, holder, *row, owner);
+    }
+    sum
+}
+
+// How much those rows add whose holders stay, if there are any.
+fn few_left<S: Survivors>(rows: &[(Name, Option<i64>)], survivors: &S) -> Option<i64>
+    ensures { result ≡ sum_if_any (filter (λ d. S.stays survivors.now d.0) (held_in rows.now)) }
+{
+    let mut sum = None;
+    for (holder, row) in rows {
+        sum = with_left(sum, *row, survivors.stays(holder));
+    }
+    sum
+}
+
+fn many_left<S: Survivors>(rows: Iter<'_, Name, Option<i64>>, survivors: &S) -> Option<i64>
+    ensures { result ≡ sum_if_any (filter (λ d. S.stays survivors.now d.0) (held_in rows.entry)) }
+{
+    let mut sum = None;
+    for (holder, row) in rows {
+        sum = with_left(sum, *row, survivors.stays(holder));
+    }
+    sum
+}
+
+// The sum with what the holder adds, if it adds anything and is no ancestor of the owner.
+#[tactic(auto, using(std::proofs::lemmas::Int::wraps))]
+fn with_beside(sum: i64, holder: &Name, row: Option<i64>, owner: Option<&Name>) -> i64
+    ensures { result ≡ with_beside sum (name_of owner.entry) holder.now row }
+{
+    match row {
+        Some(amount) => {
+            if is_beside(holder, owner) {
+                sum.wrapping_add(amount)
+            } else {
+                sum
+            }
+        }
+        None => sum,
+    }
+}
+
+// The sum, if there is one, with what a holder adds, if it adds anything and stays.
+fn with_left(sum: Option<i64>, row: Option<i64>, stays: bool) -> Option<i64>
+    ensures { result ≡ with_left sum row stays }
+{
+    match row {
+        Some(amount) => {
+            if stays {
+                Some(with_more(sum, amount))
+            } else {
+                sum
+            }
+        }
+        None => sum,
     }
 }
 

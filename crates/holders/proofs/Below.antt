@@ -1,13 +1,15 @@
 -- An action and its descendants stand next to each other in the order of names, from the action on.
-use Rattle.std.proofs.Common.{◌≡◌, ◌<◌, Bool, true, false, not, ◌&&◌, ◌||◌, ◌==◌, List, [], ◌∷◌, filter, refl, sym, ap, ◌∙◌, subst, arith}
+use Rattle.std.proofs.Common.{◌≡◌, ℕ, zero, suc, ◌+◌, ◌<◌, Bool, true, false, not, ◌&&◌, ◌||◌, ◌==◌, List, [], ◌∷◌, ◌++◌, length, take, drop, filter, refl, sym, ap, ◌∙◌, subst, arith}
 use Rattle.std.specs.Prelude.{cond}
 use Rattle.std.proofs.lemmas.Bool.{true≢false, false≢true, eqb-true, eq-eqb, ne_eqb}
 use Rattle.std.proofs.lemmas.Cmp.{ranked}
+use Rattle.std.proofs.lemmas.List.{drop-drop}
+use Rattle.std.proofs.lemmas.List.Folds.{length-prefix_len}
 use Rattle.std.proofs.lemmas.List.Sums.{take_while-cons}
 use Rattle.std.specs.Cmp.{nat_cmp_is}
-use Rattle.std.specs.List.{list_any, take_while}
+use Rattle.std.specs.List.{list_any, prefix_len, remove_range, take_while}
 use Rattle.std.specs.List.Sorted.{IsStrictlySortedBy}
-use Rattle.std.specs.Ordering.{nat_cmp, ordering_then, is_le}
+use Rattle.std.specs.Ordering.{nat_cmp, ordering_then, is_eq, is_le}
 use Rattle.std.specs.declared.cmp.Ordering.{Ordering}
 use Rattle.std.specs.declared.cmp.Ordering.TheVariants.{Less, Equal, Greater}
 use Rattle.std.specs.declared.ops.Bound.TheVariants.{Included, Unbounded}
@@ -15,7 +17,9 @@ use Rattle.std.specs.BTreeMap.{is_at}
 use Rattle.std.specs.BTreeMap.Range.{entries_between}
 use Rattle.std.specs.Map.{keys_of, remove_entry}
 use Rattle.action_names.specs.Names.{Name, same_name, is_prefix, is_ancestor, name_cmp}
+use Rattle.action_names.specs.Comparison.{name_cmp-total}
 use Rattle.action_names.proofs.Ancestry.{both, same_is}
+use Rattle.holders.specs.Places.{IsStartAt}
 use Rattle.holders.proofs.Sorted.{StandBehind, at_name}
 
 -- a beginning of a name stands not behind it
@@ -137,3 +141,89 @@ others_stay {X} a n (r ∷ rs) below = by_case (others_stay a n rs below) (same_
   by_case later true d false e = absurd (true≢false (sym (subst (λ x. is_ancestor a x ≡ true) (sym (same_is r.0 n d)) below) ∙ e))
   by_case later false d true e = simp (at_name n r.0 ∙ d, e) later
   by_case later false d false e = simp (at_name n r.0 ∙ d, e) (ap (λ es. r ∷ es) later)
+
+-- ---- rows from a place on
+
+not_below : (a n : Name) → name_cmp a n ≡ Greater → is_ancestor a n ≡ false
+not_below a n k = of (is_ancestor a n) refl where
+  of : (t : Bool) → is_ancestor a n ≡ t → is_ancestor a n ≡ false
+  of true e = absurd (true≢false (sym (descendant_first a n e) ∙ ap is_le k))
+  of false e = e
+
+-- a name behind one that is not before a
+still_from : (a m n : Name) → is_le (name_cmp a m) ≡ true → name_cmp m n ≡ Less → is_le (name_cmp a n) ≡ true
+still_from a m n le up = of (name_cmp a m) refl le where
+  of : (o : Ordering) → name_cmp a m ≡ o → is_le o ≡ true → is_le (name_cmp a n) ≡ true
+  of Less k h = ap is_le (name_cmp-total.trans a m n k up)
+  of Equal k h = ap is_le (subst (λ x. name_cmp x n ≡ Less) (same_is m a (sym (at_name a m) ∙ ap is_eq k)) up)
+  of Greater k h = absurd (false≢true h)
+
+start_behind : {X : Type 0} (a m : Name) (rs : List (Name × X)) → is_le (name_cmp a m) ≡ true → StandBehind m (keys_of rs) → IsStartAt rs a 0
+start_behind a m [] le h = tt
+start_behind a m (r ∷ rs) le h = still_from a m r.0 le h.0
+
+-- those of the action and its descendants come first
+run_first : {X : Type 0} (a : Name) (rs : List (Name × X)) → IsStrictlySortedBy name_cmp (keys_of rs) → IsStartAt rs a 0
+    → take_while (λ r. is_ancestor a r.0) rs ≡ filter (λ r. is_ancestor a r.0) rs
+unfolding IsStrictlySortedBy
+run_first a [] s le = refl
+run_first {X} a (r ∷ rs) s le =
+    take_while-cons below r rs ∙ by_case (run_first a rs s.1 (start_behind a r.0 rs le s.0)) (is_ancestor a r.0) refl where
+      below : Name × X → Bool
+      below q = is_ancestor a q.0
+
+      by_case : take_while (λ q. is_ancestor a q.0) rs ≡ filter (λ q. is_ancestor a q.0) rs → (t : Bool) → is_ancestor a r.0 ≡ t
+          → cond (is_ancestor a r.0) (r ∷ take_while (λ q. is_ancestor a q.0) rs) [] ≡ filter (λ q. is_ancestor a q.0) (r ∷ rs)
+      by_case later true e = rw e (ap (λ es. r ∷ es) later)
+      by_case later false e = rw e (sym (none_behind a r.0 rs s.0 le e))
+
+-- and then the others
+run_rest : {X : Type 0} (a : Name) (rs : List (Name × X)) → IsStrictlySortedBy name_cmp (keys_of rs) → IsStartAt rs a 0
+    → drop (prefix_len (λ r. is_ancestor a r.0) rs) rs ≡ filter (λ r. not (is_ancestor a r.0)) rs
+unfolding IsStrictlySortedBy
+run_rest a [] s le = refl
+run_rest {X} a (r ∷ rs) s le = by_case (run_rest a rs s.1 (start_behind a r.0 rs le s.0)) (is_ancestor a r.0) refl where
+  below : Name × X → Bool
+  below q = is_ancestor a q.0
+
+  others : List (Name × X) → List (Name × X)
+  others es = filter (λ q. not (is_ancestor a q.0)) es
+
+  first : ℕ
+  first = prefix_len (λ q. is_ancestor a q.0) rs
+
+  next : 1 + first ≡ suc first
+  next = omega arith
+
+  none : is_ancestor a r.0 ≡ false → list_any (λ q. is_ancestor a q.0) (r ∷ rs) ≡ false
+  none e = rw e (sym (any_in (λ q. is_ancestor a q.0) (λ q. true) rs) ∙ ap (list_any (λ q. true)) (none_behind a r.0 rs s.0 le e))
+
+  by_case : drop first rs ≡ others rs → (t : Bool) → is_ancestor a r.0 ≡ t → drop (cond (is_ancestor a r.0) (1 + first) 0) (r ∷ rs) ≡ others (r ∷ rs)
+  by_case later true e = rw e (ap (λ n. drop n (r ∷ rs)) next ∙ later)
+  by_case later false e = ap (λ t. drop (cond t (1 + first) 0) (r ∷ rs)) e ∙ sym (all_stay (λ q. is_ancestor a q.0) (r ∷ rs) (none e))
+
+-- the rows of the action and its descendants are the first from its place on
+pub run_from : {X : Type 0} (a : Name) (rs : List (Name × X)) (i : ℕ) → IsStrictlySortedBy name_cmp (keys_of rs) → IsStartAt rs a i
+    → take_while (λ r. is_ancestor a r.0) (drop i rs) ≡ filter (λ r. is_ancestor a r.0) rs
+unfolding IsStrictlySortedBy
+run_from a [] zero s here = refl
+run_from a [] (suc i) s here = refl
+run_from a (r ∷ rs) zero s here = run_first a (r ∷ rs) s here
+run_from a (r ∷ rs) (suc i) s here = run_from a rs i s.1 here.1 ∙ rw (not_below a r.0 here.0) refl
+
+-- the rows before that place, and those behind these, are the others
+pub run_others : {X : Type 0} (a : Name) (rs : List (Name × X)) (i : ℕ) → IsStrictlySortedBy name_cmp (keys_of rs) → IsStartAt rs a i
+    → take i rs ++ drop (prefix_len (λ r. is_ancestor a r.0) (drop i rs)) (drop i rs) ≡ filter (λ r. not (is_ancestor a r.0)) rs
+unfolding IsStrictlySortedBy
+run_others a [] zero s here = refl
+run_others a [] (suc i) s here = refl
+run_others a (r ∷ rs) zero s here = run_rest a (r ∷ rs) s here
+run_others a (r ∷ rs) (suc i) s here = ap (λ es. r ∷ es) (run_others a rs i s.1 here.1) ∙ rw (not_below a r.0 here.0) refl
+
+-- what is left once those were taken out
+pub run_out : {X : Type 0} (a : Name) (rs new tail : List (Name × X)) (i n : ℕ) → IsStrictlySortedBy name_cmp (keys_of rs) → IsStartAt rs a i → tail ≡ drop i rs
+    → n ≡ length (take_while (λ r. is_ancestor a r.0) tail) → new ≡ remove_range rs i (i + n) → new ≡ filter (λ r. not (is_ancestor a r.0)) rs
+run_out {X} a rs new tail i n s here rest count is =
+    let below : Name × X → Bool = λ r. is_ancestor a r.0 in
+    let many : n ≡ prefix_len below (drop i rs) = count ∙ ap (λ es. length (take_while below es)) rest ∙ length-prefix_len below (drop i rs) in
+    is ∙ ap (λ es. take i rs ++ es) (sym (drop-drop n i rs) ∙ ap (λ m. drop m (drop i rs)) many) ∙ run_others a rs i s here

@@ -1,10 +1,9 @@
 -- Rows that are found by a hash, in the order of their names.
 use Rattle.std.proofs.Common.{◌≡◌, Bool, true, false, cond, ◌&&◌, ◌||◌, List, [], ◌∷◌, length, refl, sym, ap, ◌∙◌, arith}
-use Rattle.std.specs.Prelude.{Option, Some, None, is_some, T}
-use Rattle.std.proofs.lemmas.Bool.{true≢false, false≢true}
+use Rattle.std.specs.Prelude.{Option, Some, is_some, T}
+use Rattle.std.proofs.lemmas.Bool.{false≢true}
 use Rattle.std.specs.FinMap as map
 use Rattle.std.specs.FinMap.Entries.{find, put, is_sorted, below_all, by_order}
-use Rattle.std.specs.List.{AllByRecursion}
 use Rattle.std.specs.List.Sorted.{IsStrictlySortedBy}
 use Rattle.std.specs.Ordering.{is_eq, is_lt, eq_by_cmp, match_ordering}
 use Rattle.std.specs.declared.cmp.Ordering.{Ordering}
@@ -14,10 +13,10 @@ use Rattle.std.specs.Map.{keys_of, lookup, set_value}
 use Rattle.action_names.specs.Names.{Name, same_name, has_name, name_cmp}
 use Rattle.action_names.specs.Comparison.{same_name-ties, same_name-equivalence, name_cmp-total}
 use Rattle.action_names.proofs.Ancestry.{same_is}
-use Rattle.holders.specs.Held.{Rows, value_at, with_value, held_in}
+use Rattle.holders.specs.Held.{Rows, with_value, held_in}
 use Rattle.holders.specs.Indexed.{ordered}
 use Rattle.holders.proofs.Sorted.{at_name, StandBehind, behind, greater, in_rest}
-use Rattle.holders.proofs.Rows.{shown, put_in, has_row}
+use Rattle.holders.proofs.Rows.{shown, put_in, has_row, keys_set}
 
 -- ---- in order
 
@@ -121,13 +120,6 @@ insert_set {X} a x (r ∷ rs) s h = by_case (insert_set a x rs s.1) (same_name r
 pub set_one : {X : Type 0} (rs new : List (Name × X)) (a : Name) (x : X) → has_name (keys_of (ordered rs)) a ≡ true
     → ((b : Name) → lookup (same_name b) new ≡ cond (same_name a b) (Some x) (lookup (same_name b) rs)) → ordered new ≡ set_value (is_at (name_cmp a)) (ordered rs) x
 set_one rs new a x there is = put_one rs new a x is ∙ insert_set a x (ordered rs) (ordered_sorted rs) there
-
-pub keys_set : {X : Type 0} (p : Name → Bool) (x : X) (rs : List (Name × X)) → keys_of (set_value p rs x) ≡ keys_of rs
-keys_set p x [] = refl
-keys_set {X} p x (r ∷ rs) = by_case (keys_set p x rs) (p r.0) where
-  by_case : keys_of (set_value p rs x) ≡ keys_of rs → (t : Bool) → keys_of (cond t ((r.0, x) ∷ rs) (r ∷ set_value p rs x)) ≡ r.0 ∷ keys_of rs
-  by_case later true = refl
-  by_case later false = ap (λ ns. r.0 ∷ ns) later
 
 -- ---- what calls leave
 

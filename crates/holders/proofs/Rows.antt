@@ -1,5 +1,5 @@
 -- Rows by name, of which some are empty.
-use Rattle.std.proofs.Common.{◌≡◌, Bool, true, false, not, ◌&&◌, ◌||◌, map, filter, List, [], ◌∷◌, ◌++◌, refl, sym, ap, ◌∙◌, subst}
+use Rattle.std.proofs.Common.{◌≡◌, Bool, true, false, cond, not, ◌&&◌, ◌||◌, map, filter, List, [], ◌∷◌, ◌++◌, refl, sym, ap, ◌∙◌, subst}
 use Rattle.std.specs.Prelude.{Option, Some, None, is_some}
 use Rattle.std.proofs.lemmas.Bool.{true≢false, false≢true}
 use Rattle.std.proofs.lemmas.List.Kept.{IsStrictlySortedBy-filter}
@@ -78,6 +78,14 @@ room_held {V} a (r ∷ rs) e = by_case (room_held a rs) (same_name r.0 a) refl e
   by_case later false d e Less k = simp k refl
   by_case later false d e Equal k = absurd (true≢false (sym (ap is_eq k) ∙ at_name a r.0 ∙ d))
   by_case later false d e Greater k = simp k (ap (with_row r.0 r.1) (later (rw d at e)))
+
+-- a value put into its row leaves the names
+pub keys_set : {X : Type 0} (p : Name → Bool) (x : X) (rs : List (Name × X)) → keys_of (set_value p rs x) ≡ keys_of rs
+keys_set p x [] = refl
+keys_set {X} p x (r ∷ rs) = by_case (keys_set p x rs) (p r.0) where
+  by_case : keys_of (set_value p rs x) ≡ keys_of rs → (t : Bool) → keys_of (cond t ((r.0, x) ∷ rs) (r ∷ set_value p rs x)) ≡ r.0 ∷ keys_of rs
+  by_case later true = refl
+  by_case later false = ap (λ ns. r.0 ∷ ns) later
 
 -- the names once there is a row for one
 pub has_put : {X : Type 0} (a b : Name) (x : X) (rs : List (Name × X)) → has_name (keys_of (insert_entry name_cmp rs a x)) b ≡ same_name a b || has_name (keys_of rs) b
@@ -287,7 +295,7 @@ has_end (m ∷ ns) n b = ap (λ t. same_name m b || t) (has_end ns n b) ∙ grou
   grouped false t u = refl
 
 -- whether b is foreign is told by a holder of the same name
-foreign_as : (a b holder : Name) (t : Bool) → not (is_ancestor holder a) ≡ t → same_name holder b ≡ true → not (is_ancestor b a) ≡ t
+pub foreign_as : (a b holder : Name) (t : Bool) → not (is_ancestor holder a) ≡ t → same_name holder b ≡ true → not (is_ancestor b a) ≡ t
 foreign_as a b holder t e same = subst (λ x. not (is_ancestor x a) ≡ t) (same_is holder b same) e
 
 -- what a set of names has once a foreign holder was added

@@ -1,2 +1,4 @@
+pub mod Few
 pub mod Held
 pub mod Indexed
+pub mod Places

@@ -1,37 +1,51 @@
-//! Holders in the order of their names, so that an action and its descendants stand next to each other.
-ghost use Rattle.std.specs.Prelude.{◌≡◌, ◌||◌, ◌&&◌, false, not, [], IsTrue, IfOk, OnOk, OnErr, IfSome, IsNone, filter, is_some};
-ghost use Rattle.std.specs.BTreeMap.{ContainsKey};
+//! Holders in the order of their names, so that an action and its descendants stand next to each other: in a vector while they are few, as nearly always,
+//! and in a tree from then on.
+ghost use Rattle.std.specs.Prelude.{◌≡◌, ◌||◌, ◌&&◌, not, [], IsTrue, IfOk, OnOk, OnErr, filter};
 ghost use Rattle.std.specs.List.{list_any};
 ghost use Rattle.std.specs.List.Sorted.{IsStrictlySortedBy};
 ghost use Rattle.std.specs.Option.{option_copied};
 ghost use Rattle.action_names.specs.Names.{Name, has_name, name_cmp, is_ancestor};
-ghost use Rattle.holders.specs.Held.{value_at, names_of, with_value, without, without_below, held_in, HasMoreRoom, HasLessRoom};
+ghost use Rattle.holders.specs.Held.{value_at, names_of, with_value, without, without_below, HasMoreRoom, HasLessRoom};
+ghost use Rattle.holders.specs.Few.{AreRows};
 
+use crate::few::FewHolders;
 use crate::survivors::Survivors;
+use crate::trees::TreeHolders;
 use action_names::Name;
 use std::alloc::{AllocError, Global};
+use std::collections::BTreeSet;
 use std::collections::btree_map::Iter;
-use std::collections::{BTreeMap, BTreeSet};
 use std::marker::Model;
+
+/// How many names a vector has room for at most.
+const MOST: usize = 8;
+
+/// Rows in the order of names: what each name holds, if anything.
+#[derive(Drop)]
+pub enum HolderRows<'a, V> {
+    Few(&'a [(Name, Option<V>)]),
+    Many(Iter<'a, Name, Option<V>>),
+}
 
 /// What each holder holds, and the names for which there is room.
 #[derive(Drop)]
 pub struct Holders<V> {
-    alloc: Global,
-    rows: BTreeMap<Name, Option<V>>,
+    kept: Kept<V>,
+}
+
+#[derive(Drop)]
+enum Kept<V> {
+    Few(FewHolders<V>),
+    Many(TreeHolders<V>),
 }
 
 impl<V> Model for Holders<V> {
-    ghost use Rattle.std.specs.BTreeMap.{keys};
-    ghost use Rattle.std.specs.List.Sorted.{IsStrictlySortedBy};
-    ghost use Rattle.action_names.specs.Names.{name_cmp};
-    ghost use Rattle.holders.specs.Held.{Rows, held_in};
+    ghost use Rattle.holders.specs.Held.{Rows};
+    ghost use Rattle.holders.specs.Few.{rows_kept};
 
     ghost Value = { Rows V };
 
-    ghost view = { λ a. record { held = held_in a.rows.entries; room = keys a.rows } };
-
-    ghost invariant = { λ a. IsStrictlySortedBy name_cmp (keys a.rows) };
+    ghost view = { λ a. rows_kept a.kept };
 }
 
 impl<V: Drop> Holders<V> {
@@ -40,8 +54,7 @@ impl<V: Drop> Holders<V> {
         ensures { result ≡ record { held = []; room = [] } }
     {
         Holders {
-            alloc,
-            rows: BTreeMap::new(alloc),
+            kept: Kept::Few(FewHolders::new(alloc)),
         }
     }
 
@@ -49,26 +62,20 @@ impl<V: Drop> Holders<V> {
     pub fn get(&self, holder: &Name) -> Option<&V>
         ensures { option_copied result ≡ value_at self.now.held holder.now }
     {
-        self.rows.get(holder)?.as_ref()
+        match &self.kept {
+            Kept::Few(few) => few.get(holder),
+            Kept::Many(many) => many.get(holder),
+        }
     }
 
     /// Whether the holder holds anything. This takes no memory.
     pub fn holds(&self, holder: &Name) -> bool
         ensures { result ≡ has_name (names_of self.now.held) holder.now }
     {
-        self.get(holder).is_some()
-    }
-
-    /// Makes room for what the holder is to hold. What is held stays; after want of memory nothing is changed.
-    pub fn make_room(&mut self, holder: &Name) -> Result<(), AllocError>
-        ensures held { self.new.held ≡ self.old.held }
-        ensures room { OnOk result (HasMoreRoom self.old.room self.new.room holder.now) }
-        ensures err { OnErr result (self.new ≡ self.old) }
-    {
-        if !self.rows.contains_key(holder) {
-            self.rows.insert(holder.copy()?, None)?;
+        match &self.kept {
+            Kept::Few(few) => few.holds(holder),
+            Kept::Many(many) => many.holds(holder),
         }
-        Ok(())
     }
 
     /// Gives the value to a holder for which there is room, in the place of what it held. This takes no memory.
@@ -79,8 +86,9 @@ impl<V: Drop> Holders<V> {
         ensures rose { IsStrictlySortedBy name_cmp (names_of self.old.held) }
         ensures rising { IsStrictlySortedBy name_cmp (names_of self.new.held) }
     {
-        if let Some(row) = self.rows.get_mut(holder) {
-            *row = Some(value);
+        match &mut self.kept {
+            Kept::Few(few) => few.put(holder, value),
+            Kept::Many(many) => many.put(holder, value),
         }
     }
 
@@ -91,8 +99,9 @@ impl<V: Drop> Holders<V> {
         ensures room { self.new.room ≡ self.old.room }
         ensures rising { IsStrictlySortedBy name_cmp (names_of self.new.held) }
     {
-        if let Some(row) = self.rows.get_mut(holder) {
-            *row = None;
+        match &mut self.kept {
+            Kept::Few(few) => few.empty(holder),
+            Kept::Many(many) => many.empty(holder),
         }
     }
 
@@ -103,16 +112,22 @@ impl<V: Drop> Holders<V> {
         ensures room { HasLessRoom self.old.room self.new.room holder.now }
         ensures rising { IsStrictlySortedBy name_cmp (names_of self.new.held) }
     {
-        self.rows.remove(holder)?
+        match &mut self.kept {
+            Kept::Few(few) => few.take(holder),
+            Kept::Many(many) => many.take(holder),
+        }
     }
 
-    /// Drops what the action and its descendants hold, and their room. It looks at these and one more. This takes no memory.
+    /// Drops what the action and its descendants hold, and their room. It looks at these and one more, and at a few others. This takes no memory.
     pub fn drop_below(&mut self, action: &Name)
         ensures held { self.new.held ≡ without_below self.old.held action.now }
         ensures room { self.new.room ≡ filter (λ b. not (is_ancestor action.now b)) self.old.room }
         ensures rising { IsStrictlySortedBy name_cmp (names_of self.new.held) }
     {
-        remove_below(&mut self.rows, action);
+        match &mut self.kept {
+            Kept::Few(few) => few.drop_below(action),
+            Kept::Many(many) => many.drop_below(action),
+        }
     }
 
     /// Drops what all but the survivors hold, and their room. This takes no memory.
@@ -121,7 +136,10 @@ impl<V: Drop> Holders<V> {
         ensures room { self.new.room ≡ filter (S.stays survivors.now) self.old.room }
         ensures rising { IsStrictlySortedBy name_cmp (names_of self.new.held) }
     {
-        self.rows.retain(|holder, _| survivors.stays(holder));
+        match &mut self.kept {
+            Kept::Few(few) => few.keep(survivors),
+            Kept::Many(many) => many.keep(survivors),
+        }
     }
 
     /// Whether one that holds is no ancestor of the action. In the order of names those that stand before the first such one are ancestors
@@ -129,19 +147,20 @@ impl<V: Drop> Holders<V> {
     pub fn has_foreign(&self, action: &Name) -> bool
         ensures { result ≡ list_any (λ b. not (is_ancestor b action.now)) (names_of self.now.held) }
     {
-        for (holder, row) in self.rows.iter() {
-            if is_foreign(holder, row, action) {
-                return true;
-            }
+        match &self.kept {
+            Kept::Few(few) => few.has_foreign(action),
+            Kept::Many(many) => many.has_foreign(action),
         }
-        false
     }
 
     /// Whether the action or a descendant holds anything. It looks at these and one more. This takes no memory.
     pub fn has_below(&self, action: &Name) -> bool
         ensures { result ≡ list_any (λ b. is_ancestor action.now b) (names_of self.now.held) }
     {
-        any_below(&self.rows, action)
+        match &self.kept {
+            Kept::Few(few) => few.has_below(action),
+            Kept::Many(many) => many.has_below(action),
+        }
     }
 
     /// All that hold, in the order of names. Fails only for want of memory.
@@ -149,13 +168,10 @@ impl<V: Drop> Holders<V> {
         ensures names { IfOk result (λ names. names.items ≡ names_of self.now.held) }
         ensures rising { IfOk result (λ names. IsStrictlySortedBy name_cmp names.items) }
     {
-        let mut names = Vec::new(self.alloc);
-        for (holder, row) in self.rows.iter() {
-            if row.is_some() {
-                names.push(holder.copy()?)?;
-            }
+        match &self.kept {
+            Kept::Few(few) => few.names(),
+            Kept::Many(many) => many.names(),
         }
-        Ok(names)
     }
 
     /// Adds those that hold and are no ancestors of the action to the names. Fails only for want of memory.
@@ -163,80 +179,61 @@ impl<V: Drop> Holders<V> {
         ensures { OnOk result ((b : Name) → has_name names.new.keys b
             ≡ (has_name names.old.keys b || (not (is_ancestor b action.now) && has_name (names_of self.now.held) b))) }
     {
-        for (holder, row) in self.rows.iter() {
-            if is_foreign(holder, row, action) {
-                names.insert(holder.copy()?)?;
-            }
+        match &self.kept {
+            Kept::Few(few) => few.add_foreign(names, action),
+            Kept::Many(many) => many.add_foreign(names, action),
         }
-        Ok(())
     }
 
     /// The rows, in the order of names; those that hold nothing are room. This takes no memory.
-    pub fn rows(&self) -> Iter<'_, Name, Option<V>>
-        ensures held { held_in result ≡ self.now.held }
+    pub fn rows(&self) -> HolderRows<'_, V>
+        ensures held { AreRows self.now.held result }
         ensures rising { IsStrictlySortedBy name_cmp (names_of self.now.held) }
     {
-        self.rows.iter()
+        match &self.kept {
+            Kept::Few(few) => HolderRows::Few(few.rows()),
+            Kept::Many(many) => HolderRows::Many(many.rows()),
+        }
     }
 }
 
 impl<V: Copy> Holders<V> {
+    /// Makes room for what the holder is to hold. What is held stays; after want of memory nothing is changed.
+    pub fn make_room(&mut self, holder: &Name) -> Result<(), AllocError>
+        ensures held { self.new.held ≡ self.old.held }
+        ensures room { OnOk result (HasMoreRoom self.old.room self.new.room holder.now) }
+        ensures err { OnErr result (self.new ≡ self.old) }
+    {
+        self.make_tree()?;
+        match &mut self.kept {
+            Kept::Few(few) => few.make_room(holder),
+            Kept::Many(many) => many.make_room(holder),
+        }
+    }
+
     /// The same again, with the same room. Fails only for want of memory.
     pub fn copy(&self) -> Result<Self, AllocError>
         ensures { IfOk result (λ copy. copy ≡ self.now) }
     {
-        let mut rows = BTreeMap::new(self.alloc);
-        for (holder, row) in self.rows.iter() {
-            rows.insert(holder.copy()?, *row)?;
-        }
-        Ok(Holders {
-            alloc: self.alloc,
-            rows,
-        })
-    }
-}
-
-// Whether the row holds something and its holder is no ancestor of the action.
-fn is_foreign<V>(holder: &Name, row: &Option<V>, action: &Name) -> bool
-    ensures { result ≡ (is_some row.now && not (is_ancestor holder.now action.now)) }
-{
-    row.is_some() && !holder.is_ancestor(action)
-}
-
-// Whether a row of the action or of a descendant holds something. They stand next to each other, from the action on.
-fn any_below<V>(rows: &BTreeMap<Name, Option<V>>, action: &Name) -> bool
-    ensures { result ≡ list_any (λ r. is_some r.1 && is_ancestor action.now r.0) rows.now.entries }
-{
-    rows.range(action..)
-        .take_while(|(holder, _)| action.is_ancestor(holder))
-        .any(|(_, row)| row.is_some())
-}
-
-// The first name of the action and its descendants that has a row.
-fn first_below<'a, R>(rows: &'a BTreeMap<Name, R>, action: &Name) -> Option<&'a Name>
-    ensures none { IsNone result → list_any (λ r. is_ancestor action.now r.0) rows.now.entries ≡ false }
-    ensures below { IfSome result (λ first. IsTrue (is_ancestor action.now first.now)) }
-    ensures row { IfSome result (λ first. ContainsKey name_cmp rows.now first.now) }
-{
-    let (first, _) = rows.range(action..).next()?;
-    if action.is_ancestor(first) {
-        Some(first)
-    } else {
-        None
-    }
-}
-
-/// Removes the rows of the action and its descendants, whatever a row is. It looks at these and one more, and at all where a name has too many
-/// copies for one more. This takes no memory.
-pub fn remove_below<R: Drop>(rows: &mut BTreeMap<Name, R>, action: &Name)
-    ensures { rows.new.entries ≡ filter (λ r. not (is_ancestor action.now r.0)) rows.old.entries }
-{
-    while let Some(first) = first_below(rows, action) {
-        // The name in the map can't be used while its row is removed.
-        let Ok(name) = first.copy() else {
-            rows.retain(|holder, _| !action.is_ancestor(holder));
-            return;
+        let kept = match &self.kept {
+            Kept::Few(few) => Kept::Few(few.copy()?),
+            Kept::Many(many) => Kept::Many(many.copy()?),
         };
-        rows.remove(&name);
+        Ok(Holders { kept })
+    }
+
+    // Goes over to a tree where the vector has as many names as it is to have. Fails only for want of memory.
+    fn make_tree(&mut self) -> Result<(), AllocError>
+        ensures { self.new ≡ self.old }
+    {
+        let Kept::Few(few) = &self.kept else {
+            return Ok(());
+        };
+        if few.len() < MOST {
+            return Ok(());
+        }
+        let many = few.to_tree()?;
+        self.kept = Kept::Many(many);
+        Ok(())
     }
 }

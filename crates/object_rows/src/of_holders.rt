@@ -3,7 +3,7 @@ use crate::reading::{int, name};
 use crate::surviving::Survivor;
 use crate::writing::write_word;
 use action_names::Name;
-use holders::Holders;
+use holders::{HolderRows, Holders};
 use rows::{Row, RowFault, Words};
 use std::alloc::{AllocError, Global};
 use std::collections::BTreeSet;
@@ -107,10 +107,16 @@ impl Holding {
 
     /// Writes each holder with its number, and alone each name that has room and holds nothing.
     fn rows(&self, answer: &mut String) -> Result<(), AllocError> {
-        for (holder, row) in self.holders.rows() {
-            write_word(holder, answer)?;
-            if let Some(number) = row {
-                write!(answer, "={number}")?;
+        match self.holders.rows() {
+            HolderRows::Few(rows) => {
+                for (holder, row) in rows {
+                    write_row(holder, row, answer)?;
+                }
+            }
+            HolderRows::Many(rows) => {
+                for (holder, row) in rows {
+                    write_row(holder, row, answer)?;
+                }
             }
         }
         Ok(())
@@ -130,4 +136,12 @@ impl Holding {
         }
         Ok(())
     }
+}
+
+fn write_row(holder: &Name, row: &Option<i64>, answer: &mut String) -> Result<(), AllocError> {
+    write_word(holder, answer)?;
+    if let Some(number) = row {
+        write!(answer, "={number}")?;
+    }
+    Ok(())
 }

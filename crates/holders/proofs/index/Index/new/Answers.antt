@@ -1,5 +1,4 @@
-use Rattle.std.proofs.Common.{◌≡◌, List, [], ◌∙◌, ap}
-use Rattle.action_names.specs.Names.{Name}
+use Rattle.std.proofs.Common.{◌∙◌, ap}
 use Rattle.holders.specs.Indexed.{ordered}
 use Rattle.holders.proofs.Rows.{shown}
 use Rattle.holders.proofs.Indexed.{ordered_none}

@@ -1,0 +1,44 @@
+use Rattle.std.proofs.Common.{◌∙◌, sym, ap, subst}
+use Rattle.std.specs.BTreeMap.{is_at}
+use Rattle.std.specs.List.Sorted.{IsStrictlySortedBy}
+use Rattle.std.specs.Map.{keys_of}
+use Rattle.action_names.specs.Names.{name_cmp}
+use Rattle.holders.proofs.Places.{sorted_out}
+use Rattle.holders.proofs.Rows.{flat, held_sorted, out_held, out_room, found_at}
+use Rattle.holders.proofs.few.FewHolders.take.Goals as goal
+
+pub returns-in_err-remove-clause-taken : goal.returns-in_err-remove-clause-taken
+returns-in_err-remove-clause-taken g c =
+    c.from_residual.ensures ∙ ap flat (sym c.in_err-remove.was) ∙ found_at _ c.self.inside.rows.items _ c.self.view_is c.self.invariant _ c.remove.ensures.value
+
+pub returns-clause-taken : goal.returns-clause-taken
+returns-clause-taken g c =
+    ap flat (sym c.in_ok-remove.was) ∙ found_at _ c.self.inside.rows.items _ c.self.view_is c.self.invariant _ c.remove.ensures.value
+
+pub returns-in_err-remove-clause-held : goal.returns-in_err-remove-clause-held
+returns-in_err-remove-clause-held g c = out_held _ c.self.inside.rows.items _ _ c.self.view_is c.self.invariant c.remove.ensures.rows
+
+pub returns-in_err-remove-clause-room : goal.returns-in_err-remove-clause-room
+returns-in_err-remove-clause-room g c = λ b. out_room _ c.self.inside.rows.items _ _ b c.self.view_is c.self.invariant c.remove.ensures.rows
+
+pub returns-clause-held : goal.returns-clause-held
+returns-clause-held g c = out_held _ c.self.inside.rows.items _ _ c.self.view_is c.self.invariant c.remove.ensures.rows
+
+pub returns-clause-room : goal.returns-clause-room
+returns-clause-room g c = λ b. out_room _ c.self.inside.rows.items _ _ b c.self.view_is c.self.invariant c.remove.ensures.rows
+
+pub invariant_of-self : goal.invariant_of-self
+invariant_of-self g c =
+    subst (λ rs. IsStrictlySortedBy name_cmp (keys_of rs)) (sym c.remove.ensures.rows)
+    (sorted_out (is_at (name_cmp c.args.holder.now)) c.self.inside.rows.items c.self.invariant)
+
+pub invariant_of-self-2 : goal.invariant_of-self-2
+invariant_of-self-2 g c =
+    subst (λ rs. IsStrictlySortedBy name_cmp (keys_of rs)) (sym c.remove.ensures.rows)
+    (sorted_out (is_at (name_cmp c.args.holder.now)) c.self.inside.rows.items c.self.invariant)
+
+pub returns-in_err-remove-clause-rising : goal.returns-in_err-remove-clause-rising
+returns-in_err-remove-clause-rising g c = held_sorted c.remove.new.rows.items (invariant_of-self g c)
+
+pub returns-clause-rising : goal.returns-clause-rising
+returns-clause-rising g c = held_sorted c.remove.new.rows.items (invariant_of-self-2 g c)

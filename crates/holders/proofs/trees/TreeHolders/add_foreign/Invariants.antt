@@ -1,0 +1,10 @@
+use Rattle.std.proofs.Common.{◌≡◌, ◌||◌, ◌&&◌, not, map}
+use Rattle.std.specs.Map.Iter.{deref_pair}
+use Rattle.action_names.specs.Names.{Name, has_name, is_ancestor}
+use Rattle.holders.specs.Held.{names_of, held_in}
+use Rattle.holders.proofs.trees.TreeHolders.add_foreign.Given as goal
+
+-- the foreign holders so far are added
+abbrev pub invariant-loop-holder : goal.invariant-loop-holder
+invariant-loop-holder g l = (b : Name) → has_name l.names.keys b
+    ≡ (has_name l.initial.names.keys b || (not (is_ancestor b l.action) && has_name (names_of (held_in (map deref_pair l.yielded))) b))

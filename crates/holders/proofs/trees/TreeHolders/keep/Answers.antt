@@ -1,0 +1,19 @@
+use Rattle.std.proofs.Common.{rules}
+use Rattle.holders.proofs.Kept.{kept_by}
+use Rattle.holders.proofs.Rows.{held_sorted, kept_held, kept_room}
+use Rattle.holders.proofs.trees.TreeHolders.keep.Goals as goal
+
+pub returns-clause-held : goal.returns-clause-held
+returns-clause-held g c =
+    let stays = g.S.Survivors.stays c.args.survivors.now in
+    kept_held _ c.self.inside.rows.entries _ stays c.self.view_is
+    (kept_by _ _ _ _ c.retain.ensures.filtered (λ r. stays r.0) (λ k v b w f h. (search rules, search rules, search rules)))
+
+pub returns-clause-room : goal.returns-clause-room
+returns-clause-room g c =
+    let stays = g.S.Survivors.stays c.args.survivors.now in
+    kept_room _ c.self.inside.rows.entries _ stays c.self.view_is
+    (kept_by _ _ _ _ c.retain.ensures.filtered (λ r. stays r.0) (λ k v b w f h. (search rules, search rules, search rules)))
+
+pub returns-clause-rising : goal.returns-clause-rising
+returns-clause-rising g c = held_sorted c.retain.new.self.entries (search rules)

@@ -1,0 +1,130 @@
+//! Rows in a vector, in the order of their names: mostly there are one or two. A name's row is found by a binary search.
+ghost use Rattle.std.specs.Prelude.{◌≡◌, ◌≤◌, ◌&&◌, not, length, drop, filter, is_some, IfOk, IfErr, OnOk, OnErr, if◌then◌else◌};
+ghost use Rattle.std.specs.BTreeMap.{insert_entry, is_at};
+ghost use Rattle.std.specs.List.{list_any, take_while};
+ghost use Rattle.std.specs.List.Sorted.{IsStrictlySortedBy, IsSearchInRange};
+ghost use Rattle.std.specs.Map.{keys_of, lookup, remove_entry, set_value};
+ghost use Rattle.std.specs.Option.{option_copied};
+ghost use Rattle.action_names.specs.Names.{has_name, is_ancestor, name_cmp};
+ghost use Rattle.holders.specs.Places.{IsRowAt, IsGapAt, IsStartAt};
+
+use action_names::Name;
+use std::alloc::AllocError;
+
+/// The row of the name.
+pub(crate) fn find<'a, R>(rows: &'a [(Name, R)], name: &Name) -> Option<&'a R>
+    requires { IsStrictlySortedBy name_cmp (keys_of rows.now) }
+    ensures { option_copied result ≡ lookup (is_at (name_cmp name.now)) rows.now }
+{
+    match place(rows, name) {
+        Ok(at) => Some(&rows[at].1),
+        Err(_) => None,
+    }
+}
+
+/// Puts in a row of the name, unless it has one. After want of memory nothing is changed.
+pub(crate) fn add<R: Drop>(rows: &mut Vec<(Name, R)>, name: &Name, row: R) -> Result<(), AllocError>
+    requires { IsStrictlySortedBy name_cmp (keys_of rows.old.items) }
+    ensures ok { OnOk result (rows.new.items ≡ (if has_name (keys_of rows.old.items) name.now then rows.old.items else insert_entry name_cmp rows.old.items name.now row)) }
+    ensures err { OnErr result (rows.new.items ≡ rows.old.items) }
+{
+    match place(rows, name) {
+        Ok(_) => Ok(()),
+        Err(at) => {
+            let own = name.copy()?;
+            Ok(rows.insert(at, (own, row))?)
+        }
+    }
+}
+
+/// Changes the row of the name, if it has one.
+pub(crate) fn write<R: Drop>(rows: &mut Vec<(Name, R)>, name: &Name, row: R)
+    requires { IsStrictlySortedBy name_cmp (keys_of rows.old.items) }
+    ensures { rows.new.items ≡ set_value (is_at (name_cmp name.now)) rows.old.items row }
+{
+    if let Ok(at) = place(rows, name) {
+        let entry = &mut rows[at];
+        entry.1 = row;
+    }
+}
+
+/// Takes out the row of the name.
+pub(crate) fn remove<R>(rows: &mut Vec<(Name, R)>, name: &Name) -> Option<R>
+    requires { IsStrictlySortedBy name_cmp (keys_of rows.old.items) }
+    ensures value { result ≡ lookup (is_at (name_cmp name.now)) rows.old.items }
+    ensures rows { rows.new.items ≡ remove_entry (is_at (name_cmp name.now)) rows.old.items }
+{
+    match place(rows, name) {
+        Ok(at) => Some(rows.remove(at).1),
+        Err(_) => None,
+    }
+}
+
+/// Drops the rows of the action and its descendants.
+pub(crate) fn drop_below<R: Drop>(rows: &mut Vec<(Name, R)>, action: &Name)
+    requires { IsStrictlySortedBy name_cmp (keys_of rows.old.items) }
+    ensures { rows.new.items ≡ filter (λ r. not (is_ancestor action.now r.0)) rows.old.items }
+{
+    let from = start(rows, action);
+    let count = count_below(&rows[from..], action);
+    rows.drain(from..from + count);
+}
+
+/// Whether a row of the action or of a descendant holds something. They stand next to each other, from the action on.
+pub(crate) fn any_below<V>(rows: &[(Name, Option<V>)], action: &Name) -> bool
+    requires { IsStrictlySortedBy name_cmp (keys_of rows.now) }
+    ensures { result ≡ list_any (λ r. is_some r.1 && is_ancestor action.now r.0) rows.now }
+{
+    let from = start(rows, action);
+    rows[from..]
+        .iter()
+        .take_while(|(holder, _)| action.is_ancestor(holder))
+        .any(|(_, row)| row.is_some())
+}
+
+/// Whether a row holds something and its holder is no ancestor of the action.
+pub(crate) fn any_foreign<V>(rows: &[(Name, Option<V>)], action: &Name) -> bool
+    ensures { result ≡ list_any (λ r. is_some r.1 && not (is_ancestor r.0 action.now)) rows.now }
+{
+    rows.iter()
+        .any(|(holder, row)| is_foreign(holder, row, action))
+}
+
+/// Whether the row holds something and its holder is no ancestor of the action.
+pub(crate) fn is_foreign<V>(holder: &Name, row: &Option<V>, action: &Name) -> bool
+    ensures { result ≡ (is_some row.now && not (is_ancestor holder.now action.now)) }
+{
+    row.is_some() && !holder.is_ancestor(action)
+}
+
+// How many rows of the action and its descendants come first.
+fn count_below<R>(rows: &[(Name, R)], action: &Name) -> usize
+    ensures count { result ≡ length (take_while (λ r. is_ancestor action.now r.0) rows.now) }
+    ensures within { result ≤ length rows.now }
+{
+    rows.iter()
+        .take_while(|row| action.is_ancestor(&row.0))
+        .count()
+}
+
+// Where the row of the name stands, or the first of a greater name.
+fn start<R>(rows: &[(Name, R)], name: &Name) -> usize
+    requires { IsStrictlySortedBy name_cmp (keys_of rows.now) }
+    ensures start { IsStartAt rows.now name.now result }
+    ensures within { result ≤ length rows.now }
+{
+    match place(rows, name) {
+        Ok(at) => at,
+        Err(at) => at,
+    }
+}
+
+// Where the row of the name stands, or would stand.
+fn place<R>(rows: &[(Name, R)], name: &Name) -> Result<usize, usize>
+    requires { IsStrictlySortedBy name_cmp (keys_of rows.now) }
+    ensures found { IfOk result (IsRowAt rows.now name.now) }
+    ensures absent { IfErr result (IsGapAt rows.now name.now) }
+    ensures within { IsSearchInRange result (length rows.now) }
+{
+    rows.binary_search_by(|(known, _)| known.cmp(name))
+}
