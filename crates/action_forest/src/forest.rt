@@ -206,6 +206,13 @@ impl Forest {
         self.node(path)?.depends.get(guardian)
     }
 
+    /// On which guardians the action depends, with the least incarnation of each.
+    pub fn depends(&self, path: &[u32]) -> Option<&Deps>
+        ensures { AtEach (trees self.now) (λ opening registry. (g : ℕ) → option_and_then (λ depends. map.get depends.now g) result ≡ dependency_there path.now g registry) }
+    {
+        Some(&self.node(path)?.depends)
+    }
+
     /// On which guardians the action depends, rising, each with the least incarnation.
     pub fn dependencies(&self, path: &[u32]) -> Result<Vec<(u32, u64)>, AllocError>
         ensures { AtEach (trees self.now) (λ opening registry. IfOk result (λ entries. entries.items ≡ entries_of opening (λ h. dependency_there path.now h registry))) }

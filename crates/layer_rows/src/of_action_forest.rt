@@ -70,6 +70,7 @@ impl Growing {
         match row.call {
             "is" => self.tests(path, answer),
             "dependencies" => Ok(self.dependencies(path, answer)?),
+            "depends" => Ok(self.depends(path, answer)?),
             call => tell(&self.forest, call, path, answer),
         }
     }
@@ -77,6 +78,13 @@ impl Growing {
     fn dependencies(&self, path: &[u32], answer: &mut String) -> Result<(), AllocError> {
         let entries = self.forest.dependencies(path)?;
         write!(answer, "{:?}", entries.as_slice())
+    }
+
+    fn depends(&self, path: &[u32], answer: &mut String) -> Result<(), AllocError> {
+        match self.forest.depends(path) {
+            Some(depends) => write!(answer, "{:?}", depends.entries()),
+            None => answer.push_str("none"),
+        }
     }
 
     /// Which tests the action passes.

@@ -1,5 +1,5 @@
 -- Actions and votes follow an event that was entered.
-use Rattle.std.proofs.Common.{Bool, List, [], ap, cond, false, length, refl, subst, sym, true, ℕ, ◌∙◌, ◌∷◌, ◌≡◌}
+use Rattle.std.proofs.Common.{Bool, List, [], ap, cond, false, refl, subst, sym, true, ℕ, ◌∙◌, ◌∷◌, ◌≡◌}
 use Rattle.std.proofs.lemmas.Bool.{false≢true}
 use Rattle.action_names.specs.Names.{Name, is_top, last_of}
 use Rattle.run_model.specs.declared.answer.Answer.{Answer}
@@ -21,7 +21,7 @@ use Rattle.action_forest.specs.declared.forest.Begun.{Begun}
 use Rattle.action_forest.specs.declared.forest.Commitment.{Commitment}
 use Rattle.two_phase.specs.Ballots.{vote}
 use Rattle.two_phase.specs.declared.ballot.Ballot.{Ballot}
-use Rattle.registry.specs.Following.{AreActions, AreAlone, AreBegun, IsEntered, MayEnd, event_after, is_ending, is_yes_vote, takes_room}
+use Rattle.registry.specs.Following.{AreActions, AreBegun, IsEntered, MayEnd, event_after, is_ending, is_yes_vote, takes_room}
 use Rattle.registry.specs.Polls.{AreBallots, AreNoted, IsVoteOn, ballot_in, is_yes_in, top_in, voter_in}
 use Rattle.registry.specs.declared.actions.Actions.{Actions}
 use Rattle.registry.specs.declared.ballots.Vote.{Vote}
@@ -125,12 +125,12 @@ module _ (opening : Opening) (registry : List RegistryEvent) where
 
     -- actions begin
     pub begun_follows : (new : Actions) (begun : Begun) → (names : List Name) × (e.answer ≡ Began names) × AreBegun opening registry e.step names home life actions begun
-        → new.ballots ≡ actions.ballots → new.alone ≡ actions.alone
+        → new.ballots ≡ actions.ballots
         → ((step : Step) (names : List Name) (home life : ℕ) → IsBeginning opening registry step names home
         → AreBorn opening registry (maker_in step) home life (trees actions.forest) names begun
         → IsForest opening (beginning opening registry stamp step names home life ∷ registry) (trees new.forest))
         → AreActions opening after new
-    begun_follows new begun fits ballots alone grows =
+    begun_follows new begun fits ballots grows =
         let names = fits.0 in
         record {
           forest =
@@ -140,16 +140,15 @@ module _ (opening : Opening) (registry : List RegistryEvent) where
           ballots =
               subst (λ b. AreBallots (e ∷ events_there registry) b) (sym ballots)
               (silent e (events_there registry) actions.ballots.ballots.entries (begins_silent e.step e.answer names has fits.1) are.ballots);
-          alone = subst (λ all. AreAlone (length opening.setup) all.items) (sym alone) are.alone;
         }
 
     -- a subaction commits
     pub commit_follows : (new : Actions) (commitment : Commitment) → (a : Name) × (e.step ≡ Commit a) × IsCommitmentOf (trees actions.forest) a commitment
-        → new.ballots ≡ actions.ballots → new.alone ≡ actions.alone
+        → new.ballots ≡ actions.ballots
         → ((a : Name) → IsCommitmentOf (trees actions.forest) a commitment → IsUnended (events_there registry) a → is_top a ≡ false
         → IsForest opening (done stamp (Commit a) ∷ registry) (trees new.forest))
         → AreActions opening after new
-    commit_follows new commitment fits ballots alone ends =
+    commit_follows new commitment fits ballots ends =
         let a = fits.0 in
         let own = subst (λ s. Asked opening registry s e.answer) fits.1 has in
         record {
@@ -159,15 +158,14 @@ module _ (opening : Opening) (registry : List RegistryEvent) where
           ballots =
               subst (λ b. AreBallots (e ∷ events_there registry) b) (sym ballots)
               (silent e (events_there registry) actions.ballots.ballots.entries (λ g t. ap (λ s. step_votes s g t) fits.1) are.ballots);
-          alone = subst (λ all. AreAlone (length opening.setup) all.items) (sym alone) are.alone;
         }
 
     -- a guardian votes
     pub vote_follows : (new : Actions) (v : Vote) → (g : ℕ) × (t : Name) × (e.step ≡ Prepare g t) × IsVoteOn g t (is_yes_vote e.answer) v
-        → trees new.forest ≡ trees actions.forest → new.alone ≡ actions.alone
+        → trees new.forest ≡ trees actions.forest
         → ((past : List Event) → AreBallots past actions.ballots → AreBallots (vote (voter_in v) (top_in v) (is_yes_in v) ∷ past) new.ballots)
         → AreActions opening after new
-    vote_follows new v fits forest alone notes =
+    vote_follows new v fits forest notes =
         let g = fits.0 in
         let t = fits.1 in
         let own = subst (λ s. Asked opening registry s e.answer) fits.2 has in
@@ -183,20 +181,18 @@ module _ (opening : Opening) (registry : List RegistryEvent) where
               (unmoved opening registry (trees actions.forest) (event_after opening registry stamp e home life) (ap names_begun own.1 ∙ vote_begins_none yes_vote)
               (ap is_still fits.2) are.forest);
           ballots = subst (λ f. AreBallots (f ∷ events_there registry) new.ballots) same (notes (events_there registry) are.ballots);
-          alone = subst (λ all. AreAlone (length opening.setup) all.items) (sym alone) are.alone;
         }
 
     -- nothing happens, or what takes no room
-    pub other_follows : (new : Actions) → (takes_room e.step ≡ false) × (names_begun e.answer ≡ []) → new.ballots ≡ actions.ballots → new.alone ≡ actions.alone
+    pub other_follows : (new : Actions) → (takes_room e.step ≡ false) × (names_begun e.answer ≡ []) → new.ballots ≡ actions.ballots
         → (is_ending e.step ≡ false → trees new.forest ≡ trees actions.forest)
         → (MayEnd registry e.step → IsForest opening (done stamp e.step ∷ registry) (trees new.forest))
         → AreActions opening after new
-    other_follows new fits ballots alone stays ends = record {
+    other_follows new fits ballots stays ends = record {
       forest = of (is_ending e.step) refl;
       ballots =
           subst (λ b. AreBallots (e ∷ events_there registry) b) (sym ballots)
           (silent e (events_there registry) actions.ballots.ballots.entries (λ g t. no_vote e.step g t fits.0) are.ballots);
-      alone = subst (λ all. AreAlone (length opening.setup) all.items) (sym alone) are.alone;
     }
       where
         no_vote : (step : Step) (g : ℕ) (t : Name) → takes_room step ≡ false → step_votes step g t ≡ false

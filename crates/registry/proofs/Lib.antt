@@ -1,6 +1,5 @@
 pub mod Votes
 pub mod Asked
 pub mod Follows
-pub mod Alone
 pub mod Reading
 pub mod Planned

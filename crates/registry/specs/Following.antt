@@ -1,6 +1,5 @@
 -- When actions and votes are those of a history, and what an event changes there.
-use Rattle.std.specs.Prelude.{◌≡◌, ◌<◌, ◌||◌, ℕ, suc, Bool, true, false, List, [], MatchOption, IsFalse, IsTrue, is_none, length, slice_get}
-use Rattle.action_names.specs.Deps.{Deps}
+use Rattle.std.specs.Prelude.{◌≡◌, ◌||◌, ℕ, Bool, true, false, List, [], IsFalse, IsTrue, is_none}
 use Rattle.action_names.specs.Names.{Name}
 use Rattle.run_model.specs.declared.answer.Answer.{Answer}
 use Rattle.run_model.specs.declared.answer.Answer.TheVariants.{Began, VoteYes}
@@ -18,20 +17,15 @@ use Rattle.action_forest.specs.Forests.{IsCommitmentOf, IsForest}
 use Rattle.action_forest.specs.Rooms.{AreBorn, FitsBegun}
 use Rattle.action_forest.specs.Trees.{trees}
 use Rattle.action_forest.specs.declared.forest.Begun.{Begun}
-use Rattle.registry.specs.Polls.{AreBallots, FitsBallots, IsAlone, IsVoteOn}
+use Rattle.registry.specs.Polls.{AreBallots, FitsBallots, IsVoteOn}
 use Rattle.registry.specs.declared.actions.Actions.{Actions}
 use Rattle.registry.specs.declared.change.Change.{Change}
 use Rattle.registry.specs.declared.change.Change.TheVariants as change
-
--- for each guardian up to n the dependencies on it alone
-abbrev pub AreAlone : ℕ → List Deps → Type 0
-AreAlone n all = (i : ℕ) → i < n → MatchOption (slice_get all i) ⊥ (IsAlone (suc i))
 
 -- the actions and the votes are those of the history
 pub record AreActions (opening : Opening) (registry : List RegistryEvent) (actions : Actions) : Type 0 where
   pub forest : IsForest opening registry (trees actions.forest)
   pub ballots : AreBallots (events_there registry) actions.ballots
-  pub alone : AreAlone (length opening.setup) actions.alone.items
 
 -- and of some history
 abbrev pub AreOfSome : Opening → Actions → Type 0

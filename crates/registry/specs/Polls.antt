@@ -1,8 +1,6 @@
 -- When ballots say what a history says of the votes on top actions.
-use Rattle.std.specs.Prelude.{◌≡◌, ◌==◌, not, ℕ, Bool, List, [], ◌∷◌, Option, Some, None, MatchOption, IsFalse, is_none, nat_eq}
-use Rattle.std.specs.FinMap as map
+use Rattle.std.specs.Prelude.{◌≡◌, ℕ, Bool, List, [], ◌∷◌, Option, Some, None, MatchOption, IsFalse, nat_eq}
 use Rattle.std.specs.Map.{lookup}
-use Rattle.action_names.specs.Deps.{Deps}
 use Rattle.action_names.specs.Names.{Name, last_of}
 use Rattle.run_model.specs.declared.history.Event.{Event}
 use Rattle.run_model.specs.Votes.{has_voted}
@@ -54,7 +52,3 @@ FitsBallots ballots v = HasRoomAt ballots v.top v.vote
 pub record IsVoteOn (g : ℕ) (t : Name) (yes : Bool) (v : Vote) : Type 0 where
   pub top : v.top ≡ last_of t
   pub vote : IsVote g yes v.vote
-
--- these are dependencies on one guardian alone
-abbrev pub IsAlone : ℕ → Deps → Type 0
-IsAlone g alone = (h : ℕ) → is_none (map.get alone h) ≡ not (g == h)

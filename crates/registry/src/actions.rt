@@ -1,5 +1,5 @@
 //! The actions and the votes on them.
-ghost use Rattle.std.specs.Prelude.{◌≡◌, ◌∷◌, ◌≤◌, [], ℕ, List, IfOk, IsFalse, length};
+ghost use Rattle.std.specs.Prelude.{◌≡◌, ◌∷◌, [], ℕ, List, IfOk, IsFalse};
 ghost use Rattle.std.specs.List.{list_all};
 ghost use Rattle.std.specs.Option.{option_map};
 ghost use Rattle.run_model.specs.declared.history.Event.{Event};
@@ -7,19 +7,16 @@ ghost use Rattle.run_model.specs.Actions.{home_in, home_of, maker_in};
 ghost use Rattle.run_model.specs.Lists.{guardians_of};
 ghost use Rattle.run_model.specs.LocalHistories.{RegistryEvent, events_there};
 ghost use Rattle.run_model.specs.Openings.{opening_in};
-ghost use Rattle.run_model.specs.Visibility.{has_prepared};
-ghost use Rattle.limits.specs.Limits.{max_guardians};
 ghost use Rattle.action_forest.specs.Events.{done};
 ghost use Rattle.action_forest.specs.Forests.{AtEach, IsForest};
 ghost use Rattle.action_forest.specs.Trees.{trees};
-ghost use Rattle.registry.specs.Following.{AreAlone, event_after, is_yes_vote};
-ghost use Rattle.registry.specs.Polls.{IsAlone};
+ghost use Rattle.registry.specs.Following.{event_after, is_yes_vote};
 ghost use Rattle.layer_contracts.specs.Guardians.{event_of};
 
 use crate::ballots::Ballots;
 use crate::change::Change;
 use action_forest::Forest;
-use run_model::{Answer, Deps, Name, Names, Opening, Step};
+use run_model::{Answer, Name, Names, Opening, Step};
 use std::alloc::{AllocError, Global};
 
 /// The actions of a world and the votes on its top actions.
@@ -27,22 +24,19 @@ use std::alloc::{AllocError, Global};
 pub struct Actions {
     pub(crate) forest: Forest,
     pub(crate) ballots: Ballots,
-    /// For each guardian the dependencies on it alone, by which ballots are asked of one guardian's vote.
-    alone: Vec<Deps>,
 }
 
 impl Actions {
     ghost use Rattle.registry.specs.Following.{AreActions, AtEachOf, FitsChange, FitsNames, HasRoomFor, IsEntered, MayEnd, is_ending, is_ready_there};
 
-    /// No action was begun. Fails only for want of memory.
-    pub(crate) fn new(alloc: Global, opening: &Opening) -> Result<Actions, AllocError>
-        ensures { IfOk result (AreActions (opening_in opening.now) []) }
+    /// No action was begun. This takes no memory.
+    pub(crate) fn new(alloc: Global, opening: &Opening) -> Actions
+        ensures { AreActions (opening_in opening.now) [] result }
     {
-        Ok(Actions {
+        Actions {
             forest: Forest::new(alloc, opening),
             ballots: Ballots::new(alloc),
-            alone: each_alone(alloc, opening.setup().guardians())?,
-        })
+        }
     }
 
     /// Whether all participants of the top action voted yes.
@@ -50,35 +44,9 @@ impl Actions {
         ensures { (registry : List RegistryEvent) → AreActions (opening_in opening.now) registry self.now
             → result ≡ list_all (is_ready_there top.now registry) (guardians_of (opening_in opening.now)) }
     {
-        for index in 0..opening.setup().guardians() {
-            if !self.is_ready_at(opening, top, index as u32 + 1) {
-                return false;
-            }
-        }
-        true
-    }
-
-    // Whether the guardian, where it is a participant of the top action, voted yes.
-    fn is_ready_at(&self, opening: &Opening, top: &Name, guardian: u32) -> bool
-        requires low { 1 ≤ guardian }
-        requires high { guardian ≤ length opening.now.setup }
-        ensures { (registry : List RegistryEvent) → AreActions (opening_in opening.now) registry self.now
-            → result ≡ is_ready_there top.now registry guardian }
-    {
-        let dependency = self.forest.dependency(top.components(), guardian);
-        dependency.is_none() || self.has_prepared(opening, top, guardian)
-    }
-
-    // Whether the guardian voted yes on the top action.
-    fn has_prepared(&self, opening: &Opening, top: &Name, guardian: u32) -> bool
-        requires low { 1 ≤ guardian }
-        requires high { guardian ≤ length opening.now.setup }
-        ensures { (registry : List RegistryEvent) → AreActions (opening_in opening.now) registry self.now
-            → result ≡ has_prepared guardian top.now (events_there registry) }
-    {
-        match self.alone.get(guardian as usize - 1) {
-            Some(alone) => self.ballots.has_prepared(opening, alone, top),
-            None => false,
+        match self.forest.depends(top.components()) {
+            Some(participants) => self.ballots.may_commit(opening, participants, top),
+            None => true,
         }
     }
 
@@ -157,7 +125,6 @@ impl Actions {
     // Closes or ends the action that the step closes or ends, if that takes no room.
     fn end(&mut self, step: &Step, stamp: u64)
         ensures ballots { self.new.ballots ≡ self.old.ballots }
-        ensures alone { self.new.alone ≡ self.old.alone }
         ensures other { IsFalse (is_ending step.now) → trees self.new.forest ≡ trees self.old.forest }
         ensures ended { AtEach (trees self.old.forest) (λ opening registry. MayEnd registry step.now
             → IsForest opening (done stamp step.now ∷ registry) (trees self.new.forest)) }
@@ -186,25 +153,4 @@ fn maker_in(step: &Step) -> Option<&Name>
         Step::NestedTop(maker) | Step::Call(maker, _) | Step::Arms(maker, _) => Some(maker),
         _ => None,
     }
-}
-
-// For each guardian up to this one the dependencies on it alone.
-fn each_alone(alloc: Global, guardians: usize) -> Result<Vec<Deps>, AllocError>
-    requires { guardians ≤ max_guardians }
-    ensures { IfOk result (λ all. AreAlone guardians all.items) }
-{
-    let mut all = Vec::with_capacity(alloc, guardians)?;
-    for index in 0..guardians {
-        all.push(alone(alloc, index as u32 + 1)?)?;
-    }
-    Ok(all)
-}
-
-// The dependencies on this guardian alone.
-fn alone(alloc: Global, guardian: u32) -> Result<Deps, AllocError>
-    ensures { IfOk result (IsAlone guardian) }
-{
-    let mut alone = Deps::new(alloc);
-    alone.lower(guardian, 0)?;
-    Ok(alone)
 }

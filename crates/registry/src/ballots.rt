@@ -1,7 +1,11 @@
 //! The ballots of top actions.
-ghost use Rattle.std.specs.Prelude.{◌≡◌, ◌∷◌, ◌≤◌, [], ℕ, List, IfOk, length};
+ghost use Rattle.std.specs.Prelude.{◌≡◌, ◌∷◌, [], ℕ, List, ◌||◌, IfOk, is_none};
+ghost use Rattle.std.specs.FinMap as map;
+ghost use Rattle.std.specs.List.{list_all};
 ghost use Rattle.std.specs.Option.{option_map};
 ghost use Rattle.run_model.specs.declared.history.Event.{Event};
+ghost use Rattle.run_model.specs.Lists.{guardians_of};
+ghost use Rattle.run_model.specs.Openings.{opening_in};
 ghost use Rattle.run_model.specs.Visibility.{has_prepared};
 ghost use Rattle.run_model.specs.Votes.{has_voted};
 ghost use Rattle.two_phase.specs.Ballots.{IsVote, vote};
@@ -26,7 +30,7 @@ pub struct Vote {
 }
 
 impl Ballots {
-    ghost use Rattle.registry.specs.Polls.{AreBallots, FitsBallots, HasRoomAt, IsAlone, IsVoteOn, ballot_of, is_yes_in, top_in, voter_in};
+    ghost use Rattle.registry.specs.Polls.{AreBallots, FitsBallots, HasRoomAt, IsVoteOn, ballot_of, is_yes_in, top_in, voter_in};
 
     /// No ballots: nobody has voted. This takes no memory.
     pub(crate) fn new(alloc: Global) -> Ballots
@@ -48,14 +52,14 @@ impl Ballots {
         }
     }
 
-    /// Whether the guardian on which alone these depend voted yes on the action.
-    pub(crate) fn has_prepared(&self, opening: &Opening, alone: &Deps, top: &Name) -> bool
-        ensures { (guardian : ℕ) (past : List Event) → 1 ≤ guardian → guardian ≤ length opening.now.setup → IsAlone guardian alone.now → AreBallots past self.now
-            → result ≡ has_prepared guardian top.now past }
+    /// Whether all these participants voted yes on the action, as far as they are guardians of the opening.
+    pub(crate) fn may_commit(&self, opening: &Opening, participants: &Deps, top: &Name) -> bool
+        ensures { (past : List Event) → AreBallots past self.now → result
+            ≡ list_all (λ g. is_none (map.get participants.now g) || has_prepared g top.now past) (guardians_of (opening_in opening.now)) }
     {
         match self.ballot(top) {
-            Some(ballot) => ballot.may_commit(opening, alone),
-            None => false,
+            Some(ballot) => ballot.may_commit(opening, participants),
+            None => Ballot::new(self.alloc).may_commit(opening, participants),
         }
     }
 

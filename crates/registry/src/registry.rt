@@ -1,5 +1,5 @@
 //! The registry.
-ghost use Rattle.std.specs.Prelude.{[], IfOk};
+ghost use Rattle.std.specs.Prelude.{[]};
 ghost use Rattle.std.specs.Arc.{arc_value};
 ghost use Rattle.run_model.specs.Openings.{opening_in};
 
@@ -43,16 +43,16 @@ impl Model for Registry {
 impl Registry {
     ghost use Rattle.registry.specs.Registries.{StandsIn};
 
-    /// The registry of a world in which nothing happened. Fails only for want of memory.
-    pub fn new(alloc: Global, opening: Arc<Opening, Global>) -> Result<Registry, AllocError>
-        ensures { IfOk result (λ registry. StandsIn registry (record { opening = opening_in (arc_value opening); registry = [] })) }
+    /// The registry of a world in which nothing happened. This takes no memory.
+    pub fn new(alloc: Global, opening: Arc<Opening, Global>) -> Registry
+        ensures { StandsIn result (record { opening = opening_in (arc_value opening); registry = [] }) }
     {
-        let actions = Actions::new(alloc, &opening)?;
-        Ok(Registry {
+        let actions = Actions::new(alloc, &opening);
+        Registry {
             opening,
             actions,
             change: Change::Other,
-        })
+        }
     }
 }
 

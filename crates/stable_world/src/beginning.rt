@@ -32,7 +32,7 @@ impl<S: Stable> Beginning<S> {
         ensures room { IfOk result (λ beginning. length beginning.memories.items ≤ vec_capacity beginning.room) }
     {
         let opening = Arc::new(alloc, opening)?;
-        let registry = Registry::new(alloc, opening.clone()?)?;
+        let registry = Registry::new(alloc, opening.clone()?);
         let memories = memories(alloc, &opening)?;
         let room = Vec::with_capacity(alloc, memories.len())?;
         Ok(Beginning {

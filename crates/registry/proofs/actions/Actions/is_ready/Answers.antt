@@ -1,26 +1,26 @@
-use Rattle.std.proofs.Common.{Bool, ap, arith, false, length, sym, true, ℕ, ◌+◌, ◌∙◌, ◌≡◌, ◌≤◌}
-use Rattle.two_phase.proofs.Participants.{all_guardians, not_all_guardians}
+use Rattle.std.proofs.Common.{None, ap, is_none, length, sym, ℕ, ◌∙◌, ◌≡◌, ◌||◌}
+use Rattle.std.specs.FinMap as map
+use Rattle.std.specs.List.{list_all}
+use Rattle.run_model.specs.Lists.{guardians_of}
+use Rattle.run_model.specs.LocalHistories.{dependency_there, events_there}
+use Rattle.run_model.specs.Openings.{opening_in}
+use Rattle.run_model.specs.Visibility.{has_prepared}
+use Rattle.two_phase.proofs.Participants.{all_guardians}
 use Rattle.registry.specs.Following.{is_ready_there}
-use Rattle.registry.proofs.Alone.{up_more}
 use Rattle.registry.proofs.actions.Actions.is_ready.Goals as goal
 
-pub returns-then-not-is_ready_at : goal.returns-then-not-is_ready_at
-returns-then-not-is_ready_at c = λ registry are.
-    let p : ℕ → Bool = is_ready_there c.args.top.now registry in
-    let n = length c.args.opening.now.setup in
-    let index = c.loop-index.index in
-    let within : index + 1 ≤ n = let count = c.guardians-index-end.ensures.value ∙ ap length c.setup.ensures in omega (arith, count) in
-    let refused : c.is_ready_at.result ≡ false = grind arith in
-    sym (not_all_guardians p n (index + 1) (omega arith) within (sym (c.is_ready_at.ensures registry are) ∙ refused))
+pub returns-in-Some : goal.returns-in-Some
+returns-in-Some c = λ registry are.
+    let top = c.args.top.now in
+    let same : (g : ℕ) → map.get c.in-Some.participants.now g ≡ dependency_there top g registry = λ g.
+    c.in-Some.ensures _ registry are.forest g ∙ ap (λ a. dependency_there a g registry) c.components.ensures.numbers in
+    c.may_commit.ensures (events_there registry) are.ballots
+    ∙ (λ i. list_all (λ g. is_none (same g i) || has_prepared g top (events_there registry)) (guardians_of (opening_in c.args.opening.now)))
 
-pub loop-index-preserved : goal.loop-index-preserved
-loop-index-preserved c = λ registry are.
-    let passed : c.is_ready_at.result ≡ true = grind arith in
-    up_more (λ g. is_ready_there c.args.top.now registry g ≡ true) c.loop-index.index (c.loop-index.invariant registry are)
-    (sym (c.is_ready_at.ensures registry are) ∙ passed)
-
-pub returns : goal.returns
-returns c = λ registry are.
-    let n = length c.args.opening.now.setup in
-    let all : c.loop-index.index ≡ n = let count = c.guardians-index-end.ensures.value ∙ ap length c.setup.ensures in omega (arith, count) in
-    sym (all_guardians (is_ready_there c.args.top.now registry) n (λ g low high. c.loop-index.invariant registry are g low (omega (arith, all, high))))
+pub returns-in-None : goal.returns-in-None
+returns-in-None c = λ registry are.
+    let top = c.args.top.now in
+    let none : (g : ℕ) → None ≡ dependency_there top g registry = λ g.
+    c.in-None.ensures _ registry are.forest g ∙ ap (λ a. dependency_there a g registry) c.components.ensures.numbers in
+    sym (all_guardians (is_ready_there top registry) (length c.args.opening.now.setup)
+    (λ g low high. ap (λ o. is_none o || has_prepared g top (events_there registry)) (sym (none g))))

@@ -5,16 +5,14 @@ use Rattle.registry.proofs.actions.Actions.plan.Goals as goal
 
 pub returns-in_err-vote-in-Prepare : goal.returns-in_err-vote-in-Prepare
 returns-in_err-vote-in-Prepare c = record {
-  same = λ opening registry are.
-      record { forest = are.forest; ballots = c.plan_vote.ensures.same (events_there registry) are.ballots; alone = are.alone };
+  same = λ opening registry are. record { forest = are.forest; ballots = c.plan_vote.ensures.same (events_there registry) are.ballots };
   room = search rules;
   fits = λ opening registry are. search rules;
 }
 
 pub returns-in_ok-vote-in-Prepare : goal.returns-in_ok-vote-in-Prepare
 returns-in_ok-vote-in-Prepare c = record {
-  same = λ opening registry are.
-      record { forest = are.forest; ballots = c.plan_vote.ensures.same (events_there registry) are.ballots; alone = are.alone };
+  same = λ opening registry are. record { forest = are.forest; ballots = c.plan_vote.ensures.same (events_there registry) are.ballots };
   room = c.in_ok-vote-in-Prepare.ensures.fits;
   fits = λ opening registry are. (
     c.in-Prepare.guardian,

@@ -1,0 +1,307 @@
+#!/usr/bin/env python3
+"""`run_touched.py PROGRAM`: what a step costs where there is much that it does not touch. Each row runs the same steps beside little and beside
+much, and tells how much longer one took. For the times the middle one of five runs counts, of the processor, less the runs of the steps that
+come before; instructions are counted by valgrind where it is installed, of fewer steps, and do not depend on the machine's speed."""
+import json
+import os
+import pathlib
+import re
+import resource
+import shutil
+import statistics
+import subprocess
+import sys
+import tempfile
+
+TURNS = 5
+NUMBERS = {"record": {"n": 0}}
+
+
+def setup(guardians, objects):
+    return {"guardians": [{"objects": objects}] * guardians}
+
+
+def array(items):
+    return {"array": {"of": "int", "low": 1, "items": [0] * items}}
+
+
+class Steps:
+    """Lines of a steps file, with the numbers that top actions get."""
+
+    def __init__(self):
+        self.lines, self.tops = [], 0
+
+    def say(self, line):
+        self.lines.append(line)
+
+    def top(self, guardian):
+        self.say(f"top {guardian}")
+        self.tops += 1
+        return self.tops
+
+    def end(self, action, *guardians):
+        self.say(f"commit {action}")
+        for guardian in guardians:
+            self.say(f"tell {guardian} {action}")
+
+    def both_phases(self, top, *guardians):
+        self.say(f"close {top}")
+        for guardian in guardians:
+            self.say(f"prepare {guardian} {top}")
+        self.say(f"decide {top}")
+        for guardian in guardians:
+            self.say(f"tell {guardian} {top}")
+
+
+def objects(many, times):
+    """One object of MANY is written by top actions that commit."""
+    def before(_steps):
+        pass
+
+    def after(steps):
+        for turn in range(times // 6):
+            top = steps.top(1)
+            steps.say(f"op {top} 1/{many} get n")
+            steps.say(f"op {top} 1/{many} set n {turn}")
+            steps.both_phases(top, 1)
+    return setup(1, [NUMBERS] * many), before, after
+
+
+def guardians(many, times):
+    """Two guardians of MANY take part in each top action."""
+    def before(_steps):
+        pass
+
+    def after(steps):
+        for turn in range(times // 15):
+            top = steps.top(1)
+            steps.say(f"op {top} 1/1 get n")
+            steps.say(f"op {top} 1/1 set n {turn}")
+            steps.say(f"call {top} {many}")
+            steps.say(f"op {top}.1 {many}/1 get n")
+            steps.say(f"op {top}.1 {many}/1 set n {turn}")
+            steps.end(f"{top}.1", many, 1)
+            steps.both_phases(top, 1, many)
+    return setup(many, [NUMBERS]), before, after
+
+
+def items(many, times):
+    """One item of an array of MANY is stored, by one top action."""
+    def before(steps):
+        steps.top(1)
+
+    def after(steps):
+        for turn in range(times):
+            steps.say(f"op 1 1/1 store {turn * 7919 % many + 1} {turn}")
+    return setup(1, [array(many)]), before, after
+
+
+def committed_items(many, times):
+    """One item of an array of MANY is stored by each top action, which commits."""
+    def before(_steps):
+        pass
+
+    def after(steps):
+        for turn in range(times // 6):
+            top = steps.top(1)
+            steps.say(f"op {top} 1/1 store {turn * 7919 % many + 1} {turn}")
+            steps.both_phases(top, 1)
+    return setup(1, [array(many)]), before, after
+
+
+def deep(many, times):
+    """An action MANY deep reads and writes."""
+    def before(steps):
+        name = str(steps.top(1))
+        for _ in range(many - 1):
+            steps.say(f"call {name} 1")
+            name += ".1"
+
+    def after(steps):
+        name = "1" + ".1" * (many - 1)
+        for turn in range(times // 2):
+            steps.say(f"op {name} 1/1 get n")
+            steps.say(f"op {name} 1/1 set n {turn}")
+    return setup(1, [NUMBERS]), before, after
+
+
+def chains(many, times):
+    """Chains of actions MANY deep, each of which writes what the one above wrote and commits."""
+    def before(_steps):
+        pass
+
+    def after(steps):
+        while len(steps.lines) < times:
+            names = [str(steps.top(1))]
+            for _ in range(many - 1):
+                steps.say(f"call {names[-1]} 1")
+                names.append(names[-1] + ".1")
+                steps.say(f"op {names[-1]} 1/1 set n 1")
+            for name in names[:0:-1]:
+                steps.end(name, 1)
+            steps.both_phases(names[0], 1)
+    return setup(1, [NUMBERS]), before, after
+
+
+def aborts_known(steps, many):
+    for _ in range(many):
+        top = steps.top(1)
+        steps.say(f"abort {top}")
+        steps.say(f"tell 1 {top}")
+
+
+def callers(many, times):
+    """A guardian that knows MANY aborts is called by 1,000 others, in turn."""
+    def before(steps):
+        aborts_known(steps, many)
+
+    def after(steps):
+        for turn in range(times // 3):
+            other = turn % 1000 + 2
+            top = steps.top(other)
+            steps.say(f"call {top} 1")
+            steps.say(f"op {top}.1 1/{turn % 1000 + 1} get n")
+    return setup(1001, [NUMBERS] * 1000), before, after
+
+
+def told_callers(many, times):
+    """The same, and ten others are told of the calls, which they were before."""
+    def call(steps, other):
+        top = steps.top(other)
+        steps.say(f"call {top} 1")
+        steps.end(f"{top}.1", other, 1)
+
+    def before(steps):
+        aborts_known(steps, many)
+        for turn in range(20):
+            call(steps, turn % 10 + 2)
+
+    def after(steps):
+        for turn in range(times // 5):
+            call(steps, turn % 10 + 2)
+    return setup(11, [NUMBERS]), before, after
+
+
+def participants(many, times):
+    """Top actions with MANY participants."""
+    def before(_steps):
+        pass
+
+    def after(steps):
+        while len(steps.lines) < times:
+            top = steps.top(1)
+            for guardian in range(2, many + 1):
+                steps.say(f"call {top} {guardian}")
+                steps.say(f"op {top}.{guardian - 1} {guardian}/1 set n {top}")
+                steps.end(f"{top}.{guardian - 1}", guardian, 1)
+            steps.both_phases(top, *range(1, many + 1))
+    return setup(1024, [NUMBERS]), before, after
+
+
+def descendants(many, _times):
+    """An action with MANY descendants aborts, and a guardian is told where none of them holds anything."""
+    def before(steps):
+        top = steps.top(1)
+        steps.say(f"call {top} 1")
+        for number in range(1, many + 1):
+            steps.say(f"call {top}.1 2")
+            steps.say(f"op {top}.1.{number} 2/1 get n")
+            steps.end(f"{top}.1.{number}", 1)
+
+    def after(steps):
+        steps.say("abort 1.1")
+        steps.say("tell 1 1.1")
+        steps.top(1)
+    return setup(2, [NUMBERS]), before, after
+
+
+CASES = [
+    ("one object is used", "objects", objects, 1, 1024, 120_000),
+    ("two guardians take part", "guardians", guardians, 2, 1024, 60_000),
+    ("one item is stored, by one top action", "items", items, 64, 65_536, 100_000),
+    ("one item is stored by each top action", "items", committed_items, 64, 65_536, 60_000),
+    ("an operation of an action", "deep", deep, 2, 32, 100_000),
+    ("actions in chains, each commits", "deep", chains, 2, 32, 60_000),
+    ("called by 1,000 others", "aborts known", callers, 1_000, 100_000, 50_000),
+    ("ten others are told of calls", "aborts known", told_callers, 1_000, 100_000, 50_000),
+    ("both phases", "participants", participants, 10, 1_000, 60_000),
+    ("an abort, and telling it where nobody holds anything", "descendants", descendants, 10, 10_000, 0),
+]
+
+
+class Program:
+    def __init__(self, program, folder):
+        self.program, self.folder = program, folder
+
+    def write(self, name, opening, steps):
+        folder = self.folder / name
+        folder.mkdir(exist_ok=True)
+        (folder / "setup.json").write_text(json.dumps(opening, separators=(",", ":")) + "\n")
+        (folder / "steps").write_text("".join(line + "\n" for line in steps))
+        return [self.program, "steps", folder / "setup.json", folder / "steps"]
+
+    def seconds(self, words):
+        used = resource.getrusage(resource.RUSAGE_CHILDREN)
+        with (self.folder / "answers").open("wb") as answers:
+            subprocess.run(words, stdout=answers, check=True)
+        now = resource.getrusage(resource.RUSAGE_CHILDREN)
+        return now.ru_utime + now.ru_stime - used.ru_utime - used.ru_stime
+
+    def instructions(self, words):
+        counted = subprocess.run(["valgrind", "--tool=cachegrind", "--cache-sim=no", "--cachegrind-out-file=/dev/null", *words],
+                                 stdout=subprocess.DEVNULL, stderr=subprocess.PIPE, text=True, check=True)
+        return int(re.search(r"I\s+refs:\s+([\d,]+)", counted.stderr)[1].replace(",", ""))
+
+    def refused(self):
+        """How many of the answers of the last run are none that was meant."""
+        with (self.folder / "answers").open("rb") as answers:
+            return sum(line.startswith((b"refused", b"waits", b"error")) for line in answers)
+
+
+def one(program, case, many, times, name):
+    """The steps before, and with what comes after; how many those are."""
+    opening, before, after = case(many, times)
+    steps = Steps()
+    before(steps)
+    first = len(steps.lines)
+    shorter = program.write(name + "-before", opening, steps.lines)
+    after(steps)
+    longer = program.write(name, opening, steps.lines)
+    return shorter, longer, len(steps.lines) - first
+
+
+def by_time(program, case, many, times, name):
+    shorter, longer, count = one(program, case, many, times, name)
+    taken = [(program.seconds(longer), program.seconds(shorter)) for _ in range(TURNS)]
+    program.seconds(longer)
+    if program.refused():
+        sys.exit(f"{name}: steps were refused")
+    return statistics.median(more - less for more, less in taken) / count
+
+
+def by_instructions(program, case, many, times, name):
+    shorter, longer, count = one(program, case, many, times, name)
+    return (program.instructions(longer) - program.instructions(shorter)) / count
+
+
+def main():
+    chosen = sys.argv[2:]
+    counting = shutil.which("valgrind")
+    print(f"load: {', '.join(f'{load:.1f}' for load in os.getloadavg())} on {os.cpu_count()} processors")
+    print("| steps | beside | microseconds each | times longer | instructions | times more |\n|---|---|---|---|---|---|")
+    with tempfile.TemporaryDirectory() as scratch:
+        program = Program(sys.argv[1], pathlib.Path(scratch))
+        for what, beside, case, little, much, times in CASES:
+            if chosen and case.__name__ not in chosen:
+                continue
+            took = [by_time(program, case, many, times, case.__name__) for many in (little, much)] if times else None
+            made = [by_instructions(program, case, many, times // 6, case.__name__) for many in (little, much)] if counting else None
+            for place, many in enumerate((little, much)):
+                cells = [what, f"{many:,} {beside}"]
+                for figures, shown in (took, "{:,.2f}"), (made, "{:,.0f}"):
+                    scaled = 1e6 if figures is took else 1
+                    cells += [shown.format(figures[place] * scaled), f"{figures[1] / figures[0]:.2f}" if place else ""] if figures else ["", ""]
+                print("| " + " | ".join(cells) + " |", flush=True)
+
+
+main()
