@@ -1,14 +1,13 @@
 #!/usr/bin/env python3
-"""`run_touched.py PROGRAM`: what a step costs where there is much that it does not touch. Each row runs the same steps beside little and beside
-much, and tells how much longer one took. For the times the middle one of five runs counts, of the processor, less the runs of the steps that
-come before; instructions are counted by valgrind where it is installed, of fewer steps, and do not depend on the machine's speed."""
+"""`run_touched.py PROGRAM [CASE ..]`: what a step costs where there is much that it does not touch. Each row runs the same steps beside little and beside
+much, and tells how much longer one took. Times are of the processor: the fastest of five runs, less the fastest of five runs of the steps that
+come before. Instructions are counted by valgrind where it is installed, of fewer steps, and do not depend on the machine's speed."""
 import json
 import os
 import pathlib
 import re
 import resource
 import shutil
-import statistics
 import subprocess
 import sys
 import tempfile
@@ -222,7 +221,7 @@ CASES = [
     ("one item is stored by each top action", "items", committed_items, 64, 65_536, 60_000),
     ("an operation of an action", "deep", deep, 2, 32, 100_000),
     ("actions in chains, each commits", "deep", chains, 2, 32, 60_000),
-    ("called by 1,000 others", "aborts known", callers, 1_000, 100_000, 50_000),
+    ("called by 1,000 others", "aborts known", callers, 1_000, 100_000, 150_000),
     ("ten others are told of calls", "aborts known", told_callers, 1_000, 100_000, 50_000),
     ("both phases", "participants", participants, 10, 1_000, 60_000),
     ("an abort, and telling it where nobody holds anything", "descendants", descendants, 10, 10_000, 0),
@@ -272,11 +271,10 @@ def one(program, case, many, times, name):
 
 def by_time(program, case, many, times, name):
     shorter, longer, count = one(program, case, many, times, name)
-    taken = [(program.seconds(longer), program.seconds(shorter)) for _ in range(TURNS)]
-    program.seconds(longer)
+    less, more = map(min, zip(*((program.seconds(shorter), program.seconds(longer)) for _ in range(TURNS))))
     if program.refused():
         sys.exit(f"{name}: steps were refused")
-    return statistics.median(more - less for more, less in taken) / count
+    return (more - less) / count
 
 
 def by_instructions(program, case, many, times, name):
