@@ -1,6 +1,6 @@
 #!/usr/bin/env python3
-"""`run_touched.py PROGRAM [CASE ..]`: what a step costs where there is much that it does not touch. Each row runs the same steps beside little and beside
-much, and tells how much longer one took. Times are of the processor: the fastest of five runs, less the fastest of five runs of the steps that
+"""`run_touched.py PROGRAM [CASE ..]`: what a step costs where there is much that it does not touch; CASE is the name of a function below. Each row
+runs the same steps beside little and beside much, and tells how much longer one took. It ends where a step is answered as was not meant. Times are of the processor: the fastest of five runs, less the fastest of five runs of the steps that
 come before. Instructions are counted by valgrind where it is installed, of fewer steps, and do not depend on the machine's speed."""
 import json
 import os
@@ -12,16 +12,14 @@ import subprocess
 import sys
 import tempfile
 
+from workloads import setup, two_phases
+
 TURNS = 5
-NUMBERS = {"record": {"n": 0}}
-
-
-def setup(guardians, objects):
-    return {"guardians": [{"objects": objects}] * guardians}
+UNMEANT = (b"refused", b"waits", b"error", b"vote no")
 
 
 def array(items):
-    return {"array": {"of": "int", "low": 1, "items": [0] * items}}
+    return {"guardians": [{"objects": [{"array": {"of": "int", "low": 1, "items": [0] * items}}]}]}
 
 
 class Steps:
@@ -43,45 +41,39 @@ class Steps:
         for guardian in guardians:
             self.say(f"tell {guardian} {action}")
 
+    def use(self, action, thing, value):
+        self.say(f"op {action} {thing} get n")
+        self.say(f"op {action} {thing} set n {value}")
+
     def both_phases(self, top, *guardians):
-        self.say(f"close {top}")
-        for guardian in guardians:
-            self.say(f"prepare {guardian} {top}")
-        self.say(f"decide {top}")
-        for guardian in guardians:
-            self.say(f"tell {guardian} {top}")
+        self.lines.extend(two_phases(top, guardians))
+
+
+def nothing(_steps):
+    """No steps come before."""
 
 
 def objects(many, times):
     """One object of MANY is written by top actions that commit."""
-    def before(_steps):
-        pass
-
     def after(steps):
         for turn in range(times // 6):
             top = steps.top(1)
-            steps.say(f"op {top} 1/{many} get n")
-            steps.say(f"op {top} 1/{many} set n {turn}")
+            steps.use(top, f"1/{many}", turn)
             steps.both_phases(top, 1)
-    return setup(1, [NUMBERS] * many), before, after
+    return setup(1, many, "n"), nothing, after
 
 
 def guardians(many, times):
     """Two guardians of MANY take part in each top action."""
-    def before(_steps):
-        pass
-
     def after(steps):
         for turn in range(times // 15):
             top = steps.top(1)
-            steps.say(f"op {top} 1/1 get n")
-            steps.say(f"op {top} 1/1 set n {turn}")
+            steps.use(top, "1/1", turn)
             steps.say(f"call {top} {many}")
-            steps.say(f"op {top}.1 {many}/1 get n")
-            steps.say(f"op {top}.1 {many}/1 set n {turn}")
+            steps.use(f"{top}.1", f"{many}/1", turn)
             steps.end(f"{top}.1", many, 1)
             steps.both_phases(top, 1, many)
-    return setup(many, [NUMBERS]), before, after
+    return setup(many, 1, "n"), nothing, after
 
 
 def items(many, times):
@@ -92,20 +84,17 @@ def items(many, times):
     def after(steps):
         for turn in range(times):
             steps.say(f"op 1 1/1 store {turn * 7919 % many + 1} {turn}")
-    return setup(1, [array(many)]), before, after
+    return array(many), before, after
 
 
 def committed_items(many, times):
     """One item of an array of MANY is stored by each top action, which commits."""
-    def before(_steps):
-        pass
-
     def after(steps):
         for turn in range(times // 6):
             top = steps.top(1)
             steps.say(f"op {top} 1/1 store {turn * 7919 % many + 1} {turn}")
             steps.both_phases(top, 1)
-    return setup(1, [array(many)]), before, after
+    return array(many), nothing, after
 
 
 def deep(many, times):
@@ -119,16 +108,12 @@ def deep(many, times):
     def after(steps):
         name = "1" + ".1" * (many - 1)
         for turn in range(times // 2):
-            steps.say(f"op {name} 1/1 get n")
-            steps.say(f"op {name} 1/1 set n {turn}")
-    return setup(1, [NUMBERS]), before, after
+            steps.use(name, "1/1", turn)
+    return setup(1, 1, "n"), before, after
 
 
 def chains(many, times):
     """Chains of actions MANY deep, each of which writes what the one above wrote and commits."""
-    def before(_steps):
-        pass
-
     def after(steps):
         while len(steps.lines) < times:
             names = [str(steps.top(1))]
@@ -139,7 +124,7 @@ def chains(many, times):
             for name in names[:0:-1]:
                 steps.end(name, 1)
             steps.both_phases(names[0], 1)
-    return setup(1, [NUMBERS]), before, after
+    return setup(1, 1, "n"), nothing, after
 
 
 def aborts_known(steps, many):
@@ -160,7 +145,7 @@ def callers(many, times):
             top = steps.top(other)
             steps.say(f"call {top} 1")
             steps.say(f"op {top}.1 1/{turn % 1000 + 1} get n")
-    return setup(1001, [NUMBERS] * 1000), before, after
+    return setup(1001, 1000, "n"), before, after
 
 
 def told_callers(many, times):
@@ -178,14 +163,11 @@ def told_callers(many, times):
     def after(steps):
         for turn in range(times // 5):
             call(steps, turn % 10 + 2)
-    return setup(11, [NUMBERS]), before, after
+    return setup(11, 1, "n"), before, after
 
 
 def participants(many, times):
-    """Top actions with MANY participants."""
-    def before(_steps):
-        pass
-
+    """Top actions call MANY participants and commit."""
     def after(steps):
         while len(steps.lines) < times:
             top = steps.top(1)
@@ -194,7 +176,7 @@ def participants(many, times):
                 steps.say(f"op {top}.{guardian - 1} {guardian}/1 set n {top}")
                 steps.end(f"{top}.{guardian - 1}", guardian, 1)
             steps.both_phases(top, *range(1, many + 1))
-    return setup(1024, [NUMBERS]), before, after
+    return setup(1024, 1, "n"), nothing, after
 
 
 def descendants(many, _times):
@@ -211,7 +193,7 @@ def descendants(many, _times):
         steps.say("abort 1.1")
         steps.say("tell 1 1.1")
         steps.top(1)
-    return setup(2, [NUMBERS]), before, after
+    return setup(2, 1, "n"), before, after
 
 
 CASES = [
@@ -223,8 +205,8 @@ CASES = [
     ("actions in chains, each commits", "deep", chains, 2, 32, 60_000),
     ("called by 1,000 others", "aborts known", callers, 1_000, 100_000, 150_000),
     ("ten others are told of calls", "aborts known", told_callers, 1_000, 100_000, 50_000),
-    ("both phases", "participants", participants, 10, 1_000, 60_000),
-    ("an abort, and telling it where nobody holds anything", "descendants", descendants, 10, 10_000, 0),
+    ("top actions call all participants and commit", "participants", participants, 10, 1_000, 60_000),
+    ("an abort, telling it where nobody holds anything, and a top action", "descendants", descendants, 10, 10_000, 0),
 ]
 
 
@@ -239,47 +221,51 @@ class Program:
         (folder / "steps").write_text("".join(line + "\n" for line in steps))
         return [self.program, "steps", folder / "setup.json", folder / "steps"]
 
+    def run(self, words):
+        """Runs the words with answers that are looked through, and gives what came on the other stream."""
+        with (self.folder / "answers").open("wb") as answers:
+            said = subprocess.run(words, stdout=answers, stderr=subprocess.PIPE, text=True, check=True).stderr
+        with (self.folder / "answers").open("rb") as answers:
+            if any(line.startswith(UNMEANT) for line in answers):
+                sys.exit(f"{words[-1]}: a step is answered as was not meant")
+        return said
+
     def seconds(self, words):
         used = resource.getrusage(resource.RUSAGE_CHILDREN)
-        with (self.folder / "answers").open("wb") as answers:
-            subprocess.run(words, stdout=answers, check=True)
+        self.run(words)
         now = resource.getrusage(resource.RUSAGE_CHILDREN)
         return now.ru_utime + now.ru_stime - used.ru_utime - used.ru_stime
 
     def instructions(self, words):
-        counted = subprocess.run(["valgrind", "--tool=cachegrind", "--cache-sim=no", "--cachegrind-out-file=/dev/null", *words],
-                                 stdout=subprocess.DEVNULL, stderr=subprocess.PIPE, text=True, check=True)
-        return int(re.search(r"I\s+refs:\s+([\d,]+)", counted.stderr)[1].replace(",", ""))
+        counted = self.run(["valgrind", "--tool=cachegrind", "--cache-sim=no", "--cachegrind-out-file=/dev/null", *words])
+        return int(re.search(r"I\s+refs:\s+([\d,]+)", counted)[1].replace(",", ""))
 
-    def refused(self):
-        """How many of the answers of the last run are none that was meant."""
-        with (self.folder / "answers").open("rb") as answers:
-            return sum(line.startswith((b"refused", b"waits", b"error")) for line in answers)
+    def beside(self, case, many, times):
+        """The steps before, and with what comes after; how many those are."""
+        opening, before, after = case(many, times)
+        steps = Steps()
+        before(steps)
+        first = len(steps.lines)
+        shorter = self.write(case.__name__ + "-before", opening, steps.lines)
+        after(steps)
+        longer = self.write(case.__name__, opening, steps.lines)
+        return shorter, longer, len(steps.lines) - first
 
+    def microseconds(self, case, many, times):
+        shorter, longer, count = self.beside(case, many, times)
+        less, more = (min(self.seconds(words) for _ in range(TURNS)) for words in (shorter, longer))
+        return (more - less) / count * 1e6
 
-def one(program, case, many, times, name):
-    """The steps before, and with what comes after; how many those are."""
-    opening, before, after = case(many, times)
-    steps = Steps()
-    before(steps)
-    first = len(steps.lines)
-    shorter = program.write(name + "-before", opening, steps.lines)
-    after(steps)
-    longer = program.write(name, opening, steps.lines)
-    return shorter, longer, len(steps.lines) - first
-
-
-def by_time(program, case, many, times, name):
-    shorter, longer, count = one(program, case, many, times, name)
-    less, more = map(min, zip(*((program.seconds(shorter), program.seconds(longer)) for _ in range(TURNS))))
-    if program.refused():
-        sys.exit(f"{name}: steps were refused")
-    return (more - less) / count
+    def counted(self, case, many, times):
+        shorter, longer, count = self.beside(case, many, times // 6)
+        return (self.instructions(longer) - self.instructions(shorter)) / count
 
 
-def by_instructions(program, case, many, times, name):
-    shorter, longer, count = one(program, case, many, times, name)
-    return (program.instructions(longer) - program.instructions(shorter)) / count
+def cells(figures, place, shown):
+    """A figure, and beside much how many times it is that beside little."""
+    if not figures:
+        return ["", ""]
+    return [shown.format(figures[place]), f"{figures[1] / figures[0]:.2f}" if place else ""]
 
 
 def main():
@@ -292,14 +278,11 @@ def main():
         for what, beside, case, little, much, times in CASES:
             if chosen and case.__name__ not in chosen:
                 continue
-            took = [by_time(program, case, many, times, case.__name__) for many in (little, much)] if times else None
-            made = [by_instructions(program, case, many, times // 6, case.__name__) for many in (little, much)] if counting else None
+            took = [program.microseconds(case, many, times) for many in (little, much)] if times else []
+            made = [program.counted(case, many, times) for many in (little, much)] if counting else []
             for place, many in enumerate((little, much)):
-                cells = [what, f"{many:,} {beside}"]
-                for figures, shown in (took, "{:,.2f}"), (made, "{:,.0f}"):
-                    scaled = 1e6 if figures is took else 1
-                    cells += [shown.format(figures[place] * scaled), f"{figures[1] / figures[0]:.2f}" if place else ""] if figures else ["", ""]
-                print("| " + " | ".join(cells) + " |", flush=True)
+                row = [what, f"{many:,} {beside}", *cells(took, place, "{:,.2f}"), *cells(made, place, "{:,.0f}")]
+                print("| " + " | ".join(row) + " |", flush=True)
 
 
 main()

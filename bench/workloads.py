@@ -108,4 +108,5 @@ def main():
             steps.writelines(lines(make, count))
 
 
-main()
+if __name__ == "__main__":
+    main()
