@@ -1,6 +1,6 @@
 -- Entries of dependencies: where a search by guardian ends, and what a change at that place does.
-use Rattle.std.proofs.Common.{◌≡◌, ℕ, List, zero, suc, ◌+◌, ◌<◌, ◌≤◌, T, Bool, true, false, cond, not, ◌&&◌, [], ◌∷◌, length, get_or, set, drop, Option, Some, None, is_some, IsSome, Result, Ok, Err, is_ok, IfOk, IfErr, refl, sym, ap, ◌∙◌, arith}
-use Rattle.std.specs.List.{insert, refill}
+use Rattle.std.proofs.Common.{◌≡◌, ℕ, List, zero, suc, ◌+◌, ◌-◌, ◌⊎◌, inl, inr, ◌<◌, ◌≤◌, T, Bool, true, false, cond, not, ◌&&◌, [], ◌∷◌, length, get_or, set, drop, Option, Some, None, is_some, IsSome, Result, Ok, Err, is_ok, IfOk, IfErr, refl, sym, ap, ◌∙◌, arith}
+use Rattle.std.specs.List.{insert, refill, slice_get}
 use Rattle.std.specs.List.Sorted.{IsSearchInRange, IsBinarySearchResult, IsNonDecreasingBy}
 use Rattle.std.specs.Ordering.{nat_cmp, ordering_index, is_lt, is_eq, eq_by_cmp}
 use Rattle.std.specs.declared.cmp.Ordering.{Ordering}
@@ -8,6 +8,7 @@ use Rattle.std.specs.declared.cmp.Ordering.TheVariants.{Less, Equal, Greater}
 use Rattle.std.specs.Cmp.{nat_cmp_total}
 use Rattle.std.specs.FinMap as map
 use Rattle.std.specs.FinMap.Entries.{put, below_all, find-put, length-put, is_sorted-put}
+use Rattle.std.proofs.lemmas.Bool.{cases_eq}
 use Rattle.std.proofs.lemmas.Cmp.{ranked}
 use Rattle.std.proofs.lemmas.List.{take-append-le, take_all}
 use Rattle.std.proofs.lemmas.List.Sorted.{IsNonDecreasingBy-from_default}
@@ -79,6 +80,33 @@ module _ (es : Entries) (s : IsRising es) (g : ℕ) where
       greater_after = λ j le lt. ranked _ g _ (sym ((parted comparisons_rise).1 j (0, 0) le lt));
     };
   }
+
+-- the guardian of the entry that a list shows at a place
+shown_at : (es : Entries) (i : ℕ) (e : ℕ × ℕ) → Some e ≡ slice_get es i → guardian_at es i ≡ e.0
+shown_at [] i e h = absurd (cc)
+shown_at (x ∷ es) zero e h = ap (λ o. guardian_or o e.0) (sym h)
+  where
+    guardian_or : Option (ℕ × ℕ) → ℕ → ℕ
+    guardian_or None d = d
+    guardian_or (Some y) d = y.0
+shown_at (x ∷ es) (suc i) e h = shown_at es i e h
+
+-- a guardian greater than the last comes after all
+pub past_last : (es : Entries) (g : ℕ) (e : ℕ × ℕ) → IsRising es → Some e ≡ slice_get es (length es - 1) → e.0 < g → IsGapFor es g (length es)
+past_last es g e rises last less = record {
+  in_range = omega arith;
+  smaller_before = λ j lt. of j lt (cases_eq j (length es - 1));
+  greater_after = λ j le lt. absurd (omega arith);
+}
+  where
+    greatest : guardian_at es (length es - 1) ≡ e.0
+    greatest = shown_at es (length es - 1) e last
+
+    of : (j : ℕ) → j < length es → ((j ≡ length es - 1) ⊎ (j ≡ length es - 1 → ⊥)) → guardian_at es j < g
+    of j lt (inl same) = rw (same, greatest) less
+    of j lt (inr other) =
+        let below : guardian_at es j < guardian_at es (length es - 1) = guardians_rise es rises j (length es - 1) (omega arith) (omega arith) in
+        omega (arith, below, greatest, less)
 
 -- ---- a place
 at_tail : (e : ℕ × ℕ) (es : Entries) (g i : ℕ) → IsAt (e ∷ es) g (suc i) → IsAt es g i
@@ -174,7 +202,7 @@ merge_step es e rest s q = rw (least_at-with_least es e.0 (lowered (least_at es 
         rw (same, least_at-below e.0 rest (both_first _ _ s)) (lesser_lowered (least_at es e.0) e.1)
 
 -- an entry counts where its guardian is new
-count_new-cons : (es : Entries) (e : ℕ × ℕ) (rest : Entries) → count_new es (e ∷ rest) ≡ cond (not (is_some (least_at es e.0))) 1 0 + count_new es rest
+pub count_new-cons : (es : Entries) (e : ℕ × ℕ) (rest : Entries) → count_new es (e ∷ rest) ≡ cond (not (is_some (least_at es e.0))) 1 0 + count_new es rest
 count_new-cons es e rest = sum_by-cons (λ x. cond (not (is_some (least_at es x.0))) 1 0) e rest
 
 -- a guardian that is known stays known

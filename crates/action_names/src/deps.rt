@@ -1,5 +1,5 @@
 //! On which incarnations of guardians an action depends: the least of each guardian, in the order of the guardians.
-ghost use Rattle.std.specs.Prelude.{◌≡◌, ◌==◌, ◌+◌, ◌<◌, ◌≤◌, ℕ, List, IsSome, is_some, IsOk, IfOk, IfErr, OnOk, OnErr};
+ghost use Rattle.std.specs.Prelude.{◌≡◌, ◌==◌, ◌+◌, ◌<◌, ◌≤◌, ℕ, List, IsSome, IsTrue, is_some, length, IsOk, IfOk, IfErr, OnOk, OnErr};
 ghost use Rattle.smallvec.specs.SmallVec.{small_vec_len};
 ghost use Rattle.std.specs.Ordering.{nat_cmp};
 ghost use Rattle.std.specs.FinMap as map;
@@ -59,7 +59,7 @@ impl Deps {
         ensures err { OnErr result (self.new ≡ self.old) }
         ensures known { IsSome (map.get self.old guardian) → IsOk result }
     {
-        lower_in(&mut self.least, guardian, incarnation)
+        lower_in(&mut self.least, 0, guardian, incarnation)
     }
 
     /// Adds the dependencies of the other: the lesser incarnation of each guardian stays.
@@ -109,7 +109,33 @@ fn search(least: &[(u32, u64)], guardian: u32) -> Result<usize, usize>
     ensures found { IfOk result (IsAt least.now guardian) }
     ensures absent { IfErr result (IsGapFor least.now guardian) }
 {
+    if is_past(least, guardian) {
+        return Err(least.len());
+    }
     least.binary_search_by_key(&guardian, |&(known, _)| known)
+}
+
+// Whether the guardian comes after all that have an entry. Dependencies that are built in order are found so without a search.
+fn is_past(least: &[(u32, u64)], guardian: u32) -> bool
+    requires { IsRising least.now }
+    ensures { IsTrue result → IsGapFor least.now guardian (length least.now) }
+{
+    match least.last() {
+        Some(&(greatest, _)) => greatest < guardian,
+        None => true,
+    }
+}
+
+// The same, where the entry may well be at the place that is guessed.
+fn search_near(least: &[(u32, u64)], guess: usize, guardian: u32) -> Result<usize, usize>
+    requires { IsRising least.now }
+    ensures found { IfOk result (IsAt least.now guardian) }
+    ensures absent { IfErr result (IsGapFor least.now guardian) }
+{
+    match least.get(guess) {
+        Some(&(known, _)) if known == guardian => Ok(guess),
+        _ => search(least, guardian),
+    }
 }
 
 // How many entries have a guardian that the known ones lack.
@@ -117,21 +143,27 @@ fn count_new(known: &[(u32, u64)], entries: &[(u32, u64)]) -> usize
     requires { IsRising known.now }
     ensures { result ≡ count_new known.now entries.now }
 {
-    let is_new = |entry: &&(u32, u64)| !is_known(known, entry.0);
-    entries.iter().filter(is_new).count()
+    let mut new = 0;
+    for at in 0..entries.len() {
+        if !is_known(known, at, entries[at].0) {
+            new += 1;
+        }
+    }
+    new
 }
 
-// Whether the guardian has an entry.
-fn is_known(least: &[(u32, u64)], guardian: u32) -> bool
+// Whether the guardian has an entry, which may well be at the place that is guessed.
+fn is_known(least: &[(u32, u64)], guess: usize, guardian: u32) -> bool
     requires { IsRising least.now }
     ensures { result ≡ is_some (least_at least.now guardian) }
 {
-    search(least, guardian).is_ok()
+    search_near(least, guess, guardian).is_ok()
 }
 
-// Adds one dependency. It takes memory only for a new guardian for whom no room is left.
+// Adds one dependency, whose entry may well be at the place that is guessed. It takes memory only for a new guardian for whom no room is left.
 fn lower_in(
     least: &mut SmallVec<(u32, u64), 2>,
+    guess: usize,
     guardian: u32,
     incarnation: u64,
 ) -> Result<(), AllocError>
@@ -144,7 +176,7 @@ fn lower_in(
     ensures room { small_vec_len least.old < least.old.capacity → IsOk result }
     ensures capacity { least.old.capacity ≤ least.new.capacity }
 {
-    match search(least.as_slice(), guardian) {
+    match search_near(least.as_slice(), guess, guardian) {
         Ok(at) => {
             let entry = &mut least.as_mut_slice()[at];
             entry.1 = entry.1.min(incarnation);
@@ -154,7 +186,7 @@ fn lower_in(
     }
 }
 
-// Adds the dependencies of the others, once there is room for those on new guardians.
+// Adds the dependencies of the others, once there is room for those on new guardians. Mostly both have the same guardians, in the same places.
 fn merge_in(least: &mut SmallVec<(u32, u64), 2>, others: &[(u32, u64)]) -> Result<(), AllocError>
     requires own { IsRising least.old.items }
     requires others { IsRising others.now }
@@ -168,8 +200,9 @@ fn merge_in(least: &mut SmallVec<(u32, u64), 2>, others: &[(u32, u64)]) -> Resul
     if least.capacity() - least.len() < new {
         least.reserve(new)?;
     }
-    for &(guardian, incarnation) in others {
-        lower_in(least, guardian, incarnation).unwrap();
+    for at in 0..others.len() {
+        let (guardian, incarnation) = others[at];
+        lower_in(least, at, guardian, incarnation).unwrap();
     }
     Ok(())
 }
