@@ -1,7 +1,8 @@
 -- Rows that are found by a hash, in the order of their names.
 use Rattle.std.proofs.Common.{◌≡◌, Bool, true, false, cond, ◌&&◌, ◌||◌, List, [], ◌∷◌, length, refl, sym, ap, ◌∙◌, arith}
-use Rattle.std.specs.Prelude.{Option, Some, is_some, T}
+use Rattle.std.specs.Prelude.{Option, Some, None, is_some, unwrap_or, T}
 use Rattle.std.proofs.lemmas.Bool.{false≢true}
+use Rattle.std.proofs.lemmas.Map.Steps.{set_value_same}
 use Rattle.std.specs.FinMap as map
 use Rattle.std.specs.FinMap.Entries.{find, put, is_sorted, below_all, by_order}
 use Rattle.std.specs.List.Sorted.{IsStrictlySortedBy}
@@ -13,10 +14,10 @@ use Rattle.std.specs.Map.{keys_of, lookup, set_value}
 use Rattle.action_names.specs.Names.{Name, same_name, has_name, name_cmp}
 use Rattle.action_names.specs.Comparison.{same_name-ties, same_name-equivalence, name_cmp-total}
 use Rattle.action_names.proofs.Ancestry.{same_is}
-use Rattle.holders.specs.Held.{Rows, with_value, held_in}
+use Rattle.holders.specs.Held.{Rows, value_at, with_value, held_in}
 use Rattle.holders.specs.Indexed.{ordered}
 use Rattle.holders.proofs.Sorted.{at_name, StandBehind, behind, greater, in_rest}
-use Rattle.holders.proofs.Rows.{shown, put_in, has_row, keys_set}
+use Rattle.holders.proofs.Rows.{flat, shown, found_at, room_held, has_put, put_in, has_row, keys_set}
 
 -- ---- in order
 
@@ -148,3 +149,37 @@ put_in_index {V} s rs new a v e there is = (
 ) where
   set : ordered new ≡ set_value (is_at (name_cmp a)) (ordered rs) (Some v)
   set = set_one rs new a (Some v) (ap (λ (x : Rows V). has_name x.room a) e ∙ there) is
+
+-- ---- room
+
+-- what a name holds, by its row
+flat_or : {V : Type 0} (o : Option (Option V)) → unwrap_or o None ≡ flat o
+flat_or None = refl
+flat_or (Some o) = refl
+
+pub value_in_index : {V : Type 0} (s : Rows V) (rs : List (Name × Option V)) (a n : Name) (o : Option (Option V)) → shown (ordered rs) ≡ s → n ≡ a
+    → o ≡ lookup (same_name n) rs → unwrap_or o None ≡ value_at s.held a
+value_in_index s rs a n o e same q =
+    flat_or o ∙ found_at s (ordered rs) n e (ordered_sorted rs) o (q ∙ found rs n) ∙ ap (value_at s.held) same
+
+-- a row that was there stays, and one that was not is empty, so that all hold what they held
+pub held_in_index : {V : Type 0} (s : Rows V) (rs new : List (Name × Option V)) (n : Name) (o : Option (Option V)) → shown (ordered rs) ≡ s
+    → o ≡ lookup (same_name n) rs → ((b : Name) → lookup (same_name b) new ≡ cond (same_name n b) (Some (unwrap_or o None)) (lookup (same_name b) rs))
+    → held_in (ordered new) ≡ s.held
+held_in_index {V} s rs new n o e q is = by_case o q is ∙ ap (λ (x : Rows V). x.held) e where
+  there : (o : Option (Option V)) → o ≡ lookup (same_name n) rs → has_name (keys_of (ordered rs)) n ≡ is_some o
+  there o q = sym (has_row n (ordered rs)) ∙ sym (found_row rs n) ∙ sym (ap is_some q)
+
+  by_case : (o : Option (Option V)) → o ≡ lookup (same_name n) rs
+      → ((b : Name) → lookup (same_name b) new ≡ cond (same_name n b) (Some (unwrap_or o None)) (lookup (same_name b) rs))
+      → held_in (ordered new) ≡ held_in (ordered rs)
+  by_case None q is = ap held_in (put_one rs new n None is) ∙ room_held n (ordered rs) (there None q)
+  by_case (Some o) q is = ap held_in
+      (set_one rs new n o (there (Some o) q) is ∙ set_value_same (is_at (name_cmp n)) (ordered rs) o (sym (q ∙ found rs n)))
+
+pub room_in_index : {V : Type 0} (s : Rows V) (rs new : List (Name × Option V)) (a n b : Name) (x : Option V) → shown (ordered rs) ≡ s → n ≡ a
+    → ((b : Name) → lookup (same_name b) new ≡ cond (same_name n b) (Some x) (lookup (same_name b) rs))
+    → has_name (keys_of (ordered new)) b ≡ same_name a b || has_name s.room b
+room_in_index {V} s rs new a n b x e same is =
+    ap (λ (ns : List (Name × Option V)). has_name (keys_of ns) b) (put_one rs new n x is) ∙ has_put n b x (ordered rs)
+    ∙ ap (λ (y : Rows V). same_name n b || has_name y.room b) e ∙ ap (λ (m : Name). same_name m b || has_name s.room b) same

@@ -1,5 +1,5 @@
 //! Values by name for those who ask by name alone: found by a hash, in no order.
-ghost use Rattle.std.specs.Prelude.{◌≡◌, [], IsTrue, OnOk, OnErr};
+ghost use Rattle.std.specs.Prelude.{◌≡◌, [], IsTrue, IfOk, OnOk, OnErr};
 ghost use Rattle.std.specs.Option.{option_copied};
 ghost use Rattle.action_names.specs.Names.{has_name};
 ghost use Rattle.holders.specs.Held.{value_at, with_value, HasMoreRoom};
@@ -42,18 +42,6 @@ impl<V: Drop> Index<V> {
         self.rows.get(name)?.as_ref()
     }
 
-    /// Makes room for a value of the name. What has a value keeps it; after want of memory nothing is changed.
-    pub fn make_room(&mut self, name: &Name) -> Result<(), AllocError>
-        ensures held { self.new.held ≡ self.old.held }
-        ensures room { OnOk result (HasMoreRoom self.old.room self.new.room name.now) }
-        ensures err { OnErr result (self.new ≡ self.old) }
-    {
-        if !self.rows.contains_key(name) {
-            self.rows.insert(name.copy()?, None)?;
-        }
-        Ok(())
-    }
-
     /// Gives the value to a name for which there is room, in the place of what it had. This takes no memory.
     pub fn put(&mut self, name: &Name, value: V)
         requires { IsTrue (has_name self.old.room name.now) }
@@ -63,5 +51,17 @@ impl<V: Drop> Index<V> {
         if let Some(row) = self.rows.get_mut(name) {
             *row = Some(value);
         }
+    }
+}
+
+impl<V: Copy> Index<V> {
+    /// Makes room for a value of the name, and gives the value that it has, if any. What has a value keeps it; after want of memory nothing is changed.
+    pub fn make_room(&mut self, name: &Name) -> Result<Option<V>, AllocError>
+        ensures held { self.new.held ≡ self.old.held }
+        ensures room { OnOk result (HasMoreRoom self.old.room self.new.room name.now) }
+        ensures err { OnErr result (self.new ≡ self.old) }
+        ensures value { IfOk result (λ value. value ≡ value_at self.old.held name.now) }
+    {
+        Ok(*self.rows.entry(name.copy()?)?.or_insert(None))
     }
 }

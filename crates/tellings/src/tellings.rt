@@ -177,10 +177,10 @@ impl Tellings {
         ensures lives { IfOk result (λ row. row.1.life ≡ crashes_of self.old) }
         ensures committed { IfOk result (λ row. row.1.committed ≡ (committed || is_told_committed (value_at self.old.told.held action.now))) }
     {
-        self.told.make_room(action)?;
+        let before = self.told.make_room(action)?;
         let told = Told {
             life: self.crashes,
-            committed: committed || self.knows_commit(action),
+            committed: committed || before.is_some_and(|told| told.committed),
         };
         Ok((action.copy()?, told))
     }
