@@ -1,8 +1,6 @@
 -- Rows by name in a vector, of which some are empty.
 use Rattle.std.proofs.Common.{◌≡◌, ℕ, ◌+◌, ◌<◌, ◌≤◌, Bool, true, false, not, ◌&&◌, ◌||◌, drop, take, List, [], ◌∷◌, ◌++◌, length, get_or, refl, sym, ap, ◌∙◌, subst}
 use Rattle.std.specs.Prelude.{Option, Some, None, is_some, Result, Ok, Err, OnOk, OnErr, cond}
-use Rattle.std.specs.Option.{option_copied}
-use denote.Ref.{Bor}
 use Rattle.std.proofs.lemmas.Bool.{true≢false, false≢true}
 use Rattle.std.proofs.lemmas.List.{append_assoc, take-append-drop, take_all, take_more}
 use Rattle.std.specs.List.Sorted.{IsStrictlySortedBy}
@@ -127,11 +125,6 @@ pub all_sorted : {V : Type 0} (items rs : List (Name × Option V)) (i : ℕ) (na
     → items ≡ rs → IsStrictlySortedBy name_cmp (keys_of rs) → IsStrictlySortedBy name_cmp names
 all_sorted items rs i names so_far past same s =
     subst (IsStrictlySortedBy name_cmp) (sym (so_far ∙ ap (λ es. names_of (held_in es)) (take_all i items past ∙ same))) (held_sorted rs s)
-
--- a reference to a value is there where the value is
-pub some_copied : {V : Type 0} (o : Option (Bor V)) → is_some o ≡ is_some (option_copied o)
-some_copied None = refl
-some_copied (Some x) = refl
 
 -- a row without a value was put in, unless the name had one, or nothing was changed
 module _ {V E : Type 0} (s : Rows V) (rs new : List (Name × Option V)) (a : Name) (shows : shown rs ≡ s) where

@@ -50,13 +50,6 @@ impl<V: Drop> FewHolders<V> {
         by_name::find(&self.rows, holder)?.as_ref()
     }
 
-    /// Whether the holder holds anything. This takes no memory.
-    pub fn holds(&self, holder: &Name) -> bool
-        ensures { result ≡ has_name (names_of self.now.held) holder.now }
-    {
-        self.get(holder).is_some()
-    }
-
     /// Makes room for what the holder is to hold. What is held stays; after want of memory nothing is changed.
     pub fn make_room(&mut self, holder: &Name) -> Result<(), AllocError>
         ensures held { self.new.held ≡ self.old.held }

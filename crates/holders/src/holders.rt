@@ -72,10 +72,7 @@ impl<V: Drop> Holders<V> {
     pub fn holds(&self, holder: &Name) -> bool
         ensures { result ≡ has_name (names_of self.now.held) holder.now }
     {
-        match &self.kept {
-            Kept::Few(few) => few.holds(holder),
-            Kept::Many(many) => many.holds(holder),
-        }
+        self.get(holder).is_some()
     }
 
     /// Gives the value to a holder for which there is room, in the place of what it held. This takes no memory.

@@ -1,6 +1,6 @@
 //! Holders in a tree, in the order of their names, so that an action and its descendants stand next to each other. What a step costs grows with
 //! the logarithm of their number.
-ghost use Rattle.std.specs.Prelude.{◌≡◌, ◌||◌, ◌&&◌, false, not, [], IsTrue, IfOk, OnOk, OnErr, IfSome, IsNone, filter, is_some};
+ghost use Rattle.std.specs.Prelude.{◌≡◌, ◌||◌, ◌&&◌, false, not, IsTrue, IfOk, OnOk, OnErr, IfSome, IsNone, filter, is_some};
 ghost use Rattle.std.specs.BTreeMap.{ContainsKey, keys};
 ghost use Rattle.std.specs.List.{list_any};
 ghost use Rattle.std.specs.List.Sorted.{IsStrictlySortedBy};
@@ -37,16 +37,6 @@ impl<V> Model for TreeHolders<V> {
 }
 
 impl<V: Drop> TreeHolders<V> {
-    /// Nobody holds anything, and there is room for nobody. This takes no memory.
-    pub fn new(alloc: Global) -> Self
-        ensures { result ≡ record { held = []; room = [] } }
-    {
-        TreeHolders {
-            alloc,
-            rows: BTreeMap::new(alloc),
-        }
-    }
-
     // Holders with these rows.
     pub(crate) fn of(alloc: Global, rows: BTreeMap<Name, Option<V>>) -> Self
         requires { IsStrictlySortedBy name_cmp (keys rows) }
@@ -60,13 +50,6 @@ impl<V: Drop> TreeHolders<V> {
         ensures { option_copied result ≡ value_at self.now.held holder.now }
     {
         self.rows.get(holder)?.as_ref()
-    }
-
-    /// Whether the holder holds anything. This takes no memory.
-    pub fn holds(&self, holder: &Name) -> bool
-        ensures { result ≡ has_name (names_of self.now.held) holder.now }
-    {
-        self.get(holder).is_some()
     }
 
     /// Makes room for what the holder is to hold. What is held stays; after want of memory nothing is changed.
