@@ -21,3 +21,4 @@ pub mod WalksEnd
 pub mod WalksOutcome
 pub mod WalksUntold
 pub mod WalksSorted
+pub mod Acting

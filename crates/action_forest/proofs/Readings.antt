@@ -8,6 +8,7 @@ use Rattle.run_model.specs.declared.history.Event.{Event}
 use Rattle.run_model.specs.Actions.{is_aborted, is_busy, is_closed, is_committed, is_ended, made_by, step_closes}
 use Rattle.run_model.specs.LocalHistories.{RegistryEvent, closing_there, events_there}
 use Rattle.action_forest.proofs.Counted.{count_front}
+use Rattle.action_forest.specs.Acting.{is_over}
 use Rattle.action_forest.specs.Events.{status_there, unended_there}
 use Rattle.action_forest.specs.declared.forest.Status.{Status}
 use Rattle.action_forest.specs.declared.forest.Status.TheVariants.{Aborted, Active, Committed}
@@ -21,10 +22,6 @@ closing_some a (c ∷ registry) = of (step_closes c.event.step a) (closing_some 
         → is_some (cond b (Some c.stamp) (closing_there a registry)) ≡ (b || is_closed a (events_there registry))
     of true e = refl
     of false e = e
-
-abbrev pub is_over : Status → Bool
-is_over Active = false
-is_over _ = true
 
 abbrev pub is_kept : Status → Bool
 is_kept Committed = true

@@ -3,3 +3,4 @@ pub mod Events
 pub mod Forests
 pub mod Rooms
 pub mod Walks
+pub mod Acting

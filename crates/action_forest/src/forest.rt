@@ -9,10 +9,13 @@ ghost use Rattle.run_model.specs.Openings.{opening_in};
 ghost use Rattle.run_model.specs.Refusals.{max_number};
 ghost use Rattle.run_model.specs.declared.step.Step.TheVariants.{Abort, Close, Commit, Decide};
 ghost use Rattle.run_model.specs.declared.step.Step.{Step};
+ghost use Rattle.step_answers.specs.Actors.{IsReadAs};
+ghost use Rattle.action_forest.specs.Acting.{is_over};
 ghost use Rattle.action_forest.specs.Trees.{numbered};
 
 use run_model::{Deps, Name, Names, Opening};
 use std::alloc::{AllocError, Global};
+use step_answers::Actor;
 
 /// How an action stands. A top action that is closed and has not been decided is still active.
 #[derive(Clone, Copy, Debug, PartialEq, Eq)]
@@ -60,7 +63,19 @@ pub struct Begun {
 }
 
 impl Node {
+    ghost use Rattle.action_forest.specs.Acting.{actor_of};
     ghost use Rattle.action_forest.specs.Trees.{action_in};
+
+    // What refusals ask of the action.
+    fn actor(&self) -> Actor
+        ensures { result ≡ actor_of (action_in self.now) }
+    {
+        Actor {
+            home: self.home,
+            done: is_over(self.status) || self.closing.is_some(),
+            busy: self.unended > 0,
+        }
+    }
 
     // What is kept of the same action.
     fn copy(&self) -> Result<Node, AllocError>
@@ -108,6 +123,14 @@ impl Forest {
         Some(self.node(path)?.status)
     }
 
+    /// What refusals ask of the action, if it was begun, in one look-up.
+    pub fn actor(&self, path: &[u32]) -> Option<Actor>
+        ensures { AtEach (trees self.now) (λ opening registry. IsReadAs (is_begun path.now (events_there registry)) (home_of path.now (events_there registry))
+            (is_done path.now (events_there registry)) (is_busy path.now (events_there registry)) result) }
+    {
+        Some(self.node(path)?.actor())
+    }
+
     /// Whether the action was begun. This takes no memory, as no reading below does but those that give a list.
     pub fn is_begun(&self, path: &[u32]) -> bool
         ensures { AtEach (trees self.now) (λ opening registry. result ≡ is_begun path.now (events_there registry)) }
@@ -122,13 +145,6 @@ impl Forest {
         !matches!(self.standing(path), Status::Active)
     }
 
-    /// Whether the action has ended or is closed.
-    pub fn is_done(&self, path: &[u32]) -> bool
-        ensures { AtEach (trees self.now) (λ opening registry. result ≡ is_done path.now (events_there registry)) }
-    {
-        self.is_ended(path) || self.is_closed(path)
-    }
-
     /// Whether the closing step of the action has come.
     pub fn is_closed(&self, path: &[u32]) -> bool
         ensures { AtEach (trees self.now) (λ opening registry. result ≡ is_closed path.now (events_there registry)) }
@@ -141,16 +157,6 @@ impl Forest {
         ensures { AtEach (trees self.now) (λ opening registry. result ≡ is_committed path.now (events_there registry)) }
     {
         matches!(self.standing(path), Status::Committed)
-    }
-
-    /// Whether something that the action made has not ended.
-    pub fn is_busy(&self, path: &[u32]) -> bool
-        ensures { AtEach (trees self.now) (λ opening registry. result ≡ is_busy path.now (events_there registry)) }
-    {
-        match self.node(path) {
-            Some(node) => node.unended > 0,
-            None => false,
-        }
     }
 
     /// The stamp of the action's closing step, if it has come.
@@ -574,6 +580,13 @@ impl Forest {
     {
         self.nodes.get(self.place(path)?)
     }
+}
+
+// Whether an action that stands so has ended.
+fn is_over(status: Status) -> bool
+    ensures { result ≡ is_over status }
+{
+    !matches!(status, Status::Active)
 }
 
 // The place that has this number, where these are all, from the first number on.

@@ -10,12 +10,14 @@ ghost use Rattle.run_model.specs.Visibility.{has_prepared};
 ghost use Rattle.run_model.specs.Votes.{has_voted};
 ghost use Rattle.run_model.specs.LocalReadings.{LocalEvent};
 ghost use Rattle.run_model.specs.LocalHistories.{answer_lent, dependency_there, entries_of, events_there, outcomes_below};
+ghost use Rattle.step_answers.specs.Actors.{IsReadAs};
 ghost use Rattle.layer_contracts.specs.Forests.{ForestState, RegistryNews, begun_at, entered, new_entries, stamped_there};
 ghost use Rattle.layer_contracts.specs.Guardians.{GuardianState, event_of};
 
 use crate::guardian::Guardian;
 use run_model::{Answer, Name, Opening, Step};
 use std::alloc::AllocError;
+use step_answers::Actor;
 
 /// The forest of actions and the ballots, as a step uses them: readings of the registry's history, which the forest need not keep. So what it says is
 /// said of each state in which it stands, and there is one.
@@ -37,23 +39,22 @@ pub trait Forest: Drop {
         ensures opening { (f : ForestState) → stands self.now f → opening_in result.now ≡ f.opening }
         ensures some { (f : ForestState) × stands self.now f };
 
+    /// How the action stands, if it was begun.
+    fn actor(&self, action: &Name) -> Option<Actor>
+        ensures { (f : ForestState) → stands self.now f → IsReadAs (is_begun action.now (events_there f.registry)) (home_of action.now (events_there f.registry))
+            (is_done action.now (events_there f.registry)) (is_busy action.now (events_there f.registry)) result };
+
     fn is_begun(&self, action: &Name) -> bool
         ensures { (f : ForestState) → stands self.now f → result ≡ is_begun action.now (events_there f.registry) };
 
     fn is_ended(&self, action: &Name) -> bool
         ensures { (f : ForestState) → stands self.now f → result ≡ is_ended action.now (events_there f.registry) };
 
-    fn is_done(&self, action: &Name) -> bool
-        ensures { (f : ForestState) → stands self.now f → result ≡ is_done action.now (events_there f.registry) };
-
     fn is_closed(&self, action: &Name) -> bool
         ensures { (f : ForestState) → stands self.now f → result ≡ is_closed action.now (events_there f.registry) };
 
     fn is_committed(&self, action: &Name) -> bool
         ensures { (f : ForestState) → stands self.now f → result ≡ is_committed action.now (events_there f.registry) };
-
-    fn is_busy(&self, action: &Name) -> bool
-        ensures { (f : ForestState) → stands self.now f → result ≡ is_busy action.now (events_there f.registry) };
 
     /// The home of the action with this path, and 0 where there is none.
     fn home(&self, path: &[u32]) -> u32

@@ -71,6 +71,7 @@ impl Growing {
             "is" => self.tests(path, answer),
             "dependencies" => Ok(self.dependencies(path, answer)?),
             "depends" => Ok(self.depends(path, answer)?),
+            "actor" => Ok(write!(answer, "{:?}", self.forest.actor(path))?),
             call => tell(&self.forest, call, path, answer),
         }
     }
@@ -90,12 +91,13 @@ impl Growing {
     /// Which tests the action passes.
     fn tests(&self, path: &[u32], answer: &mut String) -> Result<(), RowFault> {
         let forest = &self.forest;
+        let actor = forest.actor(path);
         note(answer, "begun", forest.is_begun(path))?;
-        note(answer, "busy", forest.is_busy(path))?;
+        note(answer, "busy", actor.is_some_and(|actor| actor.busy))?;
         note(answer, "closed", forest.is_closed(path))?;
         note(answer, "committed", forest.is_committed(path))?;
         note(answer, "ended", forest.is_ended(path))?;
-        note(answer, "done", forest.is_done(path))
+        note(answer, "done", actor.is_some_and(|actor| actor.done))
     }
 
     /// `MAKER HOME LIFE NAME..`, and `-` for MAKER where nobody makes them.

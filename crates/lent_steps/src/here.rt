@@ -16,7 +16,7 @@ use action_names::{Name, Names};
 use layer_contracts::{Guardian, Judging, Message};
 use run_model::{Answer, Event, ObjectId, Op, Opening, Step};
 use std::alloc::{AllocError, Global};
-use step_answers::{ReadsAction, operation_of};
+use step_answers::{Actor, ReadsAction, operation_of};
 
 /// What an operation reads of one guardian: the actions on its roster, and its objects.
 #[derive(Drop)]
@@ -31,28 +31,23 @@ impl<'a, G: Guardian> ReadsAction for Here<'a, G> {
         self.guardian.opening()
     }
 
-    fn is_begun(&self, action: &Name) -> bool {
-        self.guardian.is_there(action)
+    fn actor(&self, action: &Name) -> Option<Actor> {
+        if !self.guardian.is_there(action) {
+            return None;
+        }
+        Some(Actor {
+            home: self.guardian.number(),
+            done: self.guardian.is_done(action),
+            busy: self.guardian.is_busy(action),
+        })
     }
 
-    fn is_done(&self, action: &Name) -> bool {
-        self.guardian.is_done(action)
-    }
-
-    fn is_busy(&self, action: &Name) -> bool {
-        self.guardian.is_busy(action)
-    }
-
-    fn is_gone(&self, action: &Name) -> bool {
+    fn is_gone(&self, action: &Name, _home: u32) -> bool {
         self.guardian.is_gone(action)
     }
 
-    fn is_orphan(&self, action: &Name) -> Result<bool, AllocError> {
+    fn is_orphan(&self, action: &Name, _home: u32) -> Result<bool, AllocError> {
         self.guardian.is_orphan(action)
-    }
-
-    fn home(&self, _action: &Name) -> u32 {
-        self.guardian.number()
     }
 
     fn operated(

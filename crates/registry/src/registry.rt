@@ -12,6 +12,7 @@ use std::alloc::{AllocError, Global};
 use std::marker::Model;
 use std::mem;
 use std::sync::Arc;
+use step_answers::Actor;
 
 /// The actions of a world and the votes on its top actions: what the registry's history says of them, which it does not keep.
 #[derive(Drop)]
@@ -72,6 +73,10 @@ impl Forest for Registry {
         &self.opening
     }
 
+    fn actor(&self, action: &Name) -> Option<Actor> {
+        self.actions.forest.actor(action.components())
+    }
+
     fn is_begun(&self, action: &Name) -> bool {
         self.actions.forest.is_begun(action.components())
     }
@@ -80,20 +85,12 @@ impl Forest for Registry {
         self.actions.forest.is_ended(action.components())
     }
 
-    fn is_done(&self, action: &Name) -> bool {
-        self.actions.forest.is_done(action.components())
-    }
-
     fn is_closed(&self, action: &Name) -> bool {
         self.actions.forest.is_closed(action.components())
     }
 
     fn is_committed(&self, action: &Name) -> bool {
         self.actions.forest.is_committed(action.components())
-    }
-
-    fn is_busy(&self, action: &Name) -> bool {
-        self.actions.forest.is_busy(action.components())
     }
 
     fn home(&self, path: &[u32]) -> u32 {

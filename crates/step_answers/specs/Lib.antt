@@ -1,3 +1,4 @@
+pub mod Actors
 pub mod Arms
 pub mod Checks
 pub mod Saying

@@ -8,11 +8,13 @@ ghost use Rattle.run_model.specs.declared.step.Step.TheVariants as steps;
 ghost use Rattle.run_model.specs.Answers.{answer_by};
 ghost use Rattle.step_answers.specs.Saying.{Said};
 
+mod actor;
 mod arms;
 mod outcomes;
 mod reads;
 mod refusals;
 
+pub use actor::Actor;
 pub use outcomes::outcome_of;
 pub use reads::{Reads, ReadsAction};
 pub use refusals::{refusal_of, refusal_of_operation};

@@ -2,13 +2,15 @@ ghost use Rattle.std.specs.Prelude.{◌≡◌, IfOk, IsTrue, None, min, suc};
 ghost use Rattle.run_model.specs.declared.step.Step.TheVariants as steps;
 ghost use Rattle.run_model.specs.Refusals.{checks_by, first_refusal, max_number};
 ghost use Rattle.run_model.specs.Openings.{opening_in};
+ghost use Rattle.step_answers.specs.Actors.{IsReadAs};
 ghost use Rattle.step_answers.specs.Saying.{Said};
 
+use crate::actor::Actor;
 use run_model::{Answer, Name, ObjectId, Op, Opening};
 use std::alloc::{AllocError, Global};
 
 /// What an operation is judged by: the facts of actions that its refusals ask for, and what comes of one that nothing refuses. A guardian by
-/// itself is such a reading. It says more of an action only once it has said that the action was begun.
+/// itself is such a reading. Of an action that was begun it is told the home again, so that the action is looked up once.
 ///
 /// What is read may be that of many histories. So a clause is said of whatever the reading says.
 pub trait ReadsAction {
@@ -18,28 +20,20 @@ pub trait ReadsAction {
     fn opening(&self) -> &Opening
         ensures { (s : Said) → says self.now s → opening_in result.now ≡ s.opening };
 
-    fn is_begun(&self, action: &Name) -> bool
-        ensures { (s : Said) → says self.now s → result ≡ s.facts.begun action.now };
+    /// How the action stands, if it was begun.
+    fn actor(&self, action: &Name) -> Option<Actor>
+        ensures { (s : Said) → says self.now s → IsReadAs (s.facts.begun action.now) (s.facts.home action.now) (s.facts.done action.now)
+            (s.facts.busy action.now) result };
 
-    fn is_done(&self, action: &Name) -> bool
+    fn is_gone(&self, action: &Name, home: u32) -> bool
         requires begun { (s : Said) → says self.now s → IsTrue (s.facts.begun action.now) }
-        ensures { (s : Said) → says self.now s → result ≡ s.facts.done action.now };
-
-    fn is_busy(&self, action: &Name) -> bool
-        requires begun { (s : Said) → says self.now s → IsTrue (s.facts.begun action.now) }
-        ensures { (s : Said) → says self.now s → result ≡ s.facts.busy action.now };
-
-    fn is_gone(&self, action: &Name) -> bool
-        requires begun { (s : Said) → says self.now s → IsTrue (s.facts.begun action.now) }
+        requires home { (s : Said) → says self.now s → home ≡ s.facts.home action.now }
         ensures { (s : Said) → says self.now s → result ≡ s.facts.gone action.now };
 
-    fn is_orphan(&self, action: &Name) -> Result<bool, AllocError>
+    fn is_orphan(&self, action: &Name, home: u32) -> Result<bool, AllocError>
         requires begun { (s : Said) → says self.now s → IsTrue (s.facts.begun action.now) }
+        requires home { (s : Said) → says self.now s → home ≡ s.facts.home action.now }
         ensures { (s : Said) → says self.now s → IfOk result (λ orphan. orphan ≡ s.facts.orphan action.now) };
-
-    fn home(&self, action: &Name) -> u32
-        requires begun { (s : Said) → says self.now s → IsTrue (s.facts.begun action.now) }
-        ensures { (s : Said) → says self.now s → result ≡ s.facts.home action.now };
 
     /// What an operation that nothing refuses is answered.
     fn operated(
@@ -57,6 +51,9 @@ pub trait ReadsAction {
 /// one, and so is what a step is lent.
 pub trait Reads: ReadsAction {
     fn alloc(&self) -> Global;
+
+    fn is_begun(&self, action: &Name) -> bool
+        ensures { (s : Said) → Self.says self.now s → result ≡ s.facts.begun action.now };
 
     fn is_ended(&self, action: &Name) -> bool
         ensures { (s : Said) → Self.says self.now s → result ≡ s.facts.ended action.now };

@@ -3,10 +3,12 @@ ghost use Rattle.std.specs.Prelude.{◌≡◌, ◌≤◌, ◌==◌, ◌||◌, le
 ghost use Rattle.run_model.specs.declared.step.Step.TheVariants.{Top, NestedTop, Call, Arms, Commit, Close, Prepare, Decide, Abort, Tell, Crash, Recover};
 ghost use Rattle.run_model.specs.declared.step.Step.TheVariants as steps;
 ghost use Rattle.run_model.specs.Refusals.{checks_by, first_refusal, has_sub, is_past_arms_by};
+ghost use Rattle.step_answers.specs.Actors.{IsActor};
 ghost use Rattle.step_answers.specs.Arms.{uses_up};
 ghost use Rattle.step_answers.specs.Checks.{actor_checks, worker_checks};
 ghost use Rattle.step_answers.specs.Saying.{Said};
 
+use crate::actor::Actor;
 use crate::arms::uses_up;
 use crate::reads::{Reads, ReadsAction};
 use action_names::{MAX_DEPTH, Name};
@@ -45,18 +47,19 @@ fn is_no_guardian(opening: &Opening, guardian: u32) -> bool
     guardian == 0 || guardian as usize > opening.setup().guardians()
 }
 
-/// Why the action may do nothing more: it is over, it is busy, or its home crashed.
-fn of_worker<A: ReadsAction>(reads: &A, name: &Name) -> Option<Refusal>
-    requires { (s : Said) → A.says reads.now s → IsTrue (s.facts.begun name.now) }
+/// Why the action, which stands so, may do nothing more: it is over, it is busy, or its home crashed.
+fn of_worker<A: ReadsAction>(reads: &A, name: &Name, actor: Actor) -> Option<Refusal>
+    requires begun { (s : Said) → A.says reads.now s → IsTrue (s.facts.begun name.now) }
+    requires actor { (s : Said) → A.says reads.now s → IsActor (s.facts.home name.now) (s.facts.done name.now) (s.facts.busy name.now) actor }
     ensures { (s : Said) → A.says reads.now s → result ≡ first_refusal (worker_checks name.now s.facts) }
 {
-    if reads.is_done(name) {
+    if actor.done {
         return Some(Refusal::Ended);
     }
-    if reads.is_busy(name) {
+    if actor.busy {
         return Some(Refusal::Busy);
     }
-    if reads.is_gone(name) {
+    if reads.is_gone(name, actor.home) {
         return Some(Refusal::Gone);
     }
     None
@@ -66,13 +69,13 @@ fn of_worker<A: ReadsAction>(reads: &A, name: &Name) -> Option<Refusal>
 fn of_actor<A: ReadsAction>(reads: &A, name: &Name) -> Result<Option<Refusal>, AllocError>
     ensures { (s : Said) → A.says reads.now s → IfOk result (λ why. why ≡ first_refusal (actor_checks name.now s.facts)) }
 {
-    if !reads.is_begun(name) {
+    let Some(actor) = reads.actor(name) else {
         return Ok(Some(Refusal::NoAction));
-    }
-    if let Some(why) = of_worker(reads, name) {
+    };
+    if let Some(why) = of_worker(reads, name, actor) {
         return Ok(Some(why));
     }
-    if reads.is_orphan(name)? {
+    if reads.is_orphan(name, actor.home)? {
         return Ok(Some(Refusal::Orphan));
     }
     Ok(None)
@@ -111,16 +114,16 @@ fn of_call<A: Reads>(reads: &A, name: &Name, guardian: u32) -> Result<Option<Ref
     if is_no_guardian(reads.opening(), guardian) {
         return Ok(Some(Refusal::NoGuardian));
     }
-    if !reads.is_begun(name) {
+    let Some(actor) = reads.actor(name) else {
         return Ok(Some(Refusal::NoAction));
-    }
-    if let Some(why) = of_worker(reads, name) {
+    };
+    if let Some(why) = of_worker(reads, name, actor) {
         return Ok(Some(why));
     }
     if reads.is_down(guardian) {
         return Ok(Some(Refusal::Down));
     }
-    if reads.is_orphan(name)? {
+    if reads.is_orphan(name, actor.home)? {
         return Ok(Some(Refusal::Orphan));
     }
     if name.depth() >= MAX_DEPTH {
@@ -162,13 +165,13 @@ fn of_prepare<A: Reads>(reads: &A, guardian: u32, name: &Name) -> Option<Refusal
     if is_no_guardian(reads.opening(), guardian) {
         return Some(Refusal::NoGuardian);
     }
-    if !reads.is_begun(name) {
+    let Some(actor) = reads.actor(name) else {
         return Some(Refusal::NoAction);
-    }
+    };
     if reads.is_ended(name) {
         return Some(Refusal::Ended);
     }
-    if reads.is_gone(name) {
+    if reads.is_gone(name, actor.home) {
         return Some(Refusal::Gone);
     }
     if reads.is_down(guardian) {
@@ -192,13 +195,13 @@ fn of_prepare<A: Reads>(reads: &A, guardian: u32, name: &Name) -> Option<Refusal
 fn of_decide<A: Reads>(reads: &A, name: &Name) -> Option<Refusal>
     ensures { (s : Said) → A.says reads.now s → result ≡ first_refusal (checks_by s.opening s.facts (Decide name.now)) }
 {
-    if !reads.is_begun(name) {
+    let Some(actor) = reads.actor(name) else {
         return Some(Refusal::NoAction);
-    }
+    };
     if reads.is_ended(name) {
         return Some(Refusal::Ended);
     }
-    if reads.is_gone(name) {
+    if reads.is_gone(name, actor.home) {
         return Some(Refusal::Gone);
     }
     if !name.is_top() {
@@ -323,19 +326,19 @@ pub fn refusal_of_operation<A: ReadsAction>(
     if is_no_guardian(opening, object.guardian) {
         return Ok(Some(Refusal::NoGuardian));
     }
-    if !reads.is_begun(name) {
+    let Some(actor) = reads.actor(name) else {
         return Ok(Some(Refusal::NoAction));
-    }
+    };
     if !opening.has_object(object) {
         return Ok(Some(Refusal::NoObject));
     }
-    if let Some(why) = of_worker(reads, name) {
+    if let Some(why) = of_worker(reads, name, actor) {
         return Ok(Some(why));
     }
-    if object.guardian != reads.home(name) {
+    if object.guardian != actor.home {
         return Ok(Some(Refusal::Elsewhere));
     }
-    if reads.is_orphan(name)? {
+    if reads.is_orphan(name, actor.home)? {
         return Ok(Some(Refusal::Orphan));
     }
     if !opening.knows(object, operation) {
