@@ -1,5 +1,6 @@
-use Rattle.run_model.proofs.Utf8.{not_named}
+use Rattle.std.proofs.Common.{rules}
+use Rattle.run_model.proofs.Words.{no_name}
 use Rattle.run_model.proofs.reading.named.Goals as goal
 
-pub returns-in_default : goal.returns-in_default
-returns-in_default c = not_named c.args.word.now c.in_default.ensures.cases.0
+pub returns-else-is-17 : goal.returns-else-is-17
+returns-else-is-17 c = search (rules, no_name)
