@@ -11,7 +11,7 @@ use Rattle.atomic_types.specs.Operations.{Op, is_read}
 use Rattle.object_model.specs.Stacks.{Stack, top_of}
 use Rattle.object_model.specs.Deltas.{delta_at}
 use Rattle.object_model.specs.Objects.{Seen, owns, total_of}
-use Rattle.holders.specs.Held.{Rows}
+use Rattle.holders.specs.Held.{Rows, may_be_handed}
 use Rattle.moss_locks.specs.Table as table
 use Rattle.moss_locks.specs.Table.{Table}
 
@@ -25,13 +25,17 @@ pub record Kept : Type 0 where
 abbrev pub seen : Kept → Seen
 seen k = record { stack = k.stack; deltas = k.deltas.held; locks = k.locks.locks }
 
--- there is room for what a may be handed
+-- a may be handed what others hold
 abbrev pub has_room : Kept → Name → Bool
-has_room k a = has_name k.deltas.room a && table.has_room k.locks a
+has_room k a = may_be_handed k.deltas.held k.deltas.room a && table.has_room k.locks a
 
 -- there is room for the next holder, if there is one
 abbrev pub HasRoomFor : Kept → Option Name → Type 0
 HasRoomFor k to = IfSome to (λ next. IsTrue (has_room k next))
+
+-- the next holder, if there is one, may be handed what others add
+abbrev pub MayBeHandedDeltas : Kept → Option Name → Type 0
+MayBeHandedDeltas k to = IfSome to (λ next. IsTrue (may_be_handed k.deltas.held k.deltas.room next))
 
 -- there is room for what the next holder is to add
 abbrev pub HasDeltaRoom : Kept → Option Name → Type 0

@@ -5,6 +5,7 @@ ghost use Rattle.atomic_types.specs.Objects.{knows};
 ghost use Rattle.run_model.specs.Answers.{is_concerned_by};
 ghost use Rattle.run_model.specs.Keeping.{Standing};
 ghost use Rattle.run_model.specs.Versions.{base_by, part_held};
+ghost use Rattle.holders.specs.Held.{may_be_handed};
 ghost use Rattle.object_model.specs.Objects.{owns, untouched};
 ghost use Rattle.object_laws.specs.Shown.{Shows};
 ghost use Rattle.object_laws.specs.Changes.{given};
@@ -136,15 +137,30 @@ impl Object {
         Ok(Some(Part::Value(content)))
     }
 
-    /// Makes room for this holder, so that it can be handed what a descendant held. What is held of the object stays, with memory and
-    /// without.
+    /// Makes room for this holder, so that it can be handed what a descendant holds now: none is made where nobody holds anything, so that an operation
+    /// that is granted later may ask for room anew. What is held of the object stays, with memory and without.
     pub fn make_room(&mut self, holder: &Name) -> Result<(), AllocError>
         ensures same { seen self.new ≡ seen self.old }
         ensures room { OnOk result ((b : Name) → has_room self.new b ≡ (same_name holder.now b || has_room self.old b)) }
         ensures err { OnErr result (KeepsRoom self.old self.new) }
     {
-        self.deltas.make_room(holder)?;
+        self.make_delta_room(holder)?;
         self.locks.make_room(holder)
+    }
+
+    // Makes room for what this holder is to add, unless nobody adds anything.
+    fn make_delta_room(&mut self, holder: &Name) -> Result<(), AllocError>
+        ensures held { self.new.deltas.held ≡ self.old.deltas.held }
+        ensures room { OnOk result ((b : Name) → may_be_handed self.new.deltas.held self.new.deltas.room b
+            ≡ (same_name holder.now b || may_be_handed self.old.deltas.held self.old.deltas.room b)) }
+        ensures stack { self.new.stack ≡ self.old.stack }
+        ensures locks { self.new.locks ≡ self.old.locks }
+        ensures err { OnErr result (self.new ≡ self.old) }
+    {
+        if self.deltas.is_clear() {
+            return Ok(());
+        }
+        self.deltas.make_room(holder)
     }
 
     /// Whether a telling of the outcome changes the object: that the action committed, where it holds anything; that it aborted, where it or a

@@ -2,11 +2,11 @@
 ghost use Rattle.std.specs.Prelude.{◌≡◌, ◌&&◌, not, None, IsTrue, if◌then◌else◌};
 ghost use Rattle.action_names.specs.Names.{Name, is_ancestor, is_top};
 ghost use Rattle.atomic_types.specs.Objects.{content_after};
-ghost use Rattle.holders.specs.Held.{HasLessRoom};
+ghost use Rattle.holders.specs.Held.{HasLessRoom, may_be_handed};
 ghost use Rattle.object_model.specs.Stacks.{HasNoneBetween, IsNextHolder, RisesByAncestry, added, inherited};
-ghost use Rattle.object_model.specs.Deltas.{delta_at, more_at};
+ghost use Rattle.object_model.specs.Deltas.{delta_at, more_at, HasDelta};
 ghost use Rattle.object_model.specs.Objects.{IsCrashed, IsPassed, IsUndone, NamesRise, is_next, owns, passed_delta, passed_stack};
-ghost use Rattle.atomic_object.specs.Kept.{seen, AddsNothing, HasDeltaRoom, HasRoomFor, KeepsOthersRoom, KeepsRoomBeside, lowest_stays};
+ghost use Rattle.atomic_object.specs.Kept.{seen, AddsNothing, HasDeltaRoom, HasRoomFor, KeepsOthersRoom, KeepsRoomBeside, MayBeHandedDeltas, lowest_stays};
 ghost use Rattle.atomic_object.specs.Ways.{HandsOn, HandsTo, Survives, Undoes};
 
 use crate::object::Object;
@@ -61,7 +61,7 @@ impl Object {
         requires next { IsNextHolder action.now to }
         requires between { HasNoneBetween (seen self.old).stack.versions action.now to }
         requires beside { AddsNothing (seen self.old) to }
-        requires room { HasDeltaRoom self.old to }
+        requires room { MayBeHandedDeltas self.old to }
         ensures stack { self.new.stack ≡ passed_stack (seen self.old) action.now to }
         ensures deltas { (b : Name) → delta_at self.new.deltas.held b ≡ passed_delta (seen self.old) action.now to b }
         ensures rising { NamesRise self.new.deltas.held }
@@ -80,7 +80,7 @@ impl Object {
     fn pass_version(&mut self, action: &Name, to: Option<Name>)
         requires next { IsNextHolder action.now to }
         requires between { HasNoneBetween (seen self.old).stack.versions action.now to }
-        requires room { HasDeltaRoom self.old to }
+        requires room { MayBeHandedDeltas self.old to }
         requires rising { NamesRise self.old.deltas.held }
         ensures stack { self.new.stack ≡ inherited self.old.stack action.now to }
         ensures deltas { (b : Name) → delta_at self.new.deltas.held b ≡ (if is_next to b then None else delta_at self.old.deltas.held b) }
@@ -89,9 +89,24 @@ impl Object {
         ensures locks { self.new.locks ≡ self.old.locks }
     {
         if let Some(next) = &to {
-            self.deltas.forget(next);
+            self.forget_delta(next);
         }
         self.versions.inherit(action, to);
+    }
+
+    // Forgets what the next holder adds, if it adds anything.
+    fn forget_delta(&mut self, next: &Name)
+        requires room { IsTrue (may_be_handed self.old.deltas.held self.old.deltas.room next.now) }
+        requires rising { NamesRise self.old.deltas.held }
+        ensures left { HasDelta self.old.deltas.held self.new.deltas.held next.now None }
+        ensures rising { NamesRise self.new.deltas.held }
+        ensures room { self.new.deltas.room ≡ self.old.deltas.room }
+        ensures stack { self.new.stack ≡ self.old.stack }
+        ensures locks { self.new.locks ≡ self.old.locks }
+    {
+        if self.deltas.of(next).is_some() {
+            self.deltas.forget(next);
+        }
     }
 
     // Adds the amount to the next holder's version, if it has one, or else to its delta; without a holder to the base.

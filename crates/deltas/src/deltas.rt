@@ -1,4 +1,4 @@
-ghost use Rattle.std.specs.Prelude.{◌≡◌, [], None, pos, unwrap_or, IsTrue, IfOk, OnOk, OnErr, filter, not, if◌then◌else◌};
+ghost use Rattle.std.specs.Prelude.{◌≡◌, ◌↔◌, [], length, None, pos, unwrap_or, IsTrue, IfOk, OnOk, OnErr, filter, not, if◌then◌else◌};
 ghost use Rattle.std.specs.List.Sorted.{IsStrictlySortedBy};
 ghost use Rattle.std.specs.Option.{option_copied as name_of};
 ghost use Rattle.action_names.specs.Names.{Name, has_name, name_cmp, is_ancestor};
@@ -46,6 +46,14 @@ impl Deltas {
         Ok(Deltas {
             amounts: self.amounts.copy()?,
         })
+    }
+
+    /// Whether there is room for nobody. Then nobody adds anything. This takes no memory.
+    pub fn is_clear(&self) -> bool
+        ensures room { IsTrue result ↔ (length self.now.room ≡ 0) }
+        ensures held { IsTrue result → self.now.held ≡ [] }
+    {
+        self.amounts.is_clear()
     }
 
     /// How much the holder adds, if anything. This takes no memory.

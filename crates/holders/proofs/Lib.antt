@@ -6,3 +6,4 @@ pub mod Looks
 pub mod Kept
 pub mod Below
 pub mod Indexed
+pub mod Handing

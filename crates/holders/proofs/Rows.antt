@@ -1,5 +1,5 @@
 -- Rows by name, of which some are empty.
-use Rattle.std.proofs.Common.{◌≡◌, Bool, true, false, cond, not, ◌&&◌, ◌||◌, map, filter, List, [], ◌∷◌, ◌++◌, refl, sym, ap, ◌∙◌, subst}
+use Rattle.std.proofs.Common.{◌≡◌, Bool, true, false, cond, not, ◌&&◌, ◌||◌, map, filter, List, [], ◌∷◌, ◌++◌, length, refl, sym, ap, arith, ◌∙◌, subst}
 use Rattle.std.specs.Prelude.{Option, Some, None, is_some}
 use Rattle.std.proofs.lemmas.Bool.{true≢false, false≢true}
 use Rattle.std.proofs.lemmas.List.Kept.{IsStrictlySortedBy-filter}
@@ -24,6 +24,11 @@ flat (Some o) = o
 -- what rows show
 abbrev pub shown : {V : Type 0} → List (Name × Option V) → Rows V
 shown rs = record { held = held_in rs; room = keys_of rs }
+
+-- where there are no rows, nobody holds anything
+pub none_held : {V : Type 0} (rs : List (Name × Option V)) → length rs ≡ 0 → held_in rs ≡ []
+none_held [] e = refl
+none_held (r ∷ rs) e = grind (arith, e)
 
 -- nothing is held by a name before which none stands
 pub none_behind : {V : Type 0} (a : Name) (rs : List (Name × Option V)) → StandBehind a (keys_of rs) → value_at (held_in rs) a ≡ None

@@ -1,5 +1,5 @@
 -- What holders hold, and for whom there is room.
-use Rattle.std.specs.Prelude.{◌≡◌, not, ◌&&◌, ◌||◌, List, [], ◌∷◌, map, filter, Option, Some, None, if◌then◌else◌}
+use Rattle.std.specs.Prelude.{◌≡◌, Bool, true, not, ◌&&◌, ◌||◌, List, [], ◌∷◌, map, filter, Option, Some, None, if◌then◌else◌}
 use Rattle.std.specs.BTreeMap.{insert_entry}
 use Rattle.action_names.specs.Names.{Name, same_name, has_name, is_ancestor, name_cmp}
 
@@ -47,3 +47,8 @@ HasMoreRoom old new a = (b : Name) → has_name new b ≡ same_name a b || has_n
 -- there is room as before, but none for this name
 abbrev pub HasLessRoom : List Name → List Name → Name → Type 0
 HasLessRoom old new a = (b : Name) → has_name new b ≡ not (same_name a b) && has_name old b
+
+-- a may be handed what others hold: there is room for it, or nobody holds anything
+abbrev pub may_be_handed : {X : Type 0} → List X → List Name → Name → Bool
+may_be_handed [] room a = true
+may_be_handed (h ∷ hs) room a = has_name room a

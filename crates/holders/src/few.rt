@@ -1,5 +1,5 @@
 //! Holders in a vector, in the order of their names: for a few of them that costs less than a tree.
-ghost use Rattle.std.specs.Prelude.{◌≡◌, ◌||◌, ◌&&◌, not, [], IsTrue, IfOk, OnOk, OnErr, filter, length};
+ghost use Rattle.std.specs.Prelude.{◌≡◌, ◌↔◌, ◌||◌, ◌&&◌, not, [], IsTrue, IfOk, OnOk, OnErr, filter, length};
 ghost use Rattle.std.specs.List.{list_any};
 ghost use Rattle.std.specs.List.Sorted.{IsStrictlySortedBy};
 ghost use Rattle.std.specs.Option.{option_copied};
@@ -157,6 +157,15 @@ impl<V: Drop> FewHolders<V> {
         ensures rising { IsStrictlySortedBy name_cmp (names_of self.now.held) }
     {
         &self.rows
+    }
+
+    /// Whether there is room for nobody. Then nobody holds anything. This takes no memory.
+    #[tactic(auto, using(crate::proofs::Rows::none_held))]
+    pub fn is_clear(&self) -> bool
+        ensures room { IsTrue result ↔ (length self.now.room ≡ 0) }
+        ensures held { IsTrue result → self.now.held ≡ [] }
+    {
+        self.rows.is_empty()
     }
 
     /// For how many names there is room. This takes no memory.

@@ -1,6 +1,6 @@
 //! Holders in the order of their names, so that an action and its descendants stand next to each other: in a vector while they are few, as nearly always,
 //! and in a tree from then on.
-ghost use Rattle.std.specs.Prelude.{◌≡◌, ◌||◌, ◌&&◌, not, [], IsTrue, IfOk, OnOk, OnErr, filter};
+ghost use Rattle.std.specs.Prelude.{◌≡◌, ◌↔◌, ◌||◌, ◌&&◌, not, [], IsTrue, IfOk, OnOk, OnErr, filter, length};
 ghost use Rattle.std.specs.List.{list_any};
 ghost use Rattle.std.specs.List.Sorted.{IsStrictlySortedBy};
 ghost use Rattle.std.specs.Option.{option_copied};
@@ -157,6 +157,17 @@ impl<V: Drop> Holders<V> {
         match &self.kept {
             Kept::Few(few) => few.has_below(action),
             Kept::Many(many) => many.has_below(action),
+        }
+    }
+
+    /// Whether there is room for nobody. Then nobody holds anything. This takes no memory.
+    pub fn is_clear(&self) -> bool
+        ensures room { IsTrue result ↔ (length self.now.room ≡ 0) }
+        ensures held { IsTrue result → self.now.held ≡ [] }
+    {
+        match &self.kept {
+            Kept::Few(few) => few.is_clear(),
+            Kept::Many(many) => many.is_clear(),
         }
     }
 

@@ -1,6 +1,6 @@
 //! Holders in a tree, in the order of their names, so that an action and its descendants stand next to each other. What a step costs grows with
 //! the logarithm of their number.
-ghost use Rattle.std.specs.Prelude.{◌≡◌, ◌||◌, ◌&&◌, false, not, IsTrue, IfOk, OnOk, OnErr, IfSome, IsNone, filter, is_some};
+ghost use Rattle.std.specs.Prelude.{◌≡◌, ◌↔◌, ◌||◌, ◌&&◌, false, not, [], IsTrue, IfOk, OnOk, OnErr, IfSome, IsNone, filter, is_some, length};
 ghost use Rattle.std.specs.BTreeMap.{ContainsKey, keys};
 ghost use Rattle.std.specs.List.{list_any};
 ghost use Rattle.std.specs.List.Sorted.{IsStrictlySortedBy};
@@ -135,6 +135,15 @@ impl<V: Drop> TreeHolders<V> {
         ensures { result ≡ list_any (λ b. is_ancestor action.now b) (names_of self.now.held) }
     {
         any_below(&self.rows, action)
+    }
+
+    /// Whether there is room for nobody. Then nobody holds anything. This takes no memory.
+    #[tactic(auto, using(crate::proofs::Rows::none_held))]
+    pub fn is_clear(&self) -> bool
+        ensures room { IsTrue result ↔ (length self.now.room ≡ 0) }
+        ensures held { IsTrue result → self.now.held ≡ [] }
+    {
+        self.rows.is_empty()
     }
 
     /// All that hold, in the order of names. Fails only for want of memory.

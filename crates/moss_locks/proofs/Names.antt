@@ -1,7 +1,7 @@
 -- Names of holders, as they are put and taken.
 use Rattle.std.proofs.Common.{◌≡◌, Bool, true, false, not, ◌&&◌, ◌||◌, filter, List, [], ◌∷◌, refl, sym, ap, ◌∙◌, subst}
 use Rattle.std.proofs.lemmas.Bool.{true≢false, false≢true}
-use Rattle.std.specs.Prelude.{Some, if◌then◌else◌}
+use Rattle.std.specs.Prelude.{Option, Some, None, if◌then◌else◌}
 use Rattle.std.specs.List.Sorted.{IsStrictlySortedBy}
 use Rattle.std.specs.Ordering.{is_eq}
 use Rattle.std.specs.declared.cmp.Ordering.{Ordering}
@@ -12,7 +12,7 @@ use Rattle.action_names.specs.Names.{Name, same_name, has_name, name_cmp, is_anc
 use Rattle.action_names.proofs.Ancestry.{same_is, same_refl}
 use Rattle.holders.specs.Held.{names_of}
 use Rattle.holders.proofs.Sorted.{at_name, behind, greater, in_rest}
-use Rattle.object_model.specs.Locks.{all_but, with_next}
+use Rattle.object_model.specs.Locks.{all_but, passed, with_next}
 
 -- the names of holders once one was put among them
 pub names_put : {V : Type 0} (hs : List (Name × V)) (a : Name) (v : V) → names_of (insert_entry name_cmp hs a v) ≡ insert_key name_cmp (names_of hs) a
@@ -95,7 +95,21 @@ has_beside a b (n ∷ ns) = by_case (has_beside a b ns) (not (is_ancestor a n)) 
   by_case later false k true e = let beside : not (is_ancestor a b) ≡ false = subst (λ x. not (is_ancestor a x) ≡ false) (same_is n b e) k in simp (k, e, beside) (later ∙ simp beside refl)
   by_case later false k false e = simp (k, e) later
 
--- the same in each of three classes
-pub beside_all : (t r w d : Bool) → (t && r) && (t && w) && (t && d) ≡ t && (r && w && d)
-beside_all true r w d = refl
-beside_all false r w d = refl
+-- nobody hands on what nobody holds
+pub nobody_passes : (a : Name) (to : Option Name) → passed a to [] ≡ []
+nobody_passes a None = refl
+nobody_passes a (Some p) = refl
+
+-- room in each of three classes stays where it stays in each
+pub all_still : (t r w d : Bool) {x y z : Bool} → (t && r ≡ true → x ≡ true) → (t && w ≡ true → y ≡ true) → (t && d ≡ true → z ≡ true)
+    → t && (r && w && d) ≡ true → x && y && z ≡ true
+all_still false r w d reads writes adds h = absurd (false≢true h)
+all_still true false w d reads writes adds h = absurd (false≢true h)
+all_still true true false d reads writes adds h = absurd (false≢true h)
+all_still true true true false reads writes adds h = absurd (false≢true h)
+all_still true true true true reads writes adds h = rw (reads refl, writes refl, adds refl) refl
+
+-- room in each of three classes, and for one more
+pub made_all : (s r w d : Bool) {x y z : Bool} → x ≡ s || r → y ≡ s || w → z ≡ s || d → x && y && z ≡ s || (r && w && d)
+made_all true r w d reads writes adds = rw (reads, writes, adds) refl
+made_all false r w d reads writes adds = rw (reads, writes, adds) refl

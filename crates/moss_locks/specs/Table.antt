@@ -1,7 +1,8 @@
 -- A table of locks, as contracts see it.
-use Rattle.std.specs.Prelude.{◌≡◌, Bool, not, ◌&&◌, IsTrue, Option}
+use Rattle.std.specs.Prelude.{Bool, not, ◌&&◌, IsTrue, Option}
 use Rattle.std.specs.Option.{IfSome}
-use Rattle.action_names.specs.Names.{Name, same_name, has_name, is_ancestor}
+use Rattle.action_names.specs.Names.{Name, same_name, is_ancestor}
+use Rattle.holders.specs.Held.{may_be_handed}
 use Rattle.object_model.specs.Locks.{Locks}
 
 -- The locks, and the names for which there is room in each class: the holders, and some more.
@@ -9,9 +10,12 @@ pub record Table : Type 0 where
   pub locks : Locks
   pub room : Locks
 
--- there is room for b in each class
+-- b may be handed the locks of each class
 abbrev pub has_room : Table → Name → Bool
-has_room table b = has_name table.room.readers b && has_name table.room.writers b && has_name table.room.adders b
+has_room table b =
+    may_be_handed table.locks.readers table.room.readers b
+    && may_be_handed table.locks.writers table.room.writers b
+    && may_be_handed table.locks.adders table.room.adders b
 
 -- there is room for the next holder, if there is one
 abbrev pub HasRoomFor : Table → Option Name → Type 0
@@ -21,10 +25,10 @@ HasRoomFor table to = IfSome to (λ next. IsTrue (has_room table next))
 abbrev pub KeepsRoom : Table → Table → Type 0
 KeepsRoom old new = (b : Name) → IsTrue (has_room old b) → IsTrue (has_room new b)
 
--- all others have room as before
+-- all others that had room have it still
 abbrev pub KeepsOthersRoom : Table → Table → Name → Type 0
-KeepsOthersRoom old new a = (b : Name) → has_room new b ≡ not (same_name a b) && has_room old b
+KeepsOthersRoom old new a = (b : Name) → IsTrue (not (same_name a b) && has_room old b) → IsTrue (has_room new b)
 
--- all but an action and its descendants have room as before
+-- all but an action and its descendants that had room have it still
 abbrev pub KeepsRoomBeside : Table → Table → Name → Type 0
-KeepsRoomBeside old new a = (b : Name) → has_room new b ≡ not (is_ancestor a b) && has_room old b
+KeepsRoomBeside old new a = (b : Name) → IsTrue (not (is_ancestor a b) && has_room old b) → IsTrue (has_room new b)

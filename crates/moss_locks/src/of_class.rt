@@ -3,9 +3,9 @@ ghost use Rattle.std.specs.Prelude.{◌≡◌, ◌||◌, ◌&&◌, not, IsTrue, 
 ghost use Rattle.std.specs.BTreeSet.{insert_key};
 ghost use Rattle.std.specs.List.Sorted.{IsStrictlySortedBy};
 ghost use Rattle.std.specs.Option.{option_copied as name_of};
-ghost use Rattle.action_names.specs.Names.{Name, has_name, name_cmp, is_ancestor};
+ghost use Rattle.action_names.specs.Names.{Name, has_name, name_cmp, is_ancestor, same_name};
 ghost use Rattle.atomic_types.specs.Operations.{classes_conflict};
-ghost use Rattle.holders.specs.Held.{names_of, HasMoreRoom, HasLessRoom};
+ghost use Rattle.holders.specs.Held.{names_of, may_be_handed, HasMoreRoom, HasLessRoom};
 ghost use Rattle.object_model.specs.Locks.{has_foreign, all_but, with_next, passed};
 
 use action_names::Name;
@@ -64,21 +64,38 @@ pub(crate) fn drop_one(holders: &mut Holders<()>, holder: &Name)
     holders.take(holder);
 }
 
-/// Puts the next holder, for which there is room, in the place of the action; without one nobody holds what the action held.
-pub(crate) fn pass(holders: &mut Holders<()>, action: &Name, to: Option<&Name>)
-    requires { IfSome (name_of to) (λ next. IsTrue (has_name holders.old.room next)) }
-    ensures names { names_of holders.new.held ≡ passed action.now (name_of to.entry) (names_of holders.old.held) }
-    ensures room { HasLessRoom holders.old.room holders.new.room action.now }
+/// Makes room for a holder that is to be handed what others hold. Where nobody holds anything that takes no room.
+pub(crate) fn make_room(holders: &mut Holders<()>, holder: &Name) -> Result<(), AllocError>
+    ensures held { holders.new.held ≡ holders.old.held }
+    ensures room { OnOk result ((b : Name) → may_be_handed (names_of holders.new.held) holders.new.room b
+        ≡ (same_name holder.now b || may_be_handed (names_of holders.old.held) holders.old.room b)) }
+    ensures err { OnErr result (holders.new ≡ holders.old) }
 {
+    if holders.is_clear() {
+        return Ok(());
+    }
+    holders.make_room(holder)
+}
+
+/// Puts the next holder, which may be handed it, in the place of the action; without one nobody holds what the action held.
+pub(crate) fn pass(holders: &mut Holders<()>, action: &Name, to: Option<&Name>)
+    requires { IfSome (name_of to) (λ next. IsTrue (may_be_handed (names_of holders.old.held) holders.old.room next)) }
+    ensures names { names_of holders.new.held ≡ passed action.now (name_of to.entry) (names_of holders.old.held) }
+    ensures room { (b : Name) → IsTrue (not (same_name action.now b) && may_be_handed (names_of holders.old.held) holders.old.room b)
+        → IsTrue (may_be_handed (names_of holders.new.held) holders.new.room b) }
+{
+    if holders.is_clear() {
+        return;
+    }
     if let Some(next) = to {
         add_beside(holders, action, next);
     }
     drop_one(holders, action);
 }
 
-// Adds the next holder, for which there is room, where the action is one of these.
+// Adds the next holder, which may be handed it, where the action is one of these.
 fn add_beside(holders: &mut Holders<()>, action: &Name, next: &Name)
-    requires { IsTrue (has_name holders.old.room next.now) }
+    requires { IsTrue (may_be_handed (names_of holders.old.held) holders.old.room next.now) }
     ensures names { names_of holders.new.held ≡ with_next (names_of holders.old.held) action.now (Some next.now) }
     ensures room { holders.new.room ≡ holders.old.room }
 {

@@ -120,7 +120,6 @@ impl LockTable {
     pub fn grant(&mut self, action: &Name, class: Class) -> Result<bool, AllocError>
         ensures ok { OnOk result (self.new.locks ≡ granted self.old.locks action.now class) }
         ensures undone { IfOk result (λ is_new. (if is_new then revoked self.new.locks action.now class else self.new.locks) ≡ self.old.locks) }
-        ensures room { KeepsRoom self.old self.new }
         ensures err { OnErr result (self.new ≡ self.old) }
     {
         match class {
@@ -133,7 +132,7 @@ impl LockTable {
     /// Forgets that the action holds operations of this class, and drops its room for them. This takes no memory.
     pub fn revoke(&mut self, action: &Name, class: Class)
         ensures locks { self.new.locks ≡ revoked self.old.locks action.now class }
-        ensures room { (b : Name) → IsTrue (not (same_name action.now b) && has_room self.old b) → IsTrue (has_room self.new b) }
+        ensures room { KeepsOthersRoom self.old self.new action.now }
     {
         match class {
             Class::Read => of_class::drop_one(&mut self.readers, action),
@@ -142,16 +141,16 @@ impl LockTable {
         }
     }
 
-    /// Makes room for locks of every class for this holder, so that `inherit` may give them to it. The locks stay. After want of memory
-    /// there may be room for it in some classes.
+    /// Makes room for this holder, so that `inherit` may give it locks that others hold now: none is made in a class in which nobody holds one, so that
+    /// a lock that is granted later may ask for room anew. The locks stay. After want of memory there may be room for it in some classes.
     pub fn make_room(&mut self, holder: &Name) -> Result<(), AllocError>
         ensures locks { self.new.locks ≡ self.old.locks }
         ensures room { OnOk result ((b : Name) → has_room self.new b ≡ (same_name holder.now b || has_room self.old b)) }
         ensures err { OnErr result (KeepsRoom self.old self.new) }
     {
-        self.readers.make_room(holder)?;
-        self.writers.make_room(holder)?;
-        self.adders.make_room(holder)
+        of_class::make_room(&mut self.readers, holder)?;
+        of_class::make_room(&mut self.writers, holder)?;
+        of_class::make_room(&mut self.adders, holder)
     }
 
     /// Gives the next holder, for which there is room, the locks of the action; without one nobody has them. The action's room goes, and

@@ -39,6 +39,7 @@ impl Adding {
             "sum" => Ok(write!(answer, "{}", self.deltas.sum())?),
             "sum_beside" => self.sum_beside(row.given, answer),
             "sum_left" => self.sum_left(row.given, answer),
+            "clear" => Ok(write!(answer, "{}", self.deltas.is_clear())?),
             _ => Err(RowFault::Unread),
         }
     }

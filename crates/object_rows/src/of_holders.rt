@@ -40,6 +40,7 @@ impl Holding {
             "names" => Ok(self.names(answer)?),
             "rows" => Ok(self.rows(answer)?),
             "foreign" => self.foreign(row.words(), answer),
+            "clear" => Ok(write!(answer, "{}", self.holders.is_clear())?),
             _ => self.ask_of(row.call, &name(self.alloc, row.given)?, answer),
         }
     }

@@ -6,20 +6,22 @@ use Rattle.action_names.specs.Names.{same_name}
 use Rattle.object_model.specs.Stacks.{version_at}
 use Rattle.object_model.specs.Deltas.{delta_at, more_at}
 use Rattle.object_model.specs.Objects.{is_next, owns}
-use Rattle.atomic_object.specs.Kept.{HasDeltaRoom, Kept, seen}
+use Rattle.atomic_object.specs.Kept.{Kept, MayBeHandedDeltas, seen}
 use Rattle.atomic_object.proofs.Passing.{passed_more, passed_none}
-use Rattle.atomic_object.proofs.Rooms.{next_has_room}
+use Rattle.atomic_object.proofs.Rooms.{next_has_room, next_may_be_handed, nobody_forgets}
 use Rattle.atomic_object.proofs.object.Object.pass_parts.Goals as goal
 
 pub pass_version-requires-clause-room : goal.pass_version-requires-clause-room
 pass_version-requires-clause-room c =
-    next_has_room c.args.action.now c.args.to _ _ c.requires.next c.take-amount.ensures.room
-    (subst (λ (k : Kept). HasDeltaRoom k c.args.to) (sym c.self.view_is) c.requires.room)
+    next_may_be_handed c.args.action.now c.args.to c.self.inside.deltas.held _ _ _ c.requires.next c.take-amount.ensures.room
+    (nobody_forgets _ _ c.args.action.now c.take-amount.ensures.left)
+    (subst (λ (k : Kept). MayBeHandedDeltas k c.args.to) (sym c.self.view_is) c.requires.room)
 
 pub pass_delta-requires-clause-room : goal.pass_delta-requires-clause-room
 pass_delta-requires-clause-room c =
-    next_has_room c.args.action.now c.args.to _ _ c.requires.next c.take-amount.ensures.room
-    (subst (λ (k : Kept). HasDeltaRoom k c.args.to) (sym c.self.view_is) c.requires.room)
+    next_has_room c.args.action.now c.args.to c.self.inside.deltas.held _ _ c.in-Some.amount c.requires.next c.take-amount.ensures.room
+    (sym c.take-amount.ensures.amount ∙ c.in-Some.is)
+    (subst (λ (k : Kept). MayBeHandedDeltas k c.args.to) (sym c.self.view_is) c.requires.room)
 
 pub returns-in-Some-clause-deltas : goal.returns-in-Some-clause-deltas
 returns-in-Some-clause-deltas c = λ b.
