@@ -57,7 +57,7 @@ abort_next rest items n next split old there = (each_parts (λ (x : ℕ × Optio
 
 -- ---- all of them
 
-module _ (t : Telling) (old new : Indexed) (own : is_ancestor t.action t.action ≡ true) (ready : IsReady old t)
+module _ (t : Telling) (old new : Indexed) (own : is_ancestor t.action t.action ≡ true) {alone : Bool} (ready : IsReady alone old t)
     (objects : AreChanged (Aborts t.action) (numbers_of t.at.items) old.objects new.objects) where
   -- at whatever was not told nothing is held at or below the action
   pub abort_shows : (opening : Opening) (stands : ObjectId → Standing) → ((x : ObjectId) → (stands x).told t.action ≡ false) → (n : ℕ) (k l : Kept)

@@ -81,7 +81,7 @@ commit_next a to rest items n next split old may =
     subst (λ h. MayCommitAt old a h n) (sym parts.1.0) parts.1.1
 
 -- what is ready may be told
-pub commit_first : (t : Telling) (o : Indexed) → t.committed ≡ true → IsReady o t → IsHeard o t → MayCommit o.objects t.action t.to t.at.items
+pub commit_first : (t : Telling) (o : Indexed) → t.committed ≡ true → {alone : Bool} → IsReady alone o t → IsHeard o t → MayCommit o.objects t.action t.to t.at.items
 commit_first t o committed ready heard = all t.at.items (ready.room committed) ready.there
   where
     all : (at : List (ℕ × Option Name)) → AllByRecursion (IsReadyAt o t) at → AllByRecursion (λ x. is_some (object_at o.objects x.0) ≡ true) at → MayCommit o.objects t.action t.to at
@@ -94,7 +94,7 @@ commit_first t o committed ready heard = all t.at.items (ready.room committed) r
 
 -- ---- all of them
 
-module _ (t : Telling) (old new : Indexed) (own : is_ancestor t.action t.action ≡ true) (ready : IsReady old t)
+module _ (t : Telling) (old new : Indexed) (own : is_ancestor t.action t.action ≡ true) {alone : Bool} (ready : IsReady alone old t)
     (objects : AreChanged (Commits t.action t.to) (numbers_of t.at.items) old.objects new.objects) where
   -- whoever was not told holds nothing that is handed on
   pub commit_shows : (opening : Opening) (stands : ObjectId → Standing) → ((x : ObjectId) → t.to ≡ holder_by (stands x).told (parent_of t.action)) → (n : ℕ) (k l : Kept)

@@ -1,5 +1,5 @@
 -- Room is made at the objects at which something is held at or below an action.
-use Rattle.std.proofs.Common.{List, None, Option, Some, [], ap, arith, false, get_or, length, refl, subst, suc, sym, true, zero, ℕ, ◌<◌, ◌==◌, ◌∙◌, ◌∷◌, ◌≡◌, ◌≤◌, ◌||◌, ◌↔◌}
+use Rattle.std.proofs.Common.{Bool, List, None, Option, Some, [], ap, arith, false, get_or, length, refl, subst, suc, sym, true, zero, ℕ, ◌<◌, ◌==◌, ◌∙◌, ◌∷◌, ◌≡◌, ◌≤◌, ◌||◌, ◌↔◌}
 use Rattle.std.specs.Prelude.{is_some}
 use Rattle.std.specs.List.{AllByRecursion}
 use Rattle.std.specs.Option.{IfSome}
@@ -9,8 +9,9 @@ use Rattle.action_names.specs.Names.{Name, same_name}
 use Rattle.run_laws.proofs.Names.{same_name_self}
 use Rattle.run_model.specs.LocalReadings.{standing_here}
 use Rattle.atomic_object.specs.Kept.{KeepsRoom, Kept, has_room, seen}
-use Rattle.held_objects.specs.Held.{HasRoomBelow, HoldsBelow, IsRising, has_number}
+use Rattle.held_objects.specs.Held.{HoldsBelow, IsRising, has_number}
 use Rattle.guardian_objects.specs.Objects.{AreSome, Indexed, holds_below_at, holds_of, object_at}
+use Rattle.guardian_objects.specs.Outcomes.{HasIndexRoom}
 use Rattle.guardian_objects.specs.Turns.{HasRoomAt, HasRoomOf, IsRoomier}
 use Rattle.guardian_objects.proofs.Committing.{numbers_of}
 use Rattle.guardian_objects.proofs.Holding.{below_to}
@@ -44,9 +45,9 @@ module _ (old new : Indexed) (a : Name) (numbers : List ℕ) (some : AreSome old
       object_within new.objects x k.0 k.1
 
   -- where room was made at each of them, there is room for all
-  pub room_made : (to : Option Name) (at : List (ℕ × Option Name)) → IsRising numbers → numbers_of at ≡ numbers → IfSome to (λ h. HasRoomBelow new.held h)
-      → AllByRecursion (λ x. (x.1 ≡ to) × HasRoomOf new to x.0) at → HasRoomAt new a to at
-  room_made to at rise same index ready = record {
+  pub room_made : (alone : Bool) (to : Option Name) (at : List (ℕ × Option Name)) → IsRising numbers → numbers_of at ≡ numbers
+      → IfSome to (λ h. HasIndexRoom alone new a h) → AllByRecursion (λ x. (x.1 ≡ to) × HasRoomOf new to x.0) at → HasRoomAt alone new a to at
+  room_made alone to at rise same index ready = record {
     index = index;
     rising = subst (λ l. IsRising l) (sym same) rise;
     ready = ready;

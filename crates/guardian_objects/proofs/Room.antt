@@ -1,20 +1,21 @@
 -- Room that is made: the same is held then, and what had room has it still.
-use Rattle.std.proofs.Common.{Bool, List, None, Option, Some, [], ap, false, length, refl, subst, sym, true, ℕ, ◌++◌, ◌∙◌, ◌∷◌, ◌≡◌}
+use Rattle.std.proofs.Common.{Bool, List, None, Option, Some, [], ap, arith, false, length, refl, subst, sym, true, ℕ, ◌+◌, ◌++◌, ◌∙◌, ◌∷◌, ◌≡◌, ◌≤◌}
 use Rattle.std.specs.Prelude.{IsTrue, is_some}
 use Rattle.std.specs.List.{AllByRecursion}
 use Rattle.std.specs.Option.{IfSome}
 use Rattle.std.proofs.lemmas.Bool.{false≢true}
 use Rattle.std.proofs.lemmas.Option.{same_Some}
-use Rattle.action_names.specs.Names.{Name}
+use Rattle.action_names.specs.Names.{Name, is_proper_ancestor}
 use Rattle.run_model.specs.declared.step.ObjectId.{ObjectId}
 use Rattle.run_model.specs.Keeping.{Standing}
 use Rattle.run_model.specs.Openings.{Opening, first_content}
 use Rattle.object_laws.specs.Laws.{is_concerned}
 use Rattle.object_laws.specs.Shown.{Shows}
 use Rattle.atomic_object.specs.Kept.{KeepsRoom, Kept, has_room, seen}
-use Rattle.held_objects.specs.Held.{HasRoomBelow, has_number, objects_at}
+use Rattle.held_objects.specs.Held.{HasRoomBelow, HasRoomFrom, has_number, objects_at, room_at}
+use Rattle.held_objects.proofs.Changes.{room_from}
 use Rattle.guardian_objects.specs.Objects.{AreSome, Indexed, Keeps, Stand, holds_below_at, holds_of, object_at, object_of}
-use Rattle.guardian_objects.specs.Outcomes.{HasRoomFor, IsReadyAt}
+use Rattle.guardian_objects.specs.Outcomes.{HasIndexRoom, HasRoomFor, IsReadyAt}
 use Rattle.guardian_objects.specs.Turns.{AreChanged, HasRoomAt, HasRoomOf, IsRoomier}
 use Rattle.guardian_objects.specs.declared.outcomes.Telling.{Telling}
 use Rattle.guardian_objects.proofs.Places.{object_before, object_is, same_guardian, stand_after}
@@ -42,6 +43,7 @@ roomier_same o = record {
   count = refl;
   objects = λ n k l before after. same k l (same_Some k l (sym before ∙ after));
   held = λ b. refl;
+  room = λ b. omega arith;
   below = λ b h. h;
 }
   where
@@ -58,17 +60,19 @@ roomier_more a b c first later = record {
       let q = later.objects n m.0 l m.1 after in
       (q.0 ∙ p.0, λ d h. q.1 d (p.1 d h));
   held = λ d. later.held d ∙ first.held d;
+  room = λ d. let p = first.room d in let q = later.room d in omega (arith, p, q);
   below = λ d h. later.below d (first.below d h);
 }
 
 -- room is made in the index alone
 pub roomier_held : (old new : Indexed) → new.guardian ≡ old.guardian → new.objects ≡ old.objects → ((b : Name) → objects_at new.held b ≡ objects_at old.held b)
-    → ((b : Name) → HasRoomBelow old.held b → HasRoomBelow new.held b) → IsRoomier old new
-roomier_held old new guardian objects held below = record {
+    → ((b : Name) → room_at old.held b ≤ room_at new.held b) → ((b : Name) → HasRoomBelow old.held b → HasRoomBelow new.held b) → IsRoomier old new
+roomier_held old new guardian objects held room below = record {
   guardian = guardian;
   count = ap (λ l. length l) objects;
   objects = λ n k l before after. same k l (same_Some k l (sym before ∙ sym (ap (λ os. object_at os n) objects) ∙ after));
   held = held;
+  room = room;
   below = below;
 }
   where
@@ -83,6 +87,7 @@ roomier_objects old new ns guardian changed held = record {
   count = changed.count;
   objects = λ n k l before after. at n k l before after (has_number ns n) refl;
   held = λ b. ap (λ r. objects_at r b) held;
+  room = λ b. subst (λ n. room_at old.held b ≤ n) (sym (ap (λ r. room_at r b) held)) (omega arith);
   below = λ b h. subst (λ r. HasRoomBelow r b) (sym held) h;
 }
   where
@@ -127,9 +132,20 @@ roomier_of old new to n roomier room l after =
     of k m (Some b) more had = more b had
 
 -- in the index
-pub roomier_index : (old new : Indexed) (to : Option Name) → IsRoomier old new → IfSome to (λ b. HasRoomBelow old.held b) → IfSome to (λ b. HasRoomBelow new.held b)
-roomier_index old new None roomier had = tt
-roomier_index old new (Some b) roomier had = roomier.below b had
+pub roomier_index : (alone : Bool) (old new : Indexed) (a : Name) (to : Option Name) → IsRoomier old new → IfSome to (λ h. HasIndexRoom alone old a h)
+    → IfSome to (λ h. HasIndexRoom alone new a h)
+roomier_index alone old new a None roomier had = tt
+roomier_index false old new a (Some h) roomier had = roomier.below h had
+roomier_index true old new a (Some h) roomier had = within _ _ _ _ _ _ (ap (length {A = ℕ}) (roomier.held h)) (ap (length {A = ℕ}) (roomier.held a)) had (roomier.room h) where
+  within : (m n p q r s : ℕ) → p ≡ m → q ≡ n → m + n ≤ r → r ≤ s → p + q ≤ s
+  within m n p q r s e d fits more = omega arith
+
+-- whatever room there is, it is enough for one that hands on to a proper ancestor
+pub room_alone : (alone : Bool) (o : Indexed) (a : Name) (to : Option Name) → IfSome to (λ h. is_proper_ancestor h a ≡ true)
+    → IfSome to (λ h. HasIndexRoom alone o a h) → IfSome to (λ h. HasRoomFrom o.held h a)
+room_alone alone o a None above room = tt
+room_alone true o a (Some h) above room = room
+room_alone false o a (Some h) above room = room_from o.held h a above room
 
 -- what is held below an action
 pub roomier_below : (old new : Indexed) (a : Name) (n : ℕ) → IsRoomier old new → holds_below_at new.objects a n ≡ true → holds_below_at old.objects a n ≡ true
@@ -152,9 +168,9 @@ still_there old new n count h =
     ap (λ o. is_some o) g.1
 
 -- for all of a telling
-pub roomier_fits : (old new : Indexed) → IsRoomier old new → (t : Telling) → HasRoomFor old t → HasRoomFor new t
-roomier_fits old new roomier t had = record {
-  index = roomier_index old new t.to roomier had.index;
+pub roomier_fits : (alone : Bool) (old new : Indexed) → IsRoomier old new → (t : Telling) → HasRoomFor alone old t → HasRoomFor alone new t
+roomier_fits alone old new roomier t had = record {
+  index = roomier_index alone old new t.action t.to roomier had.index;
   rising = had.rising;
   ready = each_weaker (IsReadyAt old t) (IsReadyAt new t) t.at.items (λ x h. (h.0, roomier_of old new t.to x.0 roomier h.1)) had.ready;
   below = λ n h. had.below n (roomier_below old new t.action n roomier h);
@@ -165,7 +181,9 @@ roomier_fits old new roomier t had = record {
 -- ---- what is planned
 
 -- what there is room for, in a telling
-pub fits_from : (o : Indexed) (t : Telling) (a : Name) (to : Option Name) → t.action ≡ a → to ≡ t.to → HasRoomAt o a to t.at.items → HasRoomFor o t
-fits_from o t a to action next room =
-    let had : HasRoomAt o t.action t.to t.at.items = subst (λ b. HasRoomAt o b t.to t.at.items) (sym action) (subst (λ h. HasRoomAt o a h t.at.items) next room) in
+pub fits_from : (alone : Bool) (o : Indexed) (t : Telling) (a : Name) (to : Option Name) → t.action ≡ a → to ≡ t.to → HasRoomAt alone o a to t.at.items
+    → HasRoomFor alone o t
+fits_from alone o t a to action next room =
+    let had : HasRoomAt alone o t.action t.to t.at.items =
+    subst (λ b. HasRoomAt alone o b t.to t.at.items) (sym action) (subst (λ h. HasRoomAt alone o a h t.at.items) next room) in
     record { index = had.index; rising = had.rising; ready = had.ready; below = had.below; there = had.there }

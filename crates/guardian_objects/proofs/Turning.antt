@@ -1,5 +1,5 @@
 -- Outcomes are told from the last to the first: how all stand then, and what it makes of the history.
-use Rattle.std.proofs.Common.{Bool, List, None, Option, Some, [], ap, ap₂, cond, false, map, not, refl, subst, sym, true, ◌++◌, ◌==◌, ◌∙◌, ◌∷◌, ◌≡◌, ◌||◌}
+use Rattle.std.proofs.Common.{Bool, List, None, Option, Some, [], ap, ap₂, arith, cond, false, length, length-append, map, not, refl, subst, suc, sym, true, ◌++◌, ◌==◌, ◌∙◌, ◌∷◌, ◌≡◌, ◌||◌}
 use Rattle.std.proofs.lemmas.Bool.{and_parts, eqb-true, false_from_ne_true, false≢true, true≢false}
 use Rattle.std.proofs.lemmas.Cmp.{nat_cmp_total, tied_itself}
 use Rattle.std.proofs.lemmas.List.{append-nil, append_assoc}
@@ -27,7 +27,7 @@ use Rattle.standing_laws.specs.Laws.{is_granted_on}
 use Rattle.standing_laws.proofs.Events.{outcomes_are_heard_is}
 use Rattle.standing_laws.proofs.Turns.{heard_in_turn_is}
 use Rattle.guardian_objects.specs.Objects.{AreObjects, Indexed, Stand}
-use Rattle.guardian_objects.specs.Outcomes.{ArePlanned, AreSound, HasRoomFor, IsHearing, OnlyTells, is_granted, outcomes_of}
+use Rattle.guardian_objects.specs.Outcomes.{ArePlanned, AreSound, HasRoomFor, IsHearing, OnlyTells, is_alone, is_granted, outcomes_of}
 use Rattle.guardian_objects.specs.Turns.{Hears, IsHeard, IsReady, KeepsReady, MayHear}
 use Rattle.guardian_objects.specs.declared.outcomes.Telling.{Telling}
 use Rattle.guardian_objects.proofs.Room.{each_parts, each_weaker}
@@ -186,10 +186,19 @@ module _ (all rest items : List Telling) (t : Telling) (old mid : Indexed) (spli
         hears opening (λ x. heard_in_turn (outcomes_of stands.0) (standing_here here x)) (stands.2 opening here are planned sound) (heard_here here planned sound),
   )
 
-  -- for the rest there is room still
-  pub rest_ready : (new : Indexed) → IsHearing old all → AllByRecursion (IsReady mid) items → KeepsReady t mid new → AllByRecursion (IsReady new) rest
-  rest_ready new hearing ready keeps =
-      of rest (each_parts (IsReady mid) rest t (subst (λ l. AllByRecursion (IsReady mid) l) split ready)).0 (before_middle rest t stands.0 rises)
+  -- where there is one outcome alone, nothing is left after it
+  nothing_left : is_alone all ≡ true → (ts : List Telling) → all ≡ ts ++ t ∷ stands.0 → ts ≡ []
+  nothing_left one [] e = refl
+  nothing_left one (u ∷ us) e =
+      let many = ap (length {A = Telling}) e in
+      let front = length-append us (t ∷ stands.0) in
+      let single : length all ≡ 1 = eqb-true (length all) 1 one in
+      absurd (omega (arith, many, front, single))
+
+  -- what is told with others leaves room for the rest
+  others_ready : (new : Indexed) → IsHearing old all → AllByRecursion (IsReady false mid) items → KeepsReady t mid new → AllByRecursion (IsReady false new) rest
+  others_ready new hearing ready keeps =
+      of rest (each_parts (IsReady false mid) rest t (subst (λ l. AllByRecursion (IsReady false mid) l) split ready)).0 (before_middle rest t stands.0 rises)
       (each_middle (λ (u : Telling). u.committed ≡ true → u.to ≡ holder_by (λ b. told_committed_here b hearing.1) (parent_of u.action)) rest t stands.0
       (subst (λ l. ArePlanned hearing.1 l) whole hearing.3)).0
     where
@@ -202,11 +211,19 @@ module _ (all rest items : List Telling) (t : Telling) (old mid : Indexed) (spli
           (above_parent t.action u.action
           (ancestor_trans t.action h (parent_of u.action) above (holder_is (λ b. told_committed_here b hearing.1) (parent_of u.action) h (sym e)).0)) before)
 
-      of : (us : List Telling) → AllByRecursion (IsReady mid) us → AllByRecursion (λ u. name_cmp u.action t.action ≡ Less) us
+      of : (us : List Telling) → AllByRecursion (IsReady false mid) us → AllByRecursion (λ u. name_cmp u.action t.action ≡ Less) us
           → AllByRecursion (λ u. u.committed ≡ true → u.to ≡ holder_by (λ b. told_committed_here b hearing.1) (parent_of u.action)) us
-          → AllByRecursion (IsReady new) us
+          → AllByRecursion (IsReady false new) us
       of [] r b p = tt
       of (u ∷ us) r b p = (keeps u (λ committed. apart u b.0 u.to (p.0 committed)) r.0, of us r.1 b.1 p.1)
+
+  -- for the rest there is room still
+  pub rest_ready : (new : Indexed) → IsHearing old all → AllByRecursion (IsReady (is_alone all) mid) items → KeepsReady t mid new
+      → AllByRecursion (IsReady (is_alone all) new) rest
+  rest_ready new hearing ready keeps = by_case (is_alone all) refl ready where
+    by_case : (b : Bool) → is_alone all ≡ b → AllByRecursion (IsReady b mid) items → AllByRecursion (IsReady b new) rest
+    by_case true one had = subst (λ l. AllByRecursion (IsReady true new) l) (sym (nothing_left one rest whole)) tt
+    by_case false one had = others_ready new hearing had keeps
 
 -- ---- all were told
 
@@ -215,10 +232,18 @@ pub same_names : (ts : List Telling) → map (λ x. x.0) (outcomes_of ts) ≡ na
 same_names [] = refl
 same_names (t ∷ ts) = ap (λ l. t.action ∷ l) (same_names ts)
 
+-- and there are as many of them
+same_count : (ts : List Telling) → length (outcomes_of ts) ≡ length ts
+same_count [] = refl
+same_count (t ∷ ts) = ap suc (same_count ts)
+
+pub same_alone : (ts : List Telling) → is_alone (outcomes_of ts) ≡ is_alone ts
+same_alone ts = ap (λ n. n == 1) (same_count ts)
+
 -- what fits is ready
-pub fit_ready : (o : Indexed) (ts : List Telling) → AllByRecursion (HasRoomFor o) ts → AllByRecursion (IsReady o) ts
-fit_ready o ts fits =
-    each_weaker (HasRoomFor o) (IsReady o) ts
+pub fit_ready : (alone : Bool) (o : Indexed) (ts : List Telling) → AllByRecursion (HasRoomFor alone o) ts → AllByRecursion (IsReady alone o) ts
+fit_ready alone o ts fits =
+    each_weaker (HasRoomFor alone o) (IsReady alone o) ts
     (λ t had. record { rising = had.rising; below = had.below; there = had.there; index = λ q. had.index; room = λ q. had.ready }) fits
 
 -- an outcome of a name before the others is not among them

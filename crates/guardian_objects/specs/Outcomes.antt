@@ -1,5 +1,5 @@
 -- Outcomes that the objects of a guardian are to be told, and what they make of its history.
-use Rattle.std.specs.Prelude.{◌≡◌, ℕ, Bool, true, false, List, [], map, Option, Some, IsTrue, IsFalse, IsSome}
+use Rattle.std.specs.Prelude.{◌≡◌, ◌==◌, ℕ, Bool, true, false, List, [], length, map, Option, Some, IsTrue, IsFalse, IsSome}
 use Rattle.std.specs.List.{AllByRecursion}
 use Rattle.std.specs.List.Sorted.{IsStrictlySortedBy}
 use Rattle.std.specs.Option.{IfSome}
@@ -12,7 +12,7 @@ use Rattle.run_model.specs.LocalReadings.{LocalEvent, told_committed_here}
 use Rattle.run_model.specs.Openings.{Opening}
 use Rattle.run_model.specs.Telling.{holder_by}
 use Rattle.atomic_object.specs.Kept.{Kept, has_room}
-use Rattle.held_objects.specs.Held.{HasRoomBelow, IsRising, has_number}
+use Rattle.held_objects.specs.Held.{HasRoomBelow, HasRoomFrom, IsRising, has_number}
 use Rattle.local_agreement.specs.Outcomes.{AgreesOnOutcomes}
 use Rattle.standing_laws.specs.Laws.{is_crash}
 use Rattle.guardian_objects.specs.Objects.{AreObjects, Indexed, holds_below_at, object_at}
@@ -27,10 +27,19 @@ abbrev pub IsReadyAt : Indexed → Telling → ℕ × Option Name → Type 0
 IsReadyAt o t x =
     (x.1 ≡ t.to) × ((k : Kept) → object_at o.objects x.0 ≡ Some k → IfSome t.to (λ h. IsTrue (has_room k h)))
 
--- There is room for what the next holder is handed, in the index for all that it and its descendants have, and at each object at which the action
--- or a descendant holds something.
-pub record HasRoomFor (o : Indexed) (t : Telling) : Type 0 where
-  pub index : IfSome t.to (λ h. HasRoomBelow o.held h)
+-- there is one alone
+abbrev pub is_alone : {X : Type 0} → List X → Bool
+is_alone xs = length xs == 1
+
+-- There is room in the index for what the action hands on: where it is told alone, for what it has. Of several that are told together one may hand on
+-- what another handed to it; then there is room for all that the next holder and its descendants have.
+abbrev pub HasIndexRoom : Bool → Indexed → Name → Name → Type 0
+HasIndexRoom true o a h = HasRoomFrom o.held h a
+HasIndexRoom false o a h = HasRoomBelow o.held h
+
+-- There is room for what the next holder is handed, in the index and at each object at which the action or a descendant holds something.
+pub record HasRoomFor (alone : Bool) (o : Indexed) (t : Telling) : Type 0 where
+  pub index : IfSome t.to (λ h. HasIndexRoom alone o t.action h)
   pub rising : IsRising (map (λ x. x.0) t.at.items)
   pub ready : AllByRecursion (IsReadyAt o t) t.at.items
   pub below : (n : ℕ) → IsTrue (holds_below_at o.objects t.action n) → IsTrue (has_number (map (λ x. x.0) t.at.items) n)
@@ -39,7 +48,7 @@ pub record HasRoomFor (o : Indexed) (t : Telling) : Type 0 where
 -- they rise by name, and for each there is room
 pub record Fits (o : Indexed) (tellings : List Telling) : Type 0 where
   pub rising : IsStrictlySortedBy name_cmp (map (λ t. t.action) tellings)
-  pub room : AllByRecursion (HasRoomFor o) tellings
+  pub room : AllByRecursion (HasRoomFor (is_alone tellings) o) tellings
 
 -- what committed goes to the nearest ancestor that was not told committed, or to the base
 abbrev pub ArePlanned : List LocalEvent → List Telling → Type 0

@@ -1,5 +1,5 @@
 -- One outcome after another: what it asks of the objects, and what it makes of them.
-use Rattle.std.specs.Prelude.{◌≡◌, ℕ, List, length, map, Option, Some, IsTrue, IsFalse, IsSome}
+use Rattle.std.specs.Prelude.{◌≡◌, ◌≤◌, ℕ, Bool, false, List, length, map, Option, Some, IsTrue, IsFalse, IsSome}
 use Rattle.std.specs.List.{AllByRecursion}
 use Rattle.std.specs.Option.{IfSome}
 use Rattle.action_names.specs.Names.{Name, is_ancestor, parent_of}
@@ -11,9 +11,9 @@ use Rattle.standing_laws.specs.Heard.{heard_one}
 use Rattle.atomic_object.specs.Kept.{Kept, KeepsOthersRoom, KeepsRoom, KeepsRoomBeside, has_room, seen}
 use Rattle.atomic_object.specs.Kept as kept
 use Rattle.atomic_object.specs.Ways.{HandsOn, HandsTo, Undoes}
-use Rattle.held_objects.specs.Held.{HasRoomBelow, IsRising, has_number, objects_at}
+use Rattle.held_objects.specs.Held.{HasRoomBelow, IsRising, has_number, objects_at, room_at}
 use Rattle.guardian_objects.specs.Objects.{Indexed, Stand, holds_below_at, object_at}
-use Rattle.guardian_objects.specs.Outcomes.{IsReadyAt}
+use Rattle.guardian_objects.specs.Outcomes.{HasIndexRoom, IsReadyAt}
 use Rattle.guardian_objects.specs.declared.outcomes.Telling.{Telling}
 
 -- ---- room
@@ -24,6 +24,7 @@ pub record IsRoomier (old new : Indexed) : Type 0 where
   pub count : length new.objects ≡ length old.objects
   pub objects : (n : ℕ) (k l : Kept) → object_at old.objects n ≡ Some k → object_at new.objects n ≡ Some l → (seen l ≡ seen k) × KeepsRoom k l
   pub held : (b : Name) → objects_at new.held b ≡ objects_at old.held b
+  pub room : (b : Name) → room_at old.held b ≤ room_at new.held b
   pub below : (b : Name) → HasRoomBelow old.held b → HasRoomBelow new.held b
 
 -- at the object of this number there is room for the next holder
@@ -31,8 +32,8 @@ abbrev pub HasRoomOf : Indexed → Option Name → ℕ → Type 0
 HasRoomOf o to n = (k : Kept) → object_at o.objects n ≡ Some k → IfSome to (λ h. IsTrue (has_room k h))
 
 -- For what a and its descendants hold there is room with the next holder: in the index, and at each of these objects, at which it is.
-pub record HasRoomAt (o : Indexed) (a : Name) (to : Option Name) (at : List (ℕ × Option Name)) : Type 0 where
-  pub index : IfSome to (λ h. HasRoomBelow o.held h)
+pub record HasRoomAt (alone : Bool) (o : Indexed) (a : Name) (to : Option Name) (at : List (ℕ × Option Name)) : Type 0 where
+  pub index : IfSome to (λ h. HasIndexRoom alone o a h)
   pub rising : IsRising (map (λ x. x.0) at)
   pub ready : AllByRecursion (λ x. (x.1 ≡ to) × HasRoomOf o to x.0) at
   pub below : (n : ℕ) → IsTrue (holds_below_at o.objects a n) → IsTrue (has_number (map (λ x. x.0) at) n)
@@ -73,13 +74,13 @@ Hears t old new = (opening : Opening) (stands : ObjectId → Standing) → Stand
     → Stand opening (λ x. heard_one t.action t.committed (stands x)) new
 
 -- The objects are told of that the outcome concerns, and where it is a commit there is room for what is handed on.
-pub record IsReady (o : Indexed) (t : Telling) : Type 0 where
+pub record IsReady (alone : Bool) (o : Indexed) (t : Telling) : Type 0 where
   pub rising : IsRising (map (λ x. x.0) t.at.items)
   pub below : (n : ℕ) → IsTrue (holds_below_at o.objects t.action n) → IsTrue (has_number (map (λ x. x.0) t.at.items) n)
   pub there : AllByRecursion (λ x. IsSome (object_at o.objects x.0)) t.at.items
-  pub index : IsTrue t.committed → IfSome t.to (λ h. HasRoomBelow o.held h)
+  pub index : IsTrue t.committed → IfSome t.to (λ h. HasIndexRoom alone o t.action h)
   pub room : IsTrue t.committed → AllByRecursion (IsReadyAt o t) t.at.items
 
--- what is ready stays so, but where the next holder is the action of this outcome or below it
+-- what is ready with others stays so, but where the next holder is the action of this outcome or below it
 abbrev pub KeepsReady : Telling → Indexed → Indexed → Type 0
-KeepsReady t old new = (u : Telling) → (IsTrue u.committed → IfSome u.to (λ h. IsFalse (is_ancestor t.action h))) → IsReady old u → IsReady new u
+KeepsReady t old new = (u : Telling) → (IsTrue u.committed → IfSome u.to (λ h. IsFalse (is_ancestor t.action h))) → IsReady false old u → IsReady false new u

@@ -1,15 +1,14 @@
 //! Outcomes of actions, which the objects are told.
-ghost use Rattle.std.specs.Prelude.{◌≡◌, ◌≤◌, ◌∷◌, [], ℕ, List, length, IsTrue, IsFalse, IsSome, IfOk, OnOk};
+ghost use Rattle.std.specs.Prelude.{◌≡◌, ◌≤◌, ◌∷◌, [], ℕ, Bool, List, length, IsTrue, IsFalse, IsSome, IfOk, OnOk};
 ghost use Rattle.std.specs.Option.{IfSome, option_copied as name_of};
 ghost use Rattle.action_names.specs.Names.{Name, is_ancestor, parent_of};
 ghost use Rattle.run_model.specs.LocalReadings.{LocalEvent, told_committed_here};
 ghost use Rattle.run_model.specs.Openings.{Opening};
 ghost use Rattle.run_model.specs.Telling.{holder_by};
 ghost use Rattle.atomic_object.specs.Staying.{OutcomesRise};
-ghost use Rattle.held_objects.specs.Held.{HasRoomBelow};
 ghost use Rattle.tellings.specs.Hearing.{AreTold};
 ghost use Rattle.guardian_objects.specs.Objects.{AreObjects, AreSome, Keeps, object_at};
-ghost use Rattle.guardian_objects.specs.Outcomes.{ArePlanned, Fits, HasRoomFor, IsHearing, OnlyTells, outcomes_of};
+ghost use Rattle.guardian_objects.specs.Outcomes.{ArePlanned, Fits, HasIndexRoom, HasRoomFor, IsHearing, OnlyTells, is_alone, outcomes_of};
 ghost use Rattle.guardian_objects.specs.Turns.{Aborts, AreChanged, Commits, HasRoomAt, HasRoomOf, Hears, IsHeard, IsReady, IsRoomier, KeepsReady, MayCommitAt};
 
 use crate::objects::Objects;
@@ -64,10 +63,11 @@ impl Objects {
         ensures planned { OnOk result ((g : ℕ) (here : List LocalEvent) → AreTold g here told.now → ArePlanned here planned.new.tellings.items) }
     {
         planned.tellings.clear();
+        let alone = is_alone(outcomes);
         for (action, committed) in outcomes {
             planned
                 .tellings
-                .push(self.plan_one(action, *committed, told)?)?;
+                .push(self.plan_one(action, *committed, alone, told)?)?;
         }
         Ok(())
     }
@@ -91,23 +91,24 @@ impl Objects {
 
 // Making room.
 impl Objects {
-    // Copies one outcome, and makes room for what the next holder is handed.
+    // Copies one outcome, and makes room for what the next holder is handed, where it is told alone or with others.
     fn plan_one(
         &mut self,
         action: &Name,
         committed: bool,
+        alone: bool,
         told: &Tellings,
     ) -> Result<Telling, AllocError>
         requires shown { AreSome self.old }
         ensures roomier { IsRoomier self.old self.new }
-        ensures room { IfOk result (λ telling. HasRoomFor self.new telling) }
+        ensures room { IfOk result (λ telling. HasRoomFor alone self.new telling) }
         ensures action { IfOk result (λ telling. telling.action ≡ action.now) }
         ensures committed { IfOk result (λ telling. telling.committed ≡ committed) }
         ensures next { IfOk result (λ telling. (g : ℕ) (here : List LocalEvent) → AreTold g here told.now → IsTrue committed
             → telling.to ≡ holder_by (λ b. told_committed_here b here) (parent_of action.now)) }
     {
         let to = next_holder(action, committed, told)?;
-        let at = self.make_room(action, to.as_ref())?;
+        let at = self.make_room(action, to.as_ref(), alone)?;
         let copy = action.copy()?;
         Ok(Telling {
             action: copy,
@@ -122,13 +123,14 @@ impl Objects {
         &mut self,
         action: &Name,
         to: Option<&Name>,
+        alone: bool,
     ) -> Result<Vec<(u32, Option<Name>)>, AllocError>
         requires shown { AreSome self.old }
         ensures roomier { IsRoomier self.old self.new }
-        ensures room { IfOk result (λ at. HasRoomAt self.new action.now (name_of to.entry) at.items) }
+        ensures room { IfOk result (λ at. HasRoomAt alone self.new action.now (name_of to.entry) at.items) }
     {
         let numbers = self.held.objects_below(action)?;
-        self.make_room_below(to)?;
+        self.make_index_room(action, to, alone)?;
         let mut at = Vec::with_capacity(self.alloc, numbers.len())?;
         for &number in &numbers {
             at.push((number, self.make_room_at(number, to)?))?;
@@ -136,16 +138,25 @@ impl Objects {
         Ok(at)
     }
 
-    // Makes room in the index for all that the next holder and its descendants have.
-    fn make_room_below(&mut self, to: Option<&Name>) -> Result<(), AllocError>
+    // Makes room in the index for what the next holder is handed. Told alone, the action hands on what it has, so that nobody else's row is looked at.
+    fn make_index_room(
+        &mut self,
+        action: &Name,
+        to: Option<&Name>,
+        alone: bool,
+    ) -> Result<(), AllocError>
         ensures roomier { IsRoomier self.old self.new }
         ensures objects { self.new.objects ≡ self.old.objects }
-        ensures room { OnOk result (IfSome (name_of to.entry) (λ h. HasRoomBelow self.new.held h)) }
+        ensures room { OnOk result (IfSome (name_of to.entry) (λ h. HasIndexRoom alone self.new action.now h)) }
     {
-        match to {
-            Some(next) => self.held.make_room_below(next),
-            None => Ok(()),
+        let Some(next) = to else {
+            return Ok(());
+        };
+        if !alone {
+            return self.held.make_room_below(next);
         }
+        let count = self.held.objects_of(action).len();
+        self.held.make_room_for(next, count)
     }
 
     // Makes room for the next holder at the object of this number, and copies its name.
@@ -163,6 +174,13 @@ impl Objects {
     }
 }
 
+// Whether there is one outcome, which is told alone.
+fn is_alone(outcomes: &[(Name, bool)]) -> bool
+    ensures { result ≡ is_alone outcomes.now }
+{
+    outcomes.len() == 1
+}
+
 // To whom an action that committed hands on what it holds.
 fn next_holder(action: &Name, committed: bool, told: &Tellings) -> Result<Option<Name>, AllocError>
     ensures { IfOk result (λ to. (g : ℕ) (here : List LocalEvent) → AreTold g here told.now → IsTrue committed
@@ -177,7 +195,7 @@ fn next_holder(action: &Name, committed: bool, told: &Tellings) -> Result<Option
 // Telling one outcome.
 impl Objects {
     fn tell_one(&mut self, telling: Telling)
-        requires ready { IsReady self.old telling }
+        requires ready { (alone : Bool) × IsReady alone self.old telling }
         requires heard { IsHeard self.old telling }
         ensures told { Hears telling self.old self.new }
         ensures ready { KeepsReady telling self.old self.new }
@@ -194,7 +212,7 @@ impl Objects {
     // Hands on what the action holds.
     fn hand_on(&mut self, telling: Telling)
         requires committed { IsTrue telling.committed }
-        requires ready { IsReady self.old telling }
+        requires ready { (alone : Bool) × IsReady alone self.old telling }
         requires heard { IsHeard self.old telling }
         ensures told { Hears telling self.old self.new }
         ensures ready { KeepsReady telling self.old self.new }
@@ -229,7 +247,7 @@ impl Objects {
     // Drops what the action and its descendants hold.
     fn drop_below(&mut self, telling: Telling)
         requires aborted { IsFalse telling.committed }
-        requires ready { IsReady self.old telling }
+        requires ready { (alone : Bool) × IsReady alone self.old telling }
         requires heard { IsHeard self.old telling }
         ensures told { Hears telling self.old self.new }
         ensures ready { KeepsReady telling self.old self.new }

@@ -7,8 +7,8 @@ use Rattle.std.specs.declared.vec.Vec.{Vec}
 use Rattle.std.specs.BTreeMap.{is_at, insert_entry}
 use Rattle.std.specs.Map.{keys_of, lookup, remove_entry, set_value}
 use Rattle.action_names.specs.Names.{Name, same_name, name_cmp, is_ancestor, is_proper_ancestor}
-use Rattle.action_names.proofs.Ancestry.{same_is, same_refl, same_sym, ancestor_trans, proper}
-use Rattle.held_objects.specs.Held.{Row, Rows, has_number, no_row, row_at, objects_at, room_at, has_object, has_room, count_in, count_below, HasRoomBelow, is_name_of, row_of, rows_in}
+use Rattle.action_names.proofs.Ancestry.{same_is, same_refl, same_sym, self_above, ancestor_trans, proper}
+use Rattle.held_objects.specs.Held.{Row, Rows, has_number, no_row, row_at, objects_at, room_at, has_object, has_room, count_in, count_below, HasRoomBelow, HasRoomFrom, is_name_of, row_of, rows_in}
 use Rattle.held_objects.proofs.Rows.{found, set_row, out_row, put_row, kept_row}
 use Rattle.held_objects.proofs.Counts.{zero_both, counts, count_set, count_out, count_put, count_kept, count_gone}
 
@@ -299,22 +299,17 @@ handed s mid new a h objects up own rows more b n =
       by_case false d u k = turned (u && has_object s a n) (has_object s b n)
 
 -- the ancestor has room for what it gets
-pub fits : (s mid : Rows) (a h : Name) (objects : List ℕ) → is_proper_ancestor h a ≡ true → objects ≡ objects_at s a → HasRoomBelow s h
-    → ((b : Name) → row_at mid b ≡ cond (same_name a b) no_row (row_at s b)) → count_below mid h + count_in h (a, row_at s a) ≡ count_below s h
-    → length (objects_at mid h) ≤ count_below mid h → length (objects_at mid h) + length objects ≤ room_at mid h
-fits s mid a h objects up own room rows sum counted =
-    let p = proper h a up in
-    let same : room_at mid h ≡ room_at s h = ap (λ (r : Row). r.room) (rows h) ∙ ap (λ t. (cond t no_row (row_at s h)).room) (turn p.1) in
-    let taken : count_in h (a, row_at s a) ≡ length objects = counts h a (row_at s a) p.0 ∙ ap (length {A = ℕ}) (sym own) in
-    sums _ _ _ _ _ _ _ counted sum taken room same where
+pub fits : (s mid : Rows) (a h : Name) (objects : List ℕ) → is_proper_ancestor h a ≡ true → objects ≡ objects_at s a → HasRoomFrom s h a
+    → ((b : Name) → row_at mid b ≡ cond (same_name a b) no_row (row_at s b)) → length (objects_at mid h) + length objects ≤ room_at mid h
+fits s mid a h objects up own room rows =
+    let same : row_at mid h ≡ row_at s h = rows h ∙ ap (λ t. cond t no_row (row_at s h)) (turn (proper h a up).1) in
+    subst (λ (r : Row). length r.objects + length objects ≤ r.room) (sym same)
+    (subst (λ (ns : List ℕ). length (objects_at s h) + length ns ≤ room_at s h) (sym own) room) where
       turn : same_name h a ≡ false → same_name a h ≡ false
       turn d = by_case (same_name a h) refl where
         by_case : (t : Bool) → same_name a h ≡ t → same_name a h ≡ false
         by_case true e = absurd (true≢false (sym (same_sym a h e) ∙ d))
         by_case false e = e
-
-      sums : (x y m c n r l : ℕ) → x ≤ c → c + y ≡ n → y ≡ m → n ≤ r → l ≡ r → x + m ≤ l
-      sums x y m c n r l p q u k e = omega arith
 
 -- all others have room that had it, once a row is taken out
 pub others_room : (s new : Rows) (a : Name) → ((b : Name) → row_at new b ≡ cond (same_name a b) no_row (row_at s b))
@@ -346,3 +341,72 @@ room_after s mid new a h objects up own rows sum rooms more b other room =
             equal : (x y : ℕ) → x ≡ y → y ≤ x
             equal x y e = omega arith
       part false d = omega arith
+
+-- ---- where there is room for all that stands below a holder
+
+-- the first row is that of its name, and is passed over by others
+first_row : (r : Name × Row) (rs : Rows) (x : Name) → same_name r.0 x ≡ true → row_at (r ∷ rs) x ≡ r.1
+first_row r rs x d = ap (λ t. cond t r.1 (row_at rs x)) d
+
+later_row : (r : Name × Row) (rs : Rows) (x : Name) → same_name r.0 x ≡ false → row_at (r ∷ rs) x ≡ row_at rs x
+later_row r rs x d = ap (λ t. cond t r.1 (row_at rs x)) d
+
+-- what a row counts for an ancestor of its name
+counted_whole : (r : Name × Row) (h x : Name) → same_name r.0 x ≡ true → is_ancestor h x ≡ true → count_in h r ≡ length r.1.objects
+counted_whole r h x d up = counts h r.0 r.1 (subst (λ y. is_ancestor h y ≡ true) (sym (same_is r.0 x d)) up)
+
+one_counted : (rs : Rows) (h x : Name) → is_ancestor h x ≡ true → length (objects_at rs x) ≤ count_below rs h
+one_counted [] h x up = omega arith
+one_counted (r ∷ rs) h x up = by_case (one_counted rs h x up) (same_name r.0 x) refl where
+  more : (m c n : ℕ) → m ≤ n → m ≤ c + n
+  more m c n p = omega arith
+
+  whole : (m c n : ℕ) → c ≡ m → m ≤ c + n
+  whole m c n p = omega arith
+
+  by_case : length (objects_at rs x) ≤ count_below rs h → (t : Bool) → same_name r.0 x ≡ t → length (objects_at (r ∷ rs) x) ≤ count_below (r ∷ rs) h
+  by_case later true d =
+      subst (λ (z : Row). length z.objects ≤ count_in h r + count_below rs h) (sym (first_row r rs x d))
+      (whole (length r.1.objects) (count_in h r) (count_below rs h) (counted_whole r h x d up))
+  by_case later false d =
+      subst (λ (z : Row). length z.objects ≤ count_in h r + count_below rs h) (sym (later_row r rs x d))
+      (more (length (objects_at rs x)) (count_in h r) (count_below rs h) later)
+
+two_counted : (rs : Rows) (h a : Name) → is_ancestor h h ≡ true → is_ancestor h a ≡ true → same_name h a ≡ false
+    → length (objects_at rs h) + length (objects_at rs a) ≤ count_below rs h
+two_counted [] h a own up other = omega arith
+two_counted (r ∷ rs) h a own up other = by_case (two_counted rs h a own up other) (same_name r.0 h) refl (same_name r.0 a) refl where
+  both : (y z : Row) → row_at (r ∷ rs) h ≡ y → row_at (r ∷ rs) a ≡ z → length y.objects + length z.objects ≤ count_in h r + count_below rs h
+      → length (objects_at (r ∷ rs) h) + length (objects_at (r ∷ rs) a) ≤ count_below (r ∷ rs) h
+  both y z p q less =
+      subst (λ (v : Row). length v.objects + length (objects_at (r ∷ rs) a) ≤ count_in h r + count_below rs h) (sym p)
+      (subst (λ (w : Row). length y.objects + length w.objects ≤ count_in h r + count_below rs h) (sym q) less)
+
+  front : (m k c n : ℕ) → c ≡ m → k ≤ n → m + k ≤ c + n
+  front m k c n p q = omega arith
+
+  back : (m k c n : ℕ) → c ≡ k → m ≤ n → m + k ≤ c + n
+  back m k c n p q = omega arith
+
+  behind : (m k c n : ℕ) → m + k ≤ n → m + k ≤ c + n
+  behind m k c n p = omega arith
+
+  by_case : length (objects_at rs h) + length (objects_at rs a) ≤ count_below rs h → (t : Bool) → same_name r.0 h ≡ t → (u : Bool) → same_name r.0 a ≡ u
+      → length (objects_at (r ∷ rs) h) + length (objects_at (r ∷ rs) a) ≤ count_below (r ∷ rs) h
+  by_case later true d true e = absurd (true≢false (sym (subst (λ x. same_name x a ≡ true) (same_is r.0 h d) e) ∙ other))
+  by_case later true d false e =
+      both r.1 (row_at rs a) (first_row r rs h d) (later_row r rs a e)
+      (front (length r.1.objects) (length (objects_at rs a)) (count_in h r) (count_below rs h) (counted_whole r h h d own) (one_counted rs h a up))
+  by_case later false d true e =
+      both (row_at rs h) r.1 (later_row r rs h d) (first_row r rs a e)
+      (back (length (objects_at rs h)) (length r.1.objects) (count_in h r) (count_below rs h) (counted_whole r h a e up) (one_counted rs h h own))
+  by_case later false d false e =
+      both (row_at rs h) (row_at rs a) (later_row r rs h d) (later_row r rs a e)
+      (behind (length (objects_at rs h)) (length (objects_at rs a)) (count_in h r) (count_below rs h) later)
+
+-- there is room for what any proper descendant has
+pub room_from : (held : Rows) (h a : Name) → is_proper_ancestor h a ≡ true → HasRoomBelow held h → HasRoomFrom held h a
+room_from held h a up room =
+    let p = proper h a up in
+    let counted = two_counted held h a (self_above h a p.0) p.0 p.1 in
+    omega (arith, counted, room)

@@ -1,5 +1,5 @@
 -- How many objects stand below an action once rows are changed.
-use Rattle.std.proofs.Common.{◌≡◌, ℕ, ◌+◌, ◌≤◌, Bool, true, false, cond, not, filter, List, [], ◌∷◌, length, refl, sym, ap, ◌∙◌, subst, arith}
+use Rattle.std.proofs.Common.{◌≡◌, ℕ, ◌+◌, ◌≤◌, Bool, true, false, cond, not, filter, List, [], ◌∷◌, length, refl, sym, ap, ◌∙◌, arith}
 use Rattle.std.specs.Prelude.{Some, None}
 use Rattle.std.proofs.lemmas.Bool.{true≢false}
 use Rattle.std.specs.declared.cmp.Ordering.{Ordering}
@@ -10,7 +10,7 @@ use Rattle.std.specs.Map.{lookup, remove_entry, set_value}
 use Rattle.action_names.specs.Names.{Name, same_name, name_cmp, is_ancestor}
 use Rattle.action_names.proofs.Ancestry.{same_is, ancestor_trans}
 use Rattle.holders.proofs.Sorted.{at_name}
-use Rattle.held_objects.specs.Held.{Row, row_at, objects_at, count_in, count_below, row_of, rows_in}
+use Rattle.held_objects.specs.Held.{Row, row_at, count_in, count_below, row_of, rows_in}
 use Rattle.held_objects.proofs.Rows.{row_first, row_behind}
 
 -- a row with no object counts for nothing
@@ -102,24 +102,6 @@ module _ {Z : Type 0} where
     by_case later false d false k = simp (d, k) (plain _ later) where
       plain : (n : ℕ) → n ≡ 0 → 0 + n ≡ 0
       plain n p = omega arith
-
-  -- an action's own row is among those that are counted
-  pub own_counts : (a : Name) (es : List (Name × Vec ℕ Z)) → is_ancestor a a ≡ true → length (objects_at (rows_in es) a) ≤ count_below (rows_in es) a
-  own_counts a [] up = omega arith
-  own_counts a (e ∷ es) up = by_case (own_counts a es up) (same_name e.0 a) refl where
-    by_case : length (objects_at (rows_in es) a) ≤ count_below (rows_in es) a → (t : Bool) → same_name e.0 a ≡ t
-        → length (objects_at (rows_in (e ∷ es)) a) ≤ count_below (rows_in (e ∷ es)) a
-    by_case later true d =
-        let above : is_ancestor a e.0 ≡ true = subst (λ n. is_ancestor a n ≡ true) (sym (same_is e.0 a d)) up in
-        let own : length (objects_at (rows_in (e ∷ es)) a) ≡ length e.1.items = ap (λ (r : Row). length r.objects) (row_first e es a d) in
-        longer _ _ _ (count_below (rows_in es) a) own (counts a e.0 (row_of e.1) above) where
-          longer : (x y z u : ℕ) → x ≡ y → z ≡ y → x ≤ z + u
-          longer x y z u p q = omega arith
-    by_case later false d =
-        let own : length (objects_at (rows_in (e ∷ es)) a) ≡ length (objects_at (rows_in es) a) = ap (λ (r : Row). length r.objects) (row_behind e es a d) in
-        longer (count_in a (e.0, row_of e.1)) _ _ _ own later where
-          longer : (k x y z : ℕ) → x ≡ y → y ≤ z → x ≤ k + z
-          longer k x y z p q = omega arith
 
   -- the rows of the action and its descendants alone are counted
   abbrev pub count_all : List (Name × Vec ℕ Z) → ℕ

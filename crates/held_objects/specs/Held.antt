@@ -72,6 +72,10 @@ count_below (r ∷ rs) a = count_in a r + count_below rs a
 abbrev pub HasRoomBelow : Rows → Name → Type 0
 HasRoomBelow held a = count_below held a ≤ room_at held a
 
+-- there is room with a holder for what another has beside its own
+abbrev pub HasRoomFrom : Rows → Name → Name → Type 0
+HasRoomFrom held a b = length (objects_at held a) + length (objects_at held b) ≤ room_at held a
+
 -- whether this is the name of the one to whom something is handed on
 abbrev pub is_name_of : Option Name → Name → Bool
 is_name_of None b = false

@@ -3,7 +3,7 @@ ghost use Rattle.std.specs.Prelude.{◌≡◌, ◌↔◌, ◌||◌, ◌&&◌, �
 ghost use Rattle.std.specs.Option.{option_copied as name_of};
 ghost use Rattle.action_names.specs.Names.{Name, same_name, is_ancestor, is_proper_ancestor};
 ghost use Rattle.held_objects.specs.Held.{IsRising, has_number, has_object, objects_at, room_at, has_room, HoldsBelow, HoldsSomethingBelow};
-ghost use Rattle.held_objects.specs.Held.{HasRoomBelow, IsHeld, count_below, is_in_row, is_name_of, rows_in};
+ghost use Rattle.held_objects.specs.Held.{HasRoomBelow, HasRoomFrom, IsHeld, count_below, is_in_row, is_name_of, rows_in};
 
 use crate::asking::Asking;
 use crate::holding::Holding;
@@ -109,6 +109,17 @@ impl HeldObjects {
         self.reserve(holder, 1)
     }
 
+    /// Makes room for so many more objects of the holder. What is held stays, and so does all room. After want of memory nothing is changed.
+    pub fn make_room_for(&mut self, holder: &Name, count: usize) -> Result<(), AllocError>
+        ensures held { (b : Name) → objects_at self.new b ≡ objects_at self.old b }
+        ensures room { OnOk result (length (objects_at self.old holder.now) + count ≤ room_at self.new holder.now) }
+        ensures others { (b : Name) → room_at self.old b ≤ room_at self.new b }
+        ensures below { (b : Name) → HasRoomBelow self.old b → HasRoomBelow self.new b }
+        ensures err { OnErr result (self.new ≡ self.old) }
+    {
+        self.reserve(holder, count)
+    }
+
     /// Notes that the holder holds something at the object, for which there is room, or where it was noted before. This takes no memory.
     pub fn insert(&mut self, holder: &Name, object: u32)
         requires { IsTrue (has_object self.old holder.now object || has_room self.old holder.now) }
@@ -141,7 +152,7 @@ impl HeldObjects {
     /// no memory.
     pub fn hand_on(&mut self, action: &Name, to: Option<&Name>)
         requires above { IfSome (name_of to) (λ h. IsTrue (is_proper_ancestor h action.now)) }
-        requires room { IfSome (name_of to) (λ h. HasRoomBelow self.old h) }
+        requires room { IfSome (name_of to) (λ h. HasRoomFrom self.old h action.now) }
         ensures held { (b : Name) (n : ℕ) → has_object self.new b n
             ≡ (not (same_name action.now b) && (has_object self.old b n || (is_name_of (name_of to.entry) b && has_object self.old action.now n))) }
         ensures room { (b : Name) → same_name action.now b ≡ false → HasRoomBelow self.old b → HasRoomBelow self.new b }

@@ -2,10 +2,11 @@ use Rattle.std.proofs.Common.{[], arith, length, not, refl, subst, sym, ◌&&◌
 use Rattle.std.specs.Option.{IfSome}
 use Rattle.std.proofs.lemmas.List.{nil_from_length}
 use Rattle.action_names.specs.Names.{is_proper_ancestor, same_name}
-use Rattle.held_objects.specs.Held.{HasRoomBelow, has_object, is_name_of}
+use Rattle.held_objects.specs.Held.{HasRoomBelow, HasRoomFrom, has_object, is_name_of}
 use Rattle.guardian_objects.specs.Turns.{AreChanged, Commits}
 use Rattle.guardian_objects.proofs.Committing.{commit_above, commit_all, commit_first, commit_next, commit_ready, commit_stands, commit_step, numbers_of}
 use Rattle.guardian_objects.proofs.Holding.{own_name}
+use Rattle.guardian_objects.proofs.Room.{room_alone}
 use Rattle.guardian_objects.proofs.Turning.{heard_as}
 use Rattle.guardian_objects.proofs.objects.Objects.hand_on.Goals as goal
 
@@ -13,8 +14,8 @@ pub loop-number-init : goal.loop-number-init
 loop-number-init c = record {
   guardian = refl;
   held = refl;
-  rising = c.requires.ready.rising;
-  may = commit_first c.args.telling c.args.self.now c.requires.committed c.requires.ready c.requires.heard;
+  rising = c.requires.ready.1.rising;
+  may = commit_first c.args.telling c.args.self.now c.requires.committed c.requires.ready.1 c.requires.heard;
   will = λ new h. h;
 }
 
@@ -46,9 +47,12 @@ hand_on-requires-clause-above c =
 
 pub hand_on-requires-clause-room : goal.hand_on-requires-clause-room
 hand_on-requires-clause-room c =
+    let t = c.args.telling in
     let held = ap (λ o. o.held) c.self.view_is ∙ c.loop-number.invariant.held in
-    subst (λ o. IfSome o (λ h. HasRoomBelow c.self.inside.held h)) (sym c.as_ref.ensures.value)
-    (subst (λ r. IfSome c.args.telling.to (λ h. HasRoomBelow r h)) (sym held) (c.requires.ready.index c.requires.committed))
+    let above = commit_above t c.args.self.now (own_name t.action c.depth-depth.ensures.named) c.requires.committed c.requires.heard in
+    subst (λ o. IfSome o (λ h. HasRoomFrom c.self.inside.held h t.action)) (sym c.as_ref.ensures.value)
+    (subst (λ r. IfSome t.to (λ h. HasRoomFrom r h t.action)) (sym held)
+    (room_alone c.requires.ready.0 c.args.self.now t.action t.to above (c.requires.ready.1.index c.requires.committed)))
 
 pub returns-clause-told : goal.returns-clause-told
 returns-clause-told c = λ opening stands stand may.
@@ -60,7 +64,7 @@ returns-clause-told c = λ opening stands stand may.
     subst (λ os. AreChanged (Commits t.action t.to) (numbers_of t.at.items) c.args.self.now.objects os) (sym (ap (λ o. o.objects) c.self.view_is))
     (commit_all c.args.self.now.objects t.action t.to t.at.items c.loop-number.at.items c.loop-number.self.objects none c.loop-number.invariant.will) in
     heard_as opening stands t true _ c.requires.committed
-    (commit_stands t c.args.self.now _ own c.requires.ready objects (ap (λ o. o.guardian) c.self.view_is ∙ c.loop-number.invariant.guardian)
+    (commit_stands t c.args.self.now _ own c.requires.ready.1 objects (ap (λ o. o.guardian) c.self.view_is ∙ c.loop-number.invariant.guardian)
     (λ b n.
     c.hand_on.ensures.held b n
     ∙ (λ i. not (same_name t.action b)
@@ -76,7 +80,7 @@ returns-clause-ready c =
     let objects : AreChanged (Commits t.action t.to) (numbers_of t.at.items) c.args.self.now.objects c.self.inside.objects.items =
     subst (λ os. AreChanged (Commits t.action t.to) (numbers_of t.at.items) c.args.self.now.objects os) (sym (ap (λ o. o.objects) c.self.view_is))
     (commit_all c.args.self.now.objects t.action t.to t.at.items c.loop-number.at.items c.loop-number.self.objects none c.loop-number.invariant.will) in
-    commit_ready t c.args.self.now _ own c.requires.ready objects c.requires.heard c.requires.committed
+    commit_ready t c.args.self.now _ own c.requires.ready.1 objects c.requires.heard c.requires.committed
     (λ b other room. c.hand_on.ensures.room b other (subst (λ r. HasRoomBelow r b) (sym held) room))
 
 pub returns-clause-guardian : goal.returns-clause-guardian

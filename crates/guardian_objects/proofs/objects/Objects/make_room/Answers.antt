@@ -13,8 +13,8 @@ use Rattle.guardian_objects.proofs.objects.Objects.make_room.Goals as goal
 
 pub loop-number-init : goal.loop-number-init
 loop-number-init c = record {
-  roomier = c.make_room_below.ensures.roomier;
-  index = c.in_ok-make_room_below.ensures.room;
+  roomier = c.make_index_room.ensures.roomier;
+  index = c.in_ok-make_index_room.ensures.room;
   numbers = ap (λ l. numbers_of l) c.in_ok-at.ensures.items;
   ready = none_planned _ c.in_ok-at.at.items c.in_ok-at.ensures.items;
 }
@@ -29,8 +29,8 @@ make_room_at-requires c =
 pub returns-in_err-numbers-clause-roomier : goal.returns-in_err-numbers-clause-roomier
 returns-in_err-numbers-clause-roomier c = roomier_same c.args.self.now
 
-pub returns-in_err-make_room_below-clause-roomier : goal.returns-in_err-make_room_below-clause-roomier
-returns-in_err-make_room_below-clause-roomier c = c.make_room_below.ensures.roomier
+pub returns-in_err-make_index_room-clause-roomier : goal.returns-in_err-make_index_room-clause-roomier
+returns-in_err-make_index_room-clause-roomier c = c.make_index_room.ensures.roomier
 
 pub returns-in_err-make_room_at-clause-roomier : goal.returns-in_err-make_room_at-clause-roomier
 returns-in_err-make_room_at-clause-roomier c =
@@ -50,7 +50,7 @@ returns-clause-room c =
     take_all c.loop-number.number-index c.deref-number-items.result.now (omega (arith, c.loop-number-test.false)) ∙ c.deref-number-items.ensures.value in
     room_made c.args.self.now c.loop-number.self c.args.action.now numbers c.requires.shown c.loop-number.invariant.roomier
     (subst (λ o. (n : ℕ) → (has_number numbers n ≡ true) ↔ HoldsBelow o.held c.args.action.now n) c.self.view_is c.in_ok-numbers.ensures.objects)
-    (option_copied c.args.to) c.loop-number.at.items c.in_ok-numbers.ensures.rising (c.loop-number.invariant.numbers ∙ all) c.loop-number.invariant.index c.loop-number.invariant.ready
+    c.args.alone (option_copied c.args.to) c.loop-number.at.items c.in_ok-numbers.ensures.rising (c.loop-number.invariant.numbers ∙ all) c.loop-number.invariant.index c.loop-number.invariant.ready
 
 pub loop-number-preserved : goal.loop-number-preserved
 loop-number-preserved c =
@@ -65,7 +65,7 @@ loop-number-preserved c =
     let lt : i < length numbers = omega (arith, c.loop-number-test.true) in
     record {
       roomier = roomier_more c.args.self.now old new c.loop-number.invariant.roomier c.make_room_at.ensures.roomier;
-      index = roomier_index old new to c.make_room_at.ensures.roomier c.loop-number.invariant.index;
+      index = roomier_index c.args.alone old new c.args.action.now to c.make_room_at.ensures.roomier c.loop-number.invariant.index;
       numbers = ap (λ l. numbers_of l) c.in_ok-push.ensures.items
           ∙ map-append (λ (y : ℕ × Option Name). y.0) at ((x, next) ∷ [])
           ∙ ap (λ l. l ++ x ∷ []) c.loop-number.invariant.numbers

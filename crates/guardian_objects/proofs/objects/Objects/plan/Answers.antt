@@ -3,16 +3,16 @@ use Rattle.std.specs.List.{AllByRecursion}
 use Rattle.std.specs.List.Sorted.{IsStrictlySortedBy}
 use Rattle.std.proofs.lemmas.List.{take_all, take_more}
 use Rattle.action_names.specs.Names.{name_cmp}
-use Rattle.guardian_objects.specs.Outcomes.{HasRoomFor, outcomes_of}
+use Rattle.guardian_objects.specs.Outcomes.{HasRoomFor, is_alone, outcomes_of}
 use Rattle.guardian_objects.proofs.Room.{each_last, each_weaker, roomier_fits, roomier_keeps, roomier_more, roomier_same, roomier_some}
-use Rattle.guardian_objects.proofs.Turning.{same_names}
+use Rattle.guardian_objects.proofs.Turning.{same_alone, same_names}
 use Rattle.guardian_objects.proofs.SoFar.{next_planned, none_planned, one_planned}
 use Rattle.guardian_objects.proofs.objects.Objects.plan.Goals as goal
 
 pub loop-action-init : goal.loop-action-init
 loop-action-init c = record {
   roomier = roomier_same c.args.self.now;
-  room = none_planned (HasRoomFor c.args.self.now) c.clear.new.self.items c.clear.ensures.items;
+  room = none_planned (HasRoomFor (is_alone c.args.outcomes.now) c.args.self.now) c.clear.new.self.items c.clear.ensures.items;
   outcomes = ap (λ l. outcomes_of l) c.clear.ensures.items;
   planned = λ g here told. none_planned _ c.clear.new.self.items c.clear.ensures.items;
 }
@@ -23,6 +23,7 @@ plan_one-requires c = record { shown = roomier_some c.args.self.now c.loop-actio
 pub loop-action-preserved : goal.loop-action-preserved
 loop-action-preserved c =
     let outcomes = c.args.outcomes.now in
+    let alone = is_alone outcomes in
     let i = c.loop-action.action-index in
     let x = c.loop-action-item.result in
     let t = c.in_ok-plan_one.field-0 in
@@ -30,10 +31,11 @@ loop-action-preserved c =
     let more : take (i + 1) outcomes ≡ take i outcomes ++ x ∷ [] = take_more outcomes i x lt ∙ ap (λ y. take i outcomes ++ y ∷ []) (sym c.loop-action-item.is) in
     record {
       roomier = roomier_more c.args.self.now c.loop-action.self c.plan_one.new.self c.loop-action.invariant.roomier c.plan_one.ensures.roomier;
-      room = subst (λ l. AllByRecursion (HasRoomFor c.plan_one.new.self) l) (sym c.in_ok-push.ensures.items)
-          (each_last (HasRoomFor c.plan_one.new.self) c.loop-action.planned.tellings.items t
-          (each_weaker (HasRoomFor c.loop-action.self) (HasRoomFor c.plan_one.new.self) c.loop-action.planned.tellings.items
-          (λ u had. roomier_fits c.loop-action.self c.plan_one.new.self c.plan_one.ensures.roomier u had) c.loop-action.invariant.room) c.in_ok-plan_one.ensures.room);
+      room = subst (λ l. AllByRecursion (HasRoomFor alone c.plan_one.new.self) l) (sym c.in_ok-push.ensures.items)
+          (each_last (HasRoomFor alone c.plan_one.new.self) c.loop-action.planned.tellings.items t
+          (each_weaker (HasRoomFor alone c.loop-action.self) (HasRoomFor alone c.plan_one.new.self) c.loop-action.planned.tellings.items
+          (λ u had. roomier_fits alone c.loop-action.self c.plan_one.new.self c.plan_one.ensures.roomier u had) c.loop-action.invariant.room)
+          (subst (λ b. HasRoomFor b c.plan_one.new.self t) c.is_alone-alone.ensures c.in_ok-plan_one.ensures.room));
       outcomes = one_planned c.loop-action.planned.tellings.items c.push.new.self.items t (take i outcomes) (take (i + 1) outcomes) x c.in_ok-push.ensures.items more
           c.in_ok-plan_one.ensures.action c.in_ok-plan_one.ensures.committed c.loop-action.invariant.outcomes;
       planned = λ g here told.
@@ -59,7 +61,8 @@ returns-clause-fits c =
     record {
       rising = subst (λ l. IsStrictlySortedBy name_cmp l)
           (ap (λ l. map (λ x. x.0) l) (sym (c.loop-action.invariant.outcomes ∙ all)) ∙ same_names c.loop-action.planned.tellings.items) c.requires.rising;
-      room = c.loop-action.invariant.room;
+      room = subst (λ b. AllByRecursion (HasRoomFor b c.loop-action.self) c.loop-action.planned.tellings.items)
+          (ap (λ l. is_alone l) (sym (c.loop-action.invariant.outcomes ∙ all)) ∙ same_alone c.loop-action.planned.tellings.items) c.loop-action.invariant.room;
     }
 
 pub returns-clause-outcomes : goal.returns-clause-outcomes

@@ -2,7 +2,7 @@ use Rattle.std.proofs.Common.{List, take, ℕ, ◌≡◌}
 use Rattle.std.specs.List.{AllByRecursion}
 use Rattle.run_model.specs.LocalReadings.{LocalEvent}
 use Rattle.tellings.specs.Hearing.{AreTold}
-use Rattle.guardian_objects.specs.Outcomes.{ArePlanned, HasRoomFor, outcomes_of}
+use Rattle.guardian_objects.specs.Outcomes.{ArePlanned, HasRoomFor, is_alone, outcomes_of}
 use Rattle.guardian_objects.specs.Turns.{IsRoomier}
 use Rattle.guardian_objects.proofs.objects.Objects.plan.Given as goal
 
@@ -10,7 +10,7 @@ use Rattle.guardian_objects.proofs.objects.Objects.plan.Given as goal
 abbrev pub invariant-loop-action : goal.invariant-loop-action
 invariant-loop-action l = record {
   roomier : IsRoomier l.fn.self l.self;
-  room : AllByRecursion (HasRoomFor l.self) l.planned.tellings.items;
+  room : AllByRecursion (HasRoomFor (is_alone l.outcomes) l.self) l.planned.tellings.items;
   outcomes : outcomes_of l.planned.tellings.items ≡ take l.action-index l.outcomes;
   planned : (g : ℕ) (here : List LocalEvent) → AreTold g here l.told → ArePlanned here l.planned.tellings.items;
 }

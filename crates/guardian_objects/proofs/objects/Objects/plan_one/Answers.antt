@@ -5,4 +5,4 @@ pub returns-in_err-to-clause-roomier : goal.returns-in_err-to-clause-roomier
 returns-in_err-to-clause-roomier c = roomier_same c.args.self.now
 
 pub returns-clause-room : goal.returns-clause-room
-returns-clause-room c = fits_from c.make_room.new.self _ c.args.action.now _ c.in_ok-copy.ensures.ok.1 c.as_ref.ensures.value c.in_ok-at.ensures.room
+returns-clause-room c = fits_from c.args.alone c.make_room.new.self _ c.args.action.now _ c.in_ok-copy.ensures.ok.1 c.as_ref.ensures.value c.in_ok-at.ensures.room

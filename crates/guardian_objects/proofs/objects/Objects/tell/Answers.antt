@@ -1,6 +1,7 @@
 use Rattle.std.proofs.Common.{[], arith, refl, subst, ◌∙◌, ◌≡◌}
 use Rattle.std.specs.List.{AllByRecursion}
 use Rattle.std.proofs.lemmas.List.{nil_from_length}
+use Rattle.guardian_objects.specs.Outcomes.{is_alone}
 use Rattle.guardian_objects.specs.Turns.{IsReady}
 use Rattle.guardian_objects.proofs.Room.{each_parts}
 use Rattle.guardian_objects.proofs.Turning.{fit_ready, last_heard, rest_ready, told_all, told_nothing, told_one_more}
@@ -10,14 +11,15 @@ pub loop-telling-init : goal.loop-telling-init
 loop-telling-init c = record {
   guardian = refl;
   count = refl;
-  ready = fit_ready c.args.self.now c.args.planned.now.tellings.items c.requires.fits.room;
+  ready = fit_ready (is_alone c.args.planned.now.tellings.items) c.args.self.now c.args.planned.now.tellings.items c.requires.fits.room;
   stands = told_nothing c.args.planned.now.tellings.items c.args.self.now;
 }
 
 pub tell_one-requires-clause-ready : goal.tell_one-requires-clause-ready
 tell_one-requires-clause-ready c =
-    (each_parts (IsReady c.loop-telling.self) c.pop.new.self.items c.in-Some.telling
-    (subst (λ l. AllByRecursion (IsReady c.loop-telling.self) l) c.in-Some.ensures.items c.loop-telling.invariant.ready)).1
+    let alone = is_alone c.args.planned.now.tellings.items in
+    (alone, (each_parts (IsReady alone c.loop-telling.self) c.pop.new.self.items c.in-Some.telling
+    (subst (λ l. AllByRecursion (IsReady alone c.loop-telling.self) l) c.in-Some.ensures.items c.loop-telling.invariant.ready)).1)
 
 pub tell_one-requires-clause-heard : goal.tell_one-requires-clause-heard
 tell_one-requires-clause-heard c =

@@ -1,4 +1,4 @@
-use Rattle.std.proofs.Common.{false, sym, subst, true, ◌∙◌}
+use Rattle.std.proofs.Common.{sym, subst, true, ◌∙◌}
 use Rattle.std.specs.Map.Iter.{deref_pair}
 use Rattle.std.proofs.lemmas.Map.Iter.{rest_more}
 use Rattle.held_objects.proofs.Asked.{all_held, all_left, has_none, has_some, less_held, less_left, row_held}

@@ -2,10 +2,8 @@ use Rattle.std.proofs.Common.{◌≡◌, true, ◌&&◌, ◌||◌, not, ◌∙�
 use Rattle.std.specs.Prelude.{IfSome, IsTrue}
 use Rattle.std.specs.Option.{option_copied as name_of}
 use Rattle.action_names.specs.Names.{same_name, is_proper_ancestor}
-use Rattle.action_names.proofs.Ancestry.{proper, self_above}
-use Rattle.held_objects.specs.Held.{Row, Rows, HasRoomBelow, has_object, is_name_of, rows_in}
+use Rattle.held_objects.specs.Held.{Row, Rows, HasRoomFrom, has_object, is_name_of, rows_in}
 use Rattle.held_objects.proofs.Rows.{orderly_out}
-use Rattle.held_objects.proofs.Counts.{own_counts}
 use Rattle.held_objects.proofs.Changes.{rowless, row_is, out_rows, out_counted, nothing_handed, given_up, handed, fits, others_room, room_after}
 use Rattle.held_objects.proofs.objects.HeldObjects.hand_on.Goals as goal
 
@@ -45,10 +43,9 @@ insert_all-requires c =
     let s = c.args.self.now in
     let h = c.in-Some-to.to.now in
     let up : is_proper_ancestor h a ≡ true = subst (λ o. IfSome (name_of o) (λ h. IsTrue (is_proper_ancestor h a))) c.in-Some-to.is c.requires.above in
-    let room : HasRoomBelow s h = subst (λ o. IfSome (name_of o) (λ h. HasRoomBelow s h)) c.in-Some-to.is c.requires.room in
+    let room : HasRoomFrom s h a = subst (λ o. IfSome (name_of o) (λ h. HasRoomFrom s h a)) c.in-Some-to.is c.requires.room in
     fits s (rows_in new) a h c.deref.result.now up (c.deref.ensures.value ∙ ap (λ (r : Row). r.objects) (row_is s es a c.in-Some.objects c.self.view_is c.in-Some.ensures.value)) room
     (out_rows s es new a c.self.view_is c.self.invariant.names c.remove.ensures.entries)
-    (out_counted s es new a c.self.view_is c.remove.ensures.entries h) (own_counts h new (self_above h a (proper h a up).0))
 
 pub returns-clause-held : goal.returns-clause-held
 returns-clause-held c = λ b n.

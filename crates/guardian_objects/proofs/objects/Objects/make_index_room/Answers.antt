@@ -1,0 +1,49 @@
+use Rattle.std.proofs.Common.{ap, arith, length, refl, subst, sym, ℕ, ◌+◌, ◌∙◌, ◌≡◌, ◌≤◌}
+use Rattle.std.proofs.lemmas.Result.{on_ok_weaker}
+use Rattle.std.specs.Option.{IfSome, option_copied}
+use Rattle.held_objects.specs.Held.{HasRoomBelow, objects_at, room_at}
+use Rattle.guardian_objects.specs.Objects.{Indexed}
+use Rattle.guardian_objects.specs.Outcomes.{HasIndexRoom}
+use Rattle.guardian_objects.specs.Turns.{IsRoomier}
+use Rattle.guardian_objects.proofs.Places.{by_view}
+use Rattle.guardian_objects.proofs.Room.{roomier_held, roomier_same}
+use Rattle.guardian_objects.proofs.objects.Objects.make_index_room.Goals as goal
+
+pub returns-in_default-clause-roomier : goal.returns-in_default-clause-roomier
+returns-in_default-clause-roomier c = roomier_same c.args.self.now
+
+pub returns-in_default-clause-room : goal.returns-in_default-clause-room
+returns-in_default-clause-room c = subst (λ o. IfSome (option_copied o) (λ h. HasIndexRoom c.args.alone c.args.self.now c.args.action.now h)) (sym c.in_default.is) tt
+
+pub returns-then-not-alone-clause-roomier : goal.returns-then-not-alone-clause-roomier
+returns-then-not-alone-clause-roomier c = by_view (λ o m. IsRoomier o m) _ _ _ c.self.view_is
+    (roomier_held _ _ refl refl c.make_room_below.ensures.held c.make_room_below.ensures.others c.make_room_below.ensures.below)
+
+pub returns-then-not-alone-clause-room : goal.returns-then-not-alone-clause-room
+returns-then-not-alone-clause-room c =
+    let a = c.args.action.now in
+    let new : Indexed = record { guardian = c.self.inside.guardian; objects = c.self.inside.objects.items; held = c.make_room_below.new.self } in
+    on_ok_weaker c.make_room_below.result (λ (room : HasRoomBelow c.make_room_below.new.self c.in-Some.next.now).
+    subst (λ o. IfSome (option_copied o) (λ h. HasIndexRoom c.args.alone new a h)) (sym c.in-Some.is)
+    (subst (λ b. HasIndexRoom b new a c.in-Some.next.now) (sym c.if-not-alone.true) room)) c.make_room_below.ensures.room
+
+pub returns-clause-roomier : goal.returns-clause-roomier
+returns-clause-roomier c = by_view (λ o m. IsRoomier o m) _ _ _ c.self.view_is
+    (roomier_held _ _ refl refl c.make_room_for.ensures.held c.make_room_for.ensures.others c.make_room_for.ensures.below)
+
+pub returns-clause-room : goal.returns-clause-room
+returns-clause-room c =
+    let a = c.args.action.now in
+    let next = c.in-Some.next.now in
+    let before = c.self.inside.held in
+    let after = c.make_room_for.new.self in
+    let own = c.objects_of-count.result.now in
+    let new : Indexed = record { guardian = c.self.inside.guardian; objects = c.self.inside.objects.items; held = after } in
+    on_ok_weaker c.make_room_for.result (λ (room : length (objects_at before next) + length own ≤ room_at after next).
+    subst (λ o. IfSome (option_copied o) (λ h. HasIndexRoom c.args.alone new a h)) (sym c.in-Some.is)
+    (subst (λ b. HasIndexRoom b new a next) (sym c.if-not-alone.false)
+    (within (length (objects_at before next)) (length own) _ _ _ (ap (length {A = ℕ}) (c.make_room_for.ensures.held next))
+    (ap (length {A = ℕ}) (c.make_room_for.ensures.held a ∙ sym c.objects_of-count.ensures.objects)) room))) c.make_room_for.ensures.room
+  where
+    within : (m n p q r : ℕ) → p ≡ m → q ≡ n → m + n ≤ r → p + q ≤ r
+    within m n p q r e d fits = omega arith
