@@ -42,6 +42,7 @@ impl Indexing {
         match row.call {
             "insert" => self.insert(row.words()),
             "hand_on" => self.hand_on(row.words(), answer),
+            "hand_on_alone" => self.hand_on_alone(row.words(), answer),
             "retain" => self.retain(row.words()),
             call => self.call_of(call, &name(self.alloc, row.given)?, answer),
         }
@@ -67,7 +68,8 @@ impl Indexing {
         Ok(())
     }
 
-    /// `NAME NEXT`: makes room with a proper ancestor, and hands on to it; `NAME`: gives up what the action has.
+    /// `NAME NEXT`: makes room with a proper ancestor for all that stands below it, and hands on to it; `NAME`: gives up what the action has.
+    #[tactic(auto, using(held_objects::proofs::Changes::room_from))]
     fn hand_on(&mut self, mut words: Words<'_>, answer: &mut String) -> Result<(), RowFault> {
         let action = next_name(self.alloc, &mut words)?;
         if words.rest().is_empty() {
@@ -79,6 +81,23 @@ impl Indexing {
             return Ok(answer.push_str("refused")?);
         }
         self.held.make_room_below(&next)?;
+        self.held.hand_on(&action, Some(&next));
+        Ok(())
+    }
+
+    /// `NAME NEXT`: makes room with a proper ancestor for what the action has alone, and hands on to it.
+    fn hand_on_alone(
+        &mut self,
+        mut words: Words<'_>,
+        answer: &mut String,
+    ) -> Result<(), RowFault> {
+        let action = next_name(self.alloc, &mut words)?;
+        let next = name(self.alloc, words.rest())?;
+        if !next.is_ancestor(&action) || next == action {
+            return Ok(answer.push_str("refused")?);
+        }
+        let count = self.held.objects_of(&action).len();
+        self.held.make_room_for(&next, count)?;
         self.held.hand_on(&action, Some(&next));
         Ok(())
     }
