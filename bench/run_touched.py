@@ -196,6 +196,21 @@ def descendants(many, _times):
     return setup(2, 1, "n"), before, after
 
 
+def siblings(many, _times):
+    """One top action has MANY subactions that each hold an object and committed, and a guardian is told of ten of them."""
+    def before(steps):
+        top = steps.top(1)
+        for number in range(1, many + 1):
+            steps.say(f"call {top} 1")
+            steps.say(f"op {top}.{number} 1/{number} set n {number}")
+            steps.say(f"commit {top}.{number}")
+
+    def after(steps):
+        for number in range(1, 11):
+            steps.say(f"tell 1 1.{number}")
+    return setup(1, 1000, "n"), before, after
+
+
 CASES = [
     ("one object is used", "objects", objects, 1, 1024, 120_000),
     ("two guardians take part", "guardians", guardians, 2, 1024, 60_000),
@@ -207,6 +222,7 @@ CASES = [
     ("ten others are told of calls", "aborts known", told_callers, 1_000, 100_000, 50_000),
     ("top actions call all participants and commit", "participants", participants, 10, 1_000, 60_000),
     ("an abort, telling it where nobody holds anything, and a top action", "descendants", descendants, 10, 10_000, 0),
+    ("telling that a subaction committed", "siblings that hold something", siblings, 10, 1_000, 0),
 ]
 
 
