@@ -1,6 +1,6 @@
 -- Room that is made: the same is held then, and what had room has it still.
-use Rattle.std.proofs.Common.{Bool, List, None, Option, Some, [], ap, arith, false, length, refl, subst, sym, true, ℕ, ◌+◌, ◌++◌, ◌∙◌, ◌∷◌, ◌≡◌, ◌≤◌}
-use Rattle.std.specs.Prelude.{IsTrue, is_some}
+use Rattle.std.proofs.Common.{Bool, List, None, Option, Some, [], ap, arith, false, length, refl, subst, suc, sym, true, zero, ℕ, ◌+◌, ◌++◌, ◌∙◌, ◌∷◌, ◌≡◌, ◌≤◌}
+use Rattle.std.specs.Prelude.{IsTrue, is_some, slice_get}
 use Rattle.std.specs.List.{AllByRecursion}
 use Rattle.std.specs.Option.{IfSome}
 use Rattle.std.proofs.lemmas.Bool.{false≢true}
@@ -34,6 +34,12 @@ each_last P (y ∷ xs) x all last = (all.0, each_last P xs x all.1 last)
 pub each_parts : {X : Type 0} (P : X → Type 0) (xs : List X) (x : X) → AllByRecursion P (xs ++ x ∷ []) → AllByRecursion P xs × P x
 each_parts P [] x all = (tt, all.0)
 each_parts P (y ∷ xs) x all = let rest = each_parts P xs x all.1 in ((all.0, rest.0), rest.1)
+
+-- what holds of each holds of one that was got from them
+pub each_got : {X : Type 0} (P : X → Type 0) (xs : List X) (i : ℕ) (o : Option X) → AllByRecursion P xs → o ≡ slice_get xs i → IfSome o P
+each_got P [] i o all got = subst (λ y. IfSome y P) (sym got) tt
+each_got P (x ∷ xs) zero o all got = subst (λ y. IfSome y P) (sym got) all.0
+each_got P (x ∷ xs) (suc i) o all got = each_got P xs i o all.1 got
 
 -- ---- the same is held
 

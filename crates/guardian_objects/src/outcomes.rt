@@ -1,5 +1,5 @@
 //! Outcomes of actions, which the objects are told.
-ghost use Rattle.std.specs.Prelude.{◌≡◌, ◌≤◌, ◌∷◌, [], ℕ, Bool, List, length, IsTrue, IsFalse, IsSome, IfOk, OnOk};
+ghost use Rattle.std.specs.Prelude.{◌≡◌, ◌≤◌, ◌∷◌, [], ℕ, Bool, List, length, IsTrue, IsFalse, IsSome, IfOk, OnOk, MatchOption, Some};
 ghost use Rattle.std.specs.Option.{IfSome, option_copied as name_of};
 ghost use Rattle.action_names.specs.Names.{Name, is_ancestor, parent_of};
 ghost use Rattle.run_model.specs.LocalReadings.{LocalEvent, told_committed_here};
@@ -65,9 +65,9 @@ impl Objects {
         planned.tellings.clear();
         let alone = is_alone(outcomes);
         for (action, committed) in outcomes {
-            planned
-                .tellings
-                .push(self.plan_one(action, *committed, alone, told)?)?;
+            let before = planned.tellings.last();
+            let telling = self.plan_one(action, *committed, alone, before, told)?;
+            planned.tellings.push(telling)?;
         }
         Ok(())
     }
@@ -91,15 +91,17 @@ impl Objects {
 
 // Making room.
 impl Objects {
-    // Copies one outcome, and makes room for what the next holder is handed, where it is told alone or with others.
+    // Copies one outcome, and makes room for what the next holder is handed, where it is told alone or with others, of which this one was planned before.
     fn plan_one(
         &mut self,
         action: &Name,
         committed: bool,
         alone: bool,
+        before: Option<&Telling>,
         told: &Tellings,
     ) -> Result<Telling, AllocError>
         requires shown { AreSome self.old }
+        requires before { IfSome (name_of before) (λ t. HasRoomFor alone self.old t) }
         ensures roomier { IsRoomier self.old self.new }
         ensures room { IfOk result (λ telling. HasRoomFor alone self.new telling) }
         ensures action { IfOk result (λ telling. telling.action ≡ action.now) }
@@ -108,7 +110,7 @@ impl Objects {
             → telling.to ≡ holder_by (λ b. told_committed_here b here) (parent_of action.now)) }
     {
         let to = next_holder(action, committed, told)?;
-        let at = self.make_room(action, to.as_ref(), alone)?;
+        let at = self.make_room(action, to.as_ref(), alone, before)?;
         let copy = action.copy()?;
         Ok(Telling {
             action: copy,
@@ -124,13 +126,15 @@ impl Objects {
         action: &Name,
         to: Option<&Name>,
         alone: bool,
+        before: Option<&Telling>,
     ) -> Result<Vec<(u32, Option<Name>)>, AllocError>
         requires shown { AreSome self.old }
+        requires before { IfSome (name_of before) (λ t. HasRoomFor alone self.old t) }
         ensures roomier { IsRoomier self.old self.new }
         ensures room { IfOk result (λ at. HasRoomAt alone self.new action.now (name_of to.entry) at.items) }
     {
         let numbers = self.held.objects_below(action)?;
-        self.make_index_room(action, to, alone)?;
+        self.make_index_room(action, to, alone, before)?;
         let mut at = Vec::with_capacity(self.alloc, numbers.len())?;
         for &number in &numbers {
             at.push((number, self.make_room_at(number, to)?))?;
@@ -138,13 +142,16 @@ impl Objects {
         Ok(at)
     }
 
-    // Makes room in the index for what the next holder is handed. Told alone, the action hands on what it has, so that nobody else's row is looked at.
+    // Makes room in the index for what the next holder is handed. Told alone, the action hands on what it has, so that nobody else's row is looked at. Of
+    // those that are told together, siblings mostly come one after the other, and room is made with their parent once.
     fn make_index_room(
         &mut self,
         action: &Name,
         to: Option<&Name>,
         alone: bool,
+        before: Option<&Telling>,
     ) -> Result<(), AllocError>
+        requires before { IfSome (name_of before) (λ t. HasRoomFor alone self.old t) }
         ensures roomier { IsRoomier self.old self.new }
         ensures objects { self.new.objects ≡ self.old.objects }
         ensures room { OnOk result (IfSome (name_of to.entry) (λ h. HasIndexRoom alone self.new action.now h)) }
@@ -152,11 +159,14 @@ impl Objects {
         let Some(next) = to else {
             return Ok(());
         };
-        if !alone {
-            return self.held.make_room_below(next);
+        if alone {
+            let count = self.held.objects_of(action).len();
+            return self.held.make_room_for(next, count);
         }
-        let count = self.held.objects_of(action).len();
-        self.held.make_room_for(next, count)
+        if goes_to(before, next) {
+            return Ok(());
+        }
+        self.held.make_room_below(next)
     }
 
     // Makes room for the next holder at the object of this number, and copies its name.
@@ -179,6 +189,19 @@ fn is_alone(outcomes: &[(Name, bool)]) -> bool
     ensures { result ≡ is_alone outcomes.now }
 {
     outcomes.len() == 1
+}
+
+// Whether what the telling hands on goes to this holder.
+fn goes_to(telling: Option<&Telling>, holder: &Name) -> bool
+    ensures { IsTrue result → MatchOption telling.entry ⊥ (λ t. t.now.to ≡ Some holder.now) }
+{
+    let Some(telling) = telling else {
+        return false;
+    };
+    match &telling.to {
+        Some(next) => next == holder,
+        None => false,
+    }
 }
 
 // To whom an action that committed hands on what it holds.

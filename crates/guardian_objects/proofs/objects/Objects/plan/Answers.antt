@@ -1,10 +1,11 @@
-use Rattle.std.proofs.Common.{[], ap, arith, length, map, subst, sym, take, ◌+◌, ◌++◌, ◌<◌, ◌∙◌, ◌∷◌, ◌≡◌}
+use Rattle.std.proofs.Common.{[], ap, arith, length, map, subst, sym, take, ◌+◌, ◌-◌, ◌++◌, ◌<◌, ◌∙◌, ◌∷◌, ◌≡◌}
+use Rattle.std.specs.Prelude.{slice_get}
 use Rattle.std.specs.List.{AllByRecursion}
 use Rattle.std.specs.List.Sorted.{IsStrictlySortedBy}
 use Rattle.std.proofs.lemmas.List.{take_all, take_more}
 use Rattle.action_names.specs.Names.{name_cmp}
 use Rattle.guardian_objects.specs.Outcomes.{HasRoomFor, is_alone, outcomes_of}
-use Rattle.guardian_objects.proofs.Room.{each_last, each_weaker, roomier_fits, roomier_keeps, roomier_more, roomier_same, roomier_some}
+use Rattle.guardian_objects.proofs.Room.{each_got, each_last, each_weaker, roomier_fits, roomier_keeps, roomier_more, roomier_same, roomier_some}
 use Rattle.guardian_objects.proofs.Turning.{same_alone, same_names}
 use Rattle.guardian_objects.proofs.SoFar.{next_planned, none_planned, one_planned}
 use Rattle.guardian_objects.proofs.objects.Objects.plan.Goals as goal
@@ -18,7 +19,12 @@ loop-action-init c = record {
 }
 
 pub plan_one-requires : goal.plan_one-requires
-plan_one-requires c = record { shown = roomier_some c.args.self.now c.loop-action.self c.loop-action.invariant.roomier c.requires.shown }
+plan_one-requires c = record {
+  shown = roomier_some c.args.self.now c.loop-action.self c.loop-action.invariant.roomier c.requires.shown;
+  before = each_got (HasRoomFor c.is_alone-alone.result c.loop-action.self) c.loop-action.planned.tellings.items (length c.deref.result.now - 1) _
+      (subst (λ b. AllByRecursion (HasRoomFor b c.loop-action.self) c.loop-action.planned.tellings.items) (sym c.is_alone-alone.ensures) c.loop-action.invariant.room)
+      (c.last-before.ensures.value ∙ ap (λ l. slice_get l (length c.deref.result.now - 1)) c.deref.ensures.value);
+}
 
 pub loop-action-preserved : goal.loop-action-preserved
 loop-action-preserved c =
@@ -26,7 +32,7 @@ loop-action-preserved c =
     let alone = is_alone outcomes in
     let i = c.loop-action.action-index in
     let x = c.loop-action-item.result in
-    let t = c.in_ok-plan_one.field-0 in
+    let t = c.in_ok-telling.telling in
     let lt : i < length outcomes = omega (arith, c.loop-action-test.true) in
     let more : take (i + 1) outcomes ≡ take i outcomes ++ x ∷ [] = take_more outcomes i x lt ∙ ap (λ y. take i outcomes ++ y ∷ []) (sym c.loop-action-item.is) in
     record {
@@ -35,16 +41,16 @@ loop-action-preserved c =
           (each_last (HasRoomFor alone c.plan_one.new.self) c.loop-action.planned.tellings.items t
           (each_weaker (HasRoomFor alone c.loop-action.self) (HasRoomFor alone c.plan_one.new.self) c.loop-action.planned.tellings.items
           (λ u had. roomier_fits alone c.loop-action.self c.plan_one.new.self c.plan_one.ensures.roomier u had) c.loop-action.invariant.room)
-          (subst (λ b. HasRoomFor b c.plan_one.new.self t) c.is_alone-alone.ensures c.in_ok-plan_one.ensures.room));
+          (subst (λ b. HasRoomFor b c.plan_one.new.self t) c.is_alone-alone.ensures c.in_ok-telling.ensures.room));
       outcomes = one_planned c.loop-action.planned.tellings.items c.push.new.self.items t (take i outcomes) (take (i + 1) outcomes) x c.in_ok-push.ensures.items more
-          c.in_ok-plan_one.ensures.action c.in_ok-plan_one.ensures.committed c.loop-action.invariant.outcomes;
+          c.in_ok-telling.ensures.action c.in_ok-telling.ensures.committed c.loop-action.invariant.outcomes;
       planned = λ g here told.
-          next_planned here c.loop-action.planned.tellings.items c.push.new.self.items t x c.in_ok-push.ensures.items c.in_ok-plan_one.ensures.action c.in_ok-plan_one.ensures.committed
-          (λ committed. c.in_ok-plan_one.ensures.next g here told committed) (c.loop-action.invariant.planned g here told);
+          next_planned here c.loop-action.planned.tellings.items c.push.new.self.items t x c.in_ok-push.ensures.items c.in_ok-telling.ensures.action c.in_ok-telling.ensures.committed
+          (λ committed. c.in_ok-telling.ensures.next g here told committed) (c.loop-action.invariant.planned g here told);
     }
 
-pub returns-in_err-plan_one-clause-same : goal.returns-in_err-plan_one-clause-same
-returns-in_err-plan_one-clause-same c =
+pub returns-in_err-telling-clause-same : goal.returns-in_err-telling-clause-same
+returns-in_err-telling-clause-same c =
     roomier_keeps c.args.self.now c.plan_one.new.self (roomier_more c.args.self.now c.loop-action.self c.plan_one.new.self c.loop-action.invariant.roomier c.plan_one.ensures.roomier)
 
 pub returns-in_err-push-clause-same : goal.returns-in_err-push-clause-same
