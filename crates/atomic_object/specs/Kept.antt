@@ -29,6 +29,10 @@ seen k = record { stack = k.stack; deltas = k.deltas.held; locks = k.locks.locks
 abbrev pub has_room : Kept → Name → Bool
 has_room k a = may_be_handed k.deltas.held k.deltas.room a && table.has_room k.locks a
 
+-- a has rows of its own, for locks and for what it is to add
+abbrev pub has_rows : Kept → Name → Bool
+has_rows k a = has_name k.deltas.room a && table.has_rows k.locks a
+
 -- there is room for the next holder, if there is one
 abbrev pub HasRoomFor : Kept → Option Name → Type 0
 HasRoomFor k to = IfSome to (λ next. IsTrue (has_room k next))
@@ -44,6 +48,10 @@ HasDeltaRoom k to = IfSome to (λ next. IsTrue (has_name k.deltas.room next))
 -- whoever had room has it still
 abbrev pub KeepsRoom : Kept → Kept → Type 0
 KeepsRoom old new = (b : Name) → IsTrue (has_room old b) → IsTrue (has_room new b)
+
+-- all others that had rows have them still
+abbrev pub KeepsOthersRows : Kept → Kept → Name → Type 0
+KeepsOthersRows old new a = (b : Name) → IsTrue (not (same_name a b) && has_rows old b) → IsTrue (has_rows new b)
 
 -- all others that had room have it still
 abbrev pub KeepsOthersRoom : Kept → Kept → Name → Type 0

@@ -1,6 +1,6 @@
 //! Operations on an object.
 ghost use Rattle.std.specs.Prelude.{◌≡◌, pos, IsTrue, IsFalse, IfNone, IfOk, IfSome, OnOk, OnErr, if◌then◌else◌};
-ghost use Rattle.action_names.specs.Names.{Name, is_ancestor};
+ghost use Rattle.action_names.specs.Names.{Name, has_name, is_ancestor};
 ghost use Rattle.values.specs.declared.content.Content.{Content};
 ghost use Rattle.values.specs.declared.value.Value.TheVariants.{Int};
 ghost use Rattle.atomic_types.specs.declared.operation.Operation.TheVariants.{Add};
@@ -14,7 +14,7 @@ ghost use Rattle.object_model.specs.Stacks.{AreAbove, is_on_top, owners_of, top_
 ghost use Rattle.object_model.specs.Locks.{must_wait, revoked};
 ghost use Rattle.object_model.specs.Objects.{AddsBy, IsOperated, NamesRise, amount_of, owns, total_of};
 ghost use Rattle.object_laws.specs.Shown.{Shows};
-ghost use Rattle.atomic_object.specs.Kept.{number_in, replied, seen};
+ghost use Rattle.atomic_object.specs.Kept.{number_in, replied, seen, KeepsOthersRows};
 ghost use Rattle.atomic_object.specs.Ways.{IsShown, Operates};
 
 use crate::object::Object;
@@ -34,6 +34,7 @@ impl Object {
         requires known { IsTrue (knows (seen self.old).stack.base op.now) }
         ensures answers { IfOk result (λ answer. (c : Content) (s : Standing) → Shows c s (seen self.old) → answer ≡ operated_by c s action.now op.now) }
         ensures operates { IfOk result (λ answer. Operates action.now op.now answer (seen self.old) (seen self.new)) }
+        ensures rows { KeepsOthersRows self.old self.new action.now }
         ensures err { OnErr result (seen self.new ≡ seen self.old) }
     {
         match self.waited_for(action, op)? {
@@ -54,6 +55,7 @@ impl Object {
         requires known { IsTrue (knows (seen self.old).stack.base op.now) }
         requires free { IsFalse (must_wait (seen self.old).locks action.now (class_of op.now)) }
         ensures operates { OnOk result ((r : Reply) → Operates action.now op.now (Granted r) (seen self.old) (seen self.new)) }
+        ensures rows { KeepsOthersRows self.old self.new action.now }
         ensures err { OnErr result (seen self.new ≡ seen self.old) }
     {
         self.granted(action, op)
@@ -102,6 +104,7 @@ impl Object {
         requires known { IsTrue (knows (top_of (seen self.old).stack) op.now) }
         requires rising { NamesRise (seen self.old).deltas }
         ensures ok { OnOk result (IsOperated action.now op.now (seen self.old) (seen self.new)) }
+        ensures rows { KeepsOthersRows self.old self.new action.now }
         ensures err { OnErr result (seen self.new ≡ seen self.old) }
     {
         match op.class() {
@@ -116,6 +119,7 @@ impl Object {
         requires reads { IsTrue (is_read op.now) }
         requires rising { NamesRise (seen self.old).deltas }
         ensures ok { OnOk result (IsOperated action.now op.now (seen self.old) (seen self.new)) }
+        ensures rows { KeepsOthersRows self.old self.new action.now }
         ensures err { OnErr result (seen self.new ≡ seen self.old) }
     {
         self.locks.grant(action, Class::Read)?;
@@ -139,6 +143,7 @@ impl Object {
         requires known { IsTrue (knows (top_of (seen self.old).stack) op.now) }
         requires writes { IsTrue (is_write op.now) }
         ensures ok { OnOk result (IsOperated action.now op.now (seen self.old) (seen self.new)) }
+        ensures rows { KeepsOthersRows self.old self.new action.now }
         ensures err { OnErr result (seen self.new ≡ seen self.old) }
     {
         let is_new = self.locks.grant(action, Class::Write)?;
@@ -158,6 +163,7 @@ impl Object {
         requires adds { IsTrue (is_add op.now) }
         requires rising { NamesRise (seen self.old).deltas }
         ensures ok { OnOk result (IsOperated action.now op.now (seen self.old) (seen self.new)) }
+        ensures rows { KeepsOthersRows self.old self.new action.now }
         ensures err { OnErr result (seen self.new ≡ seen self.old) }
     {
         let is_new = self.locks.grant(action, Class::Add)?;
@@ -177,6 +183,7 @@ impl Object {
         requires rising { NamesRise (seen self.old).deltas }
         ensures ok { OnOk result (AddsBy (owns (seen self.old) action.now) (seen self.old) (seen self.new) action.now op.now) }
         ensures rising { OnOk result (NamesRise (seen self.new).deltas) }
+        ensures rows { (b : Name) → IsTrue (has_name self.old.deltas.room b) → IsTrue (has_name self.new.deltas.room b) }
         ensures locks { self.new.locks ≡ self.old.locks }
         ensures err { OnErr result (seen self.new ≡ seen self.old) }
     {
@@ -192,6 +199,7 @@ impl Object {
         ensures stack { self.new.stack ≡ self.old.stack }
         ensures deltas { self.new.deltas ≡ self.old.deltas }
         ensures locks { self.new.locks.locks ≡ (if is_new then revoked self.old.locks.locks action.now class else self.old.locks.locks) }
+        ensures rows { KeepsOthersRows self.old self.new action.now }
     {
         if is_new {
             self.locks.revoke(action, class);

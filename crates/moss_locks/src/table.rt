@@ -2,7 +2,7 @@ ghost use Rattle.std.specs.Prelude.{◌≡◌, ◌||◌, ◌&&◌, not, ◌↔�
 ghost use Rattle.std.specs.List.Sorted.{IsStrictlySortedBy};
 ghost use Rattle.std.specs.Option.{option_copied as name_of};
 ghost use Rattle.action_names.specs.Names.{Name, same_name, has_name, name_cmp};
-ghost use Rattle.moss_locks.specs.Table.{has_room, HasRoomFor, KeepsRoom, KeepsOthersRoom, KeepsRoomBeside};
+ghost use Rattle.moss_locks.specs.Table.{has_room, HasRoomFor, KeepsRoom, KeepsOthersRoom, KeepsOthersRows, KeepsRoomBeside, KeepsRows};
 ghost use Rattle.object_model.specs.Locks.{must_wait, is_in_the_way, shown_adders, shown_holders, holders_of, has_below, granted, revoked, inherited, dropped_below};
 
 use crate::of_class;
@@ -120,6 +120,7 @@ impl LockTable {
     pub fn grant(&mut self, action: &Name, class: Class) -> Result<bool, AllocError>
         ensures ok { OnOk result (self.new.locks ≡ granted self.old.locks action.now class) }
         ensures undone { IfOk result (λ is_new. (if is_new then revoked self.new.locks action.now class else self.new.locks) ≡ self.old.locks) }
+        ensures rows { KeepsRows self.old self.new }
         ensures err { OnErr result (self.new ≡ self.old) }
     {
         match class {
@@ -133,6 +134,7 @@ impl LockTable {
     pub fn revoke(&mut self, action: &Name, class: Class)
         ensures locks { self.new.locks ≡ revoked self.old.locks action.now class }
         ensures room { KeepsOthersRoom self.old self.new action.now }
+        ensures rows { KeepsOthersRows self.old self.new action.now }
     {
         match class {
             Class::Read => of_class::drop_one(&mut self.readers, action),
