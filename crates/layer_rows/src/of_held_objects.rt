@@ -86,11 +86,7 @@ impl Indexing {
     }
 
     /// `NAME NEXT`: makes room with a proper ancestor for what the action has alone, and hands on to it.
-    fn hand_on_alone(
-        &mut self,
-        mut words: Words<'_>,
-        answer: &mut String,
-    ) -> Result<(), RowFault> {
+    fn hand_on_alone(&mut self, mut words: Words<'_>, answer: &mut String) -> Result<(), RowFault> {
         let action = next_name(self.alloc, &mut words)?;
         let next = name(self.alloc, words.rest())?;
         if !next.is_ancestor(&action) || next == action {

@@ -17,9 +17,11 @@ loop-telling-init c = record {
 
 pub tell_one-requires-clause-ready : goal.tell_one-requires-clause-ready
 tell_one-requires-clause-ready c =
-    let alone = is_alone c.args.planned.now.tellings.items in
-    (alone, (each_parts (IsReady alone c.loop-telling.self) c.pop.new.self.items c.in-Some.telling
-    (subst (λ l. AllByRecursion (IsReady alone c.loop-telling.self) l) c.in-Some.ensures.items c.loop-telling.invariant.ready)).1)
+    let alone = is_alone c.args.planned.now.tellings.items in (
+      alone,
+      (each_parts (IsReady alone c.loop-telling.self) c.pop.new.self.items c.in-Some.telling
+          (subst (λ l. AllByRecursion (IsReady alone c.loop-telling.self) l) c.in-Some.ensures.items c.loop-telling.invariant.ready)).1,
+    )
 
 pub tell_one-requires-clause-heard : goal.tell_one-requires-clause-heard
 tell_one-requires-clause-heard c =
