@@ -11,8 +11,9 @@ use run_model::{Setup, SetupFault};
 use script_engine::{run_file, run_stored};
 use stable_store::Stable;
 use stable_world::{Refused, World};
+use std::fs;
+use std::io::{self, Read};
 use std::process::ExitCode;
-use std::{fs, io};
 
 /// The file that is standard input.
 const STANDARD_INPUT: &str = "-";
@@ -127,13 +128,21 @@ fn answer_file<S: Stable>(
     file: &str,
 ) -> Result<Ended, Fault> {
     if file == STANDARD_INPUT {
-        let mut input = rt.reader();
-        return answer_steps(rt.alloc(), world, &mut input, &mut io::writer(rt));
+        return answer_all(rt, world, &mut rt.reader());
     }
     match fs::open(rt, file) {
-        Ok(mut input) => answer_steps(rt.alloc(), world, &mut input, &mut io::writer(rt)),
+        Ok(mut input) => answer_all(rt, world, &mut input),
         Err(error) => Err(read_fault(&error)),
     }
+}
+
+/// Makes the steps that the reader gives in the world, and writes their answers to standard output.
+fn answer_all<S: Stable, R: Read>(
+    rt: &HostRuntime,
+    world: &mut World<S>,
+    input: &mut R,
+) -> Result<Ended, Fault> {
+    answer_steps(rt.alloc(), world, input, &mut io::writer(rt))
 }
 
 /// The setup in a file; `None` where the file holds none.

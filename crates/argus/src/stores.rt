@@ -25,8 +25,7 @@ pub fn open_stores(
 {
     let mut stores = Vec::new(rt.alloc());
     for (index, objects) in script.guardians.as_slice().iter().enumerate() {
-        let path = format!(in rt.alloc(); "{folder}/g{}.db", index + 1)?;
-        let Some(store) = open_store(rt, path.as_str())? else {
+        let Some(store) = open_numbered(rt, folder, index + 1)? else {
             return Ok(None);
         };
         if !can_open(&store, objects.len()) {
@@ -52,8 +51,7 @@ pub fn stores_in(
     }
     let mut stores = Vec::new(rt.alloc());
     for index in 0..guardians {
-        let path = format!(in rt.alloc(); "{folder}/g{}.db", index + 1)?;
-        let Some(store) = open_store(rt, path.as_str())? else {
+        let Some(store) = open_numbered(rt, folder, index + 1)? else {
             return Ok(None);
         };
         stores.push(store)?;
@@ -69,21 +67,36 @@ fn all_are_so(
     are_there: bool,
 ) -> Result<bool, Fault> {
     for index in 0..guardians {
-        let path = format!(in rt.alloc(); "{folder}/g{}.db", index + 1)?;
-        if is_there(rt, path.as_str())? != are_there {
+        if is_there(rt, folder, index + 1)? != are_there {
             return Ok(false);
         }
     }
     Ok(true)
 }
 
-/// Whether there is a file of this path.
-fn is_there(rt: &HostRuntime, path: &str) -> Result<bool, Fault> {
-    match fs::exists(rt, path) {
+/// The file of the guardian of this number.
+fn path_of(rt: &HostRuntime, folder: &str, number: usize) -> Result<String, Fault> {
+    Ok(format!(in rt.alloc(); "{folder}/g{number}.db")?)
+}
+
+/// Whether there is a file of the guardian of this number.
+fn is_there(rt: &HostRuntime, folder: &str, number: usize) -> Result<bool, Fault> {
+    let path = path_of(rt, folder, number)?;
+    match fs::exists(rt, path.as_str()) {
         Ok(is_there) => Ok(is_there),
         Err(error) if error.kind() == ErrorKind::OutOfMemory => Err(Fault::Memory),
         Err(_) => Err(Fault::Store),
     }
+}
+
+/// The store of the guardian of this number; `None` where its file has none.
+fn open_numbered(
+    rt: &HostRuntime,
+    folder: &str,
+    number: usize,
+) -> Result<Option<FileStable>, Fault> {
+    let path = path_of(rt, folder, number)?;
+    open_store(rt, path.as_str())
 }
 
 /// The store in a file; `None` where the file has none.
