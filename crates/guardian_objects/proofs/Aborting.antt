@@ -1,5 +1,5 @@
 -- An abort is told: the objects at which the action or a descendant holds something are told, and the index drops that.
-use Rattle.std.proofs.Common.{Bool, List, None, Option, Some, [], ap, false, not, refl, subst, sym, true, ℕ, ◌&&◌, ◌++◌, ◌∙◌, ◌∷◌, ◌≡◌}
+use Rattle.std.proofs.Common.{Bool, List, None, Option, Some, [], ap, ap₂, false, not, refl, subst, sym, true, ℕ, ◌&&◌, ◌++◌, ◌∙◌, ◌∷◌, ◌≡◌}
 use Rattle.std.specs.Prelude.{is_some}
 use Rattle.std.specs.List.{AllByRecursion}
 use Rattle.std.specs.Option.{IfSome}
@@ -57,8 +57,16 @@ abort_next rest items n next split old there = (each_parts (λ (x : ℕ × Optio
 
 -- ---- all of them
 
-module _ (t : Telling) (old new : Indexed) (own : is_ancestor t.action t.action ≡ true) {alone : Bool} (ready : IsReady alone old t)
+module _ (t : Telling) (old new : Indexed) (own : is_ancestor t.action t.action ≡ true) {alone : Bool} (ready : IsReady alone old t) (aborted : t.committed ≡ false)
     (objects : AreChanged (Aborts t.action) (numbers_of t.at.items) old.objects new.objects) where
+  -- an abort concerns what descendants hold too, also where it is told alone
+  with_others : (u : Bool) → (u && t.committed) ≡ false
+  with_others u = ap (λ v. u && v) aborted ∙ never u
+    where
+      never : (v : Bool) → (v && false) ≡ false
+      never true = refl
+      never false = refl
+
   -- at whatever was not told nothing is held at or below the action
   pub abort_shows : (opening : Opening) (stands : ObjectId → Standing) → ((x : ObjectId) → (stands x).told t.action ≡ false) → (n : ℕ) (k l : Kept)
       → object_at old.objects n ≡ Some k → object_at new.objects n ≡ Some l → Shows (first_content opening (object_of old n)) (stands (object_of old n)) (seen k)
@@ -71,7 +79,7 @@ module _ (t : Telling) (old new : Indexed) (own : is_ancestor t.action t.action 
       of false e =
           let same : k ≡ l = same_Some k l (sym before ∙ sym (objects.others n e) ∙ after) in
           let none : is_concerned false (seen k).locks t.action ≡ false =
-          false_from_ne_true _ (λ h. clash (ready.below n (ap (λ o. holds_of false o t.action) before ∙ h)) e) in
+          false_from_ne_true _ (λ h. clash (ready.below n (ap₂ (λ u o. holds_of u o t.action) (with_others alone) before ∙ h)) e) in
           subst (λ z. Shows (first_content opening (object_of old n)) (undone (λ b. same_name b t.action) (stands (object_of old n))) (seen z)) same
           (abort_leaves (first_content opening (object_of old n)) (stands (object_of old n)) (seen k) shows t.action none own (untold (object_of old n)))
 
@@ -90,8 +98,8 @@ module _ (t : Telling) (old new : Indexed) (own : is_ancestor t.action t.action 
       (λ b n none index. held b n ∙ and_right (not (is_ancestor t.action b)) (has_object old.held b n) (index b)))
 
   -- what is held below an action was held below it before
-  abort_below : IsHeard old t → t.committed ≡ false → (a : Name) (n : ℕ) → holds_below_at new.objects a n ≡ true → holds_below_at old.objects a n ≡ true
-  abort_below heard aborted a n h = of (object_at new.objects n) refl h
+  abort_below : IsHeard old t → (a : Name) (n : ℕ) → holds_below_at new.objects a n ≡ true → holds_below_at old.objects a n ≡ true
+  abort_below heard a n h = of (object_at new.objects n) refl h
     where
       of : (o : Option Kept) → object_at new.objects n ≡ o → holds_of false (object_at new.objects n) a ≡ true → holds_of false (object_at old.objects n) a ≡ true
       of None e q = absurd (false≢true (sym (ap (λ x. holds_of false x a) e) ∙ q))
@@ -104,10 +112,10 @@ module _ (t : Telling) (old new : Indexed) (own : is_ancestor t.action t.action 
           (heard.3.untold aborted (object_of old n)) b.0 in
           ap (λ x. holds_of false x a) f.1 ∙ below_from (seen f.0).locks a b.0 b.1 (and_parts _ _ (sym dropped ∙ b.2)).1
 
-  pub abort_ready : IsHeard old t → t.committed ≡ false → ((b : Name) → HasRoomBelow old.held b → HasRoomBelow new.held b) → KeepsReady t old new
-  abort_ready heard aborted room u apart was = record {
+  pub abort_ready : IsHeard old t → ((b : Name) → HasRoomBelow old.held b → HasRoomBelow new.held b) → KeepsReady t old new
+  abort_ready heard room u apart was = record {
     rising = was.rising;
-    below = λ n h. was.below n (abort_below heard aborted u.action n h);
+    below = λ n h. was.below n (abort_below heard u.action n h);
     there = each_weaker (λ (x : ℕ × Option Name). is_some (object_at old.objects x.0) ≡ true) (λ x. is_some (object_at new.objects x.0) ≡ true) u.at.items
         (λ x h. still_there old.objects new.objects x.0 objects.count h) was.there;
     index = λ q. in_index u.to (was.index q);

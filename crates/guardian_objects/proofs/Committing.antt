@@ -24,7 +24,7 @@ use Rattle.guardian_objects.specs.Objects.{Indexed, Stand, holds_below_at, holds
 use Rattle.guardian_objects.specs.Outcomes.{IsReadyAt}
 use Rattle.guardian_objects.specs.Turns.{AreChanged, Commits, IsHeard, IsReady, KeepsReady, MayCommitAt}
 use Rattle.guardian_objects.specs.declared.outcomes.Telling.{Telling}
-use Rattle.guardian_objects.proofs.Holding.{below_from, below_to, committed_moves, not_below}
+use Rattle.guardian_objects.proofs.Holding.{below_from, below_to, committed_moves, concerned}
 use Rattle.guardian_objects.proofs.Numbers.{last_above}
 use Rattle.guardian_objects.proofs.Places.{changed_more, changed_none, object_before, object_is, same_guardian, stand_after}
 use Rattle.guardian_objects.proofs.Room.{each_parts, each_weaker, still_there}
@@ -107,10 +107,10 @@ module _ (t : Telling) (old new : Indexed) (own : is_ancestor t.action t.action 
       of true e = (objects.changed n k l e before after).0 (first_content opening (object_of old n)) (stands (object_of old n)) shows (next (object_of old n))
       of false e =
           let same : k ≡ l = same_Some k l (sym before ∙ sym (objects.others n e) ∙ after) in
-          let none : is_concerned false (seen k).locks t.action ≡ false =
-          false_from_ne_true _ (λ h. clash (ready.below n (ap (λ o. holds_of false o t.action) before ∙ h)) e) in
+          let none : is_concerned true (seen k).locks t.action ≡ false =
+          false_from_ne_true _ (λ h. clash (ready.below n (ap (λ o. holds_of (alone && t.committed) o t.action) before ∙ concerned (alone && t.committed) (seen k).locks t.action own h)) e) in
           subst (λ z. Shows (first_content opening (object_of old n)) (told_too (λ b. same_name b t.action) (stands (object_of old n))) (seen z)) same
-          (commit_leaves (first_content opening (object_of old n)) (stands (object_of old n)) (seen k) shows t.action (not_below (seen k).locks t.action own none) own)
+          (commit_leaves (first_content opening (object_of old n)) (stands (object_of old n)) (seen k) shows t.action none own)
 
   pub commit_stands : new.guardian ≡ old.guardian
       → ((b : Name) (n : ℕ) → has_object new.held b n

@@ -315,8 +315,10 @@ below_to locks a h = elim (or_cases (has_below locks.readers a) _ h) [
     ]
 
 -- so where no abort of a is a concern, neither is its commit
-pub not_below : (locks : Locks) (a : Name) → is_ancestor a a ≡ true → is_concerned false locks a ≡ false → is_concerned true locks a ≡ false
-not_below locks a own none = false_from_ne_true _ (λ h. clash (below_from locks a a own h) none)
+-- where the action holds something it is concerned in either way
+pub concerned : (own : Bool) (locks : Locks) (a : Name) → is_ancestor a a ≡ true → is_concerned true locks a ≡ true → is_concerned own locks a ≡ true
+concerned true locks a self h = h
+concerned false locks a self h = below_from locks a a self h
 
 -- somebody holds something, or nobody does
 pub somebody : (locks : Locks) → ((b : Name) × (is_concerned true locks b ≡ true)) ⊎ ((b : Name) → is_concerned true locks b ≡ false)

@@ -1,5 +1,5 @@
 -- Room that is made: the same is held then, and what had room has it still.
-use Rattle.std.proofs.Common.{Bool, List, None, Option, Some, [], ap, arith, false, length, refl, subst, suc, sym, true, zero, ℕ, ◌+◌, ◌++◌, ◌∙◌, ◌∷◌, ◌≡◌, ◌≤◌}
+use Rattle.std.proofs.Common.{Bool, List, None, Option, Some, [], ap, arith, false, length, refl, subst, suc, sym, true, zero, ℕ, ◌&&◌, ◌+◌, ◌++◌, ◌∙◌, ◌∷◌, ◌≡◌, ◌≤◌}
 use Rattle.std.specs.Prelude.{IsTrue, is_some, slice_get}
 use Rattle.std.specs.List.{AllByRecursion}
 use Rattle.std.specs.Option.{IfSome}
@@ -14,7 +14,7 @@ use Rattle.object_laws.specs.Shown.{Shows}
 use Rattle.atomic_object.specs.Kept.{KeepsRoom, Kept, has_room, seen}
 use Rattle.held_objects.specs.Held.{HasRoomBelow, HasRoomFrom, has_number, objects_at, room_at}
 use Rattle.held_objects.proofs.Changes.{room_from}
-use Rattle.guardian_objects.specs.Objects.{AreSome, Indexed, Keeps, Stand, holds_below_at, holds_of, object_at, object_of}
+use Rattle.guardian_objects.specs.Objects.{AreSome, Indexed, Keeps, Stand, concerns_at, holds_of, object_at, object_of}
 use Rattle.guardian_objects.specs.Outcomes.{HasIndexRoom, HasRoomFor, IsReadyAt}
 use Rattle.guardian_objects.specs.Turns.{AreChanged, HasRoomAt, HasRoomOf, IsRoomier}
 use Rattle.guardian_objects.specs.declared.outcomes.Telling.{Telling}
@@ -153,17 +153,17 @@ room_alone alone o a None above room = tt
 room_alone true o a (Some h) above room = room
 room_alone false o a (Some h) above room = room_from o.held h a above room
 
--- what is held below an action
-pub roomier_below : (old new : Indexed) (a : Name) (n : ℕ) → IsRoomier old new → holds_below_at new.objects a n ≡ true → holds_below_at old.objects a n ≡ true
-roomier_below old new a n roomier h = of (object_at new.objects n) refl h
+-- what an outcome concerns
+pub roomier_concerns : (own : Bool) (old new : Indexed) (a : Name) (n : ℕ) → IsRoomier old new → concerns_at own new.objects a n ≡ true → concerns_at own old.objects a n ≡ true
+roomier_concerns own old new a n roomier h = of (object_at new.objects n) refl h
   where
-    of : (o : Option Kept) → object_at new.objects n ≡ o → holds_of false (object_at new.objects n) a ≡ true → holds_of false (object_at old.objects n) a ≡ true
-    of None e k = absurd (false≢true (sym (ap (λ x. holds_of false x a) e) ∙ k))
+    of : (o : Option Kept) → object_at new.objects n ≡ o → holds_of own (object_at new.objects n) a ≡ true → holds_of own (object_at old.objects n) a ≡ true
+    of None e k = absurd (false≢true (sym (ap (λ x. holds_of own x a) e) ∙ k))
     of (Some l) e k =
         let f = object_before old.objects new.objects n l roomier.count e in
-        ap (λ x. holds_of false x a) f.1
-        ∙ ap (λ x. is_concerned false x.locks a) (sym (roomier.objects n f.0 l f.1 e).0)
-        ∙ sym (ap (λ x. holds_of false x a) e)
+        ap (λ x. holds_of own x a) f.1
+        ∙ ap (λ x. is_concerned own x.locks a) (sym (roomier.objects n f.0 l f.1 e).0)
+        ∙ sym (ap (λ x. holds_of own x a) e)
         ∙ k
 
 -- there still is such an object
@@ -179,7 +179,7 @@ roomier_fits alone old new roomier t had = record {
   index = roomier_index alone old new t.action t.to roomier had.index;
   rising = had.rising;
   ready = each_weaker (IsReadyAt old t) (IsReadyAt new t) t.at.items (λ x h. (h.0, roomier_of old new t.to x.0 roomier h.1)) had.ready;
-  below = λ n h. had.below n (roomier_below old new t.action n roomier h);
+  below = λ n h. had.below n (roomier_concerns (alone && t.committed) old new t.action n roomier h);
   there = each_weaker (λ (x : ℕ × Option Name). is_some (object_at old.objects x.0) ≡ true) (λ x. is_some (object_at new.objects x.0) ≡ true) t.at.items
       (λ x h. still_there old.objects new.objects x.0 roomier.count h) had.there;
 }
@@ -187,9 +187,9 @@ roomier_fits alone old new roomier t had = record {
 -- ---- what is planned
 
 -- what there is room for, in a telling
-pub fits_from : (alone : Bool) (o : Indexed) (t : Telling) (a : Name) (to : Option Name) → t.action ≡ a → to ≡ t.to → HasRoomAt alone o a to t.at.items
+pub fits_from : (alone : Bool) (o : Indexed) (t : Telling) (a : Name) (to : Option Name) → t.action ≡ a → to ≡ t.to → HasRoomAt alone t.committed o a to t.at.items
     → HasRoomFor alone o t
 fits_from alone o t a to action next room =
-    let had : HasRoomAt alone o t.action t.to t.at.items =
-    subst (λ b. HasRoomAt alone o b t.to t.at.items) (sym action) (subst (λ h. HasRoomAt alone o a h t.at.items) next room) in
+    let had : HasRoomAt alone t.committed o t.action t.to t.at.items =
+    subst (λ b. HasRoomAt alone t.committed o b t.to t.at.items) (sym action) (subst (λ h. HasRoomAt alone t.committed o a h t.at.items) next room) in
     record { index = had.index; rising = had.rising; ready = had.ready; below = had.below; there = had.there }

@@ -45,6 +45,11 @@ holds_at objects a n = holds_of true (object_at objects n) a
 abbrev pub holds_below_at : List Kept → Name → ℕ → Bool
 holds_below_at objects a n = holds_of false (object_at objects n) a
 
+-- An outcome concerns the object. A commit that is told alone concerns those at which the action itself holds something. An abort concerns those too at
+-- which a descendant does; and so does a commit that is told with others, since the action may be handed something just before.
+abbrev pub concerns_at : Bool → List Kept → Name → ℕ → Bool
+concerns_at own objects a n = holds_of own (object_at objects n) a
+
 -- Each object shows the way in which it stands, and the index has just who holds something at it.
 pub record Stand (opening : Opening) (stands : ObjectId → Standing) (o : Indexed) : Type 0 where
   pub guardian : 1 ≤ o.guardian

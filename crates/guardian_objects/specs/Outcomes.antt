@@ -1,5 +1,5 @@
 -- Outcomes that the objects of a guardian are to be told, and what they make of its history.
-use Rattle.std.specs.Prelude.{◌≡◌, ◌==◌, ℕ, Bool, true, false, List, [], length, map, Option, Some, IsTrue, IsFalse, IsSome}
+use Rattle.std.specs.Prelude.{◌≡◌, ◌==◌, ◌&&◌, ℕ, Bool, true, false, List, [], length, map, Option, Some, IsTrue, IsFalse, IsSome}
 use Rattle.std.specs.List.{AllByRecursion}
 use Rattle.std.specs.List.Sorted.{IsStrictlySortedBy}
 use Rattle.std.specs.Option.{IfSome}
@@ -15,7 +15,7 @@ use Rattle.atomic_object.specs.Kept.{Kept, has_room}
 use Rattle.held_objects.specs.Held.{HasRoomBelow, HasRoomFrom, IsRising, has_number}
 use Rattle.local_agreement.specs.Outcomes.{AgreesOnOutcomes}
 use Rattle.standing_laws.specs.Laws.{is_crash}
-use Rattle.guardian_objects.specs.Objects.{AreObjects, Indexed, holds_below_at, object_at}
+use Rattle.guardian_objects.specs.Objects.{AreObjects, Indexed, concerns_at, object_at}
 use Rattle.guardian_objects.specs.declared.outcomes.Telling.{Telling}
 
 -- the outcomes alone
@@ -37,12 +37,12 @@ abbrev pub HasIndexRoom : Bool → Indexed → Name → Name → Type 0
 HasIndexRoom true o a h = HasRoomFrom o.held h a
 HasIndexRoom false o a h = HasRoomBelow o.held h
 
--- There is room for what the next holder is handed, in the index and at each object at which the action or a descendant holds something.
+-- There is room for what the next holder is handed, in the index and at each object that the outcome concerns.
 pub record HasRoomFor (alone : Bool) (o : Indexed) (t : Telling) : Type 0 where
   pub index : IfSome t.to (λ h. HasIndexRoom alone o t.action h)
   pub rising : IsRising (map (λ x. x.0) t.at.items)
   pub ready : AllByRecursion (IsReadyAt o t) t.at.items
-  pub below : (n : ℕ) → IsTrue (holds_below_at o.objects t.action n) → IsTrue (has_number (map (λ x. x.0) t.at.items) n)
+  pub below : (n : ℕ) → IsTrue (concerns_at (alone && t.committed) o.objects t.action n) → IsTrue (has_number (map (λ x. x.0) t.at.items) n)
   pub there : AllByRecursion (λ x. IsSome (object_at o.objects x.0)) t.at.items
 
 -- they rise by name, and for each there is room

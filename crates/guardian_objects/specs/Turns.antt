@@ -1,5 +1,5 @@
 -- One outcome after another: what it asks of the objects, and what it makes of them.
-use Rattle.std.specs.Prelude.{◌≡◌, ◌≤◌, ℕ, Bool, false, List, length, map, Option, Some, IsTrue, IsFalse, IsSome}
+use Rattle.std.specs.Prelude.{◌≡◌, ◌≤◌, ◌&&◌, ℕ, Bool, true, false, List, length, map, Option, Some, IsTrue, IsFalse, IsSome}
 use Rattle.std.specs.List.{AllByRecursion}
 use Rattle.std.specs.Option.{IfSome}
 use Rattle.action_names.specs.Names.{Name, is_ancestor, parent_of}
@@ -11,8 +11,8 @@ use Rattle.standing_laws.specs.Heard.{heard_one}
 use Rattle.atomic_object.specs.Kept.{Kept, KeepsOthersRoom, KeepsRoom, KeepsRoomBeside, has_room, seen}
 use Rattle.atomic_object.specs.Kept as kept
 use Rattle.atomic_object.specs.Ways.{HandsOn, HandsTo, Undoes}
-use Rattle.held_objects.specs.Held.{HasRoomBelow, IsRising, has_number, objects_at, room_at}
-use Rattle.guardian_objects.specs.Objects.{Indexed, Stand, holds_below_at, object_at}
+use Rattle.held_objects.specs.Held.{HasRoomBelow, HoldsBelow, IsRising, Rows, has_number, has_object, objects_at, room_at}
+use Rattle.guardian_objects.specs.Objects.{Indexed, Stand, concerns_at, object_at}
 use Rattle.guardian_objects.specs.Outcomes.{HasIndexRoom, IsReadyAt}
 use Rattle.guardian_objects.specs.declared.outcomes.Telling.{Telling}
 
@@ -31,12 +31,17 @@ pub record IsRoomier (old new : Indexed) : Type 0 where
 abbrev pub HasRoomOf : Indexed → Option Name → ℕ → Type 0
 HasRoomOf o to n = (k : Kept) → object_at o.objects n ≡ Some k → IfSome to (λ h. IsTrue (has_room k h))
 
--- For what a and its descendants hold there is room with the next holder: in the index, and at each of these objects, at which it is.
-pub record HasRoomAt (alone : Bool) (o : Indexed) (a : Name) (to : Option Name) (at : List (ℕ × Option Name)) : Type 0 where
+-- the action has the object in the index, or where that is not asked of itself a descendant has it
+abbrev pub Has : Bool → Rows → Name → ℕ → Type 0
+Has true held a n = IsTrue (has_object held a n)
+Has false held a n = HoldsBelow held a n
+
+-- For what the outcome hands on there is room with the next holder: in the index, and at each of these objects, which are those that it concerns.
+pub record HasRoomAt (alone committed : Bool) (o : Indexed) (a : Name) (to : Option Name) (at : List (ℕ × Option Name)) : Type 0 where
   pub index : IfSome to (λ h. HasIndexRoom alone o a h)
   pub rising : IsRising (map (λ x. x.0) at)
   pub ready : AllByRecursion (λ x. (x.1 ≡ to) × HasRoomOf o to x.0) at
-  pub below : (n : ℕ) → IsTrue (holds_below_at o.objects a n) → IsTrue (has_number (map (λ x. x.0) at) n)
+  pub below : (n : ℕ) → IsTrue (concerns_at (alone && committed) o.objects a n) → IsTrue (has_number (map (λ x. x.0) at) n)
   pub there : AllByRecursion (λ x. IsSome (object_at o.objects x.0)) at
 
 -- ---- what is told
@@ -76,7 +81,7 @@ Hears t old new = (opening : Opening) (stands : ObjectId → Standing) → Stand
 -- The objects are told of that the outcome concerns, and where it is a commit there is room for what is handed on.
 pub record IsReady (alone : Bool) (o : Indexed) (t : Telling) : Type 0 where
   pub rising : IsRising (map (λ x. x.0) t.at.items)
-  pub below : (n : ℕ) → IsTrue (holds_below_at o.objects t.action n) → IsTrue (has_number (map (λ x. x.0) t.at.items) n)
+  pub below : (n : ℕ) → IsTrue (concerns_at (alone && t.committed) o.objects t.action n) → IsTrue (has_number (map (λ x. x.0) t.at.items) n)
   pub there : AllByRecursion (λ x. IsSome (object_at o.objects x.0)) t.at.items
   pub index : IsTrue t.committed → IfSome t.to (λ h. HasIndexRoom alone o t.action h)
   pub room : IsTrue t.committed → AllByRecursion (IsReadyAt o t) t.at.items

@@ -1,15 +1,16 @@
 //! Outcomes of actions, which the objects are told.
-ghost use Rattle.std.specs.Prelude.{◌≡◌, ◌≤◌, ◌∷◌, [], ℕ, Bool, List, length, IsTrue, IsFalse, IsSome, IfOk, OnOk, MatchOption, Some};
+ghost use Rattle.std.specs.Prelude.{◌≡◌, ◌≤◌, ◌&&◌, ◌↔◌, ◌∷◌, [], ℕ, Bool, List, length, IsTrue, IsFalse, IsSome, IfOk, OnOk, MatchOption, Some, None};
 ghost use Rattle.std.specs.Option.{IfSome, option_copied as name_of};
 ghost use Rattle.action_names.specs.Names.{Name, is_ancestor, parent_of};
 ghost use Rattle.run_model.specs.LocalReadings.{LocalEvent, told_committed_here};
 ghost use Rattle.run_model.specs.Openings.{Opening};
 ghost use Rattle.run_model.specs.Telling.{holder_by};
 ghost use Rattle.atomic_object.specs.Staying.{OutcomesRise};
+ghost use Rattle.held_objects.specs.Held.{IsRising, has_number, objects_at};
 ghost use Rattle.tellings.specs.Hearing.{AreTold};
 ghost use Rattle.guardian_objects.specs.Objects.{AreObjects, AreSome, Keeps, object_at};
 ghost use Rattle.guardian_objects.specs.Outcomes.{ArePlanned, Fits, HasIndexRoom, HasRoomFor, IsHearing, OnlyTells, is_alone, outcomes_of};
-ghost use Rattle.guardian_objects.specs.Turns.{Aborts, AreChanged, Commits, HasRoomAt, HasRoomOf, Hears, IsHeard, IsReady, IsRoomier, KeepsReady, MayCommitAt};
+ghost use Rattle.guardian_objects.specs.Turns.{Aborts, AreChanged, Commits, Has, HasRoomAt, HasRoomOf, Hears, IsHeard, IsReady, IsRoomier, KeepsReady, MayCommitAt};
 
 use crate::objects::Objects;
 use action_names::Name;
@@ -23,7 +24,7 @@ pub(crate) struct Telling {
     pub(crate) committed: bool,
     /// To whom what the action holds is handed on; nobody where that is the base, or the action aborted.
     pub(crate) to: Option<Name>,
-    /// The objects at which the action or a descendant holds something, rising, each with a copy of the next holder's name.
+    /// The objects that it concerns, rising, each with a copy of the next holder's name.
     pub(crate) at: Vec<(u32, Option<Name>)>,
 }
 
@@ -110,7 +111,7 @@ impl Objects {
             → telling.to ≡ holder_by (λ b. told_committed_here b here) (parent_of action.now)) }
     {
         let to = next_holder(action, committed, told)?;
-        let at = self.make_room(action, to.as_ref(), alone, before)?;
+        let at = self.make_room(action, committed, to.as_ref(), alone, before)?;
         let copy = action.copy()?;
         Ok(Telling {
             action: copy,
@@ -120,21 +121,23 @@ impl Objects {
         })
     }
 
-    // Makes room for what the next holder is handed of what the action and its descendants hold, and gives the objects at which that is.
+    // Makes room for what the next holder is handed of what the action holds, and gives the objects that the outcome concerns.
     fn make_room(
         &mut self,
         action: &Name,
+        committed: bool,
         to: Option<&Name>,
         alone: bool,
         before: Option<&Telling>,
     ) -> Result<Vec<(u32, Option<Name>)>, AllocError>
         requires shown { AreSome self.old }
         requires before { IfSome (name_of before) (λ t. HasRoomFor alone self.old t) }
+        requires next { IsFalse committed → name_of to ≡ None }
         ensures roomier { IsRoomier self.old self.new }
-        ensures room { IfOk result (λ at. HasRoomAt alone self.new action.now (name_of to.entry) at.items) }
+        ensures room { IfOk result (λ at. HasRoomAt alone committed self.new action.now (name_of to.entry) at.items) }
     {
-        let numbers = self.held.objects_below(action)?;
-        self.make_index_room(action, to, alone, before)?;
+        let numbers = self.concerned(action, committed, alone)?;
+        self.make_index_room(action, to, alone, before, numbers.len())?;
         let mut at = Vec::with_capacity(self.alloc, numbers.len())?;
         for &number in &numbers {
             at.push((number, self.make_room_at(number, to)?))?;
@@ -142,16 +145,30 @@ impl Objects {
         Ok(at)
     }
 
-    // Makes room in the index for what the next holder is handed. Told alone, the action hands on what it has, so that nobody else's row is looked at. Of
-    // those that are told together, siblings mostly come one after the other, and room is made with their parent once.
+    // The objects that the outcome concerns, rising. Where it is a commit that is told alone, nobody else's row is looked at.
+    fn concerned(&self, action: &Name, committed: bool, alone: bool) -> Result<Vec<u32>, AllocError>
+        ensures has { IfOk result (λ numbers. (n : ℕ) → IsTrue (has_number numbers.items n) ↔ Has (alone && committed) self.now.held action.now n) }
+        ensures own { IfOk result (λ numbers. IsTrue (alone && committed) → numbers.items ≡ objects_at self.now.held action.now) }
+        ensures rising { IfOk result (λ numbers. IsRising numbers.items) }
+    {
+        if alone && committed {
+            return Vec::from_slice(self.alloc, self.held.objects_of(action));
+        }
+        self.held.objects_below(action)
+    }
+
+    // Makes room in the index for what the next holder is handed. Told alone, the action hands on what it has, of which there is so much. Of those that
+    // are told together, siblings mostly come one after the other, and room is made with their parent once.
     fn make_index_room(
         &mut self,
         action: &Name,
         to: Option<&Name>,
         alone: bool,
         before: Option<&Telling>,
+        count: usize,
     ) -> Result<(), AllocError>
         requires before { IfSome (name_of before) (λ t. HasRoomFor alone self.old t) }
+        requires count { IsTrue alone → IfSome (name_of to) (λ h. count ≡ length (objects_at self.old.held action.now)) }
         ensures roomier { IsRoomier self.old self.new }
         ensures objects { self.new.objects ≡ self.old.objects }
         ensures room { OnOk result (IfSome (name_of to.entry) (λ h. HasIndexRoom alone self.new action.now h)) }
@@ -160,7 +177,6 @@ impl Objects {
             return Ok(());
         };
         if alone {
-            let count = self.held.objects_of(action).len();
             return self.held.make_room_for(next, count);
         }
         if goes_to(before, next) {
@@ -206,7 +222,8 @@ fn goes_to(telling: Option<&Telling>, holder: &Name) -> bool
 
 // To whom an action that committed hands on what it holds.
 fn next_holder(action: &Name, committed: bool, told: &Tellings) -> Result<Option<Name>, AllocError>
-    ensures { IfOk result (λ to. (g : ℕ) (here : List LocalEvent) → AreTold g here told.now → IsTrue committed
+    ensures none { IfOk result (λ to. IsFalse committed → to ≡ None) }
+    ensures next { IfOk result (λ to. (g : ℕ) (here : List LocalEvent) → AreTold g here told.now → IsTrue committed
         → to ≡ holder_by (λ b. told_committed_here b here) (parent_of action.now)) }
 {
     if !committed {

@@ -100,7 +100,7 @@ returns-clause-told c = λ opening stands stand may.
     subst (λ os. AreChanged (Aborts t.action) (numbers_of t.at.items) c.args.self.now.objects os) (sym (ap (λ o. o.objects) c.self.view_is))
     (abort_all c.args.self.now.objects t.action t.at.items c.loop-number.at.items c.loop-number.self.objects none c.loop-number.invariant.will) in
     heard_as opening stands t false _ c.requires.aborted
-    (abort_stands t c.args.self.now _ own c.requires.ready.1 objects (ap (λ o. o.guardian) c.self.view_is ∙ c.loop-number.invariant.guardian)
+    (abort_stands t c.args.self.now _ own c.requires.ready.1 c.requires.aborted objects (ap (λ o. o.guardian) c.self.view_is ∙ c.loop-number.invariant.guardian)
     (λ b n. c.drop_below.ensures.held b n ∙ ap (λ r. not (is_ancestor t.action b) && has_object r b n) held)
     opening stands stand (λ x. may.untold c.requires.aborted x))
 
@@ -113,7 +113,7 @@ returns-clause-ready c =
     let objects : AreChanged (Aborts t.action) (numbers_of t.at.items) c.args.self.now.objects c.self.inside.objects.items =
     subst (λ os. AreChanged (Aborts t.action) (numbers_of t.at.items) c.args.self.now.objects os) (sym (ap (λ o. o.objects) c.self.view_is))
     (abort_all c.args.self.now.objects t.action t.at.items c.loop-number.at.items c.loop-number.self.objects none c.loop-number.invariant.will) in
-    abort_ready t c.args.self.now _ own c.requires.ready.1 objects c.requires.heard c.requires.aborted
+    abort_ready t c.args.self.now _ own c.requires.ready.1 c.requires.aborted objects c.requires.heard
     (λ b room. c.drop_below.ensures.room b (subst (λ r. HasRoomBelow r b) (sym held) room))
 
 pub returns-clause-guardian : goal.returns-clause-guardian

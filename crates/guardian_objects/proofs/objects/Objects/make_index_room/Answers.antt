@@ -40,13 +40,14 @@ returns-then-alone-clause-room c =
     let next = c.in-Some.next.now in
     let before = c.self.inside.held in
     let after = c.make_room_for.new.self in
-    let own = c.objects_of-count.result.now in
     let new : Indexed = record { guardian = c.self.inside.guardian; objects = c.self.inside.objects.items; held = after } in
-    on_ok_weaker c.make_room_for.result (λ (room : length (objects_at before next) + length own ≤ room_at after next).
+    on_ok_weaker c.make_room_for.result (λ (room : length (objects_at before next) + c.args.count ≤ room_at after next).
     subst (λ o. IfSome (option_copied o) (λ h. HasIndexRoom c.args.alone new a h)) (sym c.in-Some.is)
     (subst (λ b. HasIndexRoom b new a next) (sym c.if-alone.true)
-    (within (length (objects_at before next)) (length own) _ _ _ (ap (length {A = ℕ}) (c.make_room_for.ensures.held next))
-    (ap (length {A = ℕ}) (c.make_room_for.ensures.held a ∙ sym c.objects_of-count.ensures.objects)) room))) c.make_room_for.ensures.room
+    (within (length (objects_at before next)) c.args.count _ _ _ (ap (length {A = ℕ}) (c.make_room_for.ensures.held next))
+    (ap (length {A = ℕ}) (c.make_room_for.ensures.held a)
+    ∙ sym (subst (λ o. IfSome (option_copied o) (λ h. c.args.count ≡ length (objects_at before a))) c.in-Some.is
+    (subst (λ o. IfSome (option_copied c.args.to) (λ h. c.args.count ≡ length (objects_at o.held a))) (sym c.self.view_is) (c.requires.count c.if-alone.true)))) room))) c.make_room_for.ensures.room
   where
     within : (m n p q r : ℕ) → p ≡ m → q ≡ n → m + n ≤ r → p + q ≤ r
     within m n p q r e d fits = omega arith

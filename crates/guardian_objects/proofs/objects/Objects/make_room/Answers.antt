@@ -1,9 +1,8 @@
-use Rattle.std.proofs.Common.{Option, [], ap, arith, get_or, length, subst, sym, take, true, ◌++◌, ◌<◌, ◌∙◌, ◌∷◌, ◌≡◌, ◌↔◌, ℕ}
+use Rattle.std.proofs.Common.{Option, [], ap, arith, get_or, length, refl, subst, sym, take, ◌&&◌, ◌++◌, ◌<◌, ◌∙◌, ◌∷◌, ◌≡◌, ℕ}
 use Rattle.std.specs.List.{AllByRecursion}
 use Rattle.std.specs.Option.{option_copied}
 use Rattle.std.proofs.lemmas.List.{map-append, take_all, take_more}
 use Rattle.action_names.specs.Names.{Name}
-use Rattle.held_objects.specs.Held.{HoldsBelow, has_number}
 use Rattle.guardian_objects.specs.Turns.{HasRoomOf}
 use Rattle.guardian_objects.proofs.Committing.{numbers_of}
 use Rattle.guardian_objects.proofs.Making.{number_within, room_made}
@@ -21,8 +20,8 @@ loop-number-init c = record {
 
 pub make_room_at-requires : goal.make_room_at-requires
 make_room_at-requires c =
-    number_within c.args.self.now c.loop-number.self c.args.action.now c.in_ok-numbers.numbers.items c.requires.shown c.loop-number.invariant.roomier
-    (subst (λ o. (n : ℕ) → (has_number c.in_ok-numbers.numbers.items n ≡ true) ↔ HoldsBelow o.held c.args.action.now n) c.self.view_is c.in_ok-numbers.ensures.objects)
+    number_within (c.args.alone && c.args.committed) c.args.self.now c.loop-number.self c.args.action.now c.in_ok-numbers.numbers.items c.requires.shown c.loop-number.invariant.roomier
+    c.in_ok-numbers.ensures.has
     c.loop-number.number-index _ (omega (arith, c.loop-number-test.true, ap length c.deref-number-items.ensures.value))
     (ap (λ l. get_or l c.loop-number.number-index 0) c.deref-number-items.ensures.value)
 
@@ -48,9 +47,9 @@ returns-clause-room c =
     let numbers = c.in_ok-numbers.numbers.items in
     let all : take c.loop-number.number-index c.deref-number-items.result.now ≡ numbers =
     take_all c.loop-number.number-index c.deref-number-items.result.now (omega (arith, c.loop-number-test.false)) ∙ c.deref-number-items.ensures.value in
-    room_made c.args.self.now c.loop-number.self c.args.action.now numbers c.requires.shown c.loop-number.invariant.roomier
-    (subst (λ o. (n : ℕ) → (has_number numbers n ≡ true) ↔ HoldsBelow o.held c.args.action.now n) c.self.view_is c.in_ok-numbers.ensures.objects)
-    c.args.alone (option_copied c.args.to) c.loop-number.at.items c.in_ok-numbers.ensures.rising (c.loop-number.invariant.numbers ∙ all) c.loop-number.invariant.index c.loop-number.invariant.ready
+    room_made (c.args.alone && c.args.committed) c.args.self.now c.loop-number.self c.args.action.now numbers c.requires.shown c.loop-number.invariant.roomier
+    c.in_ok-numbers.ensures.has
+    c.args.alone c.args.committed (option_copied c.args.to) c.loop-number.at.items refl c.in_ok-numbers.ensures.rising (c.loop-number.invariant.numbers ∙ all) c.loop-number.invariant.index c.loop-number.invariant.ready
 
 pub loop-number-preserved : goal.loop-number-preserved
 loop-number-preserved c =
