@@ -2,3 +2,4 @@ pub mod Ordered
 pub mod Maps
 mod WayBack
 mod Made
+mod Moving

@@ -5,3 +5,4 @@ pub mod Held
 pub mod Undone
 pub mod Plain
 pub mod Failing
+pub mod Moved

@@ -1,10 +1,11 @@
 //! Parts that are laid over those of a map, all of them or none.
-ghost use Rattle.std.specs.Prelude.{◌≡◌, Option, IsSome, IfOk, OnOk, OnErr, option_copied};
+ghost use Rattle.std.specs.Prelude.{◌≡◌, Option, IsSome, IsTrue, IfOk, OnOk, OnErr, option_copied};
 ghost use Rattle.std.specs.FinMap as map;
 ghost use Rattle.atomic_types.specs.declared.part.Part.{Part};
 ghost use Rattle.atomic_types.specs.Parts.{over};
 ghost use Rattle.stable_store.specs.Stored.{laid, put_over, values_of};
 ghost use Rattle.stable_store.specs.Held.{parts_in};
+ghost use Rattle.stable_store.specs.Moved.{CanMove, is_value};
 ghost use Rattle.stable_store.specs.Undone.{restored, undone, CanUndo};
 
 use atomic_types::Part;
@@ -37,6 +38,34 @@ pub fn lay(
         }
     }
     Ok(replaced)
+}
+
+/// Whether each part is a value, and the base has its object.
+pub fn can_move(base: &BTreeMap<u32, Part>, parts: &BTreeMap<u32, Part>) -> bool
+    ensures { IsTrue result → CanMove parts.now.entries (parts_in base.now) }
+{
+    for (object, part) in parts {
+        if !is_value(part) || !base.contains_key(object) {
+            return false;
+        }
+    }
+    true
+}
+
+fn is_value(part: &Part) -> bool
+    ensures { result ≡ is_value part.now }
+{
+    matches!(part, Part::Value(_))
+}
+
+/// Installs the parts over the base, which are values of objects that it has, and copies none. This takes no memory.
+pub fn move_over(base: &mut BTreeMap<u32, Part>, mut parts: BTreeMap<u32, Part>)
+    requires { CanMove parts.entries (parts_in base.old) }
+    ensures { parts_in base.new ≡ laid parts.entries (parts_in base.old) }
+{
+    while let Some((object, part)) = parts.pop_first() {
+        restore(base, object, Some(part));
+    }
 }
 
 /// Installs the contents as values, as `lay` does.

@@ -1,6 +1,6 @@
 use crate::fault::StoreFault;
 use crate::kept::{Kept, Prepared};
-use crate::laid::{lay, lay_values};
+use crate::laid::{can_move, lay, lay_values, move_over};
 use crate::numbers::{has_zero, is_misnumbered};
 use crate::stable::{GREATEST_COUNT, Stable};
 use atomic_types::Part;
@@ -81,6 +81,12 @@ impl Stable for PlainStable {
         let Some(record) = self.kept.prepared.get(&top) else {
             return Ok(());
         };
+        if can_move(&self.kept.base, &record.parts) {
+            if let Some(record) = self.kept.prepared.remove(&top) {
+                move_over(&mut self.kept.base, record.parts);
+            }
+            return Ok(());
+        }
         drop(lay(alloc, &mut self.kept.base, &record.parts)?);
         drop(self.kept.prepared.remove(&top));
         Ok(())
