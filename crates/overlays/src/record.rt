@@ -91,6 +91,11 @@ impl Layered for Record {
 
     #[tactic(auto, using(crate::specs::RecordOverlayLaws::laid_last))]
     fn lay(&mut self, overlay: &RecordOverlay) -> Result<(), AllocError> {
+        if let [field] = overlay.changed.as_slice() {
+            let value = field.value.copy()?;
+            self.set(&field.name, value);
+            return Ok(());
+        }
         let mut changed = copy_fields(&overlay.changed)?;
         while let Some(field) = changed.pop() {
             let Field { name, value } = field;
