@@ -299,7 +299,7 @@ impl PartialEq for Name {
     ghost laws = { same_name-partial_equivalence };
 
     fn eq(&self, other: &Self) -> bool {
-        self.cmp(other).is_eq()
+        self.depth() == other.depth() && self.cmp(other).is_eq()
     }
 }
 
