@@ -74,7 +74,7 @@ fn all_are_so(
     Ok(true)
 }
 
-/// The file of the guardian of this number.
+/// The path of the file of the guardian of this number.
 fn path_of(rt: &HostRuntime, folder: &str, number: usize) -> Result<String, Fault> {
     Ok(format!(in rt.alloc(); "{folder}/g{number}.db")?)
 }
