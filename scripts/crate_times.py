@@ -48,20 +48,21 @@ class Times(threading.Thread):
 
     def look(self):
         now, found = time.monotonic(), dict(processes())
-        for process, (parent, ticks) in found.items():
-            if self.is_below(parent, found) and (key := self.name(process)):
-                self.spans.setdefault(key, Span(now)).note(now, process, ticks)
+        for process, (parent, begun, ticks) in found.items():
+            if self.is_below(parent, found) and (key := self.name(process, begun)):
+                self.spans.setdefault(key, Span(now)).note(now, (process, begun), ticks)
 
     def is_below(self, process, found):
         while process in found and process != self.ancestor:
             process = found[process][0]
         return process == self.ancestor
 
-    def name(self, process):
-        """The crate that the process checks, and the kind of the check, if it is one."""
-        if process not in self.named:
-            self.named[process] = check_of(process)
-        return self.named[process]
+    def name(self, process, begun):
+        """The crate that the process checks, and the kind of the check, if it is one. A process that is none yet may become one, and the number of one
+        that has ended may be given again."""
+        if (process, begun) not in self.named and (key := check_of(process)):
+            self.named[process, begun] = key
+        return self.named.get((process, begun))
 
     def of(self, crate, kind="proof"):
         """What was seen of the crate's checks of this kind."""
@@ -69,14 +70,14 @@ class Times(threading.Thread):
 
 
 def processes():
-    """Each process with its parent and the ticks of the processor that it took itself."""
+    """Each process with its parent, when it began, and the ticks of the processor that it took itself."""
     for entry in os.scandir("/proc"):
         if entry.name.isdigit():
             try:
                 fields = pathlib.Path(entry.path, "stat").read_text().rpartition(")")[2].split()
             except OSError:
                 continue
-            yield int(entry.name), (int(fields[1]), int(fields[11]) + int(fields[12]))
+            yield int(entry.name), (int(fields[1]), int(fields[19]), int(fields[11]) + int(fields[12]))
 
 
 def check_of(process):
