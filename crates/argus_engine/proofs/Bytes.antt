@@ -1,5 +1,5 @@
 -- Lines at the front of what a reader gives.
-use Rattle.std.proofs.Common.{◌≡◌, ◌≢◌, ℕ, suc, ◌+◌, ◌-◌, ◌<◌, ◌≤◌, List, [], ◌∷◌, ◌++◌, length, take, drop, Option, Some, None, IfSome, refl, sym, ap, subst, ◌∙◌, append_assoc, append-nil, arith}
+use Rattle.std.proofs.Common.{◌≡◌, ◌≢◌, ℕ, suc, ◌+◌, ◌-◌, ◌<◌, ◌≤◌, true, false, List, [], ◌∷◌, ◌++◌, length, take, drop, Option, Some, None, IfSome, refl, sym, ap, subst, ◌∙◌, Result, Ok, Err, IfOk, append_assoc, append-nil, arith}
 use Rattle.std.proofs.Math.Seq.{take-add}
 use Rattle.std.proofs.lemmas.List.{take_all, take_more, take_rest, length-drop}
 use Rattle.std.specs.Io.{StartsWith}
@@ -15,7 +15,10 @@ use Rattle.run_model.proofs.Cutting.{same_cut, no_cut}
 use Rattle.argus_engine.specs.Serving.{Gives, TakesFront}
 use Rattle.argus_engine.specs.declared.reading.Met.{Met}
 use Rattle.argus_engine.specs.declared.reading.Met.TheVariants as met
-use Rattle.argus_engine.specs.Reading.{AreBefore, FacesNoStep, TakesSome}
+use Rattle.run_model.specs.Runs.{World}
+use Rattle.argus_engine.specs.declared.engine.Next.{Next}
+use Rattle.argus_engine.specs.declared.engine.Next.TheVariants.{Answered, NoStep, End}
+use Rattle.argus_engine.specs.Reading.{AnswersLine, AnswersStep, AreBefore, FacesNoStep, GoesOn, MayGoOn, TakesSome}
 use Rattle.argus_engine.proofs.NoLineFeed.{step_lacks_line_feed}
 
 -- what is left after the bytes that were read, as far as it is known
@@ -88,6 +91,37 @@ line_is_no_step start now line h lacks none =
     filled [] b e = absurd cc
     filled (x ∷ a) b e = absurd cc
 
+-- a line that is ready, with its line feed
+ready_line : (ready : List ℕ) (count taken : ℕ) → AreBefore ready count taken met.LineFeed → take taken ready ≡ take count ready ++ 10 ∷ []
+ready_line ready count taken (lt, is, one, lacks) =
+    ap (λ n. take n ready) (omega arith) ∙ take_more ready count 0 lt ∙ ap (λ c. take count ready ++ c ∷ []) is
+
+-- nothing was read of what the reader keeps
+pub keeps_all : (old new : Option (List ℕ)) → Keeps old new → Consumes old new []
+keeps_all None new k = tt
+keeps_all (Some xs) None k = absurd k
+keeps_all (Some xs) (Some ys) k = sym k
+
+-- nothing was read before what was gone on with
+goes_on_later : (old mid new : Option (List ℕ)) (world now after : World) (pending held grown : List ℕ) (next : Next)
+    → MayGoOn old mid world now pending held None → GoesOn mid new now after held grown next → GoesOn old new world after pending grown next
+goes_on_later old mid new world now after pending held grown Answered (read, same, kept) (step, (fits, taken), made) = (
+  step,
+  (fits, Consumes-trans old mid new [] (step_text step ++ 10 ∷ []) read taken),
+  subst (λ w. AnswersStep step w after pending grown) same (subst (λ (p : List ℕ). AnswersStep step now after p grown) kept made),
+)
+goes_on_later old mid new world now after pending held grown NoStep (read, same, kept) ((text, gives, some, none), is, stays) =
+    ((text, gives_more old mid [] text read gives, some, none), is ∙ same, stays ∙ kept)
+goes_on_later old mid new world now after pending held grown End (read, same, kept) (gives, is, stays) =
+    (gives_more old mid [] [] read gives, is ∙ same, stays ∙ kept)
+
+pub goes_on_after : {E : Type 0} (old mid new : Option (List ℕ)) (world now after : World) (pending held grown : List ℕ)
+    → MayGoOn old mid world now pending held None → (result : Result Next E) → IfOk result (GoesOn mid new now after held grown)
+    → IfOk result (GoesOn old new world after pending grown)
+goes_on_after old mid new world now after pending held grown idle (Err e) ok = tt
+goes_on_after old mid new world now after pending held grown idle (Ok next) ok =
+    goes_on_later old mid new world now after pending held grown next idle ok
+
 -- more bytes of a line, behind those that were taken
 pub took_more : (start mid now : Option (List ℕ)) (bytes grown : List ℕ) (kind : Met) → Consumes start mid bytes → Lacks 10 bytes
     → TakesSome mid now bytes grown kind → kind ≡ met.More → Consumes start now grown × Lacks 10 grown
@@ -104,9 +138,7 @@ pub takes_some : (old kept new : Option (List ℕ)) (buffered : Option ℕ) (rea
     → DropsConsumable kept new buffered taken → TakesSome old new bytes grown kind
 takes_some old kept new buffered ready bytes grown count taken met.LineFeed (lt, is, one, lacks) e front end keeps fits drops =
     let moved = Consumes_shown old kept new buffered ready taken (omega arith) front end keeps fits drops in
-    let all : take taken ready ≡ take count ready ++ 10 ∷ [] =
-    ap (λ n. take n ready) (omega arith) ∙ take_more ready count 0 lt ∙ ap (λ c. take count ready ++ c ∷ []) is in
-    (take count ready, e, lacks, subst (Consumes old new) all moved.0)
+    (take count ready, e, lacks, subst (Consumes old new) (ready_line ready count taken (lt, is, one, lacks)) moved.0)
 takes_some old kept new buffered ready bytes grown count taken met.More (le, same, lacks) e front end keeps fits drops =
     let moved = Consumes_shown old kept new buffered ready taken (omega arith) front end keeps fits drops in
     (take count ready, e, lacks, subst (λ n. Consumes old new (take n ready)) same moved.0)
@@ -116,6 +148,29 @@ takes_some old kept new buffered ready bytes grown count taken met.End (none, no
     at_end : (o : Option (List ℕ)) → IfSome o (λ xs. length ready ≡ 0 → xs ≡ []) → IsAtEnd o
     at_end None h = tt
     at_end (Some xs) h = h (ap length none)
+
+-- a line that is ready is taken with its line feed
+pub takes_line : (old kept new : Option (List ℕ)) (buffered : Option ℕ) (ready : List ℕ) (count taken : ℕ) → AreBefore ready count taken met.LineFeed
+    → IfSome old (λ xs. StartsWith xs ready) → IfSome old (λ xs. length ready ≡ 0 → xs ≡ []) → Keeps old kept
+    → IfSome old (λ _. IfSome buffered (λ k. length ready ≤ k)) → DropsConsumable kept new buffered taken → Consumes old new (take count ready ++ 10 ∷ [])
+takes_line old kept new buffered ready count taken before front end keeps fits drops =
+    let moved = Consumes_shown old kept new buffered ready taken (within before.0 before.2) front end keeps fits drops in
+    subst (Consumes old new) (ready_line ready count taken before) moved.0
+  where
+    within : count < length ready → taken ≡ suc count → taken ≤ length ready
+    within lt one = omega arith
+
+-- a line that was taken is gone on with as it is answered
+pub line_goes_on : (old new : Option (List ℕ)) (line : List ℕ) (world after : World) (pending grown : List ℕ) (next : Next) → Consumes old new (line ++ 10 ∷ [])
+    → AnswersLine line world after pending grown true → next ≡ Answered → GoesOn old new world after pending grown next
+line_goes_on old new line world after pending grown next taken (step, spelled, made) is =
+    subst (GoesOn old new world after pending grown) (sym is)
+    (step, (spelled.fits, subst (λ (text : List ℕ). Consumes old new (text ++ 10 ∷ [])) spelled.text taken), made)
+
+pub line_stops : (old new : Option (List ℕ)) (line : List ℕ) (world after : World) (pending grown : List ℕ) (next : Next) → Consumes old new (line ++ 10 ∷ [])
+    → Lacks 10 line → AnswersLine line world after pending grown false → next ≡ NoStep → GoesOn old new world after pending grown next
+line_stops old new line world after pending grown next taken lacks (none, same, stays) is =
+    subst (GoesOn old new world after pending grown) (sym is) (line_is_no_step old new line taken lacks none, same, stays)
 
 -- one more write of the rest
 pub wrote_more : (start mid now : Option (List ℕ)) (bytes : List ℕ) (count more : ℕ) → Appends start mid (take count bytes) → Appends mid now (take more (take (length bytes - count) (drop count bytes)))

@@ -175,7 +175,7 @@ started input before world kept e = record { sent = []; appended = Appends-nil b
 pub went_on : {input left before after : Option (List ℕ)} {old new : World} {number : ℕ} {kept : List ℕ} (now : Option (List ℕ)) (next : World) (grown : List ℕ) (kind : Next)
     → Running input left before after old new number kept → GoesOn left now new next kept grown kind → kind ≡ found.Answered → Running input now before after old next (number + 1) grown
 went_on {left = left} {new = new} {kept = kept} now next grown kind r goes e =
-    let (s, reads, stepped, wrote) = subst (GoesOn left now new next kept grown) e goes in
+    let (s, reads, (stepped, wrote)) = subst (GoesOn left now new next kept grown) e goes in
     record {
       sent = r.sent;
       appended = r.appended;

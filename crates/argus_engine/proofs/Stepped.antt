@@ -1,6 +1,6 @@
 -- Steps that were made, and one that failed at a store, seen from a world before them.
 use Rattle.std.proofs.Common.{◌≡◌, ◌∙◌, List, [], ◌∷◌, ◌++◌, Result, Ok, Err, Some, None, IsErrAnd, IfErr, ap, inl, inr, refl, subst, sym}
-use Rattle.std.specs.Prelude.{IsErrOf}
+use Rattle.std.specs.Prelude.{IsErrOf, OnOk}
 use Rattle.run_model.specs.declared.answer.Answer.{Answer}
 use Rattle.run_model.specs.declared.step.Step.{Step}
 use Rattle.run_model.specs.Answers.{answer_of}
@@ -33,6 +33,16 @@ made_one seen old new step answer is run stores =
 
 pub made_more : {S : Type 0} (seen : S → View) (old now new : InWorld S) → HasMade seen old now → HasMade seen now new → HasMade seen old new
 made_more seen old now new a m = (a.0 ++ m.0, join seen a.0 m.0 old now new a.1 m.1)
+
+-- what comes after steps that were made
+pub made_after : {S A E : Type 0} (seen : S → View) (old now new : InWorld S) → HasMade seen old now → (result : Result A E)
+    → OnOk result (HasMade seen now new) → OnOk result (HasMade seen old new)
+made_after seen old now new made (Err e) ok = tt
+made_after seen old now new made (Ok a) ok = made_more seen old now new made ok
+
+pub fails_after : {S : Type 0} (seen : S → View) (old now new : InWorld S) → HasMade seen old now → FailsAtStore seen now new → FailsAtStore seen old new
+fails_after seen old now new made f =
+    record { before = f.before; made = made_more seen old now f.before made f.made; step = f.step; run = f.run; stores = f.stores; failed = f.failed }
 
 -- ---- a fault
 
@@ -67,9 +77,8 @@ pub failed_later : {S A B : Type 0} {seen : S → View} {old now new : InWorld S
     → IsErrAnd result (λ e. e ≡ fault) → HasMade seen old now → (refused {A = B} fault ≡ refused Store → FailsAtStore seen now new)
     → IsErrOf result Store → FailsAtStore seen old new
 failed_later fault (Ok a) is m fails e = absurd is
-failed_later {A = A} {B = B} {seen = seen} {old = old} {now = now} fault (Err x) is m fails e =
-    let f = fails (ap (λ y. refused {A = B} y) (sym is ∙ same x e)) in
-    record { before = f.before; made = made_more seen old now f.before m f.made; step = f.step; run = f.run; stores = f.stores; failed = f.failed }
+failed_later {A = A} {B = B} {seen = seen} {old = old} {now = now} {new = new} fault (Err x) is m fails e =
+    fails_after seen old now new m (fails (ap (λ y. refused {A = B} y) (sym is ∙ same x e)))
   where
     same : (x : Fault) → refused {A = A} x ≡ refused Store → x ≡ Store
     same x e = cc

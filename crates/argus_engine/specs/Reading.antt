@@ -1,5 +1,5 @@
 -- Words for the clauses of private functions: one line, and how far the engine has come.
-use Rattle.std.specs.Prelude.{ℕ, Bool, true, false, ◌≡◌, ◌≢◌, ◌<◌, ◌≤◌, suc, List, [], ◌∷◌, ◌++◌, Option, length, slice_index, take, ◌⊎◌}
+use Rattle.std.specs.Prelude.{ℕ, Bool, true, false, ◌≡◌, ◌≢◌, ◌<◌, ◌≤◌, suc, List, [], ◌∷◌, ◌++◌, Option, Some, None, length, slice_index, take, ◌⊎◌}
 use Rattle.std.specs.List.{AllByRecursion}
 use Rattle.std.specs.Io.KnownBytes.{Appends, Consumes, IsAtEnd}
 use Rattle.run_model.specs.declared.step.Step.{Step}
@@ -65,21 +65,28 @@ TakesSome old new bytes grown met.End = (grown ≡ bytes) × IsAtEnd old
 abbrev pub ReadsStep : Option (List ℕ) → Option (List ℕ) → Step → Type 0
 ReadsStep old new step = IsStep step × Consumes old new (step_text step ++ line_feed ∷ [])
 
+-- the step was made, and the line of its answer stands behind what was there
+abbrev pub AnswersStep : Step → World → World → List ℕ → List ℕ → Type 0
+AnswersStep step world after pending grown =
+    let answer = answer_of (opening_in world.lists) step world.past in
+    (after ≡ world_after world step answer) × (grown ≡ pending ++ (answer_text answer ++ line_feed ∷ []))
+
 -- the line spells a step, which was made and answered; or it spells none, and nothing was done
 abbrev pub AnswersLine : List ℕ → World → World → List ℕ → List ℕ → Bool → Type 0
-AnswersLine line world after pending grown true =
-    (step : Step) × Spells line step × (after ≡ world_after world step (answer_of (opening_in world.lists) step world.past))
-    × (grown ≡ pending ++ (answer_text (answer_of (opening_in world.lists) step world.past) ++ line_feed ∷ []))
+AnswersLine line world after pending grown true = (step : Step) × Spells line step × AnswersStep step world after pending grown
 AnswersLine line world after pending grown false =
     ((step : Step) → Spells line step → ⊥) × (after ≡ world) × (grown ≡ pending)
 
 -- one more line was answered, or none was there to be answered
 abbrev pub GoesOn : Option (List ℕ) → Option (List ℕ) → World → World → List ℕ → List ℕ → Next → Type 0
-GoesOn old new world after pending grown Answered =
-    (step : Step) × ReadsStep old new step × (after ≡ world_after world step (answer_of (opening_in world.lists) step world.past))
-    × (grown ≡ pending ++ (answer_text (answer_of (opening_in world.lists) step world.past) ++ line_feed ∷ []))
+GoesOn old new world after pending grown Answered = (step : Step) × ReadsStep old new step × AnswersStep step world after pending grown
 GoesOn old new world after pending grown NoStep = FacesNoStep old × (after ≡ world) × (grown ≡ pending)
 GoesOn old new world after pending grown End = Gives old [] × (after ≡ world) × (grown ≡ pending)
+
+-- a line that was ready was gone on with; or nothing was read, and nothing was done
+abbrev pub MayGoOn : Option (List ℕ) → Option (List ℕ) → World → World → List ℕ → List ℕ → Option Next → Type 0
+MayGoOn old new world after pending grown (Some next) = GoesOn old new world after pending grown next
+MayGoOn old new world after pending grown None = Consumes old new [] × (after ≡ world) × (grown ≡ pending)
 
 -- the lines of the answers of steps, one after another
 abbrev pub answer_lines : Opening → List Event → List Step → List ℕ

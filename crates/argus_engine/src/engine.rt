@@ -2,17 +2,17 @@ ghost use Rattle.std.specs.Prelude.{◌≡◌, IfErr, IfOk, IsErrOf, OnOk, OnErr
 ghost use Rattle.run_model.specs.Texts.{answer_text};
 ghost use Rattle.run_model.specs.Transcripts.{error_text, line_feed};
 ghost use Rattle.argus_engine.specs.Serving.{Answers, BeginsAnswers, Writes};
-ghost use Rattle.argus_engine.specs.Reading.{AnswersLine, GoesOn, IsOfReaderOrStep, IsOfStep};
+ghost use Rattle.argus_engine.specs.Reading.{AnswersLine, GoesOn, IsOfReaderOrStep, IsOfStep, MayGoOn};
 ghost use Rattle.argus_engine.specs.Stepping.{FailsAtStore, HasMade};
 ghost use Rattle.argus_engine.specs.declared.engine.Fault.TheVariants.{Store};
 
-use crate::reading::{Line, read_line};
+use crate::reading::{Line, Met, front_of, read_line};
 use crate::writing::{finish, send_if_full};
-use run_model::{Answer, Step};
+use run_model::{Answer, MAX_LINE, Step};
 use stable_store::{Stable, StoreFault};
 use stable_world::World;
 use std::alloc::{AllocError, AllocFailed, Global};
-use std::io::{BufRead, BufReader, Read, Write};
+use std::io::{BufRead, BufReader, ErrorKind, Read, Write};
 use thiserror::Error;
 
 /// How the engine came to its end.
@@ -162,8 +162,65 @@ fn answer_all<S: Stable, R: BufRead, W: Write>(
 }
 
 /// Reads one line, makes its step and appends the line of its answer. After a fault the text is as it was.
-#[tactic(auto, using(crate::proofs::Bytes::line_is_no_step))]
 fn answer_next<S: Stable, R: BufRead>(
+    alloc: Global,
+    world: &mut World<S>,
+    reader: &mut R,
+    line: &mut Vec<u8>,
+    answers: &mut String,
+) -> Result<Next, Fault>
+    ensures ok { IfOk result (λ next. GoesOn (R.remaining reader.old) (R.remaining reader.new) world.old.run world.new.run
+        (string_bytes answers.old) (string_bytes answers.new) next) }
+    ensures err { OnErr result (string_bytes answers.new ≡ string_bytes answers.old) }
+    ensures setup { world.new.run.lists ≡ world.old.run.lists }
+    ensures made { OnOk result (HasMade S.seen world.old world.new) }
+    ensures fault { IfErr result IsOfReaderOrStep }
+    ensures cause { IsErrOf result Store → FailsAtStore S.seen world.old world.new }
+{
+    match answer_ready(alloc, world, reader, answers)? {
+        Some(next) => Ok(next),
+        None => answer_read(alloc, world, reader, line, answers),
+    }
+}
+
+/// Where the reader has the next line ready with its line feed, makes its step and appends the line of its answer. The line is read where it lies.
+/// Otherwise nothing is read; at the end of the input the reader is not asked again. After a fault the text is as it was.
+fn answer_ready<S: Stable, R: BufRead>(
+    alloc: Global,
+    world: &mut World<S>,
+    reader: &mut R,
+    answers: &mut String,
+) -> Result<Option<Next>, Fault>
+    ensures ok { IfOk result (MayGoOn (R.remaining reader.old) (R.remaining reader.new) world.old.run world.new.run
+        (string_bytes answers.old) (string_bytes answers.new)) }
+    ensures err { OnErr result (string_bytes answers.new ≡ string_bytes answers.old) }
+    ensures setup { world.new.run.lists ≡ world.old.run.lists }
+    ensures made { OnOk result (HasMade S.seen world.old world.new) }
+    ensures fault { IfErr result IsOfReaderOrStep }
+    ensures cause { IsErrOf result Store → FailsAtStore S.seen world.old world.new }
+{
+    let ready = match reader.fill_buf() {
+        Ok(ready) => ready,
+        Err(error) if error.kind() == ErrorKind::Interrupted => return Ok(None),
+        Err(_) => return Err(Fault::Input),
+    };
+    let front = front_of(ready, MAX_LINE + 1);
+    match front.met {
+        Met::LineFeed => (),
+        Met::More => return Ok(None),
+        Met::End => return Ok(Some(Next::End)),
+    }
+    let next = match answer_line(alloc, world, &ready[..front.count], answers)? {
+        true => Next::Answered,
+        false => Next::NoStep,
+    };
+    reader.consume(front.taken);
+    Ok(Some(next))
+}
+
+/// Reads one line piece by piece, makes its step and appends the line of its answer. After a fault the text is as it was.
+#[tactic(auto, using(crate::proofs::Bytes::line_is_no_step))]
+fn answer_read<S: Stable, R: BufRead>(
     alloc: Global,
     world: &mut World<S>,
     reader: &mut R,

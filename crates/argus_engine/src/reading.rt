@@ -32,12 +32,12 @@ pub(crate) enum Met {
 
 /// What of the bytes that are ready belongs to a line.
 #[derive(Clone, Copy, Drop)]
-struct Front {
+pub(crate) struct Front {
     /// How many of them.
-    count: usize,
+    pub(crate) count: usize,
     /// How many are taken, with the line feed if it is met.
-    taken: usize,
-    met: Met,
+    pub(crate) taken: usize,
+    pub(crate) met: Met,
 }
 
 /// Reads a line without its line feed, in place of what the vector held. Where the line is too long, one byte more than it
@@ -83,7 +83,7 @@ fn take_some<R: BufRead>(reader: &mut R, room: usize, line: &mut Vec<u8>) -> Res
 }
 
 /// What of these bytes, which are what is ready, belongs to the line, of which there is room for so many.
-fn front_of(ready: &[u8], room: usize) -> Front
+pub(crate) fn front_of(ready: &[u8], room: usize) -> Front
     requires { 1 ≤ room }
     ensures front { IsFront ready.now result }
     ensures room { result.count ≤ room }

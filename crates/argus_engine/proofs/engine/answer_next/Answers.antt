@@ -1,26 +1,26 @@
-use Rattle.argus_engine.proofs.Stepped.{failed_later, made_none, not_of_reader, of_its_step, of_reader}
+use Rattle.std.proofs.Common.{string_bytes, subst}
+use Rattle.argus_engine.specs.Reading.{MayGoOn}
+use Rattle.argus_engine.proofs.Bytes.{goes_on_after}
+use Rattle.argus_engine.proofs.Stepped.{fails_after, made_after}
 use Rattle.argus_engine.proofs.engine.answer_next.Goals as goal
 
-pub returns-in_err-read_line-clause-fault : goal.returns-in_err-read_line-clause-fault
-returns-in_err-read_line-clause-fault g c =
-    of_reader c.in_err-read_line.field-0.0 c.from_residual.result c.from_residual.ensures.1 c.in_err-read_line.ensures.fault
+pub returns-in-None-clause-ok : goal.returns-in-None-clause-ok
+returns-in-None-clause-ok g c =
+    let old = g.R.Read.remaining c.args.reader.now in
+    let mid = g.R.Read.remaining c.answer_ready.new.reader in
+    let world = c.args.world.now.run in
+    let now = c.answer_ready.new.world.run in
+    let pending = string_bytes c.args.answers.now in
+    let held = string_bytes c.answer_ready.new.answers in
+    let idle = subst (MayGoOn old mid world now pending held) c.in-None.is c.in_ok-next.ensures.ok in
+    goes_on_after old mid (g.R.Read.remaining c.answer_read.new.reader) world now c.answer_read.new.world.run pending held
+    (string_bytes c.answer_read.new.answers) idle c.answer_read.result c.answer_read.ensures.ok
 
-pub returns-in_err-read_line-clause-cause : goal.returns-in_err-read_line-clause-cause
-returns-in_err-read_line-clause-cause g c =
-    not_of_reader c.in_err-read_line.field-0.0 c.from_residual.result c.from_residual.ensures.1 c.in_err-read_line.ensures.fault
+pub returns-in-None-clause-made : goal.returns-in-None-clause-made
+returns-in-None-clause-made g c =
+    made_after g.S.Stable.seen c.args.world.now c.answer_ready.new.world c.answer_read.new.world c.in_ok-next.ensures.made c.answer_read.result
+    c.answer_read.ensures.made
 
-pub returns-in_err-answer_line-in-Whole-clause-fault : goal.returns-in_err-answer_line-in-Whole-clause-fault
-returns-in_err-answer_line-in-Whole-clause-fault g c =
-    of_its_step c.in_err-answer_line-in-Whole.field-0.0 c.from_residual-in_err-answer_line-in-Whole.result
-    c.from_residual-in_err-answer_line-in-Whole.ensures.1 c.in_err-answer_line-in-Whole.ensures.fault
-
-pub returns-in_err-answer_line-in-Whole-clause-cause : goal.returns-in_err-answer_line-in-Whole-clause-cause
-returns-in_err-answer_line-in-Whole-clause-cause g c =
-    failed_later c.in_err-answer_line-in-Whole.field-0.0 c.from_residual-in_err-answer_line-in-Whole.result
-    c.from_residual-in_err-answer_line-in-Whole.ensures.1 (made_none g.S.Stable.seen c.args.world.now) c.in_err-answer_line-in-Whole.ensures.cause
-
-pub returns-in-Bad-clause-made : goal.returns-in-Bad-clause-made
-returns-in-Bad-clause-made g c = made_none _ _
-
-pub returns-in-Missing-clause-made : goal.returns-in-Missing-clause-made
-returns-in-Missing-clause-made g c = made_none _ _
+pub returns-in-None-clause-cause : goal.returns-in-None-clause-cause
+returns-in-None-clause-cause g c e =
+    fails_after g.S.Stable.seen c.args.world.now c.answer_ready.new.world c.answer_read.new.world c.in_ok-next.ensures.made (c.answer_read.ensures.cause e)
