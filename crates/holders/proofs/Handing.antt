@@ -1,5 +1,5 @@
 -- Who may be handed what others hold.
-use Rattle.std.proofs.Common.{◌≡◌, Bool, true, false, ◌||◌, List, [], ◌∷◌, refl, sym, ◌∙◌, subst}
+use Rattle.std.proofs.Common.{◌≡◌, Bool, true, false, ◌||◌, List, [], ◌∷◌, refl, sym, subst}
 use Rattle.std.proofs.lemmas.Bool.{false≢true}
 use Rattle.action_names.specs.Names.{Name, same_name, has_name}
 use Rattle.holders.specs.Held.{may_be_handed}

@@ -1,9 +1,10 @@
 -- The place of a name among rows in the order of their names: how it is found, and what is done there.
-use Rattle.std.proofs.Common.{◌≡◌, ℕ, zero, suc, ◌+◌, ◌<◌, ◌≤◌, Bool, true, false, cond, ◌||◌, List, [], ◌∷◌, length, get_or, set, refl, sym, ap, ◌∙◌, subst, arith}
+use Rattle.std.proofs.Common.{◌≡◌, ℕ, zero, suc, ◌+◌, ◌-◌, ◌<◌, ◌≤◌, Bool, true, false, cond, ◌||◌, List, [], ◌∷◌, length, get_or, set, refl, sym, ap, ◌∙◌, subst, arith}
 use Rattle.std.specs.Prelude.{Option, Some, None, Result, Ok, Err, IfOk, IfErr, OnOk, OnErr, is_some}
 use Rattle.std.proofs.lemmas.Bool.{true≢false}
 use Rattle.std.proofs.lemmas.List.Sorted.{searchable_from_sorted}
-use Rattle.std.specs.List.{insert, remove}
+use Rattle.std.proofs.lemmas.Option.{get_or_from_slice_get, slice_get_within}
+use Rattle.std.specs.List.{insert, remove, slice_get}
 use Rattle.std.specs.List.Sorted.{IsStrictlySortedBy, IsSearchInRange, IsBinarySearchResult}
 use Rattle.std.specs.Map.{keys_of, lookup, remove_entry, set_value}
 use Rattle.std.specs.BTreeMap.{insert_entry, is_at}
@@ -71,6 +72,19 @@ searched {R} rs a s (Err i) within parted =
       absent = gap_from rs a i within (λ k d lt. parts.0 k d (omega arith) lt) (λ k d ge lt. parts.1 k d ge lt);
       within = within;
     }
+
+is_equal : (o : Ordering) → is_eq o ≡ true → o ≡ Equal
+is_equal Less e = absurd (true≢false (sym e))
+is_equal Equal e = refl
+is_equal Greater e = absurd (true≢false (sym e))
+
+-- the last row is looked at first
+pub last_row : {R : Type 0} (rs : List (Name × R)) (a : Name) (r : Name × R) → IsStrictlySortedBy name_cmp (keys_of rs)
+    → slice_get rs (length rs - 1) ≡ Some r → same_name r.0 a ≡ true → IsRowAt rs a (length rs - 1)
+last_row {R} rs a r s last same =
+    row_from rs a (length rs - 1) s (slice_get_within rs (length rs - 1) r last)
+    (λ d. subst (λ (t : Name × R). name_cmp t.0 a ≡ Equal) (sym (get_or_from_slice_get rs (length rs - 1) r d last))
+    (turned r.0 a Equal (is_equal (name_cmp a r.0) (at_name a r.0 ∙ same))))
 
 pub start_at_row : {R : Type 0} (rs : List (Name × R)) (a : Name) (i : ℕ) → IsRowAt rs a i → IsStartAt rs a i
 start_at_row [] a i here = tt

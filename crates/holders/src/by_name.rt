@@ -1,4 +1,4 @@
-//! Rows in a vector, in the order of their names: mostly there are one or two. A name's row is found by a binary search.
+//! Rows in a vector, in the order of their names: mostly there are one or two. A name's row is looked for at the end first, and then by a binary search.
 ghost use Rattle.std.specs.Prelude.{◌≡◌, ◌≤◌, ◌&&◌, not, length, drop, filter, is_some, IfOk, IfErr, OnOk, OnErr, if◌then◌else◌};
 ghost use Rattle.std.specs.BTreeMap.{insert_entry, is_at};
 ghost use Rattle.std.specs.List.{list_any, take_while};
@@ -119,12 +119,17 @@ fn start<R>(rows: &[(Name, R)], name: &Name) -> usize
     }
 }
 
-// Where the row of the name stands, or would stand.
+// Where the row of the name stands, or would stand. Mostly it is the last: the holder that acts is a descendant of the others.
 fn place<R>(rows: &[(Name, R)], name: &Name) -> Result<usize, usize>
     requires { IsStrictlySortedBy name_cmp (keys_of rows.now) }
     ensures found { IfOk result (IsRowAt rows.now name.now) }
     ensures absent { IfErr result (IsGapAt rows.now name.now) }
     ensures within { IsSearchInRange result (length rows.now) }
 {
+    if let Some((known, _)) = rows.last() {
+        if known == name {
+            return Ok(rows.len() - 1);
+        }
+    }
     rows.binary_search_by(|(known, _)| known.cmp(name))
 }

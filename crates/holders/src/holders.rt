@@ -18,7 +18,7 @@ use std::collections::btree_map::Iter;
 use std::marker::Model;
 
 /// How many names a vector has room for at most.
-const MOST: usize = 8;
+const MOST: usize = 16;
 
 /// Rows in the order of names: what each name holds, if anything.
 #[derive(Drop)]
