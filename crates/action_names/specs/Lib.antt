@@ -3,3 +3,4 @@ pub mod Fronts
 pub mod Deps
 pub mod Comparison
 pub mod Numbers
+pub mod Writing

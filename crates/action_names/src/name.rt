@@ -5,17 +5,17 @@ ghost use Rattle.std.specs.Ordering.{as_partial_cmp};
 ghost use Rattle.action_names.specs.Fronts.{BeginsWithNumber, BeginsWithName};
 ghost use Rattle.action_names.specs.Names.{IsName, name_text, child_of, parent_of, last_of, same_name, is_ancestor, is_top, meet_of, name_cmp, max_depth};
 ghost use Rattle.action_names.specs.Comparison.{same_name-partial_equivalence, same_name-equivalence, name_cmp-total, same_name-ties, name_cmp-partial_order, same_name-fed, fed_name};
+ghost use Rattle.action_names.specs.Writing.{IsGrown};
 ghost use Rattle.action_names.specs.declared.name.NameFault.TheVariants.{Memory};
 
-use crate::numbers::Numbers;
+use crate::numbers::{FEW, Numbers};
 use arrayvec::ArrayVec;
 use itoa::Buffer;
-use smallvec::SmallVec;
 use std::alloc::{AllocError, AllocFailed, Global};
 use std::cmp::Ordering;
+use std::fmt;
 use std::hash::{Hash, Hasher};
 use std::marker::Model;
-use std::{fmt, str};
 use thiserror::Error;
 
 /// How many numbers a name has at most.
@@ -90,6 +90,30 @@ impl Name {
         ensures refused { IsErrOf result NameFault.NotAName → (a : List ℕ) (rest : List ℕ) → BeginsWithName bytes.now a rest → ⊥ }
         ensures never_deep { IsErrOf result NameFault.TooDeep → ⊥ }
         ensures inline { (a : List ℕ) (rest : List ℕ) → BeginsWithName bytes.now a rest → length a ≤ 8 → IsOk result }
+    {
+        let mut few = [0; FEW];
+        let mut left = bytes;
+        for at in 0..FEW {
+            let Some((number, rest)) = number_at_front(left) else {
+                return Err(NameFault::NotAName);
+            };
+            few[at] = number;
+            match rest {
+                [b'.', behind @ ..] => left = behind,
+                _ => {
+                    let parts = Numbers::few(alloc, few, at + 1);
+                    return Ok((Name { parts }, rest));
+                }
+            }
+        }
+        Name::long_at_front(alloc, bytes)
+    }
+
+    // The same, read from the first number on into an array that has room for all: few names have more than 8 numbers.
+    fn long_at_front(alloc: Global, bytes: &[u8]) -> Result<(Name, &[u8]), NameFault>
+        ensures found { IfOk result (λ r. BeginsWithName bytes.now r.0 r.1.now) }
+        ensures refused { IsErrOf result NameFault.NotAName → (a : List ℕ) (rest : List ℕ) → BeginsWithName bytes.now a rest → ⊥ }
+        ensures never_deep { IsErrOf result NameFault.TooDeep → ⊥ }
     {
         let mut numbers = ArrayVec::<u32, MAX_DEPTH>::new();
         let mut left = bytes;
@@ -215,24 +239,28 @@ impl Name {
         ensures ok { OnOk result (string_bytes text.new ≡ string_bytes text.old ++ name_text self.now) }
         ensures err { OnErr result (string_bytes text.new ≡ string_bytes text.old) }
     {
-        let bytes = self.spelled()?;
-        let printed = str::from_utf8(bytes.as_slice()).map_err(|_| AllocError)?;
-        text.push_str(printed)
+        let len = text.as_str().len();
+        let written = self.append_to(text);
+        if written.is_err() {
+            text.truncate(len);
+        }
+        written
     }
 
-    // The bytes of its text, of which those of 8 numbers take no memory.
-    fn spelled(&self) -> Result<SmallVec<u8, 96>, AllocError>
-        ensures { IfOk result (λ bytes. bytes.items ≡ name_text self.now) }
+    // Where memory runs out, a part of the name may stand at the end.
+    #[tactic(auto, using(crate::proofs::Growing::grown_same, crate::proofs::Growing::grown_then))]
+    fn append_to(&self, text: &mut String) -> Result<(), AllocError>
+        ensures ok { OnOk result (string_bytes text.new ≡ string_bytes text.old ++ name_text self.now) }
+        ensures err { OnErr result (IsGrown (string_bytes text.old) (string_bytes text.new)) }
     {
-        let mut bytes = SmallVec::new(self.parts.allocator());
         if let [first, rest @ ..] = self.parts.as_slice() {
-            bytes.extend_from_slice(Buffer::new().format(*first).as_bytes())?;
+            text.push_str(Buffer::new().format(*first))?;
             for number in rest {
-                bytes.push(b'.')?;
-                bytes.extend_from_slice(Buffer::new().format(*number).as_bytes())?;
+                text.push('.')?;
+                text.push_str(Buffer::new().format(*number))?;
             }
         }
-        Ok(bytes)
+        Ok(())
     }
 }
 

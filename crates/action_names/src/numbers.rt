@@ -8,7 +8,7 @@ use std::marker::Model;
 use std::sync::Arc;
 
 /// How many numbers lie in the value itself.
-const FEW: usize = 8;
+pub(crate) const FEW: usize = 8;
 
 /// How many numbers the smaller of the shared arrays has.
 const SOME: usize = 16;
@@ -43,6 +43,18 @@ impl Model for Numbers {
 }
 
 impl Numbers {
+    /// The first numbers of the array, so many. This takes no memory.
+    pub(crate) fn few(alloc: Global, numbers: [u32; FEW], count: usize) -> Numbers
+        requires { count ≤ 8 }
+        ensures { result ≡ take count numbers }
+    {
+        Numbers {
+            alloc,
+            count,
+            place: Place::Here(numbers),
+        }
+    }
+
     /// These numbers. This takes no memory up to 8.
     pub(crate) fn from_slice(alloc: Global, numbers: &[u32]) -> Result<Numbers, AllocError>
         requires { length numbers.now ≤ max_depth }
@@ -133,11 +145,6 @@ impl Numbers {
         let mut many: [u32; MAX_DEPTH] = at_front_of(self.as_slice());
         many[self.count] = number;
         Numbers::from_slice(alloc, &many[..count])
-    }
-
-    /// Where the memory of the numbers comes from.
-    pub(crate) fn allocator(&self) -> Global {
-        self.alloc
     }
 }
 

@@ -39,5 +39,5 @@ pub mod Reopening
 pub mod Gathering
 pub mod Reading
 pub mod Spaces
-pub mod Writing
+pub use Rattle.action_names.specs.Writing
 pub mod Documents

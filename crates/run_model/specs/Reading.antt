@@ -40,13 +40,6 @@ abbrev pub ReadsBoth : {A B : Type 0} → ℕ → (A → Type 0) → (B → Type
 ReadsBoth {A} {B} mark p q s t text None = (a : A) (b : B) → p a → q b → text ≢ s a ++ mark ∷ t b
 ReadsBoth {A} {B} mark p q s t text (Some x) = p x.0 × q x.1 × (text ≡ s x.0 ++ mark ∷ t x.1)
 
--- what a text is read as that is a name, an object and an operation
-abbrev pub ReadsAct : List ℕ → Option (Name × ObjectId × op.Op) → Type 0
-ReadsAct text None =
-    (a : Name) (x : ObjectId) (wanted : op.Op) → IsName a → IsObject x → IsOp wanted
-    → text ≢ name_text a ++ 32 ∷ (object_text x ++ 32 ∷ op_text wanted)
-ReadsAct text (Some x) = IsName x.0 × IsObject x.1 × IsOp x.2 × (text ≡ name_text x.0 ++ 32 ∷ (object_text x.1 ++ 32 ∷ op_text x.2))
-
 -- what a text is read as that is a name, and the kinds of arms after it
 abbrev pub ReadsArms : List ℕ → Option (Name × List ArmKind) → Type 0
 ReadsArms text None = (a : Name) (kinds : List ArmKind) → IsName a → text ≢ name_text a ++ kinds_text kinds

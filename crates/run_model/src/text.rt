@@ -5,7 +5,7 @@ ghost use Rattle.std.specs.Fmt.{signed_decimal};
 ghost use Rattle.action_names.specs.Names.{name_text};
 ghost use Rattle.values.specs.Values.{value_text};
 ghost use Rattle.run_model.specs.Texts.{step_text, op_text, kinds_text, object_text, names_text, reply_text, signal_text, space};
-ghost use Rattle.run_model.specs.Writing.{IsGrown};
+ghost use Rattle.action_names.specs.Writing.{IsGrown};
 
 use crate::step::{ArmKind, ObjectId, Step};
 use action_names::Name;
