@@ -175,6 +175,16 @@ module _ {Z : Type 0} where
   row_crashed stays held first row rows left old mid split will crash new later =
       will new (subst (λ l. AreChanged (HasCrashed stays) (numbers_in l) old new) (sym split) (crashed_both stays row.items (numbers_in left) old mid new crash later))
 
+  -- no row is left
+  pub all_crashed : (stays : Name → Bool) (held : Rows) (first : List Kept) (rows : List (Vec ℕ Z)) (objects : List Kept) → rows ≡ []
+      → WillCrash stays held first rows objects → HaveCrashed stays held first objects
+  all_crashed stays held first rows objects none will =
+      will objects (subst (λ (l : List (Vec ℕ Z)). AreChanged (HasCrashed stays) (numbers_in l) objects objects) (sym none) (record {
+        count = refl;
+        changed = λ n k l h before after. absurd (false≢true h);
+        others = λ n h. refl;
+      }))
+
 -- where all of a vector was lent and as much came back, that is all it has
 pub all_written : (len : ℕ) (old items : List Kept) → len ≡ length old → length items ≡ length old → take len (items ++ drop (length items) old) ≡ items
 all_written len old items whole count =

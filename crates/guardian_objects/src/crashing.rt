@@ -13,7 +13,7 @@ ghost use Rattle.guardian_objects.specs.Turns.{AreChanged};
 use crate::objects::Objects;
 use action_names::Name;
 use atomic_object::Object;
-use held_objects::{HeldObjects, Holding};
+use held_objects::{HeldObjects, HeldRows, Holding};
 use holders::Survivors;
 
 /// Who still holds something at these objects.
@@ -63,8 +63,17 @@ fn crash_held<S: Survivors>(objects: &mut [Object], held: &HeldObjects, survivor
     requires tops { (a : Name) → IsTrue (S.stays survivors.now a) → IsTrue (is_top a) }
     ensures { HaveCrashed (S.stays survivors.now) held.now objects.old objects.new }
 {
-    for row in held.rows() {
-        crash_row(objects, row, survivors);
+    match held.rows() {
+        HeldRows::Few(few) => {
+            for (_, numbers) in few {
+                crash_row(objects, numbers, survivors);
+            }
+        }
+        HeldRows::Many(many) => {
+            for row in many {
+                crash_row(objects, row, survivors);
+            }
+        }
     }
 }
 

@@ -8,7 +8,6 @@ use Rattle.action_names.specs.Names.{Name, same_name, name_cmp, is_ancestor}
 use Rattle.action_names.proofs.Ancestry.{same_is, same_refl}
 use Rattle.holders.proofs.Sorted.{behind_same}
 use Rattle.held_objects.specs.Held.{HoldsSomethingBelow, Row, Rows, has_number, has_object, rows_in}
-use Rattle.held_objects.proofs.Descendants.{first_below, one_below}
 use Rattle.held_objects.proofs.Rows.{row_first, row_behind, none_row}
 
 module _ {Z : Type 0} where
@@ -80,33 +79,32 @@ module _ {Z : Type 0} where
 
   -- each that holds something below the action has a row that is left, or the answer was yes of it
   abbrev pub AreLeft : Rows → Name → List (Name × Vec ℕ Z) → (Name → Type 0) → Type 0
-  AreLeft held a left Yes = (b : Name) (n : ℕ) → is_ancestor a b ≡ true → has_object held b n ≡ true → (has_held (first_below a left) b n ≡ true) ⊎ Yes b
+  AreLeft held a left Yes = (b : Name) (n : ℕ) → is_ancestor a b ≡ true → has_object held b n ≡ true → (has_held left b n ≡ true) ⊎ Yes b
 
   -- what is in the rows that are left is held below the action
   abbrev pub AreHeld : Rows → Name → List (Name × Vec ℕ Z) → Type 0
-  AreHeld held a left = (b : Name) (n : ℕ) → has_held (first_below a left) b n ≡ true → (is_ancestor a b ≡ true) × (has_object held b n ≡ true)
+  AreHeld held a left = (b : Name) (n : ℕ) → has_held left b n ≡ true → (is_ancestor a b ≡ true) × (has_object held b n ≡ true)
 
-  pub all_left : (s : Rows) (a : Name) (es it : List (Name × Vec ℕ Z)) (Yes : Name → Type 0) → rows_in es ≡ s
-      → first_below a it ≡ filter (λ e. is_ancestor a e.0) es → AreLeft s a it Yes
-  all_left s a es it Yes e first b n up h =
-      inl (ap (λ l. has_held l b n) first ∙ held_below a es b n up (held_there es b n (ap (λ (rs : Rows). has_object rs b n) e ∙ h)))
+  pub all_left : (s : Rows) (a : Name) (es left : List (Name × Vec ℕ Z)) (Yes : Name → Type 0) → rows_in es ≡ s
+      → left ≡ filter (λ e. is_ancestor a e.0) es → AreLeft s a left Yes
+  all_left s a es left Yes e all b n up h =
+      inl (ap (λ l. has_held l b n) all ∙ held_below a es b n up (held_there es b n (ap (λ (rs : Rows). has_object rs b n) e ∙ h)))
 
-  pub all_held : (s : Rows) (a : Name) (es it : List (Name × Vec ℕ Z)) → IsStrictlySortedBy name_cmp (keys_of es) → rows_in es ≡ s
-      → first_below a it ≡ filter (λ e. is_ancestor a e.0) es → AreHeld s a it
-  all_held s a es it sorted e first b n h =
-      let parts = below_held a es b n (ap (λ l. has_held l b n) (sym first) ∙ h) in
+  pub all_held : (s : Rows) (a : Name) (es left : List (Name × Vec ℕ Z)) → IsStrictlySortedBy name_cmp (keys_of es) → rows_in es ≡ s
+      → left ≡ filter (λ e. is_ancestor a e.0) es → AreHeld s a left
+  all_held s a es left sorted e all b n h =
+      let parts = below_held a es b n (ap (λ l. has_held l b n) (sym all) ∙ h) in
       (parts.0, ap (λ (rs : Rows). has_object rs b n) (sym e) ∙ there_held es sorted b n parts.1)
 
   -- one row less is left
-  module _ (s : Rows) (a : Name) (left rest : List (Name × Vec ℕ Z)) (e : Name × Vec ℕ Z) (q : left ≡ e ∷ rest) (up : is_ancestor a e.0 ≡ true) where
+  module _ (s : Rows) (a : Name) (left rest : List (Name × Vec ℕ Z)) (e : Name × Vec ℕ Z) (q : left ≡ e ∷ rest) where
     pub less_held : AreHeld s a left → AreHeld s a rest
-    less_held h b n k = h b n (ap (λ l. has_held l b n) (one_below a left e rest q up) ∙ or_right _ _ k)
+    less_held h b n k = h b n (ap (λ l. has_held l b n) q ∙ or_right _ _ k)
 
     pub less_left : (Yes : Name → Type 0) → ((n : ℕ) → has_number e.1.items n ≡ true → Yes e.0) → AreLeft s a left Yes → AreLeft s a rest Yes
     less_left Yes answered h b n above k = elim (h b n above k) [
       | inl there ↦
-          elim (or_cases (same_name e.0 b && has_number e.1.items n) (has_held (first_below a rest) b n)
-          (ap (λ l. has_held l b n) (sym (one_below a left e rest q up)) ∙ there)) [
+          elim (or_cases (same_name e.0 b && has_number e.1.items n) (has_held rest b n) (ap (λ l. has_held l b n) (sym q) ∙ there)) [
             | inl here ↦
                 let parts = and_parts (same_name e.0 b) (has_number e.1.items n) here in
                 inr (subst Yes (same_is e.0 b parts.0) (answered n parts.1))
@@ -118,12 +116,12 @@ module _ {Z : Type 0} where
     -- who has the row holds something below the action
     pub row_held : AreHeld s a left → (n : ℕ) → has_number e.1.items n ≡ true → HoldsSomethingBelow s a e.0
     row_held h n k =
-        let there = h e.0 n (ap (λ l. has_held l e.0 n) (one_below a left e rest q up)
+        let there = h e.0 n (ap (λ l. has_held l e.0 n) q
         ∙ or_left _ _ (and_from (same_name e.0 e.0) (has_number e.1.items n) (same_refl e.0) k)) in
-        (up, n, there.1)
+        (there.0, n, there.1)
 
   -- no row is left of the action or a descendant
-  pub none_left : (s : Rows) (a : Name) (left : List (Name × Vec ℕ Z)) (Yes : Name → Type 0) → first_below a left ≡ [] → AreLeft s a left Yes
+  pub none_left : (s : Rows) (a : Name) (left : List (Name × Vec ℕ Z)) (Yes : Name → Type 0) → left ≡ [] → AreLeft s a left Yes
       → (b : Name) → HoldsSomethingBelow s a b → Yes b
   none_left s a left Yes none h b held = elim (h b held.1 held.0 held.2) [
     | inl there ↦ absurd (false≢true (ap (λ l. has_held l b held.1) (sym none) ∙ there))

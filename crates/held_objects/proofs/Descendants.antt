@@ -1,6 +1,7 @@
 -- What an action and its descendants hold, row by row.
-use Rattle.std.proofs.Common.{◌≡◌, ℕ, ◌+◌, Bool, true, false, cond, ◌||◌, filter, List, [], ◌∷◌, length, refl, sym, ap, ◌∙◌, subst, arith}
+use Rattle.std.proofs.Common.{◌≡◌, ℕ, ◌+◌, ◌<◌, Bool, true, false, cond, ◌||◌, drop, filter, get_or, List, [], ◌∷◌, length, refl, sym, ap, ◌∙◌, subst, arith}
 use Rattle.std.proofs.lemmas.Bool.{true≢false, false≢true}
+use Rattle.std.proofs.lemmas.List.{drop_more}
 use Rattle.std.proofs.lemmas.List.Sums.{take_while-cons}
 use Rattle.std.specs.Prelude.{◌↔◌, IsTrue}
 use Rattle.std.specs.List.{take_while}
@@ -88,11 +89,11 @@ module _ {Z : Type 0} where
     by_case later false d u k h = more (later (rw d at h))
 
   -- before the first row nothing is put in, and all rows are left
-  pub none_taken : (s : Rows) (a : Name) (es it : List (Name × Vec ℕ Z)) (below : List ℕ) → IsStrictlySortedBy name_cmp (keys_of es) → rows_in es ≡ s
-      → first_below a it ≡ filter (λ e. is_ancestor a e.0) es → below ≡ [] → (n : ℕ) → IsTrue (any_has (first_below a it) n || has_number below n) ↔ HoldsBelow s a n
-  none_taken s a es it below sorted e first none n =
-      let same : any_has (first_below a it) n || has_number below n ≡ any_has (filter (λ e. is_ancestor a e.0) es) n =
-      ap (λ ns. any_has (first_below a it) n || has_number ns n) none ∙ or_false (any_has (first_below a it) n) ∙ ap (λ rs. any_has rs n) first in (
+  pub none_taken : (s : Rows) (a : Name) (es left : List (Name × Vec ℕ Z)) (below : List ℕ) → IsStrictlySortedBy name_cmp (keys_of es) → rows_in es ≡ s
+      → left ≡ filter (λ e. is_ancestor a e.0) es → below ≡ [] → (n : ℕ) → IsTrue (any_has left n || has_number below n) ↔ HoldsBelow s a n
+  none_taken s a es left below sorted e all none n =
+      let same : any_has left n || has_number below n ≡ any_has (filter (λ e. is_ancestor a e.0) es) n =
+      ap (λ ns. any_has left n || has_number ns n) none ∙ or_false (any_has left n) ∙ ap (λ rs. any_has rs n) all in (
         λ h. subst (λ (rs : Rows). HoldsBelow rs a n) e (row_holds a n es sorted (sym same ∙ h)),
         λ w. same ∙ held_in_row a w.0 n es w.1 (ap (λ (rs : Rows). has_object rs w.0 n) e ∙ w.2),
       ) where
@@ -100,28 +101,32 @@ module _ {Z : Type 0} where
         or_false true = refl
         or_false false = refl
 
-  pub all_counted : (s : Rows) (a : Name) (es it : List (Name × Vec ℕ Z)) → rows_in es ≡ s → first_below a it ≡ filter (λ e. is_ancestor a e.0) es
-      → 0 + count_all (first_below a it) ≡ count_below s a
-  all_counted s a es it e first =
-      let whole : count_all (first_below a it) ≡ count_below s a = ap count_all first ∙ count_among a es ∙ ap (λ (rs : Rows). count_below rs a) e in
+  pub all_counted : (s : Rows) (a : Name) (es left : List (Name × Vec ℕ Z)) → rows_in es ≡ s → left ≡ filter (λ e. is_ancestor a e.0) es
+      → 0 + count_all left ≡ count_below s a
+  all_counted s a es left e all =
+      let whole : count_all left ≡ count_below s a = ap count_all all ∙ count_among a es ∙ ap (λ (rs : Rows). count_below rs a) e in
       omega (arith, whole)
 
   -- ---- one row more
   -- the numbers of a row were put in, and the rows behind it are left
-  pub row_taken : (a : Name) (left rest : List (Name × Vec ℕ Z)) (e : Name × Vec ℕ Z) (now next : List ℕ) → left ≡ e ∷ rest → is_ancestor a e.0 ≡ true
+  pub row_taken : (left rest : List (Name × Vec ℕ Z)) (e : Name × Vec ℕ Z) (now next : List ℕ) → left ≡ e ∷ rest
       → ((n : ℕ) → has_number next n ≡ has_number e.1.items n || has_number now n) → (n : ℕ)
-      → any_has (first_below a rest) n || has_number next n ≡ any_has (first_below a left) n || has_number now n
-  row_taken a left rest e now next q up step n =
-      ap (λ t. any_has (first_below a rest) n || t) (step n)
-      ∙ moved (has_number e.1.items n) (any_has (first_below a rest) n) (has_number now n)
-      ∙ ap (λ es. any_has es n || has_number now n) (sym (one_below a left e rest q up)) where
+      → any_has rest n || has_number next n ≡ any_has left n || has_number now n
+  row_taken left rest e now next q step n =
+      ap (λ t. any_has rest n || t) (step n)
+      ∙ moved (has_number e.1.items n) (any_has rest n) (has_number now n)
+      ∙ ap (λ es. any_has es n || has_number now n) (sym q) where
         moved : (s r h : Bool) → r || (s || h) ≡ (s || r) || h
         moved true true h = refl
         moved true false h = refl
         moved false r h = refl
 
-  pub row_counted : (a : Name) (left rest : List (Name × Vec ℕ Z)) (e : Name × Vec ℕ Z) (c n : ℕ) → left ≡ e ∷ rest → is_ancestor a e.0 ≡ true → n ≡ length e.1.items
-      → (c + n) + count_all (first_below a rest) ≡ c + count_all (first_below a left)
-  row_counted a left rest e c n q up is =
-      let whole : count_all (first_below a left) ≡ length e.1.items + count_all (first_below a rest) = ap count_all (one_below a left e rest q up) in
+  pub row_counted : (left rest : List (Name × Vec ℕ Z)) (e : Name × Vec ℕ Z) (c n : ℕ) → left ≡ e ∷ rest → n ≡ length e.1.items
+      → (c + n) + count_all rest ≡ c + count_all left
+  row_counted left rest e c n q is =
+      let whole : count_all left ≡ length e.1.items + count_all rest = ap count_all q in
       omega (arith, whole, is)
+
+  -- what is left of a list from a place on begins with what stands there
+  pub next_left : (items : List (Name × Vec ℕ Z)) (i : ℕ) (e : Name × Vec ℕ Z) → e ≡ get_or items i e → i < length items → drop i items ≡ e ∷ drop (i + 1) items
+  next_left items i e is lt = drop_more items i e lt ∙ ap (λ x. x ∷ drop (i + 1) items) (sym is)

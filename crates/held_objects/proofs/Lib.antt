@@ -5,3 +5,4 @@ pub mod Descendants
 pub mod Changes
 pub mod Somebody
 pub mod Asked
+pub mod FewRows

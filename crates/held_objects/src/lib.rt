@@ -5,10 +5,12 @@
 #![tactic(auto)]
 
 mod asking;
+mod few;
 mod holding;
 mod objects;
 mod rising;
+mod trees;
 
 pub use asking::Asking;
 pub use holding::Holding;
-pub use objects::HeldObjects;
+pub use objects::{HeldObjects, HeldRows};

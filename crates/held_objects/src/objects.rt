@@ -1,37 +1,49 @@
-//! At which objects each holder holds something.
-ghost use Rattle.std.specs.Prelude.{◌≡◌, ◌↔◌, ◌||◌, ◌&&◌, ◌==◌, ◌≤◌, ◌+◌, ℕ, not, true, false, [], length, filter, IsTrue, IsFalse, IfOk, OnOk, OnErr, IfSome, if◌then◌else◌};
+//! At which objects each holder holds something: in a vector while there are few holders, as nearly always, and in a tree from then on.
+ghost use Rattle.std.specs.Prelude.{◌≡◌, ◌↔◌, ◌||◌, ◌&&◌, ◌==◌, ◌≤◌, ◌+◌, ℕ, not, true, false, [], length, IsTrue, IsFalse, IfOk, OnOk, OnErr, IfSome};
 ghost use Rattle.std.specs.Option.{option_copied as name_of};
 ghost use Rattle.action_names.specs.Names.{Name, same_name, is_ancestor, is_proper_ancestor};
 ghost use Rattle.held_objects.specs.Held.{IsRising, has_number, has_object, objects_at, room_at, has_room, HoldsBelow, HoldsSomethingBelow};
-ghost use Rattle.held_objects.specs.Held.{HasRoomBelow, HasRoomFrom, IsHeld, count_below, is_in_row, is_name_of, rows_in};
+ghost use Rattle.held_objects.specs.Held.{HasRoomBelow, HasRoomFrom, IsHeld, count_below, is_name_of};
+ghost use Rattle.held_objects.specs.Few.{is_in_rows};
 
 use crate::asking::Asking;
+use crate::few::FewRows;
 use crate::holding::Holding;
-use crate::rising;
+use crate::trees::TreeRows;
 use action_names::Name;
 use std::alloc::{AllocError, Global};
-use std::collections::BTreeMap;
 use std::collections::btree_map::Values;
 use std::marker::Model;
 
-/// For how many objects a holder's first room is at least: the least piece of memory has as much.
-const FIRST_ROOM: usize = 4;
+/// How many holders have a row in a vector at most.
+const MOST: usize = 64;
+
+/// A row for each holder, in the order of names: the objects at which it holds something.
+#[derive(Drop)]
+pub enum HeldRows<'a> {
+    Few(&'a [(Name, Vec<u32>)]),
+    Many(Values<'a, Name, Vec<u32>>),
+}
 
 /// At which objects each holder holds something, and for how many more there is room.
 #[derive(Drop)]
 pub struct HeldObjects {
-    alloc: Global,
-    rows: BTreeMap<Name, Vec<u32>>,
+    kept: Kept,
+}
+
+#[derive(Drop)]
+enum Kept {
+    Few(FewRows),
+    Many(TreeRows),
 }
 
 impl Model for HeldObjects {
-    ghost use Rattle.held_objects.specs.Held.{Rows, rows_in, IsOrderly};
+    ghost use Rattle.held_objects.specs.Held.{Rows};
+    ghost use Rattle.held_objects.specs.Few.{rows_kept};
 
     ghost Value = { Rows };
 
-    ghost view = { λ a. rows_in a.rows.entries };
-
-    ghost invariant = { λ a. IsOrderly a.rows.entries };
+    ghost view = { λ a. rows_kept a.kept };
 }
 
 impl HeldObjects {
@@ -40,8 +52,7 @@ impl HeldObjects {
         ensures { result ≡ [] }
     {
         HeldObjects {
-            alloc,
-            rows: BTreeMap::new(alloc),
+            kept: Kept::Few(FewRows::new(alloc)),
         }
     }
 
@@ -50,9 +61,9 @@ impl HeldObjects {
         ensures objects { result.now ≡ objects_at self.now holder.now }
         ensures rising { IsRising result.now }
     {
-        match self.rows.get(holder) {
-            Some(objects) => objects,
-            None => &[],
+        match &self.kept {
+            Kept::Few(few) => few.objects_of(holder),
+            Kept::Many(many) => many.objects_of(holder),
         }
     }
 
@@ -62,15 +73,10 @@ impl HeldObjects {
         ensures objects { IfOk result (λ objects. (n : ℕ) → IsTrue (has_number objects.items n) ↔ HoldsBelow self.now action.now n) }
         ensures rising { IfOk result (λ objects. IsRising objects.items) }
     {
-        let mut below = Vec::new(self.alloc);
-        for (holder, objects) in self.rows.range(action..) {
-            if !action.is_ancestor(holder) {
-                break;
-            }
-            below.reserve(objects.len())?;
-            rising::insert_all(&mut below, objects);
+        match &self.kept {
+            Kept::Few(few) => few.objects_below(action),
+            Kept::Many(many) => many.objects_below(action),
         }
-        Ok(below)
     }
 
     /// Whether the answer is yes of the action and of each descendant that holds something. It looks at their rows and one more. Fails only for want of
@@ -79,23 +85,21 @@ impl HeldObjects {
         ensures all { IfOk result (λ yes. IsTrue yes → (b : Name) → HoldsSomethingBelow self.now action.now b → A.answers question.now b true) }
         ensures one { IfOk result (λ yes. IsFalse yes → (b : Name) × HoldsSomethingBelow self.now action.now b × A.answers question.now b false) }
     {
-        for (holder, objects) in self.rows.range(action..) {
-            if !action.is_ancestor(holder) {
-                break;
-            }
-            if !objects.is_empty() && !question.asks(holder)? {
-                return Ok(false);
-            }
+        match &self.kept {
+            Kept::Few(few) => few.all_below(action, question),
+            Kept::Many(many) => many.all_below(action, question),
         }
-        Ok(true)
     }
 
     /// The objects at which somebody holds something: a row for each holder, so that an object at which several do comes once for each. This takes no
     /// memory.
-    pub fn rows(&self) -> Values<'_, Name, Vec<u32>>
-        ensures { (n : ℕ) → IsTrue (is_in_row result n) ↔ IsHeld self.now n }
+    pub fn rows(&self) -> HeldRows<'_>
+        ensures { (n : ℕ) → IsTrue (is_in_rows result n) ↔ IsHeld self.now n }
     {
-        self.rows.values()
+        match &self.kept {
+            Kept::Few(few) => HeldRows::Few(few.rows()),
+            Kept::Many(many) => HeldRows::Many(many.rows()),
+        }
     }
 
     /// Makes room for one more object of the holder. What is held stays, and so does all room. After want of memory nothing is changed.
@@ -126,10 +130,10 @@ impl HeldObjects {
         ensures held { (b : Name) (n : ℕ) → has_object self.new b n ≡ ((same_name holder.now b && (object == n)) || has_object self.old b n) }
         ensures room { (b : Name) → room_at self.new b ≡ room_at self.old b }
     {
-        let Some(objects) = self.rows.get_mut(holder) else {
-            return;
-        };
-        rising::insert(objects, object);
+        match &mut self.kept {
+            Kept::Few(few) => few.insert(holder, object),
+            Kept::Many(many) => many.insert(holder, object),
+        }
     }
 
     /// Makes room for all that the holder and its descendants have. What is held stays, and so does all room. It looks at their rows and one
@@ -157,13 +161,10 @@ impl HeldObjects {
             ≡ (not (same_name action.now b) && (has_object self.old b n || (is_name_of (name_of to.entry) b && has_object self.old action.now n))) }
         ensures room { (b : Name) → same_name action.now b ≡ false → HasRoomBelow self.old b → HasRoomBelow self.new b }
     {
-        let Some(objects) = self.rows.remove(action) else {
-            return;
-        };
-        let Some(to) = to else {
-            return;
-        };
-        self.insert_all(to, &objects);
+        match &mut self.kept {
+            Kept::Few(few) => few.hand_on(action, to),
+            Kept::Many(many) => many.hand_on(action, to),
+        }
     }
 
     /// Drops what the action and its descendants have, and their room. It looks at their rows and one more. This takes no memory.
@@ -171,15 +172,20 @@ impl HeldObjects {
         ensures held { (b : Name) (n : ℕ) → has_object self.new b n ≡ (not (is_ancestor action.now b) && has_object self.old b n) }
         ensures room { (b : Name) → HasRoomBelow self.old b → HasRoomBelow self.new b }
     {
-        holders::remove_below(&mut self.rows, action);
+        match &mut self.kept {
+            Kept::Few(few) => few.drop_below(action),
+            Kept::Many(many) => many.drop_below(action),
+        }
     }
 
     /// Keeps of what is noted what is held still, and drops the room of those that hold nothing. It looks at all. This takes no memory.
     pub fn retain<H: Holding>(&mut self, holding: &H)
         ensures { (b : Name) (n : ℕ) → has_object self.new b n ≡ (has_object self.old b n && H.holds holding.now b n) }
     {
-        self.rows
-            .retain(|holder, objects| retain_held(holder, objects, holding));
+        match &mut self.kept {
+            Kept::Few(few) => few.retain(holding),
+            Kept::Many(many) => many.retain(holding),
+        }
     }
 }
 
@@ -192,47 +198,35 @@ impl HeldObjects {
         ensures below { (b : Name) → count_below self.new b ≡ count_below self.old b }
         ensures err { OnErr result (self.new ≡ self.old) }
     {
-        if let Some(objects) = self.rows.get_mut(holder) {
-            return objects.reserve(additional);
+        self.make_tree(holder)?;
+        match &mut self.kept {
+            Kept::Few(few) => few.reserve(holder, additional),
+            Kept::Many(many) => many.reserve(holder, additional),
         }
-        let objects = Vec::with_capacity(self.alloc, additional.max(FIRST_ROOM))?;
-        self.rows.insert(holder.copy()?, objects)?;
-        Ok(())
     }
 
     // How many objects the action and its descendants have, each as often as one of them has it, if a number holds that.
     fn count_below(&self, action: &Name) -> Option<usize>
         ensures { IfSome result (λ count. count ≡ count_below self.now action.now) }
     {
-        let mut count: usize = 0;
-        for (holder, objects) in self.rows.range(action..) {
-            if !action.is_ancestor(holder) {
-                break;
-            }
-            count = count.checked_add(objects.len())?;
+        match &self.kept {
+            Kept::Few(few) => few.count_below(action),
+            Kept::Many(many) => many.count_below(action),
         }
-        Some(count)
     }
 
-    // Gives the holder these objects too, for which there is room.
-    fn insert_all(&mut self, holder: &Name, objects: &[u32])
-        requires { length (objects_at self.old holder.now) + length objects.now ≤ room_at self.old holder.now }
-        ensures held { (b : Name) (n : ℕ) → has_object self.new b n ≡ ((same_name holder.now b && has_number objects.now n) || has_object self.old b n) }
-        ensures room { (b : Name) → room_at self.new b ≡ room_at self.old b }
-        ensures below { (b : Name) → count_below self.new b ≤ count_below self.old b + (if is_ancestor b holder.now then length objects.now else 0) }
+    // Goes over to a tree where the vector has as many rows as it is to have, and none of the holder. Fails only for want of memory.
+    fn make_tree(&mut self, holder: &Name) -> Result<(), AllocError>
+        ensures { self.new ≡ self.old }
     {
-        let Some(row) = self.rows.get_mut(holder) else {
-            return;
+        let Kept::Few(few) = &self.kept else {
+            return Ok(());
         };
-        rising::insert_all(row, objects);
+        if few.len() < MOST || few.has_row(holder) {
+            return Ok(());
+        }
+        let many = few.to_tree()?;
+        self.kept = Kept::Many(many);
+        Ok(())
     }
-}
-
-// Keeps the objects at which the holder holds something still, and says if there are any.
-fn retain_held<H: Holding>(holder: &Name, objects: &mut Vec<u32>, holding: &H) -> bool
-    ensures objects { objects.new.items ≡ filter (H.holds holding.now holder.now) objects.old.items }
-    ensures any { result ≡ false → objects.new.items ≡ [] }
-{
-    objects.retain(|object| holding.holds(holder, *object));
-    !objects.is_empty()
 }

@@ -227,3 +227,19 @@ run_out {X} a rs new tail i n s here rest count is =
     let below : Name × X → Bool = λ r. is_ancestor a r.0 in
     let many : n ≡ prefix_len below (drop i rs) = count ∙ ap (λ es. length (take_while below es)) rest ∙ length-prefix_len below (drop i rs) in
     is ∙ ap (λ es. take i rs ++ es) (sym (drop-drop n i rs) ∙ ap (λ m. drop m (drop i rs)) many) ∙ run_others a rs i s here
+
+-- what passes at the front is as long as it is
+taken_while : {X : Type 0} (p : X → Bool) (xs : List X) → take (length (take_while p xs)) xs ≡ take_while p xs
+taken_while p [] = refl
+taken_while {X} p (x ∷ xs) = rw (take_while-cons p x xs) (of (p x) (taken_while p xs)) where
+  of : (t : Bool) → take (length (take_while p xs)) xs ≡ take_while p xs
+      → take (length (cond t (x ∷ take_while p xs) [])) (x ∷ xs) ≡ cond t (x ∷ take_while p xs) []
+  of true later = ap (λ ys. x ∷ ys) later
+  of false later = refl
+
+-- and these are just they
+pub run_in : {X : Type 0} (a : Name) (rs tail : List (Name × X)) (i n : ℕ) → IsStrictlySortedBy name_cmp (keys_of rs) → IsStartAt rs a i → tail ≡ drop i rs
+    → n ≡ length (take_while (λ r. is_ancestor a r.0) tail) → take n tail ≡ filter (λ r. is_ancestor a r.0) rs
+run_in {X} a rs tail i n s here rest count =
+    let below : Name × X → Bool = λ r. is_ancestor a r.0 in
+    ap (λ m. take m tail) count ∙ taken_while below tail ∙ ap (take_while below) rest ∙ run_from a rs i s here

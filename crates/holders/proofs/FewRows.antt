@@ -152,7 +152,7 @@ module _ {V E : Type 0} (s : Rows V) (rs new : List (Name × Option V)) (a : Nam
   made_same (Err x) h = ap shown h.1 ∙ shows
 
 -- a row is put into a tree that has the rows before it
-pub inserted_next : {V : Type 0} (items rows new : List (Name × Option V)) (i : ℕ) (x : Name × Option V) (n : Name) → IsStrictlySortedBy name_cmp (keys_of items)
+pub inserted_next : {X : Type 0} (items rows new : List (Name × X)) (i : ℕ) (x : Name × X) (n : Name) → IsStrictlySortedBy name_cmp (keys_of items)
     → x ≡ get_or items i x → i < length items → rows ≡ take i items → n ≡ x.0 → new ≡ insert_entry name_cmp rows n x.1 → new ≡ take (i + 1) items
 inserted_next items rows new i x n s is lt so_far same q =
     let next = next_row items i x lt is in

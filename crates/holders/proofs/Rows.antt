@@ -429,13 +429,13 @@ pub there_again : {V : Type 0} (s : Rows V) (rs : List (Name × Option V)) (a b 
 there_again {V} s rs a b e there = known a b s.room (sym (ap (λ (x : Rows V). has_name x.room a) e) ∙ sym (has_row a rs) ∙ there)
 
 -- the rows behind others, in order
-pub copied_row : {V : Type 0} (before : List (Name × Option V)) (a : Name) (o : Option V) (rest : List (Name × Option V))
+pub copied_row : {X : Type 0} (before : List (Name × X)) (a : Name) (o : X) (rest : List (Name × X))
     → IsStrictlySortedBy name_cmp (keys_of (before ++ (a, o) ∷ rest)) → insert_entry name_cmp before a o ≡ before ++ (a, o) ∷ []
 unfolding IsStrictlySortedBy
 copied_row [] a o rest s = refl
-copied_row {V} (r ∷ rs) a o rest s =
+copied_row {X} (r ∷ rs) a o rest s =
     let above : name_cmp a r.0 ≡ Greater = greater a r.0 (first rs s.0) in
     simp above (ap (λ ks. r ∷ ks) (copied_row rs a o rest s.1)) where
-      first : (rs : List (Name × Option V)) → StandBehind r.0 (keys_of (rs ++ (a, o) ∷ rest)) → name_cmp r.0 a ≡ Less
+      first : (rs : List (Name × X)) → StandBehind r.0 (keys_of (rs ++ (a, o) ∷ rest)) → name_cmp r.0 a ≡ Less
       first [] h = h.0
       first (q ∷ rs) h = first rs h.1

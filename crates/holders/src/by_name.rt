@@ -1,4 +1,7 @@
-//! Rows in a vector, in the order of their names: mostly there are one or two. A name's row is looked for at the end first, and then by a binary search.
+//! Rows in a vector, in the order of their names, whatever a row is: mostly there are one or two. A name's row is looked for at the end first, and then by
+//! a binary search.
+//!
+//! `held_objects` keeps its rows by this too.
 ghost use Rattle.std.specs.Prelude.{◌≡◌, ◌≤◌, ◌&&◌, not, length, drop, filter, is_some, IfOk, IfErr, OnOk, OnErr, if◌then◌else◌};
 ghost use Rattle.std.specs.BTreeMap.{insert_entry, is_at};
 ghost use Rattle.std.specs.List.{list_any, take_while};
@@ -12,7 +15,7 @@ use action_names::Name;
 use std::alloc::AllocError;
 
 /// The row of the name.
-pub(crate) fn find<'a, R>(rows: &'a [(Name, R)], name: &Name) -> Option<&'a R>
+pub fn find<'a, R>(rows: &'a [(Name, R)], name: &Name) -> Option<&'a R>
     requires { IsStrictlySortedBy name_cmp (keys_of rows.now) }
     ensures { option_copied result ≡ lookup (is_at (name_cmp name.now)) rows.now }
 {
@@ -49,7 +52,7 @@ pub(crate) fn write<R: Drop>(rows: &mut Vec<(Name, R)>, name: &Name, row: R)
 }
 
 /// Takes out the row of the name.
-pub(crate) fn remove<R>(rows: &mut Vec<(Name, R)>, name: &Name) -> Option<R>
+pub fn remove<R>(rows: &mut Vec<(Name, R)>, name: &Name) -> Option<R>
     requires { IsStrictlySortedBy name_cmp (keys_of rows.old.items) }
     ensures value { result ≡ lookup (is_at (name_cmp name.now)) rows.old.items }
     ensures rows { rows.new.items ≡ remove_entry (is_at (name_cmp name.now)) rows.old.items }
@@ -61,13 +64,22 @@ pub(crate) fn remove<R>(rows: &mut Vec<(Name, R)>, name: &Name) -> Option<R>
 }
 
 /// Drops the rows of the action and its descendants.
-pub(crate) fn drop_below<R: Drop>(rows: &mut Vec<(Name, R)>, action: &Name)
+pub fn drop_below<R: Drop>(rows: &mut Vec<(Name, R)>, action: &Name)
     requires { IsStrictlySortedBy name_cmp (keys_of rows.old.items) }
     ensures { rows.new.items ≡ filter (λ r. not (is_ancestor action.now r.0)) rows.old.items }
 {
     let from = start(rows, action);
     let count = count_below(&rows[from..], action);
     rows.drain(from..from + count);
+}
+
+/// The rows of the action and its descendants. They stand next to each other, from the action on.
+pub fn below<'a, R>(rows: &'a [(Name, R)], action: &Name) -> &'a [(Name, R)]
+    requires { IsStrictlySortedBy name_cmp (keys_of rows.now) }
+    ensures { result.now ≡ filter (λ r. is_ancestor action.now r.0) rows.now }
+{
+    let rest = &rows[start(rows, action)..];
+    &rest[..count_below(rest, action)]
 }
 
 /// Whether a row of the action or of a descendant holds something. They stand next to each other, from the action on.
@@ -119,8 +131,8 @@ fn start<R>(rows: &[(Name, R)], name: &Name) -> usize
     }
 }
 
-// Where the row of the name stands, or would stand. Mostly it is the last: the holder that acts is a descendant of the others.
-fn place<R>(rows: &[(Name, R)], name: &Name) -> Result<usize, usize>
+/// Where the row of the name stands, or would stand. The last row is looked at first: mostly the holder that acts is a descendant of the others.
+pub fn place<R>(rows: &[(Name, R)], name: &Name) -> Result<usize, usize>
     requires { IsStrictlySortedBy name_cmp (keys_of rows.now) }
     ensures found { IfOk result (IsRowAt rows.now name.now) }
     ensures absent { IfErr result (IsGapAt rows.now name.now) }

@@ -3,7 +3,7 @@
 //! A name may have room and hold nothing. So memory for a holder is taken before something is given to it, and the giving cannot fail.
 #![tactic(auto)]
 
-mod by_name;
+pub mod by_name;
 mod few;
 mod holders;
 mod index;
