@@ -41,6 +41,7 @@ impl Indexing {
     pub(crate) fn answer(&mut self, row: &Row<'_>, answer: &mut String) -> Result<(), RowFault> {
         match row.call {
             "insert" => self.insert(row.words()),
+            "insert_many" => self.insert_many(row.words()),
             "hand_on" => self.hand_on(row.words(), answer),
             "hand_on_alone" => self.hand_on_alone(row.words(), answer),
             "retain" => self.retain(row.words()),
@@ -65,6 +66,18 @@ impl Indexing {
         let object = next_small_number(&mut words)?;
         self.held.make_room(&holder)?;
         self.held.insert(&holder, object);
+        Ok(())
+    }
+
+    /// `COUNT OBJECT`: so many top actions note the object, from the first on.
+    fn insert_many(&mut self, mut words: Words<'_>) -> Result<(), RowFault> {
+        let count = next_small_number(&mut words)?;
+        let object = next_small_number(&mut words)?;
+        for number in 1..=count {
+            let holder = Name::top(self.alloc, number).map_err(|_| RowFault::Unread)?;
+            self.held.make_room(&holder)?;
+            self.held.insert(&holder, object);
+        }
         Ok(())
     }
 
