@@ -6,13 +6,14 @@ ghost use Rattle.run_model.specs.Openings.{Opening};
 ghost use Rattle.layer_contracts.specs.Forests.{ForestState};
 ghost use Rattle.layer_contracts.specs.Guardians.{GuardianState, event_of, lent_two};
 ghost use Rattle.lent_steps.specs.Lending.{nobody};
+ghost use Rattle.lent_steps.specs.Naming.{AreNamed};
 ghost use Rattle.layer_contracts.specs.Stores.{fault_in};
 ghost use Rattle.layer_contracts.specs.declared.guardian.Fault.TheVariants.{Stable};
 ghost use Rattle.layered_world.specs.Standings.{AreSame, HasFailed, forest_of, IsKeptAt, IsLeftAt, IsOut, IsReady, IsWholeAt, IsWorld, Names, StoresLeft};
 
 use histories::PackedHistory;
 use layer_contracts::{Fault, Forest, Guardian};
-use lent_steps::{answer_alone, answer_two, keep_one, keep_two, named};
+use lent_steps::{NamedGuardians, answer_alone, answer_two, keep_one, keep_two, named};
 use run_model::{Answer, Step};
 use std::alloc::{AllocError, Global};
 
@@ -35,25 +36,28 @@ pub fn step<R: Forest, G: Guardian>(
     ensures stores { StoresLeft G.stored opening history.old step.now guardians.old guardians.new (fault_in result) }
     ensures cause { IsErrOf result Stable → HasFailed G.stored guardians.old guardians.new }
 {
-    let (low, high) = places(forest, step);
+    let named = named(forest, step);
+    let (low, high) = in_order(named);
     let answer = answer_at(alloc, forest, guardians, history, low, high, step)?;
     if !answer.is_accepted() {
         return Ok(answer);
     }
-    keep(alloc, forest, guardians, history, low, high, step, &answer)?;
+    keep(
+        alloc, forest, guardians, history, named, low, high, step, &answer,
+    )?;
     Ok(answer)
 }
 
-/// The guardians that the step names, the lower number first.
-fn places<R: Forest>(forest: &R, step: &Step) -> (u32, u32)
-    ensures names { (f : ForestState) → R.stands forest.now f → Names f step.now result.0 result.1 }
+/// The guardians that a step names, the lower number first.
+fn in_order(named: NamedGuardians) -> (u32, u32)
+    ensures same { (g : ℕ) → ((named.first == g) || (named.second == g)) ≡ ((result.0 == g) || (result.1 == g)) }
     ensures ordered { result.0 ≤ result.1 }
 {
-    let (one, other) = named(forest, step);
-    if one <= other {
-        (one, other)
+    let NamedGuardians { first, second } = named;
+    if first <= second {
+        (first, second)
     } else {
-        (other, one)
+        (second, first)
     }
 }
 
@@ -101,6 +105,7 @@ fn keep<R: Forest, G: Guardian>(
     forest: &mut R,
     guardians: &mut [G],
     history: &mut PackedHistory,
+    named: NamedGuardians,
     low: u32,
     high: u32,
     step: &Step,
@@ -108,6 +113,7 @@ fn keep<R: Forest, G: Guardian>(
 ) -> Result<(), Fault>
     ghost opening: { Opening }
     requires world { IsWorld G.stands G.stored (R.stands forest.old) opening history.old guardians.old }
+    requires named { AreNamed (R.stands forest.old) step.now named }
     requires names { Names (forest_of opening history.old) step.now low high }
     requires ordered { low ≤ high }
     requires more { IsRun opening (event_of step.now answer.now ∷ history.old) }
@@ -119,7 +125,9 @@ fn keep<R: Forest, G: Guardian>(
 {
     let number = history.next_stamp();
     history.push(step, answer)?;
-    let kept = keep_at(alloc, forest, guardians, low, high, step, answer, number);
+    let kept = keep_at(
+        alloc, forest, guardians, named, low, high, step, answer, number,
+    );
     ask_number(guardians, low);
     ask_number(guardians, high);
     match kept {
@@ -145,12 +153,14 @@ fn keep_at<R: Forest, G: Guardian>(
     alloc: Global,
     forest: &mut R,
     guardians: &mut [G],
+    named: NamedGuardians,
     low: u32,
     high: u32,
     step: &Step,
     answer: &Answer,
     number: u64,
 ) -> Result<(), Fault>
+    requires named { AreNamed (R.stands forest.old) step.now named }
     requires first { 1 ≤ low }
     requires ordered { low ≤ high }
     requires last { high ≤ length guardians.old }
@@ -167,6 +177,7 @@ fn keep_at<R: Forest, G: Guardian>(
             alloc,
             forest,
             &mut guardians[low as usize - 1],
+            named,
             step,
             answer,
             || number,
@@ -179,6 +190,7 @@ fn keep_at<R: Forest, G: Guardian>(
         forest,
         &mut left[low as usize - 1],
         &mut right[0],
+        named,
         step,
         answer,
         || number,

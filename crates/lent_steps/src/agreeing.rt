@@ -4,23 +4,25 @@ ghost use Rattle.layer_contracts.specs.Forests.{ForestState};
 ghost use Rattle.layer_contracts.specs.Guardians.{GuardianState};
 ghost use Rattle.lent_steps.specs.Lending.{AreLent, IsOneOf, IsTellable, Lends};
 ghost use Rattle.lent_steps.specs.Keeping.{AgreesAt, AgreesTwo};
+ghost use Rattle.lent_steps.specs.Naming.{AreNamed};
 
-use crate::keeping::is_named;
 use crate::lent::Lent;
+use crate::names::{NamedGuardians, is_named, named};
 use layer_contracts::{Forest, Judging};
 use run_model::{Event, Step};
 use std::alloc::{AllocError, Global};
 
 impl<'a, R: Forest, G: Judging> Lent<'a, R, G> {
     /// Whether the event agrees with the history of a guardian that is lent, if it names that.
-    fn agrees_at(&self, event: &Event, at: &G) -> Result<bool, AllocError>
+    fn agrees_at(&self, named: NamedGuardians, event: &Event, at: &G) -> Result<bool, AllocError>
+        requires { AreNamed (R.stands self.now.forest.now) event.now.step named }
         ensures { IfOk result (λ yes. IsTrue yes → (f : ForestState) (a b x : GuardianState) → Lends R.stands G.stands self.now f a b
             → G.stands at.now x → IsOneOf a b x → AgreesAt f a b event.now x) }
     {
-        if !is_named(self.forest, &event.step, at.number()) {
+        if !is_named(named, at.number()) {
             return Ok(true);
         }
-        let message = self.message(&event.step, &event.answer, at)?;
+        let message = self.message(named, &event.step, &event.answer, at)?;
         at.accepts(event, &message)
     }
 
@@ -58,10 +60,11 @@ pub fn agree_two<R: Forest, G: Judging>(
         first,
         second,
     };
-    if !lent.agrees_at(event, first)? {
+    let named = named(forest, &event.step);
+    if !lent.agrees_at(named, event, first)? {
         return Ok(false);
     }
-    lent.agrees_at(event, second)
+    lent.agrees_at(named, event, second)
 }
 
 /// Whether what the step tells agrees with what these two guardians were told.

@@ -11,36 +11,31 @@ ghost use Rattle.layer_contracts.specs.Messages.{is_operation, may_fail};
 ghost use Rattle.layer_contracts.specs.Forests.{ForestState, entered};
 ghost use Rattle.lent_steps.specs.Lending.{IsOneOf, Lends};
 ghost use Rattle.lent_steps.specs.Keeping.{AreAnswered, Brings, IsAnswered, IsDone, IsInstalled, IsKept, IsLentAt, IsPlannedHere, IsPlannedInSome, IsPlannedThere, Plans, StandsStill, StoreLeft, WhereverPlanned};
+ghost use Rattle.lent_steps.specs.Naming.{AreNamed};
 
 use crate::lent::Lent;
-use crate::names::{home_of_new, is_operation, named, takes_registry};
+use crate::names::{NamedGuardians, home_of_new, is_named, is_operation, takes_registry};
 use layer_contracts::{Fault, Forest, Guardian, Message};
 use run_model::{Answer, Step};
 use std::alloc::{AllocError, Global};
 
-/// Whether the step names the guardian of this number.
-pub(crate) fn is_named<R: Forest>(forest: &R, step: &Step, guardian: u32) -> bool
-    ensures { (f : ForestState) → R.stands forest.now f → result ≡ names_guardian step.now (events_there f.registry) guardian }
-{
-    let (first, second) = named(forest, step);
-    first == guardian || second == guardian
-}
-
 impl<'a, R: Forest, G: Guardian> Lent<'a, R, G> {
-    /// What the event brings to the guardian, if it names it.
+    /// What the event brings to the guardian, if it is one of those that it names.
     fn brought_to(
         &self,
+        named: NamedGuardians,
         step: &Step,
         answer: &Answer,
         at: &G,
     ) -> Result<Option<Message>, AllocError>
+        requires { AreNamed (R.stands self.now.forest.now) step.now named }
         ensures { IfOk result (λ brought. (f : ForestState) (a b x : GuardianState) → Lends R.stands G.stands self.now f a b → G.stands at.now x
             → IsOneOf a b x → x.opening ≡ f.opening → IsAnswered f a b (event_of step.now answer.now) → Brings f a b (event_of step.now answer.now) x brought) }
     {
-        if !is_named(self.forest, step, at.number()) {
+        if !is_named(named, at.number()) {
             return Ok(None);
         }
-        Ok(Some(self.message(step, answer, at)?))
+        Ok(Some(self.message(named, step, answer, at)?))
     }
 }
 
@@ -171,11 +166,13 @@ fn install_there<R: Forest>(
 fn operate<R: Forest, G: Guardian, F: FnOnce() -> u64>(
     forest: &R,
     guardian: &mut G,
+    named: NamedGuardians,
     step: &Step,
     answer: &Answer,
     stamp: F,
 ) -> Result<u64, AllocError>
     requires stamp { F.pre stamp }
+    requires named { AreNamed (R.stands forest.now) step.now named }
     requires operation { IsTrue (is_operation step.now) }
     requires answered { (f : ForestState) × (a : GuardianState) × (b : GuardianState) × (x : GuardianState)
         × IsLentAt (R.stands forest.now) (G.stands guardian.old) f a b (event_of step.now answer.now) x }
@@ -185,14 +182,14 @@ fn operate<R: Forest, G: Guardian, F: FnOnce() -> u64>(
     ensures err { OnErr result (StandsStill (G.stands guardian.old) (G.stands guardian.new)) }
     ensures store { Stays (G.stored guardian.old) (G.stored guardian.new) }
 {
-    if is_named(forest, step, guardian.number()) {
+    if is_named(named, guardian.number()) {
         guardian.operate(step, answer, stamp)
     } else {
         Ok(stamp())
     }
 }
 
-/// After an accepted step that was lent two guardians: all of them keep its event as far as it names them. Room is made first; then comes
+/// After an accepted step that was lent two guardians and names these: all of them keep its event as far as it names them. Room is made first; then comes
 /// the one call of a store or of an object, if there is one, then the stamp, then what cannot fail. After an error all are as they were. What is left
 /// is said of all states in which they stood and by which the event was answered, and there are such.
 pub fn keep_two<R: Forest, G: Guardian, F: FnOnce() -> u64>(
@@ -200,11 +197,13 @@ pub fn keep_two<R: Forest, G: Guardian, F: FnOnce() -> u64>(
     forest: &mut R,
     first: &mut G,
     second: &mut G,
+    named: NamedGuardians,
     step: &Step,
     answer: &Answer,
     stamp: F,
 ) -> Result<u64, Fault>
     requires stamp { F.pre stamp }
+    requires named { AreNamed (R.stands forest.old) step.now named }
     requires answered { (f : ForestState) × (a : GuardianState) × (b : GuardianState)
         × AreAnswered (R.stands forest.old) (G.stands first.old) (G.stands second.old) f a b (event_of step.now answer.now) × ((a.number == b.number) ≡ false) }
     ensures drawn { IfOk result (λ n. F.post stamp n) }
@@ -226,10 +225,10 @@ pub fn keep_two<R: Forest, G: Guardian, F: FnOnce() -> u64>(
     first.number();
     second.number();
     if is_operation(step) {
-        if is_named(forest, step, first.number()) {
-            return Ok(operate(forest, first, step, answer, stamp)?);
+        if is_named(named, first.number()) {
+            return Ok(operate(forest, first, named, step, answer, stamp)?);
         }
-        return Ok(operate(forest, second, step, answer, stamp)?);
+        return Ok(operate(forest, second, named, step, answer, stamp)?);
     }
     let lent = Lent {
         alloc,
@@ -237,10 +236,10 @@ pub fn keep_two<R: Forest, G: Guardian, F: FnOnce() -> u64>(
         first: &*first,
         second: &*second,
     };
-    let home = home_of_new(lent.forest, step);
+    let home = home_of_new(named, step);
     let life = lent.crashes_at(home);
-    let to_first = lent.brought_to(step, answer, lent.first)?;
-    let to_second = lent.brought_to(step, answer, lent.second)?;
+    let to_first = lent.brought_to(named, step, answer, lent.first)?;
+    let to_second = lent.brought_to(named, step, answer, lent.second)?;
     let there = plan_there(forest, step, answer, home, life)?;
     let one = plan_at(first, step, answer, to_first)?;
     let other = plan_at(second, step, answer, to_second)?;
@@ -262,11 +261,13 @@ pub fn keep_one<R: Forest, G: Guardian, F: FnOnce() -> u64>(
     alloc: Global,
     forest: &mut R,
     guardian: &mut G,
+    named: NamedGuardians,
     step: &Step,
     answer: &Answer,
     stamp: F,
 ) -> Result<u64, Fault>
     requires stamp { F.pre stamp }
+    requires named { AreNamed (R.stands forest.old) step.now named }
     requires answered { (f : ForestState) × (x : GuardianState)
         × AreAnswered (R.stands forest.old) (G.stands guardian.old) (G.stands guardian.old) f x x (event_of step.now answer.now) }
     ensures drawn { IfOk result (λ n. F.post stamp n) }
@@ -283,7 +284,7 @@ pub fn keep_one<R: Forest, G: Guardian, F: FnOnce() -> u64>(
     // Its store is that of its history.
     guardian.number();
     if is_operation(step) {
-        return Ok(operate(forest, guardian, step, answer, stamp)?);
+        return Ok(operate(forest, guardian, named, step, answer, stamp)?);
     }
     let lent = Lent {
         alloc,
@@ -291,9 +292,9 @@ pub fn keep_one<R: Forest, G: Guardian, F: FnOnce() -> u64>(
         first: &*guardian,
         second: &*guardian,
     };
-    let home = home_of_new(lent.forest, step);
+    let home = home_of_new(named, step);
     let life = lent.crashes_at(home);
-    let brought = lent.brought_to(step, answer, lent.first)?;
+    let brought = lent.brought_to(named, step, answer, lent.first)?;
     let there = plan_there(forest, step, answer, home, life)?;
     let here = plan_at(guardian, step, answer, brought)?;
     let number = carry_out(guardian, here, step, answer, stamp)?;

@@ -20,4 +20,4 @@ pub use fault::LockedFault;
 pub use here::{Here, operate};
 pub use keeping::{keep_one, keep_two};
 pub use lent::Lent;
-pub use names::named;
+pub use names::{NamedGuardians, named};

@@ -7,9 +7,10 @@ ghost use Rattle.layer_contracts.specs.Forests.{ForestState};
 ghost use Rattle.layer_contracts.specs.Guardians.{GuardianState, event_of, lent_two};
 ghost use Rattle.layer_contracts.specs.Messages.{carried_of, sent_of};
 ghost use Rattle.lent_steps.specs.Lending.{IsOneOf, Lends, dependencies_two, new_from, new_two};
+ghost use Rattle.lent_steps.specs.Naming.{AreNamed};
 
 use crate::lent::Lent;
-use crate::names::{home_of_new, names_begun, parent_path};
+use crate::names::{NamedGuardians, home_of_new, names_begun};
 use action_names::{Name, Names};
 use layer_contracts::{Forest, Guardian, Message};
 use run_model::{Answer, Step};
@@ -17,12 +18,19 @@ use std::alloc::AllocError;
 use step_answers::Reads;
 
 impl<'a, R: Forest, G: Guardian> Lent<'a, R, G> {
-    /// What the event brings to the guardian, which is one of those that are lent.
-    pub fn message(&self, step: &Step, answer: &Answer, at: &G) -> Result<Message, AllocError>
+    /// What the event brings to the guardian, which is one of those that are lent. The step names these.
+    pub(crate) fn message(
+        &self,
+        named: NamedGuardians,
+        step: &Step,
+        answer: &Answer,
+        at: &G,
+    ) -> Result<Message, AllocError>
+        requires { AreNamed (R.stands self.now.forest.now) step.now named }
         ensures { (f : ForestState) (a b x : GuardianState) → Lends R.stands G.stands self.now f a b → G.stands at.now x → IsOneOf a b x
             → IfOk result (λ message. carried_of message ≡ carried_lent f.opening (event_of step.now answer.now) x.number f.registry (lent_two a b)) }
     {
-        let sender = self.sender(step, at.number());
+        let sender = self.sender(named, step, at.number());
         let life = self.life_of(sender);
         let (aborts, counts) = self.lists(sender, at)?;
         Ok(Message {
@@ -30,32 +38,27 @@ impl<'a, R: Forest, G: Guardian> Lent<'a, R, G> {
             life,
             aborts,
             counts,
-            dependencies: self.dependencies(step, answer, at.number())?,
+            dependencies: self.dependencies(named, step, answer, at.number())?,
             outcomes: self.outcomes(step, at)?,
         })
     }
 
     /// Whose lists the step carries to the guardian of this number.
-    fn sender(&self, step: &Step, at: u32) -> Option<u32>
+    fn sender(&self, named: NamedGuardians, step: &Step, at: u32) -> Option<u32>
+        requires { AreNamed (R.stands self.now.forest.now) step.now named }
         ensures { (f : ForestState) (a b : GuardianState) → Lends R.stands G.stands self.now f a b
             → result ≡ sender_lent step.now at f.registry (lent_two a b) }
     {
         match step {
-            Step::Call(caller, to) => {
+            Step::Call(_, to) | Step::Prepare(to, _) => {
                 if *to == at {
-                    return Some(self.forest.home(caller.components()));
+                    return Some(named.first);
                 }
                 None
             }
-            Step::Commit(action) => {
-                if self.forest.home(parent_path(action)) == at && !self.is_down(at) {
-                    return Some(self.forest.home(action.components()));
-                }
-                None
-            }
-            Step::Prepare(to, top) => {
-                if *to == at {
-                    return Some(self.forest.home(top.components()));
+            Step::Commit(_) => {
+                if named.second == at && !self.is_down(at) {
+                    return Some(named.first);
                 }
                 None
             }
@@ -104,16 +107,18 @@ impl<'a, R: Forest, G: Guardian> Lent<'a, R, G> {
     /// What the event says of dependencies to the guardian of this number.
     fn dependencies(
         &self,
+        named: NamedGuardians,
         step: &Step,
         answer: &Answer,
         at: u32,
     ) -> Result<Vec<(Name, Vec<(u32, u64)>)>, AllocError>
+        requires { AreNamed (R.stands self.now.forest.now) step.now named }
         ensures { (f : ForestState) (a b : GuardianState) → Lends R.stands G.stands self.now f a b
             → IfOk result (λ sent. sent_of sent.items ≡ dependencies_two f a b (event_of step.now answer.now) at) }
     {
         match step {
             Step::Commit(action) => {
-                if self.forest.home(parent_path(action)) == at {
+                if named.second == at {
                     return self.dependencies_of(action);
                 }
                 Ok(Vec::new(self.alloc))
@@ -124,7 +129,7 @@ impl<'a, R: Forest, G: Guardian> Lent<'a, R, G> {
                 }
                 Ok(Vec::new(self.alloc))
             }
-            _ => self.new_dependencies(step, answer, at),
+            _ => self.new_dependencies(named, step, answer, at),
         }
     }
 
@@ -141,14 +146,16 @@ impl<'a, R: Forest, G: Guardian> Lent<'a, R, G> {
 
     fn new_dependencies(
         &self,
+        named: NamedGuardians,
         step: &Step,
         answer: &Answer,
         at: u32,
     ) -> Result<Vec<(Name, Vec<(u32, u64)>)>, AllocError>
+        requires { AreNamed (R.stands self.now.forest.now) step.now named }
         ensures { (f : ForestState) (a b : GuardianState) → Lends R.stands G.stands self.now f a b
             → IfOk result (λ sent. sent_of sent.items ≡ new_two f a b (event_of step.now answer.now) at) }
     {
-        let home = home_of_new(self.forest, step);
+        let home = home_of_new(named, step);
         let life = self.crashes_at(home);
         if home != at {
             return Ok(Vec::new(self.alloc));

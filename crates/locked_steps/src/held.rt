@@ -13,7 +13,7 @@ ghost use Rattle.lent_steps.specs.Keeping.{AreAnswered, AreSame, IsDone, IsOpera
 ghost use Rattle.locked_steps.specs.Pairs.{AreOf, are_two};
 
 use layer_contracts::{Fault, Forest, Guardian, Judging};
-use lent_steps::{LockedFault, agree_two, answer_two, keep_two, operate, tellable_two};
+use lent_steps::{LockedFault, agree_two, answer_two, keep_two, named, operate, tellable_two};
 use run_model::{Answer, Event, Name, ObjectId, Op, Step};
 use std::alloc::Global;
 use std::marker::PhantomData;
@@ -198,7 +198,17 @@ fn keep_of<R: Forest, G: Judging, F: FnOnce() -> u64>(
     ensures opening { (f : ForestState) (a b : GuardianState) → AreAnswered (R.stands forest.old) (G.stands one.old) (G.stands other.old) f a b event.now
         → AreOf f.opening (R.stands forest.new) (G.stands one.new) (G.stands other.new) }
 {
-    let kept = keep_two(alloc, forest, one, other, &event.step, &event.answer, stamp);
+    let named = named(forest, &event.step);
+    let kept = keep_two(
+        alloc,
+        forest,
+        one,
+        other,
+        named,
+        &event.step,
+        &event.answer,
+        stamp,
+    );
     forest.opening();
     one.opening();
     other.opening();

@@ -1,8 +1,9 @@
 use Rattle.std.proofs.Common.{None, ap, sym, ◌∙◌, ◌∷◌}
 use Rattle.run_model.specs.Runs.{IsRun, is_accepted}
+use Rattle.lent_steps.proofs.Naming.{named_are}
 use Rattle.lent_steps.proofs.Stores.{with_fault}
 use Rattle.layer_contracts.specs.Guardians.{event_of}
-use Rattle.layered_world.specs.Standings.{StoresLeft, forest_of}
+use Rattle.layered_world.specs.Standings.{Names, StoresLeft, forest_of}
 use Rattle.layered_world.proofs.Stores.{stores_idle, stores_refused}
 use Rattle.layered_world.proofs.stepping.step.Goals as goal
 
@@ -20,13 +21,15 @@ returns-then-not-is_accepted-clause-stores g c =
 pub answer_at-requires : goal.answer_at-requires
 answer_at-requires g c = λ κs within.
     let world = c.requires.1.1.1.1 in
-    let names = c.places-low.ensures.names (forest_of g.opening c.args.history.now) world.forest in
+    let names : Names (forest_of g.opening c.args.history.now) c.args.step.now c.in_order-low.result.0 c.in_order-low.result.1 =
+    λ h. named_are c.named-named.ensures (forest_of g.opening c.args.history.now) world.forest h ∙ c.in_order-low.ensures.same h in
     (within.0, (within.1.0, (within.1.1.0, (within.1.1.1, (world, names)))))
 
 pub keep-requires : goal.keep-requires
 keep-requires g c = λ κs within.
     let world = c.requires.1.1.1.1 in
-    let names = c.places-low.ensures.names (forest_of g.opening c.args.history.now) world.forest in
+    let names : Names (forest_of g.opening c.args.history.now) c.args.step.now c.in_order-low.result.0 c.in_order-low.result.1 =
+    λ h. named_are c.named-named.ensures (forest_of g.opening c.args.history.now) world.forest h ∙ c.in_order-low.ensures.same h in
     let more : IsRun g.opening (event_of c.args.step.now c.in_ok-answer.answer ∷ c.args.history.now) =
     (c.in_ok-answer.ensures, sym c.is_accepted.ensures ∙ c.if-not-is_accepted.false, world.is_run) in
-    (within.0, (within.1.0, (within.1.1.0, (within.1.1.1, (world, (names, (c.places-low.ensures.ordered, more)))))))
+    (within.0, (within.1.0, (within.1.1.0, (within.1.1.1, (world, (c.named-named.ensures, (names, (c.in_order-low.ensures.ordered, more))))))))
