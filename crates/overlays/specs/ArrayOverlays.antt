@@ -1,4 +1,5 @@
 -- What an action changed of an array: its bounds, if it changed them, and items.
+use Rattle.std.proofs.lemmas.Bool.{false≢true}
 use Rattle.std.specs.Prelude.{◌≡◌, ℕ, zero, suc, ℤ, pos, ◌+ℤ◌, ◌-ℤ◌, ◌≤ℤ◌, ◌≤◌, int_le, int_lt, nat_lt, Bool, true, false, ◌&&◌, List, [], ◌∷◌, length, Option, Some, None, is_some, refl, if◌then◌else◌}
 use Rattle.std.specs.List.{AllByRecursion}
 use Rattle.std.specs.Ordering.{int_cmp}
@@ -15,7 +16,7 @@ use Rattle.atomic_types.specs.Arrays.{array_knows, array_reply, array_after}
 use Rattle.overlays.specs.declared.bounds.Bounds.{Bounds}
 use Rattle.overlays.specs.RecordOverlays.{or_below}
 use Rattle.overlays.specs.Overlays.{IsNotedIn}
-use Rattle.overlays.specs.Laws.{OverlaysKnow, FitsStay, AddsSum, WritesCover}
+use Rattle.overlays.specs.Laws.{OverlaysKnow, FitsStay, AddsSum, WritesCover, AlwaysDone}
 
 -- the bounds that the array was given, if any, and the items that were put, each with its index
 pub record ArrayChange : Type 0 where
@@ -169,3 +170,15 @@ array_adds_sum a y z = refl
 
 pub array_writes_cover : WritesCover array_knows array_reply array_after
 array_writes_cover a z op known writes = (refl, refl)
+
+pub array_always_done : AlwaysDone array_reply
+array_always_done a Low done = absurd (false≢true done)
+array_always_done a High done = absurd (false≢true done)
+array_always_done a Size done = absurd (false≢true done)
+array_always_done a (Fetch i) done = absurd (false≢true done)
+array_always_done a (Store i v) done = absurd (false≢true done)
+array_always_done a (AddHigh v) done = absurd (false≢true done)
+array_always_done a (AddLow v) done = absurd (false≢true done)
+array_always_done a RemoveHigh done = absurd (false≢true done)
+array_always_done a RemoveLow done = absurd (false≢true done)
+array_always_done a _ done = refl

@@ -15,12 +15,12 @@ use Rattle.atomic_types.specs.TypeLaws.{known_stay}
 use Rattle.overlays.specs.declared.bounds.Bounds.{Bounds}
 use Rattle.overlays.specs.declared.content.ContentOverlay.{ContentOverlay}
 use Rattle.overlays.specs.declared.content.ContentOverlay.TheVariants as over
-use Rattle.overlays.specs.Laws.{OverlaysKnow, FitsStay, AddsSum, WritesCover}
+use Rattle.overlays.specs.Laws.{OverlaysKnow, FitsStay, AddsSum, WritesCover, AlwaysDone}
 use Rattle.overlays.specs.RecordOverlays.{laid_fields, FieldsFit}
-use Rattle.overlays.specs.RecordOverlayLaws.{record_overlays_know}
-use Rattle.overlays.specs.ArrayOverlays.{ArrayChange, bounds_of, changed_at, laid_array, ArrayFits, array_overlays_know}
-use Rattle.overlays.specs.VariantOverlays.{laid_tag, TagFits, variant_overlays_know}
-use Rattle.overlays.specs.CounterOverlays.{laid_number, NumberFits, counter_overlays_know, counter_adds_sum, counter_writes_cover}
+use Rattle.overlays.specs.RecordOverlayLaws.{record_overlays_know, record_always_done}
+use Rattle.overlays.specs.ArrayOverlays.{ArrayChange, bounds_of, changed_at, laid_array, ArrayFits, array_overlays_know, array_always_done}
+use Rattle.overlays.specs.VariantOverlays.{laid_tag, TagFits, variant_overlays_know, variant_always_done}
+use Rattle.overlays.specs.CounterOverlays.{laid_number, NumberFits, counter_overlays_know, counter_adds_sum, counter_writes_cover, counter_always_done}
 
 abbrev pub are_alike : Content → Content → Bool
 are_alike (Record fields) (Record others) = true
@@ -198,3 +198,9 @@ content_writes_cover (Variant v) z op known writes = (refl, refl)
 content_writes_cover (Counter n) z op known writes =
     let covered = counter_writes_cover n z op known writes in
     (ap (λ m. Counter m) covered.0, covered.1)
+
+pub content_always_done : AlwaysDone reply_of
+content_always_done (Record fields) op done = record_always_done fields op done
+content_always_done (Array a) op done = array_always_done a op done
+content_always_done (Variant v) op done = variant_always_done v op done
+content_always_done (Counter n) op done = counter_always_done n op done

@@ -10,7 +10,7 @@ use Rattle.values.specs.declared.value.Value.TheVariants.{Int, Text}
 use Rattle.atomic_types.specs.declared.operation.Operation.TheVariants.{Total, Put, Add}
 use Rattle.atomic_types.specs.Counters.{counter_knows, counter_reply, counter_after, added_to}
 use Rattle.overlays.specs.Overlays.{Covers}
-use Rattle.overlays.specs.Laws.{OverlaysKnow, FitsStay, AddsSum, WritesCover}
+use Rattle.overlays.specs.Laws.{OverlaysKnow, FitsStay, AddsSum, WritesCover, AlwaysDone}
 use Rattle.atomic_types.specs.Operations.{Op, is_add}
 
 -- the number that stands in the place of the counter's
@@ -39,6 +39,10 @@ counter_writes_cover n z (Put (Text bytes)) known writes = absurd (false≢true 
 counter_writes_cover n z (Add v) known writes = absurd (false≢true writes)
 counter_writes_cover n z Total known writes = absurd (false≢true writes)
 counter_writes_cover n z _ known writes = absurd (false≢true known)
+
+pub counter_always_done : AlwaysDone counter_reply
+counter_always_done n Total done = absurd (false≢true done)
+counter_always_done n _ done = refl
 
 -- an overlay that changes nothing does not cover what was added below
 pub covers_none : Covers counter_after laid_number None → ⊥

@@ -1,8 +1,9 @@
 -- The laws of overlays, and of operations that add.
-use Rattle.std.specs.Prelude.{◌≡◌, ℤ, Bool, IsTrue}
+use Rattle.std.specs.Prelude.{◌≡◌, ℤ, Bool, true, false, IsTrue}
 use Rattle.values.specs.declared.value.Value.TheVariants.{Int}
-use Rattle.atomic_types.specs.declared.operation.Operation.TheVariants.{Add}
+use Rattle.atomic_types.specs.declared.operation.Operation.TheVariants.{Set, Change, Put, Add}
 use Rattle.atomic_types.specs.declared.op.Reply.{Reply}
+use Rattle.atomic_types.specs.declared.op.Reply.TheVariants.{Done}
 use Rattle.atomic_types.specs.Operations.{Op, is_write}
 use Rattle.atomic_types.specs.Counters.{sum_of}
 
@@ -22,3 +23,15 @@ AddsSum {S} after = (s : S) (y z : ℤ) → after (after s (Add (Int y))) (Add (
 abbrev pub WritesCover : {S : Type 0} → (S → Op → Bool) → (S → Op → Reply) → (S → Op → S) → Type 0
 WritesCover {S} knows reply after = (s : S) (z : ℤ) (op : Op) → IsTrue (knows s op) → IsTrue (is_write op)
     → (after (after s (Add (Int z))) op ≡ after s op) × (reply (after s (Add (Int z))) op ≡ reply s op)
+
+-- the operations that neither give a value nor signal
+abbrev pub is_always_done : Op → Bool
+is_always_done (Set name v) = true
+is_always_done (Change tag v) = true
+is_always_done (Put v) = true
+is_always_done (Add v) = true
+is_always_done _ = false
+
+-- their reply is the same whatever the object holds
+abbrev pub AlwaysDone : {S : Type 0} → (S → Op → Reply) → Type 0
+AlwaysDone {S} reply = (s : S) (op : Op) → IsTrue (is_always_done op) → reply s op ≡ Done

@@ -9,7 +9,7 @@ use Rattle.values.specs.Words.{same_bytes}
 use Rattle.values.specs.Contents.{field_value, set_field}
 use Rattle.atomic_types.specs.Operations.{Op, is_read}
 use Rattle.atomic_types.specs.declared.operation.Operation.TheVariants.{Get, Set}
-use Rattle.overlays.specs.Laws.{OverlaysKnow, FitsStay, AddsSum, WritesCover}
+use Rattle.overlays.specs.Laws.{OverlaysKnow, FitsStay, AddsSum, WritesCover, AlwaysDone}
 use Rattle.atomic_types.specs.Records.{takes, record_knows, record_reply, record_after}
 use Rattle.overlays.specs.RecordOverlays.{laid_fields, FieldsFit, is_set, noted_field, noted_fields, or_below}
 use Rattle.atomic_types.specs.TypeLaws.{record_known_stay}
@@ -161,3 +161,7 @@ record_adds_sum fields y z = refl
 
 pub record_writes_cover : WritesCover record_knows record_reply record_after
 record_writes_cover fields z op known writes = (refl, refl)
+
+pub record_always_done : AlwaysDone record_reply
+record_always_done fields (Get name) done = absurd (false≢true done)
+record_always_done fields _ done = refl

@@ -7,7 +7,7 @@ use Rattle.values.specs.Tags.{VariantContent, tag_kind, with_tag}
 use Rattle.atomic_types.specs.declared.operation.Operation.TheVariants.{Is, ValueOf, Change}
 use Rattle.atomic_types.specs.Operations.{Op, is_read}
 use Rattle.atomic_types.specs.Variants.{tag_takes, variant_knows, variant_reply, variant_after}
-use Rattle.overlays.specs.Laws.{OverlaysKnow, FitsStay, AddsSum, WritesCover}
+use Rattle.overlays.specs.Laws.{OverlaysKnow, FitsStay, AddsSum, WritesCover, AlwaysDone}
 
 -- the variant with this tag and value
 abbrev pub laid_tag : VariantContent → Option (List ℕ × Value) → VariantContent
@@ -46,3 +46,8 @@ variant_adds_sum v y z = refl
 
 pub variant_writes_cover : WritesCover variant_knows variant_reply variant_after
 variant_writes_cover v z op known writes = (refl, refl)
+
+pub variant_always_done : AlwaysDone variant_reply
+variant_always_done v (Is tag) done = absurd (false≢true done)
+variant_always_done v (ValueOf tag) done = absurd (false≢true done)
+variant_always_done v _ done = refl

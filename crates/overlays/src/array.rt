@@ -10,7 +10,7 @@ ghost use Rattle.atomic_types.specs.Arrays.{array_knows, array_reply, gives_or_b
 ghost use Rattle.atomic_types.specs.Operations.{is_read};
 ghost use Rattle.overlays.specs.RecordOverlays.{or_below};
 ghost use Rattle.overlays.specs.Overlays.{laid_all, AllFit, shown};
-ghost use Rattle.overlays.specs.ArrayOverlays.{laid_array, ArrayFits, AreLimited, AreLimitedWhere, IsNoted, IsAnswered, IsEnd, AreOfKind, is_item_write, bounds_of, bounds_over, changed_at, lies_in, put_over, stored_over, is_fetch, array_overlays_know, array_fits_stay, array_adds_sum, array_writes_cover};
+ghost use Rattle.overlays.specs.ArrayOverlays.{laid_array, ArrayFits, AreLimited, AreLimitedWhere, IsNoted, IsAnswered, IsEnd, AreOfKind, is_item_write, bounds_of, bounds_over, changed_at, lies_in, put_over, stored_over, is_fetch, array_overlays_know, array_fits_stay, array_adds_sum, array_writes_cover, array_always_done};
 
 use crate::array_items::{drop_outside, put_all};
 use crate::bounds::Bounds;
@@ -131,6 +131,8 @@ impl Layered for Array {
     ghost adds_sum = { array_adds_sum };
 
     ghost writes_cover = { array_writes_cover };
+
+    ghost always_done = { array_always_done };
 }
 
 impl ArrayOverlay {

@@ -4,7 +4,7 @@ ghost use Rattle.atomic_types.specs.Operations.{is_read, is_add};
 ghost use Rattle.atomic_types.specs.Objects.{knows, reply_of, content_after};
 ghost use Rattle.overlays.specs.Overlays.{laid_all, AllFit, Covers, IsNotedIn};
 ghost use Rattle.overlays.specs.ArrayOverlays.{AreLimited, AreLimitedWhere, IsAnswered, bounds_of};
-ghost use Rattle.overlays.specs.ContentOverlays.{laid_content, ContentFits, is_something, is_whole, are_alike, IsArray, IsArrayUnder, bounds_given, item_given, content_overlays_know, content_fits_stay, content_adds_sum, content_writes_cover};
+ghost use Rattle.overlays.specs.ContentOverlays.{laid_content, ContentFits, is_something, is_whole, are_alike, IsArray, IsArrayUnder, bounds_given, item_given, content_overlays_know, content_fits_stay, content_adds_sum, content_writes_cover, content_always_done};
 
 use crate::array::{ArrayOverlay, array_bounds};
 use crate::bounds::Bounds;
@@ -157,6 +157,8 @@ impl Layered for Content {
     ghost adds_sum = { content_adds_sum };
 
     ghost writes_cover = { content_writes_cover };
+
+    ghost always_done = { content_always_done };
 }
 
 impl ContentOverlay {

@@ -2,7 +2,7 @@ ghost use Rattle.std.specs.Prelude.{◌≡◌, ℤ, pos, IsTrue, IsFalse, IfOk, 
 ghost use Rattle.atomic_types.specs.Counters.{counter_knows, counter_reply, counter_after};
 ghost use Rattle.atomic_types.specs.Operations.{is_read, is_add};
 ghost use Rattle.overlays.specs.Overlays.{Covers, IsNotedIn};
-ghost use Rattle.overlays.specs.CounterOverlays.{laid_number, NumberFits, with_added, counter_overlays_know, counter_fits_stay, counter_adds_sum, counter_writes_cover};
+ghost use Rattle.overlays.specs.CounterOverlays.{laid_number, NumberFits, with_added, counter_overlays_know, counter_fits_stay, counter_adds_sum, counter_writes_cover, counter_always_done};
 
 use crate::layered::Layered;
 use crate::seen::Seen;
@@ -99,6 +99,8 @@ impl Layered for Counter {
     ghost adds_sum = { counter_adds_sum };
 
     ghost writes_cover = { counter_writes_cover };
+
+    ghost always_done = { counter_always_done };
 }
 
 /// Notes that a number was put or added.

@@ -3,7 +3,7 @@ ghost use Rattle.values.specs.declared.value.Value.TheVariants.{Int};
 ghost use Rattle.atomic_types.specs.declared.operation.Operation.TheVariants.{Add};
 ghost use Rattle.atomic_types.specs.Operations.{Op, is_read, is_add};
 ghost use Rattle.overlays.specs.Overlays.{laid_all, AllFit, MayJoin, shown, Covers};
-ghost use Rattle.overlays.specs.Laws.{OverlaysKnow, FitsStay, AddsSum, WritesCover};
+ghost use Rattle.overlays.specs.Laws.{OverlaysKnow, FitsStay, AddsSum, WritesCover, AlwaysDone};
 
 use crate::seen::Seen;
 use atomic_types::{AtomicType, Op, Reply};
@@ -94,4 +94,6 @@ pub trait Layered: AtomicType {
     ghost adds_sum: { AddsSum Self.after };
 
     ghost writes_cover: { WritesCover Self.knows Self.reply Self.after };
+
+    ghost always_done: { AlwaysDone Self.reply };
 }

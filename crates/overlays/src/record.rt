@@ -6,7 +6,7 @@ ghost use Rattle.values.specs.Words.{same_bytes};
 ghost use Rattle.atomic_types.specs.Records.{record_knows, record_reply, record_after};
 ghost use Rattle.overlays.specs.Overlays.{IsNotedIn};
 ghost use Rattle.overlays.specs.RecordOverlays.{laid_fields, FieldsFit, is_set, noted_field, noted_fields};
-ghost use Rattle.overlays.specs.RecordOverlayLaws.{record_overlays_know, record_fits_stay, record_adds_sum, record_writes_cover};
+ghost use Rattle.overlays.specs.RecordOverlayLaws.{record_overlays_know, record_fits_stay, record_adds_sum, record_writes_cover, record_always_done};
 
 use crate::layered::Layered;
 use crate::seen::Seen;
@@ -113,6 +113,8 @@ impl Layered for Record {
     ghost adds_sum = { record_adds_sum };
 
     ghost writes_cover = { record_writes_cover };
+
+    ghost always_done = { record_always_done };
 }
 
 /// Notes that a field was set. After want of memory the overlay is as it was.

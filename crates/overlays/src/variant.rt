@@ -5,7 +5,7 @@ ghost use Rattle.atomic_types.specs.declared.op.Signal.TheVariants.{WrongTag};
 ghost use Rattle.values.specs.Tags.{VariantContent};
 ghost use Rattle.atomic_types.specs.Variants.{variant_knows, variant_reply, variant_after};
 ghost use Rattle.overlays.specs.Overlays.{IsNotedIn};
-ghost use Rattle.overlays.specs.VariantOverlays.{laid_tag, TagFits, is_change, variant_overlays_know, variant_fits_stay, variant_adds_sum, variant_writes_cover};
+ghost use Rattle.overlays.specs.VariantOverlays.{laid_tag, TagFits, is_change, variant_overlays_know, variant_fits_stay, variant_adds_sum, variant_writes_cover, variant_always_done};
 
 use crate::layered::Layered;
 use crate::seen::Seen;
@@ -105,6 +105,8 @@ impl Layered for Variant {
     ghost adds_sum = { variant_adds_sum };
 
     ghost writes_cover = { variant_writes_cover };
+
+    ghost always_done = { variant_always_done };
 }
 
 /// Notes that a tag and its value were given. After want of memory the overlay is as it was.

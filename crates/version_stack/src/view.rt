@@ -1,5 +1,6 @@
 ghost use Rattle.std.specs.Prelude.{◌≡◌, IsTrue, IfOk};
 ghost use Rattle.atomic_types.specs.Operations.{is_read, is_write};
+ghost use Rattle.overlays.specs.Laws.{is_always_done};
 
 use atomic_types::{Class, Op, Reply};
 use overlays::{Layered, content_of, read_through};
@@ -55,16 +56,19 @@ impl<'a, T: Layered> View<'a, T> {
         read_through(self.content, self.overlays, op)
     }
 
-    /// The reply to an operation of whatever class, with nothing changed. No content is put together for a read or a write. Fails only for
-    /// want of memory.
+    /// The reply to an operation of whatever class, with nothing changed. No content is put together for it. Fails only for want of memory.
     pub fn reply(&self, op: &Op) -> Result<Reply, AllocError>
         requires { IsTrue (T.knows self.now op.now) }
         ensures { IfOk result (λ r. r ≡ T.reply self.now op.now) }
     {
+        // Mostly the reply to a write shows nothing of the content.
+        if is_always_done(op) {
+            return Ok(Reply::Done);
+        }
         match op.class() {
             Class::Read => self.read(op),
             Class::Write => self.write_aside(op),
-            Class::Add => self.content()?.apply(op),
+            Class::Add => unreachable!(),
         }
     }
 
@@ -84,4 +88,11 @@ impl<'a, T: Layered> View<'a, T> {
     {
         content_of(self.content, self.overlays)
     }
+}
+
+// Whether the operation is answered done, whatever the content is.
+fn is_always_done(op: &Op) -> bool
+    ensures { result ≡ is_always_done op.now }
+{
+    matches!(op, Op::Set(..) | Op::Change(..) | Op::Put(_) | Op::Add(_))
 }
