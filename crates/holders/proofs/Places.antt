@@ -1,10 +1,10 @@
 -- The place of a name among rows in the order of their names: how it is found, and what is done there.
-use Rattle.std.proofs.Common.{◌≡◌, ℕ, zero, suc, ◌+◌, ◌-◌, ◌<◌, ◌≤◌, Bool, true, false, cond, ◌||◌, List, [], ◌∷◌, length, get_or, set, refl, sym, ap, ◌∙◌, subst, arith}
+use Rattle.std.proofs.Common.{◌≡◌, ℕ, zero, suc, ◌+◌, ◌<◌, ◌≤◌, Bool, true, false, cond, ◌||◌, List, [], ◌∷◌, ◌++◌, length, get_or, set, refl, sym, ap, ◌∙◌, subst, arith}
 use Rattle.std.specs.Prelude.{Option, Some, None, Result, Ok, Err, IfOk, IfErr, OnOk, OnErr, is_some}
 use Rattle.std.proofs.lemmas.Bool.{true≢false}
+use Rattle.std.proofs.lemmas.List.{length_push}
 use Rattle.std.proofs.lemmas.List.Sorted.{searchable_from_sorted}
-use Rattle.std.proofs.lemmas.Option.{get_or_from_slice_get, slice_get_within}
-use Rattle.std.specs.List.{insert, remove, slice_get}
+use Rattle.std.specs.List.{insert, remove}
 use Rattle.std.specs.List.Sorted.{IsStrictlySortedBy, IsSearchInRange, IsBinarySearchResult}
 use Rattle.std.specs.Map.{keys_of, lookup, remove_entry, set_value}
 use Rattle.std.specs.BTreeMap.{insert_entry, is_at}
@@ -60,7 +60,7 @@ gap_from (r ∷ rs) a (suc i) le before after = (
   gap_from rs a i (omega arith) (λ k d lt. before (suc k) d (omega arith)) (λ k d ge lt. after (suc k) d (omega arith) (omega arith)),
 )
 
-pub searched : {R : Type 0} (rs : List (Name × R)) (a : Name) → IsStrictlySortedBy name_cmp (keys_of rs) → (r : Result ℕ ℕ) → IsSearchInRange r (length rs)
+searched : {R : Type 0} (rs : List (Name × R)) (a : Name) → IsStrictlySortedBy name_cmp (keys_of rs) → (r : Result ℕ ℕ) → IsSearchInRange r (length rs)
     → IsBinarySearchResult (λ y. name_cmp y.0 a) rs r
     → record { found : IfOk r (IsRowAt rs a); absent : IfErr r (IsGapAt rs a); within : IsSearchInRange r (length rs) }
 searched rs a s (Ok i) within same = record { found = row_from rs a i s within same; absent = tt; within = within }
@@ -73,18 +73,62 @@ searched {R} rs a s (Err i) within parted =
       within = within;
     }
 
-is_equal : (o : Ordering) → is_eq o ≡ true → o ≡ Equal
-is_equal Less e = absurd (true≢false (sym e))
-is_equal Equal e = refl
-is_equal Greater e = absurd (true≢false (sym e))
+-- ---- the last row is looked at first
 
--- the last row is looked at first
-pub last_row : {R : Type 0} (rs : List (Name × R)) (a : Name) (r : Name × R) → IsStrictlySortedBy name_cmp (keys_of rs)
-    → slice_get rs (length rs - 1) ≡ Some r → same_name r.0 a ≡ true → IsRowAt rs a (length rs - 1)
-last_row {R} rs a r s last same =
-    row_from rs a (length rs - 1) s (slice_get_within rs (length rs - 1) r last)
-    (λ d. subst (λ (t : Name × R). name_cmp t.0 a ≡ Equal) (sym (get_or_from_slice_get rs (length rs - 1) r d last))
-    (turned r.0 a Equal (is_equal (name_cmp a r.0) (at_name a r.0 ∙ same))))
+behind_last : {R : Type 0} (n : Name) (rs : List (Name × R)) (r : Name × R) → StandBehind n (keys_of (rs ++ r ∷ [])) → name_cmp n r.0 ≡ Less
+behind_last n [] r h = h.0
+behind_last n (q ∷ rs) r h = behind_last n rs r h.1
+
+behind_others : {R : Type 0} (n : Name) (rs : List (Name × R)) (r : Name × R) → StandBehind n (keys_of (rs ++ r ∷ [])) → StandBehind n (keys_of rs)
+behind_others n [] r h = tt
+behind_others n (q ∷ rs) r h = (h.0, behind_others n rs r h.1)
+
+sorted_before : {R : Type 0} (rs : List (Name × R)) (r : Name × R) → IsStrictlySortedBy name_cmp (keys_of (rs ++ r ∷ []))
+    → IsStrictlySortedBy name_cmp (keys_of rs)
+unfolding IsStrictlySortedBy
+sorted_before [] r s = tt
+sorted_before (q ∷ rs) r s = (behind_others q.0 rs r s.0, sorted_before rs r s.1)
+
+-- its name is the one that is looked for
+pub last_row : {R : Type 0} (all rs : List (Name × R)) (a : Name) (r : Name × R) → all ≡ rs ++ r ∷ [] → IsStrictlySortedBy name_cmp (keys_of all)
+    → name_cmp r.0 a ≡ Equal → IsRowAt all a (length rs)
+unfolding IsStrictlySortedBy
+last_row {R} all rs a r e s same = rw e (by_others rs (rw e at s)) where
+  by_others : (rs : List (Name × R)) → IsStrictlySortedBy name_cmp (keys_of (rs ++ r ∷ [])) → IsRowAt (rs ++ r ∷ []) a (length rs)
+  by_others [] s = turned a r.0 Equal same
+  by_others (q ∷ rs) s =
+      let later = by_others rs s.1 in (greater a q.0 (behind q.0 a (keys_of (rs ++ r ∷ [])) s.0 (has_at (rs ++ r ∷ []) a (length rs) later)), later)
+
+-- its name is less
+pub gap_behind : {R : Type 0} (all rs : List (Name × R)) (a : Name) (r : Name × R) → all ≡ rs ++ r ∷ [] → IsStrictlySortedBy name_cmp (keys_of all)
+    → name_cmp r.0 a ≡ Less → IsGapAt all a (length all)
+unfolding IsStrictlySortedBy
+gap_behind {R} all rs a r e s less = rw e (by_others rs (rw e at s)) where
+  by_others : (rs : List (Name × R)) → IsStrictlySortedBy name_cmp (keys_of (rs ++ r ∷ [])) → IsGapAt (rs ++ r ∷ []) a (length (rs ++ r ∷ []))
+  by_others [] s = (greater a r.0 less, tt)
+  by_others (q ∷ rs) s = (greater a q.0 (name_cmp-total.trans q.0 r.0 a (behind_last q.0 rs r s.0) less), by_others rs s.1)
+
+row_before : {R : Type 0} (rs : List (Name × R)) (a : Name) (r : Name × R) (i : ℕ) → IsRowAt rs a i → IsRowAt (rs ++ r ∷ []) a i
+row_before [] a r i here = absurd here
+row_before (q ∷ rs) a r zero here = here
+row_before (q ∷ rs) a r (suc i) here = (here.0, row_before rs a r i here.1)
+
+gap_before : {R : Type 0} (rs : List (Name × R)) (a : Name) (r : Name × R) (i : ℕ) → name_cmp a r.0 ≡ Less → IsGapAt rs a i → IsGapAt (rs ++ r ∷ []) a i
+gap_before [] a r zero less here = less
+gap_before [] a r (suc i) less here = absurd here
+gap_before (q ∷ rs) a r zero less here = here
+gap_before (q ∷ rs) a r (suc i) less here = (here.0, gap_before rs a r i less here.1)
+
+-- its name is greater: a search among the others finds the place among all
+pub searched_before : {R : Type 0} (all rs : List (Name × R)) (a : Name) (r : Name × R) → all ≡ rs ++ r ∷ [] → IsStrictlySortedBy name_cmp (keys_of all)
+    → name_cmp r.0 a ≡ Greater → (o : Result ℕ ℕ) → IsSearchInRange o (length rs) → IsBinarySearchResult (λ y. name_cmp y.0 a) rs o
+    → record { found : IfOk o (IsRowAt all a); absent : IfErr o (IsGapAt all a); within : IsSearchInRange o (length all) }
+searched_before {R} all rs a r e s more o within parted =
+    rw e (by_result o (searched rs a (sorted_before rs r (rw e at s)) o within parted)) where
+      by_result : (o : Result ℕ ℕ) → record { found : IfOk o (IsRowAt rs a); absent : IfErr o (IsGapAt rs a); within : IsSearchInRange o (length rs) }
+          → record { found : IfOk o (IsRowAt (rs ++ r ∷ []) a); absent : IfErr o (IsGapAt (rs ++ r ∷ []) a); within : IsSearchInRange o (length (rs ++ r ∷ [])) }
+      by_result (Ok i) h = record { found = row_before rs a r i h.found; absent = tt; within = omega (arith, h.within, length_push rs r) }
+      by_result (Err i) h = record { found = tt; absent = gap_before rs a r i (turned a r.0 Greater more) h.absent; within = omega (arith, h.within, length_push rs r) }
 
 pub start_at_row : {R : Type 0} (rs : List (Name × R)) (a : Name) (i : ℕ) → IsRowAt rs a i → IsStartAt rs a i
 start_at_row [] a i here = tt

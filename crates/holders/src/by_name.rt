@@ -1,5 +1,5 @@
-//! Rows in a vector, in the order of their names, whatever a row is: mostly there are one or two. A name's row is looked for at the end first, and then by
-//! a binary search.
+//! Rows in a vector, in the order of their names, whatever a row is: mostly there are one or two. A name is compared with the
+//! last row's first, and a lesser one is looked for among the others by a binary search.
 //!
 //! `held_objects` keeps its rows by this too.
 ghost use Rattle.std.specs.Prelude.{◌≡◌, ◌≤◌, ◌&&◌, not, length, drop, filter, is_some, IfOk, IfErr, OnOk, OnErr, if◌then◌else◌};
@@ -13,6 +13,7 @@ ghost use Rattle.holders.specs.Places.{IsRowAt, IsGapAt, IsStartAt};
 
 use action_names::Name;
 use std::alloc::AllocError;
+use std::cmp::Ordering;
 
 /// The row of the name.
 pub fn find<'a, R>(rows: &'a [(Name, R)], name: &Name) -> Option<&'a R>
@@ -131,17 +132,20 @@ fn start<R>(rows: &[(Name, R)], name: &Name) -> usize
     }
 }
 
-/// Where the row of the name stands, or would stand. The last row is looked at first: mostly the holder that acts is a descendant of the others.
+/// Where the row of the name stands, or would stand. The last row is looked at first: mostly the holder that acts is a descendant of the others. One
+/// comparison tells whether the name has this row, has its place behind it, or is to be searched for among the others.
 pub fn place<R>(rows: &[(Name, R)], name: &Name) -> Result<usize, usize>
     requires { IsStrictlySortedBy name_cmp (keys_of rows.now) }
     ensures found { IfOk result (IsRowAt rows.now name.now) }
     ensures absent { IfErr result (IsGapAt rows.now name.now) }
     ensures within { IsSearchInRange result (length rows.now) }
 {
-    if let Some((known, _)) = rows.last() {
-        if known == name {
-            return Ok(rows.len() - 1);
-        }
+    let Some(((last, _), before)) = rows.split_last() else {
+        return Err(0);
+    };
+    match last.cmp(name) {
+        Ordering::Less => Err(rows.len()),
+        Ordering::Equal => Ok(before.len()),
+        Ordering::Greater => before.binary_search_by(|(known, _)| known.cmp(name)),
     }
-    rows.binary_search_by(|(known, _)| known.cmp(name))
 }
