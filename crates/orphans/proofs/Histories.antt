@@ -14,7 +14,7 @@ use Rattle.orphans.specs.declared.lists.Lists.{Lists}
 use Rattle.orphans.specs.declared.log.Log.{Log}
 use Rattle.orphans.specs.declared.sent.Sent.{Sent}
 use Rattle.orphans.proofs.Learning.{learnt-append}
-use Rattle.orphans.proofs.Sendings.{more_aborts, more_counts}
+use Rattle.orphans.proofs.Sendings.{more_aborts, more_counts, none_more}
 
 -- logs that show the same are those of the same history
 pub kept : (before : Lists) (aborts : Log) (counts : Counts) (sent : Sent) → known_names aborts ≡ known_names before.aborts
@@ -69,6 +69,20 @@ learnt_event before aborts counts sent lesson names raises came here c are stays
           (min ((came_of before.sent h present).aborts + length came_by.aborts) most) (sent_here (λ m. length m.counts) g h present here) most (are.sent_counts h present)
           ∙ sym (ap (λ b. min (cond b 0 (cond (is_of came_by.sender came_by.life h present) (length came_by.counts) 0 + sent_here (λ m. length m.counts) g h present here)) most) stays);
     }
+
+-- so too where nothing came and nothing was counted
+pub learnt_uncounted : (before : Lists) (aborts : Log) (counts : Counts) (lesson : Lesson)
+    → known_names aborts ≡ learnt (names_of lesson.aborts.items) (known_names before.aborts)
+    → known_counts counts ≡ raised lesson.counts.items (known_counts before.counts)
+    → lesson.sent_aborts ≡ 0 → lesson.sent_counts ≡ 0
+    → (here : List LocalEvent) (c : LocalEvent) → AreLists here before → step_crashes c.event.step before.guardian ≡ false
+    → IsLesson c.carried.sender c.carried.life c.carried.aborts c.carried.counts c.carried.outcomes lesson
+    → AreLists (c ∷ here) (record before { aborts = aborts; counts = counts })
+learnt_uncounted before aborts counts lesson names raises no_aborts no_counts here c are stays is =
+    learnt_event before aborts counts before.sent lesson names raises
+    (λ h present. none_more (is_of lesson.sender lesson.life h present) (came_of before.sent h present) _ _ most (are.sent_aborts h present) (are.sent_counts h present)
+    ∙ (λ i. counted lesson.sender lesson.life (sym no_aborts i) (sym no_counts i) (came_of before.sent) h present))
+    here c are stays is
 
 -- after a crash, in which nothing else is left than how many there were
 pub just_crashed : (lists : Lists) → known_names lists.aborts ≡ [] → known_counts lists.counts ≡ []

@@ -22,6 +22,15 @@ pub more_counts : (b : Bool) (old : Came) (n m s bound : ℕ) → old.counts ≡
 more_counts true old n m s bound is = omega (arith, is)
 more_counts false old n m s bound is = omega (arith, is)
 
+-- where none came, as many are counted as were
+pub none_more : (b : Bool) (old : Came) (s t bound : ℕ) → old.aborts ≡ min s bound → old.counts ≡ min t bound
+    → old ≡ cond b (record { aborts = min (old.aborts + 0) bound; counts = min (old.counts + 0) bound }) old
+none_more true old s t bound aborts counts =
+    let same_aborts : old.aborts ≡ min (old.aborts + 0) bound = omega (arith, aborts) in
+    let same_counts : old.counts ≡ min (old.counts + 0) bound = omega (arith, counts) in
+    λ i. record { aborts = same_aborts i; counts = same_counts i }
+none_more false old s t bound aborts counts = refl
+
 -- more is counted at the sender's place alone
 and_true : (a b : Bool) → (a && b) ≡ true → (a ≡ true) × (b ≡ true)
 and_true true b h = (refl, h)

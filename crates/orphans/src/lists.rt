@@ -85,6 +85,10 @@ impl Lists {
     {
         self.aborts.learn(&mut lesson.aborts);
         self.counts.learn(&mut lesson.counts);
+        // Where nothing came, no sender is looked up.
+        if lesson.sent_aborts == 0 && lesson.sent_counts == 0 {
+            return;
+        }
         self.sent.count(
             lesson.sender,
             lesson.life,
@@ -141,6 +145,10 @@ impl Lists {
         ensures { IfOk result (λ names. (there here : List LocalEvent) → AreLists there self.now → AreLists here to.now
             → names ≡ unsent_aborts (guardian_of self.now) (guardian_of to.now) there here) }
     {
+        // Where there is nothing to send, it is not looked up what came.
+        if self.aborts.len() == 0 {
+            return Ok(Names::from_vec(self.aborts.newest(0)?));
+        }
         let had = to.sent.came(self.guardian, self.crashes).aborts;
         let unsent = (self.aborts.len() as u64).saturating_sub(had);
         Ok(Names::from_vec(self.aborts.newest(unsent as usize)?))
@@ -151,6 +159,9 @@ impl Lists {
         ensures { IfOk result (λ counts. (there here : List LocalEvent) → AreLists there self.now → AreLists here to.now
             → counts.items ≡ unsent_counts (guardian_of self.now) (guardian_of to.now) there here) }
     {
+        if self.counts.len() == 0 {
+            return self.counts.newest(0);
+        }
         let had = to.sent.came(self.guardian, self.crashes).counts;
         let unsent = (self.counts.len() as u64).saturating_sub(had);
         self.counts.newest(unsent as usize)

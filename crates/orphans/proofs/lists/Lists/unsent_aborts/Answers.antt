@@ -15,6 +15,6 @@ returns c = λ there here from to.
     let had : c.came-had.result.aborts ≡ min sent most =
     ap (λ x. x.aborts) c.came-had.ensures ∙ to.sent_aborts own.guardian own.crashes ∙ ap (λ n. min (sent_here (λ m. length m.aborts) g own.guardian n here) most) from.crashes in
     let short : length (known_names own.aborts) ≤ most = omega (arith, length-reverse own.aborts.names.items, own.aborts.names.ok, own.aborts.names.small) in
-    c.from_vec.ensures
-    ∙ c.in_ok-newest.ensures
-    ∙ unsent (known_names own.aborts) (aborts_here own.guardian there) sent c.came-had.result.aborts _ most from.aborts had short (omega (arith, c.saturating_sub-unsent.ensures, c.len.ensures))
+    c.from_vec-2.ensures
+    ∙ c.in_ok-newest-2.ensures
+    ∙ unsent (known_names own.aborts) (aborts_here own.guardian there) sent c.came-had.result.aborts _ most from.aborts had short (omega (arith, c.saturating_sub-unsent.ensures, c.len-2.ensures))
