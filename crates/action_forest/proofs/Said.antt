@@ -2,7 +2,6 @@
 use Rattle.std.proofs.Common.{Bool, List, [], None, Option, Some, ap, arith, cond, false, inl, inr, is_some, length, option_map, refl, sym, true, ℕ, ◌==◌, ◌∙◌, ◌∷◌, ◌≡◌, ◌≤◌}
 use Rattle.std.specs.Prelude.{slice_get}
 use Rattle.std.specs.Option.{option_and_then}
-use Rattle.std.specs.Ordering.{nat_cmp}
 use Rattle.std.specs.Cmp.{unsigned_tied}
 use Rattle.std.specs.FinMap as tree
 use Rattle.std.proofs.lemmas.Bool.{cases_eq, eq-eqb, false≢true, ne_eqb}
@@ -51,13 +50,6 @@ pub entries_read : (opening : Opening) (registry : List RegistryEvent) (forest :
 entries_read opening registry forest h a deps same =
     entries_are opening (λ g. dependency_there a g registry) deps (λ g low high. same g ∙ h.depends a g)
     (λ g some. h.inside a g (ap is_some (sym (same g ∙ h.depends a g)) ∙ some))
-
--- what depends on nothing has no entries
-pub entries_nowhere : (opening : Opening) (registry : List RegistryEvent) (forest : Trees) → IsForest opening registry forest → (a : Name)
-    → ((g : ℕ) → depends_at forest a g ≡ None) → entries_of opening (λ g. dependency_there a g registry) ≡ []
-entries_nowhere opening registry forest h a none =
-    sym (entries_read opening registry forest h a (tree.from_sorted []) (λ g. tree.get-from_sorted nat_cmp [] g tt ∙ sym (none g)))
-    ∙ tree.entries-from_sorted nat_cmp [] tt
 
 -- what an action begins with of what its parent had
 inherited_read : (opening : Opening) (registry : List RegistryEvent) (forest : Trees) → IsForest opening registry forest → (b : Name) (g : ℕ)

@@ -219,28 +219,18 @@ impl Forest {
         Some(&self.node(path)?.depends)
     }
 
-    /// On which guardians the action depends, rising, each with the least incarnation.
-    pub fn dependencies(&self, path: &[u32]) -> Result<Vec<(u32, u64)>, AllocError>
-        ensures { AtEach (trees self.now) (λ opening registry. IfOk result (λ entries. entries.items ≡ entries_of opening (λ h. dependency_there path.now h registry))) }
+    /// On which guardians the action depends, with the least incarnation of each, in a copy.
+    pub fn dependencies(&self, path: &[u32]) -> Result<Deps, AllocError>
+        ensures { AtEach (trees self.now) (λ opening registry. IfOk result (λ depends. map.entries depends ≡ entries_of opening (λ h. dependency_there path.now h registry))) }
     {
-        let alloc = *self.nodes.allocator();
-        match self.node(path) {
-            Some(node) => Vec::from_slice(alloc, node.depends.entries()),
-            None => Ok(Vec::new(alloc)),
-        }
+        self.depends_of(path)
     }
 
     /// On which guardians an action depends that begins at this home in this life of it.
-    pub fn new_dependencies(
-        &self,
-        action: &Name,
-        home: u32,
-        life: u64,
-    ) -> Result<Vec<(u32, u64)>, AllocError>
-        ensures { AtEach (trees self.now) (λ opening registry. IfOk result (λ entries. entries.items ≡ first_entries opening registry home life action.now)) }
+    pub fn new_dependencies(&self, action: &Name, home: u32, life: u64) -> Result<Deps, AllocError>
+        ensures { AtEach (trees self.now) (λ opening registry. IfOk result (λ depends. map.entries depends ≡ first_entries opening registry home life action.now)) }
     {
-        let depends = self.first_depends(action, home, life)?;
-        Vec::from_slice(*self.nodes.allocator(), depends.entries())
+        self.first_depends(action, home, life)
     }
 
     /// A top action closes at the step with this stamp.

@@ -1,9 +1,8 @@
 -- What the parts of a memory say of an event, as the history says it.
 use Rattle.std.proofs.Common.{Bool, List, Option, [], ap, arith, drop, false, get_or, length, not, refl, sym, true, ℕ, ◌&&◌, ◌+◌, ◌<◌, ◌∙◌, ◌∷◌, ◌≡◌, ◌≤◌, ◌||◌}
-use Rattle.std.specs.Prelude.{Vec}
-use Rattle.std.specs.declared.alloc.Global.{Global}
 use Rattle.std.proofs.lemmas.Bool.{and_parts, false≢true, true≢false}
 use Rattle.std.proofs.lemmas.List.{at_drop_more}
+use Rattle.action_names.specs.Deps.{Deps}
 use Rattle.action_names.specs.Names.{Name, parent_of}
 use Rattle.run_model.specs.declared.history.Event.{Event}
 use Rattle.run_model.specs.LocalReadings.{LocalEvent, told_committed_here}
@@ -58,7 +57,7 @@ next_is (n ∷ []) here low = refl
 next_is (m ∷ n ∷ a) here low = refl
 
 module _ {m : InMemory} {g : GuardianState} (s : IsSound m g) where
-  pub actions_are : (e : Event) (message : Message) (dependencies : List (Name × Vec (ℕ × ℕ) Global)) (answer : Bool) → dependencies ≡ message.dependencies.items
+  pub actions_are : (e : Event) (message : Message) (dependencies : List (Name × Deps)) (answer : Bool) → dependencies ≡ message.dependencies.items
       → ((h : ℕ) (here : List LocalEvent) (c : LocalEvent) → IsRoster h here (table m.roster) → c.event ≡ e → c.carried.dependencies ≡ came_in dependencies
       → answer ≡ accepts_actions h c here)
       → answer ≡ accepts_actions g.number (local_event e message) g.past

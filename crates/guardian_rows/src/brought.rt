@@ -1,7 +1,7 @@
 //! What the messages of the next event bring, as rows say it.
 use layer_contracts::Message;
 use rows::{RowFault, Words};
-use run_model::{Name, NameFault, Names};
+use run_model::{Deps, Name, NameFault, Names};
 use std::alloc::{AllocError, Global};
 
 /// What the messages of an event bring, and which actions the event begins.
@@ -12,7 +12,7 @@ pub(crate) struct Brought {
     life: u64,
     aborts: Names,
     counts: Vec<(u32, u64)>,
-    dependencies: Vec<(Name, Vec<(u32, u64)>)>,
+    dependencies: Vec<(Name, Deps)>,
     outcomes: Vec<(Name, bool)>,
     pub(crate) begun: Names,
 }
@@ -43,12 +43,11 @@ impl Brought {
         })
     }
 
-    fn copy_dependencies(&self) -> Result<Vec<(Name, Vec<(u32, u64)>)>, AllocError> {
+    fn copy_dependencies(&self) -> Result<Vec<(Name, Deps)>, AllocError> {
         let mut copies = Vec::new(self.alloc);
-        for (action, entries) in &self.dependencies {
-            let entries = copy_counts(self.alloc, entries.as_slice())?;
+        for (action, depends) in &self.dependencies {
             copies
-                .push((action.copy()?, entries))
+                .push((action.copy()?, depends.copy()?))
                 .map_err(AllocError::from)?;
         }
         Ok(copies)
@@ -87,10 +86,10 @@ impl Brought {
     /// `depends NAME GUARDIAN:INCARNATION ..`: on which guardians an action depends.
     pub(crate) fn add_dependencies(&mut self, mut words: Words<'_>) -> Result<(), RowFault> {
         let action = name(self.alloc, words.word()?)?;
-        let entries = counts(self.alloc, words)?;
+        let depends = depends(self.alloc, words)?;
         Ok(
             self.dependencies
-                .push((action, entries))
+                .push((action, depends))
                 .map_err(AllocError::from)?,
         )
     }
@@ -145,6 +144,16 @@ fn counts(alloc: Global, words: Words<'_>) -> Result<Vec<(u32, u64)>, RowFault> 
         counts.push(count(word)?).map_err(AllocError::from)?;
     }
     Ok(counts)
+}
+
+/// Dependencies, words `GUARDIAN:INCARNATION`.
+fn depends(alloc: Global, words: Words<'_>) -> Result<Deps, RowFault> {
+    let mut depends = Deps::new(alloc);
+    for word in words.rest().split_whitespace() {
+        let (guardian, incarnation) = count(word)?;
+        depends.lower(guardian, incarnation)?;
+    }
+    Ok(depends)
 }
 
 fn count(word: &str) -> Result<(u32, u64), RowFault> {

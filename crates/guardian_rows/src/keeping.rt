@@ -12,7 +12,7 @@ use crate::alone::Unkept;
 use crate::brought::Brought;
 use layer_contracts::{Fault, Guardian, Judging, Message};
 use lent_steps::{LockedFault, operate};
-use run_model::{Answer, Event, Name, Names, ObjectId, Op, Step};
+use run_model::{Answer, Deps, Event, Name, Names, ObjectId, Op, Step};
 use std::alloc::{AllocError, Global};
 
 impl From<Fault> for Unkept {
@@ -147,14 +147,14 @@ fn vote_of<G: Guardian>(guardian: &G, top: &Name, message: &Message) -> Answer
 }
 
 /// The incarnation of the guardian on which the action depends, by these lists.
-fn least_of(lists: &[(Name, Vec<(u32, u64)>)], action: &Name, guardian: u32) -> Option<u64>
+fn least_of(lists: &[(Name, Deps)], action: &Name, guardian: u32) -> Option<u64>
     ensures { result ≡ least_of (sent_of lists.now) action.now guardian }
 {
     match lists {
         [] => None,
-        [(name, entries), rest @ ..] => {
+        [(name, depends), rest @ ..] => {
             if name == action {
-                beside(entries.as_slice(), guardian)
+                beside(depends.entries(), guardian)
             } else {
                 least_of(rest, action, guardian)
             }

@@ -1,16 +1,17 @@
 -- What a message is to contracts, and which events may fail at a guardian once there is room for them.
-use Rattle.std.specs.declared.alloc.Global.{Global}
-use Rattle.std.specs.Prelude.{ℕ, Bool, true, false, ◌==◌, List, [], ◌∷◌, Vec}
+use Rattle.std.specs.FinMap as map
+use Rattle.std.specs.Prelude.{ℕ, Bool, true, false, ◌==◌, List, [], ◌∷◌}
+use Rattle.action_names.specs.Deps.{Deps}
 use Rattle.action_names.specs.Names.{Name}
 use Rattle.run_model.specs.declared.step.Step.{Step}
 use Rattle.run_model.specs.declared.step.Step.TheVariants.{Decide, Op, Prepare, Recover, Tell}
 use Rattle.run_model.specs.LocalReadings.{Carried}
 use Rattle.layer_contracts.specs.declared.message.Message.{Message}
 
--- actions with their dependencies, as lists
-abbrev pub sent_of : List (Name × Vec (ℕ × ℕ) Global) → List (Name × List (ℕ × ℕ))
+-- actions with the entries of their dependencies
+abbrev pub sent_of : List (Name × Deps) → List (Name × List (ℕ × ℕ))
 sent_of [] = []
-sent_of (d ∷ ds) = (d.0, d.1.items) ∷ sent_of ds
+sent_of (d ∷ ds) = (d.0, map.entries d.1) ∷ sent_of ds
 
 abbrev pub carried_of : Message → Carried
 carried_of m = record {

@@ -1,11 +1,11 @@
 //! Events with the dependencies that their messages carried, as rows spell them.
-use crate::reading::{dependency, name, names_in};
+use crate::reading::{add_dependency, name, names_in};
 use rows::RowFault;
-use run_model::{Answer, Event, Name, Reply, Step};
+use run_model::{Answer, Deps, Event, Name, Reply, Step};
 use std::alloc::Global;
 
 /// Actions with their dependencies.
-pub(crate) type Dependencies = Vec<(Name, Vec<(u32, u64)>)>;
+pub(crate) type Dependencies = Vec<(Name, Deps)>;
 
 /// The event that is left in a row, `STEP | ANSWER`, and what its messages carried, where ` | CARRIED ..` follows.
 pub(crate) fn read_event(alloc: Global, text: &str) -> Result<(Event, Dependencies), RowFault> {
@@ -48,14 +48,14 @@ fn read_carried(alloc: Global, carried: &str) -> Result<Dependencies, RowFault> 
 }
 
 /// An action with its dependencies, `NAME,GUARDIAN:INCARNATION,..`.
-fn read_dependencies(alloc: Global, text: &str) -> Result<(Name, Vec<(u32, u64)>), RowFault> {
+fn read_dependencies(alloc: Global, text: &str) -> Result<(Name, Deps), RowFault> {
     let (action, rest) = text.split_once(',').ok_or(RowFault::Unread)?;
     let action = name(alloc, action)?;
-    let mut entries = Vec::new(alloc);
+    let mut depends = Deps::new(alloc);
     for word in rest.split(',') {
-        push(&mut entries, dependency(word)?)?;
+        add_dependency(&mut depends, word)?;
     }
-    Ok((action, entries))
+    Ok((action, depends))
 }
 
 fn push<T: Drop>(list: &mut Vec<T>, item: T) -> Result<(), RowFault> {

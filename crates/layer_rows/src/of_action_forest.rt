@@ -77,8 +77,8 @@ impl Growing {
     }
 
     fn dependencies(&self, path: &[u32], answer: &mut String) -> Result<(), AllocError> {
-        let entries = self.forest.dependencies(path)?;
-        write!(answer, "{:?}", entries.as_slice())
+        let depends = self.forest.dependencies(path)?;
+        write!(answer, "{:?}", depends.entries())
     }
 
     fn depends(&self, path: &[u32], answer: &mut String) -> Result<(), AllocError> {
@@ -186,8 +186,8 @@ fn write_new_dependencies(
     life: u64,
     answer: &mut String,
 ) -> Result<(), AllocError> {
-    let entries = forest.new_dependencies(action, home, life)?;
-    write!(answer, "{:?}", entries.as_slice())
+    let depends = forest.new_dependencies(action, home, life)?;
+    write!(answer, "{:?}", depends.entries())
 }
 
 fn write_outcomes(

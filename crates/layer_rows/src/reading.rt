@@ -50,17 +50,16 @@ fn unread(fault: NameFault) -> RowFault {
 pub(crate) fn deps(alloc: Global, words: Words<'_>) -> Result<Deps, RowFault> {
     let mut deps = Deps::new(alloc);
     for word in words.rest().split_whitespace() {
-        let (guardian, least) = dependency(word)?;
-        deps.lower(guardian, least)?;
+        add_dependency(&mut deps, word)?;
     }
     Ok(deps)
 }
 
-/// A word `GUARDIAN:INCARNATION`.
-pub(crate) fn dependency(word: &str) -> Result<(u32, u64), RowFault> {
+/// Adds the dependency that a word `GUARDIAN:INCARNATION` says.
+pub(crate) fn add_dependency(deps: &mut Deps, word: &str) -> Result<(), RowFault> {
     let (guardian, incarnation) = word.split_once(':').ok_or(RowFault::Unread)?;
     let least = incarnation.parse().map_err(|_| RowFault::Unread)?;
-    Ok((small_number(guardian)?, least))
+    Ok(deps.lower(small_number(guardian)?, least)?)
 }
 
 /// The names that are left in a row.

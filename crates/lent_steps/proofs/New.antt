@@ -1,7 +1,8 @@
 -- What is said of new actions.
-use Rattle.std.proofs.Common.{Vec, suc, arith, append_assoc, drop, get_or, length, ◌++◌, ◌+◌, ◌<◌, Bool, List, [], ap, ap₂, false, filter, map, refl, sym, true, ℕ, ◌==◌, ◌∙◌, ◌∷◌, ◌≡◌}
-use Rattle.std.specs.declared.alloc.Global.{Global}
+use Rattle.std.proofs.Common.{suc, arith, append_assoc, drop, get_or, length, ◌++◌, ◌+◌, ◌<◌, Bool, List, [], ap, ap₂, false, filter, map, refl, sym, true, ℕ, ◌==◌, ◌∙◌, ◌∷◌, ◌≡◌}
+use Rattle.std.specs.FinMap as tree
 use Rattle.std.proofs.Math.Seq.{drop-cons}
+use Rattle.action_names.specs.Deps.{Deps}
 use Rattle.action_names.specs.Names.{Name}
 use Rattle.run_model.specs.declared.history.Event.{Event}
 use Rattle.run_model.specs.Actions.{crashes, names_begun}
@@ -56,14 +57,14 @@ pub begun_is : (f : ForestState) (a b : GuardianState) (e : Event) (home life : 
     → begun_at f home life e.answer ≡ begun_at f (home_lent e.step f.registry) (life_lent e.step f.registry (lent_two a b)) e.answer
 begun_is f a b e home life h l = ap₂ (λ m k. begun_at f m k e.answer) h (life_is f a b e home life h l)
 
-sent_more : (xs : List (Name × Vec (ℕ × ℕ) Global)) (x : Name × Vec (ℕ × ℕ) Global) → sent_of (xs ++ x ∷ []) ≡ sent_of xs ++ (x.0, x.1.items) ∷ []
+sent_more : (xs : List (Name × Deps)) (x : Name × Deps) → sent_of (xs ++ x ∷ []) ≡ sent_of xs ++ (x.0, tree.entries x.1) ∷ []
 sent_more [] x = refl
-sent_more (y ∷ ys) x = ap (λ l. (y.0, y.1.items) ∷ l) (sent_more ys x)
+sent_more (y ∷ ys) x = ap (λ l. (y.0, tree.entries y.1) ∷ l) (sent_more ys x)
 
 -- one name more of a list
-pub new_one_more : (f : ForestState) (home life : ℕ) (names : List Name) (i : ℕ) (name : Name) (old new : List (Name × Vec (ℕ × ℕ) Global))
-    (x : Name × Vec (ℕ × ℕ) Global) (all : List (Name × List (ℕ × ℕ))) → i < length names → name ≡ get_or names i name
-    → x.0 ≡ name → x.1.items ≡ new_entries f home life name → new ≡ old ++ x ∷ []
+pub new_one_more : (f : ForestState) (home life : ℕ) (names : List Name) (i : ℕ) (name : Name) (old new : List (Name × Deps))
+    (x : Name × Deps) (all : List (Name × List (ℕ × ℕ))) → i < length names → name ≡ get_or names i name
+    → x.0 ≡ name → tree.entries x.1 ≡ new_entries f home life name → new ≡ old ++ x ∷ []
     → sent_of old ++ new_from f home life (drop i names) ≡ all → sent_of new ++ new_from f home life (drop (i + 1) names) ≡ all
 new_one_more f home life names i name old new x all lt is p q n h =
     let rest = new_from f home life (drop (i + 1) names) in

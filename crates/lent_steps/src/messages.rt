@@ -11,7 +11,7 @@ ghost use Rattle.lent_steps.specs.Naming.{AreNamed};
 
 use crate::lent::Lent;
 use crate::names::{NamedGuardians, home_of_new, names_begun};
-use action_names::{Name, Names};
+use action_names::{Deps, Name, Names};
 use layer_contracts::{Forest, Guardian, Message};
 use run_model::{Answer, Step};
 use std::alloc::AllocError;
@@ -111,7 +111,7 @@ impl<'a, R: Forest, G: Guardian> Lent<'a, R, G> {
         step: &Step,
         answer: &Answer,
         at: u32,
-    ) -> Result<Vec<(Name, Vec<(u32, u64)>)>, AllocError>
+    ) -> Result<Vec<(Name, Deps)>, AllocError>
         requires { AreNamed (R.stands self.now.forest.now) step.now named }
         ensures { (f : ForestState) (a b : GuardianState) → Lends R.stands G.stands self.now f a b
             → IfOk result (λ sent. sent_of sent.items ≡ dependencies_two f a b (event_of step.now answer.now) at) }
@@ -133,7 +133,7 @@ impl<'a, R: Forest, G: Guardian> Lent<'a, R, G> {
         }
     }
 
-    fn dependencies_of(&self, action: &Name) -> Result<Vec<(Name, Vec<(u32, u64)>)>, AllocError>
+    fn dependencies_of(&self, action: &Name) -> Result<Vec<(Name, Deps)>, AllocError>
         ensures { (f : ForestState) → R.stands self.now.forest.now f → IfOk result (λ sent. sent_of sent.items ≡ (
           action.now,
           entries_of f.opening (λ h. dependency_there action.now h f.registry),
@@ -150,7 +150,7 @@ impl<'a, R: Forest, G: Guardian> Lent<'a, R, G> {
         step: &Step,
         answer: &Answer,
         at: u32,
-    ) -> Result<Vec<(Name, Vec<(u32, u64)>)>, AllocError>
+    ) -> Result<Vec<(Name, Deps)>, AllocError>
         requires { AreNamed (R.stands self.now.forest.now) step.now named }
         ensures { (f : ForestState) (a b : GuardianState) → Lends R.stands G.stands self.now f a b
             → IfOk result (λ sent. sent_of sent.items ≡ new_two f a b (event_of step.now answer.now) at) }
@@ -168,7 +168,7 @@ impl<'a, R: Forest, G: Guardian> Lent<'a, R, G> {
         names: &[Name],
         home: u32,
         life: u64,
-    ) -> Result<Vec<(Name, Vec<(u32, u64)>)>, AllocError>
+    ) -> Result<Vec<(Name, Deps)>, AllocError>
         ensures { (f : ForestState) → R.stands self.now.forest.now f → IfOk result (λ sent. sent_of sent.items ≡ new_from f home life names.now) }
     {
         let mut sent = Vec::new(self.alloc);

@@ -7,7 +7,7 @@ use crate::actions::Actions;
 use crate::change::Change;
 use crate::hearing::Told;
 use layer_contracts::{Forest, Guardian};
-use run_model::{Answer, Name, Opening, Step};
+use run_model::{Answer, Deps, Name, Opening, Step};
 use std::alloc::{AllocError, Global};
 use std::marker::Model;
 use std::mem;
@@ -119,16 +119,11 @@ impl Forest for Registry {
             .dependency(action.components(), guardian)
     }
 
-    fn dependencies(&self, action: &Name) -> Result<Vec<(u32, u64)>, AllocError> {
+    fn dependencies(&self, action: &Name) -> Result<Deps, AllocError> {
         self.actions.forest.dependencies(action.components())
     }
 
-    fn new_dependencies(
-        &self,
-        action: &Name,
-        home: u32,
-        life: u64,
-    ) -> Result<Vec<(u32, u64)>, AllocError> {
+    fn new_dependencies(&self, action: &Name, home: u32, life: u64) -> Result<Deps, AllocError> {
         self.actions.forest.new_dependencies(action, home, life)
     }
 

@@ -6,7 +6,7 @@ pub mod Counted
 pub mod Events
 pub mod Entering
 pub mod Readings
+pub mod Came
 pub mod Planning
 pub mod Above
-pub mod Rising
 pub mod Reopened

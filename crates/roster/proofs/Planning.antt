@@ -1,83 +1,24 @@
--- What came, entry by entry, and rows that are planned one after another.
-use Rattle.std.proofs.Common.{Bool, List, [], None, Option, Some, ap, arith, cond, drop, eq-eqb, eqb-true, false, get_or, is_some, length, ne_eqb, refl, subst, suc, sym, true, zero, ℕ, ◌++◌, ◌+◌, ◌<◌, ◌==◌, ◌^◌, ◌∙◌, ◌∷◌, ◌≡◌, ◌≤◌, ◌↔◌, ◌||◌}
-use Rattle.std.specs.Cmp.{unsigned_tied}
+-- What came under a name, and rows that are planned one after another.
+use Rattle.std.proofs.Common.{Bool, List, [], None, Option, Some, ap, arith, cond, drop, false, get_or, length, refl, subst, suc, sym, true, zero, ℕ, ◌++◌, ◌+◌, ◌<◌, ◌^◌, ◌∙◌, ◌∷◌, ◌≡◌, ◌≤◌, ◌↔◌, ◌||◌}
 use Rattle.std.specs.FinMap as tree
 use Rattle.std.specs.List.{AllByRecursion}
-use Rattle.std.specs.Prelude.{IfSome, IsNone, IsTrue, MatchOption, Vec}
-use Rattle.std.specs.declared.alloc.Global.{Global}
-use Rattle.std.proofs.lemmas.Bool.{eqb-false}
-use Rattle.std.proofs.lemmas.Cmp.{nat_cmp_total}
-use Rattle.action_names.specs.Deps.{Deps, lowered}
+use Rattle.std.specs.Prelude.{IfSome, IsNone, IsTrue, MatchOption}
+use Rattle.action_names.specs.Deps.{Deps}
 use Rattle.action_names.specs.Names.{IsName, Name, has_name, is_top, parent_of, same_name}
 use Rattle.action_names.proofs.Ancestry.{same_refl}
 use Rattle.holders.specs.Held.{HasMoreRoom}
 use Rattle.run_model.specs.LocalReadings.{beside, least_of}
-use Rattle.run_model.specs.Telling.{or_else}
 use Rattle.roster.proofs.Added.{added_last}
+use Rattle.roster.proofs.Came.{beside_get}
 use Rattle.roster.specs.Entries.{CanCount, came_in}
 use Rattle.roster.specs.Steps.{above}
 use Rattle.roster.specs.Tables.{Table, added, all_added, row_at}
 use Rattle.roster.specs.declared.entry.Row.{Row}
 
--- ---- the entries of one action
-
-beside_last : (xs : List (ℕ × ℕ)) (x : ℕ × ℕ) (h : ℕ) → beside (xs ++ x ∷ []) h ≡ or_else (beside xs h) (cond (x.0 == h) (Some x.1) None)
-beside_last [] x h = refl
-beside_last (y ∷ xs) x h = of (y.0 == h) (beside_last xs x h)
-  where
-    of : (b : Bool) → beside (xs ++ x ∷ []) h ≡ or_else (beside xs h) (cond (x.0 == h) (Some x.1) None)
-        → cond b (Some y.1) (beside (xs ++ x ∷ []) h) ≡ or_else (cond b (Some y.1) (beside xs h)) (cond (x.0 == h) (Some x.1) None)
-    of true rest = refl
-    of false rest = rest
-
-eqb_turned : (m n : ℕ) → (m == n) ≡ (n == m)
-eqb_turned m n = of (n == m) refl
-  where
-    of : (b : Bool) → (n == m) ≡ b → (m == n) ≡ b
-    of true same = eq-eqb m n (sym (eqb-true n m same))
-    of false other = ne_eqb m n (λ e. eqb-false n m other (sym e))
-
--- one entry more
-pub beside_more : (xs : List (ℕ × ℕ)) (x : ℕ × ℕ) (before now : Option ℕ) (h : ℕ) → before ≡ beside xs h
-    → now ≡ or_else before (cond (x.0 == h) (Some x.1) None) → now ≡ beside (xs ++ x ∷ []) h
-beside_more xs x before now h is more = more ∙ ap (λ o. or_else o (cond (x.0 == h) (Some x.1) None)) is ∙ sym (beside_last xs x h)
-
--- a guardian that has a dependency already
-pub put_known : (old : Deps) (g n : ℕ) → is_some (tree.get old g) ≡ true → (h : ℕ)
-    → tree.get old h ≡ or_else (tree.get old h) (cond (g == h) (Some n) None)
-put_known old g n known h = of (tree.get old h) refl (g == h) refl
-  where
-    of : (o : Option ℕ) → tree.get old h ≡ o → (b : Bool) → (g == h) ≡ b → o ≡ or_else o (cond b (Some n) None)
-    of (Some m) e b k = refl
-    of None e false k = refl
-    of None e true k = let none : tree.get old g ≡ None = ap (tree.get old) (eqb-true g h k) ∙ e in absurd (let here = ap is_some none in cc)
-
--- and one that has none
-pub put_new : (old new : Deps) (g n : ℕ) → is_some (tree.get old g) ≡ false → new ≡ tree.insert old g (lowered (tree.get old g) n) → (h : ℕ)
-    → tree.get new h ≡ or_else (tree.get old h) (cond (g == h) (Some n) None)
-put_new old new g n unknown lowers h =
-    ap (λ m. tree.get m h) lowers
-    ∙ tree.get-insert nat_cmp_total old g (lowered (tree.get old g) n) h
-    ∙ ap (λ b. cond b (Some (lowered (tree.get old g) n)) (tree.get old h)) (unsigned_tied h g ∙ eqb_turned h g)
-    ∙ ap (λ o. cond (g == h) (Some (lowered o n)) (tree.get old h)) none
-    ∙ of (tree.get old h) refl (g == h) refl
-  where
-    none_of : (o : Option ℕ) → is_some o ≡ false → o ≡ None
-    none_of None k = refl
-    none_of (Some m) k = absurd (cc)
-
-    none : tree.get old g ≡ None
-    none = none_of (tree.get old g) unknown
-
-    of : (o : Option ℕ) → tree.get old h ≡ o → (b : Bool) → (g == h) ≡ b → cond b (Some n) o ≡ or_else o (cond b (Some n) None)
-    of None e b k = refl
-    of (Some m) e false k = refl
-    of (Some m) e true k = let nothing : tree.get old h ≡ None = ap (tree.get old) (sym (eqb-true g h k)) ∙ none in absurd (cc)
-
 -- ---- what came under one name among others
 
 abbrev Brought : Type 0
-Brought = Name × Vec (ℕ × ℕ) Global
+Brought = Name × Deps
 
 here_first : (ds : List Brought) (i : ℕ) (x : Brought) → i < length ds → x ≡ get_or ds i x → drop i ds ≡ x ∷ drop (suc i) ds
 here_first [] i x less is = absurd (omega arith)
@@ -86,10 +27,11 @@ here_first (d ∷ ds) (suc i) x less is = here_first ds i x (omega arith) is
 
 -- at the first entry of the action
 pub least_at : (ds : List Brought) (i : ℕ) (x : Brought) (a : Name) (h : ℕ) → i < length ds → x ≡ get_or ds i x → same_name x.0 a ≡ true
-    → least_of (came_in (drop i ds)) a h ≡ beside x.1.items h
+    → least_of (came_in (drop i ds)) a h ≡ tree.get x.1 h
 least_at ds i x a h less is same =
     ap (λ l. least_of (came_in l) a h) (here_first ds i x less is)
-    ∙ ap (λ b. cond b (beside x.1.items h) (least_of (came_in (drop (suc i) ds)) a h)) same
+    ∙ ap (λ b. cond b (beside (tree.entries x.1) h) (least_of (came_in (drop (suc i) ds)) a h)) same
+    ∙ beside_get x.1 h
 
 -- at the entry of another
 pub least_past : (ds : List Brought) (i : ℕ) (x : Brought) (a : Name) (h : ℕ) → i < length ds → x ≡ get_or ds i x → same_name x.0 a ≡ false
@@ -97,7 +39,7 @@ pub least_past : (ds : List Brought) (i : ℕ) (x : Brought) (a : Name) (h : ℕ
 least_past ds i x a h less is differ =
     let next : suc i ≡ i + 1 = omega arith in
     ap (λ l. least_of (came_in l) a h) (here_first ds i x less is)
-    ∙ ap (λ b. cond b (beside x.1.items h) (least_of (came_in (drop (suc i) ds)) a h)) differ
+    ∙ ap (λ b. cond b (beside (tree.entries x.1) h) (least_of (came_in (drop (suc i) ds)) a h)) differ
     ∙ ap (λ n. least_of (came_in (drop n ds)) a h) next
 
 drop_end : (ds : List Brought) (i : ℕ) → length ds ≤ i → drop i ds ≡ []

@@ -1,9 +1,9 @@
 -- What is read in a roster.
 use Rattle.std.proofs.Common.{Bool, None, Option, Some, ap, arith, eq-eqb, eqb-true, false, ne_eqb, not, refl, sym, true, ℕ, List, [], length, ◌&&◌, ◌||◌, ◌==◌, ◌∙◌, ◌∷◌, ◌≡◌}
-use Rattle.std.specs.Prelude.{Vec, is_some, nat_lt}
+use Rattle.std.specs.Prelude.{is_some, nat_lt}
 use Rattle.std.specs.FinMap as tree
-use Rattle.std.specs.declared.alloc.Global.{Global}
 use Rattle.std.proofs.lemmas.Bool.{le-ltb, true≢false}
+use Rattle.action_names.specs.Deps.{Deps}
 use Rattle.action_names.specs.Names.{Name, parent_of}
 use Rattle.run_model.specs.declared.history.Event.{Event}
 use Rattle.run_model.specs.declared.step.Step.{Step}
@@ -93,7 +93,7 @@ module _ (g : ℕ) (here : List LocalEvent) (t : Table) (is : IsRoster g here t)
   depends r e h = ap (said (λ row. tree.get row.depends h) None) e ∙ is.depends a h
 
 -- where dependencies came with a commit, the parent counts
-pub reaches_where : (ds : List (Name × Vec (ℕ × ℕ) Global)) (a : Name) (step : Step) (past : List Event) → step ≡ Commit a → (length ds == 0) ≡ false
+pub reaches_where : (ds : List (Name × Deps)) (a : Name) (step : Step) (past : List Event) → step ≡ Commit a → (length ds == 0) ≡ false
     → reaches_parent step (came_in ds) past ≡ is_begun (parent_of a) past
 reaches_where [] a step past is some = absurd (true≢false some)
 reaches_where (d ∷ ds) a step past is some = ap (λ t. reaches_parent t (came_in (d ∷ ds)) past) is

@@ -1,8 +1,7 @@
 -- What a plan has for an event, and when there is room for it.
-use Rattle.std.specs.Prelude.{◌≡◌, ◌+◌, ◌<◌, ◌≤◌, ◌^◌, ◌⊎◌, ℕ, List, [], Vec, false, map, Option, Some, None, MatchOption, IsTrue, slice_get, vec_capacity, vec_len}
+use Rattle.std.specs.Prelude.{◌≡◌, ◌+◌, ◌<◌, ◌≤◌, ◌^◌, ◌⊎◌, ℕ, List, [], false, map, Option, Some, None, MatchOption, IsTrue, slice_get, vec_capacity, vec_len}
 use Rattle.std.specs.List.{AllByRecursion, list_any}
 use Rattle.std.specs.FinMap as tree
-use Rattle.std.specs.declared.alloc.Global.{Global}
 use Rattle.action_names.specs.Deps.{Deps, lesser}
 use Rattle.action_names.specs.Names.{IsName, Name, has_name, is_ancestor, is_proper_ancestor}
 use Rattle.holders.specs.Held.{names_of}
@@ -18,12 +17,12 @@ use Rattle.roster.specs.declared.entry.Row.{Row}
 use Rattle.roster.specs.declared.entry.Turn.TheVariants.{Stays}
 use Rattle.roster.specs.declared.roster.Roster.{Roster}
 
--- dependencies as messages carry them
+-- the entries of dependencies that came
 abbrev pub Came : Type 0
 Came = List (Name × List (ℕ × ℕ))
 
-abbrev pub came_in : List (Name × Vec (ℕ × ℕ) Global) → Came
-came_in dependencies = map (λ (d : Name × Vec (ℕ × ℕ) Global). (d.0, d.1.items)) dependencies
+abbrev pub came_in : List (Name × Deps) → Came
+came_in dependencies = map (λ (d : Name × Deps). (d.0, tree.entries d.1)) dependencies
 
 -- there is room for the rows of what begins
 pub record FitsBegun (roster : Roster) (begun : List (Name × Row)) (count : ℕ) : Type 0 where

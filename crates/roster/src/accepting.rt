@@ -1,18 +1,16 @@
 //! Which events are accepted for what they say of actions.
 ghost use Rattle.std.specs.Prelude.{◌≡◌, ℕ, List, IfOk};
 ghost use Rattle.std.specs.List.{list_all};
-ghost use Rattle.std.specs.Ordering.{nat_cmp};
-ghost use Rattle.std.specs.FinMap as map;
 ghost use Rattle.action_names.specs.Names.{has_name, parent_of};
 ghost use Rattle.run_model.specs.Actions.{is_begun};
 ghost use Rattle.run_model.specs.LocalReadings.{LocalEvent, events_here};
-ghost use Rattle.local_agreement.specs.Actions.{are_new, are_rising, has_maker, is_child, is_new, is_own, reaches_parent, was_begun};
+ghost use Rattle.local_agreement.specs.Actions.{are_new, has_maker, is_child, is_new, is_own, reaches_parent, was_begun};
 ghost use Rattle.local_agreement.specs.Judging.{accepts_actions};
 ghost use Rattle.roster.specs.Entries.{came_in};
 
 use crate::entry::names_in;
 use crate::roster::Roster;
-use run_model::{Event, Name, Step};
+use run_model::{Deps, Event, Name, Step};
 use std::alloc::AllocError;
 
 impl Roster {
@@ -21,11 +19,8 @@ impl Roster {
 
     /// Whether the guardian accepts what an event that brings these dependencies says of actions. It looks at no action but those that the event names, and
     /// the parent of one that commits. Fails only for want of memory, which names of up to 9 numbers do not take.
-    pub fn accepts(
-        &self,
-        event: &Event,
-        dependencies: &[(Name, Vec<(u32, u64)>)],
-    ) -> Result<bool, AllocError>
+    #[tactic(auto, using(crate::proofs::Came::came_rising))]
+    pub fn accepts(&self, event: &Event, dependencies: &[(Name, Deps)]) -> Result<bool, AllocError>
         ensures { IfOk result (λ yes. (g : ℕ) (here : List LocalEvent) (c : LocalEvent) → IsRoster g here (table self.now) → c.event ≡ event.now
             → c.carried.dependencies ≡ came_in dependencies.now → yes ≡ accepts_actions g c here) }
     {
@@ -37,9 +32,7 @@ impl Roster {
         if !self.was_begun(step) || !self.is_own(step) {
             return Ok(false);
         }
-        if !are_rising(dependencies) {
-            return Ok(false);
-        }
+        // The guardians of dependencies rise, since `Deps` keeps them so.
         self.reaches_parent(step, dependencies)
     }
 
@@ -104,11 +97,7 @@ impl Roster {
     }
 
     // Whether a commit brings no dependencies, or its action's parent began here.
-    fn reaches_parent(
-        &self,
-        step: &Step,
-        dependencies: &[(Name, Vec<(u32, u64)>)],
-    ) -> Result<bool, AllocError>
+    fn reaches_parent(&self, step: &Step, dependencies: &[(Name, Deps)]) -> Result<bool, AllocError>
         ensures { IfOk result (λ reaches. (g : ℕ) (here : List LocalEvent) → IsRoster g here (table self.now)
             → reaches ≡ reaches_parent step.now (came_in dependencies.now) (events_here here)) }
     {
@@ -143,20 +132,4 @@ fn is_child(maker: &Name, action: &Name) -> bool
     ensures { result ≡ is_child maker.now action.now }
 {
     action.depth() == maker.depth() + 1 && maker.is_ancestor(action)
-}
-
-// Whether each list of dependencies rises by guardian.
-fn are_rising(dependencies: &[(Name, Vec<(u32, u64)>)]) -> bool
-    ensures { result ≡ are_rising (came_in dependencies.now) }
-{
-    match dependencies {
-        [] => true,
-        [(_, entries), rest @ ..] => is_rising(entries) && are_rising(rest),
-    }
-}
-
-fn is_rising(entries: &[(u32, u64)]) -> bool
-    ensures { result ≡ map.is_sorted nat_cmp entries.now }
-{
-    entries.is_sorted_by(|a, b| a.0 < b.0)
 }

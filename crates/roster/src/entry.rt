@@ -1,10 +1,9 @@
 //! What an event makes of actions at a guardian.
-ghost use Rattle.std.specs.Prelude.{◌≡◌, ◌==◌, ℕ, IfOk, OnOk, if◌then◌else◌, None, Some};
+ghost use Rattle.std.specs.Prelude.{◌≡◌, ℕ, IfOk, None, Some};
 ghost use Rattle.std.specs.FinMap as map;
 ghost use Rattle.std.specs.Option.{option_map};
 ghost use Rattle.run_model.specs.Actions.{names_begun};
-ghost use Rattle.run_model.specs.LocalReadings.{beside, least_of};
-ghost use Rattle.run_model.specs.Telling.{or_else};
+ghost use Rattle.run_model.specs.LocalReadings.{least_of};
 
 use run_model::{Answer, Deps, Name, Step};
 use std::alloc::{AllocError, Global};
@@ -104,37 +103,15 @@ pub(crate) fn names_in(answer: &Answer) -> &[Name]
 /// What came of the action's dependencies: the first that came under its name.
 pub(crate) fn depends_in(
     alloc: Global,
-    dependencies: &[(Name, Vec<(u32, u64)>)],
+    dependencies: &[(Name, Deps)],
     action: &Name,
 ) -> Result<Deps, AllocError>
     ensures { IfOk result (λ depends. (h : ℕ) → map.get depends h ≡ least_of (came_in dependencies.now) action.now h) }
 {
-    for (name, entries) in dependencies {
+    for (name, depends) in dependencies {
         if name == action {
-            return depends_of(alloc, entries);
+            return depends.copy();
         }
     }
     Ok(Deps::new(alloc))
-}
-
-// The dependencies with these entries, of which the first of a guardian counts.
-fn depends_of(alloc: Global, entries: &[(u32, u64)]) -> Result<Deps, AllocError>
-    ensures { IfOk result (λ depends. (h : ℕ) → map.get depends h ≡ beside entries.now h) }
-{
-    let mut depends = Deps::new(alloc);
-    for (guardian, incarnation) in entries {
-        add_first(&mut depends, *guardian, *incarnation)?;
-    }
-    Ok(depends)
-}
-
-// Adds a dependency on a guardian that has none yet.
-fn add_first(depends: &mut Deps, guardian: u32, incarnation: u64) -> Result<(), AllocError>
-    ensures { OnOk result ((h : ℕ) → map.get depends.new h ≡ or_else (map.get depends.old h) (if guardian == h then Some incarnation else None)) }
-{
-    if depends.get(guardian).is_some() {
-        return Ok(());
-    }
-    depends.lower(guardian, incarnation)?;
-    Ok(())
 }

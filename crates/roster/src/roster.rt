@@ -140,7 +140,7 @@ impl Roster {
         &mut self,
         step: &Step,
         answer: &Answer,
-        dependencies: &[(Name, Vec<(u32, u64)>)],
+        dependencies: &[(Name, Deps)],
         entry: &mut Entry,
     ) -> Result<(), AllocError>
         ensures same { (g : ℕ) (here : List LocalEvent) → IsRoster g here (table self.old) → IsRoster g here (table self.new) }
@@ -279,7 +279,7 @@ impl Roster {
     fn plan_merge(
         &self,
         step: &Step,
-        dependencies: &[(Name, Vec<(u32, u64)>)],
+        dependencies: &[(Name, Deps)],
     ) -> Result<Option<(usize, Deps)>, AllocError>
         ensures { IfOk result (IsMerged (table self.now) step.now (came_in dependencies.now)) }
     {
@@ -292,7 +292,7 @@ impl Roster {
     fn plan_left(
         &self,
         action: &Name,
-        dependencies: &[(Name, Vec<(u32, u64)>)],
+        dependencies: &[(Name, Deps)],
     ) -> Result<Option<(usize, Deps)>, AllocError>
         ensures { IfOk result (IsLeft (table self.now) (placed (table self.now) (above action.now)) (λ h. least_of (came_in dependencies.now) action.now h)) }
     {
@@ -334,7 +334,7 @@ impl Roster {
         &mut self,
         step: &Step,
         answer: &Answer,
-        dependencies: &[(Name, Vec<(u32, u64)>)],
+        dependencies: &[(Name, Deps)],
         maker: Option<usize>,
         begun: &mut Vec<(Name, Row)>,
     ) -> Result<(), AllocError>
@@ -404,7 +404,7 @@ impl Roster {
         &self,
         step: &Step,
         action: &Name,
-        dependencies: &[(Name, Vec<(u32, u64)>)],
+        dependencies: &[(Name, Deps)],
         maker: Option<usize>,
     ) -> Result<Row, AllocError>
         requires { maker ≡ placed (table self.now) (maker_in step.now) }

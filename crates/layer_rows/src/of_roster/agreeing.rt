@@ -1,26 +1,24 @@
 //! Whether an event agrees with those before it in what it says of actions, where it is known which actions they began.
 ghost use Rattle.std.specs.Prelude.{◌≡◌, List, IfOk, IsTrue};
 ghost use Rattle.std.specs.List.{list_all, list_any};
-ghost use Rattle.std.specs.Ordering.{nat_cmp};
-ghost use Rattle.std.specs.FinMap as map;
-ghost use Rattle.std.specs.FinMap.Entries.{below_all};
 ghost use Rattle.action_names.specs.Names.{has_name, is_ancestor, parent_of};
 ghost use Rattle.run_model.specs.declared.history.Event.{Event};
 ghost use Rattle.run_model.specs.Actions.{begun};
 ghost use Rattle.run_model.specs.LocalReadings.{LocalEvent, events_here};
-ghost use Rattle.local_agreement.specs.Actions.{AgreesOnActions, are_new, are_rising, has_maker, is_child, is_new, is_own, reaches_parent, was_begun};
+ghost use Rattle.local_agreement.specs.Actions.{AgreesOnActions, are_new, has_maker, is_child, is_new, is_own, reaches_parent, was_begun};
 ghost use Rattle.roster.specs.Entries.{came_in};
 
 use crate::of_roster::listing::names_in;
-use run_model::{Event, Name, Names, Step};
+use run_model::{Deps, Event, Name, Names, Step};
 use std::alloc::AllocError;
 
 /// Whether an event that brings these dependencies agrees with the events before it, which began the known actions.
+#[tactic(auto, using(roster::proofs::Came::came_rising))]
 pub(crate) fn agrees(
     guardian: u32,
     known: &Names,
     event: &Event,
-    came: &[(Name, Vec<(u32, u64)>)],
+    came: &[(Name, Deps)],
 ) -> Result<bool, AllocError>
     ensures { IfOk result (λ agrees. (c : LocalEvent) (here : List LocalEvent) → IsTrue agrees → known.now ≡ begun (events_here here)
         → c.event ≡ event.now → c.carried.dependencies ≡ came_in came.now → AgreesOnActions guardian c here) }
@@ -30,7 +28,7 @@ pub(crate) fn agrees(
     if !are_new(names, known) || !was_begun(step, known) {
         return Ok(false);
     }
-    if !is_own(guardian, step) || !are_rising(came) {
+    if !is_own(guardian, step) {
         return Ok(false);
     }
     if !has_maker(step, names, known)? {
@@ -94,34 +92,6 @@ fn is_own(guardian: u32, step: &Step) -> bool
     }
 }
 
-/// Whether each list of dependencies rises by guardian.
-fn are_rising(came: &[(Name, Vec<(u32, u64)>)]) -> bool
-    ensures { result ≡ are_rising (came_in came.now) }
-{
-    match came {
-        [] => true,
-        [(_, entries), rest @ ..] => is_rising(entries) && are_rising(rest),
-    }
-}
-
-fn is_rising(entries: &[(u32, u64)]) -> bool
-    ensures { result ≡ map.is_sorted nat_cmp entries.now }
-{
-    match entries {
-        [] => true,
-        [(guardian, _), rest @ ..] => are_above(*guardian, rest) && is_rising(rest),
-    }
-}
-
-fn are_above(guardian: u32, entries: &[(u32, u64)]) -> bool
-    ensures { result ≡ below_all nat_cmp guardian entries.now }
-{
-    match entries {
-        [] => true,
-        [(first, _), rest @ ..] => guardian < *first && are_above(guardian, rest),
-    }
-}
-
 /// Whether what a call begins is its maker's child, and whoever makes anything else was begun.
 fn has_maker(step: &Step, names: &[Name], known: &Names) -> Result<bool, AllocError>
     ensures { IfOk result (λ has. (past : List Event) → known.now ≡ begun past → IsTrue has → IsTrue (has_maker step.now names.now past)) }
@@ -160,11 +130,7 @@ fn is_child(maker: &Name, action: &Name) -> Result<bool, AllocError>
 }
 
 /// Whether a commit brings no dependencies, or its action's parent was begun.
-fn reaches_parent(
-    step: &Step,
-    came: &[(Name, Vec<(u32, u64)>)],
-    known: &Names,
-) -> Result<bool, AllocError>
+fn reaches_parent(step: &Step, came: &[(Name, Deps)], known: &Names) -> Result<bool, AllocError>
     ensures { IfOk result (λ reaches. (past : List Event) → known.now ≡ begun past → IsTrue reaches
         → IsTrue (reaches_parent step.now (came_in came.now) past)) }
 {

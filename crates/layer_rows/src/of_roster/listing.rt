@@ -4,7 +4,7 @@ ghost use Rattle.run_model.specs.Actions.{names_begun};
 
 use crate::of_roster::agreeing::agrees;
 use roster::{Entry, Roster};
-use run_model::{Answer, Event, Name, Names};
+use run_model::{Answer, Deps, Event, Name, Names};
 use std::alloc::{AllocError, Global};
 use std::marker::Model;
 
@@ -51,7 +51,7 @@ impl Listing {
     pub(crate) fn enter(
         &mut self,
         event: &Event,
-        dependencies: &[(Name, Vec<(u32, u64)>)],
+        dependencies: &[(Name, Deps)],
     ) -> Result<bool, AllocError> {
         if self.roster.crashes() == u64::MAX {
             return Ok(false);

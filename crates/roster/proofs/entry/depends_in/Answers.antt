@@ -3,7 +3,7 @@ use Rattle.std.specs.FinMap as tree
 use Rattle.std.specs.Ordering.{nat_cmp}
 use Rattle.std.proofs.lemmas.Result.{IfOk-weaker}
 use Rattle.action_names.specs.Deps.{Deps}
-use Rattle.run_model.specs.LocalReadings.{beside, least_of}
+use Rattle.run_model.specs.LocalReadings.{least_of}
 use Rattle.roster.proofs.Planning.{least_at, least_end, least_past}
 use Rattle.roster.specs.Entries.{came_in}
 use Rattle.roster.proofs.entry.depends_in.Goals as goal
@@ -14,12 +14,10 @@ returns-then-eq c =
     let a = c.args.action.now in
     let x = c.loop-name-item.result in
     let less : c.loop-name.name-index < length ds = omega (arith, c.loop-name-test.true) in
-    IfOk-weaker c.depends_of.result (λ (d : Deps). (h : ℕ) → tree.get d h ≡ beside c.deref.result.now h)
-    (λ (d : Deps). (h : ℕ) → tree.get d h ≡ least_of (came_in ds) a h)
-    (λ d is h. is h
-    ∙ ap (λ entries. beside entries h) c.deref.ensures.value
+    IfOk-weaker c.copy.result (λ (d : Deps). d ≡ x.1) (λ (d : Deps). (h : ℕ) → tree.get d h ≡ least_of (came_in ds) a h)
+    (λ d is h. ap (λ deps. tree.get deps h) is
     ∙ sym (c.loop-name.invariant h ∙ least_at ds c.loop-name.name-index x a h less c.loop-name-item.is (sym c.eq.ensures ∙ c.if-eq.true)))
-    c.depends_of.ensures
+    c.copy.ensures
 
 pub loop-name-preserved : goal.loop-name-preserved
 loop-name-preserved c = λ h.

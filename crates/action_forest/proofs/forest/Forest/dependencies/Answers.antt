@@ -1,17 +1,15 @@
-use Rattle.std.proofs.Common.{IfOk, List, None, ap, subst, sym, ℕ, ◌∙◌, ◌≡◌}
+use Rattle.std.proofs.Common.{ℕ, ◌≡◌}
 use Rattle.std.specs.FinMap as map
-use Rattle.action_forest.proofs.Said.{entries_nowhere, entries_read}
-use Rattle.action_forest.specs.Trees.{said, trees}
+use Rattle.std.proofs.lemmas.Result.{IfOk-weaker}
+use Rattle.action_names.specs.Deps.{Deps}
+use Rattle.run_model.specs.LocalHistories.{dependency_there, entries_of}
+use Rattle.action_forest.proofs.Said.{entries_read}
+use Rattle.action_forest.specs.Trees.{depends_at, trees}
 use Rattle.action_forest.proofs.forest.Forest.dependencies.Goals as goal
 
-pub returns-in-Some : goal.returns-in-Some
-returns-in-Some c = λ opening registry h.
-    let same = entries_read opening registry (trees c.args.self.now) h c.args.path.now c.in-Some.node.now.depends
-    (λ g. ap (said (λ action. map.get action.depends g) None) c.in-Some.ensures) in
-    subst (λ (all : List (ℕ × ℕ)). IfOk c.from_slice.result (λ entries. entries.items ≡ all)) (c.entries.ensures ∙ same) c.from_slice.ensures.items
-
-pub returns-in-None : goal.returns-in-None
-returns-in-None c = λ opening registry h.
-    c.new.ensures.items
-    ∙ sym (entries_nowhere opening registry (trees c.args.self.now) h c.args.path.now
-    (λ g. sym (ap (said (λ action. map.get action.depends g) None) c.in-None.ensures)))
+pub returns : goal.returns
+returns c = λ opening registry h.
+    let forest = trees c.args.self.now in
+    IfOk-weaker c.depends_of.result (λ (deps : Deps). (g : ℕ) → map.get deps g ≡ depends_at forest c.args.path.now g)
+    (λ (deps : Deps). map.entries deps ≡ entries_of opening (λ g. dependency_there c.args.path.now g registry))
+    (λ deps same. entries_read opening registry forest h c.args.path.now deps same) c.depends_of.ensures
