@@ -6,7 +6,7 @@ use Rattle.std.proofs.lemmas.List.{take_all}
 use Rattle.std.proofs.lemmas.Str.Parse.{numerals_by_value, tells_digits, digit_at, digits_value-take-le}
 use Rattle.std.proofs.lemmas.Fmt.{decimal_is_IsNumeral, decimal_digit, decimal_step, decimal_injective, digits_value-decimal, first_decimal}
 use Rattle.action_names.specs.Names.{Name, IsName, IsComponent, name_text}
-use Rattle.action_names.specs.Fronts.{EndsNumber, EndsName, BeginsWithNumber, BeginsWithName}
+use Rattle.action_names.specs.Fronts.{EndsNumber, EndsName, BeginsWithNumber, BeginsWithName, dotted}
 
 -- ---- digits
 
@@ -118,11 +118,6 @@ no_number bytes other n rest begins =
     in_front (c ∷ a) b some = refl
 
 -- ---- a name
-
--- numbers with a dot behind each, before the rest
-abbrev pub dotted : Name → List ℕ → List ℕ
-dotted [] rest = rest
-dotted (n ∷ a) rest = decimal n ++ 46 ∷ dotted a rest
 
 pub dotted_push : (a : Name) (n : ℕ) (rest : List ℕ) → dotted (a ++ n ∷ []) rest ≡ dotted a (decimal n ++ 46 ∷ rest)
 dotted_push [] n rest = refl

@@ -1,5 +1,5 @@
 -- A number or a name at the front of bytes: it goes on for as long as its bytes do.
-use Rattle.std.specs.Prelude.{◌≡◌, ◌≢◌, ℕ, ◌≤◌, List, ◌++◌, slice_index, decimal}
+use Rattle.std.specs.Prelude.{◌≡◌, ◌≢◌, ℕ, ◌≤◌, List, [], ◌∷◌, ◌++◌, slice_index, decimal}
 use Rattle.action_names.specs.Names.{Name, IsName, IsComponent, name_text}
 
 -- no digit comes first
@@ -22,3 +22,8 @@ pub record BeginsWithName (bytes : List ℕ) (a : Name) (rest : List ℕ) : Type
   pub fits : IsName a
   pub parts : bytes ≡ name_text a ++ rest
   pub ended : EndsName rest
+
+-- numbers with a dot behind each, before the rest
+abbrev pub dotted : Name → List ℕ → List ℕ
+dotted [] rest = rest
+dotted (n ∷ a) rest = decimal n ++ 46 ∷ dotted a rest

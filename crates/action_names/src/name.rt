@@ -1,9 +1,10 @@
 //! Names of actions: how they are read, printed, made from one another and compared.
 ghost use Rattle.std.specs.Prelude.{◌≡◌, ◌≢◌, ◌↔◌, ◌<◌, ◌≤◌, ◌+◌, ◌-◌, ◌*◌, ◌^◌, ◌++◌, [], ◌∷◌, length, List, ℕ, refl, decimal, Some, IsTrue, IsOk};
 ghost use Rattle.std.specs.Prelude.{IsNone, IfSome, IfOk, OnOk, OnErr, IsErrOf, MatchOption, string_bytes};
+ghost use Rattle.std.specs.List.{AllByRecursion};
 ghost use Rattle.std.specs.Ordering.{as_partial_cmp};
-ghost use Rattle.action_names.specs.Fronts.{BeginsWithNumber, BeginsWithName};
-ghost use Rattle.action_names.specs.Names.{IsName, name_text, child_of, parent_of, last_of, same_name, is_ancestor, is_top, meet_of, name_cmp, max_depth};
+ghost use Rattle.action_names.specs.Fronts.{BeginsWithNumber, BeginsWithName, dotted};
+ghost use Rattle.action_names.specs.Names.{IsComponent, IsName, name_text, child_of, parent_of, last_of, same_name, is_ancestor, is_top, meet_of, name_cmp, max_depth};
 ghost use Rattle.action_names.specs.Comparison.{same_name-partial_equivalence, same_name-equivalence, name_cmp-total, same_name-ties, name_cmp-partial_order, same_name-fed, fed_name};
 ghost use Rattle.action_names.specs.Writing.{IsGrown};
 ghost use Rattle.action_names.specs.declared.name.NameFault.TheVariants.{Memory};
@@ -106,17 +107,25 @@ impl Name {
                 }
             }
         }
-        Name::long_at_front(alloc, bytes)
+        Name::long_at_front(alloc, bytes, few, left)
     }
 
-    // The same, read from the first number on into an array that has room for all: few names have more than 8 numbers.
-    fn long_at_front(alloc: Global, bytes: &[u8]) -> Result<(Name, &[u8]), NameFault>
-        ensures found { IfOk result (λ r. BeginsWithName bytes.now r.0 r.1.now) }
-        ensures refused { IsErrOf result NameFault.NotAName → (a : List ℕ) (rest : List ℕ) → BeginsWithName bytes.now a rest → ⊥ }
+    // The same, read on behind the first 8 numbers into an array that has room for all: few names have more.
+    fn long_at_front<'a>(
+        alloc: Global,
+        _bytes: &'a [u8],
+        few: [u32; FEW],
+        behind_few: &'a [u8],
+    ) -> Result<(Name, &'a [u8]), NameFault>
+        requires so_far { _bytes.now ≡ dotted few behind_few.now }
+        requires components { AllByRecursion IsComponent few }
+        ensures found { IfOk result (λ r. BeginsWithName _bytes.now r.0 r.1.now) }
+        ensures refused { IsErrOf result NameFault.NotAName → (a : List ℕ) (rest : List ℕ) → BeginsWithName _bytes.now a rest → ⊥ }
         ensures never_deep { IsErrOf result NameFault.TooDeep → ⊥ }
     {
         let mut numbers = ArrayVec::<u32, MAX_DEPTH>::new();
-        let mut left = bytes;
+        numbers.try_extend_from_slice(&few).unwrap();
+        let mut left = behind_few;
         loop {
             let Some((number, rest)) = number_at_front(left) else {
                 return Err(NameFault::NotAName);
@@ -254,14 +263,27 @@ impl Name {
         ensures err { OnErr result (IsGrown (string_bytes text.old) (string_bytes text.new)) }
     {
         if let [first, rest @ ..] = self.parts.as_slice() {
-            text.push_str(Buffer::new().format(*first))?;
+            append_number(*first, text)?;
             for number in rest {
                 text.push('.')?;
-                text.push_str(Buffer::new().format(*number))?;
+                append_number(*number, text)?;
             }
         }
         Ok(())
     }
+}
+
+// A number of one digit, as most numbers below the first are, is its digit.
+#[inline(always)]
+fn append_number(number: u32, text: &mut String) -> Result<(), AllocError>
+    ensures ok { OnOk result (string_bytes text.new ≡ string_bytes text.old ++ decimal number) }
+    ensures err { OnErr result (string_bytes text.new ≡ string_bytes text.old) }
+{
+    if number < 10 {
+        text.push(char::from(b'0' + number as u8))?;
+        return Ok(());
+    }
+    text.push_str(Buffer::new().format(number))
 }
 
 /// The number of a name that the bytes begin with, from 1 to 4294967295 without leading zeros, and the bytes that follow its digits.

@@ -1,7 +1,7 @@
 use Rattle.std.proofs.Common.{◌≡◌, length, take}
 use Rattle.std.specs.List.{AllByRecursion}
 use Rattle.action_names.specs.Names.{IsComponent}
-use Rattle.action_names.proofs.Fronts.{dotted}
+use Rattle.action_names.specs.Fronts.{dotted}
 use Rattle.action_names.proofs.name.Name.at_front.Given as goal
 
 -- the bytes so far are the numbers so far, with a dot behind each

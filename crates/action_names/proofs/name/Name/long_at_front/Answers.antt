@@ -7,12 +7,12 @@ use Rattle.action_names.proofs.name.Name.long_at_front.Goals.{in_default-rest-vi
 -- what is left begins with no number
 pub returns-in_default-clause-refused : goal.returns-in_default-clause-refused
 returns-in_default-clause-refused c _ =
-    no_name c.args.bytes.now c.loop-number.left.now c.loop-number.numbers.items c.loop-number.invariant.so_far c.loop-number.invariant.components c.in_default.ensures
+    no_name c.args._bytes.now c.loop-number.left.now c.loop-number.numbers.items c.loop-number.invariant.so_far c.loop-number.invariant.components c.in_default.ensures
 
 -- more numbers than a name may have
 pub returns-then-len-eq-MAX_DEPTH-clause-refused : goal.returns-then-len-eq-MAX_DEPTH-clause-refused
 returns-then-len-eq-MAX_DEPTH-clause-refused c _ a rest begins =
-    let goes = name_goes_on c.args.bytes.now c.loop-number.left.now c.loop-number.numbers.items c.loop-number.invariant.so_far c.loop-number.invariant.components a rest begins in
+    let goes = name_goes_on c.args._bytes.now c.loop-number.left.now c.loop-number.numbers.items c.loop-number.invariant.so_far c.loop-number.invariant.components a rest begins in
     omega (arith, goes.counted, goes.some, begins.fits.not_too_deep)
 
 -- no dot follows
@@ -24,7 +24,7 @@ returns-in_default-rest-clause-found c =
     ] in
     let shallow : length (c.loop-number.numbers.items ++ c.in-Some.number ∷ []) ≤ 32 = omega (arith, length-append c.loop-number.numbers.items (c.in-Some.number ∷ [])) in
     rw (c.in_ok-parts-in_default-rest.ensures.ok, c.as_slice.ensures.value, c.push.ensures.items)
-    (name_found c.args.bytes.now c.loop-number.left.now c.in-Some.rest.now c.loop-number.numbers.items c.in-Some.number c.loop-number.invariant.so_far c.in-Some.ensures other
+    (name_found c.args._bytes.now c.loop-number.left.now c.in-Some.rest.now c.loop-number.numbers.items c.in-Some.number c.loop-number.invariant.so_far c.in-Some.ensures other
     (components_push c.loop-number.numbers.items c.in-Some.number c.loop-number.invariant.components c.in-Some.ensures.fits) shallow)
 
 -- a dot follows
@@ -32,7 +32,7 @@ pub loop-number-preserved : goal.loop-number-preserved
 loop-number-preserved c =
     let dot : get_or c.in-Some.rest.now 0 0 ≡ 46 = omega arith in
     record {
-      so_far = rw c.push.ensures.items (name_more c.args.bytes.now c.loop-number.left.now c.in-Some.rest.now c.loop-number.numbers.items c.in-Some.number c.loop-number.invariant.so_far c.in-Some.ensures (omega arith) dot);
+      so_far = rw c.push.ensures.items (name_more c.args._bytes.now c.loop-number.left.now c.in-Some.rest.now c.loop-number.numbers.items c.in-Some.number c.loop-number.invariant.so_far c.in-Some.ensures (omega arith) dot);
       components = rw c.push.ensures.items (components_push c.loop-number.numbers.items c.in-Some.number c.loop-number.invariant.components c.in-Some.ensures.fits);
       room = rw c.push.ensures.items (omega (arith, length-append c.loop-number.numbers.items (c.in-Some.number ∷ [])));
     }
