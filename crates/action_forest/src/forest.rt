@@ -230,7 +230,12 @@ impl Forest {
     pub fn new_dependencies(&self, action: &Name, home: u32, life: u64) -> Result<Deps, AllocError>
         ensures { AtEach (trees self.now) (λ opening registry. IfOk result (λ depends. map.entries depends ≡ first_entries opening registry home life action.now)) }
     {
-        self.first_depends(action, home, life)
+        let path = action.components();
+        let mut depends = self.depends_of(&path[..path.len() - 1])?;
+        if home > 0 && home as usize <= self.guardians {
+            depends.lower(home, life)?;
+        }
+        Ok(depends)
     }
 
     /// A top action closes at the step with this stamp.
@@ -385,18 +390,6 @@ impl Forest {
         }
     }
 
-    // What an action depends on that begins at this home in this life of it.
-    fn first_depends(&self, action: &Name, home: u32, life: u64) -> Result<Deps, AllocError>
-        ensures { AtEach (trees self.now) (λ opening registry. IfOk result (λ depends. map.entries depends ≡ first_entries opening registry home life action.now)) }
-    {
-        let path = action.components();
-        let mut depends = self.depends_of(&path[..path.len() - 1])?;
-        if home > 0 && home as usize <= self.guardians {
-            depends.lower(home, life)?;
-        }
-        Ok(depends)
-    }
-
     // What is kept of an action as it begins.
     fn born(
         &self,
@@ -413,7 +406,7 @@ impl Forest {
             home,
             life,
             maker,
-            depends: self.first_depends(name, home, life)?,
+            depends: self.new_dependencies(name, home, life)?,
             status: Status::Active,
             closing: None,
             unended: 0,

@@ -14,11 +14,10 @@ use Rattle.local_agreement.specs.Laws.{Agrees, IsByNamed}
 use Rattle.layer_contracts.specs.Guardians.{GuardianState}
 use Rattle.layer_contracts.specs.declared.message.Message.{Message}
 use Rattle.tellings.specs.Hearing.{AreTold}
-use Rattle.roster.specs.Entries.{came_in}
+use Rattle.local_agreement.specs.Sent.{sent_of}
 use Rattle.roster.specs.Rosters.{IsRoster}
 use Rattle.roster.specs.Tables.{table}
 use Rattle.guardian_objects.specs.Objects.{AreObjects}
-use Rattle.guardian_memory.proofs.Planned.{came_is}
 use Rattle.guardian_memory.specs.Accepting.{local_event}
 use Rattle.guardian_memory.specs.Memories.{InMemory, IsSound}
 
@@ -58,11 +57,11 @@ next_is (m ∷ n ∷ a) here low = refl
 
 module _ {m : InMemory} {g : GuardianState} (s : IsSound m g) where
   pub actions_are : (e : Event) (message : Message) (dependencies : List (Name × Deps)) (answer : Bool) → dependencies ≡ message.dependencies.items
-      → ((h : ℕ) (here : List LocalEvent) (c : LocalEvent) → IsRoster h here (table m.roster) → c.event ≡ e → c.carried.dependencies ≡ came_in dependencies
+      → ((h : ℕ) (here : List LocalEvent) (c : LocalEvent) → IsRoster h here (table m.roster) → c.event ≡ e → c.carried.dependencies ≡ sent_of dependencies
       → answer ≡ accepts_actions h c here)
       → answer ≡ accepts_actions g.number (local_event e message) g.past
   actions_are e message dependencies answer same says =
-      says g.number g.past (local_event e message) s.actions refl (sym (came_is message.dependencies.items) ∙ ap came_in (sym same))
+      says g.number g.past (local_event e message) s.actions refl (ap sent_of (sym same))
 
   pub settled_is : (t : Name) (outcomes : List (Name × Bool)) (answer : Bool) → none_undone outcomes g.past ≡ true
       → ((opening : Opening) (h : ℕ) (here : List LocalEvent) → AreObjects opening here m.objects → AreTold h here m.told → none_undone outcomes here ≡ true

@@ -4,7 +4,8 @@ ghost use Rattle.run_model.specs.declared.answer.Answer.TheVariants.{VoteNo, Vot
 ghost use Rattle.run_model.specs.LocalReadings.{beside, least_of, outcome_in, says_committed, vote_here};
 ghost use Rattle.run_model.specs.Runs.{is_accepted};
 ghost use Rattle.layer_contracts.specs.Guardians.{GuardianState, News};
-ghost use Rattle.layer_contracts.specs.Messages.{carried_of, may_fail, sent_of};
+ghost use Rattle.local_agreement.specs.Sent.{sent_of};
+ghost use Rattle.layer_contracts.specs.Messages.{carried_of, may_fail};
 ghost use Rattle.layer_contracts.specs.Messages.{is_operation};
 ghost use Rattle.guardian_rows.specs.Owing.{MayKeep, Owes};
 

@@ -5,7 +5,8 @@ use Rattle.run_model.specs.declared.history.Event.{Event}
 use Rattle.run_model.specs.Actions.{begun, names_begun}
 use Rattle.run_model.specs.LocalReadings.{LocalEvent, events_here, nothing_carried}
 use Rattle.local_agreement.specs.Actions.{AgreesOnActions}
-use Rattle.roster.specs.Entries.{Came, IsEntry}
+use Rattle.local_agreement.specs.Sent.{Sent}
+use Rattle.roster.specs.Entries.{IsEntry}
 use Rattle.roster.specs.Rosters.{IsRoster}
 use Rattle.roster.specs.Tables.{Table}
 use Rattle.roster.specs.declared.entry.Entry.{Entry}
@@ -16,7 +17,7 @@ abbrev pub KeepsRoster : Table → Table → Type 0
 KeepsRoster old new = (g : ℕ) (here : List LocalEvent) → IsRoster g here old → IsRoster g here new
 
 -- an event that brings this agrees with each history that began just these actions
-abbrev pub Agreeing : ℕ → List Name → Event → Came → Type 0
+abbrev pub Agreeing : ℕ → List Name → Event → Sent → Type 0
 Agreeing g known e came = (c : LocalEvent) (here : List LocalEvent) → known ≡ begun (events_here here) → c.event ≡ e
     → c.carried.dependencies ≡ came → AgreesOnActions g c here
 
@@ -26,7 +27,7 @@ Enters old entry new = (g : ℕ) (here : List LocalEvent) (c : LocalEvent) → I
     → IsEntry old c.event c.carried.dependencies entry → IsRoster g (c ∷ here) new
 
 -- an event was entered
-pub with_event : (g : ℕ) (known more : List Name) (old room new : Table) (e : Event) (came : Came) (entry : Entry) → Agreeing g known e came
+pub with_event : (g : ℕ) (known more : List Name) (old room new : Table) (e : Event) (came : Sent) (entry : Entry) → Agreeing g known e came
     → more ≡ names_begun e.answer ++ known → KeepsRoster old room → IsEntry room e came entry → Enters room entry new → IsOfSome g known old
     → IsOfSome g more new
 with_event g known more old room new e came entry agrees is same planned enters h =

@@ -10,7 +10,7 @@ use Rattle.action_names.specs.Deps.{Deps}
 use Rattle.action_names.specs.Names.{Name}
 use Rattle.local_agreement.specs.Actions.{are_rising}
 use Rattle.run_model.specs.LocalReadings.{beside}
-use Rattle.roster.specs.Entries.{came_in}
+use Rattle.local_agreement.specs.Sent.{sent_of}
 
 eqb_turned : (m n : ℕ) → (m == n) ≡ (n == m)
 eqb_turned m n = of (n == m) refl
@@ -28,7 +28,7 @@ pub beside_get : (deps : Deps) (h : ℕ) → beside (tree.entries deps) h ≡ tr
 beside_get deps h = sym (tree.get-entries deps h ∙ find_beside (tree.entries deps) h)
 
 -- the guardians of each rise
-pub came_rising : (ds : List (Name × Deps)) → are_rising (came_in ds) ≡ true
+pub came_rising : (ds : List (Name × Deps)) → are_rising (sent_of ds) ≡ true
 came_rising [] = refl
 came_rising (d ∷ ds) = and_from _ _ (of (is_sorted nat_cmp (tree.entries d.1)) (tree.entries_sorted d.1)) (came_rising ds)
   where

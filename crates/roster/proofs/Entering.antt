@@ -21,7 +21,8 @@ use Rattle.roster.proofs.Changed.{got_within, indexed_changed, indexed_merged, i
 use Rattle.roster.proofs.Counted.{all_counted, count-append, fewer}
 use Rattle.roster.proofs.Events.{absent, closed_was_begun, closes_one, ended_after, ended_was_begun, maker_not_new, more_events, one_is_new}
 use Rattle.roster.proofs.Names.{clash, has_name-append}
-use Rattle.roster.specs.Entries.{Came, IsBorn, IsEntry, IsMerged}
+use Rattle.local_agreement.specs.Sent.{Sent}
+use Rattle.roster.specs.Entries.{IsBorn, IsEntry, IsMerged}
 use Rattle.roster.specs.Rosters.{IsIndexed, IsRoster}
 use Rattle.roster.specs.Steps.{above, closed_in, ended_in, turn_in}
 use Rattle.roster.specs.Tables.{Table, added, all_added, changed_at, ended, entered, grown, home_at, life_in, maker_left, merged, more_by, one_less, place_of, placed, row_at, row_of, said, turned, with_closed, with_depends, with_ended}
@@ -116,7 +117,7 @@ module _ (g : ℕ) (here : List LocalEvent) (c : LocalEvent) (t : Table) (entry 
   abbrev names : List Name
   names = names_begun c.event.answer
 
-  abbrev came : Came
+  abbrev came : Sent
   came = c.carried.dependencies
 
   abbrev rows : List (Name × Row)
@@ -445,7 +446,7 @@ module _ (g : ℕ) (here : List LocalEvent) (c : LocalEvent) (t : Table) (entry 
       → Leaves (Commit d) None a h
   leaves_none d reaches none a h = depends5 a h ∙ ap (cond (has_name names a) (least_of came a h)) (of (same_name (parent_of d) a))
     where
-      empty : (came : Came) → is_none_or came (is_begun (parent_of d) past) ≡ true → least_of came d h ≡ None
+      empty : (came : Sent) → is_none_or came (is_begun (parent_of d) past) ≡ true → least_of came d h ≡ None
       empty [] k = refl
       empty (x ∷ xs) k = absurd (clash k (no_parent d none))
 

@@ -10,7 +10,8 @@ use Rattle.holders.specs.Held.{HasMoreRoom}
 use Rattle.run_model.specs.LocalReadings.{beside, least_of}
 use Rattle.roster.proofs.Added.{added_last}
 use Rattle.roster.proofs.Came.{beside_get}
-use Rattle.roster.specs.Entries.{CanCount, came_in}
+use Rattle.local_agreement.specs.Sent.{sent_of}
+use Rattle.roster.specs.Entries.{CanCount}
 use Rattle.roster.specs.Steps.{above}
 use Rattle.roster.specs.Tables.{Table, added, all_added, row_at}
 use Rattle.roster.specs.declared.entry.Row.{Row}
@@ -27,20 +28,20 @@ here_first (d ∷ ds) (suc i) x less is = here_first ds i x (omega arith) is
 
 -- at the first entry of the action
 pub least_at : (ds : List Brought) (i : ℕ) (x : Brought) (a : Name) (h : ℕ) → i < length ds → x ≡ get_or ds i x → same_name x.0 a ≡ true
-    → least_of (came_in (drop i ds)) a h ≡ tree.get x.1 h
+    → least_of (sent_of (drop i ds)) a h ≡ tree.get x.1 h
 least_at ds i x a h less is same =
-    ap (λ l. least_of (came_in l) a h) (here_first ds i x less is)
-    ∙ ap (λ b. cond b (beside (tree.entries x.1) h) (least_of (came_in (drop (suc i) ds)) a h)) same
+    ap (λ l. least_of (sent_of l) a h) (here_first ds i x less is)
+    ∙ ap (λ b. cond b (beside (tree.entries x.1) h) (least_of (sent_of (drop (suc i) ds)) a h)) same
     ∙ beside_get x.1 h
 
 -- at the entry of another
 pub least_past : (ds : List Brought) (i : ℕ) (x : Brought) (a : Name) (h : ℕ) → i < length ds → x ≡ get_or ds i x → same_name x.0 a ≡ false
-    → least_of (came_in (drop i ds)) a h ≡ least_of (came_in (drop (i + 1) ds)) a h
+    → least_of (sent_of (drop i ds)) a h ≡ least_of (sent_of (drop (i + 1) ds)) a h
 least_past ds i x a h less is differ =
     let next : suc i ≡ i + 1 = omega arith in
-    ap (λ l. least_of (came_in l) a h) (here_first ds i x less is)
-    ∙ ap (λ b. cond b (beside (tree.entries x.1) h) (least_of (came_in (drop (suc i) ds)) a h)) differ
-    ∙ ap (λ n. least_of (came_in (drop n ds)) a h) next
+    ap (λ l. least_of (sent_of l) a h) (here_first ds i x less is)
+    ∙ ap (λ b. cond b (beside (tree.entries x.1) h) (least_of (sent_of (drop (suc i) ds)) a h)) differ
+    ∙ ap (λ n. least_of (sent_of (drop n ds)) a h) next
 
 drop_end : (ds : List Brought) (i : ℕ) → length ds ≤ i → drop i ds ≡ []
 drop_end [] zero h = refl
@@ -49,8 +50,8 @@ drop_end (d ∷ ds) zero h = absurd (omega arith)
 drop_end (d ∷ ds) (suc i) h = drop_end ds i (omega arith)
 
 -- at the end
-pub least_end : (ds : List Brought) (i : ℕ) (a : Name) (h : ℕ) → length ds ≤ i → least_of (came_in (drop i ds)) a h ≡ None
-least_end ds i a h past = ap (λ l. least_of (came_in l) a h) (drop_end ds i past)
+pub least_end : (ds : List Brought) (i : ℕ) (a : Name) (h : ℕ) → length ds ≤ i → least_of (sent_of (drop i ds)) a h ≡ None
+least_end ds i a h past = ap (λ l. least_of (sent_of l) a h) (drop_end ds i past)
 
 -- ---- parents
 

@@ -14,7 +14,7 @@ use Rattle.local_agreement.specs.Actions.{reaches_parent}
 use Rattle.roster.proofs.Changed.{got_within}
 use Rattle.roster.proofs.Counted.{any_counted}
 use Rattle.roster.proofs.Events.{no_events}
-use Rattle.roster.specs.Entries.{came_in}
+use Rattle.local_agreement.specs.Sent.{sent_of}
 use Rattle.roster.specs.Rosters.{IsIndexed, IsRoster}
 use Rattle.roster.specs.Tables.{Table, home_at, life_at, place_of, row_at, row_of, said}
 use Rattle.roster.specs.declared.entry.Row.{Row}
@@ -94,6 +94,6 @@ module _ (g : ℕ) (here : List LocalEvent) (t : Table) (is : IsRoster g here t)
 
 -- where dependencies came with a commit, the parent counts
 pub reaches_where : (ds : List (Name × Deps)) (a : Name) (step : Step) (past : List Event) → step ≡ Commit a → (length ds == 0) ≡ false
-    → reaches_parent step (came_in ds) past ≡ is_begun (parent_of a) past
+    → reaches_parent step (sent_of ds) past ≡ is_begun (parent_of a) past
 reaches_where [] a step past is some = absurd (true≢false some)
-reaches_where (d ∷ ds) a step past is some = ap (λ t. reaches_parent t (came_in (d ∷ ds)) past) is
+reaches_where (d ∷ ds) a step past is some = ap (λ t. reaches_parent t (sent_of (d ∷ ds)) past) is

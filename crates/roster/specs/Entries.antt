@@ -1,5 +1,5 @@
 -- What a plan has for an event, and when there is room for it.
-use Rattle.std.specs.Prelude.{◌≡◌, ◌+◌, ◌<◌, ◌≤◌, ◌^◌, ◌⊎◌, ℕ, List, [], false, map, Option, Some, None, MatchOption, IsTrue, slice_get, vec_capacity, vec_len}
+use Rattle.std.specs.Prelude.{◌≡◌, ◌+◌, ◌<◌, ◌≤◌, ◌^◌, ◌⊎◌, ℕ, List, [], false, Option, Some, None, MatchOption, IsTrue, slice_get, vec_capacity, vec_len}
 use Rattle.std.specs.List.{AllByRecursion, list_any}
 use Rattle.std.specs.FinMap as tree
 use Rattle.action_names.specs.Deps.{Deps, lesser}
@@ -10,19 +10,13 @@ use Rattle.run_model.specs.declared.step.Step.{Step}
 use Rattle.run_model.specs.declared.step.Step.TheVariants.{Commit}
 use Rattle.run_model.specs.Actions.{home_in, maker_in, names_begun}
 use Rattle.run_model.specs.LocalReadings.{least_of}
+use Rattle.local_agreement.specs.Sent.{Sent}
 use Rattle.roster.specs.Steps.{above, closed_in, ended_in, turn_in}
 use Rattle.roster.specs.Tables.{Table, home_at, is_known, life_in, placed, row_at, said}
 use Rattle.roster.specs.declared.entry.Entry.{Entry}
 use Rattle.roster.specs.declared.entry.Row.{Row}
 use Rattle.roster.specs.declared.entry.Turn.TheVariants.{Stays}
 use Rattle.roster.specs.declared.roster.Roster.{Roster}
-
--- the entries of dependencies that came
-abbrev pub Came : Type 0
-Came = List (Name × List (ℕ × ℕ))
-
-abbrev pub came_in : List (Name × Deps) → Came
-came_in dependencies = map (λ (d : Name × Deps). (d.0, tree.entries d.1)) dependencies
 
 -- there is room for the rows of what begins
 pub record FitsBegun (roster : Roster) (begun : List (Name × Row)) (count : ℕ) : Type 0 where
@@ -50,12 +44,12 @@ IsLeft t at came None = at ≡ None
 IsLeft t at came (Some m) =
     (at ≡ Some m.0) × ((h : ℕ) → tree.get m.1 h ≡ lesser (said (λ row. tree.get row.depends h) None (row_at t at)) (came h))
 
-abbrev pub IsMerged : Table → Step → Came → Option (ℕ × Deps) → Type 0
+abbrev pub IsMerged : Table → Step → Sent → Option (ℕ × Deps) → Type 0
 IsMerged t (Commit a) came merged = IsLeft t (placed t (above a)) (λ h. least_of came a h) merged
 IsMerged t _ came merged = merged ≡ None
 
 -- the row is as this step begins the action
-pub record IsBorn (t : Table) (step : Step) (came : Came) (b : Name) (row : Row) : Type 0 where
+pub record IsBorn (t : Table) (step : Step) (came : Sent) (b : Name) (row : Row) : Type 0 where
   pub home : row.home ≡ home_in step (λ a. home_at t a)
   pub life : row.life ≡ life_in t row.home
   pub maker : row.maker ≡ placed t (maker_in step)
@@ -65,7 +59,7 @@ pub record IsBorn (t : Table) (step : Step) (came : Came) (b : Name) (row : Row)
   pub unended : row.unended ≡ 0
 
 -- these are the rows of what the event begins
-pub record AreBorn (t : Table) (e : Event) (came : Came) (begun : List (Name × Row)) : Type 0 where
+pub record AreBorn (t : Table) (e : Event) (came : Sent) (begun : List (Name × Row)) : Type 0 where
   pub names : names_of begun ≡ names_begun e.answer
   pub named : AllByRecursion (λ (x : Name × Row). IsName x.0) begun
   pub rows : AllByRecursion (λ (x : Name × Row). IsBorn t e.step came x.0 x.1) begun
@@ -96,7 +90,7 @@ pub record IsIdle (entry : Entry) : Type 0 where
   pub turn : entry.turn ≡ Stays
 
 -- the entry is that of an event which brings these dependencies
-pub record IsEntry (t : Table) (e : Event) (came : Came) (entry : Entry) : Type 0 where
+pub record IsEntry (t : Table) (e : Event) (came : Sent) (entry : Entry) : Type 0 where
   pub ended : entry.ended ≡ placed t (ended_in e.step)
   pub closed : entry.closed ≡ placed t (closed_in e.step)
   pub merged : IsMerged t e.step came entry.merged

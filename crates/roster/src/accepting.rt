@@ -6,7 +6,7 @@ ghost use Rattle.run_model.specs.Actions.{is_begun};
 ghost use Rattle.run_model.specs.LocalReadings.{LocalEvent, events_here};
 ghost use Rattle.local_agreement.specs.Actions.{are_new, has_maker, is_child, is_new, is_own, reaches_parent, was_begun};
 ghost use Rattle.local_agreement.specs.Judging.{accepts_actions};
-ghost use Rattle.roster.specs.Entries.{came_in};
+ghost use Rattle.local_agreement.specs.Sent.{sent_of};
 
 use crate::entry::names_in;
 use crate::roster::Roster;
@@ -22,7 +22,7 @@ impl Roster {
     #[tactic(auto, using(crate::proofs::Came::came_rising))]
     pub fn accepts(&self, event: &Event, dependencies: &[(Name, Deps)]) -> Result<bool, AllocError>
         ensures { IfOk result (λ yes. (g : ℕ) (here : List LocalEvent) (c : LocalEvent) → IsRoster g here (table self.now) → c.event ≡ event.now
-            → c.carried.dependencies ≡ came_in dependencies.now → yes ≡ accepts_actions g c here) }
+            → c.carried.dependencies ≡ sent_of dependencies.now → yes ≡ accepts_actions g c here) }
     {
         let step = &event.step;
         let names = names_in(&event.answer);
@@ -99,7 +99,7 @@ impl Roster {
     // Whether a commit brings no dependencies, or its action's parent began here.
     fn reaches_parent(&self, step: &Step, dependencies: &[(Name, Deps)]) -> Result<bool, AllocError>
         ensures { IfOk result (λ reaches. (g : ℕ) (here : List LocalEvent) → IsRoster g here (table self.now)
-            → reaches ≡ reaches_parent step.now (came_in dependencies.now) (events_here here)) }
+            → reaches ≡ reaches_parent step.now (sent_of dependencies.now) (events_here here)) }
     {
         match step {
             Step::Commit(action) if !dependencies.is_empty() => self.knows_parent(action),

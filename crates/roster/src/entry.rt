@@ -77,7 +77,8 @@ impl Entry {
 }
 
 ghost use Rattle.roster.specs.Steps.{turn_in};
-ghost use Rattle.roster.specs.Entries.{IsIdle, came_in};
+ghost use Rattle.local_agreement.specs.Sent.{sent_of};
+ghost use Rattle.roster.specs.Entries.{IsIdle};
 
 /// What becomes of the guardian that keeps the step. Of crashes and recoveries it keeps its own.
 pub(crate) fn turn_in(step: &Step) -> Turn
@@ -106,7 +107,7 @@ pub(crate) fn depends_in(
     dependencies: &[(Name, Deps)],
     action: &Name,
 ) -> Result<Deps, AllocError>
-    ensures { IfOk result (λ depends. (h : ℕ) → map.get depends h ≡ least_of (came_in dependencies.now) action.now h) }
+    ensures { IfOk result (λ depends. (h : ℕ) → map.get depends h ≡ least_of (sent_of dependencies.now) action.now h) }
 {
     for (name, depends) in dependencies {
         if name == action {

@@ -32,7 +32,8 @@ pub struct Roster {
 }
 
 impl Roster {
-    ghost use Rattle.roster.specs.Entries.{FitsEntry, IsEntry, came_in};
+    ghost use Rattle.local_agreement.specs.Sent.{sent_of};
+    ghost use Rattle.roster.specs.Entries.{FitsEntry, IsEntry};
     ghost use Rattle.roster.specs.Rosters.{IsRoster, crashes_of};
     ghost use Rattle.roster.specs.Tables.{table};
 
@@ -146,7 +147,7 @@ impl Roster {
         ensures same { (g : ℕ) (here : List LocalEvent) → IsRoster g here (table self.old) → IsRoster g here (table self.new) }
         ensures crashes { crashes_of self.new ≡ crashes_of self.old }
         ensures fits { OnOk result (FitsEntry self.new entry.new) }
-        ensures planned { OnOk result (IsEntry (table self.new) (record { step = step.now; answer = answer.now }) (came_in dependencies.now) entry.new) }
+        ensures planned { OnOk result (IsEntry (table self.new) (record { step = step.now; answer = answer.now }) (sent_of dependencies.now) entry.new) }
     {
         let Places {
             ended,
@@ -182,7 +183,8 @@ impl Roster {
 }
 
 impl Roster {
-    ghost use Rattle.roster.specs.Entries.{Adds, AreAbove, AreBorn, CanCount, FitsBegun, HaveRoom, IsBorn, IsClimbed, IsLeft, IsMerged, came_in};
+    ghost use Rattle.local_agreement.specs.Sent.{sent_of};
+    ghost use Rattle.roster.specs.Entries.{Adds, AreAbove, AreBorn, CanCount, FitsBegun, HaveRoom, IsBorn, IsClimbed, IsLeft, IsMerged};
     ghost use Rattle.roster.specs.Steps.{above, closed_in, ended_in};
     ghost use Rattle.roster.specs.Rosters.{crashes_of};
     ghost use Rattle.roster.specs.Tables.{added, all_added, changed_at, ended, home_at, is_known, life_at, life_in, maker_left, merged, more_by};
@@ -281,7 +283,7 @@ impl Roster {
         step: &Step,
         dependencies: &[(Name, Deps)],
     ) -> Result<Option<(usize, Deps)>, AllocError>
-        ensures { IfOk result (IsMerged (table self.now) step.now (came_in dependencies.now)) }
+        ensures { IfOk result (IsMerged (table self.now) step.now (sent_of dependencies.now)) }
     {
         match step {
             Step::Commit(action) => self.plan_left(action, dependencies),
@@ -294,7 +296,7 @@ impl Roster {
         action: &Name,
         dependencies: &[(Name, Deps)],
     ) -> Result<Option<(usize, Deps)>, AllocError>
-        ensures { IfOk result (IsLeft (table self.now) (placed (table self.now) (above action.now)) (λ h. least_of (came_in dependencies.now) action.now h)) }
+        ensures { IfOk result (IsLeft (table self.now) (placed (table self.now) (above action.now)) (λ h. least_of (sent_of dependencies.now) action.now h)) }
     {
         let place = self.parent_place(action)?;
         let Some(at) = place else {
@@ -341,7 +343,7 @@ impl Roster {
         requires { maker ≡ placed (table self.old) (maker_in step.now) }
         ensures same { table self.new ≡ table self.old }
         ensures fits { OnOk result (FitsBegun self.new begun.new.items (vec_len begun.new)) }
-        ensures born { OnOk result (AreBorn (table self.old) (record { step = step.now; answer = answer.now }) (came_in dependencies.now) begun.new.items) }
+        ensures born { OnOk result (AreBorn (table self.old) (record { step = step.now; answer = answer.now }) (sent_of dependencies.now) begun.new.items) }
     {
         let names = names_in(answer);
         begun.clear();
@@ -408,7 +410,7 @@ impl Roster {
         maker: Option<usize>,
     ) -> Result<Row, AllocError>
         requires { maker ≡ placed (table self.now) (maker_in step.now) }
-        ensures { IfOk result (IsBorn (table self.now) step.now (came_in dependencies.now) action.now) }
+        ensures { IfOk result (IsBorn (table self.now) step.now (sent_of dependencies.now) action.now) }
     {
         let home = self.home_in(step);
         let life = self.life_in(home);

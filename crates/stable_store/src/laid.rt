@@ -42,7 +42,8 @@ pub fn lay(
 
 /// Whether each part is a value, and the base has its object.
 pub fn can_move(base: &BTreeMap<u32, Part>, parts: &BTreeMap<u32, Part>) -> bool
-    ensures { IsTrue result → CanMove parts.now.entries (parts_in base.now) }
+    ensures yes { IsTrue result → CanMove parts.now.entries (parts_in base.now) }
+    ensures no { CanMove parts.now.entries (parts_in base.now) → IsTrue result }
 {
     for (object, part) in parts {
         if !is_value(part) || !base.contains_key(object) {

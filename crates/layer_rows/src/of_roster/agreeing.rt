@@ -6,7 +6,7 @@ ghost use Rattle.run_model.specs.declared.history.Event.{Event};
 ghost use Rattle.run_model.specs.Actions.{begun};
 ghost use Rattle.run_model.specs.LocalReadings.{LocalEvent, events_here};
 ghost use Rattle.local_agreement.specs.Actions.{AgreesOnActions, are_new, has_maker, is_child, is_new, is_own, reaches_parent, was_begun};
-ghost use Rattle.roster.specs.Entries.{came_in};
+ghost use Rattle.local_agreement.specs.Sent.{sent_of};
 
 use crate::of_roster::listing::names_in;
 use run_model::{Deps, Event, Name, Names, Step};
@@ -21,7 +21,7 @@ pub(crate) fn agrees(
     came: &[(Name, Deps)],
 ) -> Result<bool, AllocError>
     ensures { IfOk result (λ agrees. (c : LocalEvent) (here : List LocalEvent) → IsTrue agrees → known.now ≡ begun (events_here here)
-        → c.event ≡ event.now → c.carried.dependencies ≡ came_in came.now → AgreesOnActions guardian c here) }
+        → c.event ≡ event.now → c.carried.dependencies ≡ sent_of came.now → AgreesOnActions guardian c here) }
 {
     let step = &event.step;
     let names = names_in(&event.answer);
@@ -132,7 +132,7 @@ fn is_child(maker: &Name, action: &Name) -> Result<bool, AllocError>
 /// Whether a commit brings no dependencies, or its action's parent was begun.
 fn reaches_parent(step: &Step, came: &[(Name, Deps)], known: &Names) -> Result<bool, AllocError>
     ensures { IfOk result (λ reaches. (past : List Event) → known.now ≡ begun past → IsTrue reaches
-        → IsTrue (reaches_parent step.now (came_in came.now) past)) }
+        → IsTrue (reaches_parent step.now (sent_of came.now) past)) }
 {
     match step {
         Step::Commit(action) if !came.is_empty() => knows_parent(action, known),

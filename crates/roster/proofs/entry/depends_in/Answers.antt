@@ -5,7 +5,7 @@ use Rattle.std.proofs.lemmas.Result.{IfOk-weaker}
 use Rattle.action_names.specs.Deps.{Deps}
 use Rattle.run_model.specs.LocalReadings.{least_of}
 use Rattle.roster.proofs.Planning.{least_at, least_end, least_past}
-use Rattle.roster.specs.Entries.{came_in}
+use Rattle.local_agreement.specs.Sent.{sent_of}
 use Rattle.roster.proofs.entry.depends_in.Goals as goal
 
 pub returns-then-eq : goal.returns-then-eq
@@ -14,7 +14,7 @@ returns-then-eq c =
     let a = c.args.action.now in
     let x = c.loop-name-item.result in
     let less : c.loop-name.name-index < length ds = omega (arith, c.loop-name-test.true) in
-    IfOk-weaker c.copy.result (λ (d : Deps). d ≡ x.1) (λ (d : Deps). (h : ℕ) → tree.get d h ≡ least_of (came_in ds) a h)
+    IfOk-weaker c.copy.result (λ (d : Deps). d ≡ x.1) (λ (d : Deps). (h : ℕ) → tree.get d h ≡ least_of (sent_of ds) a h)
     (λ d is h. ap (λ deps. tree.get deps h) is
     ∙ sym (c.loop-name.invariant h ∙ least_at ds c.loop-name.name-index x a h less c.loop-name-item.is (sym c.eq.ensures ∙ c.if-eq.true)))
     c.copy.ensures

@@ -1,8 +1,8 @@
 use Rattle.std.proofs.Common.{drop, ℕ, ◌≡◌}
 use Rattle.run_model.specs.LocalReadings.{least_of}
-use Rattle.roster.specs.Entries.{came_in}
+use Rattle.local_agreement.specs.Sent.{sent_of}
 use Rattle.roster.proofs.entry.depends_in.Given as goal
 
 -- what came of the action is what came of it in the rest
 abbrev pub invariant-loop-name : goal.invariant-loop-name
-invariant-loop-name l = (h : ℕ) → least_of (came_in l.dependencies) l.action h ≡ least_of (came_in (drop l.name-index l.dependencies)) l.action h
+invariant-loop-name l = (h : ℕ) → least_of (sent_of l.dependencies) l.action h ≡ least_of (sent_of (drop l.name-index l.dependencies)) l.action h

@@ -1,5 +1,6 @@
 use Rattle.std.proofs.Common.{ap, subst, sym, vec_capacity, vec_len, ◌+◌, ◌≤◌, ◌∙◌, ◌≡◌}
-use Rattle.roster.specs.Entries.{AreAbove, AreBorn, CanCount, IsMerged, came_in}
+use Rattle.local_agreement.specs.Sent.{sent_of}
+use Rattle.roster.specs.Entries.{AreAbove, AreBorn, CanCount, IsMerged}
 use Rattle.roster.specs.Rosters.{IsRoster}
 use Rattle.roster.specs.Steps.{closed_in, ended_in}
 use Rattle.roster.specs.Tables.{Table, placed, table}
@@ -50,7 +51,7 @@ pub returns-clause-planned : goal.returns-clause-planned
 returns-clause-planned c =
     let before = table c.args.self.now in
     let step = c.args.step.now in
-    let came = came_in c.args.dependencies.now in
+    let came = sent_of c.args.dependencies.now in
     let climbed : table c.plan_begun.new.self ≡ table c.plan_above.new.self = sym c.plan_above.ensures.same in
     let same : before ≡ table c.plan_above.new.self = sym c.plan_begun.ensures.same ∙ climbed in
     record {

@@ -4,7 +4,8 @@ use Rattle.std.proofs.lemmas.List.{map-append, take_all, take_more}
 use Rattle.action_names.specs.Names.{IsName, Name}
 use Rattle.holders.specs.Held.{names_of}
 use Rattle.roster.proofs.Planning.{HavePlaces, all_last, places_more, same_held}
-use Rattle.roster.specs.Entries.{IsBorn, came_in}
+use Rattle.local_agreement.specs.Sent.{sent_of}
+use Rattle.roster.specs.Entries.{IsBorn}
 use Rattle.roster.specs.Tables.{placed, table}
 use Rattle.run_model.specs.Actions.{maker_in}
 use Rattle.roster.specs.declared.entry.Row.{Row}
@@ -21,7 +22,7 @@ loop-name-init c = record {
   places = subst (HavePlaces c.args.self.now.places.room) (sym c.clear.ensures.items) tt;
   named = ap names_of c.clear.ensures.items;
   are_names = subst (AllByRecursion (λ (x : Name × Row). IsName x.0)) (sym c.clear.ensures.items) tt;
-  born = subst (AllByRecursion (λ (x : Name × Row). IsBorn (table c.args.self.now) c.args.step.now (came_in c.args.dependencies.now) x.0 x.1))
+  born = subst (AllByRecursion (λ (x : Name × Row). IsBorn (table c.args.self.now) c.args.step.now (sent_of c.args.dependencies.now) x.0 x.1))
       (sym c.clear.ensures.items) tt;
 }
 
@@ -51,7 +52,7 @@ pub loop-name-preserved : goal.loop-name-preserved
 loop-name-preserved c =
     let before = table c.args.self.now in
     let step = c.args.step.now in
-    let came = came_in c.args.dependencies.now in
+    let came = sent_of c.args.dependencies.now in
     let names = c.names_in-names.result.now in
     let i = c.loop-name.name-index in
     let name = c.name-item.result in

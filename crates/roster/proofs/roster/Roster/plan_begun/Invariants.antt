@@ -2,7 +2,8 @@ use Rattle.std.proofs.Common.{length, take, vec_capacity, vec_len, ◌+◌, ◌�
 use Rattle.std.specs.List.{AllByRecursion}
 use Rattle.action_names.specs.Names.{IsName, Name}
 use Rattle.holders.specs.Held.{names_of}
-use Rattle.roster.specs.Entries.{IsBorn, came_in}
+use Rattle.local_agreement.specs.Sent.{sent_of}
+use Rattle.roster.specs.Entries.{IsBorn}
 use Rattle.roster.specs.Tables.{table}
 use Rattle.roster.specs.declared.entry.Row.{Row}
 use Rattle.roster.proofs.Planning.{HavePlaces}
@@ -17,5 +18,5 @@ invariant-loop-name l = record {
   places : HavePlaces l.self.places.room l.begun.items;
   named : names_of l.begun.items ≡ take l.name-index l.names;
   are_names : AllByRecursion (λ (x : Name × Row). IsName x.0) l.begun.items;
-  born : AllByRecursion (λ (x : Name × Row). IsBorn (table l.fn.self) l.step (came_in l.dependencies) x.0 x.1) l.begun.items;
+  born : AllByRecursion (λ (x : Name × Row). IsBorn (table l.fn.self) l.step (sent_of l.dependencies) x.0 x.1) l.begun.items;
 }

@@ -2,7 +2,7 @@ use Rattle.std.proofs.Common.{None, Option, Some, ap, sym, ℕ, ◌∙◌, ◌�
 use Rattle.std.specs.FinMap as tree
 use Rattle.action_names.specs.Deps.{lesser}
 use Rattle.run_model.specs.LocalReadings.{least_of}
-use Rattle.roster.specs.Entries.{came_in}
+use Rattle.local_agreement.specs.Sent.{sent_of}
 use Rattle.roster.specs.Steps.{above}
 use Rattle.roster.specs.Tables.{placed, row_at, said, table}
 use Rattle.roster.proofs.roster.Roster.plan_left.Goals as goal
@@ -19,5 +19,5 @@ returns c =
       λ h.
           c.in_ok-depends.ensures h
           ∙ ap (lesser (said (λ row. tree.get row.depends h) None (row_at t (Some c.in-Some.at)))) (c.in_ok-came.ensures h)
-          ∙ ap (λ (p : Option ℕ). lesser (said (λ row. tree.get row.depends h) None (row_at t p)) (least_of (came_in c.args.dependencies.now) a h)) (sym there),
+          ∙ ap (λ (p : Option ℕ). lesser (said (λ row. tree.get row.depends h) None (row_at t p)) (least_of (sent_of c.args.dependencies.now) a h)) (sym there),
     )

@@ -1,5 +1,5 @@
 use Rattle.std.proofs.Common.{ap, rules, true, ◌++◌, ◌∙◌, ◌≡◌}
-use Rattle.roster.specs.Entries.{came_in}
+use Rattle.local_agreement.specs.Sent.{sent_of}
 use Rattle.roster.specs.Tables.{table}
 use Rattle.run_model.specs.Actions.{names_begun}
 use Rattle.layer_rows.proofs.Listed.{Agreeing, with_event}
@@ -10,7 +10,7 @@ invariant_of-self-2 c =
     let g = c.self.inside.guardian in
     let known = c.self.inside.begun in
     let event = c.args.event.now in
-    let came = came_in c.args.dependencies.now in
+    let came = sent_of c.args.dependencies.now in
     let yes : c.in_ok-agrees.field-0 ≡ true = search rules in
     let agrees : Agreeing g known event came = λ d here began is brings. c.in_ok-agrees.ensures d here yes began is brings in
     let more : c.in_ok-begun.begun ≡ names_begun event.answer ++ known =

@@ -4,8 +4,8 @@ use Rattle.action_names.proofs.Paths.{parent_of-take}
 use Rattle.action_names.specs.Names.{parent_of}
 use Rattle.action_forest.proofs.Said.{entries_at_home, entries_homeless}
 use Rattle.action_forest.specs.Trees.{depends_at, trees}
-use Rattle.action_forest.proofs.forest.Forest.first_depends.Goals as goal
-use Rattle.action_forest.proofs.forest.Forest.first_depends.Goals.{then-home-gt0+then-home-self+in_ok-lower, else-home-gt0, else-home-gt0-via-then-home-gt0+else-home-self, else-home-gt0-via-else-home-gt0}
+use Rattle.action_forest.proofs.forest.Forest.new_dependencies.Goals as goal
+use Rattle.action_forest.proofs.forest.Forest.new_dependencies.Goals.{then-home-gt0+then-home-self+in_ok-lower, else-home-gt0, else-home-gt0-via-then-home-gt0+else-home-self, else-home-gt0-via-else-home-gt0}
 
 pub returns : goal.returns
 returns c = λ opening registry h.
