@@ -1,14 +1,11 @@
--- Going over a history event by event: what the definitions of a list of events say of each event.
-use Rattle.std.proofs.Common.{◌≡◌, ℕ, suc, ◌+◌, ◌-◌, ◌<◌, ◌≤◌, Bool, true, false, cond, ◌&&◌, ◌||◌, List, [], ◌∷◌, ◌++◌, length, filter, reverse, map, take, get_or, IsNone, IsTrue, IfSome, ◌↔◌, refl, sym, subst, ap, ◌∙◌, arith, length-append, Option, Some, None}
+-- Going over a history event by event, and up from an action: what the definitions say of each step on the way.
+use Rattle.std.proofs.Common.{◌≡◌, ℕ, suc, ◌-◌, ◌<◌, ◌≤◌, Bool, true, false, ◌||◌, List, [], ◌∷◌, ◌++◌, length, reverse, map, IsNone, IsTrue, IfSome, ◌↔◌, refl, sym, subst, ap, ◌∙◌, arith, Option, Some, None}
 use Rattle.std.specs.List.{list_any}
 use Rattle.std.proofs.lemmas.Bool.{false≢true}
-use Rattle.std.proofs.lemmas.List.{append_assoc, map-append, reverse-append, take_more}
-use Rattle.std.proofs.lemmas.List.Elements.{filter-append}
-use Rattle.std.proofs.lemmas.List.Folds.{list_any-append}
+use Rattle.std.proofs.lemmas.List.{append_assoc, map-append, reverse-append}
 use Rattle.action_names.specs.Names.{Name, IsName, ancestors, has_name, is_top, parent_of, same_name}
 use Rattle.run_model.specs.declared.history.Event.{Event}
-use Rattle.run_model.specs.Telling.{last_passing, or_else}
-use Rattle.run_model.specs.Actions.{begins, begun, is_begun, made_by, names_begun, step_makes}
+use Rattle.run_model.specs.Actions.{begins, begun, is_begun, names_begun}
 
 -- a name of two lists together
 has_name_append : (xs ys : List Name) (a : Name) → has_name (xs ++ ys) a ≡ (has_name xs a || has_name ys a)
@@ -23,30 +20,6 @@ has_name_append (x ∷ xs) ys a = step (same_name x a) (has_name xs a) (has_name
 pub any_begins : (a : Name) (past : List Event) → list_any (λ e. begins e a) past ≡ is_begun a past
 any_begins a [] = refl
 any_begins a (e ∷ past) = ap (λ t. begins e a || t) (any_begins a past) ∙ sym (has_name_append (names_begun e.answer) (begun past) a)
-
--- something that an action made passes a test where some event begins it
-pub any_made : (p : Name → Bool) (a : Name) (past : List Event) → list_any (λ e. step_makes e.step a && list_any p (names_begun e.answer)) past ≡ list_any p (made_by a past)
-any_made p a [] = refl
-any_made p a (e ∷ past) =
-    ap (λ t. (step_makes e.step a && list_any p (names_begun e.answer)) || t) (any_made p a past)
-    ∙ step (step_makes e.step a) (names_begun e.answer)
-    ∙ sym (list_any-append p (cond (step_makes e.step a) (names_begun e.answer) []) (made_by a past))
-  where
-    step : (t : Bool) (names : List Name) → ((t && list_any p names) || list_any p (made_by a past)) ≡ (list_any p (cond t names []) || list_any p (made_by a past))
-    step true names = refl
-    step false names = refl
-
--- how many children of a the names are
-abbrev pub children : Name → List Name → ℕ
-children a names = length (filter (λ b. same_name (parent_of b) a) names)
-
--- those of an event and those of its past
-pub children_more : (a : Name) (names before : List Name) → children a (names ++ before) ≡ children a names + children a before
-children_more a names before =
-    ap length (filter-append (λ b. same_name (parent_of b) a) names before)
-    ∙ length-append (filter (λ b. same_name (parent_of b) a) names) (filter (λ b. same_name (parent_of b) a) before)
-
--- ---- going up
 
 -- the ancestors of who is next
 abbrev pub up_from : Option Name → List Name
@@ -112,49 +85,3 @@ up_more a b o next items more here named so_far pushed t p =
     ∙ ap (λ l. l ++ reverse items) (sym (ancestors_last b is.not_empty))
     ∙ ap (λ x. up_from x ++ reverse items) (sym here)
     ∙ so_far
-
-or_else_assoc : (x y z : Option Name) → or_else (or_else x y) z ≡ or_else x (or_else y z)
-or_else_assoc None y z = refl
-or_else_assoc (Some a) y z = refl
-
--- one more at the end of a list is the last that passes, if it does
-last_passing_push : (p : Name → Bool) (names : List Name) (b : Name)
-    → last_passing p (names ++ b ∷ []) ≡ or_else (cond (p b) (Some b) None) (last_passing p names)
-last_passing_push p [] b = step (p b)
-  where
-    step : (t : Bool) → or_else None (cond t (Some b) None) ≡ or_else (cond t (Some b) None) None
-    step true = refl
-    step false = refl
-last_passing_push p (a ∷ names) b =
-    ap (λ o. or_else o (cond (p a) (Some a) None)) (last_passing_push p names b)
-    ∙ or_else_assoc (cond (p b) (Some b) None) (last_passing p names) (cond (p a) (Some a) None)
-
--- the nearest ancestor that passes is the action itself
-pub nearest_is_own : (p : Name → Bool) (o : Option Name) (b : Name) → o ≡ Some b → IfSome o IsName → p b ≡ true
-    → Some b ≡ last_passing p (up_from o)
-nearest_is_own p o b here named passes =
-    let is = here_named o b here named in
-    sym
-    (ap (λ x. last_passing p (up_from x)) here
-    ∙ ap (last_passing p) (ancestors_last b is.not_empty)
-    ∙ last_passing_push p (ancestors (parent_of b)) b
-    ∙ ap (λ t. or_else (cond t (Some b) None) (last_passing p (ancestors (parent_of b)))) passes)
-
--- or else one above
-pub nearest_is_above : (p : Name → Bool) (o next : Option Name) (b : Name) → o ≡ Some b → IfSome o IsName → p b ≡ false
-    → (IsNone next ↔ IsTrue (is_top b)) → IfSome next (λ a. IsName a × (a ≡ parent_of b)) → last_passing p (up_from next) ≡ last_passing p (up_from o)
-nearest_is_above p o next b here named fails t a =
-    let is = here_named o b here named in
-    ap (last_passing p) (up_from_parent b next t a)
-    ∙ sym
-    (ap (λ x. last_passing p (up_from x)) here
-    ∙ ap (last_passing p) (ancestors_last b is.not_empty)
-    ∙ last_passing_push p (ancestors (parent_of b)) b
-    ∙ ap (λ t. or_else (cond t (Some b) None) (last_passing p (ancestors (parent_of b)))) fails)
-
--- ---- going on
-
--- the events so far, and one more
-pub one_newer : (events : List Event) (i : ℕ) (e : Event) → i < length events → e ≡ get_or events i e → reverse (take (i + 1) events) ≡ e ∷ reverse (take i events)
-one_newer events i e l is =
-    ap reverse (take_more events i e l ∙ ap (λ x. take i events ++ x ∷ []) (sym is)) ∙ reverse-append (take i events) (e ∷ [])

@@ -1,4 +1,4 @@
-//! What a history says of actions and guardians, each fact found by going over the history.
+//! What a history says of actions, each fact found by going over the history, as an explanation asks it.
 //!
 //! Nothing is stored: the facts are the definitions of `run_model`, and each function promises one of them at the
 //! history that it is given.
@@ -6,4 +6,3 @@
 
 pub mod actions;
 pub mod steps;
-pub mod telling;

@@ -1,24 +1,21 @@
-//! What a history says of actions and guardians.
-use crate::reading;
-use history_facts::actions;
+//! What a history says of actions, and what one event does.
+use crate::{past, reading};
+use history_facts::{actions, steps};
 use rows::{RowFault, Words};
-use run_model::{History, Name, Opening};
+use run_model::{History, Name};
 use std::alloc::{AllocError, Global};
 
 /// Answers the rows `fact CALL`.
 pub(crate) fn answer(
     alloc: Global,
-    opening: &Opening,
     past: &History,
     mut words: Words<'_>,
     answer: &mut String,
 ) -> Result<(), RowFault> {
     match words.word()? {
         "fares" => write_fares(past, reading::name(alloc, words.rest())?, answer),
-        "at_home" => write_at_home(opening, past, reading::name(alloc, words.rest())?, answer),
-        "next_top" => Ok(write!(answer, "{}", actions::next_number(opening, past, &[]))?),
-        "crashes" => write_crashes(past, reading::guardian(&mut words)?, answer),
         "ancestors" => write_ancestors(alloc, reading::name(alloc, words.rest())?, answer),
+        "of" => write_effects(alloc, words, answer),
         _ => Err(RowFault::Unread),
     }
 }
@@ -27,19 +24,25 @@ pub(crate) fn answer(
 fn write_fares(past: &History, action: Name, answer: &mut String) -> Result<(), RowFault> {
     let fares = [
         ("begun", actions::is_begun(past, &action)),
-        ("committed", actions::is_committed(past, &action)),
         ("aborted", actions::is_aborted(past, &action)),
-        ("ended", actions::is_ended(past, &action)),
-        ("closed", actions::is_closed(past, &action)),
-        ("done", actions::is_done(past, &action)),
-        ("busy", actions::is_busy(past, &action)),
-        ("gone", actions::is_gone(past, &action)),
     ];
     Ok(write_true(&fares, answer)?)
 }
 
+/// `of ACTION GUARDIAN STEP -> ANSWER`: whether this event begins the action, and whether it is a crash of the guardian.
+fn write_effects(alloc: Global, mut words: Words<'_>, answer: &mut String) -> Result<(), RowFault> {
+    let action = reading::name(alloc, words.word()?)?;
+    let guardian = reading::guardian(&mut words)?;
+    let event = past::read_event(alloc, words.rest())?;
+    let effects = [
+        ("begins", actions::begins(&event, &action)),
+        ("crashes", steps::crashes(&event.step, guardian)),
+    ];
+    Ok(write_true(&effects, answer)?)
+}
+
 /// Writes into an empty text the names of the facts that hold, or that none does.
-pub(crate) fn write_true(facts: &[(&str, bool)], answer: &mut String) -> Result<(), AllocError> {
+fn write_true(facts: &[(&str, bool)], answer: &mut String) -> Result<(), AllocError> {
     for (name, holds) in facts {
         if *holds {
             write_word(name, answer)?;
@@ -57,32 +60,6 @@ fn write_word(word: &str, answer: &mut String) -> Result<(), AllocError> {
         answer.push(' ')?;
     }
     answer.push_str(word)
-}
-
-/// `at_home ACTION`: its home, that one's incarnation, and the next number of a child.
-fn write_at_home(
-    opening: &Opening,
-    past: &History,
-    action: Name,
-    answer: &mut String,
-) -> Result<(), RowFault> {
-    let home = actions::home_of(past, &action);
-    let incarnation = actions::incarnation_of(past, &action);
-    let next = actions::next_number(opening, past, action.components());
-    write!(answer, "{home} {incarnation} {next}")?;
-    Ok(())
-}
-
-/// `crashes GUARDIAN`: how many there were, and whether it is down.
-fn write_crashes(past: &History, guardian: u32, answer: &mut String) -> Result<(), RowFault> {
-    let count = actions::crashes(past, guardian);
-    let state = if actions::is_down(past, guardian) {
-        "down"
-    } else {
-        "up"
-    };
-    write!(answer, "{count} {state}")?;
-    Ok(())
 }
 
 /// `ancestors ACTION`: how many there are, and their names.

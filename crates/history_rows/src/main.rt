@@ -10,12 +10,11 @@ mod past;
 mod reading;
 mod setups;
 mod steps;
-mod telling;
 
 use openings::Openings;
 use past::Past;
 use rows::{Row, RowFault, Subject};
-use run_model::{Opening, Setup};
+use run_model::Setup;
 use std::alloc::{AllocError, Global};
 use std::io;
 
@@ -54,17 +53,9 @@ impl Subject for HistoryRows {
             "setup" => setups::answer(alloc, &mut self.setup, words, answer),
             "history" => self.past.answer(alloc, words, answer),
             "opening" => self.openings.answer(alloc, &self.setup, words, answer),
-            "fact" => facts::answer(alloc, &self.opening()?, self.past.history(), words, answer),
-            "told" => telling::answer(alloc, self.past.history(), words, answer),
+            "fact" => facts::answer(alloc, self.past.history(), words, answer),
             _ => answer_alone(alloc, row, answer),
         }
-    }
-}
-
-impl HistoryRows {
-    /// The opening of the section.
-    fn opening(&self) -> Result<Opening, AllocError> {
-        self.openings.opening(self.alloc, &self.setup)
     }
 }
 

@@ -30,7 +30,7 @@ impl Openings {
     }
 
     /// The opening of the setup's guardians.
-    pub(crate) fn opening(&self, alloc: Global, setup: &Setup) -> Result<Opening, AllocError> {
+    fn opening(&self, alloc: Global, setup: &Setup) -> Result<Opening, AllocError> {
         let mut stores = Vec::new(alloc);
         for index in 0..setup.guardians() {
             stores.push(self.held(alloc, index as u32 + 1)?)?;
@@ -64,6 +64,7 @@ impl Openings {
             "content" => self.write_content(alloc, setup, read_object(&mut words)?, answer),
             "has" => self.write_has(alloc, setup, read_object(&mut words)?, answer),
             "knows" => self.write_knows(alloc, setup, words.rest(), answer),
+            "first_top" => Ok(write!(answer, "{}", self.opening(alloc, setup)?.first_top())?),
             _ => Err(RowFault::Unread),
         }
     }

@@ -76,13 +76,8 @@ impl Past {
 }
 
 /// The event of a text `STEP -> ANSWER`.
-fn read_event(alloc: Global, text: &str) -> Result<Event, RowFault> {
+pub(crate) fn read_event(alloc: Global, text: &str) -> Result<Event, RowFault> {
     let (step, said) = text.split_once(" -> ").ok_or(RowFault::Unread)?;
-    event(alloc, step, said)
-}
-
-/// The event of a step and its answer.
-pub(crate) fn event(alloc: Global, step: &str, said: &str) -> Result<Event, RowFault> {
     let answer = answers::read(alloc, said)?;
     let step = reading::step(alloc, step)?;
     Ok(Event { step, answer })

@@ -4,20 +4,6 @@ use rows::{RowFault, Words};
 use run_model::{Name, NameFault, Names, Step};
 use std::alloc::{AllocError, Global};
 
-/// An action, and the guardian at which something is asked of it.
-#[derive(Drop)]
-pub(crate) struct At {
-    pub(crate) guardian: u32,
-    pub(crate) action: Name,
-}
-
-/// The next two words as a guardian and an action.
-pub(crate) fn read_at(alloc: Global, words: &mut Words<'_>) -> Result<At, RowFault> {
-    let guardian = guardian(words)?;
-    let action = name(alloc, words.word()?)?;
-    Ok(At { guardian, action })
-}
-
 /// The name that the text spells.
 pub(crate) fn name(alloc: Global, text: &str) -> Result<Name, RowFault> {
     match Name::parse(alloc, text) {
