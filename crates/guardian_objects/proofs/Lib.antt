@@ -14,4 +14,3 @@ pub mod SoFar
 pub mod Making
 pub mod Counting
 pub mod GivenBack
-pub mod Below

@@ -98,7 +98,7 @@ rising_last (x ∷ ns) y p h = (above_last x ns y p.0 (h x (first_there x ns)), 
 one_more : (n : ℕ) → up_to (suc n) ≡ up_to n ++ suc n ∷ []
 one_more n = reverse-append (suc n ∷ []) (down_from n)
 
-pub has_up_to : (m n : ℕ) → has_number (up_to m) n ≡ (nat_le 1 n && nat_le n m)
+has_up_to : (m n : ℕ) → has_number (up_to m) n ≡ (nat_le 1 n && nat_le n m)
 has_up_to zero zero = refl
 has_up_to zero (suc n) = sym (and_right (nat_le 1 (suc n)) (nat_le (suc n) 0) (lt-leb (suc n) 0 (omega arith)))
 has_up_to (suc m) n =

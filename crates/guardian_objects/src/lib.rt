@@ -9,8 +9,6 @@ mod objects;
 mod outcomes;
 mod preparing;
 mod restoring;
-mod settling;
 
 pub use objects::Objects;
 pub use outcomes::Planned;
-pub use settling::outcome_of;

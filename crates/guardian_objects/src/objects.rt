@@ -1,16 +1,14 @@
 //! The objects, and what is asked of them.
-ghost use Rattle.std.specs.Prelude.{◌≡◌, ◌≤◌, ◌&&◌, ◌∷◌, [], ℕ, List, length, nat_le, true, Some, IsTrue, IsFalse, IfOk, IfSome, IsNone, OnErr, OnOk};
+ghost use Rattle.std.specs.Prelude.{◌≡◌, ◌≤◌, ◌∷◌, [], ℕ, List, length, Some, IsTrue, IsFalse, IfOk, IfSome, IsNone, OnErr, OnOk};
 ghost use Rattle.std.specs.Option.{option_copied};
 ghost use Rattle.action_names.specs.Names.{Name, is_ancestor};
 ghost use Rattle.atomic_types.specs.declared.op.Reply.{Reply};
 ghost use Rattle.values.specs.declared.content.Content.{Content};
 ghost use Rattle.run_model.specs.Keeping.{Standing};
-ghost use Rattle.run_model.specs.Answers.{is_concerned_by, operated_by};
+ghost use Rattle.run_model.specs.Answers.{operated_by};
 ghost use Rattle.run_model.specs.LocalReadings.{LocalEvent, count_here, standing_here, told_committed_here};
 ghost use Rattle.run_model.specs.Openings.{Opening, first_content, opening_in};
 ghost use Rattle.run_model.specs.Versions.{base_by};
-ghost use Rattle.local_agreement.specs.Judging.{holds_nothing};
-ghost use Rattle.held_objects.specs.Held.{has_number, IsRising};
 ghost use Rattle.object_laws.specs.Shown.{Shows};
 ghost use Rattle.atomic_object.specs.Kept.{Kept, seen};
 ghost use Rattle.guardian_objects.specs.Objects.{AreObjects, IsAsked, IsGranted, Keeps, Operates, object_at, object_of};
@@ -74,13 +72,6 @@ impl Objects {
         })
     }
 
-    /// The number of the guardian.
-    pub fn guardian(&self) -> u32
-        ensures { result ≡ self.now.guardian }
-    {
-        self.guardian
-    }
-
     /// What belongs to the base of the object of this number; none where there is no such object. This takes no memory.
     pub fn base(&self, number: u32) -> Option<View<'_, Content>>
         ensures base { IfSome result (λ base. (opening : Opening) (here : List LocalEvent) → AreObjects opening here self.now
@@ -98,15 +89,6 @@ impl Objects {
         self.objects.get(place)
     }
 
-    /// At which objects the holder holds something, rising: those that a telling of its commit changes. This takes no memory.
-    pub fn objects_of(&self, holder: &Name) -> &[u32]
-        ensures objects { (opening : Opening) (here : List LocalEvent) (n : ℕ) → AreObjects opening here self.now → has_number result.now n
-            ≡ (nat_le 1 n && (nat_le n (length self.now.objects) && is_concerned_by true (standing_here here (object_of self.now n)) holder.now)) }
-        ensures rising { IsRising result.now }
-    {
-        self.held.objects_of(holder)
-    }
-
     /// How many objects a telling of the outcome changes, of an action that was not told committed. It looks at those alone. Fails only for want
     /// of memory.
     pub fn told_count(&self, action: &Name, committed: bool) -> Result<u64, AllocError>
@@ -120,14 +102,6 @@ impl Objects {
         let numbers = self.held.objects_below(action)?;
         let below = numbers.len();
         Ok(below as u64)
-    }
-
-    /// Whether the holder holds nothing at any object. This takes no memory.
-    pub fn holds_nothing(&self, holder: &Name) -> bool
-        ensures { (opening : Opening) (here : List LocalEvent) → AreObjects opening here self.now
-            → result ≡ holds_nothing opening self.now.guardian holder.now here }
-    {
-        self.held.objects_of(holder).is_empty()
     }
 
     /// What an operation on the object of this number would be answered, with nothing changed. Fails only for want of memory.

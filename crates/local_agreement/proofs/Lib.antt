@@ -8,11 +8,3 @@ pub mod Marks
 pub mod Undone
 pub mod Safe
 pub mod Agreement
-pub mod Tests
-pub mod Doing
-pub mod Next
-pub mod Accepted
-pub mod Acts
-pub mod Settled
-pub mod Handed
-pub mod Accepting

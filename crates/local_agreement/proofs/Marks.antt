@@ -118,7 +118,7 @@ fresh_low x n (Op a y o) (Granted r) = of (same_object y x) refl
 fresh_low x n _ _ = tt
 
 -- facts of each of two lists
-pub each_append : {X : Type 0} (P : X → Type 0) (xs ys : List X) → Each P xs → Each P ys → Each P (xs ++ ys)
+each_append : {X : Type 0} (P : X → Type 0) (xs ys : List X) → Each P xs → Each P ys → Each P (xs ++ ys)
 each_append P [] ys h k = k
 each_append P (x ∷ xs) ys h k = (h.0, each_append P xs ys h.1 k)
 
@@ -142,7 +142,7 @@ kept_low x (e ∷ past) =
     (each_append _ _ _ (fresh_low x (suc (length past)) e.step e.answer)
     (each_left _ (λ o. not (undoes e past o)) _ (low_more x (length past) _ (kept_low x past))))
 
-pub here_low : (x : ObjectId) (here : List LocalEvent) → Each (IsLow x (length here)) (kept_here x here)
+here_low : (x : ObjectId) (here : List LocalEvent) → Each (IsLow x (length here)) (kept_here x here)
 here_low x [] = tt
 here_low x (c ∷ here) =
     each_append _ _ _ (fresh_low x (suc (length here)) c.event.step c.event.answer)
@@ -184,7 +184,7 @@ fresh_unnamed opening e past x r n = of e.step e.answer (checked opening e past 
         elsewhere = ap (λ h. h == x.guardian) (eqb-true y.guardian (home_of a past) (not-false _ (f why.Elsewhere))) ∙ n
     of _ _ f n = refl
 
-pub same_length : (here : List LocalEvent) → length (events_here here) ≡ length here
+same_length : (here : List LocalEvent) → length (events_here here) ≡ length here
 same_length [] = refl
 same_length (c ∷ here) = ap suc (same_length here)
 

@@ -40,7 +40,7 @@ use Rattle.local_agreement.proofs.Undone.{after_prepared, kept_before, none_abor
 -- ---- records
 
 -- a record is that of a top action on which the guardian voted yes
-pub recorded_prepared : (opening : Opening) (g : ℕ) (t : Name) (past : List Event) → is_some (stable_prepared opening g t past) ≡ true → has_prepared g t past ≡ true
+recorded_prepared : (opening : Opening) (g : ℕ) (t : Name) (past : List Event) → is_some (stable_prepared opening g t past) ≡ true → has_prepared g t past ≡ true
 recorded_prepared opening g t [] h = absurd (false≢true h)
 recorded_prepared opening g t (e ∷ past) h =
     of (λ k. recorded_prepared opening g t past k) (votes_yes e.step e.answer g t) refl (step_told e.step g t) h
@@ -55,7 +55,7 @@ recorded_prepared opening g t (e ∷ past) h =
     of rest false q true k = absurd (false≢true k)
     of rest false q false k = or_right (votes_yes e.step e.answer g t) _ (rest k)
 
-pub prepared_top : (opening : Opening) (past : List Event) (g : ℕ) (t : Name) → IsRun opening past → has_prepared g t past ≡ true → is_top t ≡ true
+prepared_top : (opening : Opening) (past : List Event) (g : ℕ) (t : Name) → IsRun opening past → has_prepared g t past ≡ true → is_top t ≡ true
 prepared_top opening [] g t r h = absurd (false≢true h)
 prepared_top opening (e ∷ past) g t r h = elim (or_cases (votes_yes e.step e.answer g t) (has_prepared g t past) h) [
   | inl k ↦ (yes_facts opening e past g t r k).top
@@ -133,7 +133,7 @@ both false true f g = g refl
 both false false f g = refl
 
 -- An operation under no aborted subaction was granted before its guardian voted on its top action, where that did at all.
-pub voted_since : (opening : Opening) (o : Performed) (e : Event) (past : List Event) {now : List Event} → Grants o e past → Follows (e ∷ past) now
+voted_since : (opening : Opening) (o : Performed) (e : Event) (past : List Event) {now : List Event} → Grants o e past → Follows (e ∷ past) now
     → IsRun opening now → NoneAborted o.action now → has_prepared o.object.guardian (top_of o.action) now ≡ true
     → prepared_after o.number o.object.guardian (top_of o.action) now ≡ true
 voted_since opening o e past p w r n h = elim (prepared_when o e past g t p w h) [ inl x ↦ absurd (never x) | inr x ↦ x ]
@@ -175,7 +175,7 @@ voted_since opening o e past p w r n h = elim (prepared_when o e past g t p w h)
             ]
 
 -- Of what is kept just that is safe whose guardian voted yes on its top action since.
-pub kept_safe : (opening : Opening) (o : Performed) (e : Event) (past now : List Event) → Grants o e past → Follows (e ∷ past) now
+kept_safe : (opening : Opening) (o : Performed) (e : Event) (past now : List Event) → Grants o e past → Follows (e ∷ past) now
     → IsRun opening now → is_kept o now ≡ true
     → prepared_after o.number o.object.guardian (top_of o.action) now
     ≡ is_recorded opening o.object.guardian now (holder_by (λ c. told_committed o.object.guardian c now) o.action)

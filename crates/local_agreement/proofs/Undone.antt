@@ -40,7 +40,7 @@ had_aborted opening e past b r h k = elim (or_cases (is_committed b past) (is_ab
 ]
 
 -- what was told since a crash was told
-pub told_ever : (g : ℕ) (b : Name) (past : List Event) → told_since_crash g b past ≡ true → was_told g b past ≡ true
+told_ever : (g : ℕ) (b : Name) (past : List Event) → told_since_crash g b past ≡ true → was_told g b past ≡ true
 told_ever g b [] h = h
 told_ever g b (e ∷ past) h = elim (or_cases _ _ (and_parts (not (step_crashes e.step g)) _ h).1) [
   | inl k ↦ or_left _ _ (told_ever g b past k)
@@ -86,7 +86,7 @@ operates_known opening o e past r p =
     let asked : NoneApplies (checks opening (Op o.action o.object o.operation) past) = subst P (grant_parts o e past p).0 (checked opening e past r) in
     ap (λ h. is_known_orphan opening o.action h past) (sym (granting opening o e past r p).home) ∙ asked why.Orphan
 
-pub untold_above : (opening : Opening) (o : Performed) (e : Event) (past : List Event) {now : List Event} → Grants o e past → Follows (e ∷ past) now
+untold_above : (opening : Opening) (o : Performed) (e : Event) (past : List Event) {now : List Event} → Grants o e past → Follows (e ∷ past) now
     → IsRun opening now → is_kept o now ≡ true → (f : Name) → is_ancestor f o.action ≡ true → is_aborted f now ≡ true
     → told_since_crash o.object.guardian f now ≡ true → ⊥
 untold_above opening o e past p here r k f l a t = clash orphan (operates_known opening o e past r p)

@@ -1,6 +1,6 @@
 -- What an event says of votes agrees with the guardian's own history.
 use Rattle.std.proofs.Common.{List, None, Some, [], ap, arith, cond, false, inl, inr, length, nat_lt, subst, sym, true, ℕ, ◌==◌, ◌∙◌, ◌∷◌, ◌≡◌, ◌≤◌, ◌||◌}
-use Rattle.std.proofs.lemmas.Bool.{and_parts, eqb-false, false≢true, not-false, or_cases, or_left, or_parts, or_right}
+use Rattle.std.proofs.lemmas.Bool.{and_parts, eqb-false, false≢true, not-false, or_parts}
 use Rattle.action_names.specs.Names.{Name, same_name}
 use Rattle.run_model.specs.declared.answer.Answer.{Answer}
 use Rattle.run_model.specs.declared.answer.Answer.TheVariants.{VoteYes}
@@ -14,8 +14,7 @@ use Rattle.run_model.specs.LocalHistories.{Stamped, events_of}
 use Rattle.run_model.specs.Openings.{Opening}
 use Rattle.run_model.specs.Refusals.{checks}
 use Rattle.run_model.specs.Runs.{IsRun}
-use Rattle.run_model.specs.Visibility.{has_prepared, votes_yes}
-use Rattle.run_model.specs.Votes.{has_voted, step_votes}
+use Rattle.run_model.specs.Visibility.{votes_yes}
 use Rattle.run_laws.proofs.Accepted.{NoneApplies, checked}
 use Rattle.run_laws.proofs.Begun.{begun_cases}
 use Rattle.run_laws.proofs.Homes.{home_more}
@@ -49,18 +48,6 @@ home_numbered opening (e ∷ past) a r b = elim (begun_cases e past a b) [
     of (Call c h) m f ih = numbered h (length opening.setup) (f why.NoGuardian)
     of (Arms c kinds) m f ih = ih c (not-false _ (f why.NoAction))
     of _ m f ih = elim m [ ]
-
--- who prepared has voted
-pub prepared_voted : (g : ℕ) (t : Name) (past : List Event) → has_prepared g t past ≡ true → has_voted g t past ≡ true
-prepared_voted g t [] h = absurd (false≢true h)
-prepared_voted g t (e ∷ past) h = elim (or_cases _ _ h) [
-  | inl k ↦ or_left _ _ (of e.step e.answer k)
-  | inr k ↦ or_right _ _ (prepared_voted g t past k)
-]
-  where
-    of : (step : Step) (answer : Answer) → votes_yes step answer g t ≡ true → step_votes step g t ≡ true
-    of (Prepare h b) VoteYes k = k
-    of _ _ k = absurd (false≢true k)
 
 -- the home sends what a vote brings
 sent_by_home : (opening : Opening) (e : Event) (past : List Event) (g : ℕ) (t : Name) → IsRun opening (e ∷ past)

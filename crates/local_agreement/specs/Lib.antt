@@ -2,5 +2,4 @@ pub mod Actions
 pub mod Outcomes
 pub mod Sent
 pub mod Crashes
-pub mod Judging
 pub mod Laws

@@ -1,16 +1,12 @@
--- Dependencies that came, and their entries.
+-- Dependencies by guardian, and their entries.
 use Rattle.std.proofs.Common.{Bool, List, [], Some, cond, eq-eqb, eqb-true, false, ne_eqb, refl, sym, true, ℕ, ◌==◌, ◌∙◌, ◌∷◌, ◌≡◌}
-use Rattle.std.specs.Prelude.{T}
 use Rattle.std.specs.Cmp.{unsigned_tied}
 use Rattle.std.specs.FinMap as tree
-use Rattle.std.specs.FinMap.Entries.{find, is_sorted}
+use Rattle.std.specs.FinMap.Entries.{find}
 use Rattle.std.specs.Ordering.{nat_cmp}
-use Rattle.std.proofs.lemmas.Bool.{and_from, eqb-false}
+use Rattle.std.proofs.lemmas.Bool.{eqb-false}
 use Rattle.action_names.specs.Deps.{Deps}
-use Rattle.action_names.specs.Names.{Name}
-use Rattle.local_agreement.specs.Actions.{are_rising}
 use Rattle.run_model.specs.LocalReadings.{beside}
-use Rattle.local_agreement.specs.Sent.{sent_of}
 
 eqb_turned : (m n : ℕ) → (m == n) ≡ (n == m)
 eqb_turned m n = of (n == m) refl
@@ -26,12 +22,3 @@ find_beside (e ∷ es) h = λ i. cond ((unsigned_tied h e.0 ∙ eqb_turned h e.0
 -- beside a guardian stands the dependency on it
 pub beside_get : (deps : Deps) (h : ℕ) → beside (tree.entries deps) h ≡ tree.get deps h
 beside_get deps h = sym (tree.get-entries deps h ∙ find_beside (tree.entries deps) h)
-
--- the guardians of each rise
-pub came_rising : (ds : List (Name × Deps)) → are_rising (sent_of ds) ≡ true
-came_rising [] = refl
-came_rising (d ∷ ds) = and_from _ _ (of (is_sorted nat_cmp (tree.entries d.1)) (tree.entries_sorted d.1)) (came_rising ds)
-  where
-    of : (b : Bool) → T b → b ≡ true
-    of true h = refl
-    of false h = absurd h

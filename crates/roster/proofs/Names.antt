@@ -1,10 +1,9 @@
 -- Names among names, and names above names.
-use Rattle.std.proofs.Common.{Bool, List, [], ap, arith, false, length, not, refl, subst, sym, true, inl, inr, ◌+◌, ◌++◌, ◌-◌, ◌==◌, ◌||◌, ◌∙◌, ◌∷◌, ◌≡◌, ◌≤◌}
+use Rattle.std.proofs.Common.{Bool, List, [], ap, arith, false, length, not, refl, subst, sym, true, inl, inr, ◌+◌, ◌++◌, ◌-◌, ◌||◌, ◌∙◌, ◌∷◌, ◌≡◌, ◌≤◌}
 use Rattle.std.specs.List.{list_any}
-use Rattle.std.proofs.lemmas.Bool.{and_from, and_parts, eqb-true, false≢true, or_cases, or_left, or_right, true≢false}
+use Rattle.std.proofs.lemmas.Bool.{and_from, and_parts, false≢true, or_cases, or_left, or_right, true≢false}
 use Rattle.action_names.specs.Names.{Name, has_name, is_ancestor, is_prefix, is_top, parent_of, same_name}
 use Rattle.action_names.proofs.Ancestry.{same_is, same_refl}
-use Rattle.run_laws.proofs.Names.{ancestor_up}
 use Rattle.local_agreement.specs.Actions.{is_child}
 
 -- a test does not both pass and fail
@@ -59,60 +58,3 @@ any_below (b ∷ bs) a has h = elim (or_cases (same_name b a) (has_name bs a) ha
   | inl same ↦ or_left _ _ (subst (λ c. is_ancestor a c ≡ true) (sym (same_is b a same)) (above_self a h))
   | inr later ↦ or_right _ _ (any_below bs a later h)
 ]
-
--- ---- children by their depth
-
-prefix_same : (a b : Name) → is_prefix a b ≡ true → length a ≡ length b → a ≡ b
-prefix_same [] [] h e = refl
-prefix_same [] (n ∷ b) h e = absurd (omega (arith, e))
-prefix_same (m ∷ a) [] h e = absurd (false≢true h)
-prefix_same (m ∷ a) (n ∷ b) h e =
-    let parts = and_parts (m == n) (is_prefix a b) h in
-    let rest : a ≡ b = prefix_same a b parts.1 (omega (arith, e)) in
-    let first : m ≡ n = eqb-true m n parts.0 in
-    cc
-
--- who is above an action and has as many numbers is the action
-ancestor_same : (a b : Name) → is_ancestor a b ≡ true → length a ≡ length b → a ≡ b
-ancestor_same [] b h e = absurd (false≢true h)
-ancestor_same (n ∷ a) b h e = prefix_same (n ∷ a) b h e
-
-not_top : (b : Name) → 2 ≤ length b → not (is_top b) ≡ true
-not_top [] long = refl
-not_top (n ∷ []) long = absurd (omega (arith, long))
-not_top (m ∷ n ∷ b) long = refl
-
--- who stands above an action that is one number longer is its parent
-pub child_is : (a b : Name) → 1 ≤ length a → length b ≡ length a + 1 → is_ancestor a b ≡ is_child a b
-child_is a b low longer = of (is_ancestor a b) refl (is_child a b) refl
-  where
-    parent : is_ancestor a b ≡ true → is_child a b ≡ true
-    parent up = elim (ancestor_up a b up) [
-      | inl same ↦ absurd (let e : length a ≡ length b = ap length same in omega (arith, e, longer))
-      | inr high ↦
-          let parents = length_parent b in
-          let same : a ≡ parent_of b = ancestor_same a (parent_of b) high (omega (arith, parents, longer)) in
-          and_from _ _ (not_top b (omega (arith, low, longer))) (subst (λ x. same_name x a ≡ true) same (same_refl a))
-    ]
-
-    of : (s : Bool) → is_ancestor a b ≡ s → (t : Bool) → is_child a b ≡ t → s ≡ t
-    of true up true child = refl
-    of true up false child = absurd (clash (parent up) child)
-    of false up true child = absurd (clash (above_child a b child (omega (arith, longer))) up)
-    of false up false child = refl
-
--- and of another it is not
-pub no_child : (a b : Name) → 1 ≤ length a → 1 ≤ length b → (length b ≡ length a + 1 → ⊥) → false ≡ is_child a b
-no_child a b low lower other = of (is_child a b) refl
-  where
-    of : (t : Bool) → is_child a b ≡ t → false ≡ t
-    of false child = refl
-    of true child =
-        let same : length (parent_of b) ≡ length a = ap length (same_is (parent_of b) a (and_parts (not (is_top b)) (same_name (parent_of b) a) child).1) in
-        let less = length_parent b in
-        absurd (other (omega (arith, same, less, low, lower)))
-
--- a name among names, as a search finds it
-pub contains_is : (bs : List Name) (a : Name) → list_any (λ b. same_name b a) bs ≡ has_name bs a
-contains_is [] a = refl
-contains_is (b ∷ bs) a = ap (λ t. same_name b a || t) (contains_is bs a)

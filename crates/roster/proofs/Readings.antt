@@ -1,20 +1,14 @@
 -- What is read in a roster.
-use Rattle.std.proofs.Common.{Bool, None, Option, Some, ap, arith, eq-eqb, eqb-true, false, ne_eqb, not, refl, sym, true, ℕ, List, [], length, ◌&&◌, ◌||◌, ◌==◌, ◌∙◌, ◌∷◌, ◌≡◌}
+use Rattle.std.proofs.Common.{Bool, None, Option, Some, ap, arith, eq-eqb, eqb-true, false, ne_eqb, not, refl, sym, true, ℕ, List, [], ◌&&◌, ◌||◌, ◌==◌, ◌∙◌, ◌≡◌}
 use Rattle.std.specs.Prelude.{is_some, nat_lt}
 use Rattle.std.specs.FinMap as tree
-use Rattle.std.proofs.lemmas.Bool.{le-ltb, true≢false}
-use Rattle.action_names.specs.Deps.{Deps}
-use Rattle.action_names.specs.Names.{Name, parent_of}
-use Rattle.run_model.specs.declared.history.Event.{Event}
-use Rattle.run_model.specs.declared.step.Step.{Step}
-use Rattle.run_model.specs.declared.step.Step.TheVariants.{Commit}
+use Rattle.std.proofs.lemmas.Bool.{le-ltb}
+use Rattle.action_names.specs.Names.{Name}
 use Rattle.run_model.specs.Actions.{crashes, home_of, incarnation_of, is_begun, is_busy, is_done, is_ended, is_gone, made_by}
 use Rattle.run_model.specs.LocalReadings.{LocalEvent, dependency_here, events_here, is_at_home}
-use Rattle.local_agreement.specs.Actions.{reaches_parent}
 use Rattle.roster.proofs.Changed.{got_within}
 use Rattle.roster.proofs.Counted.{any_counted}
 use Rattle.roster.proofs.Events.{no_events}
-use Rattle.local_agreement.specs.Sent.{sent_of}
 use Rattle.roster.specs.Rosters.{IsIndexed, IsRoster}
 use Rattle.roster.specs.Tables.{Table, home_at, life_at, place_of, row_at, row_of, said}
 use Rattle.roster.specs.declared.entry.Row.{Row}
@@ -91,9 +85,3 @@ module _ (g : ℕ) (here : List LocalEvent) (t : Table) (is : IsRoster g here t)
 
   pub depends : (r : Option Row) → r ≡ row_of t a → (h : ℕ) → said (λ row. tree.get row.depends h) None r ≡ dependency_here a h here
   depends r e h = ap (said (λ row. tree.get row.depends h) None) e ∙ is.depends a h
-
--- where dependencies came with a commit, the parent counts
-pub reaches_where : (ds : List (Name × Deps)) (a : Name) (step : Step) (past : List Event) → step ≡ Commit a → (length ds == 0) ≡ false
-    → reaches_parent step (sent_of ds) past ≡ is_begun (parent_of a) past
-reaches_where [] a step past is some = absurd (true≢false some)
-reaches_where (d ∷ ds) a step past is some = ap (λ t. reaches_parent t (sent_of (d ∷ ds)) past) is

@@ -5,7 +5,6 @@
 //! the definition of `run_model` at every history whose roster it is.
 #![tactic(auto)]
 
-mod accepting;
 mod entry;
 mod roster;
 

@@ -22,7 +22,7 @@ use std::alloc::{AllocError, Global};
 #[derive(Drop)]
 pub struct Roster {
     alloc: Global,
-    pub(crate) guardian: u32,
+    guardian: u32,
     crashes: u64,
     down: bool,
     rows: Vec<Row>,
@@ -191,7 +191,7 @@ impl Roster {
     ghost use Rattle.roster.specs.Tables.{one_less, place_of, placed, row_at, row_of, said, table, turned, with_closed, with_ended};
 
     // The place of the action's row.
-    pub(crate) fn place(&self, action: &Name) -> Option<usize>
+    fn place(&self, action: &Name) -> Option<usize>
         ensures { result ≡ place_of (table self.now) action.now }
     {
         self.places.get(action).copied()
@@ -308,7 +308,7 @@ impl Roster {
     }
 
     // The place of the action's parent, if it has one that has a row.
-    pub(crate) fn parent_place(&self, action: &Name) -> Result<Option<usize>, AllocError>
+    fn parent_place(&self, action: &Name) -> Result<Option<usize>, AllocError>
         ensures { IfOk result (λ at. at ≡ placed (table self.now) (above action.now)) }
     {
         let parent = action.parent()?;
@@ -395,7 +395,7 @@ impl Roster {
     }
 
     // Whether the action began here or something below it.
-    pub(crate) fn is_known(&self, action: &Name) -> bool
+    fn is_known(&self, action: &Name) -> bool
         ensures { result ≡ is_known (table self.now) action.now }
     {
         self.place(action).is_some() || self.above.get(action).is_some()
