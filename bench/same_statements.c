@@ -1,7 +1,6 @@
 /* The statements of stores' calls, made by SQLite's own library: each call one transaction, sixteen values a statement and what is left over one by one.
- * A statement is prepared once and kept. `same_statements PATH OBJECTS TIMES [prepares]` makes them as `store_runs` does, and
- * `same_statements transfers FOLDER TIMES` makes those of so many transfers over four stores, as the steps of the workload `transfers` do: a prepare at
- * each of two guardians, the decision at the first, and an installation at each. */
+ * A statement is prepared once and kept. `same_statements transfers FOLDER TIMES` makes those of so many transfers over four stores, as the steps of the
+ * workload `transfers` do: a prepare at each of two guardians, the decision at the first, and an installation at each. */
 #include <sqlite3.h>
 #include <stdio.h>
 #include <stdlib.h>
@@ -120,18 +119,6 @@ static void end_store(void) {
 
 static void write_record(char *record, size_t room, long long number) { snprintf(record, room, "{\"record\":{\"n\":%lld}}", number); }
 
-/* Records that stay, or are installed, in one store. */
-static void one_store(const char *path, long long objects, long long times, int installs) {
-    char record[64];
-    begin_store(path);
-    for (long long top = 1; top <= times; top++) {
-        write_record(record, sizeof record, top);
-        prepare(top, 1, 1, objects, record);
-        if (installs) install(top, 1, objects, record);
-    }
-    end_store();
-}
-
 /* Transfers between an object at home and one at the next guardian. */
 static void transfers(const char *folder, long long times) {
     char path[4096], records[2][64];
@@ -153,10 +140,7 @@ static void transfers(const char *folder, long long times) {
 }
 
 int main(int argc, char **argv) {
-    if (argc < 4) return 2;
-    if (!strcmp(argv[1], "transfers"))
-        transfers(argv[2], atoll(argv[3]));
-    else
-        one_store(argv[1], atoll(argv[2]), atoll(argv[3]), argc < 5 || strcmp(argv[4], "prepares"));
+    if (argc < 4 || strcmp(argv[1], "transfers")) return 2;
+    transfers(argv[2], atoll(argv[3]));
     return 0;
 }

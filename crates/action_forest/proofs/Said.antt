@@ -1,10 +1,10 @@
 -- What is read in a forest that says what a history says.
-use Rattle.std.proofs.Common.{Bool, List, [], None, Option, Some, ap, arith, cond, false, inl, inr, is_some, length, option_map, refl, sym, true, ℕ, ◌==◌, ◌∙◌, ◌∷◌, ◌≡◌, ◌≤◌}
+use Rattle.std.proofs.Common.{List, [], None, Option, Some, ap, arith, cond, inl, inr, is_some, length, refl, sym, true, ℕ, ◌==◌, ◌∙◌, ◌∷◌, ◌≡◌, ◌≤◌}
 use Rattle.std.specs.Prelude.{slice_get}
 use Rattle.std.specs.Option.{option_and_then}
 use Rattle.std.specs.Cmp.{unsigned_tied}
 use Rattle.std.specs.FinMap as tree
-use Rattle.std.proofs.lemmas.Bool.{cases_eq, eq-eqb, false≢true, ne_eqb}
+use Rattle.std.proofs.lemmas.Bool.{cases_eq, eq-eqb, ne_eqb}
 use Rattle.std.proofs.lemmas.Cmp.{nat_cmp_total}
 use Rattle.action_names.specs.Deps.{Deps, lesser, lowered}
 use Rattle.action_names.specs.Names.{Name, is_top, parent_of}
@@ -14,10 +14,9 @@ use Rattle.run_model.specs.LocalHistories.{RegistryEvent, dependency_there, entr
 use Rattle.run_model.specs.Openings.{Opening}
 use Rattle.action_forest.proofs.Entries.{entries_are}
 use Rattle.action_forest.proofs.Found.{there}
-use Rattle.action_forest.specs.Events.{first_entries, status_there}
+use Rattle.action_forest.specs.Events.{first_entries}
 use Rattle.action_forest.specs.Forests.{IsForest, IsTree}
-use Rattle.action_forest.specs.Trees.{Action, Trees, action_of, depends_at, place_of, said}
-use Rattle.action_forest.specs.declared.forest.Status.TheVariants.{Active}
+use Rattle.action_forest.specs.Trees.{Trees, action_of, depends_at, place_of}
 
 -- an action is there just where it was begun
 pub there_if_begun : (registry : List RegistryEvent) (forest : Trees) → IsTree registry forest → (a : Name)
@@ -29,20 +28,6 @@ there_if_begun registry forest h a = of (place_of forest a) refl ∙ h.found a
     of (Some i) e =
         let x = there forest i a (h.named a i e) in
         ap (λ p. is_some (option_and_then (λ i. slice_get forest.actions i) p)) e ∙ ap is_some x.1 ∙ ap is_some (sym e)
-
--- the status of an action, if it was begun
-pub status_read : (opening : Opening) (registry : List RegistryEvent) (forest : Trees) → IsForest opening registry forest → (a : Name)
-    → option_map (λ action. action.status) (action_of forest a)
-    ≡ cond (is_begun a (events_there registry)) (Some (status_there a (events_there registry))) None
-status_read opening registry forest h a =
-    of (action_of forest a) (is_begun a (events_there registry)) (there_if_begun registry forest h.tree a) (h.status a)
-  where
-    of : (o : Option Action) (b : Bool) → is_some o ≡ b → said (λ action. action.status) Active o ≡ status_there a (events_there registry)
-        → option_map (λ action. action.status) o ≡ cond b (Some (status_there a (events_there registry))) None
-    of None true k s = absurd (false≢true k)
-    of None false k s = refl
-    of (Some x) true k s = ap Some s
-    of (Some x) false k s = absurd (cc)
 
 -- the entries of what an action depends on
 pub entries_read : (opening : Opening) (registry : List RegistryEvent) (forest : Trees) → IsForest opening registry forest → (a : Name) (deps : Deps)

@@ -1,7 +1,6 @@
 -- What one node says of what is kept, and what a write to it makes of that.
-use Rattle.std.proofs.Common.{List, [], None, Some, ap, arith, get_or, length, map, option_map, refl, set, suc, sym, take, zero, ℕ, ◌++◌, ◌+◌, ◌<◌, ◌≤◌, ◌∙◌, ◌∷◌, ◌≡◌}
+use Rattle.std.proofs.Common.{List, [], None, Some, ap, arith, get_or, length, map, option_map, refl, set, suc, sym, zero, ℕ, ◌<◌, ◌≤◌, ◌∙◌, ◌∷◌, ◌≡◌}
 use Rattle.std.specs.Prelude.{slice_get}
-use Rattle.std.proofs.lemmas.List.{map-append, map_more}
 use Rattle.std.proofs.lemmas.Option.{same_Some, slice_get-map, slice_get_past, slice_get_read}
 use Rattle.action_forest.specs.Trees.{Action, action_in, updated}
 use Rattle.action_forest.specs.declared.forest.Node.{Node}
@@ -34,13 +33,3 @@ node_past nodes seen i same past =
     ap (λ items. slice_get (map action_in items) i) (sym same)
     ∙ slice_get-map action_in seen i
     ∙ ap (option_map action_in) (slice_get_past seen i past)
-
--- one node more that is copied
-pub copied_more : (items copied after : List Node) (i : ℕ) (node copy : Node) → map action_in copied ≡ map action_in (take i items) → i < length items
-    → node ≡ get_or items i node → action_in copy ≡ action_in node → after ≡ copied ++ copy ∷ []
-    → map action_in after ≡ map action_in (take (i + 1) items)
-copied_more items copied after i node copy before inside is same more =
-    ap (map action_in) more
-    ∙ map-append action_in copied (copy ∷ [])
-    ∙ (λ k. before k ++ (same ∙ ap action_in is) k ∷ [])
-    ∙ sym (map_more action_in items i node inside)

@@ -76,23 +76,6 @@ impl Node {
             busy: self.unended > 0,
         }
     }
-
-    // What is kept of the same action.
-    fn copy(&self) -> Result<Node, AllocError>
-        ensures { IfOk result (λ copy. action_in copy ≡ action_in self.now) }
-    {
-        Ok(Node {
-            name: self.name.copy()?,
-            home: self.home,
-            life: self.life,
-            maker: self.maker,
-            depends: self.depends.copy()?,
-            status: self.status,
-            closing: self.closing,
-            unended: self.unended,
-            children: self.children.clone()?,
-        })
-    }
 }
 
 // The number after the greatest that a name has room for.
@@ -100,7 +83,7 @@ const USED_UP: u64 = 4294967296;
 
 impl Forest {
     ghost use Rattle.action_forest.specs.Trees.{action_in, action_of, added, changed, changed_at, children_of, depends_at, ended, fresh_action, hung, maker_place, one_less, one_more, place_of, status_at, trees, with_closing, with_depends, with_status};
-    ghost use Rattle.action_forest.specs.Events.{IsUnended, beginning, done, first_entries, life_there, status_there};
+    ghost use Rattle.action_forest.specs.Events.{IsUnended, beginning, done, first_entries};
     ghost use Rattle.action_forest.specs.Rooms.{AreBorn, FitsBegun, HasRoom, HasRoomAt, HasRoomBelow, IsBeginning};
     ghost use Rattle.action_forest.specs.Forests.{AtEach, IsCommitmentOf, IsForest};
 
@@ -114,13 +97,6 @@ impl Forest {
             nodes: Vec::new(alloc),
             tops: Vec::new(alloc),
         }
-    }
-
-    /// How the action stands, if it was begun. This takes no memory.
-    pub fn status(&self, path: &[u32]) -> Option<Status>
-        ensures { AtEach (trees self.now) (λ opening registry. result ≡ (if is_begun path.now (events_there registry) then Some (status_there path.now (events_there registry)) else None)) }
-    {
-        Some(self.node(path)?.status)
     }
 
     /// What refusals ask of the action, if it was begun, in one look-up.
@@ -159,8 +135,8 @@ impl Forest {
         matches!(self.standing(path), Status::Committed)
     }
 
-    /// The stamp of the action's closing step, if it has come.
-    pub fn closing(&self, path: &[u32]) -> Option<u64>
+    // The stamp of the action's closing step, if it has come.
+    fn closing(&self, path: &[u32]) -> Option<u64>
         ensures { AtEach (trees self.now) (λ opening registry. result ≡ closing_there path.now registry) }
     {
         self.node(path)?.closing
@@ -172,16 +148,6 @@ impl Forest {
     {
         match self.node(path) {
             Some(node) => node.home,
-            None => 0,
-        }
-    }
-
-    /// The incarnation of its home in which the action began, and 0 where there is no such action.
-    pub fn life(&self, path: &[u32]) -> u64
-        ensures { AtEach (trees self.now) (λ opening registry. result ≡ life_there path.now registry) }
-    {
-        match self.node(path) {
-            Some(node) => node.life,
             None => 0,
         }
     }
@@ -339,22 +305,6 @@ impl Forest {
         while let Some(node) = nodes.pop() {
             self.add(node);
         }
-    }
-
-    /// A forest that keeps the same.
-    pub fn copy(&self) -> Result<Forest, AllocError>
-        ensures { IfOk result (λ copy. trees copy ≡ trees self.now) }
-    {
-        let mut nodes = Vec::with_capacity(*self.nodes.allocator(), self.nodes.len())?;
-        for node in &self.nodes {
-            nodes.push(node.copy()?)?;
-        }
-        Ok(Forest {
-            first_top: self.first_top,
-            guardians: self.guardians,
-            nodes,
-            tops: self.tops.clone()?,
-        })
     }
 
     // How the action stands; one that was not begun counts as active.

@@ -10,5 +10,5 @@
 mod forest;
 mod walk;
 
-pub use forest::{Begun, Commitment, Forest, Status};
+pub use forest::{Begun, Commitment, Forest};
 pub use walk::Hearer;

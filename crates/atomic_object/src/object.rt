@@ -1,7 +1,6 @@
 ghost use Rattle.std.specs.Prelude.{◌≡◌, ◌||◌, [], Bool, IsTrue, IsFalse, IfOk, Some, OnOk, OnErr};
 ghost use Rattle.action_names.specs.Names.{Name, is_top, same_name};
 ghost use Rattle.values.specs.declared.content.Content.{Content};
-ghost use Rattle.atomic_types.specs.Objects.{knows};
 ghost use Rattle.run_model.specs.Answers.{is_concerned_by};
 ghost use Rattle.run_model.specs.Keeping.{Standing};
 ghost use Rattle.run_model.specs.Versions.{base_by, part_held};
@@ -16,7 +15,7 @@ ghost use Rattle.atomic_object.specs.Staying.{OutcomesRise};
 
 use crate::staying::{Staying, last_staying};
 use action_names::Name;
-use atomic_types::{Class, Op, Part};
+use atomic_types::{Class, Part};
 use deltas::Deltas;
 use moss_locks::LockTable;
 use overlays::Layered;
@@ -54,29 +53,11 @@ impl Object {
         }
     }
 
-    /// Whether the operation belongs to the object. This takes no memory.
-    pub fn knows(&self, op: &Op) -> bool
-        ensures base { result ≡ knows (seen self.now).stack.base op.now }
-        ensures shown { (c : Content) (s : Standing) → Shows c s (seen self.now) → result ≡ knows c op.now }
-    {
-        self.versions.base().knows(op)
-    }
-
     /// What belongs to the base. This takes no memory.
     pub fn base(&self) -> View<'_, Content>
         ensures { (c : Content) (s : Standing) → Shows c s (seen self.now) → result ≡ base_by c s }
     {
         self.versions.base()
-    }
-
-    /// What the action holds, to be prepared: its version, put together, or else what it added. Fails only for want of memory.
-    pub fn part(&self, action: &Name) -> Result<Option<Part>, AllocError>
-        ensures { IfOk result (λ part. (c : Content) (s : Standing) → Shows c s (seen self.now) → part ≡ part_held c s action.now) }
-    {
-        if let Some(version) = self.versions.only(action) {
-            return Ok(Some(Part::Value(version.content()?)));
-        }
-        Ok(self.deltas.of(action).map(Part::Delta))
     }
 
     /// What the top action will hold, to be prepared, once the outcomes of its descendants are told, which rise by name: nothing is changed.

@@ -25,28 +25,6 @@ use std::alloc::AllocError;
 use values::Value;
 
 impl Object {
-    /// Makes the operation of an action where it need not wait: it is granted with the reply of the content on top, with what is added
-    /// beside it, and is kept. Else the answer says for whom it waits, each once, in the order of names. Then, and after want of memory,
-    /// what is held of the object stays.
-    pub fn op(&mut self, action: &Name, op: &Op) -> Result<Answer, AllocError>
-        requires named { IsTrue (is_ancestor action.now action.now) }
-        requires shown { IsShown (seen self.old) }
-        requires known { IsTrue (knows (seen self.old).stack.base op.now) }
-        ensures answers { IfOk result (λ answer. (c : Content) (s : Standing) → Shows c s (seen self.old) → answer ≡ operated_by c s action.now op.now) }
-        ensures operates { IfOk result (λ answer. Operates action.now op.now answer (seen self.old) (seen self.new)) }
-        ensures rows { KeepsOthersRows self.old self.new action.now }
-        ensures err { OnErr result (seen self.new ≡ seen self.old) }
-    {
-        match self.waited_for(action, op)? {
-            Some(names) => Ok(Answer::Waits(names)),
-            None => {
-                let reply = self.reply(op)?;
-                self.grant(action, op)?;
-                Ok(Answer::Granted(reply))
-            }
-        }
-    }
-
     /// Keeps an operation of an action that waits for nobody, so that it is granted; what it is answered, `answer` says. After want of memory
     /// what is held of the object stays.
     pub fn grant(&mut self, action: &Name, op: &Op) -> Result<(), AllocError>

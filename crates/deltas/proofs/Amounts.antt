@@ -148,11 +148,6 @@ pub beside_next : (items : List (Name × Option ℤ)) (i : ℕ) (x : Name × Opt
 beside_next items i x owner sum is lt so_far =
     beside_more (take i items) x owner sum so_far ∙ ap (λ rs. sum_beside (held_in rs) owner) (sym (next_row items i x lt is))
 
--- without an owner all deltas are summed
-pub sum_all : (ds : List (Name × ℤ)) → sum_beside ds None ≡ delta_sum ds
-sum_all [] = refl
-sum_all (d ∷ ds) = ap (λ n. sum_of n d.1) (sum_all ds)
-
 -- a delta at the end is added to the sum
 delta_end : (ds : List (Name × ℤ)) (d : Name × ℤ) → delta_sum (ds ++ d ∷ []) ≡ sum_of (delta_sum ds) d.1
 delta_end [] d = refl

@@ -1,9 +1,9 @@
-ghost use Rattle.std.specs.Prelude.{◌≡◌, ◌↔◌, [], length, None, pos, unwrap_or, IsTrue, IfOk, OnOk, OnErr, filter, not, if◌then◌else◌};
+ghost use Rattle.std.specs.Prelude.{◌≡◌, ◌↔◌, [], length, None, pos, unwrap_or, IsTrue, OnOk, OnErr, filter, not, if◌then◌else◌};
 ghost use Rattle.std.specs.List.Sorted.{IsStrictlySortedBy};
 ghost use Rattle.std.specs.Option.{option_copied as name_of};
 ghost use Rattle.action_names.specs.Names.{Name, has_name, name_cmp, is_ancestor};
 ghost use Rattle.holders.specs.Held.{names_of, held_in, HasMoreRoom, HasLessRoom};
-ghost use Rattle.object_model.specs.Deltas.{delta_at, delta_sum, more_at, HasDelta, HasNoneBelow};
+ghost use Rattle.object_model.specs.Deltas.{delta_at, more_at, HasDelta, HasNoneBelow};
 ghost use Rattle.object_model.specs.Objects.{is_beside};
 ghost use Rattle.atomic_types.specs.Counters.{sum_of};
 ghost use Rattle.deltas.specs.Beside.{sum_beside, sum_if_any, with_beside, with_left};
@@ -39,15 +39,6 @@ impl Deltas {
         }
     }
 
-    /// The same again, with the same room. Fails only for want of memory.
-    pub fn copy(&self) -> Result<Self, AllocError>
-        ensures { IfOk result (λ copy. copy ≡ self.now) }
-    {
-        Ok(Deltas {
-            amounts: self.amounts.copy()?,
-        })
-    }
-
     /// Whether there is room for nobody. Then nobody adds anything. This takes no memory.
     pub fn is_clear(&self) -> bool
         ensures room { IsTrue result ↔ (length self.now.room ≡ 0) }
@@ -62,15 +53,6 @@ impl Deltas {
         ensures { result ≡ delta_at self.now.held holder.now }
     {
         self.amounts.get(holder).copied()
-    }
-
-    /// How much all holders add, modulo 2 to the 64. This takes no memory.
-    #[tactic(auto, using(crate::proofs::Amounts::sum_all))]
-    pub fn sum(&self) -> i64
-        ensures sum { result ≡ delta_sum self.now.held }
-        ensures rising { IsStrictlySortedBy name_cmp (names_of self.now.held) }
-    {
-        self.sum_beside(None)
     }
 
     /// How much those holders add that are no ancestors of the owner, all of them where there is none, modulo 2 to the 64. This takes no

@@ -1,15 +1,15 @@
 -- Rows by name in a vector, of which some are empty.
-use Rattle.std.proofs.Common.{◌≡◌, ℕ, ◌+◌, ◌<◌, ◌≤◌, Bool, true, false, not, ◌&&◌, ◌||◌, drop, take, List, [], ◌∷◌, ◌++◌, length, get_or, refl, sym, ap, ◌∙◌, subst}
+use Rattle.std.proofs.Common.{◌≡◌, ℕ, ◌+◌, ◌<◌, Bool, true, false, not, ◌&&◌, ◌||◌, drop, take, List, [], ◌∷◌, ◌++◌, length, get_or, refl, sym, ap, ◌∙◌, subst}
 use Rattle.std.specs.Prelude.{Option, Some, None, is_some, Result, Ok, Err, OnOk, OnErr, cond}
 use Rattle.std.proofs.lemmas.Bool.{true≢false, false≢true}
-use Rattle.std.proofs.lemmas.List.{append_assoc, take-append-drop, take_all, take_more}
+use Rattle.std.proofs.lemmas.List.{append_assoc, take-append-drop, take_more}
 use Rattle.std.specs.List.Sorted.{IsStrictlySortedBy}
 use Rattle.std.specs.BTreeMap.{insert_entry}
 use Rattle.std.specs.Map.{keys_of}
 use Rattle.action_names.specs.Names.{Name, same_name, has_name, name_cmp, is_ancestor}
 use Rattle.holders.specs.Held.{Rows, names_of, with_row, held_in, HasMoreRoom}
 use Rattle.holders.proofs.Sorted.{known}
-use Rattle.holders.proofs.Rows.{copied_row, foreign_as, has_end, has_put, held_sorted, room_held, shown}
+use Rattle.holders.proofs.Rows.{copied_row, foreign_as, has_end, has_put, room_held, shown}
 
 -- one more of the first rows
 pub next_row : {X : Type 0} (xs : List X) (i : ℕ) (x : X) → i < length xs → x ≡ get_or xs i x → take (i + 1) xs ≡ take i xs ++ x ∷ []
@@ -93,17 +93,6 @@ passed_over {V} xs x a b now before e d = by_case (is_some x.1) refl d where
       skipped (not (is_ancestor b a)) (has_name (names_of (held_in xs)) b) (same_name x.0 b) e (foreign_as a b x.0 false (rw k at d))
       ∙ ap (λ t. before || (not (is_ancestor b a) && t)) (sym (ap (λ ns. has_name ns b) (names_more xs x k) ∙ has_end (names_of (held_in xs)) x.0 b))
 
--- going over rows: one more of them
-pub names_next : {V : Type 0} (items : List (Name × Option V)) (i : ℕ) (x : Name × Option V) (names : List Name) → x ≡ get_or items i x → i < length items
-    → names ≡ names_of (held_in (take i items)) → is_some x.1 ≡ true → names ++ x.0 ∷ [] ≡ names_of (held_in (take (i + 1) items))
-names_next items i x names is lt so_far some =
-    ap (λ ns. ns ++ x.0 ∷ []) so_far ∙ sym (ap (λ rs. names_of (held_in rs)) (next_row items i x lt is) ∙ names_more (take i items) x some)
-
-pub names_stay : {V : Type 0} (items : List (Name × Option V)) (i : ℕ) (x : Name × Option V) (names : List Name) → x ≡ get_or items i x → i < length items
-    → names ≡ names_of (held_in (take i items)) → is_some x.1 ≡ false → names ≡ names_of (held_in (take (i + 1) items))
-names_stay items i x names is lt so_far none =
-    so_far ∙ sym (ap (λ rs. names_of (held_in rs)) (next_row items i x lt is) ∙ names_same (take i items) x none)
-
 pub foreign_next : {V : Type 0} (items : List (Name × Option V)) (i : ℕ) (x : Name × Option V) (a b : Name) (now before : Bool) → x ≡ get_or items i x
     → i < length items → now ≡ before || (not (is_ancestor b a) && has_name (names_of (held_in (take i items))) b)
     → is_some x.1 && not (is_ancestor x.0 a) ≡ true
@@ -119,12 +108,6 @@ pub foreign_stay : {V : Type 0} (items : List (Name × Option V)) (i : ℕ) (x :
 foreign_stay items i x a b now before is lt so_far other =
     passed_over (take i items) x a b now before so_far other
     ∙ ap (λ rs. before || (not (is_ancestor b a) && has_name (names_of (held_in rs)) b)) (sym (next_row items i x lt is))
-
--- and all of them
-pub all_sorted : {V : Type 0} (items rs : List (Name × Option V)) (i : ℕ) (names : List Name) → names ≡ names_of (held_in (take i items)) → length items ≤ i
-    → items ≡ rs → IsStrictlySortedBy name_cmp (keys_of rs) → IsStrictlySortedBy name_cmp names
-all_sorted items rs i names so_far past same s =
-    subst (IsStrictlySortedBy name_cmp) (sym (so_far ∙ ap (λ es. names_of (held_in es)) (take_all i items past ∙ same))) (held_sorted rs s)
 
 -- a row without a value was put in, unless the name had one, or nothing was changed
 module _ {V E : Type 0} (s : Rows V) (rs new : List (Name × Option V)) (a : Name) (shows : shown rs ≡ s) where

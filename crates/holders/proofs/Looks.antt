@@ -1,18 +1,15 @@
--- Going over rows: looking for one that passes a test, and copying them.
-use Rattle.std.proofs.Common.{◌≡◌, Bool, true, false, ◌&&◌, map, List, [], ◌∷◌, ◌++◌, refl, sym, ap, ◌∙◌, subst}
+-- Going over rows: looking for one that passes a test.
+use Rattle.std.proofs.Common.{◌≡◌, Bool, true, false, ◌&&◌, map, List, ◌∷◌, ◌++◌, refl, sym, ap, ◌∙◌}
 use Rattle.std.specs.Prelude.{Option, Some, None, is_some}
 use Rattle.std.specs.Option.{option_copied}
 use denote.Ref.{Bor}
 use Rattle.std.specs.Iterator.{Yields}
 use Rattle.std.specs.List.{list_any}
-use Rattle.std.specs.List.Sorted.{IsStrictlySortedBy}
-use Rattle.std.specs.BTreeMap.{insert_entry}
-use Rattle.std.specs.Map.{keys_of}
 use Rattle.std.specs.Map.Iter.{TakesFirst}
 use Rattle.std.proofs.lemmas.Map.Iter.{rest_more, rest_so_far}
-use Rattle.action_names.specs.Names.{Name, name_cmp}
+use Rattle.action_names.specs.Names.{Name}
 use Rattle.holders.specs.Held.{Rows, names_of}
-use Rattle.holders.proofs.Rows.{shown, any_held, any_here, copied_row}
+use Rattle.holders.proofs.Rows.{shown, any_held, any_here}
 
 -- a row that passes is found
 pub found_one : {A V : Type 0} (shows : A → Name × Option V) (s : Rows V) (rs : List (Name × Option V)) (p : Name → Bool) (xs : List A)
@@ -33,16 +30,3 @@ found_none {A} {V} shows s rs p xs e all none =
 pub some_copied : {V : Type 0} (o : Option (Bor V)) → is_some o ≡ is_some (option_copied o)
 some_copied None = refl
 some_copied (Some x) = refl
-
--- a copy with one row more
-pub copied_next : {A V : Type 0} (shows : A → Name × Option V) (rs before new : List (Name × Option V)) (xs : List A) (start t u : List (Name × Option V)) (r : Option A) (x : A)
-    (a : Name) → IsStrictlySortedBy name_cmp (keys_of rs) → start ≡ rs → Yields (TakesFirst shows) start xs t → r ≡ Some x → TakesFirst shows t r u
-    → before ≡ map shows xs → a ≡ (shows x).0 → new ≡ insert_entry name_cmp before a (shows x).1 → new ≡ map shows (xs ++ x ∷ [])
-copied_next {A} {V} shows rs before new xs start t u r x a s from y is step e same q =
-    let whole : map shows xs ++ shows x ∷ u ≡ rs = ap (λ ts. map shows xs ++ ts) (sym (rest_more shows t u r x is step)) ∙ sym (rest_so_far shows xs start t y) ∙ from in
-    q ∙ ap (λ n. insert_entry name_cmp before n (shows x).1) same ∙ ap (λ es. insert_entry name_cmp es (shows x).0 (shows x).1) e
-    ∙ copied_row (map shows xs) (shows x).0 (shows x).1 u (subst (λ es. IsStrictlySortedBy name_cmp (keys_of es)) (sym whole) s)
-    ∙ sym (map-push shows xs x) where
-      map-push : (f : A → Name × Option V) (xs : List A) (x : A) → map f (xs ++ x ∷ []) ≡ map f xs ++ f x ∷ []
-      map-push f [] x = refl
-      map-push f (z ∷ xs) x = ap (λ es. f z ∷ es) (map-push f xs x)

@@ -124,20 +124,6 @@ impl<V: Drop> FewHolders<V> {
         by_name::any_below(&self.rows, action)
     }
 
-    /// All that hold, in the order of names. Fails only for want of memory.
-    pub fn names(&self) -> Result<Vec<Name>, AllocError>
-        ensures names { IfOk result (λ names. names.items ≡ names_of self.now.held) }
-        ensures rising { IfOk result (λ names. IsStrictlySortedBy name_cmp names.items) }
-    {
-        let mut names = Vec::new(*self.rows.allocator());
-        for (holder, row) in &self.rows {
-            if row.is_some() {
-                names.push(holder.copy()?)?;
-            }
-        }
-        Ok(names)
-    }
-
     /// Adds those that hold and are no ancestors of the action to the names. Fails only for want of memory.
     pub fn add_foreign(&self, names: &mut BTreeSet<Name>, action: &Name) -> Result<(), AllocError>
         ensures { OnOk result ((b : Name) → has_name names.new.keys b
@@ -177,17 +163,6 @@ impl<V: Drop> FewHolders<V> {
 }
 
 impl<V: Copy> FewHolders<V> {
-    /// The same again, with the same room. Fails only for want of memory.
-    pub fn copy(&self) -> Result<Self, AllocError>
-        ensures { IfOk result (λ copy. copy ≡ self.now) }
-    {
-        let mut rows = Vec::with_capacity(*self.rows.allocator(), self.rows.len())?;
-        for (holder, row) in &self.rows {
-            rows.push((holder.copy()?, *row))?;
-        }
-        Ok(FewHolders { rows })
-    }
-
     /// The same in a tree. Fails only for want of memory.
     pub fn to_tree(&self) -> Result<TreeHolders<V>, AllocError>
         ensures { IfOk result (λ tree. tree ≡ self.now) }

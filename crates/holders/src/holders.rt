@@ -1,6 +1,6 @@
 //! Holders in the order of their names, so that an action and its descendants stand next to each other: in a vector while they are few, as nearly always,
 //! and in a tree from then on.
-ghost use Rattle.std.specs.Prelude.{◌≡◌, ◌↔◌, ◌||◌, ◌&&◌, not, [], IsTrue, IfOk, OnOk, OnErr, filter, length};
+ghost use Rattle.std.specs.Prelude.{◌≡◌, ◌↔◌, ◌||◌, ◌&&◌, not, [], IsTrue, OnOk, OnErr, filter, length};
 ghost use Rattle.std.specs.List.{list_any};
 ghost use Rattle.std.specs.List.Sorted.{IsStrictlySortedBy};
 ghost use Rattle.std.specs.Option.{option_copied};
@@ -171,17 +171,6 @@ impl<V: Drop> Holders<V> {
         }
     }
 
-    /// All that hold, in the order of names. Fails only for want of memory.
-    pub fn names(&self) -> Result<Vec<Name>, AllocError>
-        ensures names { IfOk result (λ names. names.items ≡ names_of self.now.held) }
-        ensures rising { IfOk result (λ names. IsStrictlySortedBy name_cmp names.items) }
-    {
-        match &self.kept {
-            Kept::Few(few) => few.names(),
-            Kept::Many(many) => many.names(),
-        }
-    }
-
     /// Adds those that hold and are no ancestors of the action to the names. Fails only for want of memory.
     pub fn add_foreign(&self, names: &mut BTreeSet<Name>, action: &Name) -> Result<(), AllocError>
         ensures { OnOk result ((b : Name) → has_name names.new.keys b
@@ -217,17 +206,6 @@ impl<V: Copy> Holders<V> {
             Kept::Few(few) => few.make_room(holder),
             Kept::Many(many) => many.make_room(holder),
         }
-    }
-
-    /// The same again, with the same room. Fails only for want of memory.
-    pub fn copy(&self) -> Result<Self, AllocError>
-        ensures { IfOk result (λ copy. copy ≡ self.now) }
-    {
-        let kept = match &self.kept {
-            Kept::Few(few) => Kept::Few(few.copy()?),
-            Kept::Many(many) => Kept::Many(many.copy()?),
-        };
-        Ok(Holders { kept })
     }
 
     // Goes over to a tree where the vector has as many names as it is to have. Fails only for want of memory.

@@ -1,6 +1,6 @@
 //! Holders in a tree, in the order of their names, so that an action and its descendants stand next to each other. What a step costs grows with
 //! the logarithm of their number.
-ghost use Rattle.std.specs.Prelude.{◌≡◌, ◌↔◌, ◌||◌, ◌&&◌, false, not, [], IsTrue, IfOk, OnOk, OnErr, IfSome, IsNone, filter, is_some, length};
+ghost use Rattle.std.specs.Prelude.{◌≡◌, ◌↔◌, ◌||◌, ◌&&◌, false, not, [], IsTrue, OnOk, OnErr, IfSome, IsNone, filter, is_some, length};
 ghost use Rattle.std.specs.BTreeMap.{ContainsKey, keys};
 ghost use Rattle.std.specs.List.{list_any};
 ghost use Rattle.std.specs.List.Sorted.{IsStrictlySortedBy};
@@ -146,20 +146,6 @@ impl<V: Drop> TreeHolders<V> {
         self.rows.is_empty()
     }
 
-    /// All that hold, in the order of names. Fails only for want of memory.
-    pub fn names(&self) -> Result<Vec<Name>, AllocError>
-        ensures names { IfOk result (λ names. names.items ≡ names_of self.now.held) }
-        ensures rising { IfOk result (λ names. IsStrictlySortedBy name_cmp names.items) }
-    {
-        let mut names = Vec::new(self.alloc);
-        for (holder, row) in self.rows.iter() {
-            if row.is_some() {
-                names.push(holder.copy()?)?;
-            }
-        }
-        Ok(names)
-    }
-
     /// Adds those that hold and are no ancestors of the action to the names. Fails only for want of memory.
     pub fn add_foreign(&self, names: &mut BTreeSet<Name>, action: &Name) -> Result<(), AllocError>
         ensures { OnOk result ((b : Name) → has_name names.new.keys b
@@ -179,22 +165,6 @@ impl<V: Drop> TreeHolders<V> {
         ensures rising { IsStrictlySortedBy name_cmp (names_of self.now.held) }
     {
         self.rows.iter()
-    }
-}
-
-impl<V: Copy> TreeHolders<V> {
-    /// The same again, with the same room. Fails only for want of memory.
-    pub fn copy(&self) -> Result<Self, AllocError>
-        ensures { IfOk result (λ copy. copy ≡ self.now) }
-    {
-        let mut rows = BTreeMap::new(self.alloc);
-        for (holder, row) in self.rows.iter() {
-            rows.insert(holder.copy()?, *row)?;
-        }
-        Ok(TreeHolders {
-            alloc: self.alloc,
-            rows,
-        })
     }
 }
 

@@ -3,7 +3,7 @@ ghost use Rattle.std.specs.List.Sorted.{IsStrictlySortedBy};
 ghost use Rattle.std.specs.Option.{option_copied as name_of};
 ghost use Rattle.action_names.specs.Names.{Name, same_name, has_name, name_cmp};
 ghost use Rattle.moss_locks.specs.Table.{has_room, HasRoomFor, KeepsRoom, KeepsOthersRoom, KeepsOthersRows, KeepsRoomBeside, KeepsRows};
-ghost use Rattle.object_model.specs.Locks.{must_wait, is_in_the_way, shown_adders, shown_holders, holders_of, has_below, granted, revoked, inherited, dropped_below};
+ghost use Rattle.object_model.specs.Locks.{must_wait, is_in_the_way, holders_of, has_below, granted, revoked, inherited, dropped_below};
 
 use crate::of_class;
 use action_names::Name;
@@ -48,18 +48,6 @@ impl LockTable {
         }
     }
 
-    /// An equal table. Fails only for want of memory.
-    pub fn copy(&self) -> Result<Self, AllocError>
-        ensures { IfOk result (λ copy. copy ≡ self.now) }
-    {
-        Ok(LockTable {
-            alloc: self.alloc,
-            readers: self.readers.copy()?,
-            writers: self.writers.copy()?,
-            adders: self.adders.copy()?,
-        })
-    }
-
     /// Whether an operation of this class by the action has to wait for somebody. This takes no memory, and looks in each class at no
     /// more holders than the action has ancestors, and one.
     pub fn must_wait(&self, action: &Name, class: Class) -> bool
@@ -82,18 +70,6 @@ impl LockTable {
         of_class::add_in_the_way(&mut names, &self.writers, Class::Write, class, action)?;
         of_class::add_in_the_way(&mut names, &self.adders, Class::Add, class, action)?;
         of_class::list(self.alloc, &names)
-    }
-
-    /// Who holds operations of this class, each once, in the order of names. What a holder adds belongs to its version, if it has one: so
-    /// the holders of adds are here those that write nothing. Fails only for want of memory.
-    pub fn holders(&self, class: Class) -> Result<Vec<Name>, AllocError>
-        ensures { IfOk result (λ names. names.items ≡ shown_holders self.now.locks class) }
-    {
-        match class {
-            Class::Read => self.readers.names(),
-            Class::Write => self.writers.names(),
-            Class::Add => self.shown_adders(),
-        }
     }
 
     /// Whether the action holds an operation of this class. This takes no memory.
@@ -184,14 +160,5 @@ impl LockTable {
         self.readers = Holders::new(self.alloc);
         self.writers.keep(survivors);
         self.adders.keep(survivors);
-    }
-
-    // The holders of adds that write nothing.
-    fn shown_adders(&self) -> Result<Vec<Name>, AllocError>
-        ensures { IfOk result (λ names. names.items ≡ shown_adders self.now.locks) }
-    {
-        let mut names = self.adders.names()?;
-        names.retain(|holder| !self.writers.holds(holder));
-        Ok(names)
     }
 }

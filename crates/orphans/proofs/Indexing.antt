@@ -1,9 +1,8 @@
--- Indexes of names: one name more, another order of the paths, a clone.
-use Rattle.std.proofs.Common.{Bool, IsPermutation, List, Vec, [], ap, ap₂, false, nat_eq, not, refl, reverse, sym, true, vec_len, ℕ, ◌++◌, ◌∙◌, ◌∷◌, ◌≡◌, ◌||◌}
-use Rattle.std.proofs.lemmas.List.Elements.{same_from_all_zip}
+-- Indexes of names: one name more, another order of the paths.
+use Rattle.std.proofs.Common.{Bool, IsPermutation, List, Vec, [], ap, ap₂, false, nat_eq, not, refl, reverse, sym, true, ℕ, ◌++◌, ◌∙◌, ◌∷◌, ◌≡◌, ◌||◌}
 use Rattle.std.proofs.lemmas.List.Sorted.{list_any-IsPermutation}
 use Rattle.std.specs.Cmp.Lexicographic.{pointwise}
-use Rattle.std.specs.List.{AllZip, list_any}
+use Rattle.std.specs.List.{list_any}
 use Rattle.std.specs.declared.alloc.Global.{Global}
 use Rattle.action_names.specs.Comparison.{same_name-equivalence, same_name-pointwise}
 use Rattle.action_names.specs.Names.{Name, has_name, same_name}
@@ -36,21 +35,3 @@ is_known names paths name path added is same new =
     ∙ ap (has_name names) (sym same)
     ∙ sym (is path.items)
     ∙ is_new added (list_any (λ p. pointwise nat_eq path.items p.items) paths) new
-
--- clones of the paths
-abbrev pub IsPathClone : Vec ℕ Global → Vec ℕ Global → Type 0
-IsPathClone path clone = AllZip (λ m n. n ≡ m) path.items clone.items × (vec_len clone ≡ vec_len path)
-
-clone_same : (path clone : Vec ℕ Global) → IsPathClone path clone → clone.items ≡ path.items
-clone_same path clone is = same_from_all_zip (λ m n. n ≡ m) path.items clone.items is.0 (λ m n e. e)
-
-cloned_found : (a : Name) (before after : List (Vec ℕ Global)) → AllZip IsPathClone before after
-    → list_any (λ path. pointwise nat_eq a path.items) after ≡ list_any (λ path. pointwise nat_eq a path.items) before
-cloned_found a [] [] are = refl
-cloned_found a [] (q ∷ after) are = absurd are
-cloned_found a (p ∷ before) [] are = absurd are
-cloned_found a (p ∷ before) (q ∷ after) are = ap₂ (λ x y. x || y) (ap (pointwise nat_eq a) (clone_same p q are.0)) (cloned_found a before after are.1)
-
-pub indexed_cloned : (names copies : List Name) (before after : List (Vec ℕ Global)) → IsIndex names before → AllZip IsPathClone before after → copies ≡ names
-    → IsIndex copies after
-indexed_cloned names copies before after is are same = λ a. cloned_found a before after are ∙ is a ∙ ap (λ xs. has_name xs a) (sym same)

@@ -73,16 +73,6 @@ impl Counts {
         Ok(newest)
     }
 
-    /// The same counts.
-    pub fn copy(&self) -> Result<Counts, AllocError>
-        ensures { IfOk result (λ counts. known_counts counts ≡ known_counts self.now) }
-    {
-        Ok(Counts {
-            log: Vec::from_slice(*self.log.allocator(), &self.log)?,
-            greatest: self.greatest.clone()?,
-        })
-    }
-
     // Puts a count in, if it raises what is known of the guardian.
     fn put(&mut self, guardian: u32, count: u64)
         requires { HasCountRoom self.old 1 }

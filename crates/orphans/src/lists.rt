@@ -117,20 +117,6 @@ impl Lists {
         self.crashes
     }
 
-    /// Whether the guardian knows that the action with this path aborted. This takes no memory.
-    pub fn knows_abort(&self, path: &[u32]) -> bool
-        ensures { (here : List LocalEvent) → AreLists here self.now → result ≡ has_name (aborts_here (guardian_of self.now) here) path.now }
-    {
-        self.aborts.contains(path)
-    }
-
-    /// How many crashes of a guardian this one knows of; of itself it knows each. This takes no memory.
-    pub fn known_crashes(&self, guardian: u32) -> u64
-        ensures { (here : List LocalEvent) → AreLists here self.now → result ≡ known_crashes_here (guardian_of self.now) guardian here }
-    {
-        self.count_of(guardian)
-    }
-
     /// Whether an action with these dependencies is known as an orphan. This takes no memory.
     pub fn is_known_orphan(&self, opening: &Opening, action: &Name, depends: &Deps) -> bool
         ensures { (here : List LocalEvent) → AreLists here self.now → result ≡ is_orphan_by (opening_in opening.now)
@@ -165,20 +151,6 @@ impl Lists {
         let had = to.sent.came(self.guardian, self.crashes).counts;
         let unsent = (self.counts.len() as u64).saturating_sub(had);
         self.counts.newest(unsent as usize)
-    }
-
-    /// Lists of the same history.
-    pub fn copy(&self) -> Result<Lists, AllocError>
-        ensures own { IfOk result (λ copy. guardian_of copy ≡ guardian_of self.now) }
-        ensures lists { IfOk result (λ copy. (here : List LocalEvent) → AreLists here self.now → AreLists here copy) }
-    {
-        Ok(Lists {
-            guardian: self.guardian,
-            crashes: self.crashes,
-            aborts: self.aborts.copy()?,
-            counts: self.counts.copy()?,
-            sent: self.sent.copy()?,
-        })
     }
 }
 

@@ -96,20 +96,6 @@ impl Log {
         Ok(newest)
     }
 
-    /// A log of the same names.
-    pub fn copy(&self) -> Result<Log, AllocError>
-        ensures { IfOk result (λ log. known_names log ≡ known_names self.now) }
-    {
-        let mut names = Vec::with_capacity(*self.names.allocator(), self.names.len())?;
-        for name in &self.names {
-            names.push(name.copy()?)?;
-        }
-        Ok(Log {
-            names,
-            paths: self.paths.clone()?,
-        })
-    }
-
     // Puts a name in, if the log lacks it.
     fn put(&mut self, abort: Abort)
         requires { HasRoom self.old 1 }

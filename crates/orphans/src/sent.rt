@@ -1,5 +1,5 @@
 //! How much of its lists each guardian has sent in each of its lives.
-ghost use Rattle.std.specs.Prelude.{◌≡◌, ℕ, IfOk, OnOk};
+ghost use Rattle.std.specs.Prelude.{◌≡◌, ℕ, OnOk};
 
 use std::alloc::{AllocError, Global};
 use std::collections::HashMap;
@@ -65,14 +65,5 @@ impl Sent {
         };
         let kept: Result<_, _> = self.came.insert((sender, life), more);
         kept.unwrap();
-    }
-
-    /// The same.
-    pub fn copy(&self) -> Result<Sent, AllocError>
-        ensures { IfOk result (λ sent. (h life : ℕ) → came_of sent h life ≡ came_of self.now h life) }
-    {
-        Ok(Sent {
-            came: self.came.clone()?,
-        })
     }
 }

@@ -15,9 +15,9 @@ mod reads;
 mod refusals;
 
 pub use actor::Actor;
-pub use outcomes::outcome_of;
+use outcomes::outcome_of;
 pub use reads::{Reads, ReadsAction};
-pub use refusals::{refusal_of, refusal_of_operation};
+use refusals::{refusal_of, refusal_of_operation};
 use run_model::{Answer, Name, ObjectId, Op, Step};
 use std::alloc::AllocError;
 

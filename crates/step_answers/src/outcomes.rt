@@ -13,7 +13,7 @@ use run_model::{Answer, ArmKinds, Step};
 use std::alloc::{AllocError, Global};
 
 /// The answer of a step that nothing refuses.
-pub fn outcome_of<A: Reads>(reads: &A, step: &Step) -> Result<Answer, AllocError>
+pub(crate) fn outcome_of<A: Reads>(reads: &A, step: &Step) -> Result<Answer, AllocError>
     requires some { (s : Said) × A.says reads.now s }
     requires accepted { (s : Said) → A.says reads.now s → first_refusal (checks_by s.opening s.facts step.now) ≡ None }
     ensures { (s : Said) → A.says reads.now s → IfOk result (λ answer. answer ≡ outcome_by s.facts.next s.results step.now) }

@@ -19,7 +19,7 @@ use std::alloc::AllocError;
 const MAX_NUMBER: u64 = 4294967295;
 
 /// The first refusal of the step that applies.
-pub fn refusal_of<A: Reads>(reads: &A, step: &Step) -> Result<Option<Refusal>, AllocError>
+pub(crate) fn refusal_of<A: Reads>(reads: &A, step: &Step) -> Result<Option<Refusal>, AllocError>
     requires { (s : Said) × A.says reads.now s }
     ensures { (s : Said) → A.says reads.now s → IfOk result (λ why. why ≡ first_refusal (checks_by s.opening s.facts step.now)) }
 {
@@ -313,7 +313,7 @@ fn is_past_arms<A: Reads>(reads: &A, name: &Name, kinds: &ArmKinds) -> bool
 }
 
 /// The first refusal of an operation that applies.
-pub fn refusal_of_operation<A: ReadsAction>(
+pub(crate) fn refusal_of_operation<A: ReadsAction>(
     reads: &A,
     name: &Name,
     object: ObjectId,

@@ -89,14 +89,6 @@ impl Ballot {
         true
     }
 
-    /// A ballot with the same votes.
-    pub fn copy(&self) -> Result<Ballot, AllocError>
-        ensures { IfOk result (λ copy. (g : ℕ) → vote_of copy g ≡ vote_of self.now g) }
-    {
-        let votes = Vec::from_slice(*self.votes.allocator(), &self.votes)?;
-        Ok(Ballot { votes })
-    }
-
     // Whether the guardian ever voted yes.
     fn says_yes(&self, guardian: u32) -> bool
         ensures { result ≡ is_yes (vote_of self.now guardian) }

@@ -4,7 +4,7 @@ use Rattle.std.specs.Prelude.{Result, Ok, Err, OnOk, OnErr, slice_get}
 use Rattle.values.specs.declared.value.Value.TheVariants.{Int}
 use Rattle.atomic_types.specs.Operations.{Op}
 use Rattle.atomic_types.specs.declared.operation.Operation.TheVariants.{Add}
-use Rattle.overlays.specs.Laws.{OverlaysKnow, FitsStay}
+use Rattle.overlays.specs.Laws.{FitsStay}
 use Rattle.overlays.specs.Overlays.{laid_all, AllFit, Covers}
 use Rattle.version_stack.specs.Layers.{under, AllCover, AreSound, IsAdded, IsNoted, IsNotedAbove}
 
@@ -63,12 +63,6 @@ module _ {T O : Type 0} (laid : T → O → T) (fits : T → O → Type 0) where
   under_front c os ps zero l = refl
   under_front c [] ps (suc k) l = absurd (omega arith)
   under_front c (o ∷ os) ps (suc k) l = under_front (laid c o) os ps k (omega arith)
-
-  -- under overlays a content has the operations that it had
-  pub knows_all : (knows : T → Op → Bool) → OverlaysKnow knows laid fits → (c : T) (os : List O) (op : Op) → AllFit laid fits c os
-      → knows (laid_all laid c os) op ≡ knows c op
-  knows_all knows law c [] op h = refl
-  knows_all knows law c (o ∷ os) op h = knows_all knows law (laid c o) os op h.1 ∙ law c o op h.0
 
   -- ---- overlays that fit
 

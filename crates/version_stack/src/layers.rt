@@ -11,18 +11,6 @@ use overlays::Layered;
 use std::alloc::AllocError;
 use std::mem;
 
-pub(crate) fn copy_overlays<T: Layered>(
-    overlays: &Vec<T::Overlay>,
-) -> Result<Vec<T::Overlay>, AllocError>
-    ensures { IfOk result (λ copy. copy.items ≡ overlays.now.items) }
-{
-    let mut copy = Vec::with_capacity(*overlays.allocator(), overlays.len())?;
-    for overlay in overlays {
-        copy.push(T::copy_overlay(overlay)?)?;
-    }
-    Ok(copy)
-}
-
 /// Performs in the overlay on top an operation that writes or adds.
 pub(crate) fn note_on_top<T: Layered>(
     content: &T,

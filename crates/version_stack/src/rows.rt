@@ -1,23 +1,12 @@
 //! Owners, and beside each the place at which its overlays end.
-ghost use Rattle.std.specs.Prelude.{◌≡◌, ◌+◌, ◌<◌, ℕ, List, [], ◌∷◌, length, map, take, IfOk, Some, IsTrue};
-ghost use Rattle.std.specs.List.{position, list_all};
+ghost use Rattle.std.specs.Prelude.{◌≡◌, ◌+◌, ◌<◌, ℕ, List, [], ◌∷◌, length, map, take, Some, IsTrue};
+ghost use Rattle.std.specs.List.{position};
 ghost use Rattle.std.specs.Option.{option_copied as name_of};
 ghost use Rattle.action_names.specs.Names.{Name, same_name, is_ancestor, is_proper_ancestor};
-ghost use Rattle.object_model.specs.Stacks.{version_at, passed, settled, is_on_top, is_lowest, is_passed_by, owners_above, RiseByAncestry, HasNoneBetween};
+ghost use Rattle.object_model.specs.Stacks.{version_at, passed, settled, is_on_top, is_lowest, owners_above, RiseByAncestry, HasNoneBetween};
 ghost use Rattle.version_stack.specs.Layers.{rows, last_end, is_end, lowered, EndsRise};
 
 use action_names::Name;
-use std::alloc::AllocError;
-
-pub(crate) fn copy_owners(owners: &Vec<Name>) -> Result<Vec<Name>, AllocError>
-    ensures { IfOk result (λ copy. copy.items ≡ owners.now.items) }
-{
-    let mut copy = Vec::with_capacity(*owners.allocator(), owners.len())?;
-    for owner in owners {
-        copy.push(owner.copy()?)?;
-    }
-    Ok(copy)
-}
 
 /// Where the owner stands.
 pub(crate) fn place(owners: &[Name], owner: &Name) -> Option<usize>
@@ -52,33 +41,6 @@ fn is_lowest(owners: &[Name], owner: &Name) -> bool
     match owners {
         [first, ..] => first == owner,
         [] => false,
-    }
-}
-
-/// Whether all owners are ancestors of the action.
-pub(crate) fn are_above(owners: &[Name], action: &Name) -> bool
-    ensures { result ≡ list_all (λ b. is_ancestor b action.now) owners.now }
-{
-    owners.iter().all(|owner| owner.is_ancestor(action))
-}
-
-/// Whether no owner stands between the action and the next holder.
-pub(crate) fn has_none_between(owners: &[Name], action: &Name, to: Option<&Name>) -> bool
-    ensures { result ≡ list_all (λ b. is_passed_by b action.now (name_of to.entry)) owners.now }
-{
-    owners.iter().all(|owner| is_passed_by(owner, action, to))
-}
-
-// Whether the owner is no proper ancestor of the action, or the next holder or an ancestor of it.
-fn is_passed_by(owner: &Name, action: &Name, to: Option<&Name>) -> bool
-    ensures { result ≡ is_passed_by owner.now action.now (name_of to.entry) }
-{
-    if !owner.is_ancestor(action) || owner == action {
-        return true;
-    }
-    match to {
-        Some(next) => owner.is_ancestor(next),
-        None => false,
     }
 }
 

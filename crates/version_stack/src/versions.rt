@@ -1,4 +1,4 @@
-ghost use Rattle.std.specs.Prelude.{◌≡◌, ◌↔◌, [], ◌∷◌, take, Some, IsTrue, IsFalse, IfOk, OnOk, OnErr, slice_get};
+ghost use Rattle.std.specs.Prelude.{◌≡◌, [], ◌∷◌, take, Some, IsTrue, IsFalse, IfOk, OnOk, OnErr, slice_get};
 ghost use Rattle.action_names.specs.Names.{Name};
 ghost use Rattle.atomic_types.specs.Operations.{is_read, is_add};
 ghost use Rattle.object_model.specs.Stacks.{Stack, top_of, last_owner, version_at, owners_of, is_on_top, written, added, inherited, dropped_below, AreAbove, HasNoneBetween, RisesByAncestry, IsNextHolder};
@@ -53,19 +53,6 @@ impl<T: Layered> Versions<T> {
         }
     }
 
-    /// An equal stack.
-    pub fn copy(&self) -> Result<Self, AllocError>
-        ensures { IfOk result (λ copy. copy ≡ self.now) }
-    {
-        Ok(Versions {
-            content: self.content.copy()?,
-            settled: self.settled,
-            owners: rows::copy_owners(&self.owners)?,
-            ends: self.ends.clone()?,
-            overlays: layers::copy_overlays::<T>(&self.overlays)?,
-        })
-    }
-
     /// The content on top. This takes no memory.
     pub fn top(&self) -> View<'_, T>
         ensures top { result ≡ top_of self.now }
@@ -117,27 +104,6 @@ impl<T: Layered> Versions<T> {
         ensures { name_of result ≡ last_owner self.now.versions }
     {
         self.owners.last()
-    }
-
-    /// Whether all owners are ancestors of the action, so that it may write on top. This takes no memory.
-    pub fn may_write(&self, action: &Name) -> bool
-        ensures { IsTrue result ↔ AreAbove self.now.versions action.now }
-    {
-        rows::are_above(&self.owners, action)
-    }
-
-    /// Whether the action is the owner of the content on top. This takes no memory.
-    pub fn is_on_top(&self, action: &Name) -> bool
-        ensures { result ≡ is_on_top (owners_of self.now.versions) action.now }
-    {
-        rows::is_on_top(&self.owners, action)
-    }
-
-    /// Whether no owner stands between the action and the next holder. This takes no memory.
-    pub fn has_none_between(&self, action: &Name, to: Option<&Name>) -> bool
-        ensures { IsTrue result ↔ HasNoneBetween self.now.versions action.now (name_of to.entry) }
-    {
-        rows::has_none_between(&self.owners, action, to)
     }
 
     /// Gives the owner, where there is no version, this overlay as its version, as a store gave it back. After want of memory nothing is
@@ -260,9 +226,9 @@ impl<T: Layered> Versions<T> {
         self.overlays.truncate(end);
     }
 
-    /// Joins the overlays of each owner into one, and lays the base's on the content, as far as memory goes. What contracts see of the
-    /// stack stays the same, also where it fails, which it does only for want of memory.
-    pub fn tidy(&mut self) -> Result<(), AllocError>
+    // Joins the overlays of each owner into one, and lays the base's on the content, as far as memory goes. What contracts see of the
+    // stack stays the same, also where it fails, which it does only for want of memory.
+    fn tidy(&mut self) -> Result<(), AllocError>
         ensures rising { RisesByAncestry self.old.versions }
         ensures same { self.new ≡ self.old }
     {

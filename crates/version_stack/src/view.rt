@@ -40,13 +40,6 @@ impl<'a, T: Layered> View<'a, T> {
         }
     }
 
-    /// Whether the operation belongs to the content.
-    pub fn knows(&self, op: &Op) -> bool
-        ensures { result ≡ T.knows self.now op.now }
-    {
-        self.content.knows(op)
-    }
-
     /// The reply to an operation that reads. No content is put together for it.
     pub fn read(&self, op: &Op) -> Result<Reply, AllocError>
         requires known { IsTrue (T.knows self.now op.now) }

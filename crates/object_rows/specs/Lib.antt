@@ -1,4 +1,0 @@
-pub mod Guardians
-pub mod Layers
-pub mod Outcomes
-pub mod Stands
