@@ -3,9 +3,3 @@ pub mod Told
 pub mod Recorded
 pub mod Stores
 pub mod Whole
-pub mod SameTypes
-pub mod Restorable
-pub mod Opened
-pub mod Remembering
-pub mod Listed
-pub mod Consistent

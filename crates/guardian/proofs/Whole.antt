@@ -1,5 +1,5 @@
 -- The memory and the store of a guardian, once an event is kept and the store holds what it asks for.
-use Rattle.std.proofs.Common.{Bool, Err, IfOk, List, None, Ok, OnErr, Option, Result, Some, [], ap, false, inl, inr, refl, subst, sym, option_map, true, ℕ, ◌&&◌, ◌==◌, ◌∙◌, ◌∷◌, ◌≡◌}
+use Rattle.std.proofs.Common.{Bool, Err, IfOk, List, None, Ok, OnErr, Option, Result, Some, [], ap, false, refl, subst, sym, option_map, true, ℕ, ◌&&◌, ◌==◌, ◌∙◌, ◌∷◌, ◌≡◌}
 use Rattle.run_model.specs.declared.step.Step.{Step}
 use Rattle.run_model.specs.declared.step.Step.TheVariants.{Abort, Arms, Call, Close, Commit, Crash, Decide, NestedTop, Op, Prepare, Recover, Tell, Top}
 use Rattle.std.proofs.lemmas.Bool.{false_from_ne_true, false≢true, true≢false}
@@ -9,10 +9,9 @@ use Rattle.action_names.specs.Names.{Name, is_top, last_of}
 use Rattle.run_model.specs.declared.history.Event.{Event}
 use Rattle.run_model.specs.Actions.{step_crashes}
 use Rattle.run_model.specs.LocalReadings.{LocalEvent, prepared_here}
-use Rattle.run_model.specs.Reopening.{life_before}
 use Rattle.run_model.specs.StableContent.{Prepared}
 use Rattle.run_model.specs.Openings.{Opening}
-use Rattle.local_laws.specs.Owed.{IsOwed, begins, goes_on}
+use Rattle.local_laws.specs.Owed.{IsLocalRun, IsOwed, begins, goes_on}
 use Rattle.local_agreement.specs.Outcomes.{AgreesOnVotes}
 use Rattle.layer_contracts.specs.Guardians.{GuardianState, IsNext, News, by_itself, kept, stamped}
 use Rattle.standing_laws.specs.Laws.{is_crash}
@@ -23,7 +22,7 @@ use Rattle.stored_laws.proofs.Following.{nothing_is_stored, store_follows}
 use Rattle.guardian_memory.specs.Memories.{InMemory, IsSound}
 use Rattle.guardian_memory.specs.Plans.{FitsPlan, IsPlanOf, Operated}
 use Rattle.guardian_memory.specs.declared.plan.Plan.{Plan}
-use Rattle.guardian.specs.Guardians.{GoesOn, InParts, IsPlannedHere, IsRecordedAt, IsSettled, IsWhole, IsWholeOfSome}
+use Rattle.guardian.specs.Guardians.{InParts, IsPlannedHere, IsRecordedAt, IsSettled, IsWhole, IsWholeOfSome}
 use Rattle.layer_contracts.specs.Messages.{is_operation, may_fail}
 use Rattle.local_agreement.specs.Actions.{is_own}
 use Rattle.layer_contracts.specs.Stores.{IsStoreOf, LeavesStore}
@@ -66,18 +65,7 @@ module _ {S : Type 0} (seen : S → View) where
           subst (λ l. AreStored g.opening g.number l (seen s).content) (sym none)
           (nothing_is_stored g.opening g.number (seen s).content settled.base settled.prepared settled.decided settled.count settled.next_top);
     };
-    run = subst (λ l. GoesOn (record g { past = l })) (sym none) ([], inl refl, begins);
-  }
-
-  -- it was opened again by itself
-  pub whole_reopened : {p : Plan} (m : InMemory) (s : S) (g : GuardianState) (records : List (Name × Prepared)) → IsSound m g
-      → g.past ≡ life_before g.number (g.opening.stores g.number) records
-      → (seen s).holds_content ≡ true → Rests (seen s) → AreStored g.opening g.number g.past (seen s).content
-      → IsWhole seen (record { memory = m; plan = p; store = s }) g
-  whole_reopened m s g records sound is found rests stored = record {
-    memory = sound;
-    store = record { found = found; rests = rests; stored = stored };
-    run = (g.past, inr (records, is), begins);
+    run = subst (λ l. IsLocalRun g.opening g.number [] l) (sym none) begins;
   }
 
   -- an event is kept, and the store holds what it asks for
@@ -96,7 +84,7 @@ module _ {S : Type 0} (seen : S → View) where
               subst (λ held. AreStored g.opening g.number (c ∷ g.past) held) (stamp_alike g.opening g.number n news g.past (seen s).content ∙ sym now.content)
               (store_follows g.opening g.number c g.past (seen s).content whole.store.stored (votes_at g.number n news next.agrees.votes));
         };
-        run = (whole.run.0, whole.run.1, goes_on c (owed_at g.opening g.number n news g.past news.event.step next.owed) next.agrees.given whole.run.2);
+        run = goes_on c (owed_at g.opening g.number n news g.past news.event.step next.owed) next.agrees.given whole.run;
       }
 
   -- the memory alone changed, and stands where it stood

@@ -1,8 +1,7 @@
 -- A guardian as contracts see it, and when its memory and its store are of one history.
-use Rattle.std.specs.Prelude.{◌≡◌, ℕ, List, [], ◌∷◌, IsTrue}
+use Rattle.std.specs.Prelude.{◌≡◌, ℕ, [], ◌∷◌, IsTrue}
 use Rattle.std.specs.FinMap as map
 use Rattle.std.specs.FinSet as set
-use Rattle.run_model.specs.LocalReadings.{LocalEvent}
 use Rattle.run_model.specs.Openings.{Opening}
 use Rattle.stable_store.specs.Calls.{View}
 use Rattle.stable_store.specs.Stored.{Stored}
@@ -16,7 +15,6 @@ use Rattle.layer_contracts.specs.Stores.{IsStoreOf}
 use Rattle.guardian_memory.specs.Memories.{InMemory, IsSound}
 use Rattle.guardian_memory.specs.Plans.{IsPlanOf}
 use Rattle.guardian_memory.specs.declared.plan.Plan.{Plan}
-use Rattle.guardian.specs.Reopening.{IsTimeBefore}
 
 -- the memory, the plan of the event that was planned last, and the store
 pub record InParts (S : Type 0) : Type 0 where
@@ -24,15 +22,12 @@ pub record InParts (S : Type 0) : Type 0 where
   pub plan : Plan
   pub store : S
 
--- The history goes on from a time before with events of which each reply, own vote and count is the one of the events before it.
-abbrev pub GoesOn : GuardianState → Type 0
-GoesOn g = (before : List LocalEvent) × IsTimeBefore g.opening g.number before × IsLocalRun g.opening g.number before g.past
-
--- The guardian stands in this state: its memory does, its store is that of this history, and the history goes on as it should.
+-- The guardian stands in this state: its memory does, its store is that of this history, and each reply, own vote and count of the history is the one of
+-- the events before it.
 pub record IsWhole {S : Type 0} (seen : S → View) (g : InParts S) (s : GuardianState) : Type 0 where
   pub memory : IsSound g.memory s
   pub store : IsStoreOf s (seen g.store)
-  pub run : GoesOn s
+  pub run : IsLocalRun s.opening s.number [] s.past
 
 -- and it stands in some state
 abbrev pub IsWholeOfSome : {S : Type 0} → (S → View) → InParts S → Type 0

@@ -1,5 +1,2 @@
 pub mod Guardians
 pub mod Writes
-pub mod Reopening
-pub mod Listing
-pub mod Standing

@@ -12,7 +12,7 @@ use crate::guardian::Guardian;
 use crate::records::recorded_in;
 use crate::writes::Write;
 use guardian_memory::{Memory, Plan};
-use layer_contracts::{Fault, Message};
+use layer_contracts::{Draw, Fault, Message};
 use run_model::{Answer, Name, Names, ObjectId, Op, Opening, Step};
 use stable_store::{Stable, StoreFault};
 use std::alloc::{AllocError, Global};
@@ -97,21 +97,21 @@ impl<S: Stable> layer_contracts::Guardian for Guardian<S> {
         self.memory.plan(step, answer, message, &mut self.plan)
     }
 
-    fn operate<F: FnOnce() -> u64>(
+    fn operate<D: Draw>(
         &mut self,
         step: &Step,
         answer: &Answer,
-        stamp: F,
+        stamp: &mut D,
     ) -> Result<u64, AllocError> {
         self.memory.operate(step, answer, stamp)
     }
 
-    fn carry_out<F: FnOnce() -> u64>(
+    fn carry_out<D: Draw>(
         &mut self,
         _plan: (),
         step: &Step,
         answer: &Answer,
-        stamp: F,
+        stamp: &mut D,
     ) -> Result<u64, Fault> {
         if let Err(fault) = write(
             self.alloc,
@@ -123,7 +123,7 @@ impl<S: Stable> layer_contracts::Guardian for Guardian<S> {
         ) {
             return Err(fault);
         }
-        let drawn = stamp();
+        let drawn = stamp.draw();
         keep(
             &mut self.memory,
             &mut self.plan,

@@ -92,14 +92,6 @@ impl<S: Stable> Guardian<S> {
         &self.store
     }
 
-    /// The store, which the guardian leaves as it is.
-    pub fn into_store(self) -> S
-        ensures { result ≡ self.store }
-    {
-        let Guardian { store, .. } = self;
-        store
-    }
-
     /// What belongs to the base of the object of this number; none where there is no such object. This takes no memory.
     pub fn base(&self, number: u32) -> Option<View<'_, Content>>
         ensures base { (s : GuardianState) → IsWhole S.seen self.now s → IfSome result (λ base. base

@@ -6,11 +6,8 @@
 #![tactic(auto)]
 
 mod carrying;
-mod checking;
 mod guardian;
-mod judging;
 mod records;
-mod reopening;
 mod writes;
 
 pub use guardian::Guardian;

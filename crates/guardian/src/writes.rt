@@ -5,12 +5,11 @@ ghost use Rattle.run_model.specs.LocalReadings.{outcome_in, says_committed};
 ghost use Rattle.stable_store.specs.Calls.{Makes};
 ghost use Rattle.stable_store.specs.Stored.{Stored, after_bump};
 ghost use Rattle.stored_laws.specs.Stored.{after_event, asks_store, has_record};
-ghost use Rattle.local_agreement.specs.Judging.{is_yes};
 ghost use Rattle.layer_contracts.specs.Guardians.{GuardianState, News, event_of, stamped};
 ghost use Rattle.guardian_memory.specs.Memories.{IsSound};
 ghost use Rattle.guardian_memory.specs.Plans.{IsPlanOf};
 ghost use Rattle.guardian.specs.Guardians.{IsPlannedHere, WhereverPlanned};
-ghost use Rattle.guardian.specs.Writes.{is_nothing, told_stored, written};
+ghost use Rattle.guardian.specs.Writes.{is_nothing, is_yes, told_stored, written};
 
 use crate::records::recorded_in;
 use atomic_types::Part;

@@ -17,7 +17,6 @@ use Rattle.run_model.specs.Openings.{Opening, first_content}
 use Rattle.run_model.specs.StableContent.{parts_by}
 use Rattle.run_model.specs.Visibility.{votes_yes}
 use Rattle.local_agreement.specs.Crashes.{LeavesSafe}
-use Rattle.local_agreement.specs.Judging.{is_on_object}
 use Rattle.layer_contracts.specs.Guardians.{GuardianState, IsNext, News, by_itself, stamped}
 use Rattle.layer_contracts.specs.Messages.{is_operation}
 use Rattle.object_laws.specs.OnceTold.{HoldsItsTree}
@@ -34,13 +33,12 @@ use Rattle.roster.specs.declared.roster.Roster.{Roster}
 use Rattle.guardian_objects.specs.Objects.{AreObjects, Indexed, Operates}
 use Rattle.guardian_objects.specs.Objects as indexed
 use Rattle.guardian_objects.specs.Outcomes.{ArePlanned, IsHearing, OnlyTells, outcomes_of}
-use Rattle.guardian_memory.specs.Accepting.{AreRecorded}
 use Rattle.guardian_memory.specs.Memories.{InMemory, IsOfSome, IsSound}
-use Rattle.guardian_memory.specs.Plans.{FitsPlan, Follows, FollowsWhere, IsPlanOf, IsPlanned, IsPlannedWhere, Operated}
+use Rattle.guardian_memory.specs.Plans.{AreRecorded, FitsPlan, Follows, FollowsWhere, IsPlanOf, IsPlanned, IsPlannedWhere, Operated}
 use Rattle.guardian_memory.specs.declared.plan.Plan.{Plan}
 use Rattle.guardian_memory.proofs.Agreed.{actions_at, crash_brings, crash_is, may_tell, only_tells, operation_brings, vote_only_tells}
 use Rattle.guardian_memory.proofs.Held.{holds_tree, no_parts, vote_brings}
-use Rattle.guardian_memory.proofs.Operated.{IsGranted, answer_is, granted_facts, may_grant, on_object, operated_next}
+use Rattle.guardian_memory.proofs.Operated.{IsGranted, answer_is, granted_facts, may_grant, operated_next}
 use Rattle.guardian_memory.proofs.Sound.{not_counted, one_counted, sound_next, tops_next}
 use Rattle.guardian_memory.proofs.Untouched.{after_operation}
 
@@ -88,10 +86,6 @@ pub crashes_is : {m : InMemory} {g : GuardianState} (news : News) (e : Event) (t
 crashes_is news e t s same is = (λ i. step_crashes (same i).step (sym s.own i)) ∙ is
 
 module _ {m : InMemory} {g : GuardianState} {news : News} (s : IsSound m g) (next : IsNext g news) where
-  -- an operation is on an object that its guardian has
-  pub placed : is_on_object g.opening news.event.step ≡ true
-  placed = on_object g.opening g.number (stamped 0 news) g.past next.owed next.accepted
-
   -- ---- an operation
 
   module _ (a : Name) (x : ObjectId) (wanted : op.Op) (step : news.event.step ≡ Op a x wanted) where
@@ -201,7 +195,7 @@ module _ (m : InMemory) (p : Plan) (e : Event) (n : ℕ) (told : Tellings) (list
   kept_follows other quiet hears counts learns own enters tells owner g news s of same =
       let c = stamped n news in
       let up = crashes_is news e false s same quiet in
-      sound_next n news s of.next.agrees (placed s of.next)
+      sound_next n news s of.next.agrees
       (hears g.number g.past c s.tellings of.heard up) (not_counted g.number c g.past _ _ up counts s.lives)
       (learns g.past c s.knowledge (ap (λ h. step_crashes news.event.step h) s.knower ∙ up) of.lesson) own
       (enters g.number g.past c s.actions (actions_at g.number n news g.past of.next.agrees.actions) of.entry)
@@ -222,7 +216,7 @@ module _ (m : InMemory) (p : Plan) (e : Event) (n : ℕ) (told : Tellings) (list
       let c = stamped n news in
       let step = news.event.step in
       let down = crashes_is news e true s same crash in
-      sound_next n news s of.next.agrees (placed s of.next)
+      sound_next n news s of.next.agrees
       (hears g.number g.past c s.tellings of.heard down) (one_counted g.number c g.past _ _ down counts s.lives)
       (forgets g.past c s.knowledge (ap (λ h. step_crashes step h) s.knower ∙ down)) own
       (enters g.number g.past c s.actions (actions_at g.number n news g.past of.next.agrees.actions) of.entry)
@@ -237,7 +231,7 @@ operated_follows m e n objects a x wanted step operates owner g s next =
     let news = by_itself e in
     let is = event_is s next a x wanted step in
     let untouched = after_operation n a x wanted is.0 g.number g.past e is.1 in
-    sound_next n news s next.agrees (placed s next)
+    sound_next n news s next.agrees
     (untouched.told m.told s.tellings) (s.lives ∙ untouched.crashes)
     (untouched.lists m.lists s.knowledge) refl
     (untouched.roster (table m.roster) s.actions)

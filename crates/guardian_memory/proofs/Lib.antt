@@ -6,5 +6,3 @@ pub mod Untouched
 pub mod Planned
 pub mod Readings
 pub mod Kept
-pub mod Reopened
-pub mod Judged

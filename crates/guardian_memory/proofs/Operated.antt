@@ -1,5 +1,5 @@
 -- An operation that was granted: what it says of its object, and what it makes of the objects.
-use Rattle.std.proofs.Common.{List, None, Option, Some, [], ap, eqb-true, false, length, not, refl, subst, suc, sym, true, zero, ℕ, ◌==◌, ◌∙◌, ◌∷◌, ◌≡◌, ◌≤◌, arith}
+use Rattle.std.proofs.Common.{List, None, Option, Some, [], ap, eqb-true, false, length, refl, subst, suc, sym, true, zero, ℕ, ◌==◌, ◌∙◌, ◌∷◌, ◌≡◌, ◌≤◌, arith}
 use Rattle.std.specs.Prelude.{nat_lt}
 use Rattle.std.proofs.lemmas.Bool.{and_parts, false≢true, ltb-false, not-false, or_parts, true≢false}
 use Rattle.action_names.specs.Names.{Name}
@@ -19,12 +19,11 @@ use Rattle.run_model.specs.Answers.{granted_by, operated_by, refused_or}
 use Rattle.run_model.specs.Keeping.{Performed, Standing, blockers_by}
 use Rattle.run_model.specs.LocalReadings.{LocalEvent, events_here, facts_here, is_at_home, operation_here, standing_here}
 use Rattle.run_model.specs.Openings.{Opening, first_content, objects_at}
-use Rattle.run_model.specs.Refusals.{Check, checks_by, first_refusal, no_object}
+use Rattle.run_model.specs.Refusals.{Check, checks_by, first_refusal}
 use Rattle.run_model.specs.Runs.{is_accepted}
 use Rattle.run_model.specs.Versions.{under}
 use Rattle.run_laws.proofs.Accepted.{NoneApplies, none_applies}
 use Rattle.local_laws.specs.Owed.{IsOwed}
-use Rattle.local_agreement.specs.Judging.{is_on_object}
 use Rattle.layer_contracts.specs.Messages.{is_operation}
 use Rattle.local_agreement.specs.Outcomes.{is_by_told}
 use Rattle.guardian_objects.specs.Objects.{AreObjects, Indexed, IsAsked, Operates, object_of}
@@ -48,7 +47,6 @@ positive (suc n) h = omega arith
 -- the operation of the event was granted on an object of this guardian, to which it belongs
 pub record IsGranted (opening : Opening) (g : ℕ) (c : LocalEvent) (here : List LocalEvent) (a : Name) (x : ObjectId) (wanted : op.Op) : Type 0 where
   pub own : x.guardian ≡ g
-  pub there : (no_object opening x).1 ≡ false
   pub low : 1 ≤ x.number
   pub high : x.number ≤ length (objects_at opening.setup x.guardian)
   pub known : knows (first_content opening x) wanted ≡ true
@@ -64,7 +62,6 @@ module _ (opening : Opening) (g : ℕ) (c : LocalEvent) (here : List LocalEvent)
   pub granted_facts : c.event.step ≡ Op a x wanted → IsOwed opening g c here c.event.step → is_accepted c.event.answer ≡ true → IsGranted opening g c here a x wanted
   granted_facts step owed accepted = record {
     own = eqb-true x.guardian (home_of a (events_here here)) (not-false _ (none why.Elsewhere)) ∙ home;
-    there = none why.NoObject;
     low = positive x.number there.0;
     high = ltb-false (length (objects_at opening.setup x.guardian)) x.number there.1;
     known = not-false _ (none why.BadOp);
@@ -85,15 +82,6 @@ module _ (opening : Opening) (g : ℕ) (c : LocalEvent) (here : List LocalEvent)
 
       there : ((x.number == 0) ≡ false) × (nat_lt (length (objects_at opening.setup x.guardian)) x.number ≡ false)
       there = or_parts (x.number == 0) (nat_lt (length (objects_at opening.setup x.guardian)) x.number) (none why.NoObject)
-
--- so it is on an object that its guardian has
-pub on_object : (opening : Opening) (g : ℕ) (c : LocalEvent) (here : List LocalEvent) → IsOwed opening g c here c.event.step
-    → is_accepted c.event.answer ≡ true → is_on_object opening c.event.step ≡ true
-on_object opening g c here owed accepted = of c.event.step refl
-  where
-    of : (step : Step) → c.event.step ≡ step → is_on_object opening step ≡ true
-    of (Op a x wanted) is = ap not (granted_facts opening g c here a x wanted is owed accepted).there
-    of _ is = refl
 
 -- an answer to an operation that is accepted grants it
 granted_is : (c : Content) (kept : List Performed) (wanted : op.Op) (names : List Name) (answer : Answer) → answer ≡ granted_by c kept wanted names

@@ -1,6 +1,6 @@
 -- When all parts of a memory are those of one history.
 use Rattle.std.proofs.Common.{Bool, List, None, Some, [], add-one, ap, cond, false, filter, length, refl, subst, suc, sym, true, ℕ, ◌+◌, ◌<◌, ◌^◌, ◌∙◌, ◌∷◌, ◌≡◌, ◌≤◌}
-use Rattle.std.proofs.lemmas.Bool.{and_from, false≢true}
+use Rattle.std.proofs.lemmas.Bool.{false≢true}
 use Rattle.std.specs.Prelude.{is_some}
 use Rattle.action_names.specs.Names.{Name, is_top}
 use Rattle.run_model.specs.declared.history.Event.{Event}
@@ -11,7 +11,6 @@ use Rattle.run_model.specs.Openings.{Opening, OpeningLists, opening_in}
 use Rattle.run_model.specs.StableContent.{Prepared, parts_by, step_told}
 use Rattle.run_model.specs.Visibility.{votes_yes}
 use Rattle.local_agreement.specs.Crashes.{LeavesSafe}
-use Rattle.local_agreement.specs.Judging.{are_on_objects, is_on_object}
 use Rattle.local_agreement.specs.Laws.{Agrees}
 use Rattle.layer_contracts.specs.Guardians.{GuardianState, News, kept, stamped}
 use Rattle.tellings.specs.Hearing.{AreTold}
@@ -31,9 +30,6 @@ use Rattle.guardian_memory.proofs.Agreed.{safe_at}
 -- what is inside stands where the memory does
 pub inside : {m old : InMemory} {g : GuardianState} → m ≡ old → IsSound old g → IsSound m g
 inside {m} {old} {g} is at = subst (λ k. IsSound k g) (sym is) at
-
-pub outside : {m old : InMemory} {g : GuardianState} → m ≡ old → IsSound m g → IsSound old g
-outside {m} {old} {g} is at = subst (λ k. IsSound k g) is at
 
 -- ---- before anything happened
 
@@ -60,7 +56,6 @@ nothing_sound opening number told lists roster objects numbered tellings lives k
   owner = owner;
   safe = λ x own. nothing_safe (opening_in opening) x;
   tops = λ t h. absurd (false≢true h);
-  placed = refl;
 }
 
 -- ---- while nothing but room is made
@@ -86,7 +81,6 @@ sound_same {g = g} tells lives knows knower acts keeps owner s = record {
   owner = owner ∙ s.owner;
   safe = s.safe;
   tops = s.tops;
-  placed = s.placed;
 }
 
 -- ---- crashes are counted
@@ -135,13 +129,13 @@ tops_next opening g c here voted before t = of (votes_yes c.event.step c.event.a
 pub sound_next : {opening : OpeningLists} {number : ℕ} {told more_told : Tellings} {lists more_lists : Lists} {roster more_roster : Roster} {objects more_objects : Indexed}
     {g : GuardianState} (n : ℕ) (e : News)
     → IsSound (record { opening = opening; number = number; told = told; lists = lists; roster = roster; objects = objects }) g
-    → Agrees g.opening g.number (stamped 0 e) g.past → is_on_object g.opening e.event.step ≡ true
+    → Agrees g.opening g.number (stamped 0 e) g.past
     → AreTold g.number (stamped n e ∷ g.past) more_told → hearing.crashes_of more_told ≡ crashes g.number (events_here (stamped n e ∷ g.past))
     → AreLists (stamped n e ∷ g.past) more_lists → guardian_of more_lists ≡ guardian_of lists
     → IsRoster g.number (stamped n e ∷ g.past) (table more_roster)
     → AreObjects g.opening (stamped n e ∷ g.past) more_objects → more_objects.guardian ≡ objects.guardian
     → IsSound (record { opening = opening; number = number; told = more_told; lists = more_lists; roster = more_roster; objects = more_objects }) (kept g (stamped n e))
-sound_next {g = g} n e s agrees there tellings lives knowledge knower actions shown owner = record {
+sound_next {g = g} n e s agrees tellings lives knowledge knower actions shown owner = record {
   opened = s.opened;
   own = s.own;
   numbered = s.numbered;
@@ -154,5 +148,4 @@ sound_next {g = g} n e s agrees there tellings lives knowledge knower actions sh
   owner = owner ∙ s.owner;
   safe = λ x own. safe_at g.opening n e g.past x (agrees.safe x own);
   tops = tops_next g.opening g.number (stamped n e) g.past agrees.votes.top s.tops;
-  placed = and_from (is_on_object g.opening e.event.step) (are_on_objects g.opening g.past) there s.placed;
 }

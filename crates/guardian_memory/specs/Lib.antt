@@ -1,4 +1,2 @@
 pub mod Memories
 pub mod Plans
-pub mod Reopening
-pub mod Accepting

@@ -6,7 +6,6 @@ use Rattle.run_model.specs.Actions.{crashes}
 use Rattle.run_model.specs.LocalReadings.{events_here, prepared_here}
 use Rattle.run_model.specs.Openings.{OpeningLists, opening_in}
 use Rattle.local_agreement.specs.Crashes.{LeavesSafe}
-use Rattle.local_agreement.specs.Judging.{are_on_objects}
 use Rattle.layer_contracts.specs.Guardians.{GuardianState}
 use Rattle.tellings.specs.Hearing.{AreTold, crashes_of}
 use Rattle.tellings.specs.declared.tellings.Tellings.{Tellings}
@@ -31,7 +30,7 @@ abbrev pub own_object : GuardianState → ℕ → ObjectId
 own_object g n = record { guardian = g.number; number = n }
 
 -- The memory stands in this state: its opening and its number are those of the state, and each part is that of the history. And of that history: a crash
--- would leave of each object just what is safe, only top actions have records, and operations are on objects that their guardians have.
+-- would leave of each object just what is safe, and only top actions have records.
 pub record IsSound (m : InMemory) (g : GuardianState) : Type 0 where
   pub opened : opening_in m.opening ≡ g.opening
   pub own : m.number ≡ g.number
@@ -45,7 +44,6 @@ pub record IsSound (m : InMemory) (g : GuardianState) : Type 0 where
   pub owner : m.objects.guardian ≡ g.number
   pub safe : (x : ObjectId) → x.guardian ≡ g.number → LeavesSafe g.opening g.past x
   pub tops : (t : Name) → IsTrue (is_some (prepared_here g.opening g.number t g.past)) → IsTrue (is_top t)
-  pub placed : IsTrue (are_on_objects g.opening g.past)
 
 -- and it stands in some state
 abbrev pub IsOfSome : InMemory → Type 0

@@ -3,13 +3,13 @@ ghost use Rattle.std.specs.Prelude.{◌≡◌, IfOk, OnErr, IsFalse, IsTrue};
 ghost use Rattle.run_model.specs.Actions.{step_crashes};
 ghost use Rattle.layer_contracts.specs.Guardians.{GuardianState, IsNext, by_itself, event_of};
 ghost use Rattle.layer_contracts.specs.Messages.{is_operation};
-ghost use Rattle.guardian_memory.specs.Accepting.{AreRecorded};
 ghost use Rattle.guardian_memory.specs.Memories.{IsSound};
-ghost use Rattle.guardian_memory.specs.Plans.{FitsPlan, Follows, FollowsWhere, IsPlanned, IsPlannedWhere, Operated};
+ghost use Rattle.guardian_memory.specs.Plans.{AreRecorded, FitsPlan, Follows, FollowsWhere, IsPlanned, IsPlannedWhere, Operated};
 
 use crate::memory::Memory;
 use crate::plan::Plan;
 use holders::Survivors;
+use layer_contracts::Draw;
 use run_model::{Answer, Step};
 use std::alloc::AllocError;
 
@@ -52,16 +52,17 @@ impl Memory {
 
     /// Makes an operation on its object, and follows it with the stamp that is drawn then. No message comes with it, and nothing changes beside the
     /// object. Fails only for want of memory.
-    pub fn operate<F: FnOnce() -> u64>(
+    pub fn operate<D: Draw>(
         &mut self,
         step: &Step,
         answer: &Answer,
-        stamp: F,
+        stamp: &mut D,
     ) -> Result<u64, AllocError>
-        requires stamp { F.pre stamp }
+        requires stamp { D.may_draw stamp.old }
         requires operation { IsTrue (is_operation step.now) }
         requires next { (s : GuardianState) × IsSound self.old s × IsNext s (by_itself (event_of step.now answer.now)) }
-        ensures ok { IfOk result (λ n. F.post stamp n) }
+        ensures ok { IfOk result (λ n. D.draws stamp.old n stamp.new) }
+        ensures undrawn { OnErr result (stamp.new ≡ stamp.old) }
         ensures kept { IfOk result (λ n. Operated self.old (event_of step.now answer.now) n self.new) }
         ensures err { OnErr result ((s : GuardianState) → IsSound self.old s → IsSound self.new s) }
     {
@@ -69,6 +70,6 @@ impl Memory {
             unreachable!();
         };
         self.objects.grant(action, object.number, operation)?;
-        Ok(stamp())
+        Ok(stamp.draw())
     }
 }

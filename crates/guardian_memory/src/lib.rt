@@ -5,7 +5,6 @@
 //! of `run_model` say of each history of which all parts are.
 #![tactic(auto)]
 
-mod accepting;
 mod keeping;
 mod memory;
 mod objects;
@@ -13,8 +12,6 @@ mod plan;
 mod planning;
 mod preparing;
 mod reading;
-mod reopening;
 
 pub use memory::Memory;
 pub use plan::Plan;
-pub use reopening::TopRecord;

@@ -5,9 +5,8 @@ ghost use Rattle.run_model.specs.Runs.{is_accepted};
 ghost use Rattle.local_laws.specs.Owed.{IsOwed};
 ghost use Rattle.local_agreement.specs.Laws.{Agrees};
 ghost use Rattle.layer_contracts.specs.Guardians.{GuardianState, event_of};
-ghost use Rattle.guardian_memory.specs.Accepting.{local_event, news_in};
 ghost use Rattle.guardian_memory.specs.Memories.{IsSound};
-ghost use Rattle.guardian_memory.specs.Plans.{FitsPlan, IsPlanOf};
+ghost use Rattle.guardian_memory.specs.Plans.{FitsPlan, IsPlanOf, local_event, news_in};
 
 use crate::memory::Memory;
 use crate::plan::Plan;

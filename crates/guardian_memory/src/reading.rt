@@ -2,7 +2,7 @@
 ghost use Rattle.std.specs.Prelude.{◌≡◌, IfOk, IsTrue};
 ghost use Rattle.run_model.specs.Actions.{crashes, is_busy, is_done, is_down, is_gone};
 ghost use Rattle.run_model.specs.Openings.{opening_in};
-ghost use Rattle.run_model.specs.LocalReadings.{events_here, is_at_home, is_orphan_here, told_committed_here, told_here, unsent_aborts, unsent_counts};
+ghost use Rattle.run_model.specs.LocalReadings.{events_here, is_at_home, is_orphan_here, told_here, unsent_aborts, unsent_counts};
 ghost use Rattle.layer_contracts.specs.Guardians.{GuardianState};
 ghost use Rattle.guardian_memory.specs.Memories.{IsSound};
 
@@ -86,13 +86,6 @@ impl Memory {
         ensures { (s : GuardianState) → IsSound self.now s → result ≡ told_here s.number action.now s.past }
     {
         self.told.was_told(action)
-    }
-
-    /// Whether it was ever told that the action committed.
-    pub fn was_told_committed(&self, action: &Name) -> bool
-        ensures { (s : GuardianState) → IsSound self.now s → result ≡ told_committed_here action.now s.past }
-    {
-        self.told.is_committed(action)
     }
 
     /// The aborts that the guardian has not sent to the other guardian yet, the newest first.

@@ -12,7 +12,7 @@ ghost use Rattle.layer_contracts.specs.declared.guardian.Fault.TheVariants.{Stab
 ghost use Rattle.layered_world.specs.Standings.{AreSame, HasFailed, forest_of, IsKeptAt, IsLeftAt, IsOut, IsReady, IsWholeAt, IsWorld, Names, StoresLeft};
 
 use histories::PackedHistory;
-use layer_contracts::{Fault, Forest, Guardian};
+use layer_contracts::{Draw, Fault, Forest, Guardian};
 use lent_steps::{NamedGuardians, answer_alone, answer_two, keep_one, keep_two, named};
 use run_model::{Answer, Step};
 use std::alloc::{AllocError, Global};
@@ -148,6 +148,22 @@ fn ask_number<G: Guardian>(guardians: &[G], number: u32)
     guardians[number as usize - 1].number();
 }
 
+/// The stamp of an event whose number in the history is known.
+#[derive(Drop)]
+struct Numbered(u64);
+
+impl Draw for Numbered {
+    ghost use Rattle.std.specs.Prelude.{◌≡◌};
+
+    ghost may_draw = { λ d. Unit {0} };
+
+    ghost draws = { λ d n new. n ≡ d.0 };
+
+    fn draw(&mut self) -> u64 {
+        self.0
+    }
+}
+
 /// Keeps an event at the two guardians of these numbers, or at one.
 fn keep_at<R: Forest, G: Guardian>(
     alloc: Global,
@@ -172,6 +188,7 @@ fn keep_at<R: Forest, G: Guardian>(
         → IsLeftAt G.stored f states low high (event_of step.now answer.now) guardians.old guardians.new (fault_in result) }
     ensures cause { IsErrOf result Stable → HasFailed G.stored guardians.old guardians.new }
 {
+    let mut numbered = Numbered(number);
     if low == high {
         keep_one(
             alloc,
@@ -180,7 +197,7 @@ fn keep_at<R: Forest, G: Guardian>(
             named,
             step,
             answer,
-            || number,
+            &mut numbered,
         )?;
         return Ok(());
     }
@@ -193,7 +210,7 @@ fn keep_at<R: Forest, G: Guardian>(
         named,
         step,
         answer,
-        || number,
+        &mut numbered,
     )?;
     Ok(())
 }

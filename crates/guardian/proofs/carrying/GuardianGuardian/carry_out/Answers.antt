@@ -1,4 +1,4 @@
-use Rattle.std.proofs.Common.{Err, None, Ok, Result, Some, ap, is_ok, subst, ℕ}
+use Rattle.std.proofs.Common.{Err, None, Ok, Result, Some, ap, is_ok, refl, subst, ℕ}
 use Rattle.std.proofs.lemmas.Bool.{true≢false}
 use Rattle.layer_contracts.specs.Stores.{CountsFailure, LeavesStore}
 use Rattle.layer_contracts.specs.declared.guardian.Fault.{Fault}
@@ -46,7 +46,7 @@ invariant_of-self-2 g c =
     let planned = planned_within seen (event_of c.args.step.now c.args.answer.now) c.self.view_is c.requires.planned in
     let leaves = c.in_default.ensures.leaves planned.0 planned.1 planned.2 planned.3 planned.4 in (
       _,
-      whole_next seen m s c.stamp-drawn.result planned.0 planned.1 c.keep.new.memory c.write.new.store planned.2 planned.3.next
+      whole_next seen m s c.draw-drawn.result planned.0 planned.1 c.keep.new.memory c.write.new.store planned.2 planned.3.next
           (c.keep.ensures planned.0 planned.1 planned.2.memory planned.3 planned.4
           (recorded_at seen planned.0 planned.1 (event_of c.args.step.now c.args.answer.now) s c.write.new.store planned.2.store planned.4 leaves)) leaves,
     )
@@ -60,6 +60,7 @@ returns-in-Err g c =
     let leaves = c.in-Err.ensures.leaves planned.0 planned.1 planned.2 planned.3 planned.4 in
     record {
       ok = tt;
+      undrawn = refl;
       kept = tt;
       err = λ h at. whole_still seen m s planned.0 h planned.1 c.write.new.store c.in-Err.fault (inside seen c.self.view_is at) leaves;
       store = λ h news at of same. subst (λ k. LeavesStore h news (seen k.store) (seen c.write.new.store) (Some c.in-Err.fault)) c.self.view_is
@@ -79,12 +80,13 @@ returns g c =
     let s = c.self.inside.store in
     let seen = g.S.Stable.seen in
     record {
-      ok = c.stamp-drawn.ensures;
+      ok = c.draw-drawn.ensures;
+      undrawn = tt;
       kept = λ h news at of same.
           let whole = inside seen c.self.view_is at in
           let planned = plan_within c.self.view_is h news of in
           let leaves = c.in_default.ensures.leaves h news whole planned same in
-          whole_next seen m s c.stamp-drawn.result h news c.keep.new.memory c.write.new.store whole planned.next
+          whole_next seen m s c.draw-drawn.result h news c.keep.new.memory c.write.new.store whole planned.next
           (c.keep.ensures h news whole.memory planned same (recorded_at seen h news (event_of c.args.step.now c.args.answer.now) s c.write.new.store whole.store same leaves)) leaves;
       err = tt;
       store = λ h news at of same. subst (λ k. LeavesStore h news (seen k.store) (seen c.write.new.store) None) c.self.view_is

@@ -1,5 +1,5 @@
 use Rattle.std.proofs.Common.{true}
-use Rattle.guardian_memory.specs.Accepting.{AreRecorded}
+use Rattle.guardian_memory.specs.Plans.{AreRecorded}
 use Rattle.guardian_memory.proofs.Kept.{crash_follows, crashes_within, fits_within, follows_where, planned_where, stands_after_where, survivors_top}
 use Rattle.guardian_memory.proofs.Sound.{lists_room, told_room}
 use Rattle.layer_contracts.specs.Guardians.{event_of}

@@ -27,12 +27,12 @@ pub invariant_of-self-2 : goal.invariant_of-self-2
 invariant_of-self-2 g c =
     let next = next_within c.self.view_is c.requires.next in (
       _,
-      operated_follows _ (event_of c.args.step.now c.args.answer.now) c.stamp.result _ c.in-Op.action c.in-Op.object c.in-Op.operation c.in-Op.is
+      operated_follows _ (event_of c.args.step.now c.args.answer.now) c.draw.result _ c.in-Op.action c.in-Op.object c.in-Op.operation c.in-Op.is
           c.in_ok-grant.ensures.operates c.grant.ensures.guardian next.0 next.1 next.2,
     )
 
 pub returns-clause-kept : goal.returns-clause-kept
 returns-clause-kept g c =
     operated_within c.self.view_is
-    (operated_follows _ (event_of c.args.step.now c.args.answer.now) c.stamp.result _ c.in-Op.action c.in-Op.object c.in-Op.operation c.in-Op.is
+    (operated_follows _ (event_of c.args.step.now c.args.answer.now) c.draw.result _ c.in-Op.action c.in-Op.object c.in-Op.operation c.in-Op.is
     c.in_ok-grant.ensures.operates c.grant.ensures.guardian)

@@ -1,2 +1,0 @@
-pub mod Owing
-pub mod Settled
