@@ -22,6 +22,7 @@ use Rattle.layer_contracts.specs.Guardians.{GuardianState, after_step, lent_two,
 use Rattle.layer_contracts.specs.Forests.{ForestState}
 use Rattle.layer_contracts.specs.Messages.{is_operation}
 use Rattle.lent_steps.specs.Keeping.{AreAnswered, IsDone, StandsStill}
+use Rattle.lent_steps.specs.Lending.{AreLent}
 use Rattle.layered_world.specs.Standings.{AreSame, IsKeptAt, IsReady, IsWholeAt, IsWorld, Names, forest_of, standing}
 use Rattle.layered_world.proofs.Agreed.{agrees_lent}
 use Rattle.layered_world.proofs.Inside.{IsInside, named_inside}
@@ -63,38 +64,65 @@ owed_operation opening g c d here there (Op a x wanted) o e h k =
     subst (λ l. IsOwed opening g d l (Op a x wanted)) h (k.0, sym (ap (λ v. v.answer) e) ∙ k.1)
 owed_operation opening g c d here there _ o e h k = absurd (false≢true o)
 
+-- two that stand where the run leads them answer its next event
+pub are_answered : (past : List Event) (opening : Opening) (e : Event) (low high : ℕ) {forest : ForestState → Type 0} {one other : GuardianState → Type 0}
+    → IsRun opening (e ∷ past) → Names (forest_of opening past) e.step low high
+    → AreLent forest one other (forest_of opening past) (standing opening past low) (standing opening past high)
+    → AreAnswered forest one other (forest_of opening past) (standing opening past low) (standing opening past high) e
+are_answered past opening e low high r n lent =
+    let a : GuardianState = standing opening past low in
+    let b : GuardianState = standing opening past high in
+    record {
+      lent = lent;
+      answered = record {
+        answer = r.0 ∙ sym (answers_two past opening e.step low high low high a b r.2 n refl refl (λ g h. inl h));
+        accepted = r.1;
+        operation = λ g o m. owed_operation opening g (local_event opening (length (e ∷ past), e) (numbered past) g)
+            (stamped 0 (record { event = e; carried = carried_lent opening e g (registry_history opening (numbered past)) (lent_two a b) }))
+            (local_history opening (numbered past) g) (lent_two a b g) e.step o refl
+            (sym (lent_or_out opening past a b low high g r.2 refl refl (inl (sym (n g) ∙ m))))
+            (owed_there opening (length (e ∷ past), e) (numbered past) g (runs opening (e ∷ past) r)
+            (sym (names_same (events_there (registry_history opening (numbered past))) (events_of (numbered past)) g (registry_same opening (numbered past) (runs opening past r.2)) e.step)
+            ∙ m));
+        agrees = λ g q m. agrees_lent past opening e low high g a b r n refl refl q;
+      };
+    }
+
 -- an answered event may be kept
 pub ready : {X : Type 0} {stored : X → View} {forest : ForestState → Type 0} (stands : X → GuardianState → Type 0) (past : List Event) (opening : Opening) (gs : List X) (e : Event)
     (low high : ℕ)
     → IsWorld stands stored forest opening past gs → Names (forest_of opening past) e.step low high → IsRun opening (e ∷ past) → 1 ≤ low → 1 ≤ high
     → IsReady stands forest (forest_of opening past) (λ g. standing opening past g) low high e gs
-ready stands past opening gs e low high w n r l k =
-    let a : GuardianState = standing opening past low in
-    let b : GuardianState = standing opening past high in
-    record {
-      number = λ g. refl;
-      each = λ x y sx sy. record {
-        lent = lent_by stands opening past gs low high x y w (stands_at stands opening past gs low x w l sx) (stands_at stands opening past gs high y w k sy);
-        answered = record {
-          answer = r.0 ∙ sym (answers_two past opening e.step low high low high a b w.is_run n refl refl (λ g h. inl h));
-          accepted = r.1;
-          operation = λ g o m. owed_operation opening g (local_event opening (length (e ∷ past), e) (numbered past) g)
-              (stamped 0 (record { event = e; carried = carried_lent opening e g (registry_history opening (numbered past)) (lent_two a b) }))
-              (local_history opening (numbered past) g) (lent_two a b g) e.step o refl
-              (sym (lent_or_out opening past a b low high g w.is_run refl refl (inl (sym (n g) ∙ m))))
-              (owed_there opening (length (e ∷ past), e) (numbered past) g (runs opening (e ∷ past) r)
-              (sym (names_same (events_there (registry_history opening (numbered past))) (events_of (numbered past)) g (registry_same opening (numbered past) (runs opening past r.2)) e.step)
-              ∙ m));
-          agrees = λ g q m. agrees_lent past opening e low high g a b r n refl refl q;
-        };
-      };
-    }
+ready stands past opening gs e low high w n r l k = record {
+  number = λ g. refl;
+  each = λ x y sx sy.
+      are_answered past opening e low high r n
+      (lent_by stands opening past gs low high x y w (stands_at stands opening past gs low x w l sx) (stands_at stands opening past gs high y w k sy));
+}
 
 -- who is lent and named stands where the longer run leads it
 after_is : (past : List Event) (opening : Opening) (e : Event) (lent : ℕ → List LocalEvent) (p : ℕ)
     → history_after_lent opening (length (e ∷ past), e) (registry_history opening (numbered past)) lent p ≡ local_history opening (numbered (e ∷ past)) p
     → after_step (standing opening past p) (length (e ∷ past), e) (registry_history opening (numbered past)) lent ≡ standing opening (e ∷ past) p
 after_is past opening e lent p grown = ap (λ l. record { opening = opening; number = p; past = l }) grown
+
+-- the forest and two guardians that have kept the event stand where the longer run leads them
+pub led_on : (past : List Event) (opening : Opening) (e : Event) (low high : ℕ) {forest : ForestState → Type 0} {one other : GuardianState → Type 0}
+    → IsRun opening (e ∷ past) → Names (forest_of opening past) e.step low high
+    → IsDone forest one other (forest_of opening past) (standing opening past low) (standing opening past high) e (length (e ∷ past))
+    → forest (forest_of opening (e ∷ past)) × one (standing opening (e ∷ past) low) × other (standing opening (e ∷ past) high)
+led_on past opening e low high {forest = forest} {one = one} {other = other} r n done =
+    let s : Stamped = (length (e ∷ past), e) in
+    let lent : ℕ → List LocalEvent = lent_two (standing opening past low) (standing opening past high) in
+    let R = registry_history opening (numbered past) in
+    let grown = lent_grows opening s (numbered past) lent (runs opening (e ∷ past) r)
+    (λ g m. lent_or_out opening past (standing opening past low) (standing opening past high) low high g r.2 refl refl (inl (sym (n g) ∙ m))) in
+    let at : (p : ℕ) → ((low == p) || (high == p)) ≡ true → history_after_lent opening s R lent p ≡ local_history opening (numbered (e ∷ past)) p =
+    λ p q. grown.1 p (n p ∙ q) in (
+      subst (λ reg. forest (record { opening = opening; registry = reg })) grown.0 done.forest,
+      subst one (after_is past opening e lent low (at low (or_left _ _ (eqb_self low)))) done.first,
+      subst other (after_is past opening e lent high (at high (or_right _ _ (eqb_self high)))) done.second,
+    )
 
 -- The stores of all are still those of their histories, if those of the two are, of which each is that of any history in which its guardian stands.
 stores_whole : {X : Type 0} {stands : X → GuardianState → Type 0} {stored : X → View} {low high : ℕ} {gs : List X} (states : ℕ → GuardianState)
@@ -134,22 +162,12 @@ more {X} {stored} stands forest past opening gs gs' e low high w n r l1 l2 h1 h2
 
     of : (x y : X) → slice_get gs' (low - 1) ≡ Some x → slice_get gs' (high - 1) ≡ Some y → IsWorld stands stored forest opening (e ∷ past) gs'
     of x y sx sy =
-        let done = k.two x y sx sy in
-        let lent : ℕ → List LocalEvent = lent_two (standing opening past low) (standing opening past high) in
-        let R = registry_history opening (numbered past) in
-        let grown = lent_grows opening s (numbered past) lent (runs opening (e ∷ past) r)
-        (λ g m. lent_or_out opening past (standing opening past low) (standing opening past high) low high g w.is_run refl refl (inl (sym (n g) ∙ m))) in
-        let at : (p : ℕ) → ((low == p) || (high == p)) ≡ true → history_after_lent opening s R lent p ≡ local_history opening (numbered (e ∷ past)) p =
-        λ p q. grown.1 p (n p ∙ q) in
-        let first : stands x (standing opening (e ∷ past) low) =
-        subst (λ t. stands x t) (after_is past opening e lent low (at low (or_left _ _ (eqb_self low)))) done.first in
-        let second : stands y (standing opening (e ∷ past) high) =
-        subst (λ t. stands y t) (after_is past opening e lent high (at high (or_right _ _ (eqb_self high)))) done.second in
+        let led = led_on past opening e low high r n (k.two x y sx sy) in
         let each : (i : ℕ) (z : X) → slice_get gs' i ≡ Some z → stands z (standing opening (e ∷ past) (i + 1)) =
-        λ i z q. each_of i z q x y sx sy first second (cases_eq i (low - 1)) (cases_eq i (high - 1)) in
+        λ i z q. each_of i z q x y sx sy led.1 led.2 (cases_eq i (low - 1)) (cases_eq i (high - 1)) in
         record {
           is_run = r;
-          forest = subst (λ reg. forest (record { opening = opening; registry = reg })) grown.0 done.forest;
+          forest = led.0;
           count = len ∙ w.count;
           each = each;
           stores = stores_whole (λ g. standing opening (e ∷ past) g) whole also each (λ i z m o q.

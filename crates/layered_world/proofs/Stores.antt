@@ -63,7 +63,7 @@ named_run past opening e g r =
     ∙ ap (λ p. names_guardian e.step p g) (numbered_events past)
 
 -- one of the two that the event names
-left_at : (past : List Event) (opening : Opening) (e : Event) (low high g : ℕ) (old new : View) (fault : Option Fault)
+pub left_at : (past : List Event) (opening : Opening) (e : Event) (low high g : ℕ) (old new : View) (fault : Option Fault)
     → IsRun opening (e ∷ past) → Names (forest_of opening past) e.step low high → ((low == g) || (high == g)) ≡ true
     → StoreLeft (forest_of opening past) (standing opening past low) (standing opening past high) e (standing opening past g) old new fault
     → Leaves (asks_of opening e.step past g old.content) (content_then opening e.step past g old.content) old new fault
