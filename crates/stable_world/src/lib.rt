@@ -11,6 +11,7 @@ mod world;
 pub use guardian::Guardian;
 pub use histories::PackedHistory;
 pub use layer_contracts::Fault;
+pub use registry::Registry;
 pub use run_model::{Answer, Event, Held, History, Opening, Part, Setup, Step};
 pub use store_settling::Refused;
 pub use world::World;

@@ -8,7 +8,9 @@ ghost use Rattle.run_laws.specs.Serving.{IsServed};
 ghost use Rattle.layer_contracts.specs.Stores.{IsStoreOf, fault_in};
 ghost use Rattle.layer_contracts.specs.declared.guardian.Fault.TheVariants.{Stable};
 ghost use Rattle.guardian.specs.Guardians.{IsWhole};
-ghost use Rattle.layered_world.specs.Standings.{HasFailed, IsOut, StoresLeft, standing};
+ghost use Rattle.layered_world.specs.Standings.{HasFailed, IsOut, IsWorld, StoresLeft, standing};
+ghost use Rattle.registry.specs.Registries.{StandsIn};
+ghost use Rattle.std.specs.Arc.{arc_value};
 ghost use Rattle.settled_stores.specs.Runs.{AreOfRun};
 ghost use Rattle.stable_world.specs.Running.{Ran, RanBefore};
 ghost use Rattle.stable_world.specs.Stops.{IsKeptBetweenSteps, IsKeptThroughStops, StayUp, contents_of};
@@ -230,5 +232,22 @@ impl<S: Stable> World<S> {
         ensures { result.now ≡ self.now.run.lists }
     {
         &self.opening
+    }
+
+    /// Takes the world apart: the opening, the registry and the guardians, which stand where what has
+    /// happened leads them. So they can be given to threads. This takes no memory.
+    pub fn into_parts(self) -> (Arc<Opening, Global>, Registry, Vec<Guardian<S>>)
+        ensures opening { arc_value result.0 ≡ self.run.lists }
+        ensures guardians { result.2.items ≡ self.guardians }
+        ensures standing { IsWorld (λ g s. IsWhole S.seen g s) (λ g. seen_of S.seen g) (StandsIn result.1)
+            (opening_in self.run.lists) self.run.past result.2.items }
+    {
+        let World {
+            opening,
+            registry,
+            guardians,
+            ..
+        } = self;
+        (opening, registry, guardians)
     }
 }
