@@ -1,8 +1,6 @@
 -- What an event asks of a store, and what the store holds then.
 use Rattle.std.specs.Prelude.{Bool, true, false, if◌then◌else◌, Option, Some, None}
 use Rattle.action_names.specs.Names.{Name, last_of}
-use Rattle.run_model.specs.declared.answer.Answer.{Answer}
-use Rattle.run_model.specs.declared.answer.Answer.TheVariants.{VoteYes}
 use Rattle.stable_store.specs.Held.{held}
 use Rattle.stable_store.specs.Stored.{Stored, after_bump, after_decide, after_discard, after_install, after_prepare}
 use Rattle.stable_store.specs.declared.fault.StoreFault.{StoreFault}
@@ -27,11 +25,6 @@ written (Install top) s = after_install top s
 written (Discard top) s = after_discard top s
 written (Decide top) s = after_decide top s
 written Recover s = after_bump s
-
--- the vote prepares
-abbrev pub is_yes : Answer → Bool
-is_yes VoteYes = true
-is_yes _ = false
 
 -- of a top action with a record, whose outcome is told
 abbrev pub told_stored : Name → Bool → Stored → Stored

@@ -1,18 +1,16 @@
 //! The guardian, and what is asked of it beside what steps ask.
-ghost use Rattle.std.specs.Prelude.{◌≡◌, ◌≤◌, ◌&&◌, ℕ, [], true, IfOk, IfErr, IfSome, IsNone, length, nat_le};
+ghost use Rattle.std.specs.Prelude.{◌≡◌, ◌≤◌, [], true, IfOk, IfErr, IfSome, IsNone, length};
 ghost use Rattle.std.specs.Arc.{arc_value};
-ghost use Rattle.run_model.specs.Answers.{is_concerned_by};
 ghost use Rattle.run_model.specs.Openings.{first_content, objects_at, opening_in};
 ghost use Rattle.run_model.specs.LocalReadings.{standing_here};
 ghost use Rattle.run_model.specs.Versions.{base_by};
-ghost use Rattle.held_objects.specs.Held.{IsRising, has_number};
 ghost use Rattle.stable_store.specs.Calls.{Rests};
 ghost use Rattle.layer_contracts.specs.Guardians.{GuardianState};
 ghost use Rattle.guardian_memory.specs.Memories.{IsSound, own_object};
 ghost use Rattle.guardian.specs.Guardians.{IsSettled, IsWhole};
 
 use guardian_memory::{Memory, Plan};
-use run_model::{Content, Name, Opening};
+use run_model::{Content, Opening};
 use stable_store::Stable;
 use std::alloc::{AllocError, Global};
 use std::marker::Model;
@@ -100,15 +98,5 @@ impl<S: Stable> Guardian<S> {
             → (number ≤ length (objects_at s.opening.setup s.number)) → ⊥ }
     {
         self.memory.base(number)
-    }
-
-    /// At which objects the holder holds something, rising: those that a telling of its commit changes. This takes no memory.
-    pub fn objects_of(&self, holder: &Name) -> &[u32]
-        ensures objects { (s : GuardianState) → IsWhole S.seen self.now s → (n : ℕ) → has_number result.now n
-            ≡ (nat_le 1 n && (nat_le n (length (objects_at s.opening.setup s.number))
-            && is_concerned_by true (standing_here s.past (own_object s n)) holder.now)) }
-        ensures rising { IsRising result.now }
-    {
-        self.memory.objects_of(holder)
     }
 }

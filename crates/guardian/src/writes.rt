@@ -9,7 +9,8 @@ ghost use Rattle.layer_contracts.specs.Guardians.{GuardianState, News, event_of,
 ghost use Rattle.guardian_memory.specs.Memories.{IsSound};
 ghost use Rattle.guardian_memory.specs.Plans.{IsPlanOf};
 ghost use Rattle.guardian.specs.Guardians.{IsPlannedHere, WhereverPlanned};
-ghost use Rattle.guardian.specs.Writes.{is_nothing, is_yes, told_stored, written};
+ghost use Rattle.local_agreement.specs.Outcomes.{is_yes};
+ghost use Rattle.guardian.specs.Writes.{is_nothing, told_stored, written};
 
 use crate::records::recorded_in;
 use atomic_types::Part;

@@ -1,6 +1,6 @@
 -- What is read in a memory whose parts are those of its history.
 use Rattle.std.proofs.Common.{Bool, List, None, Option, Some, ap, false, length, sym, true, ℕ, ◌&&◌, ◌==◌, ◌∙◌, ◌≡◌}
-use Rattle.std.specs.Prelude.{IfSome, nat_le}
+use Rattle.std.specs.Prelude.{IfSome}
 use Rattle.std.proofs.lemmas.Bool.{and_parts}
 use Rattle.action_names.specs.Names.{Name, has_name}
 use Rattle.values.specs.declared.content.Content.{Content}
@@ -8,14 +8,13 @@ use Rattle.atomic_types.specs.Operations.{Op}
 use Rattle.run_model.specs.declared.answer.Answer.{Answer}
 use Rattle.run_model.specs.declared.step.ObjectId.{ObjectId}
 use Rattle.run_model.specs.Actions.{home_of, is_begun}
-use Rattle.run_model.specs.Answers.{is_concerned_by, operated_by}
+use Rattle.run_model.specs.Answers.{operated_by}
 use Rattle.run_model.specs.Lists.{is_orphan_by}
 use Rattle.run_model.specs.LocalReadings.{LocalEvent, aborts_here, count_here, dependency_here, events_here, is_at_home, is_orphan_here, known_crashes_here, standing_here, told_committed_here}
 use Rattle.run_model.specs.Openings.{Opening, first_content, objects_at}
 use Rattle.layer_contracts.specs.Guardians.{GuardianState, MayAsk, count_told}
 use Rattle.tellings.specs.Hearing.{AreTold}
 use Rattle.run_model.specs.Versions.{base_by}
-use Rattle.held_objects.specs.Held.{has_number}
 use Rattle.orphans.specs.Knowing.{AreLists, guardian_of}
 use Rattle.guardian_objects.specs.Objects.{AreObjects, IsAsked, object_of}
 use Rattle.guardian_memory.specs.Memories.{InMemory, IsSound, own_object}
@@ -85,13 +84,3 @@ module _ {m : InMemory} {g : GuardianState} (s : IsSound m g) where
   base_is n None says = says
   base_is n (Some b) says =
       says g.opening g.past s.shown ∙ ap (λ x. base_by (first_content g.opening x) (standing_here g.past x)) (numbered_is n)
-
-  -- at which objects a holder holds something
-  pub held_is : (n : ℕ) (a : Name) (numbers : List ℕ)
-      → ((opening : Opening) (here : List LocalEvent) (n : ℕ) → AreObjects opening here m.objects → has_number numbers n
-      ≡ (nat_le 1 n && (nat_le n (length m.objects.objects) && is_concerned_by true (standing_here here (object_of m.objects n)) a)))
-      → has_number numbers n
-      ≡ (nat_le 1 n && (nat_le n (length (objects_at g.opening.setup g.number)) && is_concerned_by true (standing_here g.past (own_object g n)) a))
-  held_is n a numbers says =
-      says g.opening g.past n s.shown
-      ∙ (λ i. nat_le 1 n && (nat_le n (count_is i) && is_concerned_by true (standing_here g.past (numbered_is n i)) a))

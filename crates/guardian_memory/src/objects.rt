@@ -1,11 +1,10 @@
 //! What is asked of the guardian's objects.
-ghost use Rattle.std.specs.Prelude.{◌≡◌, ◌≤◌, ◌&&◌, ℕ, true, IfOk, IfSome, IsNone, length, nat_le};
-ghost use Rattle.run_model.specs.Answers.{is_concerned_by, operated_by};
+ghost use Rattle.std.specs.Prelude.{◌≡◌, ◌≤◌, IfOk, IfSome, IsNone, length};
+ghost use Rattle.run_model.specs.Answers.{operated_by};
 ghost use Rattle.run_model.specs.Openings.{first_content, objects_at};
 ghost use Rattle.run_model.specs.LocalReadings.{standing_here};
 ghost use Rattle.run_model.specs.Versions.{base_by};
 ghost use Rattle.layer_contracts.specs.Guardians.{GuardianState, MayAsk, count_told};
-ghost use Rattle.held_objects.specs.Held.{IsRising, has_number};
 ghost use Rattle.guardian_memory.specs.Memories.{IsSound, own_object};
 
 use crate::memory::Memory;
@@ -47,15 +46,5 @@ impl Memory {
             → (number ≤ length (objects_at s.opening.setup s.number)) → ⊥ }
     {
         self.objects.base(number)
-    }
-
-    /// At which objects the holder holds something, rising: those that a telling of its commit changes. This takes no memory.
-    pub fn objects_of(&self, holder: &Name) -> &[u32]
-        ensures objects { (s : GuardianState) → IsSound self.now s → (n : ℕ) → has_number result.now n
-            ≡ (nat_le 1 n && (nat_le n (length (objects_at s.opening.setup s.number))
-            && is_concerned_by true (standing_here s.past (own_object s n)) holder.now)) }
-        ensures rising { IsRising result.now }
-    {
-        self.objects.objects_of(holder)
     }
 }

@@ -4,7 +4,7 @@ use crate::system::{Failing, System, Unopened};
 use crate::trials::{Trial, write_failure, write_failures};
 use kept_lines::{empty, number, parts, put_decided, put_record, write_kept};
 use rows::{Row, RowFault, Subject, Words};
-use run_model::{Name, NameFault, ObjectId, Setup, SetupFault, Step};
+use run_model::{ObjectId, Setup, SetupFault, Step};
 use stable_store::{Kept, Prepared};
 use std::alloc::{AllocError, Global};
 
@@ -158,7 +158,6 @@ impl<W: System> Section<W> {
             "base" => self.write_base(row.words(), answer),
             "store" => self.write_store(row.words(), answer),
             "failures" => self.count_failures(row.words(), answer),
-            "objects" => self.write_objects(row.words(), answer),
             "size" => self.write_size(answer),
             "failure" => write_failure::<W>(&self.trial(), read_failing(row.words())?, answer),
             "each_failure" => write_failures::<W>(&self.trial(), answer),
@@ -199,15 +198,6 @@ impl<W: System> Section<W> {
         let failures = self.opened()?.failures(guardian);
         let failures = failures.ok_or(RowFault::Unread)?;
         Ok(write!(answer, "{failures}")?)
-    }
-
-    /// `objects GUARDIAN NAME`: at which objects of the guardian the action holds something.
-    fn write_objects(&self, mut words: Words<'_>, answer: &mut String) -> Result<(), RowFault> {
-        let guardian = number(&mut words)?;
-        let holder = read_name(self.alloc, words.rest())?;
-        let objects = self.opened()?.held_by(guardian, &holder);
-        let objects = objects.ok_or(RowFault::Unread)?;
-        Ok(write!(answer, "{objects:?}")?)
     }
 
     /// The world that is open.
@@ -267,12 +257,4 @@ fn read_setup(alloc: Global, document: &str) -> Result<Setup, RowFault> {
 
 fn read_step(alloc: Global, line: &str) -> Result<Step, RowFault> {
     Step::read(alloc, line.as_bytes())?.ok_or(RowFault::Unread)
-}
-
-fn read_name(alloc: Global, text: &str) -> Result<Name, RowFault> {
-    match Name::parse(alloc, text) {
-        Ok(name) => Ok(name),
-        Err(NameFault::Memory) => Err(RowFault::Memory),
-        Err(_) => Err(RowFault::Unread),
-    }
 }

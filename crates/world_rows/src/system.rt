@@ -1,7 +1,7 @@
 //! What the rows of a section work on: guardians over stores of which one call may fail. What is done with them is proved for every type
 //! that has these calls, so that nothing of runs is looked at there.
 use rows::RowFault;
-use run_model::{Answer, Content, Name, ObjectId, Setup, Step};
+use run_model::{Answer, Content, ObjectId, Setup, Step};
 use stable_store::Kept;
 use stable_world::Fault;
 use std::alloc::{AllocError, Global};
@@ -32,9 +32,6 @@ pub(crate) trait System: Drop {
 
     /// How many failures the guardian's store has counted.
     fn failures(&self, guardian: u32) -> Option<u64>;
-
-    /// At which objects of the guardian the holder holds something.
-    fn held_by(&self, guardian: u32, holder: &Name) -> Option<&[u32]>;
 }
 
 /// Why no guardians were opened.

@@ -1,7 +1,7 @@
 //! Worlds over stores in memory, of which one call may fail.
 use crate::system::{Failing, System, Unopened};
 use rows::RowFault;
-use run_model::{Answer, Content, Name, ObjectId, Setup, Step};
+use run_model::{Answer, Content, ObjectId, Setup, Step};
 use stable_store::{FailOnce, Kept, PlainStable, Stable};
 use stable_world::{Fault, Refused, World};
 use std::alloc::{AllocError, Global};
@@ -53,10 +53,6 @@ impl System for World<Store> {
 
     fn failures(&self, guardian: u32) -> Option<u64> {
         Some(self.guardian(guardian)?.store().failures())
-    }
-
-    fn held_by(&self, guardian: u32, holder: &Name) -> Option<&[u32]> {
-        Some(self.guardian(guardian)?.objects_of(holder))
     }
 }
 
