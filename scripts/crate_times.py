@@ -1,6 +1,6 @@
-"""How long the checks of each crate take.
+"""How long the checks of each crate take. It is a module of gate and of argus: Times(PROCESS).start(), then table(times).
 
-The processes of rattle that a process has started are looked at twice a second, so that what ends sooner than that may go unseen."""
+It looks twice a second at the processes of rattle that a process has started. What ends sooner than that may go unseen."""
 import os
 import pathlib
 import threading
@@ -8,7 +8,7 @@ import time
 
 PAUSE = 0.5
 TICKS = os.sysconf("SC_CLK_TCK")
-KINDS = ("proof", "tests", "wrong bodies")
+KINDS = ("proof", "tests", "mutants")
 
 
 class Span:
@@ -26,7 +26,7 @@ class Span:
         return self.seen - self.begun
 
     @property
-    def processor(self):
+    def cpu(self):
         return sum(self.ticks.values()) / TICKS
 
 
@@ -58,8 +58,9 @@ class Times(threading.Thread):
         return process == self.ancestor
 
     def name(self, process, begun):
-        """The crate that the process checks, and the kind of the check, if it is one. A process that is none yet may become one, and the number of one
-        that has ended may be given again."""
+        """The crate that the process checks, and the kind of the check, if it is one.
+
+        A process that is none yet may become one, and the number of one that has ended may be given again."""
         if (process, begun) not in self.named and (key := check_of(process)):
             self.named[process, begun] = key
         return self.named.get((process, begun))
@@ -70,7 +71,7 @@ class Times(threading.Thread):
 
 
 def processes():
-    """Each process with its parent, when it began, and the ticks of the processor that it took itself."""
+    """Each process with its parent, when it began, and the ticks of CPU time that it took itself."""
     for entry in os.scandir("/proc"):
         if entry.name.isdigit():
             try:
@@ -91,17 +92,17 @@ def check_of(process):
         return None
     crate = words[words.index("--crate-name") + 1]
     if os.path.basename(folder).startswith("rt-edit-"):
-        return crate, "wrong bodies"
+        return crate, "mutants"
     return crate, "tests" if "--test" in words else "proof"
 
 
 def table(times):
-    """A line for each crate, the one that took the most of the processor first: wall and processor seconds of each kind of check."""
+    """A line for each crate: wall and CPU seconds of each kind of check. The crate that took most CPU comes first."""
     crates = {crate for crate, _ in times.spans}
-    spent = {crate: sum(span.processor for kind in KINDS if (span := times.of(crate, kind))) for crate in crates}
-    yield f"{'seconds: wall / processor':26}" + "".join(f"{kind:>17}" for kind in KINDS)
+    spent = {crate: sum(span.cpu for kind in KINDS if (span := times.of(crate, kind))) for crate in crates}
+    yield f"{'seconds: wall / CPU':26}" + "".join(f"{kind:>17}" for kind in KINDS)
     for crate in sorted(crates, key=lambda it: -spent[it]):
-        cells = (f"{span.wall:.0f} / {span.processor:.0f}" if (span := times.of(crate, kind)) else "-" for kind in KINDS)
+        cells = (f"{span.wall:.0f} / {span.cpu:.0f}" if (span := times.of(crate, kind)) else "-" for kind in KINDS)
         yield f"{crate:26}" + "".join(f"{cell:>17}" for cell in cells)
-    sums = (sum(span.processor for (_, of), span in times.spans.items() if of == kind) for kind in KINDS)
-    yield f"{'all, processor':26}" + "".join(f"{seconds:>17.0f}" for seconds in sums)
+    sums = (sum(span.cpu for (_, of), span in times.spans.items() if of == kind) for kind in KINDS)
+    yield f"{'all, CPU':26}" + "".join(f"{seconds:>17.0f}" for seconds in sums)

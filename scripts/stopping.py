@@ -1,7 +1,8 @@
-"""Runs a program and stops it at one of its calls that change a file.
+"""Runs a program and stops it at one of its calls that change a file. It is a module of stop-argus: with stopper() as it,
+it.run(words, folder, number, way).
 
-A built program asks the C library to change its files. A small library, made by the C compiler 'cc', stands before that one: it counts
-the calls that change a file of one folder, and ends the process at the call of a number."""
+A built program asks the C library to change its files. A small library, made by the C compiler 'cc', stands before that
+one. It counts the calls that change a file of one folder, and ends the process at the call of a number."""
 import contextlib
 import os
 import pathlib
@@ -12,8 +13,8 @@ from typing import NamedTuple
 STOPPED = 86  # the status of a process that was stopped
 SECONDS = 60  # of one run
 
-# What a stop leaves of the call at which it comes, and of those since the last sync of their file: nothing of the call; its first half;
-# nothing of any of them.
+# What a stop leaves of the call at which it comes, and of those since the last sync of their file: nothing of the call;
+# its first half; nothing of any of them.
 WAYS = ("before", "half", "unsynced")
 
 LIBRARY = r"""
@@ -160,8 +161,14 @@ class Stopper:
         """Runs the words, and stops at the call of this number that changes a file of the folder; at none where it is 0."""
         with tempfile.TemporaryFile() as calls:
             file = calls.fileno()
-            env = dict(os.environ, LD_PRELOAD=str(self.library), STOPPED_FOLDER=os.path.realpath(folder), STOPPED_CALL=str(number), STOPPED_WAY=way, STOPPED_CALLS=str(file))
-            done = subprocess.run(words, capture_output=True, text=True, env=env, timeout=SECONDS, pass_fds=[file])
+            env = {
+                "LD_PRELOAD": str(self.library),
+                "STOPPED_FOLDER": os.path.realpath(folder),
+                "STOPPED_CALL": str(number),
+                "STOPPED_WAY": way,
+                "STOPPED_CALLS": str(file),
+            }
+            done = subprocess.run(words, capture_output=True, text=True, env=os.environ | env, timeout=SECONDS, pass_fds=[file])
             calls.seek(0)
             return Run(done.returncode, done.stdout, done.stderr, calls.read().decode().splitlines())
 
