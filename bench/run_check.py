@@ -1,6 +1,6 @@
 #!/usr/bin/env python3
 """`run_check.py PROGRAM [BYTES ..]`: checks a script of about BYTES bytes (1,000,000 and its half and quarter where none are said) in each of three shapes,
-and prints the seconds of the processor and the peak memory."""
+and prints CPU seconds and peak memory."""
 import json
 import os
 import pathlib
@@ -44,7 +44,7 @@ def script(handlers, body):
 
 
 def measure(program, path):
-    """Seconds of the processor, peak memory in KiB, and what was said."""
+    """CPU seconds, peak memory in KiB, and what was said."""
     read, write = os.pipe()
     child = subprocess.Popen([program, "check", path], stdout=write)
     os.close(write)

@@ -1,6 +1,6 @@
 #!/usr/bin/env python3
 """`run_touched.py PROGRAM [CASE ..]`: what a step costs where there is much that it does not touch; CASE is the name of a function below. Each row
-runs the same steps beside little and beside much, and tells how much longer one took. It ends where a step is answered as was not meant. Times are of the processor: the fastest of five runs, less the fastest of five runs of the steps that
+runs the same steps beside little and beside much, and tells how much longer one took. It ends where a step is answered as was not meant. Times are CPU times: the fastest of five runs, less the fastest of five runs of the steps that
 come before. Instructions are counted by valgrind where it is installed, of fewer steps, and do not depend on the machine's speed."""
 import json
 import os
