@@ -1,0 +1,103 @@
+use Rattle.std.proofs.Common.{ap, refl, subst, sym, ◌∙◌, ◌∷◌, ◌≡◌}
+use Rattle.one_run.specs.Pieces.{seen_of}
+use Rattle.one_run.specs.Rules.{Adds, MayAdd}
+use Rattle.run_model.specs.declared.history.Event.{Event}
+use Rattle.run_model.specs.Runs.{IsRun}
+use Rattle.layer_contracts.specs.Guardians.{event_of}
+use Rattle.layered_world.specs.Standings.{forest_of, standing}
+use Rattle.shared_run.specs.Places.{touches}
+use Rattle.locked_run.specs.Acting.{StoreAfter}
+use Rattle.locked_run.specs.Acting.Outcome.{failed}
+use Rattle.locked_run.proofs.Acted.{first_failed, first_stored, second_failed, second_stored}
+use Rattle.locked_run.proofs.Together.{answered, have_kept, may_add_it}
+use Rattle.locked_run.proofs.keeping.keep_at_two.Goals as goal
+
+pub keep_two-kept-requires-clause-stamp : goal.keep_two-kept-requires-clause-stamp
+keep_two-kept-requires-clause-stamp g c =
+    let o = g.K.OfRun.opening in
+    let v = c.args.part.token.me.0 in
+    let e : Event = event_of c.args.step.now c.args.answer.now in
+    let a = c.requires.locked in
+    let r : IsRun o (e ∷ seen_of v) = (c.requires.answered, c.requires.accepted, a.registry.run) in (
+      c.requires.left,
+      subst (λ d. MayAdd (IsRun o) touches d v) (sym c.requires.deed) (may_add_it a e r c.requires.names),
+    )
+
+pub keep_two-kept-requires-clause-answered : goal.keep_two-kept-requires-clause-answered
+keep_two-kept-requires-clause-answered g c =
+    let o = g.K.OfRun.opening in
+    let past = seen_of c.args.part.token.me.0 in
+    let e : Event = event_of c.args.step.now c.args.answer.now in
+    let a = c.requires.locked in
+    let r : IsRun o (e ∷ past) = (c.requires.answered, c.requires.accepted, a.registry.run) in (
+      forest_of o past,
+      standing o past c.args.low,
+      standing o past c.args.high,
+      answered a e r c.requires.names,
+      c.requires.apart,
+    )
+
+pub returns-in-Ok-clause-locked : goal.returns-in-Ok-clause-locked
+returns-in-Ok-clause-locked g c =
+    let o = g.K.OfRun.opening in
+    let v = c.args.part.token.me.0 in
+    let w = c.keep_two-kept.new.stamp.part.token.me.0 in
+    let past = seen_of v in
+    let e : Event = event_of c.args.step.now c.args.answer.now in
+    let a = c.requires.locked in
+    let r : IsRun o (e ∷ past) = (c.requires.answered, c.requires.accepted, a.registry.run) in
+    let adds : Adds (IsRun o) touches e v c.in-Ok.number w = subst (λ d. Adds (IsRun o) touches d v c.in-Ok.number w) c.requires.deed c.in-Ok.ensures.drawn in
+    have_kept a e r c.requires.names adds
+    (c.in-Ok.ensures.done (forest_of o past) (standing o past c.args.low) (standing o past c.args.high) (answered a e r c.requires.names))
+
+pub returns-in-Ok-clause-first_store : goal.returns-in-Ok-clause-first_store
+returns-in-Ok-clause-first_store g c =
+    let o = g.K.OfRun.opening in
+    let v = c.args.part.token.me.0 in
+    let w = c.keep_two-kept.new.stamp.part.token.me.0 in
+    let past = seen_of v in
+    let e : Event = event_of c.args.step.now c.args.answer.now in
+    let a = c.requires.locked in
+    let r : IsRun o (e ∷ past) = (c.requires.answered, c.requires.accepted, a.registry.run) in
+    let adds : Adds (IsRun o) touches e v c.in-Ok.number w = subst (λ d. Adds (IsRun o) touches d v c.in-Ok.number w) c.requires.deed c.in-Ok.ensures.drawn in
+    first_stored a c.args.step.now c.args.answer.now r c.requires.names adds _ _
+    (c.in-Ok.ensures.first_store (forest_of o past) (standing o past c.args.low) (standing o past c.args.high) (answered a e r c.requires.names))
+
+pub returns-in-Ok-clause-second_store : goal.returns-in-Ok-clause-second_store
+returns-in-Ok-clause-second_store g c =
+    let o = g.K.OfRun.opening in
+    let v = c.args.part.token.me.0 in
+    let w = c.keep_two-kept.new.stamp.part.token.me.0 in
+    let past = seen_of v in
+    let e : Event = event_of c.args.step.now c.args.answer.now in
+    let a = c.requires.locked in
+    let r : IsRun o (e ∷ past) = (c.requires.answered, c.requires.accepted, a.registry.run) in
+    let adds : Adds (IsRun o) touches e v c.in-Ok.number w = subst (λ d. Adds (IsRun o) touches d v c.in-Ok.number w) c.requires.deed c.in-Ok.ensures.drawn in
+    second_stored a c.args.step.now c.args.answer.now r c.requires.names adds _ _
+    (c.in-Ok.ensures.second_store (forest_of o past) (standing o past c.args.low) (standing o past c.args.high) (answered a e r c.requires.names))
+
+pub returns-in-Err-clause-first_store : goal.returns-in-Err-clause-first_store
+returns-in-Err-clause-first_store g c =
+    let o = g.K.OfRun.opening in
+    let v = c.args.part.token.me.0 in
+    let past = seen_of v in
+    let e : Event = event_of c.args.step.now c.args.answer.now in
+    let a = c.requires.locked in
+    let r : IsRun o (e ∷ past) = (c.requires.answered, c.requires.accepted, a.registry.run) in
+    subst (λ l. StoreAfter o c.args.step.now (failed c.in-Err.fault) l c.args.low (g.G.Guardian.stored c.args.one.now) (g.G.Guardian.stored c.keep_two-kept.new.first))
+    (ap (λ s. seen_of s.part.token.me.0) (sym c.in-Err.ensures.undrawn))
+    (first_failed a c.args.step.now c.args.answer.now r c.requires.names _ _ c.in-Err.fault
+    (c.in-Err.ensures.first_store (forest_of o past) (standing o past c.args.low) (standing o past c.args.high) (answered a e r c.requires.names)))
+
+pub returns-in-Err-clause-second_store : goal.returns-in-Err-clause-second_store
+returns-in-Err-clause-second_store g c =
+    let o = g.K.OfRun.opening in
+    let v = c.args.part.token.me.0 in
+    let past = seen_of v in
+    let e : Event = event_of c.args.step.now c.args.answer.now in
+    let a = c.requires.locked in
+    let r : IsRun o (e ∷ past) = (c.requires.answered, c.requires.accepted, a.registry.run) in
+    subst (λ l. StoreAfter o c.args.step.now (failed c.in-Err.fault) l c.args.high (g.G.Guardian.stored c.args.other.now) (g.G.Guardian.stored c.keep_two-kept.new.second))
+    (ap (λ s. seen_of s.part.token.me.0) (sym c.in-Err.ensures.undrawn))
+    (second_failed a c.args.step.now c.args.answer.now r c.requires.names _ _ c.in-Err.fault
+    (c.in-Err.ensures.second_store (forest_of o past) (standing o past c.args.low) (standing o past c.args.high) (answered a e r c.requires.names)))

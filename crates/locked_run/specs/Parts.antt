@@ -1,0 +1,150 @@
+-- What is known of the run by what is locked.
+use Rattle.std.specs.Prelude.{◌≡◌, ◌-◌, ◌<◌, ◌≤◌, ◌++◌, ℕ, suc, Bool, true, false, List, [], ◌∷◌, length, slice_get, if◌then◌else◌, Option, Some, None}
+use Rattle.atomic_table.specs.Seated.{TableId}
+use Rattle.one_run.specs.declared.piece.Piece.{Piece}
+use Rattle.one_run.specs.declared.run.Part.{Part}
+use Rattle.one_run.specs.Pieces.{AllFit, GoesOn, count, seen_of, with_less, with_seen, witness}
+use Rattle.run_model.specs.LocalHistories.{local_history, numbered, registry_history}
+use Rattle.run_model.specs.declared.history.Event.{Event}
+use Rattle.run_model.specs.Openings.{Opening}
+use Rattle.run_model.specs.Runs.{IsRun}
+use Rattle.run_laws.specs.Serving.{IsServed}
+use Rattle.shared_run.specs.Places.{touches}
+use Rattle.layer_contracts.specs.Guardians.{GuardianState}
+use Rattle.layer_contracts.specs.Forests.{ForestState}
+use Rattle.layer_contracts.specs.Stores.{IsStoreOf}
+use Rattle.stable_store.specs.Calls.{View}
+use Rattle.layered_world.specs.Standings.{forest_of, standing}
+
+-- the part of a guardian, and of the registry
+abbrev pub guardian_part : ℕ → ℕ → List Event → Piece Event
+guardian_part g left past = record { place = Some (suc g); left = left; seen = past }
+
+abbrev pub registry_part : ℕ → List Event → Piece Event
+registry_part left past = record { place = Some 0; left = left; seen = past }
+
+-- A guardian under its lock stands where the run leads it, as far as its part has seen it; and
+-- nothing has touched it since. It may add so many events at least.
+pub record IsHeld (opening : Opening) (table : TableId) (stands : GuardianState → Type 0)
+    (part : Part Event) (left : ℕ) : Type 0 where
+  pub number : ℕ
+  pub past : List Event
+  pub allowed : ℕ
+  pub of_table : part.token.table_id ≡ table
+  pub parts : part.token.me.0 ≡ guardian_part number allowed past ∷ []
+  pub enough : left ≤ allowed
+  pub run : IsRun opening past
+  pub here : stands (standing opening past number)
+
+-- and so does the registry
+pub record IsHeldThere (opening : Opening) (table : TableId) (stands : ForestState → Type 0)
+    (part : Part Event) : Type 0 where
+  pub past : List Event
+  pub left : ℕ
+  pub of_table : part.token.table_id ≡ table
+  pub parts : part.token.me.0 ≡ registry_part left past ∷ []
+  pub run : IsRun opening past
+  pub there : stands (forest_of opening past)
+
+-- A guardian under its lock as contracts see it: its number, the run as it was when the guardian
+-- was named last, and how many events it may still draw a stamp for.
+pub record InHeld (G : Type 0) : Type 0 where
+  pub guardian : G
+  pub number : ℕ
+  pub seen : List Event
+  pub left : ℕ
+
+-- the number of the guardian whose part stands first
+abbrev pub place_in : Option ℕ → ℕ
+place_in None = 0
+place_in (Some p) = p - 1
+
+abbrev pub number_of : List (Piece Event) → ℕ
+number_of [] = 0
+number_of (x ∷ xs) = place_in x.place
+
+-- The registry stands where the run leads it that these parts have seen, and they have its place.
+pub record HasRegistry (opening : Opening) (stands : ForestState → Type 0)
+    (v : List (Piece Event)) : Type 0 where
+  pub run : IsRun opening (seen_of v)
+  pub seen : v ≡ with_seen (seen_of v) v
+  pub place : 0 < count 0 v
+  pub there : stands (forest_of opening (seen_of v))
+
+-- So does a guardian.
+pub record HasGuardian (opening : Opening) (stands : GuardianState → Type 0) (g : ℕ)
+    (v : List (Piece Event)) : Type 0 where
+  pub run : IsRun opening (seen_of v)
+  pub seen : v ≡ with_seen (seen_of v) v
+  pub place : 0 < count (suc g) v
+  pub here : stands (standing opening (seen_of v) g)
+
+-- the registry and two guardians, which may be one twice
+pub record AreLocked (opening : Opening) (forest : ForestState → Type 0)
+    (one other : GuardianState → Type 0) (g h : ℕ) (v : List (Piece Event)) : Type 0 where
+  pub registry : HasRegistry opening forest v
+  pub first : HasGuardian opening one g v
+  pub second : HasGuardian opening other h v
+
+-- the store is that of a guardian's history
+abbrev pub HasStore : View → Type 0
+HasStore store = (s : GuardianState) × IsStoreOf s store
+
+-- The parts after a step: all have seen one run, and the first may have added an event to it.
+pub record Moved (added : Bool) (v w : List (Piece Event)) : Type 0 where
+  pub past : List Event
+  pub is : w ≡ with_seen past (if added then with_less v else v)
+
+-- A receipt has seen a run, which is as long as its number says.
+pub record IsReceipt (opening : Opening) (table : TableId) (part : Part Event) (number : ℕ)
+    : Type 0 where
+  pub of_table : part.token.table_id ≡ table
+  pub parts : part.token.me.0 ≡ witness (seen_of part.token.me.0) ∷ []
+  pub run : IsRun opening (seen_of part.token.me.0)
+  pub counted : number ≡ length (seen_of part.token.me.0)
+
+-- both are beginnings of one run
+pub record AreOfOne (opening : Opening) (one other : List Event) : Type 0 where
+  pub past : List Event
+  pub run : IsRun opening past
+  pub first : GoesOn touches None one past
+  pub second : GoesOn touches None other past
+
+-- At the end there is one run, of this many events, which is served; and what is known of it by
+-- parts is so.
+pub record HasEnded (opening : Opening) (v : List (Piece Event)) (number : ℕ) : Type 0 where
+  pub past : List Event
+  pub served : IsServed opening past
+  pub fits : AllFit touches past v
+  pub counted : number ≡ length past
+
+-- These parts know what this guardian has seen, and that nothing has touched it since; and of the
+-- registry likewise.
+abbrev pub Knows : {G : Type 0} → List (Piece Event) → InHeld G → Type 0
+Knows v x = (past : List Event) → AllFit touches past v → GoesOn touches (Some (suc x.number)) x.seen past
+
+abbrev pub KnowsThere : List (Piece Event) → List Event → Type 0
+KnowsThere v there = (past : List Event) → AllFit touches past v → GoesOn touches (Some 0) there past
+
+abbrev pub AllKnown : {G : Type 0} → List (Piece Event) → List (InHeld G) → Type 0
+AllKnown v [] = Unit {0}
+AllKnown v (x ∷ xs) = Knows v x × AllKnown v xs
+
+-- some of these guardians have given up what they know
+pub record IsClosing {G : Type 0} (there : List Event) (all left : List (InHeld G))
+    (v : List (Piece Event)) : Type 0 where
+  pub done : List (InHeld G)
+  pub whole : all ≡ left ++ done
+  pub known : AllKnown v done
+  pub registry : KnowsThere v there
+
+-- At the end there is one run, of this many events, which is served. The registry and each guardian
+-- have the histories that it gives them.
+pub record IsClosed {G : Type 0} (opening : Opening) (there : List Event) (held : List (InHeld G))
+    (number : ℕ) : Type 0 where
+  pub past : List Event
+  pub served : IsServed opening past
+  pub counted : number ≡ length past
+  pub registry : registry_history opening (numbered past) ≡ registry_history opening (numbered there)
+  pub each : (i : ℕ) (x : InHeld G) → slice_get held i ≡ Some x
+      → local_history opening (numbered past) x.number ≡ local_history opening (numbered x.seen) x.number

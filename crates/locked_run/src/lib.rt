@@ -1,0 +1,21 @@
+//! Steps of guardians and the registry under locks of their own: all threads make one run.
+//!
+//! Each locked value keeps its part of that run, which has no bytes. So a step is answered as the
+//! definitions answer it at a run, and what every thread does is one list of steps.
+#![tactic(auto)]
+
+mod acting;
+mod beginning;
+mod closing;
+mod gathering;
+mod held;
+mod keeping;
+mod naming;
+mod shared;
+mod stepping;
+
+pub use acting::{act_one, act_registry, act_two};
+pub use beginning::{Start, begin};
+pub use closing::{close_all, end};
+pub use held::{Held, HeldRegistry};
+pub use shared::{Answered, Deed, Drawing, OfRun, Receipt, Shared};
