@@ -9,8 +9,8 @@ ghost use Rattle.lock_runs.specs.Ends.{IsRunOf};
 use layer_contracts::{Fault, Forest, Guardian};
 use lent_steps::NamedGuardians;
 use locked_run::{
-    Answered, Held, HeldRegistry, OfRun, Shared, Start, act_one, act_registry, act_two, begin,
-    close_all, end,
+    Answered, Held, HeldRegistry, OfRun, Shared, Start, act_guardian, act_one, act_registry,
+    act_two, begin, close_all, end,
 };
 use run_model::Step;
 use std::alloc::{AllocError, Global};
@@ -121,6 +121,10 @@ impl<K: OfRun, R: Forest, G: Guardian> Locks<K, R, G> {
             × IsAnswered K.opening step.now a.answer a.receipt seen)) }
     {
         let mut one = one.lock(rt);
+        let done = act_guardian(self.alloc, &self.shared, &mut one, step)?;
+        if done.is_some() {
+            return Ok(done);
+        }
         let mut registry = self.registry.lock(rt);
         act_one(self.alloc, &self.shared, &mut registry, &mut one, step)
     }

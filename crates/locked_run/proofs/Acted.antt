@@ -1,11 +1,9 @@
 -- What a step of what is locked leaves.
-use Rattle.std.proofs.Common.{Bool, Err, IfOk, List, MatchOption, Ok, OnErr, Result, None, Option, Some, [], ap, arith, cond, false, inl, inr, length, refl, subst, sym, true, zero, suc, ℕ, ◌+◌, ◌-◌, ◌<◌, ◌≤◌, ◌++◌, ◌==◌, ◌∙◌, ◌∷◌, ◌≡◌, ◌&&◌, ◌||◌, ◌⊎◌, is_some}
+use Rattle.std.proofs.Common.{Err, IfOk, List, MatchOption, Ok, OnErr, Result, None, Option, Some, [], ap, arith, cond, false, length, subst, sym, true, ℕ, ◌<◌, ◌==◌, ◌∙◌, ◌∷◌, ◌≡◌, ◌&&◌, is_some}
 use Rattle.std.proofs.lemmas.Bool.{or_left, or_right}
-use Rattle.atomic_table.specs.Seated.{TableId}
 use Rattle.one_run.specs.declared.piece.Piece.{Piece}
-use Rattle.one_run.specs.declared.run.Part.{Part}
-use Rattle.one_run.specs.Pieces.{AllFit, GoesOn, count, seen_of, witness, with_event, with_less, with_seen}
-use Rattle.one_run.specs.Rules.{Adds, Looks, first_of, others_of}
+use Rattle.one_run.specs.Pieces.{AllFit, count, seen_of, witness, with_less, with_seen}
+use Rattle.one_run.specs.Rules.{Adds, first_of, others_of}
 use Rattle.stable_store.specs.Calls.{View}
 use Rattle.run_model.specs.declared.answer.Answer.{Answer}
 use Rattle.run_model.specs.declared.history.Event.{Event}
@@ -26,11 +24,10 @@ use Rattle.lent_steps.specs.Keeping.{StoreLeft}
 use Rattle.layered_world.specs.Standings.{Names, asks_of, brought, content_then, event_next, forest_of, standing}
 use Rattle.layered_world.proofs.Stores.{left_at}
 use Rattle.shared_run.specs.Places.{touches}
-use Rattle.shared_run.proofs.Histories.{history_stays, registry_stays}
 use Rattle.locked_run.specs.Acting.{HasMoved, IsAnswered, Outcome, StoreAfter, has_added, run_before}
-use Rattle.locked_run.specs.Acting.Outcome.{elsewhere, failed, taken}
-use Rattle.locked_run.specs.Parts.{AreLocked, HasGuardian, HasRegistry, IsHeld, IsHeldThere, Moved, guardian_part, registry_part}
-use Rattle.locked_run.proofs.Together.{all_fit_seen, goes_further, has_guardian, has_registry, less_count, moved_on, names_before, seen_of_with}
+use Rattle.locked_run.specs.Acting.Outcome.{failed, taken}
+use Rattle.locked_run.specs.Parts.{AreLocked}
+use Rattle.locked_run.proofs.Together.{all_fit_seen, less_count, moved_on, names_before, seen_of_with}
 
 -- ---- a step that was not added
 

@@ -4,3 +4,4 @@ pub mod Acted
 pub mod Under
 pub mod Begun
 pub mod Closed
+pub mod ByItself

@@ -1,12 +1,11 @@
 -- The registry and two guardians whose parts have seen one run.
-use Rattle.std.proofs.Common.{Bool, List, None, Option, Some, [], ap, arith, cond, eqb-true, false, inl, inr, length, refl, subst, sym, true, zero, suc, ℕ, ◌+◌, ◌-◌, ◌<◌, ◌≤◌, ◌++◌, ◌==◌, ◌∙◌, ◌∷◌, ◌≡◌, ◌&&◌, ◌||◌, ◌⊎◌}
-use Rattle.std.proofs.lemmas.Bool.{and_parts, or_cases}
+use Rattle.std.proofs.Common.{List, Option, [], ap, arith, eqb-true, inl, inr, length, refl, subst, sym, true, suc, ℕ, ◌<◌, ◌++◌, ◌==◌, ◌∙◌, ◌∷◌, ◌≡◌, ◌||◌, ◌⊎◌}
+use Rattle.std.proofs.lemmas.Bool.{or_cases}
 use Rattle.one_run.specs.declared.piece.Piece.{Piece}
 use Rattle.one_run.specs.Pieces.{AllFit, GoesOn, count, first_left, seen_of, witness, with_event, with_less, with_seen}
-use Rattle.one_run.specs.Rules.{Adds, Looks, MayAdd, first_of, others_of}
+use Rattle.one_run.specs.Rules.{Adds, Looks, MayAdd, others_of}
 use Rattle.one_run.proofs.Parts.{seen_count}
 use Rattle.run_model.specs.declared.history.Event.{Event}
-use Rattle.run_model.specs.declared.step.Step.{Step}
 use Rattle.run_model.specs.LocalHistories.{RegistryEvent, events_there, local_history, names_guardian, numbered, registry_history}
 use Rattle.run_model.specs.LocalReadings.{LocalEvent}
 use Rattle.run_model.specs.Openings.{Opening}

@@ -1,12 +1,11 @@
 -- From what stands under locks to parts taken together, and back.
-use Rattle.std.proofs.Common.{Bool, List, None, Option, Some, [], ap, arith, cond, false, refl, subst, sym, true, zero, suc, ℕ, ◌+◌, ◌-◌, ◌<◌, ◌≤◌, ◌++◌, ◌==◌, ◌∙◌, ◌∷◌, ◌≡◌}
+use Rattle.std.proofs.Common.{Bool, List, Some, [], ap, arith, cond, false, refl, subst, sym, true, suc, ℕ, ◌-◌, ◌<◌, ◌≤◌, ◌++◌, ◌==◌, ◌∙◌, ◌∷◌, ◌≡◌}
 use Rattle.atomic_table.specs.Seated.{TableId}
 use Rattle.one_run.specs.declared.piece.Piece.{Piece}
 use Rattle.one_run.specs.declared.run.Part.{Part}
 use Rattle.one_run.specs.Pieces.{AllFit, GoesOn, count, first_left, seen_of, with_less, with_seen}
 use Rattle.one_run.specs.Rules.{Looks, first_of, others_of}
 use Rattle.run_model.specs.declared.history.Event.{Event}
-use Rattle.run_model.specs.LocalHistories.{local_history, numbered, registry_history}
 use Rattle.run_model.specs.Openings.{Opening}
 use Rattle.run_model.specs.Runs.{IsRun}
 use Rattle.run_laws.proofs.Names.{eqb_self}
@@ -18,9 +17,9 @@ use Rattle.shared_run.proofs.Histories.{history_stays, registry_stays}
 use Rattle.stable_store.specs.Calls.{View}
 use Rattle.run_model.specs.declared.step.Step.{Step}
 use Rattle.layer_contracts.proofs.Stores.{stays_same}
-use Rattle.locked_run.specs.Acting.{HasMoved, IsLeft, IsLeftThere, Outcome, StoreAfter, has_added, run_before}
+use Rattle.locked_run.specs.Acting.{IsLeft, IsLeftThere, Outcome, StoreAfter, has_added, run_before}
 use Rattle.locked_run.specs.Acting.Outcome.{elsewhere}
-use Rattle.locked_run.specs.Parts.{AreLocked, HasGuardian, HasRegistry, InHeld, IsHeld, IsHeldThere, Moved, guardian_part, number_of, registry_part}
+use Rattle.locked_run.specs.Parts.{AreLocked, HasRegistry, InHeld, IsHeld, IsHeldThere, Moved, guardian_part, number_of, registry_part}
 use Rattle.locked_run.proofs.Together.{goes_further, has_guardian, has_registry}
 
 abbrev pub three : ℕ → ℕ → List Event → ℕ → ℕ → List Event → ℕ → List Event → List (Piece Event)

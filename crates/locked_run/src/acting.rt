@@ -2,10 +2,11 @@
 ghost use Rattle.std.specs.Prelude.{◌≡◌, ◌⊎◌, false, length, if◌then◌else◌, IfErr, IfOk, IsErrOf, MatchOption, None};
 ghost use Rattle.layer_contracts.specs.Stores.{CountsFailure};
 ghost use Rattle.layer_contracts.specs.declared.guardian.Fault.TheVariants.{Memory, Stable};
-ghost use Rattle.locked_run.specs.Acting.{IsAnswered, IsElsewhere, IsLeft, IsLeftThere, has_added, left_after, names_nobody, names_one, names_two, outcome_of};
+ghost use Rattle.locked_run.specs.Acting.{IsAnswered, IsElsewhere, IsLeft, IsLeftThere, has_added, is_own, left_after, names_nobody, names_one, names_two, outcome_of};
 
 use crate::gathering::{gather_three, gather_two, look_alone, scatter_three, scatter_two};
 use crate::held::{Held, HeldRegistry};
+use crate::own::step_own;
 use crate::shared::{Answered, OfRun, Shared};
 use crate::stepping::{step_nobody, step_one, step_two};
 use layer_contracts::{Fault, Forest, Guardian};
@@ -106,6 +107,36 @@ pub fn act_one<K: OfRun, R: Forest, G: Guardian>(
         step,
     );
     scatter_two(shared, part, &mut held.part, &mut registry.part);
+    held.left -= drawn(&done);
+    done
+}
+
+/// One step that a guardian makes by itself, without the registry: an operation of an action at home
+/// there, its own crash, or its own recovery. As `act_two`. `None` if the step is another, or if the
+/// guardian has no stamps left.
+pub fn act_guardian<K: OfRun, G: Guardian>(
+    alloc: Global,
+    shared: &Shared<K>,
+    held: &mut Held<K, G>,
+    step: &Step,
+) -> Result<Option<Answered<K>>, Fault>
+    ensures answered { IfOk result (λ r. MatchOption r
+        (IsElsewhere ⊥ held.old.left (is_own held.old.number step.now held.new.seen))
+        (λ a. IsAnswered K.opening step.now a.answer a.receipt held.new.seen)) }
+    ensures held { IsLeft K.opening G.stored step.now (outcome_of (λ a. a.receipt) result) held.old
+        held.new }
+    ensures left { held.new.left ≡ left_after (has_added (outcome_of (λ a. a.receipt) result))
+        held.old.left }
+    ensures cause { IsErrOf result Stable → CountsFailure (G.stored held.old.guardian)
+        (G.stored held.new.guardian) }
+{
+    if held.left == 0 {
+        return Ok(None);
+    }
+    let number = held.guardian.number();
+    let part = look_alone(shared, &mut held.part);
+    let (part, done) = step_own(alloc, shared, &mut held.guardian, number, part, step);
+    held.part = part;
     held.left -= drawn(&done);
     done
 }

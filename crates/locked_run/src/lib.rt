@@ -11,10 +11,11 @@ mod gathering;
 mod held;
 mod keeping;
 mod naming;
+mod own;
 mod shared;
 mod stepping;
 
-pub use acting::{act_one, act_registry, act_two};
+pub use acting::{act_guardian, act_one, act_registry, act_two};
 pub use beginning::{Start, begin};
 pub use closing::{close_all, end};
 pub use held::{Held, HeldRegistry};

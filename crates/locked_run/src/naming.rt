@@ -5,7 +5,7 @@ ghost use Rattle.locked_run.specs.Acting.{is_at_most, is_out};
 use lent_steps::NamedGuardians;
 
 /// Whether no guardian of so many has this number.
-fn is_out(count: usize, guardian: u32) -> bool
+pub(crate) fn is_out(count: usize, guardian: u32) -> bool
     ensures { result ≡ is_out count guardian }
 {
     guardian == 0 || guardian as usize > count

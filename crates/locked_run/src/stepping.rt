@@ -227,7 +227,7 @@ pub(crate) fn step_nobody<K: OfRun, R: Forest>(
 }
 
 /// Cuts the receipt of an event off, which has this number.
-fn receipted<K: OfRun>(
+pub(crate) fn receipted<K: OfRun>(
     shared: &Shared<K>,
     part: Part<Event>,
     answer: Answer,
