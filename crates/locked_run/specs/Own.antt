@@ -21,7 +21,8 @@ is_own_here s _ = false
 
 -- done, if there is such a guardian, and this does not forbid it
 abbrev pub turned : GuardianState → Bool → Refusal → Answer
-turned s forbidden reason = refused_or (first_refusal (no_guardian s.opening s.number ∷ (reason, forbidden) ∷ [])) (Done 0)
+turned s forbidden reason =
+    refused_or (first_refusal (no_guardian s.opening s.number ∷ (reason, forbidden) ∷ [])) (Done 0)
 
 -- and what it answers
 abbrev pub own_answer : GuardianState → Step → Answer

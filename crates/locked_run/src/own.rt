@@ -1,4 +1,4 @@
-//! What a guardian does by itself: operations of actions at home there, its own crash, its own recovery.
+//! What a guardian does by itself: operations of actions at home there, its own crash and recovery.
 ghost use Rattle.std.specs.Prelude.{◌≡◌, ◌==◌, ◌<◌, [], false, true, IfOk, IsErrOf, IsTrue, MatchOption, OnErr, map};
 ghost use Rattle.std.specs.List.Sorted.{IsStrictlySortedBy};
 ghost use Rattle.action_names.specs.Names.{name_cmp};
@@ -29,7 +29,8 @@ use std::marker::{Brand, PhantomData};
 
 /// Done, unless this forbids it.
 fn turned<G: Guardian>(guardian: &G, number: u32, forbidden: bool, reason: Refusal) -> Answer
-    ensures { (s : GuardianState) → G.stands guardian.now s → s.number ≡ number → result ≡ turned s forbidden reason }
+    ensures { (s : GuardianState) → G.stands guardian.now s → s.number ≡ number
+        → result ≡ turned s forbidden reason }
 {
     if is_out(guardian.opening().setup().guardians(), number) {
         return Answer::Refused(Refusal::NoGuardian);
@@ -46,8 +47,9 @@ fn answer_own<G: Guardian>(
     number: u32,
     step: &Step,
 ) -> Result<Option<Answer>, AllocError>
-    ensures { (s : GuardianState) → G.stands guardian.now s → s.number ≡ number → IfOk result (λ r. MatchOption r
-        (is_own_here s step.now ≡ false) (λ answer. (is_own_here s step.now ≡ true) × (answer ≡ own_answer s step.now))) }
+    ensures { (s : GuardianState) → G.stands guardian.now s → s.number ≡ number
+        → IfOk result (λ r. MatchOption r (is_own_here s step.now ≡ false)
+        (λ answer. (is_own_here s step.now ≡ true) × (answer ≡ own_answer s step.now))) }
 {
     match step {
         Step::Op(action, object, operation) => {
@@ -98,14 +100,16 @@ fn keep_by_itself<G: Guardian, D: Draw>(
     stamp: &mut D,
 ) -> Result<u64, Fault>
     requires stamp { D.may_draw stamp.old }
-    requires next { (s : GuardianState) × G.stands guardian.old s × IsNext s (by_itself (event_of step.now answer.now)) }
+    requires next { (s : GuardianState) × G.stands guardian.old s
+        × IsNext s (by_itself (event_of step.now answer.now)) }
     ensures drawn { IfOk result (λ n. D.draws stamp.old n stamp.new) }
     ensures undrawn { OnErr result (stamp.new ≡ stamp.old) }
     ensures kept { IfOk result (λ n. (s : GuardianState) → G.stands guardian.old s
         → IsNext s (by_itself (event_of step.now answer.now))
         → G.stands guardian.new (kept s (stamped n (by_itself (event_of step.now answer.now))))) }
     ensures same { OnErr result (StandsStill (G.stands guardian.old) (G.stands guardian.new)) }
-    ensures store { (s : GuardianState) → G.stands guardian.old s → IsNext s (by_itself (event_of step.now answer.now))
+    ensures store { (s : GuardianState) → G.stands guardian.old s
+        → IsNext s (by_itself (event_of step.now answer.now))
         → LeavesStore s (by_itself (event_of step.now answer.now)) (G.stored guardian.old)
         (G.stored guardian.new) (fault_in result) }
     ensures cause { IsErrOf result Stable → CountsFailure (G.stored guardian.old)

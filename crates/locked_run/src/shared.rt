@@ -88,7 +88,8 @@ pub struct Drawing<'a, K: OfRun, T: Deed> {
 }
 
 impl<'a, K: OfRun, T: Deed> Draw for Drawing<'a, K, T> {
-    ghost may_draw = { λ d. (0 < first_left d.part.token.me.0) × MayAdd (IsRun K.opening) touches T.event d.part.token.me.0 };
+    ghost may_draw = { λ d. (0 < first_left d.part.token.me.0)
+        × MayAdd (IsRun K.opening) touches T.event d.part.token.me.0 };
 
     ghost draws = { λ d n w. Adds (IsRun K.opening) touches T.event d.part.token.me.0 n w.part.token.me.0 };
 
