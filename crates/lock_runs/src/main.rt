@@ -23,14 +23,20 @@ fn main(rt: HostRuntime) -> io::Result<()> {
     report(&rt, rt.alloc(), 200, 3)
 }
 
-/// Prints what comes of two threads that make so many steps each.
-fn report<H: Threads + Wait + Sync + Print>(
+/// Prints what comes of two threads that make so many steps each. They begin once more if memory was
+/// refused.
+fn report<H: Threads + Wait + Sync + Print + Eprint>(
     rt: &H,
     alloc: Global,
     count: u64,
     seed: u64,
 ) -> io::Result<()> {
-    let outcome = match at_once(alloc, rt, count, seed) {
+    let mut ended = at_once(alloc, rt, count, seed);
+    if let Err(RowFault::Memory) = ended {
+        let _ = eprintln!(rt; "memory was refused");
+        ended = at_once(alloc, rt, count, seed);
+    }
+    let outcome = match ended {
         Ok(true) => "one run",
         Ok(false) => "no run",
         Err(RowFault::Memory) => "out of memory",
