@@ -21,7 +21,7 @@ use std::alloc::Global;
 /// Runs the clients of a script one after another, each to its end, and gives how they ended, in their order. The arms of a `coenter` are
 /// begun together and run in order. An operation that would wait aborts the enclosing top action.
 ///
-/// `Err` comes for want of memory, or where the store of a guardian failed. A client to which that happens aborts its open actions,
+/// `Err` comes if memory runs out, or where the store of a guardian failed. A client to which that happens aborts its open actions,
 /// outwards, as far as that succeeds, and the others are run all the same; the last such fault is answered.
 pub fn run_serial<S: Stable>(
     alloc: Global,

@@ -25,11 +25,11 @@ use Rattle.argus_engine.specs.Serving.{Gives, step_lines}
 abbrev pub FacesNoStep : Option (List ℕ) → Type 0
 FacesNoStep input = (text : List ℕ) × Gives input text × (text ≢ []) × (BeginsWithStep text → ⊥)
 
--- want of memory, or a fault of the reader
+-- out of memory, or a fault of the reader
 abbrev pub IsOfReader : Fault → Type 0
 IsOfReader fault = (fault ≡ Memory) ⊎ (fault ≡ Input)
 
--- want of memory, or a fault of a guardian's store
+-- out of memory, or a fault of a guardian's store
 abbrev pub IsOfStep : Fault → Type 0
 IsOfStep fault = (fault ≡ Memory) ⊎ (fault ≡ Store)
 

@@ -60,7 +60,7 @@ Writes before after fact = (written : List ℕ) × Appends before after written 
 abbrev pub TakesFront : Option (List ℕ) → Option (List ℕ) → List ℕ → Type 0
 TakesFront old new bytes = (count : ℕ) × (count ≤ length bytes) × Appends old new (take count bytes)
 
--- want of memory, or a fault of the writer
+-- out of memory, or a fault of the writer
 abbrev pub IsOfWriter : Fault → Type 0
 IsOfWriter fault = (fault ≡ Memory) ⊎ (fault ≡ Output)
 

@@ -62,7 +62,7 @@ impl Object {
 
     /// What the top action will hold, to be prepared, once the outcomes of its descendants are told, which rise by name: nothing is changed.
     /// That is the version of the last owner that stays of its tree, with what is added below it; where no owner stays, what is added in its
-    /// tree. Fails only for want of memory.
+    /// tree. Fails only if memory runs out.
     pub fn part_once_told(
         &self,
         top: &Name,

@@ -25,7 +25,7 @@ use std::alloc::AllocError;
 use values::Value;
 
 impl Object {
-    /// Keeps an operation of an action that waits for nobody, so that it is granted; what it is answered, `answer` says. After want of memory
+    /// Keeps an operation of an action that waits for nobody, so that it is granted; what it is answered, `answer` says. If memory runs out,
     /// what is held of the object stays.
     pub fn grant(&mut self, action: &Name, op: &Op) -> Result<(), AllocError>
         requires named { IsTrue (is_ancestor action.now action.now) }
@@ -39,7 +39,7 @@ impl Object {
         self.granted(action, op)
     }
 
-    /// What the operation of an action would be answered, with nothing changed. Fails only for want of memory.
+    /// What the operation of an action would be answered, with nothing changed. Fails only if memory runs out.
     pub fn answer(&self, action: &Name, op: &Op) -> Result<Answer, AllocError>
         requires named { IsTrue (is_ancestor action.now action.now) }
         requires shown { IsShown (seen self.now) }

@@ -258,7 +258,7 @@ impl<I: Drop, V: Drop> Operation<I, V> {
 }
 
 impl Op {
-    /// An equal operation. Fails only for want of memory.
+    /// An equal operation. Fails only if memory runs out.
     #[tactic(auto, using(crate::proofs::Table::put_together))]
     pub fn copy(&self) -> Result<Op, AllocError>
         ensures { IfOk result (λ copy. copy ≡ self.now) }

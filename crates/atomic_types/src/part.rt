@@ -14,7 +14,7 @@ pub enum Part {
 }
 
 impl Part {
-    /// An equal part. Fails only for want of memory.
+    /// An equal part. Fails only if memory runs out.
     pub fn copy(&self) -> Result<Part, AllocError>
         ensures { IfOk result (λ copy. copy ≡ self.now) }
     {
@@ -24,7 +24,7 @@ impl Part {
         })
     }
 
-    /// What an object holds under this part that held this content before. A delta changes counters alone. Fails only for want of memory.
+    /// What an object holds under this part that held this content before. A delta changes counters alone. Fails only if memory runs out.
     #[tactic(auto, using(crate::specs::TypeLaws::wrapped))]
     pub fn laid_on(&self, content: &Content) -> Result<Content, AllocError>
         ensures { IfOk result (λ under. under ≡ laid self.now content.now) }

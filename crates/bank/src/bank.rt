@@ -192,7 +192,7 @@ impl Bank {
         }
     }
 
-    // Makes the step. After want of memory the world is as it was.
+    // Makes the step. If memory runs out, the world is as it was.
     fn make(&mut self, step: Step) -> Result<Said, BankFault> {
         match self.world.step(&step) {
             Ok(answer) => Ok(Said::of(&answer)),

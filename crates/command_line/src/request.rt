@@ -47,7 +47,7 @@ pub struct Run<'a> {
 /// Why words are no command.
 #[derive(Drop)]
 pub enum CommandFault {
-    /// What clap says: a mistake in the words, help or the version that was asked for, or want of memory.
+    /// What clap says: a mistake in the words, help or the version that was asked for, or out of memory.
     Said(clap::Error),
     /// A part of the command is not there.
     Incomplete,

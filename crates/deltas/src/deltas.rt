@@ -78,7 +78,7 @@ impl Deltas {
         }
     }
 
-    /// Adds to what the holder adds. After want of memory nothing is changed.
+    /// Adds to what the holder adds. If memory runs out, nothing is changed.
     #[tactic(auto, using(action_names::proofs::Ancestry::same_refl))]
     pub fn add(&mut self, holder: &Name, by: i64) -> Result<(), AllocError>
         ensures ok { OnOk result (HasDelta self.old.held self.new.held holder.now (more_at self.old.held holder.now by)) }
@@ -91,7 +91,7 @@ impl Deltas {
         Ok(())
     }
 
-    /// Makes room for what the holder is to add. The deltas stay; after want of memory nothing is changed.
+    /// Makes room for what the holder is to add. The deltas stay; if memory runs out, nothing is changed.
     pub fn make_room(&mut self, holder: &Name) -> Result<(), AllocError>
         ensures held { self.new.held ≡ self.old.held }
         ensures room { OnOk result (HasMoreRoom self.old.room self.new.room holder.now) }

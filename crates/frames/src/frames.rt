@@ -79,7 +79,7 @@ impl Frames {
         self.truths.truncate(sizes.truths);
     }
 
-    /// Equal frames. Fails only for want of memory.
+    /// Equal frames. Fails only if memory runs out.
     pub fn copy(&self) -> Result<Frames, AllocError>
         ensures { IfOk result (λ copy. copy ≡ self.now) }
     {
@@ -109,7 +109,7 @@ impl Frames {
         text_value(&self.texts, expr)
     }
 
-    /// The value of an expression; none where a sum or a difference is out of 64 bits. Fails only for want of memory.
+    /// The value of an expression; none where a sum or a difference is out of 64 bits. Fails only if memory runs out.
     pub fn value(&self, expr: &Expr) -> Result<Option<Value>, AllocError>
         requires { IsTrue (expr_is_bound (sizes self.now) expr.now) }
         ensures { IfOk result (λ found. found ≡ value_of self.now expr.now) }
@@ -133,7 +133,7 @@ impl Frames {
         }
     }
 
-    /// The frames with which the handler's body begins; none where a sum or a difference is out of 64 bits. Fails only for want of memory.
+    /// The frames with which the handler's body begins; none where a sum or a difference is out of 64 bits. Fails only if memory runs out.
     pub fn arguments(&self, alloc: Global, call: &HandlerCall) -> Result<Option<Frames>, AllocError>
         requires ints { IsTrue (list_all (λ e. int_is_bound (sizes self.now).ints e) call.now.ints) }
         requires texts { IsTrue (list_all (λ e. text_is_bound (sizes self.now).texts e) call.now.texts) }
@@ -149,8 +149,8 @@ impl Frames {
         }))
     }
 
-    /// Binds a reply, and says whether it is of the kind that the binding asks; one of another kind binds nothing. Fails only for want of
-    /// memory, and then binds nothing either.
+    /// Binds a reply, and says whether it is of the kind that the binding asks; one of another kind binds nothing. Fails only if memory
+    /// runs out, and then binds nothing either.
     pub fn bind(&mut self, binding: Binding, reply: Reply) -> Result<bool, AllocError>
         requires { IsTrue (binding_is_bound (sizes self.old) binding) }
         ensures fits { IfOk result (λ fits. IsTrue fits → bound_after self.old binding reply ≡ Some self.new) }
@@ -173,8 +173,8 @@ impl Frames {
     }
 }
 
-/// Puts a value at a place of a frame, if there is a place: that of a bound variable, or the one after the last. Fails only for want of
-/// memory, and then leaves the frame as it was.
+/// Puts a value at a place of a frame, if there is a place: that of a bound variable, or the one after the last. Fails only if memory
+/// runs out, and then leaves the frame as it was.
 fn put<T: Drop>(frame: &mut Vec<T>, place: Option<u32>, value: T) -> Result<(), AllocError>
     requires { IsTrue (is_place (length frame.old.items) place) }
     ensures ok { OnOk result (frame.new.items ≡ bound_at frame.old.items place value) }

@@ -12,7 +12,7 @@ use std::alloc::AllocError;
 use values::{Identifier, Value};
 
 impl Frames {
-    /// The operation with its arguments computed; none where a sum or a difference is out of 64 bits. Fails only for want of memory.
+    /// The operation with its arguments computed; none where a sum or a difference is out of 64 bits. Fails only if memory runs out.
     pub fn operation(&self, operation: &Operation) -> Result<Option<Op>, AllocError>
         requires { IsTrue (operation_is_bound (sizes self.now) operation.now) }
         ensures { IfOk result (λ found. found ≡ op_of self.now operation.now) }

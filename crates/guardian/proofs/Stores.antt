@@ -53,7 +53,7 @@ module _ (after : Stored) (old new : View) where
   performed true nothing written r is same none makes = called r (subst (λ s. Makes old new (Unit {0}) s r) same (makes is))
   performed false nothing written r is same none makes = let both = none is in uncalled r both.0 both.1
 
--- a want of memory, as `?` hands it on
+-- out of memory, as `?` hands it on
 pub memory_in : {T : Type 0} (r : Result T Fault) → IsErr r → IsErrAnd r (λ e. e ≡ Memory) → fault_in r ≡ Some Memory
 memory_in (Ok x) is h = absurd (false≢true is)
 memory_in (Err e) is h = ap (λ f. Some f) h

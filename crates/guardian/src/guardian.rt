@@ -46,7 +46,7 @@ impl<S: Stable> Model for Guardian<S> {
 
 impl<S: Stable> Guardian<S> {
     /// The guardian of this number, to which nothing has happened since the opening. Its store holds what the opening says that it held, and nothing is
-    /// prepared there. Fails only for want of memory, and then gives the store back.
+    /// prepared there. Fails only if memory runs out, and then gives the store back.
     pub fn new(
         alloc: Global,
         opening: Arc<Opening, Global>,

@@ -38,7 +38,7 @@ pub(crate) enum Write {
 }
 
 impl Write {
-    /// What the event asks for, read before anything changes. Fails only for want of memory.
+    /// What the event asks for, read before anything changes. Fails only if memory runs out.
     pub(crate) fn of<S: Stable>(
         memory: &Memory,
         plan: &Plan,

@@ -51,7 +51,7 @@ impl Memory {
     }
 
     /// Makes an operation on its object, and follows it with the stamp that is drawn then. No message comes with it, and nothing changes beside the
-    /// object. Fails only for want of memory.
+    /// object. Fails only if memory runs out.
     pub fn operate<D: Draw>(
         &mut self,
         step: &Step,

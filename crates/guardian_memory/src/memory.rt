@@ -60,7 +60,7 @@ impl Model for Memory {
 }
 
 impl Memory {
-    /// The memory of a guardian to which nothing has happened. Fails only for want of memory.
+    /// The memory of a guardian to which nothing has happened. Fails only if memory runs out.
     pub fn new(
         alloc: Global,
         opening: Arc<Opening, Global>,

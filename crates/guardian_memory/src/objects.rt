@@ -13,7 +13,7 @@ use std::alloc::AllocError;
 use version_stack::View;
 
 impl Memory {
-    /// How many of the objects a telling of this outcome changes. It looks at those alone. Fails only for want of memory.
+    /// How many of the objects a telling of this outcome changes. It looks at those alone. Fails only if memory runs out.
     pub fn told_count(&self, action: &Name, committed: bool) -> Result<u64, AllocError>
         ensures { (s : GuardianState) → IsSound self.now s → IfOk result (λ count. count ≡ count_told s action.now committed) }
     {
@@ -24,7 +24,7 @@ impl Memory {
         self.objects.told_count(action, committed)
     }
 
-    /// What an operation that nothing refuses is answered: the reply, or for whom it waits. Nothing is changed. Fails only for want of memory.
+    /// What an operation that nothing refuses is answered: the reply, or for whom it waits. Nothing is changed. Fails only if memory runs out.
     pub fn operated(
         &self,
         action: &Name,

@@ -16,7 +16,7 @@ use std::collections::BTreeMap;
 
 impl Memory {
     /// What the top action will hold once the guardian has kept its yes vote on it, by the number of the object. It is read before anything
-    /// changes. Fails only for want of memory.
+    /// changes. Fails only if memory runs out.
     pub fn parts(&self, top: &Name, plan: &Plan) -> Result<BTreeMap<u32, Part>, AllocError>
         requires { (s : GuardianState) × (news : News) × IsSound self.now s × IsPlanOf plan.now self.now s news }
         ensures { (s : GuardianState) (news : News) → IsSound self.now s → IsPlanOf plan.now self.now s news

@@ -44,7 +44,7 @@ impl Model for Objects {
 }
 
 impl Objects {
-    /// The guardian's objects with their first contents, of which nobody holds anything. Fails only for want of memory.
+    /// The guardian's objects with their first contents, of which nobody holds anything. Fails only if memory runs out.
     pub fn new(
         alloc: Global,
         opening: &run_model::Opening,
@@ -104,7 +104,7 @@ impl Objects {
         Ok(below as u64)
     }
 
-    /// What an operation on the object of this number would be answered, with nothing changed. Fails only for want of memory.
+    /// What an operation on the object of this number would be answered, with nothing changed. Fails only if memory runs out.
     pub fn answer(&self, action: &Name, number: u32, op: &Op) -> Result<Answer, AllocError>
         requires { IsAsked self.now number op.now }
         ensures { IfOk result (λ answer. (opening : Opening) (here : List LocalEvent) → AreObjects opening here self.now
@@ -115,7 +115,7 @@ impl Objects {
         self.objects[number as usize - 1].answer(action, op)
     }
 
-    /// Keeps an operation on the object of this number that is granted; what it is answered, `answer` says. After want of memory the objects are those
+    /// Keeps an operation on the object of this number that is granted; what it is answered, `answer` says. If memory runs out, the objects are those
     /// of the same history.
     pub fn grant(&mut self, action: &Name, number: u32, op: &Op) -> Result<(), AllocError>
         requires { IsGranted self.old number action.now op.now }

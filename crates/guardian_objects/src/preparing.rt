@@ -21,7 +21,7 @@ use std::collections::BTreeMap;
 
 impl Objects {
     /// What the top action will hold of each object once the outcomes of its descendants are told, which rise by name, by the number of the object:
-    /// nothing is changed. It looks at the objects alone at which the top action or a descendant holds something. Fails only for want of memory.
+    /// nothing is changed. It looks at the objects alone at which the top action or a descendant holds something. Fails only if memory runs out.
     pub fn parts_once_told(
         &self,
         top: &Name,

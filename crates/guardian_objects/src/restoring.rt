@@ -14,7 +14,7 @@ use std::alloc::AllocError;
 
 impl Objects {
     /// Gives a prepared top action back what the store holds for it, by the numbers of the objects: values under write locks, deltas under locks to add. It
-    /// is the newest of those that are given something back. After want of memory the objects are not to be used any more.
+    /// is the newest of those that are given something back. If memory runs out, the objects are not to be used any more.
     pub fn give_back(&mut self, holder: &Name, parts: &[(u32, Part)]) -> Result<(), AllocError>
         requires { MayGiveBack self.old holder.now parts.now }
         ensures given { OnOk result ((opening : Opening) (records : List (Name × Prepared)) (home : ℕ) → AreGivenBack opening records self.old

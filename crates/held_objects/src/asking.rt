@@ -7,7 +7,7 @@ use std::alloc::AllocError;
 pub trait Asking {
     ghost answers: { Self → List ℕ → Bool → Type 0 };
 
-    /// What is so of the holder. Fails only for want of memory.
+    /// What is so of the holder. Fails only if memory runs out.
     fn asks(&self, holder: &Name) -> Result<bool, AllocError>
         ensures { IfOk result (answers self.now holder.now) };
 }

@@ -55,8 +55,8 @@ impl FewRows {
         }
     }
 
-    /// At which objects the action and its descendants hold something, rising, each once. It looks at their rows and one more. Fails only for want of
-    /// memory.
+    /// At which objects the action and its descendants hold something, rising, each once. It looks at their rows and one more. Fails only if memory
+    /// runs out.
     pub fn objects_below(&self, action: &Name) -> Result<Vec<u32>, AllocError>
         ensures objects { IfOk result (λ objects. (n : ℕ) → IsTrue (has_number objects.items n) ↔ HoldsBelow self.now action.now n) }
         ensures rising { IfOk result (λ objects. IsRising objects.items) }
@@ -69,8 +69,8 @@ impl FewRows {
         Ok(below)
     }
 
-    /// Whether the answer is yes of the action and of each descendant that holds something. It looks at their rows and one more. Fails only for want of
-    /// memory.
+    /// Whether the answer is yes of the action and of each descendant that holds something. It looks at their rows and one more. Fails only if memory
+    /// runs out.
     pub fn all_below<A: Asking>(&self, action: &Name, question: &A) -> Result<bool, AllocError>
         ensures all { IfOk result (λ yes. IsTrue yes → (b : Name) → HoldsSomethingBelow self.now action.now b → A.answers question.now b true) }
         ensures one { IfOk result (λ yes. IsFalse yes → (b : Name) × HoldsSomethingBelow self.now action.now b × A.answers question.now b false) }
@@ -105,7 +105,7 @@ impl FewRows {
         by_name::find(&self.rows, holder).is_some()
     }
 
-    /// Makes room for so many more objects of the holder. What is held stays, and so does all room. After want of memory nothing is changed.
+    /// Makes room for so many more objects of the holder. What is held stays, and so does all room. If memory runs out, nothing is changed.
     pub fn reserve(&mut self, holder: &Name, additional: usize) -> Result<(), AllocError>
         ensures held { (b : Name) → objects_at self.new b ≡ objects_at self.old b }
         ensures room { OnOk result (length (objects_at self.old holder.now) + additional ≤ room_at self.new holder.now) }
@@ -179,7 +179,7 @@ impl FewRows {
             .retain_mut(|row| retain_held(&row.0, &mut row.1, holding));
     }
 
-    /// The same in a tree. Fails only for want of memory.
+    /// The same in a tree. Fails only if memory runs out.
     pub fn to_tree(&self) -> Result<TreeRows, AllocError>
         ensures { IfOk result (λ tree. tree ≡ self.now) }
     {

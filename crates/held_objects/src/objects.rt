@@ -67,8 +67,8 @@ impl HeldObjects {
         }
     }
 
-    /// At which objects the action and its descendants hold something, rising, each once. It looks at their rows and one more. Fails only for want of
-    /// memory.
+    /// At which objects the action and its descendants hold something, rising, each once. It looks at their rows and one more. Fails only if memory
+    /// runs out.
     pub fn objects_below(&self, action: &Name) -> Result<Vec<u32>, AllocError>
         ensures objects { IfOk result (λ objects. (n : ℕ) → IsTrue (has_number objects.items n) ↔ HoldsBelow self.now action.now n) }
         ensures rising { IfOk result (λ objects. IsRising objects.items) }
@@ -79,8 +79,8 @@ impl HeldObjects {
         }
     }
 
-    /// Whether the answer is yes of the action and of each descendant that holds something. It looks at their rows and one more. Fails only for want of
-    /// memory.
+    /// Whether the answer is yes of the action and of each descendant that holds something. It looks at their rows and one more. Fails only if memory
+    /// runs out.
     pub fn all_below<A: Asking>(&self, action: &Name, question: &A) -> Result<bool, AllocError>
         ensures all { IfOk result (λ yes. IsTrue yes → (b : Name) → HoldsSomethingBelow self.now action.now b → A.answers question.now b true) }
         ensures one { IfOk result (λ yes. IsFalse yes → (b : Name) × HoldsSomethingBelow self.now action.now b × A.answers question.now b false) }
@@ -102,7 +102,7 @@ impl HeldObjects {
         }
     }
 
-    /// Makes room for one more object of the holder. What is held stays, and so does all room. After want of memory nothing is changed.
+    /// Makes room for one more object of the holder. What is held stays, and so does all room. If memory runs out, nothing is changed.
     pub fn make_room(&mut self, holder: &Name) -> Result<(), AllocError>
         ensures held { (b : Name) → objects_at self.new b ≡ objects_at self.old b }
         ensures room { OnOk result (IsTrue (has_room self.new holder.now)) }
@@ -113,7 +113,7 @@ impl HeldObjects {
         self.reserve(holder, 1)
     }
 
-    /// Makes room for so many more objects of the holder. What is held stays, and so does all room. After want of memory nothing is changed.
+    /// Makes room for so many more objects of the holder. What is held stays, and so does all room. If memory runs out, nothing is changed.
     pub fn make_room_for(&mut self, holder: &Name, count: usize) -> Result<(), AllocError>
         ensures held { (b : Name) → objects_at self.new b ≡ objects_at self.old b }
         ensures room { OnOk result (length (objects_at self.old holder.now) + count ≤ room_at self.new holder.now) }
@@ -137,7 +137,7 @@ impl HeldObjects {
     }
 
     /// Makes room for all that the holder and its descendants have. What is held stays, and so does all room. It looks at their rows and one
-    /// more. After want of memory nothing is changed.
+    /// more. If memory runs out, nothing is changed.
     pub fn make_room_below(&mut self, holder: &Name) -> Result<(), AllocError>
         ensures held { (b : Name) → objects_at self.new b ≡ objects_at self.old b }
         ensures room { OnOk result (HasRoomBelow self.new holder.now) }
@@ -215,7 +215,7 @@ impl HeldObjects {
         }
     }
 
-    // Goes over to a tree where the vector has as many rows as it is to have, and none of the holder. Fails only for want of memory.
+    // Goes over to a tree where the vector has as many rows as it is to have, and none of the holder. Fails only if memory runs out.
     fn make_tree(&mut self, holder: &Name) -> Result<(), AllocError>
         ensures { self.new ≡ self.old }
     {

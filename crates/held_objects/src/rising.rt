@@ -7,7 +7,7 @@ use std::alloc::{AllocError, Global};
 /// For how many objects a row's first room is at least: the least piece of memory has as much.
 const FIRST_ROOM: usize = 4;
 
-/// No objects, and room for so many. Fails only for want of memory.
+/// No objects, and room for so many. Fails only if memory runs out.
 pub(crate) fn with_room(alloc: Global, count: usize) -> Result<Vec<u32>, AllocError>
     ensures items { IfOk result (λ objects. objects.items ≡ []) }
     ensures room { IfOk result (λ objects. count ≤ vec_capacity objects) }
@@ -15,7 +15,7 @@ pub(crate) fn with_room(alloc: Global, count: usize) -> Result<Vec<u32>, AllocEr
     Vec::with_capacity(alloc, count.max(FIRST_ROOM))
 }
 
-/// The same objects, with room for as many. Fails only for want of memory.
+/// The same objects, with room for as many. Fails only if memory runs out.
 pub(crate) fn copy(alloc: Global, objects: &Vec<u32>) -> Result<Vec<u32>, AllocError>
     ensures { IfOk result (λ copy. row_of copy ≡ row_of objects.now) }
 {

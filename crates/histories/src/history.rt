@@ -78,7 +78,7 @@ impl PackedHistory {
         }
     }
 
-    /// The event at this place, counted from the oldest, which stands at 0; none exactly past the newest. Fails only for want of memory.
+    /// The event at this place, counted from the oldest, which stands at 0; none exactly past the newest. Fails only if memory runs out.
     pub fn event(&self, place: usize) -> Result<Option<Event>, AllocError>
         ensures { IfOk result (λ event. event ≡ slice_get (reverse self.now) place) }
     {
@@ -88,7 +88,7 @@ impl PackedHistory {
         }
     }
 
-    /// The history of the same events, each lying open to be read. Fails only for want of memory.
+    /// The history of the same events, each lying open to be read. Fails only if memory runs out.
     pub fn unpacked(&self) -> Result<History, AllocError>
         ensures { IfOk result (λ history. history ≡ self.now) }
     {

@@ -26,7 +26,7 @@ pub fn find<'a, R>(rows: &'a [(Name, R)], name: &Name) -> Option<&'a R>
     }
 }
 
-/// Puts in a row of the name, unless it has one. After want of memory nothing is changed.
+/// Puts in a row of the name, unless it has one. If memory runs out, nothing is changed.
 pub(crate) fn add<R: Drop>(rows: &mut Vec<(Name, R)>, name: &Name, row: R) -> Result<(), AllocError>
     requires { IsStrictlySortedBy name_cmp (keys_of rows.old.items) }
     ensures ok { OnOk result (rows.new.items ≡ (if has_name (keys_of rows.old.items) name.now then rows.old.items else insert_entry name_cmp rows.old.items name.now row)) }

@@ -50,7 +50,7 @@ impl<V: Drop> FewHolders<V> {
         by_name::find(&self.rows, holder)?.as_ref()
     }
 
-    /// Makes room for what the holder is to hold. What is held stays; after want of memory nothing is changed.
+    /// Makes room for what the holder is to hold. What is held stays; if memory runs out, nothing is changed.
     pub fn make_room(&mut self, holder: &Name) -> Result<(), AllocError>
         ensures held { self.new.held ≡ self.old.held }
         ensures room { OnOk result (HasMoreRoom self.old.room self.new.room holder.now) }
@@ -124,7 +124,7 @@ impl<V: Drop> FewHolders<V> {
         by_name::any_below(&self.rows, action)
     }
 
-    /// Adds those that hold and are no ancestors of the action to the names. Fails only for want of memory.
+    /// Adds those that hold and are no ancestors of the action to the names. Fails only if memory runs out.
     pub fn add_foreign(&self, names: &mut BTreeSet<Name>, action: &Name) -> Result<(), AllocError>
         ensures { OnOk result ((b : Name) → has_name names.new.keys b
             ≡ (has_name names.old.keys b || (not (is_ancestor b action.now) && has_name (names_of self.now.held) b))) }
@@ -163,7 +163,7 @@ impl<V: Drop> FewHolders<V> {
 }
 
 impl<V: Copy> FewHolders<V> {
-    /// The same in a tree. Fails only for want of memory.
+    /// The same in a tree. Fails only if memory runs out.
     pub fn to_tree(&self) -> Result<TreeHolders<V>, AllocError>
         ensures { IfOk result (λ tree. tree ≡ self.now) }
     {

@@ -171,7 +171,7 @@ impl<V: Drop> Holders<V> {
         }
     }
 
-    /// Adds those that hold and are no ancestors of the action to the names. Fails only for want of memory.
+    /// Adds those that hold and are no ancestors of the action to the names. Fails only if memory runs out.
     pub fn add_foreign(&self, names: &mut BTreeSet<Name>, action: &Name) -> Result<(), AllocError>
         ensures { OnOk result ((b : Name) → has_name names.new.keys b
             ≡ (has_name names.old.keys b || (not (is_ancestor b action.now) && has_name (names_of self.now.held) b))) }
@@ -195,7 +195,7 @@ impl<V: Drop> Holders<V> {
 }
 
 impl<V: Copy> Holders<V> {
-    /// Makes room for what the holder is to hold. What is held stays; after want of memory nothing is changed.
+    /// Makes room for what the holder is to hold. What is held stays; if memory runs out, nothing is changed.
     pub fn make_room(&mut self, holder: &Name) -> Result<(), AllocError>
         ensures held { self.new.held ≡ self.old.held }
         ensures room { OnOk result (HasMoreRoom self.old.room self.new.room holder.now) }
@@ -208,7 +208,7 @@ impl<V: Copy> Holders<V> {
         }
     }
 
-    // Goes over to a tree where the vector has as many names as it is to have. Fails only for want of memory.
+    // Goes over to a tree where the vector has as many names as it is to have. Fails only if memory runs out.
     fn make_tree(&mut self) -> Result<(), AllocError>
         ensures { self.new ≡ self.old }
     {

@@ -55,7 +55,7 @@ impl<V: Drop> Index<V> {
 }
 
 impl<V: Copy> Index<V> {
-    /// Makes room for a value of the name, and gives the value that it has, if any. What has a value keeps it; after want of memory nothing is changed.
+    /// Makes room for a value of the name, and gives the value that it has, if any. What has a value keeps it; if memory runs out, nothing is changed.
     pub fn make_room(&mut self, name: &Name) -> Result<Option<V>, AllocError>
         ensures held { self.new.held ≡ self.old.held }
         ensures room { OnOk result (HasMoreRoom self.old.room self.new.room name.now) }

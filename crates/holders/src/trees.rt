@@ -52,7 +52,7 @@ impl<V: Drop> TreeHolders<V> {
         self.rows.get(holder)?.as_ref()
     }
 
-    /// Makes room for what the holder is to hold. What is held stays; after want of memory nothing is changed.
+    /// Makes room for what the holder is to hold. What is held stays; if memory runs out, nothing is changed.
     pub fn make_room(&mut self, holder: &Name) -> Result<(), AllocError>
         ensures held { self.new.held ≡ self.old.held }
         ensures room { OnOk result (HasMoreRoom self.old.room self.new.room holder.now) }
@@ -146,7 +146,7 @@ impl<V: Drop> TreeHolders<V> {
         self.rows.is_empty()
     }
 
-    /// Adds those that hold and are no ancestors of the action to the names. Fails only for want of memory.
+    /// Adds those that hold and are no ancestors of the action to the names. Fails only if memory runs out.
     pub fn add_foreign(&self, names: &mut BTreeSet<Name>, action: &Name) -> Result<(), AllocError>
         ensures { OnOk result ((b : Name) → has_name names.new.keys b
             ≡ (has_name names.old.keys b || (not (is_ancestor b action.now) && has_name (names_of self.now.held) b))) }

@@ -38,7 +38,7 @@ module _ {X : Type 0} (stored : X → View) (opening : Opening) (past : List Eve
         (some_eq x y (sym p ∙ q)) (h i x p);
   }
 
-  -- want of memory came before any guardian was called
+  -- memory ran out before any guardian was called
   pub stores_refused : (stands : X → GuardianState → Type 0) (forest : ForestState → Type 0) → IsWorld stands stored forest opening past gs
       → StoresLeft stored opening past step gs gs (Some Memory)
   stores_refused stands forest w = untouched (Some Memory) (λ i x p.

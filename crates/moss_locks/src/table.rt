@@ -59,7 +59,7 @@ impl LockTable {
     }
 
     /// For whom an operation of this class by the action has to wait, each once, in the order of names; none exactly where it need not
-    /// wait. Fails only for want of memory.
+    /// wait. Fails only if memory runs out.
     pub fn blockers(&self, action: &Name, class: Class) -> Result<Vec<Name>, AllocError>
         ensures names { IfOk result (λ names. (b : Name) → has_name names.items b ≡ is_in_the_way self.now.locks action.now class b) }
         ensures rising { IfOk result (λ names. IsStrictlySortedBy name_cmp names.items) }
@@ -92,7 +92,7 @@ impl LockTable {
             || self.adders.has_below(action)
     }
 
-    /// Notes that the action holds an operation of this class, and says if that is new. After want of memory nothing is changed.
+    /// Notes that the action holds an operation of this class, and says if that is new. If memory runs out, nothing is changed.
     pub fn grant(&mut self, action: &Name, class: Class) -> Result<bool, AllocError>
         ensures ok { OnOk result (self.new.locks ≡ granted self.old.locks action.now class) }
         ensures undone { IfOk result (λ is_new. (if is_new then revoked self.new.locks action.now class else self.new.locks) ≡ self.old.locks) }
@@ -120,7 +120,7 @@ impl LockTable {
     }
 
     /// Makes room for this holder, so that `inherit` may give it locks that others hold now: none is made in a class in which nobody holds one, so that
-    /// a lock that is granted later may ask for room anew. The locks stay. After want of memory there may be room for it in some classes.
+    /// a lock that is granted later may ask for room anew. The locks stay. If memory runs out, there may be room for it in some classes.
     pub fn make_room(&mut self, holder: &Name) -> Result<(), AllocError>
         ensures locks { self.new.locks ≡ self.old.locks }
         ensures room { OnOk result ((b : Name) → has_room self.new b ≡ (same_name holder.now b || has_room self.old b)) }

@@ -152,7 +152,7 @@ impl ArrayOverlay {
     }
 
     /// Notes an operation that writes. The bounds are those of the array under the overlay, and the end is what the array below it has where
-    /// the operation removes an item. After want of memory the overlay is as it was.
+    /// the operation removes an item. If memory runs out, the overlay is as it was.
     pub(crate) fn note(
         &mut self,
         bounds: Bounds,
@@ -282,7 +282,7 @@ impl ArrayOverlay {
         self.bounds = Some(bounds);
     }
 
-    // Puts an item at the index. After want of memory the overlay is as it was.
+    // Puts an item at the index. If memory runs out, the overlay is as it was.
     fn put(&mut self, index: i64, item: &Value) -> Result<(), AllocError>
         ensures ok { OnOk result (IsNoted self.old self.new index (Some item.now) self.old.bounds) }
         ensures err { OnErr result (self.new ≡ self.old) }
@@ -292,7 +292,7 @@ impl ArrayOverlay {
         Ok(())
     }
 
-    // Gives the array these bounds, and the index this item. After want of memory the overlay is as it was.
+    // Gives the array these bounds, and the index this item. If memory runs out, the overlay is as it was.
     fn put_in(&mut self, bounds: Bounds, index: i64, item: &Value) -> Result<(), AllocError>
         requires { AreLimited bounds }
         ensures ok { OnOk result (IsNoted self.old self.new index (Some item.now) (Some bounds)) }

@@ -11,7 +11,7 @@ use std::alloc::{AllocError, Global};
 use std::collections::BTreeMap;
 use values::Value;
 
-/// Puts these items over those that are there. It looks up as many as it puts. After want of memory all are as they were.
+/// Puts these items over those that are there. It looks up as many as it puts. If memory runs out, all are as they were.
 pub(crate) fn put_all(
     alloc: Global,
     items: &mut BTreeMap<i64, Value>,
@@ -31,7 +31,7 @@ pub(crate) fn put_all(
     Ok(())
 }
 
-// Puts the item at the index, and gives what was there. After want of memory all are as they were.
+// Puts the item at the index, and gives what was there. If memory runs out, all are as they were.
 fn replace(
     items: &mut BTreeMap<i64, Value>,
     index: i64,

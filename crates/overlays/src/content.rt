@@ -191,7 +191,7 @@ fn fresh_overlay(base: &Content, alloc: Global) -> ContentOverlay
     }
 }
 
-/// Notes the operation in an overlay of the object's type. After want of memory it is as it was.
+/// Notes the operation in an overlay of the object's type. If memory runs out, it is as it was.
 fn note_in(
     base: &Content,
     below: &[ContentOverlay],

@@ -20,7 +20,7 @@ pub trait Layered: AtomicType {
     /// The overlay may be laid on the object.
     ghost fits: { Self → Self.Overlay → Type 0 };
 
-    /// The reply to an operation that reads. Fails only for want of memory.
+    /// The reply to an operation that reads. Fails only if memory runs out.
     fn read(&self, op: &Op) -> Result<Reply, AllocError>
         requires known { IsTrue (Self.knows self.now op.now) }
         requires reads { IsTrue (is_read op.now) }
@@ -31,18 +31,18 @@ pub trait Layered: AtomicType {
         ensures fits { (c : Self) → fits c result }
         ensures laid { (c : Self) → laid c result ≡ c };
 
-    /// An equal overlay. Fails only for want of memory.
+    /// An equal overlay. Fails only if memory runs out.
     fn copy_overlay(overlay: &Self::Overlay) -> Result<Self::Overlay, AllocError>
         ensures { IfOk result (λ copy. copy ≡ overlay.now) };
 
-    /// What the overlay shows of the reply to an operation that reads, of an object that has the operation. Fails only for want of memory.
+    /// What the overlay shows of the reply to an operation that reads, of an object that has the operation. Fails only if memory runs out.
     fn peek(overlay: &Self::Overlay, op: &Op) -> Result<Seen, AllocError>
         requires { IsTrue (is_read op.now) }
         ensures { IfOk result (λ seen. (c : Self) → fits c overlay.now
             → IsTrue (Self.knows c op.now) → Self.reply (laid c overlay.now) op.now ≡ shown seen (Self.reply c op.now)) };
 
     /// Notes an operation that writes or adds in an overlay that lies above others, and gives its reply. To add asks for an overlay that
-    /// covers what was added below, as one does in which a write was noted. After want of memory the overlay is as it was.
+    /// covers what was added below, as one does in which a write was noted. If memory runs out, the overlay is as it was.
     fn note(
         base: &Self,
         below: &[Self::Overlay],
@@ -67,7 +67,7 @@ pub trait Layered: AtomicType {
         ensures fits { (c : Self) → fits c overlay.old → fits c overlay.new }
         ensures covers { Covers Self.after laid overlay.new };
 
-    /// Joins the upper overlay into the lower one. After want of memory the lower one is as it was.
+    /// Joins the upper overlay into the lower one. If memory runs out, the lower one is as it was.
     fn join(lower: &mut Self::Overlay, upper: &Self::Overlay) -> Result<(), AllocError>
         requires { MayJoin laid fits lower.old upper.now }
         ensures joined { OnOk result ((c : Self) → fits c lower.old → fits (laid c lower.old) upper.now
@@ -77,7 +77,7 @@ pub trait Layered: AtomicType {
         ensures covers { OnOk result (Covers Self.after laid upper.now → Covers Self.after laid lower.new) }
         ensures err { OnErr result (lower.new ≡ lower.old) };
 
-    /// Lays the overlay on the object. After want of memory the object is as it was.
+    /// Lays the overlay on the object. If memory runs out, the object is as it was.
     fn lay(&mut self, overlay: &Self::Overlay) -> Result<(), AllocError>
         requires { fits self.old overlay.now }
         ensures ok { OnOk result (self.new ≡ laid self.old overlay.now) }

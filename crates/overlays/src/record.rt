@@ -117,7 +117,7 @@ impl Layered for Record {
     ghost always_done = { record_always_done };
 }
 
-/// Notes that a field was set. After want of memory the overlay is as it was.
+/// Notes that a field was set. If memory runs out, the overlay is as it was.
 #[tactic(auto, using(crate::specs::RecordOverlayLaws::laid_noted, crate::specs::RecordOverlayLaws::fit_known))]
 pub(crate) fn note_set(overlay: &mut RecordOverlay, op: &Op) -> Result<Reply, AllocError>
     requires { IsTrue (is_set op.now) }

@@ -109,7 +109,7 @@ impl Layered for Variant {
     ghost always_done = { variant_always_done };
 }
 
-/// Notes that a tag and its value were given. After want of memory the overlay is as it was.
+/// Notes that a tag and its value were given. If memory runs out, the overlay is as it was.
 pub(crate) fn note_change(overlay: &mut VariantOverlay, op: &Op) -> Result<Reply, AllocError>
     requires { IsTrue (is_change op.now) }
     ensures noted { IfOk result (λ r. (v : VariantContent) → IsTrue (variant_knows (laid_tag v overlay.old) op.now)

@@ -2,7 +2,7 @@
 //!
 //! The program gives a `Subject`, which makes the calls; `run` reads the rows, prints for each section how many there
 //! were, and each row whose answer is another than the row says. Where memory is refused, a call is made once more and
-//! has to answer the same: `scripts/refuse-rows` refuses each allocation in turn.
+//! has to answer the same: `scripts/refuse` refuses each allocation in turn.
 #![tactic(auto)]
 
 mod row;

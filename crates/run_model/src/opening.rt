@@ -129,7 +129,7 @@ impl Opening {
         }
     }
 
-    /// What the object held before the history: the setup's content, under what the store held. Fails only for want of memory.
+    /// What the object held before the history: the setup's content, under what the store held. Fails only if memory runs out.
     pub fn first_content(&self, object: ObjectId) -> Result<Content, AllocError>
         requires guardian { 1 ≤ object.guardian }
         requires number { 1 ≤ object.number }

@@ -54,7 +54,7 @@ impl<'a> Place<'a> {
         Ok(text)
     }
 
-    /// The fault of this kind here, or want of memory.
+    /// The fault of this kind here, or out of memory.
     pub(crate) fn fault(&self, alloc: Global, kind: FaultKind) -> ScriptFault
         ensures { result ≢ ScriptFault.Memory → result ≡ ScriptFault.Bad kind (pointer self.now) }
     {

@@ -106,7 +106,7 @@ ArePartlySaved script found old new =
     (new ≡ old) ⊎ ((bases : List (List (ℕ × Content))) × (text : List ℕ) × TellsStoredRun script found Done bases text
     × (count : ℕ) × (new ≡ saved (take count bases) old))
 
--- a fault of a store, or want of memory
+-- a fault of a store, or out of memory
 abbrev pub IsOfStore : Fault → Type 0
 IsOfStore fault = (fault ≡ Memory) ⊎ (fault ≡ Store)
 

@@ -78,7 +78,7 @@ pub(crate) fn add_guardian(setup: &mut Setup, contents: Vec<Content>) -> Result<
     }
 }
 
-/// Runs a script's clients in a new world of the setup, in memory. A store in memory fails no call that a guardian makes of it, so an error is want of
+/// Runs a script's clients in a new world of the setup, in memory. A store in memory fails no call that a guardian makes of it, so an error is out of
 /// memory.
 pub(crate) fn run_clients(
     alloc: Global,

@@ -24,7 +24,7 @@ pub(crate) fn fault_of(error: Error) -> StoreFault
     }
 }
 
-/// The fault of a call. All but want of memory are counted.
+/// The fault of a call. All but out of memory are counted.
 pub(crate) fn count_fault(failures: &mut u64, fault: StoreFault) -> StoreFault
     ensures same { result ≡ fault }
     ensures counts { IsExcused (Unit {0}) failures.old failures.new fault }

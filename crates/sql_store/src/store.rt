@@ -61,7 +61,7 @@ impl<A: Alter + Drop> SqlStable<A> {
     /// A store in this database: in tables that it makes where the database has none of them, and else in those that
     /// are there; tables of version 1 are migrated. `NotOurs` where only some tables are there, where they have other columns
     /// or are of another version, and where the next top action's number is none; `Failed` where the device or the database
-    /// refuses, or a transaction is under way; `Memory` for want of memory. With a fault the connection comes back, and the
+    /// refuses, or a transaction is under way; `Memory` if memory runs out. With a fault the connection comes back, and the
     /// database is what it was.
     ///
     /// Where the tables hold no content of a store, the store answers `NotOurs` to each call, and counts it.

@@ -10,7 +10,7 @@ pub record View : Type 1 where
   pub content : Stored
   -- a content was found on the device when the store was opened; a store without one refuses each call
   pub holds_content : Bool
-  -- how many calls were refused for another cause than want of memory
+  -- how many calls were refused for another cause than out of memory
   pub failures : ℕ
   -- the device is laid out in the one way of which something is said
   pub is_known : Bool
@@ -42,7 +42,7 @@ most_failures = 18446744073709551615
 abbrev pub HasCounted : ℕ → ℕ → Type 0
 HasCounted before now = now ≡ min (before + 1) most_failures
 
--- a fault is counted, unless it is want of memory; a failure comes only with this excuse
+-- a fault is counted, unless memory ran out; a failure comes only with this excuse
 abbrev pub IsExcused : Type 0 → ℕ → ℕ → StoreFault → Type 0
 IsExcused excuse before now Memory = now ≡ before
 IsExcused excuse before now Failed = excuse × HasCounted before now
@@ -57,7 +57,7 @@ module _ {T : Type 0} where
   Counts excuse before now (Ok x) = now ≡ before
   Counts excuse before now (Err e) = IsExcused excuse before now e
 
-  -- an error other than want of memory
+  -- an error other than out of memory
   abbrev pub IsRefused : Result T StoreFault → Type 0
   IsRefused (Ok x) = ⊥
   IsRefused (Err Memory) = ⊥
@@ -69,7 +69,7 @@ module _ {T : Type 0} where
 pub record Makes {T : Type 0} (old new : View) (excuse : Type 0) (after : Stored) (result : Result T StoreFault) : Type 0 where
   -- the content is the one after at `Ok`, and else that before
   pub changes : Changes old.content after new.content result
-  -- at `Ok` and at want of memory no failure is counted
+  -- at `Ok` and if memory runs out no failure is counted
   pub cause : Counts excuse old.failures new.failures result
   -- what was found of the device when the store was opened stays so
   pub known : new.is_known ≡ old.is_known

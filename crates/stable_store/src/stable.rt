@@ -16,7 +16,7 @@ use values::Content;
 pub const GREATEST_COUNT: u64 = 9_223_372_036_854_775_807;
 
 /// What a guardian keeps through a crash. A call makes its whole change or none: where it answers an error the content
-/// is what it was, and what it was handed by value is dropped. `Memory` is want of memory; every other error is counted.
+/// is what it was, and what it was handed by value is dropped. `Memory` is out of memory; every other error is counted.
 /// Where the device is laid out as the store knows it and returns what was written to it, and no failure has shut the
 /// store, an opening after a stop in the midst of a call finds the content before the call or the one after it; after an `Ok` it
 /// finds the one after it.
@@ -90,7 +90,7 @@ pub trait Stable: Drop {
     fn kept(&self) -> Option<&Kept>
         ensures { MatchOption result (found (seen self.now) ≡ None) (λ kept. found (seen self.now) ≡ Some (held kept.now)) };
 
-    /// How many calls were refused for another cause than want of memory. At 18,446,744,073,709,551,615 it stays.
+    /// How many calls were refused for another cause than out of memory. At 18,446,744,073,709,551,615 it stays.
     fn failures(&self) -> u64
         ensures { result ≡ (seen self.now).failures };
 }

@@ -23,7 +23,7 @@ pub(crate) struct Beginning<S: Stable> {
 }
 
 impl<S: Stable> Beginning<S> {
-    /// Fails only for want of memory.
+    /// Fails only if memory runs out.
     pub(crate) fn of(alloc: Global, opening: Opening) -> Result<Beginning<S>, AllocError>
         ensures opening { IfOk result (λ beginning. arc_value beginning.opening ≡ opening) }
         ensures registry { IfOk result (λ beginning. StandsIn beginning.registry (record { opening = opening_in opening; registry = [] })) }

@@ -74,8 +74,8 @@ impl<S: Stable> Model for World<S> {
 }
 
 impl World<PlainStable> {
-    /// New guardians of the setup, to whom nothing has happened, whose stores are in memory alone and end with the world. Fails only for want of
-    /// memory.
+    /// New guardians of the setup, to whom nothing has happened, whose stores are in memory alone and end with the world. Fails only if memory
+    /// runs out.
     pub fn in_memory(alloc: Global, setup: Setup) -> Result<World<PlainStable>, AllocError>
         ensures new { IfOk result (λ world. world.run ≡ new_world setup) }
         ensures fresh { IfOk result (λ world. opening_in world.run.lists ≡ fresh setup) }
@@ -89,8 +89,8 @@ impl World<PlainStable> {
 }
 
 impl<S: Stable> World<S> {
-    /// New guardians of the setup, to whom nothing has happened, each over its store, in order. The stores are empty. Fails only for want of
-    /// memory, and then gives the stores back.
+    /// New guardians of the setup, to whom nothing has happened, each over its store, in order. The stores are empty. Fails only if memory
+    /// runs out, and then gives the stores back.
     pub fn new(
         alloc: Global,
         setup: Setup,
@@ -107,7 +107,7 @@ impl<S: Stable> World<S> {
     }
 
     /// The guardians of the opening, to whom nothing has happened since, each over its store, in order. The stores hold what the opening says that
-    /// they held, and nothing is prepared there. Fails only for want of memory, and then gives the stores back.
+    /// they held, and nothing is prepared there. Fails only if memory runs out, and then gives the stores back.
     pub fn over(
         alloc: Global,
         opening: Opening,

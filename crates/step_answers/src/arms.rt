@@ -27,7 +27,7 @@ pub fn uses_up(mut child: u64, mut top: u64, kinds: &[ArmKind]) -> bool
     false
 }
 
-/// The top action with this number. From 1 on there is one, so `Err` comes for want of memory alone.
+/// The top action with this number. From 1 on there is one, so `Err` comes only if memory runs out.
 pub fn top_name(alloc: Global, number: u64) -> Result<Name, AllocError>
     requires { number ≤ max_number }
     ensures { IfOk result (λ name. name ≡ number ∷ []) }
@@ -35,7 +35,7 @@ pub fn top_name(alloc: Global, number: u64) -> Result<Name, AllocError>
     Name::top(alloc, number as u32).map_err(|_| AllocError)
 }
 
-/// The child with this number. From 1 on, and with room for a level more, `Err` comes for want of memory alone.
+/// The child with this number. From 1 on, and with room for a level more, `Err` comes only if memory runs out.
 pub fn child_name(parent: &Name, number: u64) -> Result<Name, AllocError>
     requires { number ≤ max_number }
     ensures { IfOk result (λ name. name ≡ child_of parent.now number) }

@@ -93,7 +93,7 @@ fn tell(fault: Option<StoreFault>, answer: &mut String) -> Result<(), RowFault> 
     }
 }
 
-/// Writes the error with which a database refused; `Memory` for want of memory.
+/// Writes the error with which a database refused; `Memory` if memory runs out.
 fn tell_error(error: Error, answer: &mut String) -> Result<(), RowFault> {
     match error {
         Error::SqliteFailure(ErrorCode::OutOfMemory)

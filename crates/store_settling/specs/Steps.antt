@@ -92,7 +92,7 @@ module _ {S : Type 0} (seen : S → View) where
     pub rests : Rests (seen old) → Rests (seen new)
 
   -- What calls of the stores leave, the last of which may be refused: what each store keeps, that those that were not refused go on, what a stop
-  -- leaves, and that a refusal other than want of memory is counted.
+  -- leaves, and that a refusal other than out of memory is counted.
   pub record Called {T : Type 0} (Keeps : S → S → Type 0) (old new : List S) (result : Result T Refused) : Type 0 where
     pub kept : AllZip Keeps old new
     pub goes : OnOk result (AllZip GoesOn old new)

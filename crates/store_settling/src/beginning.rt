@@ -15,7 +15,7 @@ use std::alloc::Global;
 /// recovery and no top action.
 ///
 /// After an error each contains what it did. `NotOurs` comes where a store holds no content or not that of a new one, and where its device
-/// returned none; `Stable` of a store that counted a failure, `Memory` of want of memory.
+/// returned none; `Stable` of a store that counted a failure, `Memory` of memory that ran out.
 pub fn begin_stores<S: Stable>(alloc: Global, stores: &mut [S]) -> Result<(), Refused>
     ensures new { OnOk result (AreNew S.seen stores.new) }
     ensures same { contents S.seen stores.new ≡ contents S.seen stores.old }

@@ -18,7 +18,7 @@ use std::alloc::Global;
 /// its home has the top action among its decided ones, and else discarded. `Ok(false)` comes where no store has a record, and then
 /// all stores are as they were.
 ///
-/// After an error each store contains what it did: `Memory` comes of want of memory, and `Stable` of a store that counted a failure.
+/// After an error each store contains what it did: `Memory` comes if memory ran out, and `Stable` of a store that counted a failure.
 /// `NotOurs` comes exactly where a store holds no content, and then no store is called.
 pub fn settle<S: Stable>(alloc: Global, stores: &mut [S]) -> Result<bool, Refused>
     ensures settles { SettlesOne S.seen S.may_fail stores.old stores.new result }

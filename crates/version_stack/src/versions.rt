@@ -106,7 +106,7 @@ impl<T: Layered> Versions<T> {
         self.owners.last()
     }
 
-    /// Gives the owner, where there is no version, this overlay as its version, as a store gave it back. After want of memory nothing is
+    /// Gives the owner, where there is no version, this overlay as its version, as a store gave it back. If memory runs out, nothing is
     /// changed.
     pub fn restore(&mut self, owner: &Name, overlay: T::Overlay) -> Result<(), AllocError>
         requires alone { self.old.versions ≡ [] }
@@ -125,7 +125,7 @@ impl<T: Layered> Versions<T> {
     }
 
     /// Performs an operation that writes on the content on top, for an owner that all owners so far are ancestors of; or one that adds,
-    /// for the owner of the content on top. After want of memory nothing is changed.
+    /// for the owner of the content on top. If memory runs out, nothing is changed.
     pub fn write(&mut self, owner: &Name, op: &Op) -> Result<Reply, AllocError>
         requires above { AreAbove self.old.versions owner.now }
         requires known { IsTrue (T.knows (top_of self.old) op.now) }
@@ -227,7 +227,7 @@ impl<T: Layered> Versions<T> {
     }
 
     // Joins the overlays of each owner into one, and lays the base's on the content, as far as memory goes. What contracts see of the
-    // stack stays the same, also where it fails, which it does only for want of memory.
+    // stack stays the same, also where it fails, which it does only if memory runs out.
     fn tidy(&mut self) -> Result<(), AllocError>
         ensures rising { RisesByAncestry self.old.versions }
         ensures same { self.new ≡ self.old }

@@ -29,7 +29,7 @@ impl Model for World {
 }
 
 impl World {
-    /// The guardians of the setup, to whom nothing has happened, with empty stores. Fails only for want of memory.
+    /// The guardians of the setup, to whom nothing has happened, with empty stores. Fails only if memory runs out.
     pub fn new(alloc: Global, setup: Setup) -> Result<World, AllocError>
         ensures new { IfOk result (λ world. world ≡ new_world setup) }
         ensures fresh { IfOk result (λ world. opening_in world.lists ≡ fresh setup) }
@@ -40,7 +40,7 @@ impl World {
     }
 
     /// Makes one step and gives its answer. An accepted step is in the history from then on, with its answer; one that is refused or
-    /// waits changes nothing. `Err` comes for want of memory alone, and then the world is as it was.
+    /// waits changes nothing. `Err` comes only if memory runs out, and then the world is as it was.
     pub fn step(&mut self, step: &Step) -> Result<Answer, AllocError>
         ensures answer { IfOk result (λ answer. answer ≡ answer_of (opening_in self.old.lists) step.now self.old.past) }
         ensures after { IfOk result (λ answer. self.new ≡ world_after self.old step.now answer) }
@@ -100,7 +100,7 @@ impl World {
     }
 }
 
-// A store in memory has no device that could fail, so what comes of one is want of memory.
+// A store in memory has no device that could fail, so a fault of one is out of memory.
 fn refused(_fault: Fault) -> AllocError {
     AllocError
 }
