@@ -23,9 +23,9 @@ use frames::Frames;
 use script_model::{Arm, Binding, Checked, HandlerCall, Statement};
 use sqlite_items::Items;
 use stable_store::Stable;
-use stable_world::{Fault, World};
 use std::alloc::{AllocError, Global};
 use values::Value;
+use world::{Fault, World};
 
 /// How many statements and turns of `repeat` an activity may begin.
 pub(crate) const BUDGET: u32 = 100_000;

@@ -12,8 +12,8 @@ use action_names::Name;
 use run_model::{Answer, ArmKind, ArmKinds, Step};
 use script_model::{Arm, Statement};
 use stable_store::Stable;
-use stable_world::{Fault, World};
 use std::alloc::Global;
+use world::{Fault, World};
 
 /// Begins the arms together, and gives their names, that of the first arm last; none where that is refused.
 pub(crate) fn begin_arms<S: Stable>(

@@ -19,9 +19,9 @@ use action_names::{Name, Names};
 use atomic_types::Op;
 use run_model::{Answer, ObjectId, Refusal, Step};
 use stable_store::Stable;
-use stable_world::{Fault, World};
 use std::alloc::{AllocError, Global};
 use std::collections::BTreeSet;
+use world::{Fault, World};
 
 /// Guardians that an action has to do with, in rising number.
 #[derive(Drop)]

@@ -13,8 +13,8 @@ use frames::Frames;
 use run_model::Answer;
 use script_model::{Binding, ObjectCall};
 use stable_store::Stable;
-use stable_world::{Fault, World};
 use std::alloc::AllocError;
+use world::{Fault, World};
 
 /// What came of an operation.
 #[derive(Drop)]

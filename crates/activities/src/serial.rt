@@ -15,8 +15,8 @@ use frames::Frames;
 use run_model::{Answer, Step};
 use script_model::{Checked, Client};
 use stable_store::Stable;
-use stable_world::{Fault, World};
 use std::alloc::Global;
+use world::{Fault, World};
 
 /// Runs the clients of a script one after another, each to its end, and gives how they ended, in their order. The arms of a `coenter` are
 /// begun together and run in order. An operation that would wait aborts the enclosing top action.

@@ -10,10 +10,10 @@ use command_line::request::{Check, Run, Steps};
 use run_model::{Setup, SetupFault};
 use script_engine::{run_file, run_stored};
 use stable_store::Stable;
-use stable_world::{Refused, World};
 use std::fs;
 use std::io::{self, Read};
 use std::process::ExitCode;
+use world::{Refused, World};
 
 /// The file that is standard input.
 const STANDARD_INPUT: &str = "-";

@@ -9,8 +9,8 @@ use Rattle.run_model.specs.Runs.{world_after}
 use Rattle.stable_store.specs.Calls.{View}
 use Rattle.layer_contracts.specs.declared.guardian.Fault.{Fault as StepFault}
 use Rattle.layer_contracts.specs.declared.guardian.Fault.TheVariants as of_step
-use Rattle.layered_world.specs.Standings.{HasFailed, StoresLeft}
-use Rattle.stable_world.specs.Worlds.{InWorld, seen_of}
+use Rattle.world_steps.specs.Standings.{HasFailed, StoresLeft}
+use Rattle.world.specs.Worlds.{InWorld, seen_of}
 use Rattle.argus_engine.specs.declared.engine.Fault.{Fault}
 use Rattle.argus_engine.specs.declared.engine.Fault.TheVariants.{Memory, Store}
 use Rattle.argus_engine.specs.Reading.{IsOfReader, IsOfReaderOrStep, IsOfStep}

@@ -6,8 +6,8 @@ use Rattle.run_model.specs.Openings.{opening_in}
 use Rattle.run_model.specs.Runs.{world_after}
 use Rattle.stable_store.specs.Calls.{View}
 use Rattle.layer_contracts.specs.declared.guardian.Fault.TheVariants.{Stable}
-use Rattle.layered_world.specs.Standings.{HasFailed, StoresLeft}
-use Rattle.stable_world.specs.Worlds.{InWorld, seen_of}
+use Rattle.world_steps.specs.Standings.{HasFailed, StoresLeft}
+use Rattle.world.specs.Worlds.{InWorld, seen_of}
 
 -- the step was made, and left the world and each store as it says
 pub record IsMade {S : Type 0} (seen : S → View) (step : Step) (old new : InWorld S) : Type 0 where

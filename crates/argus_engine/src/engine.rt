@@ -10,10 +10,10 @@ use crate::reading::{Line, Met, front_of, read_line};
 use crate::writing::{finish, send_if_full};
 use run_model::{Answer, MAX_LINE, Step};
 use stable_store::{Stable, StoreFault};
-use stable_world::World;
 use std::alloc::{AllocError, AllocFailed, Global};
 use std::io::{BufRead, BufReader, ErrorKind, Read, Write};
 use thiserror::Error;
+use world::World;
 
 /// How the engine came to its end.
 #[derive(Clone, Copy, Debug, PartialEq, Eq, Drop)]
@@ -77,16 +77,16 @@ impl From<StoreFault> for Fault {
     }
 }
 
-impl From<stable_world::Fault> for Fault {
+impl From<world::Fault> for Fault {
     ghost use Rattle.std.specs.Prelude.{◌≡◌};
     ghost use Rattle.argus_engine.specs.Serving.{fault_of_step};
 
     ghost from_gives = { λ fault e. e ≡ fault_of_step fault };
 
-    fn from(fault: stable_world::Fault) -> Fault {
+    fn from(fault: world::Fault) -> Fault {
         match fault {
-            stable_world::Fault::Memory => Fault::Memory,
-            stable_world::Fault::Stable => Fault::Store,
+            world::Fault::Memory => Fault::Memory,
+            world::Fault::Stable => Fault::Store,
         }
     }
 }

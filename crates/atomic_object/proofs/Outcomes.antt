@@ -21,7 +21,7 @@ use Rattle.object_model.specs.Deltas.{delta_sum}
 use Rattle.object_model.specs.Objects.{Seen, with_sum}
 use Rattle.object_model.specs.Stacks.{version_at}
 use Rattle.object_laws.specs.OnceTold.{deltas_left, last_in_front, part_over, sum_part}
-use Rattle.deltas.specs.Beside.{sum_if_any}
+use Rattle.version_stack.specs.Beside.{sum_if_any}
 use Rattle.atomic_object.specs.Staying.{OutcomesRise}
 
 -- ---- ancestors: the beginnings of a name

@@ -16,13 +16,12 @@ ghost use Rattle.atomic_object.specs.Staying.{OutcomesRise};
 use crate::staying::{Staying, last_staying};
 use action_names::Name;
 use atomic_types::{Class, Part};
-use deltas::Deltas;
 use moss_locks::LockTable;
 use overlays::Layered;
 use std::alloc::{AllocError, Global};
 use std::marker::Model;
 use values::Content;
-use version_stack::{Versions, View};
+use version_stack::{Deltas, Versions, View};
 
 /// One atomic object.
 #[derive(Drop)]

@@ -5,7 +5,7 @@ use crate::fault::BankFault;
 use crate::said::Said;
 use run_model::{Setup, Step};
 use std::alloc::Global;
-use world::World;
+use world::{PlainStable, World};
 
 /// Two branches with two accounts each.
 const SETUP: &str = "{\"guardians\":[\
@@ -19,14 +19,14 @@ const BRANCHES: [u32; 2] = [1, 2];
 #[derive(Drop)]
 pub(crate) struct Bank {
     alloc: Global,
-    world: World,
+    world: World<PlainStable>,
 }
 
 impl Bank {
     /// The bank to which nothing has happened.
     pub(crate) fn new(alloc: Global) -> Result<Bank, BankFault> {
         let setup = Setup::read(alloc, SETUP.as_bytes())?;
-        let world = World::new(alloc, setup)?;
+        let world = World::in_memory(alloc, setup)?;
         Ok(Bank { alloc, world })
     }
 
@@ -194,9 +194,7 @@ impl Bank {
 
     // Makes the step. If memory runs out, the world is as it was.
     fn make(&mut self, step: Step) -> Result<Said, BankFault> {
-        match self.world.step(&step) {
-            Ok(answer) => Ok(Said::of(&answer)),
-            Err(_refused) => Err(BankFault::Memory),
-        }
+        let answer = self.world.step(&step)?;
+        Ok(Said::of(&answer))
     }
 }

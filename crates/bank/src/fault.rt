@@ -4,6 +4,7 @@ use run_model::SetupFault;
 use std::alloc::AllocError;
 use std::io;
 use thiserror::Error;
+use world::Fault;
 
 /// Why the bank stops.
 #[derive(Clone, Copy, Debug, PartialEq, Eq, Drop, Error)]
@@ -16,6 +17,8 @@ pub(crate) enum BankFault {
     Line,
     #[error("a step was refused, or had to wait")]
     Refused,
+    #[error("a store failed")]
+    Store,
     #[error("the output cannot be written")]
     Output,
 }
@@ -23,6 +26,15 @@ pub(crate) enum BankFault {
 impl From<AllocError> for BankFault {
     fn from(_refused: AllocError) -> BankFault {
         BankFault::Memory
+    }
+}
+
+impl From<Fault> for BankFault {
+    fn from(fault: Fault) -> BankFault {
+        match fault {
+            Fault::Memory => BankFault::Memory,
+            Fault::Stable => BankFault::Store,
+        }
     }
 }
 

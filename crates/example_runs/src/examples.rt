@@ -12,8 +12,8 @@ use crate::text::unescaped_text;
 use rows::{Row, RowFault, Subject};
 use run_model::Setup;
 use stable_store::PlainStable;
-use stable_world::World;
 use std::alloc::{AllocError, Global};
+use world::World;
 
 /// What the rows of a section have given, and its world.
 #[derive(Drop)]

@@ -14,8 +14,8 @@ use run_model::History;
 use script::{Checked, ScriptFault, check, read};
 use script_engine::{run_file, setup_of};
 use script_model::{FaultKind, Pointer};
-use stable_world::World;
 use std::alloc::{AllocError, Global};
+use world::World;
 
 /// The steps of a run and their answers, a line each.
 #[derive(Drop)]

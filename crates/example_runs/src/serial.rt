@@ -6,8 +6,8 @@ use activities::{ClientEnd, run_serial};
 use rows::{Row, RowFault, Words};
 use run_model::{Answer, ObjectId, Step};
 use stable_store::{PlainStable, Stable};
-use stable_world::World;
 use std::alloc::{AllocError, Global};
+use world::World;
 
 /// `serial COUNT`: how the clients of the section's script end in so many runs in one new world, which the section then has.
 pub(crate) fn run_clients(

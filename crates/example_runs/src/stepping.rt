@@ -6,9 +6,9 @@ use argus_engine::{Fault, explain_text, steps};
 use rows::{Row, RowFault, Words};
 use run_model::{Answer, Setup, SetupFault, Step};
 use stable_store::{PlainStable, Stable};
-use stable_world::World;
 use std::alloc::{AllocError, Global};
 use std::str;
+use world::World;
 
 /// `setup DOCUMENT`: the section has this setup, and a new world of it.
 pub(crate) fn keep_setup(examples: &mut Examples, document: &str) -> Result<(), RowFault> {
@@ -48,10 +48,10 @@ pub(crate) fn lengthen_steps(
 }
 
 /// What a row says of the fault of a step: a store that failed was not asked for.
-pub(crate) fn fault_of_step(fault: stable_world::Fault) -> RowFault {
+pub(crate) fn fault_of_step(fault: world::Fault) -> RowFault {
     match fault {
-        stable_world::Fault::Memory => RowFault::Memory,
-        stable_world::Fault::Stable => RowFault::Unread,
+        world::Fault::Memory => RowFault::Memory,
+        world::Fault::Stable => RowFault::Unread,
     }
 }
 
@@ -115,14 +115,14 @@ fn run_list<S: Stable>(
     world: &mut World<S>,
     list: &[Step],
     answers: &mut Vec<Answer>,
-) -> Result<(), stable_world::Fault> {
+) -> Result<(), world::Fault> {
     let before = answers.len();
     if world.run(list, answers).is_ok() {
         return Ok(());
     }
     match list.get(answers.len() - before..) {
         Some(left) => world.run(left, answers),
-        None => Err(stable_world::Fault::Memory),
+        None => Err(world::Fault::Memory),
     }
 }
 

@@ -6,7 +6,6 @@ use crate::examples::Examples;
 use crate::pieces::Writer;
 use crate::scripts::script_of;
 use atomic_types::Part;
-use part_texts::part_text;
 use rows::{RowFault, Words};
 use script::Checked;
 use script_engine::{can_open, run_stored};
@@ -16,6 +15,7 @@ use sqlite_resolve::CompileError;
 use stable_store::{FailOnce, Kept, PlainStable, Stable, StoreFault};
 use std::alloc::{AllocError, Global};
 use std::collections::BTreeMap;
+use store_tables::part_text;
 
 /// The table of the numbers.
 const META: &str = "CREATE TABLE meta(k TEXT PRIMARY KEY, v INTEGER NOT NULL);";

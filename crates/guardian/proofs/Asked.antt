@@ -17,9 +17,9 @@ use Rattle.atomic_types.specs.declared.part.Part.{Part}
 use Rattle.stable_store.specs.Stored.{Stored, after_bump, after_decide, after_discard, after_install, after_prepare}
 use Rattle.layer_contracts.specs.Guardians.{News, stamped}
 use Rattle.layer_contracts.specs.Messages.{is_operation}
-use Rattle.standing_laws.specs.Laws.{is_crash}
-use Rattle.stored_laws.specs.Stored.{after_event, asks_store}
-use Rattle.local_agreement.specs.Outcomes.{is_yes}
+use Rattle.object_laws.specs.EventLaws.{is_crash}
+use Rattle.guardian_laws.specs.Stored.{after_event, asks_store}
+use Rattle.guardian_laws.specs.Outcomes.{is_yes}
 
 pub stamp_alike : (opening : Opening) (g n : ℕ) (news : News) (here : List LocalEvent) (s : Stored)
     → after_event opening g (stamped n news) here s ≡ after_event opening g (stamped 0 news) here s

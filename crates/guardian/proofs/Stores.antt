@@ -6,7 +6,7 @@ use Rattle.stable_store.specs.Calls.{Makes, Rests, View}
 use Rattle.stable_store.specs.Stored.{Stored}
 use Rattle.stable_store.specs.declared.fault.StoreFault.{StoreFault}
 use Rattle.stable_store.specs.declared.fault.StoreFault.TheVariants as call
-use Rattle.stored_laws.specs.Stored.{AreStored, after_event, asks_store}
+use Rattle.guardian_laws.specs.Stored.{AreStored, after_event, asks_store}
 use Rattle.layer_contracts.specs.Guardians.{GuardianState, News, stamped}
 use Rattle.layer_contracts.specs.Stores.{IsStoreOf, Leaves, LeavesStore, Stays, fault_in}
 use Rattle.layer_contracts.specs.declared.guardian.Fault.{Fault}

@@ -12,19 +12,19 @@ use Rattle.run_model.specs.LocalReadings.{LocalEvent, prepared_here}
 use Rattle.run_model.specs.StableContent.{Prepared}
 use Rattle.run_model.specs.Openings.{Opening}
 use Rattle.local_laws.specs.Owed.{IsLocalRun, IsOwed, begins, goes_on}
-use Rattle.local_agreement.specs.Outcomes.{AgreesOnVotes}
+use Rattle.guardian_laws.specs.Outcomes.{AgreesOnVotes}
 use Rattle.layer_contracts.specs.Guardians.{GuardianState, IsNext, News, by_itself, kept, stamped}
-use Rattle.standing_laws.specs.Laws.{is_crash}
+use Rattle.object_laws.specs.EventLaws.{is_crash}
 use Rattle.stable_store.specs.Calls.{Rests, View}
 use Rattle.stable_store.specs.Stored.{Stored}
-use Rattle.stored_laws.specs.Stored.{AreStored, has_record, record_of}
-use Rattle.stored_laws.proofs.Following.{nothing_is_stored, store_follows}
-use Rattle.guardian_memory.specs.Memories.{InMemory, IsSound}
-use Rattle.guardian_memory.specs.Plans.{FitsPlan, IsPlanOf, Operated}
-use Rattle.guardian_memory.specs.declared.plan.Plan.{Plan}
+use Rattle.guardian_laws.specs.Stored.{AreStored, has_record, record_of}
+use Rattle.guardian_laws.proofs.Following.{nothing_is_stored, store_follows}
+use Rattle.volatile_state.specs.Memories.{InMemory, IsSound}
+use Rattle.volatile_state.specs.Plans.{FitsPlan, IsPlanOf, Operated}
+use Rattle.volatile_state.specs.declared.plan.Plan.{Plan}
 use Rattle.guardian.specs.Guardians.{InParts, IsPlannedHere, IsRecordedAt, IsSettled, IsWhole, IsWholeOfSome}
 use Rattle.layer_contracts.specs.Messages.{is_operation, may_fail}
-use Rattle.local_agreement.specs.Actions.{is_own}
+use Rattle.guardian_laws.specs.Actions.{is_own}
 use Rattle.layer_contracts.specs.Stores.{IsStoreOf, LeavesStore}
 use Rattle.guardian.proofs.Asked.{crash_event, operation_event, stamp_alike, unasked}
 use Rattle.layer_contracts.specs.declared.guardian.Fault.{Fault}

@@ -7,14 +7,14 @@ use Rattle.stable_store.specs.Calls.{View}
 use Rattle.stable_store.specs.Stored.{Stored}
 use Rattle.local_laws.specs.Owed.{IsLocalRun}
 use Rattle.run_model.specs.declared.step.Step.{Step}
-use Rattle.standing_laws.specs.Laws.{is_crash}
-use Rattle.stored_laws.specs.Stored.{AreStored}
+use Rattle.object_laws.specs.EventLaws.{is_crash}
+use Rattle.guardian_laws.specs.Stored.{AreStored}
 use Rattle.run_model.specs.declared.history.Event.{Event}
 use Rattle.layer_contracts.specs.Guardians.{GuardianState, News}
 use Rattle.layer_contracts.specs.Stores.{IsStoreOf}
-use Rattle.guardian_memory.specs.Memories.{InMemory, IsSound}
-use Rattle.guardian_memory.specs.Plans.{IsPlanOf}
-use Rattle.guardian_memory.specs.declared.plan.Plan.{Plan}
+use Rattle.volatile_state.specs.Memories.{InMemory, IsSound}
+use Rattle.volatile_state.specs.Plans.{IsPlanOf}
+use Rattle.volatile_state.specs.declared.plan.Plan.{Plan}
 
 -- the memory, the plan of the event that was planned last, and the store
 pub record InParts (S : Type 0) : Type 0 where

@@ -6,7 +6,7 @@ use Rattle.stable_store.specs.Stored.{Stored, after_bump, after_decide, after_di
 use Rattle.stable_store.specs.declared.fault.StoreFault.{StoreFault}
 use Rattle.stable_store.specs.declared.fault.StoreFault.TheVariants as call
 use Rattle.stable_store.specs.declared.kept.Kept.{Kept}
-use Rattle.stored_laws.specs.Stored.{has_record}
+use Rattle.guardian_laws.specs.Stored.{has_record}
 use Rattle.layer_contracts.specs.declared.guardian.Fault.{Fault}
 use Rattle.layer_contracts.specs.declared.guardian.Fault.TheVariants.{Memory, Stable}
 use Rattle.guardian.specs.declared.writes.Write.{Write}

@@ -3,7 +3,7 @@ ghost use Rattle.std.specs.Prelude.{◌≡◌, true, IsErrOf, IsFalse};
 ghost use Rattle.layer_contracts.specs.Stores.{CountsFailure, LeavesStore, fault_in};
 ghost use Rattle.layer_contracts.specs.declared.guardian.Fault.TheVariants.{Stable};
 ghost use Rattle.layer_contracts.specs.Messages.{is_operation};
-ghost use Rattle.guardian_memory.specs.Plans.{FitsPlan, FollowsWhere, IsPlannedWhere};
+ghost use Rattle.volatile_state.specs.Plans.{FitsPlan, FollowsWhere, IsPlannedWhere};
 ghost use Rattle.guardian.specs.Guardians.{IsPlannedHere, IsRecordedAt, WhereverPlanned};
 ghost use Rattle.guardian.specs.Writes.{fault_by};
 ghost use Rattle.layer_contracts.specs.Guardians.{event_of};
@@ -11,14 +11,14 @@ ghost use Rattle.layer_contracts.specs.Guardians.{event_of};
 use crate::guardian::Guardian;
 use crate::records::recorded_in;
 use crate::writes::Write;
-use guardian_memory::{Memory, Plan};
 use layer_contracts::{Draw, Fault, Message};
 use run_model::{Answer, Name, Names, ObjectId, Op, Opening, Step};
 use stable_store::{Stable, StoreFault};
 use std::alloc::{AllocError, Global};
+use volatile_state::{Memory, Plan};
 
 impl<S: Stable> layer_contracts::Guardian for Guardian<S> {
-    ghost use Rattle.guardian_memory.specs.Plans.{FitsPlan, IsPlanOf};
+    ghost use Rattle.volatile_state.specs.Plans.{FitsPlan, IsPlanOf};
     ghost use Rattle.guardian.specs.Guardians.{IsWhole};
 
     ghost stands = { λ g s. IsWhole S.seen g s };

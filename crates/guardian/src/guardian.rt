@@ -6,16 +6,16 @@ ghost use Rattle.run_model.specs.LocalReadings.{standing_here};
 ghost use Rattle.run_model.specs.Versions.{base_by};
 ghost use Rattle.stable_store.specs.Calls.{Rests};
 ghost use Rattle.layer_contracts.specs.Guardians.{GuardianState};
-ghost use Rattle.guardian_memory.specs.Memories.{IsSound, own_object};
+ghost use Rattle.volatile_state.specs.Memories.{IsSound, own_object};
 ghost use Rattle.guardian.specs.Guardians.{IsSettled, IsWhole};
 
-use guardian_memory::{Memory, Plan};
 use run_model::{Content, Opening};
 use stable_store::Stable;
 use std::alloc::{AllocError, Global};
 use std::marker::Model;
 use std::sync::Arc;
 use version_stack::View;
+use volatile_state::{Memory, Plan};
 
 /// A guardian over a stable store.
 #[derive(Drop)]
@@ -32,7 +32,7 @@ impl<S: Stable> Model for Guardian<S> {
     ghost use Rattle.tellings.specs.contracts.tellings.Tellings as of_tellings;
     ghost use Rattle.orphans.specs.contracts.lists.Lists as of_lists;
     ghost use Rattle.roster.specs.contracts.roster.Roster as of_roster;
-    ghost use Rattle.guardian_memory.specs.contracts.plan.Plan as of_plan;
+    ghost use Rattle.volatile_state.specs.contracts.plan.Plan as of_plan;
     ghost use Rattle.guardian.specs.Guardians.{InParts, IsWholeOfSome};
 
     ghost Value = { InParts S };

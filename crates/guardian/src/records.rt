@@ -2,7 +2,7 @@
 ghost use Rattle.std.specs.Prelude.{◌≡◌, true};
 ghost use Rattle.std.specs.Option.{option_map};
 ghost use Rattle.action_names.specs.Names.{Name};
-ghost use Rattle.stored_laws.specs.Stored.{has_record};
+ghost use Rattle.guardian_laws.specs.Stored.{has_record};
 ghost use Rattle.guardian.specs.Writes.{is_recorded};
 
 use action_names::Name;

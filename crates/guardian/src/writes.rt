@@ -4,22 +4,22 @@ ghost use Rattle.run_model.specs.declared.step.Step.TheVariants as steps;
 ghost use Rattle.run_model.specs.LocalReadings.{outcome_in, says_committed};
 ghost use Rattle.stable_store.specs.Calls.{Makes};
 ghost use Rattle.stable_store.specs.Stored.{Stored, after_bump};
-ghost use Rattle.stored_laws.specs.Stored.{after_event, asks_store, has_record};
+ghost use Rattle.guardian_laws.specs.Stored.{after_event, asks_store, has_record};
 ghost use Rattle.layer_contracts.specs.Guardians.{GuardianState, News, event_of, stamped};
-ghost use Rattle.guardian_memory.specs.Memories.{IsSound};
-ghost use Rattle.guardian_memory.specs.Plans.{IsPlanOf};
+ghost use Rattle.volatile_state.specs.Memories.{IsSound};
+ghost use Rattle.volatile_state.specs.Plans.{IsPlanOf};
 ghost use Rattle.guardian.specs.Guardians.{IsPlannedHere, WhereverPlanned};
-ghost use Rattle.local_agreement.specs.Outcomes.{is_yes};
+ghost use Rattle.guardian_laws.specs.Outcomes.{is_yes};
 ghost use Rattle.guardian.specs.Writes.{is_nothing, told_stored, written};
 
 use crate::records::recorded_in;
 use atomic_types::Part;
-use guardian_memory::{Memory, Plan};
 use holders::Survivors;
 use run_model::{Answer, Name, Step};
 use stable_store::{Stable, StoreFault};
 use std::alloc::{AllocError, Global};
 use std::collections::BTreeMap;
+use volatile_state::{Memory, Plan};
 
 /// What an event asks of the store. Top actions go by their numbers.
 #[derive(Drop)]

@@ -15,7 +15,7 @@ use Rattle.object_laws.specs.Changes.{undone}
 use Rattle.object_laws.specs.Laws.{is_concerned}
 use Rattle.object_laws.specs.Shown.{Shows}
 use Rattle.atomic_object.specs.Kept.{Kept, has_room, seen}
-use Rattle.held_objects.specs.Held.{HasRoomBelow, IsRising, has_number, has_object}
+use Rattle.guardian_index.specs.Held.{HasRoomBelow, IsRising, has_number, has_object}
 use Rattle.guardian_objects.specs.Objects.{Indexed, Stand, holds_below_at, holds_of, object_at, object_of}
 use Rattle.guardian_objects.specs.Outcomes.{IsReadyAt}
 use Rattle.guardian_objects.specs.Turns.{Aborts, AreChanged, IsHeard, IsReady, KeepsReady}

@@ -19,7 +19,7 @@ use Rattle.object_laws.proofs.Standing.{next_holder}
 use Rattle.action_names.proofs.Ancestry.{proper}
 use Rattle.atomic_object.specs.Kept.{HasRoomFor, Kept, has_room, seen}
 use Rattle.atomic_object.specs.Ways.{HandsTo}
-use Rattle.held_objects.specs.Held.{HasRoomBelow, IsRising, has_number, has_object, is_name_of}
+use Rattle.guardian_index.specs.Held.{HasRoomBelow, IsRising, has_number, has_object, is_name_of}
 use Rattle.guardian_objects.specs.Objects.{Indexed, Stand, holds_below_at, holds_of, object_at, object_of}
 use Rattle.guardian_objects.specs.Outcomes.{IsReadyAt}
 use Rattle.guardian_objects.specs.Turns.{AreChanged, Commits, IsHeard, IsReady, KeepsReady, MayCommitAt}

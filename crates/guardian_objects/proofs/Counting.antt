@@ -6,7 +6,7 @@ use Rattle.run_model.specs.Answers.{is_concerned_by}
 use Rattle.run_model.specs.Lists.{up_to}
 use Rattle.run_model.specs.LocalReadings.{LocalEvent, count_here, standing_here, told_committed_here}
 use Rattle.run_model.specs.Openings.{Opening}
-use Rattle.held_objects.specs.Held.{HoldsBelow, IsRising, has_number, objects_at}
+use Rattle.guardian_index.specs.Held.{HoldsBelow, IsRising, has_number, objects_at}
 use Rattle.guardian_objects.specs.Objects.{AreObjects, Indexed, object_of}
 use Rattle.guardian_objects.proofs.Numbers.{counted}
 use Rattle.guardian_objects.proofs.Parted.{below_here}

@@ -17,14 +17,14 @@ use Rattle.run_model.specs.Openings.{Opening, first_content}
 use Rattle.run_model.specs.Telling.{holder_by}
 use Rattle.run_model.specs.Versions.{holder_at}
 use Rattle.run_laws.proofs.Names.{clash}
-use Rattle.local_agreement.specs.Crashes.{LeavesSafe, is_safe}
+use Rattle.guardian_laws.specs.Crashes.{LeavesSafe, is_safe}
 use Rattle.object_laws.specs.Changes.{crashed}
 use Rattle.object_laws.specs.Laws.{is_concerned, is_left}
 use Rattle.object_laws.specs.Shown.{Shows}
-use Rattle.standing_laws.proofs.Events.{crash_leaves_is}
+use Rattle.object_laws.proofs.Events.{crash_leaves_is}
 use Rattle.atomic_object.specs.Kept.{Kept, seen}
 use Rattle.atomic_object.specs.Ways.{AreLeft}
-use Rattle.held_objects.specs.Held.{IsHeld, Rows, has_number, has_object, is_in_row}
+use Rattle.guardian_index.specs.Held.{IsHeld, Rows, has_number, has_object, is_in_row}
 use Rattle.guardian_objects.specs.Crashes.{HasCrashed, HaveCrashed}
 use Rattle.guardian_objects.specs.Objects.{AreObjects, Indexed, holds_at, holds_of, object_at, object_of}
 use Rattle.guardian_objects.specs.Turns.{AreChanged}

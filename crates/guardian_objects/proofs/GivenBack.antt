@@ -29,7 +29,7 @@ use Rattle.object_laws.proofs.Choosing.{holds_own}
 use Rattle.object_laws.proofs.Names.{none_rise}
 use Rattle.object_laws.proofs.Restored.{restored_shows}
 use Rattle.overlays.specs.ContentOverlays.{HaveSameOps}
-use Rattle.held_objects.specs.Held.{has_object}
+use Rattle.guardian_index.specs.Held.{has_object}
 use Rattle.atomic_object.specs.Kept.{Kept, seen}
 use Rattle.atomic_object.specs.Restored.{MayStandToo, MayTake}
 use Rattle.guardian_objects.specs.Objects.{AreObjects, Indexed, holds_at, holds_of, object_at, object_of}

@@ -25,7 +25,7 @@ use Rattle.object_laws.proofs.Concerned.{concerned_shown}
 use Rattle.object_laws.proofs.Held.{held, holds, to_acts}
 use Rattle.object_laws.proofs.Standing.{next_holder}
 use Rattle.action_names.proofs.Ancestry.{proper}
-use Rattle.held_objects.specs.Held.{is_name_of}
+use Rattle.guardian_index.specs.Held.{is_name_of}
 
 -- a name has numbers, so it is its own ancestor
 pub own_name : (a : Name) → IsName a → is_ancestor a a ≡ true

@@ -9,7 +9,7 @@ use Rattle.action_names.specs.Names.{Name, same_name}
 use Rattle.run_laws.proofs.Names.{same_name_self}
 use Rattle.run_model.specs.LocalReadings.{standing_here}
 use Rattle.atomic_object.specs.Kept.{KeepsRoom, Kept, has_room, seen}
-use Rattle.held_objects.specs.Held.{IsRising, Rows, has_number, has_object}
+use Rattle.guardian_index.specs.Held.{IsRising, Rows, has_number, has_object}
 use Rattle.guardian_objects.specs.Objects.{AreSome, Indexed, concerns_at, holds_of, object_at}
 use Rattle.guardian_objects.specs.Outcomes.{HasIndexRoom}
 use Rattle.guardian_objects.specs.Turns.{Has, HasRoomAt, HasRoomOf, IsRoomier}

@@ -11,7 +11,7 @@ use Rattle.std.specs.List.{AllByRecursion, cons_option}
 use Rattle.std.specs.List.Sorted.{IsStrictlySortedBy}
 use Rattle.std.specs.Ordering.{nat_cmp}
 use Rattle.std.specs.declared.cmp.Ordering.TheVariants.{Less}
-use Rattle.held_objects.specs.Held.{IsRising, has_number}
+use Rattle.guardian_index.specs.Held.{IsRising, has_number}
 use Rattle.run_model.specs.Lists.{down_from, up_to}
 
 cmp_less : (x y : ℕ) → x < y → nat_cmp x y ≡ Less

@@ -12,13 +12,13 @@ use Rattle.object_laws.specs.Changes.{with_operation}
 use Rattle.object_laws.specs.Laws.{is_concerned}
 use Rattle.object_laws.specs.Shown.{Shows}
 use Rattle.object_laws.proofs.Standing.{knows_shown_law}
-use Rattle.standing_laws.specs.Laws.{is_crash, is_granted_on}
-use Rattle.standing_laws.proofs.Events.{operation_is_kept_is, outcomes_are_heard_is}
-use Rattle.standing_laws.proofs.Turns.{heard_in_turn_is}
-use Rattle.standing_laws.specs.Heard.{heard}
+use Rattle.object_laws.specs.EventLaws.{is_crash, is_granted_on}
+use Rattle.object_laws.proofs.Events.{operation_is_kept_is, outcomes_are_heard_is}
+use Rattle.object_laws.proofs.Turns.{heard_in_turn_is}
+use Rattle.object_laws.specs.Heard.{heard}
 use Rattle.atomic_object.specs.Kept.{Kept, seen}
 use Rattle.atomic_object.proofs.Granting.{let_through}
-use Rattle.held_objects.specs.Held.{has_number, has_object, objects_at}
+use Rattle.guardian_index.specs.Held.{has_number, has_object, objects_at}
 use Rattle.guardian_objects.specs.Objects.{Indexed, IsAsked, IsGranted, Keeps, Operates, object_at, object_of}
 use Rattle.guardian_objects.specs.Operations.{IsFreeAt, IsGrantedBy, IsShownAt, StaysHeld}
 use Rattle.guardian_objects.specs.Turns.{AreChanged}

@@ -31,9 +31,9 @@ use Rattle.object_laws.specs.Shown.{Shows}
 use Rattle.object_laws.proofs.Choosing.{exactly}
 use Rattle.object_laws.proofs.Concerned.{concerned_shown}
 use Rattle.object_laws.proofs.Held.{adders_are, any_append, held, holds, owners_are}
-use Rattle.standing_laws.proofs.Events.{outcomes_are_heard_is}
+use Rattle.object_laws.proofs.Events.{outcomes_are_heard_is}
 use Rattle.atomic_object.specs.Kept.{Kept, seen}
-use Rattle.held_objects.specs.Held.{HoldsBelow, IsRising, has_number}
+use Rattle.guardian_index.specs.Held.{HoldsBelow, IsRising, has_number}
 use Rattle.guardian_objects.specs.Objects.{AreObjects, Indexed, Stand, object_at, object_of}
 use Rattle.guardian_objects.specs.Outcomes.{OnlyTells}
 use Rattle.guardian_objects.specs.Parts.{with_part}

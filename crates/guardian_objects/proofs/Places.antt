@@ -12,7 +12,7 @@ use Rattle.run_laws.proofs.Names.{clash}
 use Rattle.object_laws.specs.Laws.{is_concerned}
 use Rattle.object_laws.specs.Shown.{Shows}
 use Rattle.atomic_object.specs.Kept.{Kept, seen}
-use Rattle.held_objects.specs.Held.{Rows, has_number, has_object}
+use Rattle.guardian_index.specs.Held.{Rows, has_number, has_object}
 use Rattle.guardian_objects.specs.Objects.{Indexed, Stand, holds_at, holds_of, object_at, object_of}
 use Rattle.guardian_objects.specs.Turns.{AreChanged}
 use Rattle.guardian_objects.proofs.Holding.{held_shown}

@@ -12,8 +12,8 @@ use Rattle.run_model.specs.Openings.{Opening, first_content}
 use Rattle.object_laws.specs.Laws.{is_concerned}
 use Rattle.object_laws.specs.Shown.{Shows}
 use Rattle.atomic_object.specs.Kept.{KeepsRoom, Kept, has_room, seen}
-use Rattle.held_objects.specs.Held.{HasRoomBelow, HasRoomFrom, has_number, objects_at, room_at}
-use Rattle.held_objects.proofs.Changes.{room_from}
+use Rattle.guardian_index.specs.Held.{HasRoomBelow, HasRoomFrom, has_number, objects_at, room_at}
+use Rattle.guardian_index.proofs.Changes.{room_from}
 use Rattle.guardian_objects.specs.Objects.{AreSome, Indexed, Keeps, Stand, concerns_at, holds_of, object_at, object_of}
 use Rattle.guardian_objects.specs.Outcomes.{HasIndexRoom, HasRoomFor, IsReadyAt}
 use Rattle.guardian_objects.specs.Turns.{AreChanged, HasRoomAt, HasRoomOf, IsRoomier}

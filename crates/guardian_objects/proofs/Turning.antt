@@ -22,10 +22,10 @@ use Rattle.run_model.specs.Openings.{Opening}
 use Rattle.run_model.specs.Telling.{holder_by, last_passing, or_else}
 use Rattle.run_laws.proofs.Names.{ancestor_trans, clash, front, front_alone, parent_ancestor, same_name_self, same_name_true}
 use Rattle.local_laws.proofs.Orderly.{holder_is}
-use Rattle.standing_laws.specs.Heard.{AreOfTheirOwn, heard_in_turn, heard_one}
-use Rattle.standing_laws.specs.Laws.{is_granted_on}
-use Rattle.standing_laws.proofs.Events.{outcomes_are_heard_is}
-use Rattle.standing_laws.proofs.Turns.{heard_in_turn_is}
+use Rattle.object_laws.specs.Heard.{AreOfTheirOwn, heard_in_turn, heard_one}
+use Rattle.object_laws.specs.EventLaws.{is_granted_on}
+use Rattle.object_laws.proofs.Events.{outcomes_are_heard_is}
+use Rattle.object_laws.proofs.Turns.{heard_in_turn_is}
 use Rattle.guardian_objects.specs.Objects.{AreObjects, Indexed, Stand}
 use Rattle.guardian_objects.specs.Outcomes.{ArePlanned, AreSound, HasRoomFor, IsHearing, OnlyTells, is_alone, is_granted, outcomes_of}
 use Rattle.guardian_objects.specs.Turns.{Hears, IsHeard, IsReady, KeepsReady, MayHear}

@@ -3,7 +3,7 @@ use Rattle.std.specs.Prelude.{◌≡◌, ℕ, Bool, List, length, Some}
 use Rattle.action_names.specs.Names.{Name}
 use Rattle.atomic_object.specs.Kept.{Kept, seen}
 use Rattle.atomic_object.specs.Ways.{Survives}
-use Rattle.held_objects.specs.Held.{IsHeld, Rows}
+use Rattle.guardian_index.specs.Held.{IsHeld, Rows}
 use Rattle.guardian_objects.specs.Objects.{object_at}
 
 -- one object has crashed, and left what these actions wrote and added

@@ -14,7 +14,7 @@ use Rattle.run_model.specs.Openings.{Opening, first_content, objects_at}
 use Rattle.object_laws.specs.Laws.{is_concerned}
 use Rattle.object_laws.specs.Shown.{Shows}
 use Rattle.atomic_object.specs.Kept.{Kept, seen}
-use Rattle.held_objects.specs.Held.{Rows, has_object}
+use Rattle.guardian_index.specs.Held.{Rows, has_object}
 
 -- the objects of a guardian in order, and who holds something at which
 pub record Indexed : Type 0 where

@@ -12,9 +12,9 @@ use Rattle.run_model.specs.LocalReadings.{LocalEvent, told_committed_here}
 use Rattle.run_model.specs.Openings.{Opening}
 use Rattle.run_model.specs.Telling.{holder_by}
 use Rattle.atomic_object.specs.Kept.{Kept, has_room}
-use Rattle.held_objects.specs.Held.{HasRoomBelow, HasRoomFrom, IsRising, has_number}
-use Rattle.local_agreement.specs.Outcomes.{AgreesOnOutcomes}
-use Rattle.standing_laws.specs.Laws.{is_crash}
+use Rattle.guardian_index.specs.Held.{HasRoomBelow, HasRoomFrom, IsRising, has_number}
+use Rattle.guardian_laws.specs.Outcomes.{AgreesOnOutcomes}
+use Rattle.object_laws.specs.EventLaws.{is_crash}
 use Rattle.guardian_objects.specs.Objects.{AreObjects, Indexed, concerns_at, object_at}
 use Rattle.guardian_objects.specs.declared.outcomes.Telling.{Telling}
 

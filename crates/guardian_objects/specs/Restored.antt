@@ -10,7 +10,7 @@ use Rattle.run_model.specs.StableContent.{Prepared}
 use Rattle.local_laws.specs.Reopened.{AreRecords, ValuesAlone, parts_of}
 use Rattle.object_model.specs.Objects.{IsRestored}
 use Rattle.overlays.specs.ContentOverlays.{HaveSameOps}
-use Rattle.held_objects.specs.Held.{has_object}
+use Rattle.guardian_index.specs.Held.{has_object}
 use Rattle.atomic_object.specs.Kept.{Kept, seen}
 use Rattle.atomic_object.specs.Restored.{MayStandToo, MayTake}
 use Rattle.guardian_objects.specs.Objects.{Indexed, holds_at, object_at, object_of}

@@ -7,11 +7,11 @@ use Rattle.run_model.specs.declared.step.ObjectId.{ObjectId}
 use Rattle.run_model.specs.Keeping.{Standing}
 use Rattle.run_model.specs.Openings.{Opening}
 use Rattle.run_model.specs.Telling.{holder_by}
-use Rattle.standing_laws.specs.Heard.{heard_one}
+use Rattle.object_laws.specs.Heard.{heard_one}
 use Rattle.atomic_object.specs.Kept.{Kept, KeepsOthersRoom, KeepsRoom, KeepsRoomBeside, has_room, seen}
 use Rattle.atomic_object.specs.Kept as kept
 use Rattle.atomic_object.specs.Ways.{HandsOn, HandsTo, Undoes}
-use Rattle.held_objects.specs.Held.{HasRoomBelow, HoldsBelow, IsRising, Rows, has_number, has_object, objects_at, room_at}
+use Rattle.guardian_index.specs.Held.{HasRoomBelow, HoldsBelow, IsRising, Rows, has_number, has_object, objects_at, room_at}
 use Rattle.guardian_objects.specs.Objects.{Indexed, Stand, concerns_at, object_at}
 use Rattle.guardian_objects.specs.Outcomes.{HasIndexRoom, IsReadyAt}
 use Rattle.guardian_objects.specs.declared.outcomes.Telling.{Telling}

@@ -5,7 +5,7 @@ ghost use Rattle.run_model.specs.declared.step.ObjectId.{ObjectId};
 ghost use Rattle.run_model.specs.declared.step.Step.TheVariants as steps;
 ghost use Rattle.run_model.specs.LocalReadings.{LocalEvent, prepared_here};
 ghost use Rattle.run_model.specs.Openings.{Opening};
-ghost use Rattle.local_agreement.specs.Crashes.{LeavesSafe};
+ghost use Rattle.guardian_laws.specs.Crashes.{LeavesSafe};
 ghost use Rattle.guardian_objects.specs.Objects.{AreObjects};
 ghost use Rattle.guardian_objects.specs.Crashes.{HasCrashed, HaveCrashed};
 ghost use Rattle.guardian_objects.specs.Turns.{AreChanged};
@@ -13,7 +13,7 @@ ghost use Rattle.guardian_objects.specs.Turns.{AreChanged};
 use crate::objects::Objects;
 use action_names::Name;
 use atomic_object::Object;
-use held_objects::{HeldObjects, HeldRows, Holding};
+use guardian_index::{HeldObjects, HeldRows, Holding};
 use holders::Survivors;
 
 /// Who still holds something at these objects.

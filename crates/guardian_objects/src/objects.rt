@@ -19,7 +19,7 @@ ghost use Rattle.guardian_objects.specs.Turns.{AreChanged};
 use action_names::Name;
 use atomic_object::Object;
 use atomic_types::Op;
-use held_objects::HeldObjects;
+use guardian_index::HeldObjects;
 use run_model::{Answer, ObjectId};
 use std::alloc::{AllocError, Global};
 use std::marker::Model;

@@ -6,7 +6,7 @@ ghost use Rattle.run_model.specs.LocalReadings.{LocalEvent, told_committed_here}
 ghost use Rattle.run_model.specs.Openings.{Opening};
 ghost use Rattle.run_model.specs.Telling.{holder_by};
 ghost use Rattle.atomic_object.specs.Staying.{OutcomesRise};
-ghost use Rattle.held_objects.specs.Held.{IsRising, has_number, objects_at};
+ghost use Rattle.guardian_index.specs.Held.{IsRising, has_number, objects_at};
 ghost use Rattle.tellings.specs.Hearing.{AreTold};
 ghost use Rattle.guardian_objects.specs.Objects.{AreObjects, AreSome, Keeps, object_at};
 ghost use Rattle.guardian_objects.specs.Outcomes.{ArePlanned, Fits, HasIndexRoom, HasRoomFor, IsHearing, OnlyTells, is_alone, outcomes_of};

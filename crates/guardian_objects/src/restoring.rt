@@ -3,7 +3,7 @@ ghost use Rattle.std.specs.Prelude.{◌≡◌, ◌&&◌, ◌||◌, ◌==◌, ◌
 ghost use Rattle.action_names.specs.Names.{Name, same_name};
 ghost use Rattle.run_model.specs.Openings.{Opening};
 ghost use Rattle.run_model.specs.StableContent.{Prepared};
-ghost use Rattle.held_objects.specs.Held.{has_object};
+ghost use Rattle.guardian_index.specs.Held.{has_object};
 ghost use Rattle.guardian_objects.specs.Restored.{AreGivenBack, AreRestorable, IsGivenBack, MayGiveBack, MayTakeAt, with_record};
 ghost use Rattle.guardian_objects.specs.Turns.{AreChanged};
 

@@ -1,9 +1,9 @@
 //! What a history says of actions, and what one event does.
 use crate::{past, reading};
-use history_facts::{actions, steps};
 use rows::{RowFault, Words};
 use run_model::{History, Name};
 use std::alloc::{AllocError, Global};
+use tracer::{actions, steps};
 
 /// Answers the rows `fact CALL`.
 pub(crate) fn answer(

@@ -1,5 +1,5 @@
 //! The history of a section, kept compactly.
-use histories::PackedHistory;
+use packed_history::PackedHistory;
 use rows::{RowFault, again};
 use run_model::{Event, History};
 use std::alloc::{AllocError, Global};

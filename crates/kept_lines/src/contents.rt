@@ -1,10 +1,10 @@
 //! What a store holds, in words and in one line.
 use atomic_types::Part;
-use part_texts::{part_from_text, part_text};
 use rows::{RowFault, Words};
 use stable_store::{Kept, Prepared};
 use std::alloc::{AllocError, Global};
 use std::collections::BTreeMap;
+use store_tables::{part_from_text, part_text};
 use values::ValueFault;
 
 /// The next word as the number of a guardian, an object or a top action.

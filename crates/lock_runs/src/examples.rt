@@ -4,8 +4,8 @@ ghost use Rattle.run_model.specs.Openings.{opening_in};
 ghost use Rattle.stable_store.specs.Plain.{plain_view};
 ghost use Rattle.guardian.specs.Guardians.{IsWhole};
 ghost use Rattle.registry.specs.Registries.{StandsIn};
-ghost use Rattle.layered_world.specs.Standings.{IsWorld};
-ghost use Rattle.stable_world.specs.Worlds.{seen_of};
+ghost use Rattle.world_steps.specs.Standings.{IsWorld};
+ghost use Rattle.world.specs.Worlds.{seen_of};
 
 use crate::locks::Locks;
 use crate::threads::answered_to;
@@ -16,10 +16,10 @@ use registry::Registry;
 use rows::{Row, RowFault, Subject};
 use run_model::{Answer, Setup, SetupFault, Step};
 use stable_store::PlainStable;
-use stable_world::World;
 use std::alloc::{AllocError, Global};
 use std::marker::Brand;
 use std::sync::Wait;
+use world::World;
 
 /// What the rows of a section have given.
 #[derive(Drop)]

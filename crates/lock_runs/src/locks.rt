@@ -2,12 +2,11 @@
 ghost use Rattle.std.specs.Prelude.{◌≡◌, ◌≤◌, [], List, IfOk, IfSome, length, vec_capacity, vec_len};
 ghost use Rattle.run_model.specs.declared.history.Event.{Event};
 ghost use Rattle.run_model.specs.Openings.{opening_in};
-ghost use Rattle.layered_world.specs.Standings.{IsWorld};
+ghost use Rattle.world_steps.specs.Standings.{IsWorld};
 ghost use Rattle.locked_run.specs.Acting.{IsAnswered};
 ghost use Rattle.lock_runs.specs.Ends.{IsRunOf};
 
 use layer_contracts::{Fault, Forest, Guardian};
-use lent_steps::NamedGuardians;
 use locked_run::{
     Answered, Held, HeldRegistry, OfRun, Shared, Start, act_guardian, act_one, act_registry,
     act_two, begin, close_all, end,
@@ -15,6 +14,7 @@ use locked_run::{
 use run_model::Step;
 use std::alloc::{AllocError, Global};
 use std::sync::{Mutex, Wait};
+use world_steps::NamedGuardians;
 
 /// How often a step is tried anew whose guardians are others by the time that they are locked.
 const TRIES: u32 = 100;

@@ -5,8 +5,8 @@ ghost use Rattle.run_model.specs.Openings.{opening_in};
 ghost use Rattle.stable_store.specs.Plain.{plain_view};
 ghost use Rattle.guardian.specs.Guardians.{IsWhole};
 ghost use Rattle.registry.specs.Registries.{StandsIn};
-ghost use Rattle.layered_world.specs.Standings.{IsWorld};
-ghost use Rattle.stable_world.specs.Worlds.{seen_of};
+ghost use Rattle.world_steps.specs.Standings.{IsWorld};
+ghost use Rattle.world.specs.Worlds.{seen_of};
 ghost use Rattle.lock_runs.specs.Ends.{IsRunOf};
 
 use crate::examples::{started, world_of};
@@ -20,11 +20,11 @@ use registry::Registry;
 use rows::RowFault;
 use run_model::{Answer, Step};
 use stable_store::PlainStable;
-use stable_world::World;
 use std::alloc::{AllocError, Global};
 use std::marker::Brand;
 use std::sync::Wait;
 use std::thread::{Threads, join};
+use world::World;
 
 /// A step that was accepted, its answer, and the number of its receipt.
 #[derive(Drop)]

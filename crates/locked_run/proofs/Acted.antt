@@ -10,7 +10,7 @@ use Rattle.run_model.specs.declared.history.Event.{Event}
 use Rattle.run_model.specs.declared.step.Step.{Step}
 use Rattle.run_model.specs.Answers.{answer_of}
 use Rattle.run_model.specs.LocalHistories.{names_guardian}
-use Rattle.stored_laws.specs.Stored.{asks_store}
+use Rattle.guardian_laws.specs.Stored.{asks_store}
 use Rattle.run_model.specs.Openings.{Opening}
 use Rattle.run_model.specs.Runs.{IsRun, is_accepted}
 use Rattle.run_laws.proofs.Names.{eqb_self}
@@ -20,9 +20,9 @@ use Rattle.layer_contracts.specs.declared.guardian.Fault.{Fault}
 use Rattle.layer_contracts.specs.Stores.{IsStoreOf, Leaves}
 use Rattle.layer_contracts.specs.declared.guardian.Fault.TheVariants.{Memory}
 use Rattle.layer_contracts.proofs.Stores.{left_alone, refused_before, stays_same}
-use Rattle.lent_steps.specs.Keeping.{StoreLeft}
-use Rattle.layered_world.specs.Standings.{Names, asks_of, brought, content_then, event_next, forest_of, standing}
-use Rattle.layered_world.proofs.Stores.{left_at}
+use Rattle.world_steps.specs.Keeping.{StoreLeft}
+use Rattle.world_steps.specs.Standings.{Names, asks_of, brought, content_then, event_next, forest_of, standing}
+use Rattle.world_steps.proofs.WorldStores.{left_at}
 use Rattle.shared_run.specs.Places.{touches}
 use Rattle.locked_run.specs.Acting.{HasMoved, IsAnswered, Outcome, StoreAfter, has_added, run_before}
 use Rattle.locked_run.specs.Acting.Outcome.{failed, taken}

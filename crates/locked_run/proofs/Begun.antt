@@ -8,7 +8,7 @@ use Rattle.one_run.specs.Rules.{first_of, others_of}
 use Rattle.run_model.specs.declared.history.Event.{Event}
 use Rattle.run_model.specs.Openings.{Opening}
 use Rattle.layer_contracts.specs.Guardians.{GuardianState}
-use Rattle.layered_world.specs.Standings.{standing}
+use Rattle.world_steps.specs.Standings.{standing}
 use Rattle.locked_run.specs.Beginning.{held_first, held_from, stamps}
 use Rattle.locked_run.specs.Parts.{InHeld, IsHeld, guardian_part, number_of, registry_part}
 

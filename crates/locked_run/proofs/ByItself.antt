@@ -26,14 +26,14 @@ use Rattle.layer_contracts.specs.Guardians.{GuardianState, IsNext, after_step, b
 use Rattle.layer_contracts.specs.Messages.{is_operation}
 use Rattle.layer_contracts.specs.Stores.{Leaves, LeavesStore}
 use Rattle.layer_contracts.specs.declared.guardian.Fault.{Fault}
-use Rattle.lent_steps.specs.Keeping.{IsAnswered, StoreLeft}
-use Rattle.lent_steps.proofs.Agreed.{agrees_at}
-use Rattle.lent_steps.proofs.Left.{first_one, named_is}
-use Rattle.lent_steps.proofs.Operating.{brings_nothing}
-use Rattle.lent_steps.proofs.Owing.{answers_outcome, owed_at}
-use Rattle.layered_world.specs.Standings.{Names, asks_of, content_then, forest_of, standing}
-use Rattle.layered_world.proofs.Kept.{are_answered, led_on}
-use Rattle.layered_world.proofs.Stores.{left_at}
+use Rattle.world_steps.specs.Keeping.{IsAnswered, StoreLeft}
+use Rattle.world_steps.proofs.Agreed.{agrees_at}
+use Rattle.world_steps.proofs.Left.{first_one, named_is}
+use Rattle.world_steps.proofs.Operating.{brings_nothing}
+use Rattle.world_steps.proofs.Owing.{answers_outcome, owed_at}
+use Rattle.world_steps.specs.Standings.{Names, asks_of, content_then, forest_of, standing}
+use Rattle.world_steps.proofs.Kept.{are_answered, led_on}
+use Rattle.world_steps.proofs.WorldStores.{left_at}
 use Rattle.shared_run.specs.Places.{touches}
 use Rattle.shared_run.proofs.Following.{named_there}
 use Rattle.shared_run.proofs.Histories.{fits_at, history_stays, numbered_events, runs}
@@ -270,8 +270,8 @@ module _ (opening : Opening) (e : Event) (g : ℕ) (past : List Event) (r : IsRu
       there : LeavesStore state (by_itself e) old new fault → StoreLeft (forest_of opening past) state state e state old new fault
       there l =
           let moved = subst (λ m. LeavesStore state (record { event = e; carried = m }) old new fault) nothing_comes l in
-          subst (λ t. Leaves (t && Rattle.stored_laws.specs.Stored.asks_store g (stamped 0 (record { event = e; carried = carried_lent opening e g (registry_history opening (numbered past)) (lent_two state state) })) old.content)
-          (Rattle.stored_laws.specs.Stored.after_event opening g (stamped 0 (record { event = e; carried = carried_lent opening e g (registry_history opening (numbered past)) (lent_two state state) })) state.past old.content) old new fault)
+          subst (λ t. Leaves (t && Rattle.guardian_laws.specs.Stored.asks_store g (stamped 0 (record { event = e; carried = carried_lent opening e g (registry_history opening (numbered past)) (lent_two state state) })) old.content)
+          (Rattle.guardian_laws.specs.Stored.after_event opening g (stamped 0 (record { event = e; carried = carried_lent opening e g (registry_history opening (numbered past)) (lent_two state state) })) state.past old.content) old new fault)
           (sym named_here) moved
 
 -- ---- a guardian whose part has seen the run

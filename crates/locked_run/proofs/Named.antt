@@ -12,16 +12,16 @@ use Rattle.run_model.specs.Answers.{answer_of}
 use Rattle.run_model.specs.Openings.{Opening, OpeningLists, opening_in}
 use Rattle.run_model.specs.Runs.{IsRun, is_accepted}
 use Rattle.layer_contracts.specs.Forests.{ForestState}
-use Rattle.lent_steps.specs.declared.names.NamedGuardians.{NamedGuardians}
-use Rattle.lent_steps.specs.Naming.{AreNamed, first_named, home_of_maker, second_named}
-use Rattle.lent_steps.proofs.Naming.{named_are}
+use Rattle.world_steps.specs.declared.names.NamedGuardians.{NamedGuardians}
+use Rattle.world_steps.specs.Naming.{AreNamed, first_named, home_of_maker, second_named}
+use Rattle.world_steps.proofs.Naming.{named_are}
 use Rattle.local_laws.specs.Registries.{IsRegistrySame}
 use Rattle.local_laws.proofs.Registry.{registry_same}
 use Rattle.run_laws.proofs.Names.{eqb_self}
 use Rattle.shared_run.proofs.Following.{named_there}
 use Rattle.shared_run.proofs.Histories.{numbered_events, runs}
-use Rattle.layered_world.specs.Standings.{IsOut, Names, forest_of}
-use Rattle.layered_world.proofs.Inside.{IsInside, named_inside}
+use Rattle.world_steps.specs.Standings.{IsOut, Names, forest_of}
+use Rattle.world_steps.proofs.Inside.{IsInside, named_inside}
 use Rattle.locked_run.specs.Acting.{is_at_most, is_out, names_nobody, names_one, names_two}
 
 either : (s t u v : Bool) → (s || t) ≡ (u || v) → (t || s) ≡ (u || v)

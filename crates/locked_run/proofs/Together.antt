@@ -12,10 +12,10 @@ use Rattle.run_model.specs.Openings.{Opening}
 use Rattle.run_model.specs.Runs.{IsRun}
 use Rattle.layer_contracts.specs.Forests.{ForestState}
 use Rattle.layer_contracts.specs.Guardians.{GuardianState}
-use Rattle.lent_steps.specs.Keeping.{AreAnswered, IsDone}
-use Rattle.lent_steps.specs.Lending.{AreLent}
-use Rattle.layered_world.specs.Standings.{Names, forest_of, standing}
-use Rattle.layered_world.proofs.Kept.{are_answered, led_on}
+use Rattle.world_steps.specs.Keeping.{AreAnswered, IsDone}
+use Rattle.world_steps.specs.Lending.{AreLent}
+use Rattle.world_steps.specs.Standings.{Names, forest_of, standing}
+use Rattle.world_steps.proofs.Kept.{are_answered, led_on}
 use Rattle.shared_run.specs.Places.{touches}
 use Rattle.shared_run.proofs.Following.{may_add, named_there}
 use Rattle.shared_run.proofs.Histories.{fits_at, history_stays, registry_stays}

@@ -11,7 +11,7 @@ use Rattle.run_model.specs.Runs.{IsRun}
 use Rattle.run_laws.proofs.Names.{eqb_self}
 use Rattle.layer_contracts.specs.Forests.{ForestState}
 use Rattle.layer_contracts.specs.Guardians.{GuardianState}
-use Rattle.layered_world.specs.Standings.{forest_of, standing}
+use Rattle.world_steps.specs.Standings.{forest_of, standing}
 use Rattle.shared_run.specs.Places.{touches}
 use Rattle.shared_run.proofs.Histories.{history_stays, registry_stays}
 use Rattle.stable_store.specs.Calls.{View}

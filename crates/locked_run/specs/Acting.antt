@@ -14,8 +14,8 @@ use Rattle.run_model.specs.Runs.{IsRun, history_after, is_accepted}
 use Rattle.shared_run.specs.Places.{touches}
 use Rattle.layer_contracts.specs.Stores.{Leaves, Stays}
 use Rattle.layer_contracts.specs.declared.guardian.Fault.{Fault}
-use Rattle.lent_steps.specs.Naming.{first_named, second_named}
-use Rattle.layered_world.specs.Standings.{asks_of, content_then}
+use Rattle.world_steps.specs.Naming.{first_named, second_named}
+use Rattle.world_steps.specs.Standings.{asks_of, content_then}
 use Rattle.locked_run.specs.Parts.{InHeld, Moved}
 
 -- no guardian of so many has this number

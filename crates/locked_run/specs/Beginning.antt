@@ -3,7 +3,7 @@ use Rattle.std.specs.Prelude.{◌≡◌, ◌+◌, ℕ, suc, List, [], ◌∷◌,
 use Rattle.run_model.specs.declared.history.Event.{Event}
 use Rattle.run_model.specs.Openings.{Opening}
 use Rattle.layer_contracts.specs.Guardians.{GuardianState}
-use Rattle.layered_world.specs.Standings.{standing}
+use Rattle.world_steps.specs.Standings.{standing}
 use Rattle.locked_run.specs.Parts.{InHeld}
 
 -- how many stamps each guardian may draw

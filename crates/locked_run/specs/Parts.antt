@@ -14,7 +14,7 @@ use Rattle.layer_contracts.specs.Guardians.{GuardianState}
 use Rattle.layer_contracts.specs.Forests.{ForestState}
 use Rattle.layer_contracts.specs.Stores.{IsStoreOf}
 use Rattle.stable_store.specs.Calls.{View}
-use Rattle.layered_world.specs.Standings.{forest_of, standing}
+use Rattle.world_steps.specs.Standings.{forest_of, standing}
 
 -- the part of a guardian, and of the registry
 abbrev pub guardian_part : ℕ → ℕ → List Event → Piece Event

@@ -3,7 +3,7 @@
 ghost use Rattle.std.specs.Prelude.{◌≡◌, ◌≤◌, ◌+◌, [], IfErr, IfOk, length, vec_capacity};
 ghost use Rattle.one_run.specs.Pieces.{places_from};
 ghost use Rattle.run_model.specs.Openings.{opening_in};
-ghost use Rattle.layered_world.specs.Standings.{IsWorld};
+ghost use Rattle.world_steps.specs.Standings.{IsWorld};
 ghost use Rattle.locked_run.specs.Beginning.{AreBegun, AreFirst, held_from};
 
 use crate::held::{Held, HeldRegistry};

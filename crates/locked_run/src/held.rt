@@ -1,16 +1,16 @@
 //! What stands under locks: a guardian with its part of the run, and the registry with its own.
 ghost use Rattle.std.specs.Prelude.{◌≡◌, ◌++◌, ◌∷◌, [], ℕ};
-ghost use Rattle.lent_steps.specs.Naming.{first_named, second_named};
-ghost use Rattle.layered_world.specs.Standings.{standing};
+ghost use Rattle.world_steps.specs.Naming.{first_named, second_named};
+ghost use Rattle.world_steps.specs.Standings.{standing};
 ghost use Rattle.locked_run.specs.Parts.{IsHeld, IsHeldThere, guardian_part, number_of, registry_part};
 ghost use Rattle.one_run.specs.Pieces.{seen_of};
 
 use crate::shared::{OfRun, Shared};
 use layer_contracts::{Forest, Guardian};
-use lent_steps::{NamedGuardians, named};
 use one_run::Part;
 use run_model::{Event, Step};
 use std::marker::{Model, PhantomData};
+use world_steps::{NamedGuardians, named};
 
 /// A guardian under its lock, which stands where the run leads it. Contracts see the guardian, its
 /// number, the run as it was when the guardian was named last, and how many stamps it may draw.

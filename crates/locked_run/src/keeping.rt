@@ -8,19 +8,19 @@ ghost use Rattle.run_model.specs.Runs.{IsRun, is_accepted};
 ghost use Rattle.layer_contracts.specs.Guardians.{event_of};
 ghost use Rattle.layer_contracts.specs.Stores.{CountsFailure};
 ghost use Rattle.layer_contracts.specs.declared.guardian.Fault.TheVariants.{Stable};
-ghost use Rattle.lent_steps.specs.Naming.{AreNamed};
-ghost use Rattle.layered_world.specs.Standings.{Names, forest_of};
+ghost use Rattle.world_steps.specs.Naming.{AreNamed};
+ghost use Rattle.world_steps.specs.Standings.{Names, forest_of};
 ghost use Rattle.shared_run.specs.Places.{touches};
 ghost use Rattle.locked_run.specs.Acting.{StoreAfter, kept_outcome};
 ghost use Rattle.locked_run.specs.Parts.{AreLocked};
 
 use crate::shared::{Deed, Drawing, OfRun, Shared};
 use layer_contracts::{Fault, Forest, Guardian};
-use lent_steps::{NamedGuardians, keep_one, keep_two};
 use one_run::Part;
 use run_model::{Answer, Event, Step};
 use std::alloc::Global;
 use std::marker::PhantomData;
+use world_steps::{NamedGuardians, keep_one, keep_two};
 
 /// Keeps an event at two guardians, which have these numbers, and in the registry. After an error
 /// all stand where they stood, and nothing was added.

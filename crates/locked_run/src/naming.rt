@@ -2,7 +2,7 @@
 ghost use Rattle.std.specs.Prelude.{◌≡◌, ◌==◌, ◌&&◌, ◌||◌};
 ghost use Rattle.locked_run.specs.Acting.{is_at_most, is_out};
 
-use lent_steps::NamedGuardians;
+use world_steps::NamedGuardians;
 
 /// Whether no guardian of so many has this number.
 pub(crate) fn is_out(count: usize, guardian: u32) -> bool

@@ -11,7 +11,7 @@ ghost use Rattle.layer_contracts.specs.Guardians.{GuardianState, IsNext, by_itse
 ghost use Rattle.layer_contracts.specs.Messages.{carried_of, is_operation};
 ghost use Rattle.layer_contracts.specs.Stores.{CountsFailure, LeavesStore, fault_in};
 ghost use Rattle.layer_contracts.specs.declared.guardian.Fault.TheVariants.{Stable};
-ghost use Rattle.lent_steps.specs.Keeping.{StandsStill};
+ghost use Rattle.world_steps.specs.Keeping.{StandsStill};
 ghost use Rattle.shared_run.specs.Places.{touches};
 ghost use Rattle.locked_run.specs.Acting.{HasMoved, IsAnswered, StoreAfter, is_own, kept_outcome, outcome_of};
 ghost use Rattle.locked_run.specs.Own.{is_own_here, own_answer, turned};
@@ -21,11 +21,11 @@ use crate::naming::is_out;
 use crate::shared::{Answered, Deed, Drawing, OfRun, Shared};
 use crate::stepping::receipted;
 use layer_contracts::{Draw, Fault, Guardian, Message};
-use lent_steps::answer_here;
 use one_run::Part;
 use run_model::{Answer, Event, Names, Refusal, Step};
 use std::alloc::{AllocError, Global};
 use std::marker::{Brand, PhantomData};
+use world_steps::answer_here;
 
 /// Done, unless this forbids it.
 fn turned<G: Guardian>(guardian: &G, number: u32, forbidden: bool, reason: Refusal) -> Answer

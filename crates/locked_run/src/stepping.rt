@@ -6,8 +6,8 @@ ghost use Rattle.run_model.specs.Answers.{answer_of};
 ghost use Rattle.run_model.specs.Runs.{IsRun};
 ghost use Rattle.layer_contracts.specs.Stores.{CountsFailure};
 ghost use Rattle.layer_contracts.specs.declared.guardian.Fault.TheVariants.{Stable};
-ghost use Rattle.lent_steps.specs.Naming.{AreNamed};
-ghost use Rattle.layered_world.specs.Standings.{Names, forest_of};
+ghost use Rattle.world_steps.specs.Naming.{AreNamed};
+ghost use Rattle.world_steps.specs.Standings.{Names, forest_of};
 ghost use Rattle.locked_run.specs.Acting.{HasMoved, IsAnswered, StoreAfter, names_nobody, names_one, names_two, outcome_of};
 ghost use Rattle.locked_run.specs.Parts.{AreLocked, HasRegistry, HasStore};
 
@@ -15,11 +15,11 @@ use crate::keeping::{keep_at_one, keep_at_two};
 use crate::naming::{names_nobody, names_one, names_two};
 use crate::shared::{Answered, OfRun, Receipt, Shared};
 use layer_contracts::{Fault, Forest, Guardian};
-use lent_steps::{NamedGuardians, answer_alone, answer_two, named};
 use one_run::Part;
 use run_model::{Answer, Event, Step};
 use std::alloc::{AllocError, Global};
 use std::marker::Brand;
+use world_steps::{NamedGuardians, answer_alone, answer_two, named};
 
 /// A step of two guardians, which have these numbers, and the registry. `None`, and nothing is
 /// changed, if the step does not name just these two.

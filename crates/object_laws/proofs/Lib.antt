@@ -12,3 +12,6 @@ pub mod Restored
 pub mod Concerned
 pub mod Adding
 pub mod OnceTold
+pub mod Filters
+pub mod Turns
+pub mod Events

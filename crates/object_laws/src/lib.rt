@@ -1,11 +1,11 @@
-//! The laws of objects: an object that shows how it stands shows it still after each call, and answers by it what the definitions answer.
+//! What an object shows, and how the events of a guardian's own history change that.
 //!
-//! Each law is the contract of a function without a body. `atomic_object` cites them, so that its code speaks of versions, deltas and locks
-//! alone.
+//! Each law is the contract of a function without a body. `atomic_object` rests its calls on them.
 #![tactic(auto)]
 
-ghost use Rattle.object_laws.specs.OnceTold.{PartsOnceTold};
+ghost use Rattle.object_laws.specs.EventLaws.{CrashLeaves, HeardInTurn, OperationIsKept, OutcomesAreHeard};
 ghost use Rattle.object_laws.specs.Laws.{AddersOnTop, BlockersShown, ConcernedShown, CrashedShows, KnowsShown, NoneBetween, OperatedShows, OwnersAbove, PartsShown, PassedShows, ReadsShown, RestoredShows, UndoneShows, UntouchedShows, WritesShown};
+ghost use Rattle.object_laws.specs.OnceTold.{PartsOnceTold};
 
 /// An object that nobody touched shows that nothing is kept.
 pub fn untouched_shows()
@@ -85,4 +85,24 @@ pub fn adders_on_top()
 /// The next holder is a proper ancestor, and no owner stands between.
 pub fn none_between()
     ensures { NoneBetween }
+{}
+
+/// A granted operation is kept, the newest.
+pub fn operation_is_kept()
+    ensures { OperationIsKept }
+{}
+
+/// What is neither a crash nor a granted operation on the object changes it by the outcomes alone that it brings.
+pub fn outcomes_are_heard()
+    ensures { OutcomesAreHeard }
+{}
+
+/// A crash leaves of the operations those that outlive it.
+pub fn crash_leaves()
+    ensures { CrashLeaves }
+{}
+
+/// Outcomes of different actions may be heard one after another, those of descendants before those of their ancestors.
+pub fn heard_in_turn()
+    ensures { HeardInTurn }
 {}

@@ -14,14 +14,14 @@ use Rattle.run_model.specs.declared.step.Step.TheVariants.{Abort, Arms, Call, Cl
 use Rattle.run_model.specs.Actions.{begun, crashes, home_in, home_of, incarnation_of, is_begun, is_closed, is_down, is_ended, is_exactly, made_by, maker_in, maker_of, names_begun, step_crashes, step_makes, step_recovers}
 use Rattle.run_model.specs.LocalReadings.{LocalEvent, after_commit, dependency_here, events_here, least_of}
 use Rattle.run_model.specs.Telling.{or_else}
-use Rattle.local_agreement.specs.Actions.{AgreesOnActions, is_none_or, is_own, reaches_parent}
+use Rattle.guardian_laws.specs.Actions.{AgreesOnActions, is_none_or, is_own, reaches_parent}
 use Rattle.roster.proofs.Above.{known_then}
 use Rattle.roster.proofs.Added.{all_found, found_all, indexed_all, place_all, row_all, standing_all}
 use Rattle.roster.proofs.Changed.{got_within, indexed_changed, indexed_merged, indexed_turned, kept, kept_merged, place_changed, place_merged, place_turned, placed_changed, row_turned, standing, standing_changed, standing_merged, struck}
 use Rattle.roster.proofs.Counted.{all_counted, count-append, fewer}
 use Rattle.roster.proofs.Events.{absent, closed_was_begun, closes_one, ended_after, ended_was_begun, maker_not_new, more_events, one_is_new}
 use Rattle.roster.proofs.Names.{clash, has_name-append}
-use Rattle.local_agreement.specs.Sent.{Sent}
+use Rattle.guardian_laws.specs.Sent.{Sent}
 use Rattle.roster.specs.Entries.{IsBorn, IsEntry, IsMerged}
 use Rattle.roster.specs.Rosters.{IsIndexed, IsRoster}
 use Rattle.roster.specs.Steps.{above, closed_in, ended_in, turn_in}

@@ -10,7 +10,7 @@ use Rattle.run_model.specs.declared.history.Event.{Event}
 use Rattle.run_model.specs.declared.step.Step.{Step}
 use Rattle.run_model.specs.declared.step.Step.TheVariants.{Abort, Arms, Call, Close, Commit, Crash, Decide, NestedTop, Op, Prepare, Recover, Tell, Top}
 use Rattle.run_model.specs.Actions.{begun, is_aborted, is_begun, is_committed, is_ended, is_exactly, made_by, maker_in, maker_of, names_begun, step_aborts, step_closes, step_commits, step_crashes, step_makes}
-use Rattle.local_agreement.specs.Actions.{are_new, has_maker, is_child, is_new, is_own, was_begun}
+use Rattle.guardian_laws.specs.Actions.{are_new, has_maker, is_child, is_new, is_own, was_begun}
 use Rattle.roster.proofs.Counted.{count-append, count_front, none_counted}
 use Rattle.roster.proofs.Names.{above_child, any_below, clash, has_name-append, no_own_child}
 use Rattle.roster.specs.Rosters.{AreOf}

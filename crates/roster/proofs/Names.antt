@@ -4,7 +4,7 @@ use Rattle.std.specs.List.{list_any}
 use Rattle.std.proofs.lemmas.Bool.{and_from, and_parts, false≢true, or_cases, or_left, or_right, true≢false}
 use Rattle.action_names.specs.Names.{Name, has_name, is_ancestor, is_prefix, is_top, parent_of, same_name}
 use Rattle.action_names.proofs.Ancestry.{same_is, same_refl}
-use Rattle.local_agreement.specs.Actions.{is_child}
+use Rattle.guardian_laws.specs.Actions.{is_child}
 
 -- a test does not both pass and fail
 pub clash : {t : Bool} → t ≡ true → t ≡ false → ⊥

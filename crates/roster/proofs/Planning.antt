@@ -10,7 +10,7 @@ use Rattle.holders.specs.Held.{HasMoreRoom}
 use Rattle.run_model.specs.LocalReadings.{beside, least_of}
 use Rattle.roster.proofs.Added.{added_last}
 use Rattle.roster.proofs.Came.{beside_get}
-use Rattle.local_agreement.specs.Sent.{sent_of}
+use Rattle.guardian_laws.specs.Sent.{sent_of}
 use Rattle.roster.specs.Entries.{CanCount}
 use Rattle.roster.specs.Steps.{above}
 use Rattle.roster.specs.Tables.{Table, added, all_added, row_at}

@@ -10,7 +10,7 @@ use Rattle.run_model.specs.declared.step.Step.{Step}
 use Rattle.run_model.specs.declared.step.Step.TheVariants.{Commit}
 use Rattle.run_model.specs.Actions.{home_in, maker_in, names_begun}
 use Rattle.run_model.specs.LocalReadings.{least_of}
-use Rattle.local_agreement.specs.Sent.{Sent}
+use Rattle.guardian_laws.specs.Sent.{Sent}
 use Rattle.roster.specs.Steps.{above, closed_in, ended_in, turn_in}
 use Rattle.roster.specs.Tables.{Table, home_at, is_known, life_in, placed, row_at, said}
 use Rattle.roster.specs.declared.entry.Entry.{Entry}

@@ -5,7 +5,7 @@ use Rattle.action_names.specs.Names.{Name, IsName, is_ancestor, same_name}
 use Rattle.run_model.specs.declared.history.Event.{Event}
 use Rattle.run_model.specs.Actions.{begun, crashes, home_of, incarnation_of, is_begun, is_closed, is_down, is_ended, is_exactly, made_by, maker_of}
 use Rattle.run_model.specs.LocalReadings.{LocalEvent, dependency_here, events_here}
-use Rattle.local_agreement.specs.Actions.{is_new}
+use Rattle.guardian_laws.specs.Actions.{is_new}
 use Rattle.roster.specs.Tables.{Table, closed_at, depends_at, ended_at, home_at, is_known, life_at, maker_at, place_of, placed, unended_at}
 use Rattle.roster.specs.declared.roster.Roster.{Roster}
 

@@ -77,7 +77,7 @@ impl Entry {
 }
 
 ghost use Rattle.roster.specs.Steps.{turn_in};
-ghost use Rattle.local_agreement.specs.Sent.{sent_of};
+ghost use Rattle.guardian_laws.specs.Sent.{sent_of};
 ghost use Rattle.roster.specs.Entries.{IsIdle};
 
 /// What becomes of the guardian that keeps the step. Of crashes and recoveries it keeps its own.

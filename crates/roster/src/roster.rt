@@ -11,7 +11,7 @@ ghost use Rattle.run_model.specs.LocalReadings.{LocalEvent, dependency_here, eve
 ghost use Rattle.run_model.specs.Openings.{Held};
 ghost use Rattle.run_model.specs.Reopening.{life_before};
 ghost use Rattle.run_model.specs.StableContent.{Prepared};
-ghost use Rattle.local_agreement.specs.Actions.{AgreesOnActions};
+ghost use Rattle.guardian_laws.specs.Actions.{AgreesOnActions};
 
 use crate::entry::{Entry, Places, Row, Turn, depends_in, names_in, turn_in};
 use holders::Index;
@@ -32,7 +32,7 @@ pub struct Roster {
 }
 
 impl Roster {
-    ghost use Rattle.local_agreement.specs.Sent.{sent_of};
+    ghost use Rattle.guardian_laws.specs.Sent.{sent_of};
     ghost use Rattle.roster.specs.Entries.{FitsEntry, IsEntry};
     ghost use Rattle.roster.specs.Rosters.{IsRoster, crashes_of};
     ghost use Rattle.roster.specs.Tables.{table};
@@ -183,7 +183,7 @@ impl Roster {
 }
 
 impl Roster {
-    ghost use Rattle.local_agreement.specs.Sent.{sent_of};
+    ghost use Rattle.guardian_laws.specs.Sent.{sent_of};
     ghost use Rattle.roster.specs.Entries.{Adds, AreAbove, AreBorn, CanCount, FitsBegun, HaveRoom, IsBorn, IsClimbed, IsLeft, IsMerged};
     ghost use Rattle.roster.specs.Steps.{above, closed_in, ended_in};
     ghost use Rattle.roster.specs.Rosters.{crashes_of};

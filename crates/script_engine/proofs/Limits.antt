@@ -4,9 +4,9 @@ use Rattle.std.specs.List.{AllByRecursion}
 use Rattle.values.specs.declared.content.Content.{Content}
 use Rattle.script_model.specs.declared.checked.Checked.{Checked}
 use Rattle.script_model.specs.Resolved.{IsResolved}
-use Rattle.script_laws.specs.Laws.{HasFewObjects, IsWithinLimits}
-use Rattle.script_laws.proofs.Limits.{reading_keeps_limits}
-use Rattle.script_laws.proofs.Scripts.{reading_resolves}
+use Rattle.script_model.specs.Laws.{HasFewObjects, IsWithinLimits}
+use Rattle.script_model.proofs.Limits.{reading_keeps_limits}
+use Rattle.script_model.proofs.Scripts.{reading_resolves}
 use Rattle.run_model.specs.Openings.{Setup}
 use Rattle.limits.specs.Limits.{max_guardians}
 use Rattle.script_engine.specs.Running.{IsFit}

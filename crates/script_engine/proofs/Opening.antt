@@ -18,7 +18,7 @@ use Rattle.stable_store.specs.declared.kept.Prepared.{Prepared}
 use Rattle.stable_store.proofs.Maps.{get_is}
 use Rattle.stable_store.specs.Stored.{Stored}
 use Rattle.limits.specs.Limits.{max_objects}
-use Rattle.script_laws.specs.Laws.{HasFewObjects}
+use Rattle.script_model.specs.Laws.{HasFewObjects}
 use Rattle.run_model.specs.Openings.{Setup}
 use Rattle.script_engine.specs.Storing.{AreOpenedBy, HasOnly, Opens, laid_over}
 

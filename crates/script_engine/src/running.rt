@@ -2,7 +2,7 @@
 
 ghost use Rattle.std.specs.Prelude.{◌≡◌, ◌≤◌, ◌<◌, ◌++◌, ◌∷◌, [], length, map, IfErr, IfOk, OnOk, string_bytes};
 ghost use Rattle.script_model.specs.Resolved.{IsResolved};
-ghost use Rattle.script_laws.specs.Laws.{HasFewObjects};
+ghost use Rattle.script_model.specs.Laws.{HasFewObjects};
 ghost use Rattle.limits.specs.Limits.{max_guardians};
 ghost use Rattle.std.specs.Io.KnownBytes.{Appends};
 ghost use Rattle.run_model.specs.Runs.{new_world};
@@ -15,11 +15,11 @@ use argus_engine::{Fault, finish};
 use run_model::{ObjectId, Setup, SetupFault};
 use script::Checked;
 use stable_store::Stable;
-use stable_world::World;
 use std::alloc::{AllocError, Global};
 use std::collections::BTreeMap;
 use std::io::Write;
 use values::Content;
+use world::World;
 
 /// How a script was run: how its clients ended, and the bases that they left, of each guardian in order, by the number of the object.
 #[derive(Drop)]

@@ -4,7 +4,7 @@ ghost use Rattle.std.specs.Prelude.{◌≡◌, ◌≢◌, option_copied, ◌≤�
 ghost use Rattle.std.specs.FinMap.{get};
 ghost use Rattle.atomic_types.specs.Parts.{laid_where};
 ghost use Rattle.stable_store.specs.Held.{held, parts_in};
-ghost use Rattle.script_laws.specs.Laws.{HasFewObjects};
+ghost use Rattle.script_model.specs.Laws.{HasFewObjects};
 ghost use Rattle.values.specs.declared.content.Content.{Content};
 ghost use Rattle.std.specs.Io.KnownBytes.{Keeps};
 ghost use Rattle.argus_engine.specs.declared.engine.Fault.TheVariants.{Input, Output};

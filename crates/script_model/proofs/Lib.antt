@@ -1,0 +1,14 @@
+pub mod Steps
+pub mod Scopes
+pub mod Asking
+pub mod Expressions
+pub mod Bindings
+pub mod Operations
+pub mod Calls
+pub mod Statements
+pub mod Bodies
+pub mod Members
+pub mod Endings
+pub mod Handlers
+pub mod Scripts
+pub mod Limits

@@ -12,3 +12,4 @@ pub mod ScriptReading
 pub mod Reaching
 pub mod Resolved
 pub mod Documents
+pub mod Laws

@@ -7,6 +7,7 @@
 mod checked;
 mod expression;
 mod fault;
+mod laws;
 mod names;
 mod statement;
 
@@ -14,5 +15,6 @@ pub use atomic_types::{Arguments, Form, OpName};
 pub use checked::{Checked, Client, Handler};
 pub use expression::{Condition, Expr, IntExpr, TextExpr};
 pub use fault::{FaultKind, Pointer, ScriptFault};
+pub use laws::{reading_keeps_limits, reading_resolves};
 pub use names::{Gives, Sort};
 pub use statement::{Arm, Binding, HandlerCall, ObjectCall, Operation, Statement};

@@ -10,7 +10,7 @@ use Rattle.sqlite.specs.Effect.{Database}
 use Rattle.sqlite.specs.State.{State}
 use Rattle.sqlite.specs.Held.{Held, state}
 use Rattle.stable_store.specs.declared.fault.StoreFault.{StoreFault}
-use Rattle.store_contents.specs.Answered.{rows_of}
+use Rattle.store_tables.specs.Answered.{rows_of}
 use Rattle.sql_store.specs.Reading.{Quiets, ShowsTheSame, LooksUp, IsQueryText, IsAnswered, AreQueryTexts, AreAnswered}
 use Rattle.sql_store.proofs.Sequences.{and_checks, weaker_reads, one_answer, quiet_after}
 

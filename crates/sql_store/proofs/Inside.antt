@@ -15,7 +15,7 @@ use Rattle.sqlite.specs.Steps.{FailsToCommit}
 use Rattle.sqlite_trees.specs.declared.store.Store.{Ghosts}
 use Rattle.sqlite.specs.Held.{Held, state}
 use Rattle.stable_store.specs.Stored.{Stored}
-use Rattle.store_contents.specs.Holds.{IsStore}
+use Rattle.store_tables.specs.Holds.{IsStore}
 use Rattle.sql_store.specs.Steps.{While, IsAtRest, Stands, Carries, Sees, Stays, Steps}
 use Rattle.sql_store.proofs.Runs.{Means, runs_to}
 

@@ -5,7 +5,7 @@ use Rattle.sqlite.specs.State.{State}
 use Rattle.atomic_types.specs.declared.part.Part.{Part}
 use Rattle.stable_store.specs.Stored.{Stored, Record, laid, installed, after_install, after_discard}
 use Rattle.stable_store.specs.Numbers.{has_zero}
-use Rattle.store_contents.specs.Changes.{with_base, all_put}
+use Rattle.store_tables.specs.Changes.{with_base, all_put}
 use Rattle.sql_store.specs.Steps.{While, Stands}
 use Rattle.sql_store.proofs.Over.{record_above}
 

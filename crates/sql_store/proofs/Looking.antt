@@ -20,7 +20,7 @@ use Rattle.sqlite.proofs.Callers.{command_of, reads_as}
 use Rattle.sqlite_schema.specs.declared.command.Returning.{Returning}
 use Rattle.sqlite_resolve.specs.declared.compiled.Compiled.{Compiled}
 use Rattle.store_tables.specs.Tables.{stable_schema}
-use Rattle.store_tables.proofs.Parts.{went, same_value}
+use Rattle.store_tables.proofs.PartRows.{went, same_value}
 use Rattle.sql_store.specs.Reading.{Looks, RunsInside, IsQueryText, IsAnswered}
 use Rattle.sql_store.proofs.Queries.{shown_same, failed_leaves}
 use Rattle.sql_store.proofs.Inside.{keeps_then}

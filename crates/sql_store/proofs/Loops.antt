@@ -14,8 +14,8 @@ use Rattle.std.proofs.lemmas.Map.Keys.{sorted_head, sorted_tail}
 use Rattle.atomic_types.specs.declared.part.Part.{Part}
 use Rattle.stable_store.specs.Stored.{Stored, Record, after_discard}
 use Rattle.stable_store.specs.Numbers.{has_zero}
-use Rattle.store_contents.specs.Changes.{with_record}
-use Rattle.store_contents.proofs.Statements.{more, front_rises}
+use Rattle.store_tables.specs.Changes.{with_record}
+use Rattle.store_tables.proofs.Statements.{more, front_rises}
 
 below_keys : (es : List (ℕ × Part)) (x : ℕ) → AllByRecursion (λ y. nat_cmp x y ≡ Less) (keys_of es) → below_all nat_cmp x es ≡ true
 below_keys [] x h = refl

@@ -6,7 +6,7 @@ use Rattle.stable_store.specs.Stored.{Stored}
 use Rattle.stable_store.specs.declared.kept.Kept.{Kept}
 use Rattle.stable_store.specs.Held.{held}
 use Rattle.store_tables.specs.Tables.{stable_schema}
-use Rattle.store_contents.specs.Holds.{IsStore, IsLaidOut}
+use Rattle.store_tables.specs.Holds.{IsStore, IsLaidOut}
 use Rattle.sql_store.specs.Steps.{Stands}
 use Rattle.sql_store.specs.Reading.{Quiets, IsAlone, LooksUp}
 

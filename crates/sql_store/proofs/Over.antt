@@ -19,10 +19,10 @@ use Rattle.atomic_types.specs.Parts.{over}
 use Rattle.stable_store.specs.Stored.{Stored, Record, laid, values_of}
 use Rattle.stable_store.specs.Numbers.{has_zero}
 use Rattle.stable_store.proofs.Maps.{get_is, zero_found}
-use Rattle.store_contents.specs.Parts.{Base, HasPart, part_in}
-use Rattle.store_contents.specs.Holds.{IsStore}
-use Rattle.store_contents.specs.Changes.{all_put}
-use Rattle.store_contents.proofs.Numbers.{put_other}
+use Rattle.store_tables.specs.Parts.{Base, HasPart, part_in}
+use Rattle.store_tables.specs.Holds.{IsStore}
+use Rattle.store_tables.specs.Changes.{all_put}
+use Rattle.store_tables.proofs.Numbers.{put_other}
 use Rattle.sql_store.specs.Mirror.{over_each}
 
 keys_over : (es : List (ℕ × Part)) (base : Base) → keys_of (over_each es base) ≡ keys_of es

@@ -14,8 +14,8 @@ use Rattle.sqlite_tied.specs.Compute.{everything}
 use Rattle.sqlite.specs.Effect.{Database}
 use Rattle.sqlite.specs.Listing.{understood}
 use Rattle.stable_store.specs.Stored.{Stored}
-use Rattle.store_contents.specs.Shown.{ShowsNumber}
-use Rattle.store_contents.specs.Holds.{Holds, tables_of}
+use Rattle.store_tables.specs.Shown.{ShowsNumber}
+use Rattle.store_tables.specs.Holds.{Holds, tables_of}
 use Rattle.sql_store.specs.Reading.{IsQueryText, IsAnswered}
 use Rattle.sql_store.specs.Placed.{ArePlaced}
 use Rattle.sql_store.proofs.Queries.{numbers_query, shows, text_of}

@@ -17,9 +17,9 @@ use Rattle.stable_store.specs.Stored.{Stored}
 use Rattle.stable_store.specs.Numbers.{has_zero}
 use Rattle.store_tables.specs.Tables.{stable_schema}
 use Rattle.store_tables.proofs.Texts.{base_command, value_command}
-use Rattle.store_contents.specs.Changes.{with_base, all_put, with_record}
-use Rattle.store_contents.specs.Shown.{IsValue}
-use Rattle.store_contents.proofs.Tables.{InRange}
+use Rattle.store_tables.specs.Changes.{with_base, all_put, with_record}
+use Rattle.store_tables.specs.Shown.{IsValue}
+use Rattle.store_tables.proofs.Tables.{InRange}
 use Rattle.sql_store.specs.declared.waiting.PartText.{PartText}
 use Rattle.sql_store.specs.Steps.{While, Sees, Steps}
 use Rattle.sql_store.specs.Waiting.{AreTextsOf, parameters_of}

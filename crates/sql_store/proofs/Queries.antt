@@ -30,8 +30,8 @@ use Rattle.sqlite.proofs.Callers.{IsPlain, command_of, reads_as, never_commits}
 use Rattle.stable_store.specs.declared.fault.StoreFault.{StoreFault}
 use Rattle.store_tables.specs.Tables.{stable_schema}
 use Rattle.store_tables.proofs.Queries.{IsQuery, base_query, homes_query, values_query, deltas_query, decided_query}
-use Rattle.store_contents.specs.Holds.{IsViewOf, AreViews}
-use Rattle.store_contents.specs.Answered.{queries, answered}
+use Rattle.store_tables.specs.Holds.{IsViewOf, AreViews}
+use Rattle.store_tables.specs.Answered.{queries, answered}
 use Rattle.sql_store.specs.Reading.{IsQuiet, Quiets, ShowsTheSame, LooksUp, IsQueryText, IsAnswered, AreQueryTexts, AreAnswered}
 
 -- these columns of the rows of a table, in some order

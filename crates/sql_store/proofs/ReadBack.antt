@@ -11,9 +11,9 @@ use Rattle.stable_store.specs.declared.kept.Kept.{Kept}
 use Rattle.stable_store.specs.Held.{held}
 use Rattle.store_tables.specs.Tables.{stable_schema}
 use Rattle.store_tables.specs.Rows.{HaveRowids}
-use Rattle.store_contents.specs.Answered.{answered, queries, rows_of}
-use Rattle.store_contents.specs.Holds.{Holds, IsLaidOut}
-use Rattle.store_contents.proofs.Viewed.{held_by}
+use Rattle.store_tables.specs.Answered.{answered, queries, rows_of}
+use Rattle.store_tables.specs.Holds.{Holds, IsLaidOut}
+use Rattle.store_tables.proofs.Viewed.{held_by}
 use Rattle.sql_store.specs.Reading.{Looks, RunsInside, AreAnswered}
 use Rattle.sql_store.proofs.Queries.{views}
 use Rattle.sql_store.proofs.Rowids.{rowids_queries, all_keyed}

@@ -32,11 +32,11 @@ use Rattle.store_tables.proofs.Texts.{discard_command, discard_is, discard_plain
 use Rattle.store_tables.proofs.Decides.{plain_mode, cells, decides, puts_number, puts_base, puts_home, puts_values, puts_delta}
 use Rattle.store_tables.proofs.Discards.{discards}
 use Rattle.store_tables.proofs.Forgets.{forgets}
-use Rattle.store_contents.specs.Holds.{IsStore, greatest_next}
-use Rattle.store_contents.specs.Changes.{with_count, with_next, with_base, all_put, with_record, with_none_decided}
-use Rattle.store_contents.proofs.Tables.{InRange}
-use Rattle.store_contents.proofs.Statements.{more, spelled, FitsBase, FitsRecord, after_decides, after_counts, after_raises, after_puts_base, after_puts_home}
-use Rattle.store_contents.proofs.Statements.{after_puts_values, after_puts_delta, after_discards, after_forgets}
+use Rattle.store_tables.specs.Holds.{IsStore, greatest_next}
+use Rattle.store_tables.specs.Changes.{with_count, with_next, with_base, all_put, with_record, with_none_decided}
+use Rattle.store_tables.proofs.Tables.{InRange}
+use Rattle.store_tables.proofs.Statements.{more, spelled, FitsBase, FitsRecord, after_decides, after_counts, after_raises, after_puts_base, after_puts_home}
+use Rattle.store_tables.proofs.Statements.{after_puts_values, after_puts_delta, after_discards, after_forgets}
 use Rattle.sql_store.specs.Steps.{IsAtRest, Stands, Carries}
 
 abbrev pub writes_rows : Command → Type 0

@@ -10,9 +10,9 @@ use Rattle.atomic_types.specs.declared.part.Part.{Part}
 use Rattle.stable_store.specs.Stored.{Stored}
 use Rattle.stable_store.specs.Numbers.{has_zero}
 use Rattle.store_tables.proofs.Decides.{cells}
-use Rattle.store_contents.specs.Changes.{with_base, all_put}
-use Rattle.store_contents.specs.Shown.{IsValue}
-use Rattle.store_contents.proofs.Statements.{spelled, FitsBase, FitsRecord}
+use Rattle.store_tables.specs.Changes.{with_base, all_put}
+use Rattle.store_tables.specs.Shown.{IsValue}
+use Rattle.store_tables.proofs.Statements.{spelled, FitsBase, FitsRecord}
 use Rattle.sql_store.specs.declared.waiting.PartText.{PartText}
 use Rattle.sql_store.specs.Steps.{Stays, Steps}
 use Rattle.sql_store.specs.Waiting.{IsTextOf, AreTextsOf, HasOneMore, parameters_of, Waits, Takes}

@@ -4,7 +4,7 @@ use Rattle.std.specs.FinMap as map
 use Rattle.atomic_types.specs.declared.part.Part.{Part}
 use Rattle.atomic_types.specs.Parts.{over}
 use Rattle.stable_store.specs.Stored.{Record}
-use Rattle.store_contents.specs.Parts.{Base, Records}
+use Rattle.store_tables.specs.Parts.{Base, Records}
 
 -- the record that a top action had before, or none again
 abbrev pub record_back : ℕ → Option Record → Records → Records

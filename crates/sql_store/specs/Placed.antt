@@ -2,8 +2,8 @@
 use Rattle.std.specs.Prelude.{ℕ, List}
 use Rattle.sqlite.specs.Order.{Row}
 use Rattle.sqlite_rules.specs.Lists.{Has}
-use Rattle.store_contents.specs.Shown.{ShowsNumber}
-use Rattle.store_contents.specs.Holds.{numbers}
+use Rattle.store_tables.specs.Shown.{ShowsNumber}
+use Rattle.store_tables.specs.Holds.{numbers}
 
 -- the row shows one of the three numbers, in its place
 abbrev pub IsPlaced : ℕ → ℕ → Row → Type 0

@@ -4,7 +4,7 @@ use Rattle.sqlite.specs.Tree.{Trees}
 use Rattle.sqlite.specs.State.{State, HasCleanDisk, KeepsCommit}
 use Rattle.stable_store.specs.Stored.{Stored}
 use Rattle.store_tables.specs.Tables.{stable_schema}
-use Rattle.store_contents.specs.Holds.{IsStore}
+use Rattle.store_tables.specs.Holds.{IsStore}
 
 -- the database is a store with this content, and nothing waits for a commit
 pub record IsAtRest (s : State) (c : Stored) : Type 0 where

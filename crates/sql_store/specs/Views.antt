@@ -10,7 +10,7 @@ use Rattle.stable_store.specs.contracts.kept.Kept as kept_contract
 use Rattle.stable_store.specs.Stored.{Stored}
 use Rattle.stable_store.specs.Held.{held}
 use Rattle.stable_store.specs.Calls.{View}
-use Rattle.store_contents.specs.Holds.{IsStore}
+use Rattle.store_tables.specs.Holds.{IsStore}
 
 -- the content in maps, the connection, the failures, whether the schema is that of a store and nothing else, and whether
 -- the tables held a content when the store was opened

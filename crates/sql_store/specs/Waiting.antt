@@ -6,9 +6,9 @@ use Rattle.sqlite.specs.declared.error.Error.{Error}
 use Rattle.sqlite.specs.Order.{Row}
 use Rattle.sqlite.specs.State.{State}
 use Rattle.atomic_types.specs.declared.part.Part.{Part}
-use Rattle.part_texts.specs.PartTexts.{IsStoredPart, part_text}
+use Rattle.store_tables.specs.PartTexts.{IsStoredPart, part_text}
 use Rattle.stable_store.specs.Stored.{Stored}
-use Rattle.store_contents.specs.Shown.{greatest_number}
+use Rattle.store_tables.specs.Shown.{greatest_number}
 use Rattle.sql_store.specs.declared.waiting.PartText.{PartText}
 use Rattle.sql_store.specs.Steps.{Steps}
 

@@ -3,8 +3,8 @@ ghost use Rattle.std.specs.Prelude.{◌≡◌, ◌<◌, false, IfOk, IsTrue, len
 ghost use Rattle.sqlite.specs.Held.{state};
 ghost use Rattle.sqlite.specs.State.{HasCleanDisk};
 ghost use Rattle.stable_store.specs.Held.{held};
-ghost use Rattle.store_contents.specs.Answered.{rows_of};
-ghost use Rattle.store_contents.specs.Holds.{Holds, IsLaidOut, tables_of};
+ghost use Rattle.store_tables.specs.Answered.{rows_of};
+ghost use Rattle.store_tables.specs.Holds.{Holds, IsLaidOut, tables_of};
 ghost use Rattle.store_tables.specs.Rows.{HaveRowids};
 ghost use Rattle.sql_store.specs.Reading.{IsQueryText, IsAnswered, AreQueryTexts, AreAnswered, Quiets, LooksUp, StaysOut};
 
@@ -13,7 +13,7 @@ use crate::layout::{READ_COUNT, number_named};
 use sqlite::{Alter, Connection, Row};
 use stable_store::{Kept, StoreFault};
 use std::alloc::Global;
-use store_contents::{FIRST_QUERIES, QUERIES, ROWIDS, all_rise, content_of, first_content_of};
+use store_tables::{FIRST_QUERIES, QUERIES, ROWIDS, all_rise, content_of, first_content_of};
 
 /// The rows that a query with no parameters answers.
 pub(crate) fn answer<A: Alter>(

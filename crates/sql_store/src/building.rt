@@ -4,9 +4,9 @@ ghost use Rattle.sqlite.specs.Held.{state};
 ghost use Rattle.sqlite.specs.State.{HasCleanDisk, Survives};
 ghost use Rattle.stable_store.specs.Held.{held};
 ghost use Rattle.store_tables.specs.Tables.{stable_schema};
-ghost use Rattle.store_contents.specs.Answered.{rows_of};
+ghost use Rattle.store_tables.specs.Answered.{rows_of};
 ghost use Rattle.sql_store.specs.declared.layout.Layout.TheVariants.{Second};
-ghost use Rattle.store_contents.specs.Holds.{IsLaidOut};
+ghost use Rattle.store_tables.specs.Holds.{IsLaidOut};
 ghost use Rattle.sql_store.specs.Reading.{RunsInside, Works, Looks, IsQueryText, IsAnswered, AreQueryTexts, AreAnswered};
 
 use crate::faults::fault_of;
@@ -19,7 +19,7 @@ use sqlite::{Alter, Row, Transaction};
 use stable_store::{GREATEST_COUNT, Kept, Prepared, StoreFault};
 use std::alloc::Global;
 use std::collections::BTreeMap;
-use store_contents::{QUERIES, ROWIDS, all_rise, content_of};
+use store_tables::{QUERIES, ROWIDS, all_rise, content_of};
 
 /// The texts that make the tables of version 1, in the order in which a reference finds its parent.
 const FIRST_TABLES: [&str; 5] = [

@@ -5,15 +5,15 @@ ghost use Rattle.std.specs.FinMap.{get, from_entries};
 ghost use Rattle.stable_store.specs.Held.{held, parts_in, record_of, records_of};
 ghost use Rattle.stable_store.specs.Stored.{laid, values_of as values_spec};
 ghost use Rattle.stable_store.specs.Numbers.{has_zero};
-ghost use Rattle.store_contents.specs.Changes.{all_put};
+ghost use Rattle.store_tables.specs.Changes.{all_put};
 ghost use Rattle.sql_store.specs.Mirror.{record_back};
 
 use atomic_types::Part;
-use part_texts::{one_part_spelling, part_text};
 use stable_store::laid::part_over;
 use stable_store::{Kept, Prepared};
 use std::alloc::{AllocError, Global};
 use std::collections::{BTreeMap, BTreeSet};
+use store_tables::{one_part_spelling, part_text};
 use values::Content;
 
 /// Gives a top action the record back that it had before, or none. This takes no memory.

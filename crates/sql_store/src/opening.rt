@@ -7,7 +7,7 @@ ghost use Rattle.stable_store.specs.Held.{held};
 ghost use Rattle.store_tables.specs.Tables.{no_schema, stable_schema};
 ghost use Rattle.sql_store.specs.declared.layout.Layout.TheVariants.{Second};
 ghost use Rattle.sql_store.specs.Steps.{Stands};
-ghost use Rattle.store_contents.specs.Holds.{IsLaidOut};
+ghost use Rattle.store_tables.specs.Holds.{IsLaidOut};
 ghost use Rattle.sql_store.specs.Reading.{Quiets, LooksUp, Knows};
 
 use crate::asking::{read_first, read_store};
@@ -18,7 +18,7 @@ use crate::places::have_places;
 use sqlite::{Alter, Connection};
 use stable_store::{Kept, StoreFault};
 use std::alloc::Global;
-use store_contents::one_content_is_held;
+use store_tables::one_content_is_held;
 
 const READ_VERSION: &str = "SELECT v FROM meta WHERE k = 'version'";
 

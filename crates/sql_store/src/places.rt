@@ -6,7 +6,7 @@ ghost use Rattle.sqlite_value.specs.Value.{owned};
 ghost use Rattle.sqlite.specs.Held.{state};
 ghost use Rattle.sqlite.specs.State.{HasCleanDisk};
 ghost use Rattle.stable_store.specs.Stored.{Stored};
-ghost use Rattle.store_contents.specs.Holds.{Holds, tables_of};
+ghost use Rattle.store_tables.specs.Holds.{Holds, tables_of};
 ghost use Rattle.sql_store.specs.Reading.{Quiets, LooksUp};
 ghost use Rattle.sql_store.specs.Placed.{IsPlaced, ArePlaced};
 

@@ -9,8 +9,8 @@ ghost use Rattle.atomic_types.specs.declared.part.Part.{Part as Spec};
 ghost use Rattle.atomic_types.specs.declared.part.Part.TheVariants.{Delta};
 ghost use Rattle.stable_store.specs.Stored.{Stored};
 ghost use Rattle.stable_store.specs.Numbers.{has_zero};
-ghost use Rattle.store_contents.specs.Shown.{IsValue};
-ghost use Rattle.store_contents.specs.Changes.{with_record};
+ghost use Rattle.store_tables.specs.Shown.{IsValue};
+ghost use Rattle.store_tables.specs.Changes.{with_record};
 ghost use Rattle.sql_store.specs.Steps.{Sees, Stays, Steps};
 ghost use Rattle.sql_store.specs.Waiting.{IsTextOf, AreTextsOf, Waits, Takes};
 

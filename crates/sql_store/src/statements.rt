@@ -4,7 +4,7 @@ ghost use Rattle.sqlite.specs.Held.{state};
 ghost use Rattle.stable_store.specs.Stored.{Stored, after_prepare, after_discard, after_decide, greatest_count};
 ghost use Rattle.stable_store.specs.Numbers.{has_zero};
 ghost use Rattle.sql_store.specs.Steps.{While, Stands, Carries};
-ghost use Rattle.store_contents.specs.Changes.{with_count, with_base, with_none_decided, all_put};
+ghost use Rattle.store_tables.specs.Changes.{with_count, with_base, with_none_decided, all_put};
 
 use crate::faults::BUSY;
 use crate::parameters::{great_number, number};

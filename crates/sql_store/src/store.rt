@@ -9,7 +9,7 @@ use stable_store::{Kept, Stable, StoreFault};
 use std::alloc::Global;
 use std::collections::BTreeMap;
 use std::marker::Model;
-use store_contents::one_content_is_held;
+use store_tables::one_content_is_held;
 use values::Content;
 
 /// A store in the tables of a database, with the content that they stand for.

@@ -6,9 +6,9 @@ ghost use Rattle.sql_store.specs.Waiting.{HasOneMore, parameters_of};
 
 use crate::parameters::{number, words};
 use atomic_types::Part;
-use part_texts::part_text;
 use sqlite::types::ValueRef;
 use std::alloc::{AllocError, Global};
+use store_tables::part_text;
 
 /// How many parts one statement writes.
 pub(crate) const RUN: usize = 16;

@@ -1,11 +1,11 @@
 //! Contents of stores, as rows write and show them.
 use atomic_types::Part;
-use part_texts::{part_from_text, part_text};
 use rows::{RowFault, Words};
 use stable_store::Kept;
 use std::alloc::{AllocError, Global};
 use std::collections::BTreeMap;
 use std::fmt::Write;
+use store_tables::{part_from_text, part_text};
 use values::{Content, ValueFault};
 
 /// The next word as the number of an object, a top action or a guardian.

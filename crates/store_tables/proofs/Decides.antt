@@ -23,8 +23,8 @@ use Rattle.store_tables.specs.Tables.{stable_schema, decided, base, meta, prepar
 use Rattle.sqlite.specs.Source.TheVariants.{Values}
 use Rattle.store_tables.proofs.Texts.{decide_command, key_terms, base_command, pair_terms, record_command}
 use Rattle.store_tables.proofs.Texts.{value_command, part_terms, delta_command, number_terms, number_command}
-use Rattle.store_tables.proofs.Parts.{went, same_value, PutsRow, ReplacesRow, PutsNext, ReplacesNext, InTurn, turned, made_of}
-use Rattle.store_tables.proofs.Parts.{replaced, replaced_each, inserted, inserted_each}
+use Rattle.store_tables.proofs.PartRows.{went, same_value, PutsRow, ReplacesRow, PutsNext, ReplacesNext, InTurn, turned, made_of}
+use Rattle.store_tables.proofs.PartRows.{replaced, replaced_each, inserted, inserted_each}
 
 either : (b : Bool) (x : Value) → cond b x x ≡ x
 either true x = refl

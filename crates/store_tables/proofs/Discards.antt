@@ -35,7 +35,7 @@ use Rattle.store_tables.proofs.Texts.{discard_query, discard_command}
 use Rattle.store_tables.proofs.Keys.{equal_number, int_key, equal_is}
 use Rattle.store_tables.proofs.Finds.{none_found}
 use Rattle.store_tables.proofs.Finds.{find_cases}
-use Rattle.store_tables.proofs.Parts.{went, same_value}
+use Rattle.store_tables.proofs.PartRows.{went, same_value}
 use Rattle.store_tables.proofs.Decides.{plain_mode, prepared_table}
 use Rattle.store_tables.proofs.Placed.{Placed, ints}
 use Rattle.store_tables.proofs.Cascade.{work, works_are, ended, Cascades, CascadesTwice, cascades, values_table, deltas_table}

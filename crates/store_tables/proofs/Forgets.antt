@@ -24,7 +24,7 @@ use Rattle.store_tables.specs.Rows.{row_at}
 use Rattle.store_tables.proofs.Texts.{forget_query, forget_command}
 use Rattle.store_tables.proofs.Keys.{tied_id}
 use Rattle.store_tables.proofs.Finds.{find_gone}
-use Rattle.store_tables.proofs.Parts.{went, same_value, TakesRows}
+use Rattle.store_tables.proofs.PartRows.{went, same_value, TakesRows}
 use Rattle.store_tables.proofs.Decides.{plain_mode, decided_table, decided_quiet}
 use Rattle.store_tables.proofs.Placed.{Placed, ints}
 

@@ -2,7 +2,7 @@ pub mod Texts
 pub mod Queries
 pub mod Keys
 pub mod Finds
-pub mod Parts
+pub mod PartRows
 pub mod Decides
 pub mod Means
 pub mod Placed
@@ -10,3 +10,13 @@ pub mod Cascade
 pub mod Discards
 pub mod Forgets
 pub mod Items
+mod PartTexts
+pub mod Numbers
+pub mod Listed
+pub mod Tables
+pub mod Records
+pub mod Statements
+pub mod Viewed
+mod Same
+mod Read
+mod Rising

@@ -2,3 +2,13 @@ pub mod Tables
 pub mod Texts
 pub mod Rows
 pub mod Known
+pub mod PartTexts
+pub mod Listed
+pub mod Shown
+pub mod Parts
+pub mod Holds
+pub mod Grown
+pub mod Spellings
+pub mod Answered
+pub mod Rising
+pub mod Changes

@@ -3,3 +3,4 @@ pub mod Inserted
 pub mod Lines
 pub mod Placing
 pub mod Standings
+pub mod Going

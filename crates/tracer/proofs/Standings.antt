@@ -5,7 +5,7 @@ use Rattle.action_names.specs.Names.{Name, top_of}
 use Rattle.run_model.specs.declared.history.Event.{Event}
 use Rattle.run_model.specs.Actions.{begins, home_in, home_of, is_begun}
 use Rattle.run_model.specs.Visibility.{has_prepared, is_lost, votes_yes}
-use Rattle.history_facts.proofs.Going.{any_begins}
+use Rattle.tracer.proofs.Going.{any_begins}
 use Rattle.tracer.specs.declared.orphans.Standing.{Standing}
 use Rattle.tracer.specs.Losses.{IsStanding}
 

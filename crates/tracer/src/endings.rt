@@ -9,8 +9,8 @@ ghost use Rattle.run_model.specs.Visibility.{is_visible};
 ghost use Rattle.tracer.specs.Endings.{AreEndings, place_at};
 ghost use Rattle.tracer.specs.Places.{place_numbers, step_number};
 
+use crate::actions::ancestors;
 use crate::place::{ClosingStep, Place};
-use history_facts::actions::ancestors;
 use run_model::{Event, History, Name, Step};
 use std::alloc::{AllocError, Global};
 use std::collections::{BTreeMap, BTreeSet};

@@ -10,10 +10,10 @@ ghost use Rattle.run_model.specs.Explaining.{explanation};
 ghost use Rattle.tracer.specs.Endings.{AreEndings};
 ghost use Rattle.tracer.specs.Explained.{listed, AreByPlace, IsPlaced, Explains, IsReplayed};
 
+use crate::actions::is_begun;
 use crate::endings::Endings;
 use crate::orphans::is_orphan;
 use crate::place::Place;
-use history_facts::actions::is_begun;
 use run_model::{Answer, Event, History, Name, ObjectId, Op, Reply, Step};
 use std::alloc::{AllocError, Global};
 use std::collections::BTreeMap;

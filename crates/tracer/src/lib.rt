@@ -4,10 +4,12 @@
 //! whether the action is an orphan it is gone over once more for each ancestor, and for each action of its tree that it sees.
 #![tactic(auto)]
 
+mod actions;
 mod endings;
 mod explained;
 mod orphans;
 mod place;
+mod steps;
 mod text;
 
 pub use explained::{Explained, Performed, explain};

@@ -8,9 +8,9 @@ ghost use Rattle.run_model.specs.Visibility.{has_prepared, is_lost, is_orphan, v
 ghost use Rattle.tracer.specs.Endings.{AreEndings};
 ghost use Rattle.tracer.specs.Losses.{IsStanding, is_seen_loss};
 
+use crate::actions::{ancestors, begins, is_aborted};
 use crate::endings::Endings;
-use history_facts::actions::{ancestors, begins, is_aborted};
-use history_facts::steps::{crashes, is_path, names_begun};
+use crate::steps::{crashes, is_path, names_begun};
 use run_model::{Answer, Event, History, Name, Step};
 use std::alloc::{AllocError, Global};
 

@@ -4,3 +4,4 @@ pub mod Under
 pub mod Joining
 pub mod Owners
 pub mod Stacked
+pub mod Amounts

@@ -1,11 +1,18 @@
-//! The world of guardians in memory: it is given steps, one after another, and answers each as the definitions say.
+//! The world of guardians over stable stores: it is given steps, one after another, and answers each as the definitions say.
 //!
-//! What happened is its opening and its history, which is always a run; how the answers are found is the business of
-//! `stable_world`, whose stores are here in memory alone. A service that needs no other stores stands on this one.
+//! Its guardians know their own histories alone, and reach their stores by the trait `Stable`; what a step leaves of each store is said with its
+//! answer. `world_steps` makes a step of them.
 #![tactic(auto)]
 
+mod beginning;
+mod reopening;
 mod world;
 
-pub use histories::PackedHistory;
+pub use guardian::Guardian;
+pub use layer_contracts::Fault;
+pub use packed_history::PackedHistory;
+pub use registry::Registry;
 pub use run_model::{Answer, Event, Held, History, Opening, Part, Setup, Step};
+pub use stable_store::{PlainStable, Stable};
+pub use store_recovery::Refused;
 pub use world::World;

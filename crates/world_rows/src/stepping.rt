@@ -2,7 +2,7 @@
 use crate::system::System;
 use rows::{RowFault, again};
 use run_model::{Answer, Step};
-use stable_world::Fault;
+use world::Fault;
 
 /// Room for what is written before an answer.
 const ROOM: usize = 64;

@@ -3,8 +3,8 @@
 use rows::RowFault;
 use run_model::{Answer, Content, ObjectId, Setup, Step};
 use stable_store::Kept;
-use stable_world::Fault;
 use std::alloc::{AllocError, Global};
+use world::Fault;
 
 /// Guardians over their stores.
 pub(crate) trait System: Drop {

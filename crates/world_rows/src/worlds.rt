@@ -3,8 +3,8 @@ use crate::system::{Failing, System, Unopened};
 use rows::RowFault;
 use run_model::{Answer, Content, ObjectId, Setup, Step};
 use stable_store::{FailOnce, Kept, PlainStable, Stable};
-use stable_world::{Fault, Refused, World};
 use std::alloc::{AllocError, Global};
+use world::{Fault, Refused, World};
 
 /// A store in memory of which one call may fail.
 type Store = FailOnce<PlainStable>;

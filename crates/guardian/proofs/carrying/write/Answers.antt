@@ -2,7 +2,7 @@ use Rattle.std.proofs.Common.{None, Some, ap, subst, sym, ◌∙◌}
 use Rattle.layer_contracts.specs.Guardians.{stamped}
 use Rattle.layer_contracts.specs.Stores.{LeavesStore}
 use Rattle.layer_contracts.proofs.Stores.{refused_before, stays_same}
-use Rattle.stored_laws.specs.Stored.{after_event, asks_store}
+use Rattle.guardian_laws.specs.Stored.{after_event, asks_store}
 use Rattle.guardian.proofs.Stores.{answers, fault_of, memory_in}
 use Rattle.guardian.proofs.carrying.write.Goals as goal
 

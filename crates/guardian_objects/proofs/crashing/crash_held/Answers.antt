@@ -4,8 +4,8 @@ use Rattle.std.specs.Map.{values_of}
 use Rattle.std.specs.Map.Iter.{deref}
 use Rattle.std.proofs.lemmas.List.{drop_all}
 use Rattle.std.proofs.lemmas.Map.Iter.{rest_more}
-use Rattle.held_objects.specs.Held.{IsHeld, is_in_row}
-use Rattle.held_objects.proofs.Descendants.{next_left}
+use Rattle.guardian_index.specs.Held.{IsHeld, is_in_row}
+use Rattle.guardian_index.proofs.Descendants.{next_left}
 use Rattle.guardian_objects.specs.Crashes.{HasCrashed}
 use Rattle.guardian_objects.specs.Turns.{AreChanged}
 use Rattle.guardian_objects.proofs.Crashed.{all_crashed, row_crashed, rows_crash}

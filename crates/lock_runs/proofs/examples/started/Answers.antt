@@ -1,10 +1,10 @@
 use Rattle.std.proofs.Common.{[], ap, subst, sym, ◌∙◌, ◌≡◌}
 use Rattle.guardian.specs.Guardians.{IsWhole}
-use Rattle.layered_world.specs.Standings.{IsWorld}
+use Rattle.world_steps.specs.Standings.{IsWorld}
 use Rattle.registry.specs.Registries.{StandsIn}
 use Rattle.run_model.specs.Openings.{opening_in}
 use Rattle.stable_store.specs.Plain.{plain_view}
-use Rattle.stable_world.specs.Worlds.{seen_of}
+use Rattle.world.specs.Worlds.{seen_of}
 use Rattle.lock_runs.proofs.examples.started.Goals as goal
 
 pub returns : goal.returns

@@ -1,6 +1,6 @@
 use Rattle.std.proofs.Common.{cond, subst, sym, ◌-◌, ◌≤◌}
 use Rattle.one_run.specs.Pieces.{seen_of}
-use Rattle.layered_world.specs.Standings.{standing}
+use Rattle.world_steps.specs.Standings.{standing}
 use Rattle.locked_run.specs.Acting.{StoreAfter, has_added, outcome_of}
 use Rattle.locked_run.specs.Parts.{HasGuardian}
 use Rattle.locked_run.proofs.ByItself.{alone_back, alone_since, locked_alone, seen_alone}

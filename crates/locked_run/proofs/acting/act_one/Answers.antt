@@ -1,6 +1,6 @@
 use Rattle.std.proofs.Common.{ap, cond, refl, subst, sym, ◌-◌, ◌∙◌, ◌≡◌, ◌≤◌}
 use Rattle.one_run.specs.Pieces.{seen_of}
-use Rattle.layered_world.specs.Standings.{standing}
+use Rattle.world_steps.specs.Standings.{standing}
 use Rattle.locked_run.specs.Acting.{StoreAfter, has_added, outcome_of}
 use Rattle.locked_run.specs.Parts.{AreLocked}
 use Rattle.locked_run.proofs.Under.{fits_two, held_again, left_alone_is, left_alone_there, left_is, left_there, locked_two, one_since, registry_since, seen_two, still_enough, two_back}

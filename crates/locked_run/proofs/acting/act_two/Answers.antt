@@ -1,6 +1,6 @@
 use Rattle.std.proofs.Common.{ap, cond, refl, subst, sym, ◌-◌, ◌∙◌, ◌≡◌, ◌≤◌}
 use Rattle.one_run.specs.Pieces.{seen_of}
-use Rattle.layered_world.specs.Standings.{standing}
+use Rattle.world_steps.specs.Standings.{standing}
 use Rattle.locked_run.specs.Acting.{StoreAfter, has_added, outcome_of}
 use Rattle.locked_run.specs.Parts.{AreLocked}
 use Rattle.locked_run.proofs.Under.{first_since, fits_three, held_again, left_alone_is, left_alone_there, left_is, left_there, locked_three, second_since, seen_three, still_enough, third_since, three_back}

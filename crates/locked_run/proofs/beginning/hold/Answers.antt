@@ -3,7 +3,7 @@ use Rattle.std.proofs.lemmas.Iterator.Adapters.{YieldsList-from_vec}
 use Rattle.std.proofs.lemmas.Iterator.Consumers.{YieldsList-end, YieldsList-turn}
 use Rattle.std.proofs.lemmas.List.{length-append}
 use Rattle.std.proofs.lemmas.Option.{slice_get-get_or}
-use Rattle.layered_world.specs.Standings.{standing}
+use Rattle.world_steps.specs.Standings.{standing}
 use Rattle.locked_run.specs.Beginning.{held_first, held_from}
 use Rattle.locked_run.proofs.Begun.{first_place, held_at, held_more, other_places, seen_first}
 use Rattle.locked_run.proofs.beginning.hold.Goals as goal

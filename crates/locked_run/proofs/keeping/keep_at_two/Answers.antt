@@ -4,7 +4,7 @@ use Rattle.one_run.specs.Rules.{Adds, MayAdd}
 use Rattle.run_model.specs.declared.history.Event.{Event}
 use Rattle.run_model.specs.Runs.{IsRun}
 use Rattle.layer_contracts.specs.Guardians.{event_of}
-use Rattle.layered_world.specs.Standings.{forest_of, standing}
+use Rattle.world_steps.specs.Standings.{forest_of, standing}
 use Rattle.shared_run.specs.Places.{touches}
 use Rattle.locked_run.specs.Acting.{StoreAfter}
 use Rattle.locked_run.specs.Acting.Outcome.{failed}

@@ -1,13 +1,13 @@
 use Rattle.std.proofs.Common.{refl, subst, sym}
 use Rattle.run_model.specs.LocalReadings.{Carried}
-use Rattle.stored_laws.specs.Stored.{after_event, asks_store}
+use Rattle.guardian_laws.specs.Stored.{after_event, asks_store}
 use Rattle.local_laws.specs.Owed.{IsOwed}
-use Rattle.local_agreement.specs.Laws.{Agrees}
+use Rattle.guardian_laws.specs.Laws.{Agrees}
 use Rattle.layer_contracts.specs.Guardians.{by_itself, event_of, stamped}
 use Rattle.layer_contracts.specs.Stores.{Leaves, LeavesStore, fault_in}
 use Rattle.layer_contracts.specs.declared.guardian.Fault.TheVariants.{Memory}
 use Rattle.layer_contracts.proofs.Stores.{refused_before}
-use Rattle.lent_steps.proofs.Stores.{leaves_from, with_fault}
+use Rattle.world_steps.proofs.Stores.{leaves_from, with_fault}
 use Rattle.locked_run.proofs.own.keep_by_itself.Goals as goal
 
 -- out of memory before its store was called

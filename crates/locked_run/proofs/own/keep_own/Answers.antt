@@ -3,7 +3,7 @@ use Rattle.one_run.specs.Pieces.{seen_of}
 use Rattle.one_run.specs.Rules.{Adds, MayAdd}
 use Rattle.run_model.specs.Runs.{IsRun}
 use Rattle.layer_contracts.specs.Guardians.{event_of}
-use Rattle.layered_world.specs.Standings.{standing}
+use Rattle.world_steps.specs.Standings.{standing}
 use Rattle.shared_run.specs.Places.{touches}
 use Rattle.locked_run.specs.Acting.{StoreAfter}
 use Rattle.locked_run.specs.Acting.Outcome.{failed}

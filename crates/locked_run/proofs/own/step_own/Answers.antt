@@ -1,7 +1,7 @@
 use Rattle.std.proofs.Common.{refl, sym, ◌∙◌}
 use Rattle.one_run.specs.Pieces.{seen_of}
 use Rattle.layer_contracts.specs.declared.guardian.Fault.TheVariants.{Memory}
-use Rattle.layered_world.specs.Standings.{standing}
+use Rattle.world_steps.specs.Standings.{standing}
 use Rattle.locked_run.specs.Acting.Outcome.{elsewhere, failed}
 use Rattle.locked_run.proofs.Acted.{moved_only, store_refused}
 use Rattle.locked_run.proofs.ByItself.{none_told, own_answers, own_same, some_told}

@@ -1,8 +1,8 @@
 use Rattle.std.proofs.Common.{ap, length, subst, sym, None, ◌∙◌, ◌≡◌, ◌&&◌}
 use Rattle.one_run.specs.Pieces.{seen_of}
 use Rattle.run_model.specs.Answers.{answer_of}
-use Rattle.layered_world.specs.Standings.{forest_of}
-use Rattle.layered_world.proofs.Led.{answers_alone}
+use Rattle.world_steps.specs.Standings.{forest_of}
+use Rattle.world_steps.proofs.Led.{answers_alone}
 use Rattle.locked_run.specs.Acting.{IsAnswered, is_out}
 use Rattle.locked_run.proofs.Acted.{answered_only}
 use Rattle.locked_run.proofs.Named.{counted_is, names_are, nobody_is, refused_nobody, uncovered}

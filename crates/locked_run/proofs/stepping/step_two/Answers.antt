@@ -1,9 +1,9 @@
 use Rattle.std.proofs.Common.{inl, refl, sym, ◌∙◌}
 use Rattle.one_run.specs.Pieces.{seen_of}
 use Rattle.layer_contracts.specs.declared.guardian.Fault.TheVariants.{Memory}
-use Rattle.layered_world.specs.Standings.{forest_of, standing}
-use Rattle.layered_world.proofs.Agreed.{tellable_lent}
-use Rattle.layered_world.proofs.Led.{answers_two}
+use Rattle.world_steps.specs.Standings.{forest_of, standing}
+use Rattle.world_steps.proofs.WorldAgreed.{tellable_lent}
+use Rattle.world_steps.proofs.Led.{answers_two}
 use Rattle.locked_run.specs.Acting.Outcome.{elsewhere, failed}
 use Rattle.locked_run.proofs.Acted.{moved_only, store_refused}
 use Rattle.locked_run.proofs.Named.{names_two_are, two_is}

@@ -5,7 +5,7 @@ use Rattle.std.proofs.lemmas.Result.{IfOk-weaker}
 use Rattle.action_names.specs.Deps.{Deps}
 use Rattle.run_model.specs.LocalReadings.{least_of}
 use Rattle.roster.proofs.Planning.{least_at, least_end, least_past}
-use Rattle.local_agreement.specs.Sent.{sent_of}
+use Rattle.guardian_laws.specs.Sent.{sent_of}
 use Rattle.roster.proofs.entry.depends_in.Goals as goal
 
 pub returns-then-eq : goal.returns-then-eq

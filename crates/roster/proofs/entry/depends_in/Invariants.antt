@@ -1,6 +1,6 @@
 use Rattle.std.proofs.Common.{drop, ℕ, ◌≡◌}
 use Rattle.run_model.specs.LocalReadings.{least_of}
-use Rattle.local_agreement.specs.Sent.{sent_of}
+use Rattle.guardian_laws.specs.Sent.{sent_of}
 use Rattle.roster.proofs.entry.depends_in.Given as goal
 
 -- what came of the action is what came of it in the rest

@@ -1,5 +1,5 @@
 use Rattle.serde_json.specs.View.{view}
-use Rattle.script_laws.proofs.Scripts.{reading_resolves}
+use Rattle.script_model.proofs.Scripts.{reading_resolves}
 use Rattle.script.proofs.Guardians.{handlers_have_guardians}
 use Rattle.script.proofs.reader.check.Goals as goal
 

@@ -1,6 +1,6 @@
 use Rattle.std.proofs.Common.{ap, arith, get_or, length, subst, sym, ◌<◌, ◌≡◌, ◌∙◌}
 use Rattle.std.proofs.lemmas.List.{length-take-le}
-use Rattle.script_laws.specs.Laws.{HasFewObjects}
+use Rattle.script_model.specs.Laws.{HasFewObjects}
 use Rattle.script_engine.proofs.Limits.{few_at, room_for}
 use Rattle.script_engine.proofs.running.setup_of.Goals as goal
 

@@ -1,7 +1,7 @@
 use Rattle.std.proofs.Common.{None, Some, ap, arith, get_or, length, map, subst, sym, ◌+◌, ◌<◌, ◌≡◌, ◌∙◌}
 use Rattle.std.proofs.lemmas.List.{length_push}
 use Rattle.stable_store.specs.Held.{held}
-use Rattle.script_laws.specs.Laws.{HasFewObjects}
+use Rattle.script_model.specs.Laws.{HasFewObjects}
 use Rattle.script_engine.specs.Storing.{found_in, Opens}
 use Rattle.script_engine.proofs.Limits.{few_at, room_for}
 use Rattle.script_engine.proofs.Opening.{few_laid, found_at, none_in, one_more_opened, refused_at, some_in}

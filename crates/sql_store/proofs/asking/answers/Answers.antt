@@ -3,7 +3,7 @@ use Rattle.std.proofs.lemmas.List.{map-append, take_all, length-map}
 use Rattle.std.proofs.lemmas.Result.{err_from_is_err_and}
 use Rattle.sqlite.specs.Held.{state}
 use Rattle.sqlite.specs.Order.{Row}
-use Rattle.store_contents.specs.Answered.{rows_of}
+use Rattle.store_tables.specs.Answered.{rows_of}
 use Rattle.sql_store.specs.Reading.{AreAnswered, IsAnswered, LooksUp}
 use Rattle.sql_store.proofs.Sequences.{weaker_reads}
 use Rattle.sql_store.proofs.Asked.{Asked, quiet_mid, one_asked, none_asked, next_text, text_at, no_text, given_up, all_asked}

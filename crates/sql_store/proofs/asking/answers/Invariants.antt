@@ -1,6 +1,6 @@
 use Rattle.std.proofs.Common.{map, take, Ok}
 use Rattle.sqlite.specs.Held.{state}
-use Rattle.store_contents.specs.Answered.{rows_of}
+use Rattle.store_tables.specs.Answered.{rows_of}
 use Rattle.sql_store.specs.Reading.{AreQueryTexts, Quiets, StaysOut}
 use Rattle.sql_store.proofs.Asked.{Asked}
 use Rattle.sql_store.proofs.asking.answers.Given as goal

@@ -6,7 +6,7 @@ use Rattle.sqlite_trees.specs.View.{IsShaped}
 use Rattle.sqlite_trees.specs.declared.store.Shape.TheVariants.{Table}
 use Rattle.sqlite.specs.Held.{state}
 use Rattle.sqlite.specs.Order.{Row}
-use Rattle.store_contents.specs.Answered.{rows_of}
+use Rattle.store_tables.specs.Answered.{rows_of}
 use Rattle.store_tables.specs.Rows.{HaveRowids}
 use Rattle.sql_store.specs.Reading.{AreAnswered}
 use Rattle.sql_store.proofs.Rowids.{rowids_queries, are_rowids_queries, all_keyed}

@@ -3,9 +3,9 @@ use Rattle.std.proofs.lemmas.Result.{err_from_is_err_and}
 use Rattle.sqlite.specs.Held.{state}
 use Rattle.sqlite.specs.Order.{Row}
 use Rattle.stable_store.specs.Held.{held}
-use Rattle.store_contents.specs.Answered.{answered, queries, rows_of}
-use Rattle.store_contents.specs.Holds.{Holds, tables_of}
-use Rattle.store_contents.proofs.Viewed.{held_by}
+use Rattle.store_tables.specs.Answered.{answered, queries, rows_of}
+use Rattle.store_tables.specs.Holds.{Holds, tables_of}
+use Rattle.store_tables.proofs.Viewed.{held_by}
 use Rattle.sql_store.specs.Reading.{AreAnswered}
 use Rattle.sql_store.proofs.Queries.{are_queries, views}
 use Rattle.sql_store.proofs.Sequences.{then_reads, failed_reads, ok_leads}

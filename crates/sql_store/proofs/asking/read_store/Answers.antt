@@ -3,7 +3,7 @@ use Rattle.std.proofs.lemmas.Result.{err_from_is_err_and}
 use Rattle.sqlite.specs.Held.{state}
 use Rattle.stable_store.specs.declared.kept.Kept.{Kept}
 use Rattle.stable_store.specs.Held.{held}
-use Rattle.store_contents.specs.Holds.{Holds, IsLaidOut, tables_of}
+use Rattle.store_tables.specs.Holds.{Holds, IsLaidOut, tables_of}
 use Rattle.store_tables.specs.Rows.{HaveRowids}
 use Rattle.sql_store.proofs.Sequences.{weaker_reads, and_checks, failed_reads}
 use Rattle.sql_store.proofs.Outside.{stays_then, stays_err}

@@ -2,7 +2,7 @@ use Rattle.std.proofs.Common.{◌≡◌, map, take, Ok, IsTrue}
 use Rattle.sqlite.specs.Held.{state}
 use Rattle.sqlite.specs.State.{HasCleanDisk, Survives}
 use Rattle.stable_store.specs.declared.fault.StoreFault.{StoreFault}
-use Rattle.store_contents.specs.Answered.{rows_of}
+use Rattle.store_tables.specs.Answered.{rows_of}
 use Rattle.sql_store.specs.Reading.{AreQueryTexts, AreAnswered, Looks}
 use Rattle.sql_store.proofs.building.answers.Given as goal
 

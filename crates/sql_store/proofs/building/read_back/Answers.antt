@@ -8,8 +8,8 @@ use Rattle.sqlite.specs.Order.{Row}
 use Rattle.stable_store.specs.declared.fault.StoreFault.TheVariants.{NotOurs}
 use Rattle.stable_store.specs.declared.kept.Kept.{Kept}
 use Rattle.stable_store.specs.Held.{held}
-use Rattle.store_contents.specs.Answered.{answered, queries, rows_of}
-use Rattle.store_contents.specs.Holds.{Holds, IsLaidOut}
+use Rattle.store_tables.specs.Answered.{answered, queries, rows_of}
+use Rattle.store_tables.specs.Holds.{Holds, IsLaidOut}
 use Rattle.sql_store.specs.Reading.{AreAnswered, Looks}
 use Rattle.sql_store.proofs.Looking.{clean_before, looks_err, then_looks}
 use Rattle.sql_store.proofs.Queries.{are_queries}

@@ -3,7 +3,7 @@ use Rattle.std.proofs.lemmas.List.{drop_more}
 use Rattle.sqlite.specs.Held.{state}
 use Rattle.sqlite.proofs.StateLemmas.{survives_then}
 use Rattle.stable_store.specs.Numbers.{has_zero}
-use Rattle.store_contents.specs.Changes.{with_base, with_part, all_put}
+use Rattle.store_tables.specs.Changes.{with_base, with_part, all_put}
 use Rattle.sql_store.specs.Steps.{While}
 use Rattle.sql_store.specs.Waiting.{Waits, IsAny}
 use Rattle.sql_store.proofs.Inside.{steps_then, steps_as, step_ok, step_err, step_same, sees_of, survives_self}

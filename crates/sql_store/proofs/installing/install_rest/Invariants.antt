@@ -5,7 +5,7 @@ use Rattle.sqlite.specs.declared.error.Error.{Error}
 use Rattle.atomic_types.specs.declared.part.Part.{Part}
 use Rattle.stable_store.specs.Stored.{Stored}
 use Rattle.stable_store.specs.Numbers.{has_zero}
-use Rattle.store_contents.specs.Changes.{with_base, all_put}
+use Rattle.store_tables.specs.Changes.{with_base, all_put}
 use Rattle.sql_store.specs.Steps.{While, Stays, Steps}
 use Rattle.sql_store.specs.Waiting.{Waits, IsAny}
 use Rattle.sql_store.proofs.installing.install_rest.Given as goal

@@ -1,7 +1,7 @@
 use Rattle.std.proofs.Common.{◌≡◌, IsTrue, ap, subst, ◌∙◌, arith}
 use Rattle.sqlite.specs.Values.{bound}
 use Rattle.sqlite.specs.Held.{state}
-use Rattle.store_contents.specs.Changes.{with_base, all_put}
+use Rattle.store_tables.specs.Changes.{with_base, all_put}
 use Rattle.store_tables.specs.Texts.{base_run_text}
 use Rattle.store_tables.proofs.Texts.{base_run_is, base_run_plain}
 use Rattle.sql_store.specs.Steps.{Steps}

@@ -5,8 +5,8 @@ use Rattle.sqlite.specs.Held.{state}
 use Rattle.atomic_types.specs.declared.part.Part.{Part}
 use Rattle.sqlite.proofs.StateLemmas.{survives_then}
 use Rattle.stable_store.specs.Numbers.{has_zero}
-use Rattle.store_contents.specs.Changes.{with_base, all_put}
-use Rattle.store_contents.proofs.Statements.{more}
+use Rattle.store_tables.specs.Changes.{with_base, all_put}
+use Rattle.store_tables.proofs.Statements.{more}
 use Rattle.sql_store.specs.Steps.{While}
 use Rattle.sql_store.specs.Waiting.{Waits, IsAny}
 use Rattle.sql_store.proofs.Inside.{steps_then, step_err, step_same, survives_self}

@@ -3,7 +3,7 @@ use Rattle.sqlite_value.specs.Value.{owned}
 use Rattle.sqlite.specs.Order.{Row}
 use Rattle.sqlite.specs.Values.{bound_value}
 use Rattle.sqlite.specs.Held.{state}
-use Rattle.store_contents.specs.Changes.{with_part}
+use Rattle.store_tables.specs.Changes.{with_part}
 use Rattle.store_tables.specs.Texts.{base_text}
 use Rattle.store_tables.proofs.Texts.{base_is, base_plain}
 use Rattle.sql_store.specs.Steps.{Steps}

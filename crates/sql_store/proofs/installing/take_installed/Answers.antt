@@ -2,8 +2,8 @@ use Rattle.std.proofs.Common.{◌≡◌, ℕ, List, ◌++◌, [], ◌∷◌, fal
 use Rattle.atomic_types.specs.declared.part.Part.{Part}
 use Rattle.sqlite.specs.Held.{state}
 use Rattle.stable_store.specs.Numbers.{has_zero}
-use Rattle.store_contents.specs.Changes.{with_base, all_put}
-use Rattle.store_contents.proofs.Statements.{more}
+use Rattle.store_tables.specs.Changes.{with_base, all_put}
+use Rattle.store_tables.proofs.Statements.{more}
 use Rattle.sql_store.specs.Steps.{While}
 use Rattle.sql_store.specs.Waiting.{AreTextsOf, IsAny}
 use Rattle.sql_store.proofs.Inside.{step_same, steps_as, step_ok, step_err, sees_of}

@@ -5,7 +5,7 @@ use Rattle.atomic_types.specs.Parts.{over}
 use Rattle.stable_store.specs.Held.{parts_in}
 use Rattle.stable_store.specs.Numbers.{has_zero}
 use Rattle.stable_store.proofs.Maps.{get_is}
-use Rattle.store_contents.specs.Changes.{all_put}
+use Rattle.store_tables.specs.Changes.{all_put}
 use Rattle.sql_store.specs.Mirror.{over_each}
 use Rattle.sql_store.proofs.Over.{one_over, put_is_laid, zero_over}
 use Rattle.sql_store.proofs.mirror.installed_over.Goals as goal

@@ -3,7 +3,7 @@ use Rattle.sqlite.specs.Effect.{Database}
 use Rattle.sqlite.specs.Held.{state}
 use Rattle.sql_store.proofs.Opens.{read_alone, quiet_alone}
 use Rattle.stable_store.specs.Held.{held}
-use Rattle.store_contents.specs.Holds.{IsLaidOut}
+use Rattle.store_tables.specs.Holds.{IsLaidOut}
 use Rattle.sql_store.proofs.Outside.{knows_still}
 use Rattle.sql_store.proofs.Loads.{quiets}
 use Rattle.sql_store.proofs.Found.{stands_still, none_held}

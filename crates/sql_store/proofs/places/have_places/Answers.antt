@@ -3,7 +3,7 @@ use Rattle.std.proofs.lemmas.Result.{err_from_is_err_and}
 use Rattle.sqlite.specs.Held.{state}
 use Rattle.sqlite.specs.Order.{Row}
 use Rattle.stable_store.specs.Stored.{Stored}
-use Rattle.store_contents.specs.Holds.{Holds, tables_of}
+use Rattle.store_tables.specs.Holds.{Holds, tables_of}
 use Rattle.sql_store.specs.Reading.{IsAnswered}
 use Rattle.sql_store.specs.Placed.{ArePlaced}
 use Rattle.sql_store.proofs.Sequences.{failed_reads, then_reads}

@@ -9,10 +9,10 @@ use Rattle.sql_store.specs.Steps.{Steps}
 use Rattle.sql_store.proofs.Inside.{steps, step_ok, step_err}
 use Rattle.std.proofs.Common.{rules}
 use Rattle.atomic_types.specs.declared.part.Part.TheVariants.{Delta}
-use Rattle.store_contents.specs.Changes.{with_record}
-use Rattle.store_contents.proofs.Statements.{more}
+use Rattle.store_tables.specs.Changes.{with_record}
+use Rattle.store_tables.proofs.Statements.{more}
 use Rattle.sql_store.proofs.Runs.{delta_means}
-use Rattle.store_contents.proofs.Tables.{InRange}
+use Rattle.store_tables.proofs.Tables.{InRange}
 use Rattle.store_tables.specs.Texts.{delta_text}
 use Rattle.store_tables.proofs.Texts.{delta_command}
 use Rattle.sql_store.proofs.preparing.put_delta.Goals as goal

@@ -8,9 +8,9 @@ use Rattle.sqlite.specs.Held.{state}
 use Rattle.atomic_types.specs.declared.part.Part.{Part}
 use Rattle.sqlite.proofs.StateLemmas.{survives_then}
 use Rattle.stable_store.specs.Numbers.{has_zero}
-use Rattle.store_contents.specs.Changes.{with_record}
-use Rattle.store_contents.specs.Shown.{IsValue}
-use Rattle.store_contents.proofs.Statements.{more}
+use Rattle.store_tables.specs.Changes.{with_record}
+use Rattle.store_tables.specs.Shown.{IsValue}
+use Rattle.store_tables.proofs.Statements.{more}
 use Rattle.sql_store.specs.Waiting.{Waits}
 use Rattle.sql_store.proofs.Inside.{steps_then, step_err, step_same, survives_self}
 use Rattle.sql_store.proofs.Loops.{all_rise, rising, later}

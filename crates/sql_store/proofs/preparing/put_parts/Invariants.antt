@@ -3,8 +3,8 @@ use Rattle.sqlite.specs.State.{Survives}
 use Rattle.sqlite.specs.Held.{state}
 use Rattle.atomic_types.specs.declared.part.Part.{Part}
 use Rattle.stable_store.specs.Stored.{Stored}
-use Rattle.store_contents.specs.Changes.{with_record}
-use Rattle.store_contents.specs.Shown.{IsValue}
+use Rattle.store_tables.specs.Changes.{with_record}
+use Rattle.store_tables.specs.Shown.{IsValue}
 use Rattle.sql_store.specs.Steps.{Stays}
 use Rattle.sql_store.specs.Waiting.{Takes}
 use Rattle.sql_store.proofs.preparing.put_parts.Given as goal

@@ -4,9 +4,9 @@ use Rattle.std.specs.FinMap.{is_sorted}
 use Rattle.sqlite.specs.Held.{state}
 use Rattle.sqlite.proofs.StateLemmas.{survives_then}
 use Rattle.stable_store.specs.Numbers.{has_zero}
-use Rattle.store_contents.specs.Changes.{with_record}
-use Rattle.store_contents.specs.Shown.{IsValue}
-use Rattle.store_contents.proofs.Statements.{front_rises}
+use Rattle.store_tables.specs.Changes.{with_record}
+use Rattle.store_tables.specs.Shown.{IsValue}
+use Rattle.store_tables.proofs.Statements.{front_rises}
 use Rattle.sql_store.specs.Waiting.{Waits}
 use Rattle.sql_store.proofs.Inside.{steps_then, steps_as, step_ok, step_err, step_same, sees_of, survives_self}
 use Rattle.sql_store.proofs.Loops.{first_above}

@@ -6,8 +6,8 @@ use Rattle.sqlite.specs.declared.error.Error.{Error}
 use Rattle.atomic_types.specs.declared.part.Part.{Part}
 use Rattle.stable_store.specs.Stored.{Stored}
 use Rattle.stable_store.specs.Numbers.{has_zero}
-use Rattle.store_contents.specs.Changes.{with_record}
-use Rattle.store_contents.specs.Shown.{IsValue}
+use Rattle.store_tables.specs.Changes.{with_record}
+use Rattle.store_tables.specs.Shown.{IsValue}
 use Rattle.sql_store.specs.Steps.{Stays, Steps}
 use Rattle.sql_store.specs.Waiting.{Waits}
 use Rattle.sql_store.proofs.preparing.put_rest.Given as goal

@@ -1,8 +1,8 @@
 use Rattle.std.proofs.Common.{◌≡◌, ◌++◌, IsTrue, ap, subst, ◌∙◌, arith}
 use Rattle.sqlite.specs.Values.{bound}
 use Rattle.sqlite.specs.Held.{state}
-use Rattle.store_contents.specs.Changes.{with_record}
-use Rattle.store_contents.proofs.Tables.{InRange}
+use Rattle.store_tables.specs.Changes.{with_record}
+use Rattle.store_tables.proofs.Tables.{InRange}
 use Rattle.store_tables.specs.Texts.{value_run_text}
 use Rattle.store_tables.proofs.Texts.{value_run_is, value_run_plain}
 use Rattle.sql_store.specs.Steps.{Steps}

@@ -3,8 +3,8 @@ use Rattle.sqlite_value.specs.Value.{owned}
 use Rattle.sqlite.specs.Order.{Row}
 use Rattle.sqlite.specs.Values.{bound_value}
 use Rattle.sqlite.specs.Held.{state}
-use Rattle.store_contents.specs.Changes.{with_record}
-use Rattle.store_contents.proofs.Tables.{InRange}
+use Rattle.store_tables.specs.Changes.{with_record}
+use Rattle.store_tables.proofs.Tables.{InRange}
 use Rattle.store_tables.specs.Texts.{value_text}
 use Rattle.store_tables.proofs.Texts.{value_is, value_plain}
 use Rattle.sql_store.specs.Steps.{Steps}

@@ -6,9 +6,9 @@ use Rattle.stable_store.specs.Stored.{Stored}
 use Rattle.sql_store.specs.Steps.{Sees, Steps}
 use Rattle.sqlite.specs.Held.{state}
 use Rattle.atomic_types.specs.declared.part.Part.TheVariants.{Delta}
-use Rattle.store_contents.specs.Changes.{with_record}
-use Rattle.store_contents.specs.Shown.{IsValue}
-use Rattle.store_contents.proofs.Statements.{more, front_rises}
+use Rattle.store_tables.specs.Changes.{with_record}
+use Rattle.store_tables.specs.Shown.{IsValue}
+use Rattle.store_tables.proofs.Statements.{more, front_rises}
 use Rattle.sql_store.specs.Waiting.{Waits}
 use Rattle.sql_store.proofs.Inside.{steps_then, step_err, sees_of}
 use Rattle.sql_store.proofs.Loops.{first_above}

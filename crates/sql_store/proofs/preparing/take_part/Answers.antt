@@ -6,8 +6,8 @@ use Rattle.atomic_types.specs.declared.part.Part.{Part}
 use Rattle.atomic_types.specs.declared.part.Part.TheVariants.{Delta}
 use Rattle.stable_store.specs.Stored.{Stored}
 use Rattle.stable_store.specs.Numbers.{has_zero}
-use Rattle.store_contents.specs.Changes.{with_record}
-use Rattle.store_contents.specs.Shown.{IsValue}
+use Rattle.store_tables.specs.Changes.{with_record}
+use Rattle.store_tables.specs.Shown.{IsValue}
 use Rattle.sql_store.specs.Steps.{Stays}
 use Rattle.sql_store.specs.Waiting.{Waits, Takes}
 use Rattle.sql_store.proofs.preparing.take_part.Goals as goal

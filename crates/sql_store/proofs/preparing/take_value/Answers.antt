@@ -3,9 +3,9 @@ use Rattle.std.specs.FinMap.{is_sorted}
 use Rattle.sqlite.specs.Held.{state}
 use Rattle.atomic_types.specs.declared.part.Part.{Part}
 use Rattle.stable_store.specs.Numbers.{has_zero}
-use Rattle.store_contents.specs.Changes.{with_record}
-use Rattle.store_contents.specs.Shown.{IsValue}
-use Rattle.store_contents.proofs.Statements.{more}
+use Rattle.store_tables.specs.Changes.{with_record}
+use Rattle.store_tables.specs.Shown.{IsValue}
+use Rattle.store_tables.proofs.Statements.{more}
 use Rattle.sql_store.specs.Waiting.{AreTextsOf}
 use Rattle.sql_store.proofs.Inside.{step_same, steps_as, step_ok, step_err, sees_of}
 use Rattle.sql_store.proofs.Waits.{none_wait, one_more_waits, zero_parts}

@@ -2,7 +2,7 @@ use Rattle.std.proofs.Common.{[], ◌∷◌, subst, subst₂, codes}
 use Rattle.sqlite.specs.Values.{bound_value}
 use Rattle.sqlite.specs.State.{Survives, Executes, CommitsBy}
 use Rattle.sqlite.specs.Held.{state}
-use Rattle.store_contents.specs.Changes.{with_count}
+use Rattle.store_tables.specs.Changes.{with_count}
 use Rattle.sql_store.proofs.Runs.{not_true, count_means, carried, refused}
 use Rattle.store_tables.specs.Texts.{count_text}
 use Rattle.store_tables.proofs.Texts.{number_command}

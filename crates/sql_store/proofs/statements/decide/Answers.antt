@@ -4,7 +4,7 @@ use Rattle.sqlite.specs.State.{Survives, Executes, CommitsBy}
 use Rattle.sqlite.specs.Held.{state}
 use Rattle.stable_store.specs.Stored.{after_decide}
 use Rattle.sql_store.proofs.Runs.{not_true, decide_means, carried, refused}
-use Rattle.store_contents.proofs.Tables.{InRange}
+use Rattle.store_tables.proofs.Tables.{InRange}
 use Rattle.store_tables.specs.Texts.{decide_text}
 use Rattle.store_tables.proofs.Texts.{decide_command}
 use Rattle.sql_store.proofs.statements.decide.Goals as goal

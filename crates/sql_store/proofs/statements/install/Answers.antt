@@ -2,7 +2,7 @@ use Rattle.std.proofs.Common.{◌≡◌, Ok, Err, true, subst, rules}
 use Rattle.sqlite.specs.Held.{state}
 use Rattle.sqlite.proofs.Callers.{survives_begin}
 use Rattle.stable_store.specs.Stored.{after_discard}
-use Rattle.store_contents.specs.Changes.{with_base, all_put}
+use Rattle.store_tables.specs.Changes.{with_base, all_put}
 use Rattle.sql_store.specs.Steps.{Carries, Steps}
 use Rattle.sql_store.proofs.Inside.{committed, rolled, begin_sees, begin_steps}
 use Rattle.sql_store.proofs.statements.install.Goals as goal

@@ -4,9 +4,9 @@ use Rattle.sqlite.specs.State.{HasCleanDisk, ExecutesInside}
 use Rattle.sqlite.specs.Held.{state}
 use Rattle.sql_store.specs.Steps.{Steps}
 use Rattle.sql_store.proofs.Inside.{steps, step_ok, step_err}
-use Rattle.store_contents.specs.Changes.{with_record}
+use Rattle.store_tables.specs.Changes.{with_record}
 use Rattle.sql_store.proofs.Runs.{record_means}
-use Rattle.store_contents.proofs.Tables.{InRange}
+use Rattle.store_tables.proofs.Tables.{InRange}
 use Rattle.store_tables.specs.Texts.{record_text}
 use Rattle.store_tables.proofs.Texts.{record_command}
 use Rattle.sql_store.proofs.steps.add_record.Goals as goal

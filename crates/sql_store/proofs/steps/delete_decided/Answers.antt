@@ -2,7 +2,7 @@ use Rattle.std.proofs.Common.{subst, arith}
 use Rattle.sqlite.specs.Held.{state}
 use Rattle.sql_store.specs.Steps.{Steps}
 use Rattle.sql_store.proofs.Inside.{steps, step_ok, step_err}
-use Rattle.store_contents.specs.Changes.{with_none_decided}
+use Rattle.store_tables.specs.Changes.{with_none_decided}
 use Rattle.sql_store.proofs.Runs.{forget_means}
 use Rattle.store_tables.specs.Texts.{forget_text}
 use Rattle.store_tables.proofs.Texts.{forget_command}

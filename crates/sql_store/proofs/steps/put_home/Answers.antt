@@ -1,7 +1,7 @@
 use Rattle.std.proofs.Common.{[], arith}
 use Rattle.sqlite.specs.Held.{state}
 use Rattle.stable_store.specs.Stored.{after_discard}
-use Rattle.store_contents.specs.Changes.{with_record}
+use Rattle.store_tables.specs.Changes.{with_record}
 use Rattle.sql_store.proofs.Inside.{steps_then, steps_as, step_err, sees_of}
 use Rattle.sql_store.proofs.Loops.{in_place, taken_away}
 use Rattle.sql_store.proofs.steps.put_home.Goals as goal

@@ -4,7 +4,7 @@ use Rattle.sqlite.specs.State.{HasCleanDisk, ExecutesInside}
 use Rattle.sqlite.specs.Held.{state}
 use Rattle.sql_store.specs.Steps.{Steps}
 use Rattle.sql_store.proofs.Inside.{steps, step_ok, step_err}
-use Rattle.store_contents.specs.Changes.{with_next}
+use Rattle.store_tables.specs.Changes.{with_next}
 use Rattle.sql_store.proofs.Runs.{next_means}
 use Rattle.store_tables.specs.Texts.{next_text}
 use Rattle.store_tables.proofs.Texts.{number_command}

@@ -1,6 +1,6 @@
 use Rattle.std.proofs.Common.{arith, max, ◌+◌, ap, sym}
 use Rattle.sqlite.specs.Held.{state}
-use Rattle.store_contents.specs.Changes.{with_record, with_next}
+use Rattle.store_tables.specs.Changes.{with_record, with_next}
 use Rattle.sql_store.proofs.Inside.{steps_then, steps_as, step_err}
 use Rattle.sql_store.proofs.steps.put_record.Goals as goal
 

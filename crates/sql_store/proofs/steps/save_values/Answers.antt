@@ -1,6 +1,6 @@
 use Rattle.std.proofs.Common.{arith}
 use Rattle.sqlite.specs.Held.{state}
-use Rattle.store_contents.specs.Changes.{with_none_decided}
+use Rattle.store_tables.specs.Changes.{with_none_decided}
 use Rattle.sql_store.proofs.Inside.{steps_then, step_err}
 use Rattle.sql_store.proofs.steps.save_values.Goals as goal
 

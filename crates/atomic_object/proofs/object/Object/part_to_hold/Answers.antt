@@ -4,7 +4,7 @@ use Rattle.std.specs.Option.{option_copied as name_of}
 use Rattle.atomic_types.specs.declared.part.Part.TheVariants.{Delta}
 use Rattle.object_model.specs.Stacks.{owners_of}
 use Rattle.object_laws.specs.OnceTold.{deltas_left, is_left_below, last_in_front, part_over}
-use Rattle.deltas.specs.Beside.{sum_if_any}
+use Rattle.version_stack.specs.Beside.{sum_if_any}
 use Rattle.atomic_object.specs.Kept.{Kept, seen}
 use Rattle.atomic_object.proofs.Outcomes.{sum_is_part}
 use Rattle.atomic_object.proofs.object.Object.part_to_hold.Goals as goal

@@ -7,7 +7,7 @@ use Rattle.atomic_types.specs.Objects.{content_after}
 use Rattle.object_model.specs.Objects.{with_sum}
 use Rattle.object_model.specs.Stacks.{version_at}
 use Rattle.object_laws.specs.OnceTold.{deltas_left}
-use Rattle.deltas.specs.Beside.{sum_if_any}
+use Rattle.version_stack.specs.Beside.{sum_if_any}
 use Rattle.atomic_object.specs.Kept.{Kept, seen}
 use Rattle.atomic_object.proofs.Outcomes.{none_over, some_over, with_none, with_some}
 use Rattle.atomic_object.proofs.object.Object.version_left.Goals as goal

@@ -1,5 +1,5 @@
 use Rattle.std.proofs.Common.{ap, drop, length, refl, subst, sym, take, ◌&&◌, ◌++◌, ◌∙◌, ◌≡◌}
-use Rattle.held_objects.specs.Held.{has_object}
+use Rattle.guardian_index.specs.Held.{has_object}
 use Rattle.guardian_objects.specs.Crashes.{HaveCrashed}
 use Rattle.guardian_objects.specs.Objects.{holds_at}
 use Rattle.guardian_objects.proofs.Crashed.{Crashes, all_written, crashed_stands}

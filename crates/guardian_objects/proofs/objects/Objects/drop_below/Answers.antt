@@ -1,7 +1,7 @@
 use Rattle.std.proofs.Common.{[], arith, false, length, not, refl, subst, sym, ◌&&◌, ◌∙◌, ◌≡◌, ap}
 use Rattle.std.proofs.lemmas.List.{nil_from_length}
 use Rattle.action_names.specs.Names.{is_ancestor}
-use Rattle.held_objects.specs.Held.{HasRoomBelow, has_object}
+use Rattle.guardian_index.specs.Held.{HasRoomBelow, has_object}
 use Rattle.guardian_objects.specs.Turns.{Aborts, AreChanged}
 use Rattle.guardian_objects.proofs.Aborting.{abort_all, abort_next, abort_ready, abort_stands, abort_step}
 use Rattle.guardian_objects.proofs.Committing.{numbers_of}

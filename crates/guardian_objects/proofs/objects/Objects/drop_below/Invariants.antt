@@ -1,5 +1,5 @@
 use Rattle.std.proofs.Common.{◌≡◌}
-use Rattle.held_objects.specs.Held.{IsRising}
+use Rattle.guardian_index.specs.Held.{IsRising}
 use Rattle.guardian_objects.proofs.Aborting.{AreThere, WillAbort}
 use Rattle.guardian_objects.proofs.Committing.{numbers_of}
 use Rattle.guardian_objects.proofs.objects.Objects.drop_below.Given as goal

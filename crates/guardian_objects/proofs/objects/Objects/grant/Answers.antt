@@ -1,7 +1,7 @@
 use Rattle.std.proofs.Common.{[], ap, length, refl, subst, sym, ◌&&◌, ◌==◌, ◌∙◌, ◌∷◌, ◌||◌}
 use Rattle.action_names.specs.Names.{same_name}
 use Rattle.atomic_types.specs.declared.op.Reply.TheVariants.{Done}
-use Rattle.held_objects.specs.Held.{has_number, has_object, objects_at}
+use Rattle.guardian_index.specs.Held.{has_number, has_object, objects_at}
 use Rattle.guardian_objects.specs.Objects.{Keeps}
 use Rattle.guardian_objects.specs.Operations.{IsFreeAt, IsGrantedBy}
 use Rattle.guardian_objects.specs.Turns.{AreChanged}

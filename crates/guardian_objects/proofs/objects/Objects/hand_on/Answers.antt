@@ -2,7 +2,7 @@ use Rattle.std.proofs.Common.{[], arith, length, not, refl, subst, sym, ◌&&◌
 use Rattle.std.specs.Option.{IfSome}
 use Rattle.std.proofs.lemmas.List.{nil_from_length}
 use Rattle.action_names.specs.Names.{is_proper_ancestor, same_name}
-use Rattle.held_objects.specs.Held.{HasRoomBelow, HasRoomFrom, has_object, is_name_of}
+use Rattle.guardian_index.specs.Held.{HasRoomBelow, HasRoomFrom, has_object, is_name_of}
 use Rattle.guardian_objects.specs.Turns.{AreChanged, Commits}
 use Rattle.guardian_objects.proofs.Committing.{commit_above, commit_all, commit_first, commit_next, commit_ready, commit_stands, commit_step, numbers_of}
 use Rattle.guardian_objects.proofs.Holding.{own_name}

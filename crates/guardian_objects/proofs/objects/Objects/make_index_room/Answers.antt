@@ -3,7 +3,7 @@ use Rattle.std.proofs.lemmas.Result.{on_ok_weaker}
 use Rattle.std.specs.Prelude.{MatchOption}
 use Rattle.std.specs.Option.{IfSome, option_copied}
 use Rattle.action_names.specs.Names.{Name}
-use Rattle.held_objects.specs.Held.{HasRoomBelow, objects_at, room_at}
+use Rattle.guardian_index.specs.Held.{HasRoomBelow, objects_at, room_at}
 use Rattle.guardian_objects.specs.Objects.{Indexed}
 use Rattle.guardian_objects.specs.Outcomes.{HasIndexRoom, HasRoomFor}
 use Rattle.guardian_objects.specs.Turns.{IsRoomier}

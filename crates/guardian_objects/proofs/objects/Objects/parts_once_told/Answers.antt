@@ -1,7 +1,7 @@
 use Rattle.std.proofs.Common.{[], ap, arith, refl, subst, sym, true, ℕ, ◌++◌, ◌∙◌, ◌≡◌, ◌↔◌}
 use Rattle.std.proofs.lemmas.List.{append-nil, nil_from_length}
 use Rattle.std.specs.Map.{keys_of}
-use Rattle.held_objects.specs.Held.{HoldsBelow, IsRising, has_number}
+use Rattle.guardian_index.specs.Held.{HoldsBelow, IsRising, has_number}
 use Rattle.guardian_objects.specs.Objects.{object_of}
 use Rattle.guardian_objects.proofs.Parted.{no_parts, parts_all, parts_more, parts_rise}
 use Rattle.guardian_objects.proofs.objects.Objects.parts_once_told.Goals as goal

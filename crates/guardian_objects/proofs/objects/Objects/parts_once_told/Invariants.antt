@@ -1,7 +1,7 @@
 use Rattle.std.proofs.Common.{◌++◌}
 use Rattle.std.specs.Prelude.{vec_len}
 use Rattle.std.specs.Map.{keys_of}
-use Rattle.held_objects.specs.Held.{IsRising}
+use Rattle.guardian_index.specs.Held.{IsRising}
 use Rattle.guardian_objects.proofs.Parted.{ArePartly}
 use Rattle.guardian_objects.proofs.objects.Objects.parts_once_told.Given as goal
 

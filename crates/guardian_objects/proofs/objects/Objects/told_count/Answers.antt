@@ -1,5 +1,5 @@
 use Rattle.std.proofs.Common.{ap, subst, sym, true, ℕ, ◌∙◌, ◌≡◌, ◌↔◌}
-use Rattle.held_objects.specs.Held.{HoldsBelow, has_number, objects_at}
+use Rattle.guardian_index.specs.Held.{HoldsBelow, has_number, objects_at}
 use Rattle.run_model.specs.LocalReadings.{count_here}
 use Rattle.guardian_objects.proofs.Counting.{count_below, count_held}
 use Rattle.guardian_objects.proofs.objects.Objects.told_count.Goals as goal

@@ -1,5 +1,5 @@
 use Rattle.std.proofs.Common.{ap, subst, sym, vec_capacity, vec_len, ◌+◌, ◌≤◌, ◌∙◌, ◌≡◌}
-use Rattle.local_agreement.specs.Sent.{sent_of}
+use Rattle.guardian_laws.specs.Sent.{sent_of}
 use Rattle.roster.specs.Entries.{AreAbove, AreBorn, CanCount, IsMerged}
 use Rattle.roster.specs.Rosters.{IsRoster}
 use Rattle.roster.specs.Steps.{closed_in, ended_in}

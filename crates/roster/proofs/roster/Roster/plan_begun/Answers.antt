@@ -4,7 +4,7 @@ use Rattle.std.proofs.lemmas.List.{map-append, take_all, take_more}
 use Rattle.action_names.specs.Names.{IsName, Name}
 use Rattle.holders.specs.Held.{names_of}
 use Rattle.roster.proofs.Planning.{HavePlaces, all_last, places_more, same_held}
-use Rattle.local_agreement.specs.Sent.{sent_of}
+use Rattle.guardian_laws.specs.Sent.{sent_of}
 use Rattle.roster.specs.Entries.{IsBorn}
 use Rattle.roster.specs.Tables.{placed, table}
 use Rattle.run_model.specs.Actions.{maker_in}

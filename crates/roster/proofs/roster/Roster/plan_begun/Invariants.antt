@@ -2,7 +2,7 @@ use Rattle.std.proofs.Common.{length, take, vec_capacity, vec_len, ◌+◌, ◌�
 use Rattle.std.specs.List.{AllByRecursion}
 use Rattle.action_names.specs.Names.{IsName, Name}
 use Rattle.holders.specs.Held.{names_of}
-use Rattle.local_agreement.specs.Sent.{sent_of}
+use Rattle.guardian_laws.specs.Sent.{sent_of}
 use Rattle.roster.specs.Entries.{IsBorn}
 use Rattle.roster.specs.Tables.{table}
 use Rattle.roster.specs.declared.entry.Row.{Row}

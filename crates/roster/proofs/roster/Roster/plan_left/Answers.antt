@@ -2,7 +2,7 @@ use Rattle.std.proofs.Common.{None, Option, Some, ap, sym, ℕ, ◌∙◌, ◌�
 use Rattle.std.specs.FinMap as tree
 use Rattle.action_names.specs.Deps.{lesser}
 use Rattle.run_model.specs.LocalReadings.{least_of}
-use Rattle.local_agreement.specs.Sent.{sent_of}
+use Rattle.guardian_laws.specs.Sent.{sent_of}
 use Rattle.roster.specs.Steps.{above}
 use Rattle.roster.specs.Tables.{placed, row_at, said, table}
 use Rattle.roster.proofs.roster.Roster.plan_left.Goals as goal

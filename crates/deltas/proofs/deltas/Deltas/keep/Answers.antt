@@ -1,6 +1,0 @@
-use Rattle.std.proofs.Common.{arith}
-use Rattle.deltas.proofs.Amounts.{delta_kept}
-use Rattle.deltas.proofs.deltas.Deltas.keep.Goals as goal
-
-pub returns-clause-left : goal.returns-clause-left
-returns-clause-left g c = λ b. grind (arith, delta_kept c.self.inside.amounts.held (g.S.Survivors.stays c.args.survivors.now) b)

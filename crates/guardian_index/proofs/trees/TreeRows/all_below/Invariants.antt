@@ -1,0 +1,11 @@
+use Rattle.std.proofs.Common.{true}
+use Rattle.guardian_index.proofs.Asked.{AreHeld, AreLeft}
+use Rattle.guardian_index.proofs.Descendants.{first_below}
+use Rattle.guardian_index.proofs.trees.TreeRows.all_below.Given as goal
+
+-- of each row so far that has something the answer was yes
+abbrev pub invariant-loop-holder : goal.invariant-loop-holder
+invariant-loop-holder g l = record {
+  left : AreLeft l.self l.action (first_below l.action l.holder-iterator) (λ b. g.A.Asking.answers l.question b true);
+  held : AreHeld l.self l.action (first_below l.action l.holder-iterator);
+}

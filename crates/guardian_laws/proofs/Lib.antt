@@ -1,0 +1,13 @@
+pub mod Fresh
+pub mod Entries
+pub mod Made
+pub mod Actions
+pub mod Outcomes
+pub mod Votes
+pub mod Marks
+pub mod Undone
+pub mod Safe
+pub mod Agreement
+pub mod Laid
+pub mod Following
+pub mod Reopened

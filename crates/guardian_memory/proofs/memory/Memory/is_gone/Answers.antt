@@ -1,5 +1,0 @@
-use Rattle.guardian_memory.proofs.Sound.{inside}
-use Rattle.guardian_memory.proofs.memory.Memory.is_gone.Goals as goal
-
-pub returns : goal.returns
-returns c = λ s at. c.is_gone.ensures s.number s.past (inside c.self.view_is at).actions

@@ -1,6 +1,0 @@
-use Rattle.std.proofs.Common.{◌≡◌, map, take}
-use Rattle.histories.specs.Answers.{begun_name}
-use Rattle.histories.proofs.answers.Answers.began.Given as goal
-
-abbrev pub invariant-loop-begun : goal.invariant-loop-begun
-invariant-loop-begun l = l.names.items ≡ map (begun_name l.action) (take l.begun-index l.all)

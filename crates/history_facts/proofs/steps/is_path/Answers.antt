@@ -1,8 +1,0 @@
-use Rattle.action_names.specs.Comparison.{same_name-pointwise}
-use Rattle.history_facts.proofs.steps.is_path.Goals as goal
-
-pub returns : goal.returns
-returns c =
-    let is = c.components.ensures.numbers in
-    let same = same_name-pointwise c.args.name.now c.args.path.now in
-    cc

@@ -1,5 +1,0 @@
-pub mod Actions
-pub mod Outcomes
-pub mod Sent
-pub mod Crashes
-pub mod Laws

@@ -1,0 +1,5 @@
+use Rattle.recovery_laws.proofs.Seen.{settled_is_seen}
+use Rattle.recovery_laws.proofs.settled_is_seen.Goals as goal
+
+pub returns : goal.returns
+returns c = settled_is_seen

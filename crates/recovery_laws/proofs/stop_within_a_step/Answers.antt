@@ -1,0 +1,5 @@
+use Rattle.recovery_laws.proofs.StoreStops.{stop_within_a_step}
+use Rattle.recovery_laws.proofs.stop_within_a_step.Goals as goal
+
+pub returns : goal.returns
+returns c = stop_within_a_step

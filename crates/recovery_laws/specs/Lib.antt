@@ -1,0 +1,10 @@
+pub mod Settled
+pub mod Numbers
+pub mod Laws
+pub mod Opened
+pub mod Examples
+pub mod Runs
+pub mod OpenedStores
+pub mod Following
+pub mod StoreLaws
+pub mod StoreExamples

@@ -1,5 +1,0 @@
-use Rattle.settled_laws.proofs.Stops.{contents_through_stops}
-use Rattle.settled_laws.proofs.contents_through_stops.Goals as goal
-
-pub returns : goal.returns
-returns c = contents_through_stops

@@ -1,5 +1,0 @@
-use Rattle.settled_laws.proofs.Numbers.{decided_stay_older}
-use Rattle.settled_laws.proofs.decided_stay_older.Goals as goal
-
-pub returns : goal.returns
-returns c = decided_stay_older

@@ -1,5 +1,0 @@
-use Rattle.settled_laws.proofs.Numbers.{fresh_are_numbered}
-use Rattle.settled_laws.proofs.fresh_are_numbered.Goals as goal
-
-pub returns : goal.returns
-returns c = fresh_are_numbered

@@ -1,5 +1,0 @@
-use Rattle.settled_laws.proofs.NewTops.{new_tops_are_no_orphans}
-use Rattle.settled_laws.proofs.new_tops_are_no_orphans.Goals as goal
-
-pub returns : goal.returns
-returns c = new_tops_are_no_orphans

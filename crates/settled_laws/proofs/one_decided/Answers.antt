@@ -1,8 +1,0 @@
-use Rattle.std.proofs.Common.{refl}
-use Rattle.std.specs.Int.{int_wrap}
-use Rattle.run_model.specs.Answers.{answer_of}
-use Rattle.settled_laws.proofs.one_decided.Goals as goal
-
-pub returns : goal.returns
-unfolding answer_of int_wrap
-returns c = (refl, refl, refl, refl)

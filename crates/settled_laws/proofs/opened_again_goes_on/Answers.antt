@@ -1,5 +1,0 @@
-use Rattle.settled_laws.proofs.Opened.{opened_again_goes_on}
-use Rattle.settled_laws.proofs.opened_again_goes_on.Goals as goal
-
-pub returns : goal.returns
-returns c = opened_again_goes_on

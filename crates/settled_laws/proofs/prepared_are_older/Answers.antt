@@ -1,5 +1,0 @@
-use Rattle.settled_laws.proofs.Numbers.{prepared_are_older}
-use Rattle.settled_laws.proofs.prepared_are_older.Goals as goal
-
-pub returns : goal.returns
-returns c = prepared_are_older

@@ -1,5 +1,0 @@
-use Rattle.settled_laws.proofs.Opened.{prepared_never_again}
-use Rattle.settled_laws.proofs.prepared_never_again.Goals as goal
-
-pub returns : goal.returns
-returns c = prepared_never_again

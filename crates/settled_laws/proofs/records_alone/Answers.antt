@@ -1,5 +1,0 @@
-use Rattle.settled_laws.proofs.Resting.{records_alone}
-use Rattle.settled_laws.proofs.records_alone.Goals as goal
-
-pub returns : goal.returns
-returns c = records_alone

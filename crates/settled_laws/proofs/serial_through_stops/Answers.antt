@@ -1,5 +1,0 @@
-use Rattle.settled_laws.proofs.Stops.{serial_through_stops}
-use Rattle.settled_laws.proofs.serial_through_stops.Goals as goal
-
-pub returns : goal.returns
-returns c = serial_through_stops

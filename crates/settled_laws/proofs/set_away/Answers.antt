@@ -1,7 +1,0 @@
-use Rattle.std.proofs.Common.{refl}
-use Rattle.run_model.specs.Answers.{answer_of}
-use Rattle.settled_laws.proofs.set_away.Goals as goal
-
-pub returns : goal.returns
-unfolding answer_of
-returns c = (refl, refl, refl, refl)

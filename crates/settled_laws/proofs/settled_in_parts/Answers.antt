@@ -1,5 +1,0 @@
-use Rattle.settled_laws.proofs.Ordered.{settled_in_parts}
-use Rattle.settled_laws.proofs.settled_in_parts.Goals as goal
-
-pub returns : goal.returns
-returns c = settled_in_parts

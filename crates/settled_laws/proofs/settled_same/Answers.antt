@@ -1,5 +1,0 @@
-use Rattle.settled_laws.proofs.Ordered.{settled_same}
-use Rattle.settled_laws.proofs.settled_same.Goals as goal
-
-pub returns : goal.returns
-returns c = settled_same

@@ -1,5 +1,0 @@
-use Rattle.settled_laws.proofs.Opened.{settles_once}
-use Rattle.settled_laws.proofs.settles_once.Goals as goal
-
-pub returns : goal.returns
-returns c = settles_once

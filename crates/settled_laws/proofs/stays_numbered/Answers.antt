@@ -1,5 +1,0 @@
-use Rattle.settled_laws.proofs.Opened.{stays_numbered}
-use Rattle.settled_laws.proofs.stays_numbered.Goals as goal
-
-pub returns : goal.returns
-returns c = stays_numbered

@@ -1,8 +1,0 @@
-use Rattle.std.proofs.Common.{refl}
-use Rattle.run_model.specs.Answers.{answer_of}
-use Rattle.settled_stores.proofs.ByHand.{installed_by_hand}
-use Rattle.settled_stores.proofs.set_away_by_hand.Goals as goal
-
-pub returns : goal.returns
-unfolding answer_of
-returns c = (refl, installed_by_hand)

@@ -1,9 +1,0 @@
-use Rattle.std.proofs.Common.{length, ◌≡◌}
-use Rattle.stable_world.specs.Worlds.{AreEmpty}
-use Rattle.stable_world.proofs.beginning.empty_stores.Given as goal
-
-abbrev pub invariant-loop : goal.invariant-loop
-invariant-loop l = record {
-  count : length l.stores.items ≡ l.counter;
-  empty : AreEmpty l.stores.items;
-}

@@ -1,6 +1,0 @@
-use Rattle.run_model.specs.Openings.{opening_in}
-use Rattle.stable_world.proofs.world.World.step.Given as goal
-
--- the opening is the registry's
-abbrev pub ghost-step : goal.ghost-step
-ghost-step g a = opening_in a.forest.now.opening

@@ -1,5 +1,0 @@
-use Rattle.standing_laws.proofs.Events.{crash_leaves_is}
-use Rattle.standing_laws.proofs.crash_leaves.Goals as goal
-
-pub returns : goal.returns
-returns c = crash_leaves_is

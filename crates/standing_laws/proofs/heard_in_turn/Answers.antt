@@ -1,5 +1,0 @@
-use Rattle.standing_laws.proofs.Turns.{heard_in_turn_is}
-use Rattle.standing_laws.proofs.heard_in_turn.Goals as goal
-
-pub returns : goal.returns
-returns c = heard_in_turn_is

@@ -1,5 +1,0 @@
-use Rattle.standing_laws.proofs.Events.{operation_is_kept_is}
-use Rattle.standing_laws.proofs.operation_is_kept.Goals as goal
-
-pub returns : goal.returns
-returns c = operation_is_kept_is

@@ -1,5 +1,0 @@
-use Rattle.store_contents.proofs.Same.{one_content}
-use Rattle.store_contents.proofs.answers.one_content_is_held.Goals as goal
-
-pub returns : goal.returns
-returns c first tables x y h k = one_content c.one_part_spelling.ensures first tables x y h k

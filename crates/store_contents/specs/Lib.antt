@@ -1,9 +1,0 @@
-pub mod Listed
-pub mod Shown
-pub mod Parts
-pub mod Holds
-pub mod Grown
-pub mod Spellings
-pub mod Answered
-pub mod Rising
-pub mod Changes

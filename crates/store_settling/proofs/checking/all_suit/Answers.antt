@@ -1,5 +1,0 @@
-use Rattle.store_settling.proofs.Entries.{parts_are}
-use Rattle.store_settling.proofs.checking.all_suit.Goals as goal
-
-pub returns-clause-rising : goal.returns-clause-rising
-returns-clause-rising c = parts_are c.args.parts.now.entries c.iter.ensures.ordered

@@ -1,7 +1,0 @@
-use Rattle.std.proofs.Common.{take, ◌≡◌}
-use Rattle.store_settling.specs.Opened.{first_number}
-use Rattle.store_settling.specs.Settling.{contents}
-use Rattle.store_settling.proofs.opening.first_number.Given as goal
-
-abbrev pub invariant-loop-store : goal.invariant-loop-store
-invariant-loop-store g l = l.first ≡ first_number (contents g.S.Stable.seen (take l.store-index l.stores))

@@ -1,6 +1,0 @@
-use Rattle.std.proofs.Common.{◌≡◌, ◌++◌}
-use Rattle.store_settling.proofs.opening.listed_parts.Given as goal
-
--- what was listed and what is left are all
-abbrev pub invariant-loop-object : goal.invariant-loop-object
-invariant-loop-object l = l.listed.items ++ l.object-iterator ≡ l.parts.entries

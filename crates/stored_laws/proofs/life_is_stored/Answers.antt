@@ -1,5 +1,0 @@
-use Rattle.stored_laws.proofs.Reopened.{life_is_stored}
-use Rattle.stored_laws.proofs.life_is_stored.Goals as goal
-
-pub returns : goal.returns
-returns c = life_is_stored

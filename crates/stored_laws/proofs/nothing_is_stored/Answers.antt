@@ -1,5 +1,0 @@
-use Rattle.stored_laws.proofs.Following.{nothing_is_stored}
-use Rattle.stored_laws.proofs.nothing_is_stored.Goals as goal
-
-pub returns : goal.returns
-returns c = nothing_is_stored

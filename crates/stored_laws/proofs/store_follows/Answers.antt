@@ -1,5 +1,0 @@
-use Rattle.stored_laws.proofs.Following.{store_follows}
-use Rattle.stored_laws.proofs.store_follows.Goals as goal
-
-pub returns : goal.returns
-returns c = store_follows

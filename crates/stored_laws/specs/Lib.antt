@@ -1,3 +1,0 @@
-pub mod Stored
-pub mod Laws
-pub mod Reopened

@@ -1,0 +1,65 @@
+use Rattle.std.proofs.Common.{refl, subst, sym, ◌∙◌}
+use Rattle.tellings.specs.Hearing.{IsHeard}
+use Rattle.orphans.specs.Knowing.{IsLesson}
+use Rattle.roster.specs.Tables.{table}
+use Rattle.atomic_object.specs.Staying.{OutcomesRise}
+use Rattle.volatile_state.proofs.Planned.{entry_of}
+use Rattle.volatile_state.proofs.Sound.{inside, sound_same}
+use Rattle.layer_contracts.specs.Guardians.{event_of}
+use Rattle.volatile_state.proofs.memory.Memory.plan.Goals as goal
+
+pub plan-requires-clause-shown : goal.plan-requires-clause-shown
+plan-requires-clause-shown c = (c.self.invariant.0.opening, c.self.invariant.0.past, c.self.invariant.1.shown)
+
+pub plan-requires-clause-rising : goal.plan-requires-clause-rising
+plan-requires-clause-rising c = subst (λ l. OutcomesRise l) (sym c.as_slice-outcomes.ensures.value) c.requires.rising
+
+pub invariant_of-self : goal.invariant_of-self
+invariant_of-self c = (_, sound_same (λ h here k. k) refl (λ here k. k) refl (λ h here k. k) c.plan.ensures.same c.plan.ensures.guardian c.self.invariant.1)
+
+pub returns-in_err-plan-clause-same : goal.returns-in_err-plan-clause-same
+returns-in_err-plan-clause-same c = λ s at. sound_same (λ h here k. k) refl (λ here k. k) refl (λ h here k. k) c.plan.ensures.same c.plan.ensures.guardian (inside c.self.view_is at)
+
+pub invariant_of-self-in_err-plan-2 : goal.invariant_of-self-in_err-plan-2
+invariant_of-self-in_err-plan-2 c = (_, sound_same c.plan-2.ensures.same c.plan-2.ensures.crashes (λ here k. k) refl (λ h here k. k) c.plan.ensures.same c.plan.ensures.guardian c.self.invariant.1)
+
+pub returns-in_err-plan-2-clause-same : goal.returns-in_err-plan-2-clause-same
+returns-in_err-plan-2-clause-same c = λ s at. sound_same c.plan-2.ensures.same c.plan-2.ensures.crashes (λ here k. k) refl (λ h here k. k) c.plan.ensures.same c.plan.ensures.guardian (inside c.self.view_is at)
+
+pub invariant_of-self-in_err-plan_lesson : goal.invariant_of-self-in_err-plan_lesson
+invariant_of-self-in_err-plan_lesson c = (_, sound_same c.plan-2.ensures.same c.plan-2.ensures.crashes c.plan_lesson.ensures.same c.plan_lesson.ensures.own (λ h here k. k) c.plan.ensures.same c.plan.ensures.guardian c.self.invariant.1)
+
+pub returns-in_err-plan_lesson-clause-same : goal.returns-in_err-plan_lesson-clause-same
+returns-in_err-plan_lesson-clause-same c = λ s at. sound_same c.plan-2.ensures.same c.plan-2.ensures.crashes c.plan_lesson.ensures.same c.plan_lesson.ensures.own (λ h here k. k) c.plan.ensures.same c.plan.ensures.guardian (inside c.self.view_is at)
+
+pub invariant_of-self-in_err-plan-3 : goal.invariant_of-self-in_err-plan-3
+invariant_of-self-in_err-plan-3 c = (_, sound_same c.plan-2.ensures.same c.plan-2.ensures.crashes c.plan_lesson.ensures.same c.plan_lesson.ensures.own c.plan-3.ensures.same c.plan.ensures.same c.plan.ensures.guardian c.self.invariant.1)
+
+pub returns-in_err-plan-3-clause-same : goal.returns-in_err-plan-3-clause-same
+returns-in_err-plan-3-clause-same c = λ s at. sound_same c.plan-2.ensures.same c.plan-2.ensures.crashes c.plan_lesson.ensures.same c.plan_lesson.ensures.own c.plan-3.ensures.same c.plan.ensures.same c.plan.ensures.guardian (inside c.self.view_is at)
+
+pub invariant_of-self-2 : goal.invariant_of-self-2
+invariant_of-self-2 c = (_, sound_same c.plan-2.ensures.same c.plan-2.ensures.crashes c.plan_lesson.ensures.same c.plan_lesson.ensures.own c.plan-3.ensures.same c.plan.ensures.same c.plan.ensures.guardian c.self.invariant.1)
+
+pub returns-clause-same : goal.returns-clause-same
+returns-clause-same c = λ s at. sound_same c.plan-2.ensures.same c.plan-2.ensures.crashes c.plan_lesson.ensures.same c.plan_lesson.ensures.own c.plan-3.ensures.same c.plan.ensures.same c.plan.ensures.guardian (inside c.self.view_is at)
+
+pub returns-clause-planned : goal.returns-clause-planned
+returns-clause-planned c = λ s at owed agrees.
+    let here = inside c.self.view_is at in
+    record {
+      next = record { accepted = c.requires.accepted; owed = owed; agrees = agrees };
+      sender = refl;
+      brought = refl;
+      heard = subst (λ l. IsHeard c.plan-2.new.self l c.plan-2.new.heard) c.as_slice-outcomes.ensures.value c.in_ok-plan-2.ensures.heard;
+      lesson =
+          subst (λ l. IsLesson c.args.message.sender c.args.message.life c.args.message.aborts l c.args.message.outcomes.items c.plan_lesson.new.lesson)
+          c.as_slice-counts.ensures.value
+          (subst (λ l. IsLesson c.args.message.sender c.args.message.life c.args.message.aborts c.as_slice-counts.result.now l c.plan_lesson.new.lesson)
+          c.as_slice-outcomes.ensures.value c.in_ok-plan_lesson.ensures.news);
+      entry =
+          entry_of (table c.plan-3.new.self) (event_of c.args.step.now c.args.answer.now) c.args.message.dependencies.items c.as_slice-dependencies.result.now c.plan-3.new.entry
+          c.as_slice-dependencies.ensures.value c.in_ok-plan-3.ensures.planned;
+      outcomes = c.in_ok-plan.ensures.outcomes ∙ c.as_slice-outcomes.ensures.value;
+      planned = c.in_ok-plan.ensures.planned s.number s.past here.tellings;
+    }

@@ -1,0 +1,60 @@
+//! Making room for an event.
+ghost use Rattle.std.specs.Prelude.{OnOk, IsTrue};
+ghost use Rattle.atomic_object.specs.Staying.{OutcomesRise};
+ghost use Rattle.run_model.specs.Runs.{is_accepted};
+ghost use Rattle.local_laws.specs.Owed.{IsOwed};
+ghost use Rattle.guardian_laws.specs.Laws.{Agrees};
+ghost use Rattle.layer_contracts.specs.Guardians.{GuardianState, event_of};
+ghost use Rattle.volatile_state.specs.Memories.{IsSound};
+ghost use Rattle.volatile_state.specs.Plans.{FitsPlan, IsPlanOf, local_event, news_in};
+
+use crate::memory::Memory;
+use crate::plan::Plan;
+use layer_contracts::Message;
+use orphans::News;
+use run_model::{Answer, Step};
+use std::alloc::AllocError;
+
+impl Memory {
+    /// Makes room for an event, and writes what it changes into a plan, over what that was for before. With memory and without, the memory stands where
+    /// it stood. The plan is for the event in each state whose history it agrees with, where it brings what that history asks of it. Fails for want of
+    /// memory, and where one more crash could not be counted; then nothing is said of the plan.
+    pub fn plan(
+        &mut self,
+        step: &Step,
+        answer: &Answer,
+        message: Message,
+        plan: &mut Plan,
+    ) -> Result<(), AllocError>
+        requires accepted { IsTrue (is_accepted answer.now) }
+        requires rising { OutcomesRise message.outcomes.items }
+        ensures same { (s : GuardianState) → IsSound self.old s → IsSound self.new s }
+        ensures fits { OnOk result (FitsPlan plan.new self.new) }
+        ensures planned { OnOk result ((s : GuardianState) → IsSound self.old s
+            → IsOwed s.opening s.number (local_event (event_of step.now answer.now) message) s.past step.now
+            → Agrees s.opening s.number (local_event (event_of step.now answer.now) message) s.past
+            → IsPlanOf plan.new self.new s (news_in (event_of step.now answer.now) message)) }
+    {
+        if self.roster.crashes() == u64::MAX {
+            return Err(AllocError);
+        }
+        let outcomes = message.outcomes.as_slice();
+        let counts = message.counts.as_slice();
+        let dependencies = message.dependencies.as_slice();
+        let news = News {
+            sender: message.sender,
+            life: message.life,
+            aborts: &message.aborts,
+            counts,
+            outcomes,
+        };
+        self.objects.plan(outcomes, &self.told, &mut plan.planned)?;
+        self.told.plan(outcomes, &mut plan.heard)?;
+        self.lists.plan_lesson(self.alloc, news, &mut plan.lesson)?;
+        self.roster
+            .plan(step, answer, dependencies, &mut plan.entry)?;
+        plan.sender = message.sender;
+        plan.outcomes = message.outcomes;
+        Ok(())
+    }
+}

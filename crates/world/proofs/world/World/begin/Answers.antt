@@ -1,0 +1,13 @@
+use Rattle.std.proofs.Common.{arith, drop, length, subst, sym}
+use Rattle.run_model.specs.Openings.{fresh}
+use Rattle.world.specs.Worlds.{AreOpened}
+use Rattle.world.proofs.GoingOn.{begin_new}
+use Rattle.world.proofs.Reading.{back_is}
+use Rattle.world.proofs.world.World.begin.Goals as goal
+
+pub new-requires-clause-opened : goal.new-requires-clause-opened
+new-requires-clause-opened g c =
+    let seen = g.S.Stable.seen in
+    let new = c.begin_stores.new.stores in
+    let back = back_is c.args.stores.len new (drop (length new) c.args.stores.items) (omega (arith, c.begin_stores.auto.stores, c.as_mut_slice.ensures.len)) in
+    subst (λ stores. AreOpened seen (fresh c.args.setup) stores) (sym back) (begin_new seen c.args.setup new c.in_default.ensures.new)

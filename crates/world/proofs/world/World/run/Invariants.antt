@@ -1,0 +1,11 @@
+use Rattle.std.proofs.Common.{take}
+use Rattle.run_laws.specs.Serving.{IsServed}
+use Rattle.run_model.specs.Openings.{opening_in}
+use Rattle.world.specs.Running.{Ran}
+use Rattle.world.proofs.world.World.run.Given as goal
+
+abbrev pub invariant-loop-step : goal.invariant-loop-step
+invariant-loop-step g l = record {
+  ran : Ran l.fn.self.run l.self.run (take l.step-index l.steps) l.fn.answers.items l.answers.items;
+  served : IsServed (opening_in l.self.run.lists) l.self.run.past;
+}

@@ -1,0 +1,17 @@
+pub mod Saying
+pub mod Nothing
+pub mod Owing
+pub mod New
+pub mod Left
+pub mod Own
+pub mod Agreed
+pub mod Stores
+pub mod Operating
+pub mod Senders
+pub mod Naming
+pub mod Inside
+pub mod Led
+pub mod WorldAgreed
+pub mod Places
+pub mod Kept
+pub mod WorldStores

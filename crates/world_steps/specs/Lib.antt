@@ -1,0 +1,4 @@
+pub mod Lending
+pub mod Keeping
+pub mod Naming
+pub mod Standings
