@@ -32,7 +32,7 @@ impl<'a> Change<'a> {
     }
 }
 
-/// Makes the change. Gives the fault with which it was refused; `Memory` where memory was.
+/// Makes the change. Gives the fault with which it was refused; `Memory` if memory was.
 pub(crate) fn make(
     alloc: Global,
     store: &mut impl Stable,
@@ -70,7 +70,7 @@ fn save(
     refusal(store.save(alloc, &base))
 }
 
-/// The fault with which a call was refused; `Memory` where memory was.
+/// The fault with which a call was refused; `Memory` if memory was.
 fn refusal(made: Result<(), StoreFault>) -> Result<Option<StoreFault>, RowFault> {
     match made {
         Ok(()) => Ok(None),

@@ -8,7 +8,7 @@ use std::alloc::Global;
 /// More calls than are made until a store is open and a change is made.
 pub(crate) const CALLS: u64 = 400;
 
-/// The device with its store open. `Memory` where it can't be opened.
+/// The device with its store open. `Memory` if it can't be opened.
 pub(crate) fn open_store<M: Machine>(
     alloc: Global,
     machine: M,
@@ -20,7 +20,7 @@ pub(crate) fn open_store<M: Machine>(
     }
 }
 
-/// A copy of the device with its store open, of which one file fails after so many calls. `Memory` where it can't be opened.
+/// A copy of the device with its store open. One of its files fails after so many calls. `Memory` if it can't be opened.
 pub(crate) fn open_copy<M: Machine>(
     alloc: Global,
     machine: &M,
@@ -31,8 +31,8 @@ pub(crate) fn open_copy<M: Machine>(
     open_store(alloc, copy, failing.log_frames)
 }
 
-/// Opens the store in a copy of the device, of which one file fails after so many calls, and gives the device after a crash,
-/// and whether the store was opened.
+/// Opens the store in a copy of the device. One of its files fails after so many calls. Gives the device after a crash, and whether the
+/// store was opened.
 pub(crate) fn open_and_crash<M: Machine>(
     alloc: Global,
     machine: &M,
@@ -104,8 +104,8 @@ fn fill<K: Keeper>(alloc: Global, store: &mut K) -> Result<(), RowFault> {
     Ok(())
 }
 
-/// The least number of calls with which the store opens. A copy is opened twice before it counts as failing: memory that is refused to a
-/// device looks like a failure of it, but is refused once.
+/// The least number of calls with which the store opens. A copy is opened twice before it counts as failing. For a device to which memory is
+/// refused looks like one that fails, but memory is refused once.
 pub(crate) fn calls_to_open<M: Machine>(
     alloc: Global,
     machine: &M,

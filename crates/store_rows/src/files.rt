@@ -137,7 +137,7 @@ fn files(alloc: Global, bytes: &[u8]) -> Result<Files<Fuse<Memory>>, RowFault> {
     })
 }
 
-/// A copy of the files, of which one fails after so many calls.
+/// A copy of the files. One of them fails after so many calls.
 fn copy(
     alloc: Global,
     files: &Files<Fuse<Memory>>,

@@ -22,7 +22,7 @@ pub(crate) trait Keeper: Drop {
     /// Whether the store is open.
     fn is_open(&self) -> bool;
 
-    /// Makes the change. Gives the fault with which it was refused; `Memory` where memory was.
+    /// Makes the change. Gives the fault with which it was refused; `Memory` if memory was.
     fn make(&mut self, alloc: Global, change: Change<'_>) -> Result<Option<StoreFault>, RowFault>;
 
     /// Writes what the store answers to `load`: its content, or the fault.
@@ -40,7 +40,7 @@ pub(crate) trait Database: Keeper {
     /// One with these tables, which are filled by these statements.
     fn with_tables(alloc: Global, tables: [&str; 2], batch: &str) -> Result<Self, Error>;
 
-    /// The same with the store open; closed where that was refused.
+    /// The same with the store open; closed if that was refused.
     fn open(self, alloc: Global) -> (Self, Option<Refusal>);
 
     /// The one number that a query of the closed database shows.
@@ -50,8 +50,8 @@ pub(crate) trait Database: Keeper {
     fn is_known(&self) -> Result<bool, RowFault>;
 }
 
-/// A device: a database file and its log, which fail after some number of calls. A device with no end of its calls fails only where memory
-/// is refused to it, and then it is asked again.
+/// A device: a database file and its log, which fail after some number of calls. A device with no end of its calls fails only if memory is
+/// refused to it, and then it is asked again.
 pub(crate) trait Machine: Keeper {
     /// One with these bytes in its database and nothing in its log.
     fn with_bytes(alloc: Global, bytes: &[u8]) -> Result<Self, RowFault>;
@@ -59,11 +59,11 @@ pub(crate) trait Machine: Keeper {
     /// One with these tables, which are filled by these statements.
     fn with_tables(alloc: Global, tables: [&str; 2], batch: &str) -> Result<Self, RowFault>;
 
-    /// A copy of the closed device, of which one file fails after so many calls.
+    /// A copy of the closed device. One of its files fails after so many calls.
     fn copy(&self, alloc: Global, failing: Failing, calls: u64) -> Result<Self, RowFault>;
 
-    /// The same with the store open, and few pages in memory, so that a call reads and writes the files throughout; closed where that was
-    /// refused.
+    /// The same with the store open; closed if that was refused. It has few pages in memory, so a call reads and writes the files
+    /// throughout.
     fn open(self, alloc: Global, log_frames: usize) -> (Self, Option<Refusal>);
 
     /// What a crash leaves, closed. From then on no call fails.

@@ -1,4 +1,4 @@
-//! What a stop of the device leaves: one of its two files fails from some call on, for each number of calls up to one that suffices.
+//! What a stop of the device leaves. One of its two files fails from some call on; each call is tried, up to one that suffices.
 use crate::calls::Change;
 use crate::devices::{CALLS, calls_to_open, make_whole, open_and_crash, open_copy, open_store};
 use crate::machines::{Failing, Keeper, Machine};
@@ -69,7 +69,7 @@ impl Contents {
         )
     }
 
-    /// What is kept where the change was made, or was refused.
+    /// What is kept if the change was made, or was refused.
     fn kept(&self, is_made: bool) -> &str {
         if is_made {
             self.after.as_str()
@@ -79,7 +79,7 @@ impl Contents {
     }
 }
 
-/// Writes the contents before and after the change, and what is wrong where a stop leaves another than these.
+/// Writes the contents before and after the change, and what is wrong if a stop leaves another than these.
 pub(crate) fn write_stops<M: Machine>(
     alloc: Global,
     trial: &Trial<'_, M>,
@@ -215,7 +215,7 @@ pub(crate) fn open_exhausted<M: Machine>(
     open_copy(alloc, machine, failing, calls)
 }
 
-/// A store whose database was closed in the change: a sync failed. `Unread` where no sync of the change fails.
+/// A store whose database was closed in the change: a sync failed. `Unread` if no sync of the change fails.
 pub(crate) fn shut<M: Machine>(alloc: Global, trial: &Trial<'_, M>) -> Result<M, RowFault> {
     let first = calls_to_open(alloc, trial.machine, trial.failing)?;
     for calls in first..CALLS {
@@ -240,7 +240,7 @@ fn stopped<K: Keeper>(alloc: Global, mut store: K, change: Change<'_>) -> Result
     }
 }
 
-/// Writes the content that the store has once it is opened, and what is wrong where an opening that is stopped leaves
+/// Writes the content that the store has once it is opened, and what is wrong if an opening that is stopped leaves
 /// another.
 pub(crate) fn write_openings<M: Machine>(
     alloc: Global,

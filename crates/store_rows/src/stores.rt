@@ -137,7 +137,7 @@ impl<D: Database, M: Machine> Stores<D, M> {
         }
     }
 
-    /// Opens the store of the database, which stays where it is refused.
+    /// Opens the store of the database. The database stays if that is refused.
     fn open(&mut self, answer: &mut String) -> Result<(), RowFault> {
         match mem::replace(&mut self.held, Held::Nothing) {
             Held::Database(database) => {
@@ -278,8 +278,8 @@ impl<D: Database, M: Machine> Stores<D, M> {
         tell(None, answer)
     }
 
-    /// Opens the store in a copy of the device, and writes the fault with which it was refused, and whether both files have
-    /// the bytes that they had.
+    /// Opens the store in a copy of the device. Writes the fault with which it was refused, and whether both files have the
+    /// bytes that they had.
     fn refused(&self, mut words: Words<'_>, answer: &mut String) -> Result<(), RowFault> {
         let device = self.device()?;
         let (fault, left) = open_and_close(self.alloc, device, read_frames(&mut words)?)?;
@@ -336,7 +336,7 @@ impl<D: Database, M: Machine> Stores<D, M> {
         tell(None, answer)
     }
 
-    /// Opens a copy of the device, of which a sync fails in a change.
+    /// Opens a copy of the device, and makes a change in which a sync fails.
     fn shut(&mut self, words: Words<'_>, answer: &mut String) -> Result<(), RowFault> {
         let trial = Trial::read(self.device()?, words)?;
         let store = shut(self.alloc, &trial)?;
@@ -355,7 +355,7 @@ impl<D: Database, M: Machine> Stores<D, M> {
         tell(None, answer)
     }
 
-    /// Opens the store of the device, whose files stay where they are refused.
+    /// Opens the store of the device. The files stay if they are refused.
     fn restart(&mut self, mut words: Words<'_>, answer: &mut String) -> Result<(), RowFault> {
         let log_frames = read_frames(&mut words)?;
         match mem::replace(&mut self.held, Held::Nothing) {
