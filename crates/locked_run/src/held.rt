@@ -1,5 +1,5 @@
 //! What stands under locks: a guardian with its part of the run, and the registry with its own.
-ghost use Rattle.std.specs.Prelude.{◌≡◌, ◌++◌, ◌∷◌, [], ℕ};
+ghost use Rattle.std.specs.Prelude.{◌≡◌, ◌==◌, ◌++◌, ◌∷◌, [], ℕ};
 ghost use Rattle.world_steps.specs.Naming.{first_named, second_named};
 ghost use Rattle.world_steps.specs.Standings.{standing};
 ghost use Rattle.locked_run.specs.Parts.{IsHeld, IsHeldThere, guardian_part, number_of, registry_part};
@@ -112,6 +112,13 @@ impl<K: OfRun, G: Guardian> Held<K, G> {
             left,
             of: PhantomData,
         }
+    }
+
+    /// Whether the guardian has drawn all its stamps.
+    pub fn is_used_up(&self) -> bool
+        ensures { result ≡ (self.now.left == 0) }
+    {
+        self.left == 0
     }
 
     /// Gives up what it knows of the run to another part.
