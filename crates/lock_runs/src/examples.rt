@@ -7,7 +7,6 @@ ghost use Rattle.registry.specs.Registries.{StandsIn};
 ghost use Rattle.world_steps.specs.Standings.{IsWorld};
 ghost use Rattle.world.specs.Worlds.{seen_of};
 
-use crate::locks::Locks;
 use crate::threads::answered_to;
 use guardian::Guardian;
 use layer_contracts as layers;
@@ -15,6 +14,7 @@ use locked_run::{OfRun, Start};
 use registry::Registry;
 use rows::{Row, RowFault, Subject};
 use run_model::{Answer, Setup, SetupFault, Step};
+use runtime::{OpenGate, Runtime};
 use stable_store::PlainStable;
 use std::alloc::{AllocError, Global};
 use std::marker::Brand;
@@ -139,25 +139,25 @@ fn listed<K: OfRun, H: Wait>(
     requires world { IsWorld (λ g s. IsWhole plain_view g s) (λ g. seen_of plain_view g) (StandsIn registry)
         K.opening [] guardians.items }
 {
-    let locks = Locks::<K, Registry, Guardian<PlainStable>>::new(
-        alloc, start, registry, guardians,
+    let runtime = Runtime::<K, Registry, Guardian<PlainStable>, OpenGate>::new(
+        alloc, start, registry, guardians, OpenGate,
     )?;
-    let answers = answers_of(alloc, &locks, rt, &steps);
-    locks.close()?;
+    let answers = answers_of(alloc, &runtime, rt, &steps);
+    runtime.close_all()?;
     answers
 }
 
 /// What the steps are answered, one after another.
 fn answers_of<K: OfRun, R: layers::Forest, G: layers::Guardian, H: Wait>(
     alloc: Global,
-    locks: &Locks<K, R, G>,
+    runtime: &Runtime<K, R, G, OpenGate>,
     rt: &H,
     steps: &[Step],
 ) -> Result<Vec<Answer>, RowFault> {
     let mut answers = Vec::new(alloc);
     for step in steps {
         answers
-            .push(answered_to(locks, rt, step)?.answer)
+            .push(answered_to(runtime, rt, step)?.answer)
             .map_err(AllocError::from)?;
     }
     Ok(answers)

@@ -7,10 +7,9 @@ ghost use Rattle.guardian.specs.Guardians.{IsWhole};
 ghost use Rattle.registry.specs.Registries.{StandsIn};
 ghost use Rattle.world_steps.specs.Standings.{IsWorld};
 ghost use Rattle.world.specs.Worlds.{seen_of};
-ghost use Rattle.lock_runs.specs.Ends.{IsRunOf};
+ghost use Rattle.runtime.specs.Answering.{IsRunOf};
 
 use crate::examples::{started, world_of};
-use crate::locks::Locks;
 use crate::random::Walk;
 use guardian::Guardian;
 use layer_contracts as layers;
@@ -19,6 +18,7 @@ use locked_run::{Answered, OfRun, Start};
 use registry::Registry;
 use rows::RowFault;
 use run_model::{Answer, Step};
+use runtime::{OpenGate, Runtime, StepFault};
 use stable_store::PlainStable;
 use std::alloc::{AllocError, Global};
 use std::marker::Brand;
@@ -91,11 +91,11 @@ fn both<K: OfRun + Send + Sync, H: Threads + Wait + Sync>(
         K.opening [] guardians.items }
     ensures { IfOk result (λ r. IsRunOf K.opening r.0) }
 {
-    let locks = Locks::<K, Registry, Guardian<PlainStable>>::new(
-        alloc, start, registry, guardians,
+    let runtime = Runtime::<K, Registry, Guardian<PlainStable>, OpenGate>::new(
+        alloc, start, registry, guardians, OpenGate,
     )?;
-    let (one, other) = walk_both(alloc, rt, &locks, count, seed);
-    let events = locks.close()?;
+    let (one, other) = walk_both(alloc, rt, &runtime, count, seed);
+    let events = runtime.close_all()?;
     Ok((events, joined(one?, other?)?))
 }
 
@@ -112,14 +112,14 @@ fn joined(one: Vec<Made>, other: Vec<Made>) -> Result<Vec<Made>, AllocError> {
 fn walk_both<K: OfRun + Send + Sync, H: Threads + Wait + Sync>(
     alloc: Global,
     rt: &H,
-    locks: &Locks<K, Registry, Guardian<PlainStable>>,
+    runtime: &Runtime<K, Registry, Guardian<PlainStable>, OpenGate>,
     count: u64,
     seed: u64,
 ) -> (Result<Vec<Made>, RowFault>, Result<Vec<Made>, RowFault>) {
     join(
         rt,
-        move || walk(alloc, rt, locks, count, seed),
-        move || walk(alloc, rt, locks, count, seed.wrapping_add(1)),
+        move || walk(alloc, rt, runtime, count, seed),
+        move || walk(alloc, rt, runtime, count, seed.wrapping_add(1)),
     )
 }
 
@@ -127,7 +127,7 @@ fn walk_both<K: OfRun + Send + Sync, H: Threads + Wait + Sync>(
 fn walk<K: OfRun, R: layers::Forest, G: layers::Guardian, H: Wait>(
     alloc: Global,
     rt: &H,
-    locks: &Locks<K, R, G>,
+    runtime: &Runtime<K, R, G, OpenGate>,
     count: u64,
     seed: u64,
 ) -> Result<Vec<Made>, RowFault> {
@@ -135,7 +135,7 @@ fn walk<K: OfRun, R: layers::Forest, G: layers::Guardian, H: Wait>(
     let mut walk = Walk::new(alloc, seed);
     for _ in 0..count {
         let step = walk.next_step()?;
-        let answered = answered_to(locks, rt, &step)?;
+        let answered = answered_to(runtime, rt, &step)?;
         walk.note(&answered.answer)?;
         if let Some(last) = made_of(step, answered) {
             made.push(last).map_err(AllocError::from)?;
@@ -146,14 +146,14 @@ fn walk<K: OfRun, R: layers::Forest, G: layers::Guardian, H: Wait>(
 
 /// The answer of a step under locks.
 pub(crate) fn answered_to<K: OfRun, R: layers::Forest, G: layers::Guardian, H: Wait>(
-    locks: &Locks<K, R, G>,
+    runtime: &Runtime<K, R, G, OpenGate>,
     rt: &H,
     step: &Step,
 ) -> Result<Answered<K>, RowFault> {
-    match locks.step(rt, step) {
-        Ok(Some(answered)) => Ok(answered),
-        Err(Fault::Memory) => Err(RowFault::Memory),
-        Ok(None) | Err(Fault::Stable) => Err(RowFault::Unread),
+    match runtime.step(rt, step) {
+        Ok(answered) => Ok(answered),
+        Err(StepFault::Memory) => Err(RowFault::Memory),
+        Err(StepFault::Stable | StepFault::UsedUp) => Err(RowFault::Unread),
     }
 }
 

@@ -1,5 +1,5 @@
 use Rattle.std.proofs.Common.{length, vec_capacity, vec_len, ◌≡◌, ◌≤◌}
-use Rattle.lock_runs.proofs.locks.locked.Given as goal
+use Rattle.runtime.proofs.runtime.placed.Given as goal
 
 abbrev pub invariant-loop-held : goal.invariant-loop-held
 invariant-loop-held g l = record {

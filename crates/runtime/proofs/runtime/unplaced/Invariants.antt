@@ -1,5 +1,5 @@
 use Rattle.std.proofs.Common.{length, vec_capacity, vec_len, ◌≡◌, ◌≤◌}
-use Rattle.lock_runs.proofs.locks.unlocked.Given as goal
+use Rattle.runtime.proofs.runtime.unplaced.Given as goal
 
 abbrev pub invariant-loop-place : goal.invariant-loop-place
 invariant-loop-place g l = record {

@@ -1,0 +1,15 @@
+//! Guardians under locks of their own: a service calls one `Runtime` from all its threads.
+//!
+//! A step locks the guardians that it names, in rising number, and the registry last. Each answer is that of the
+//! definitions at a run, and all threads make one run (`locked_run`). `op_wait` waits until an operation is granted.
+#![tactic(auto)]
+
+mod fault;
+mod gate;
+mod place;
+mod runtime;
+mod waiting;
+
+pub use fault::StepFault;
+pub use gate::{Gate, OpenGate};
+pub use runtime::Runtime;
