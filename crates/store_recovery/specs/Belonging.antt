@@ -5,6 +5,7 @@ use Rattle.std.specs.FinMap as map
 use Rattle.values.specs.declared.content.Content.{Content}
 use Rattle.values.specs.declared.content.Content.TheVariants as content
 use Rattle.values.specs.declared.record.Field.{Field}
+use Rattle.values.specs.declared.value.Kind.{Kind}
 use Rattle.values.specs.declared.variant.Tag.{Tag}
 use Rattle.values.specs.Values.{kind_of, same_kind}
 use Rattle.values.specs.Words.{same_bytes}
@@ -25,18 +26,32 @@ same_field f g = same_bytes f.name g.name && same_kind (kind_of f.value) (kind_o
 abbrev pub same_tag : Tag → Tag → Bool
 same_tag t u = same_bytes t.name u.name && same_kind t.kind u.kind
 
--- contents of one type: records of the same fields, arrays of the same kind, variants of the same tags, counters
-abbrev pub same_type : Content → Content → Bool
-same_type (content.Record fs) (content.Record gs) = alike_each same_field fs gs
-same_type (content.Array a) (content.Array b) = same_kind a.kind b.kind
-same_type (content.Variant v) (content.Variant w) = alike_each same_tag v.tags w.tags
-same_type (content.Counter m) (content.Counter n) = true
-same_type _ _ = false
+-- a record of fields alike
+abbrev pub is_record : List Field → Content → Bool
+is_record fs (content.Record gs) = alike_each same_field fs gs
+is_record fs _ = false
+
+-- an array of this kind
+abbrev pub is_array : Kind → Content → Bool
+is_array k (content.Array b) = same_kind k b.kind
+is_array k _ = false
+
+-- a variant of tags alike
+abbrev pub is_variant : List Tag → Content → Bool
+is_variant ts (content.Variant w) = alike_each same_tag ts w.tags
+is_variant ts _ = false
 
 -- it counts
 abbrev pub is_counter : Content → Bool
 is_counter (content.Counter n) = true
 is_counter _ = false
+
+-- The other content is of the same type. Each type has its line here, so that a new one cannot be forgotten.
+abbrev pub same_type : Content → Content → Bool
+same_type (content.Record fs) other = is_record fs other
+same_type (content.Array a) other = is_array a.kind other
+same_type (content.Variant v) other = is_variant v.tags other
+same_type (content.Counter n) other = is_counter other
 
 -- a part may stand for an object that was set up with this content: a value of its type, or a delta for a counter
 abbrev pub suits : Option Content → Part → Bool

@@ -1,9 +1,9 @@
 //! Which contents are of one type.
 ghost use Rattle.std.specs.Prelude.{◌≡◌, Some};
-ghost use Rattle.store_recovery.specs.Belonging.{alike_each, same_field, same_tag, same_type, suits};
+ghost use Rattle.store_recovery.specs.Belonging.{alike_each, is_array, is_record, is_variant, same_field, same_tag, same_type, suits};
 
 use atomic_types::Part;
-use values::{Content, Field, Tag};
+use values::{Content, Field, Kind, Tag};
 
 /// Whether a part may stand for an object that was set up with this content: a value of its type, or a delta for a counter.
 pub(crate) fn suits(content: &Content, part: &Part) -> bool
@@ -19,15 +19,37 @@ pub(crate) fn suits(content: &Content, part: &Part) -> bool
 fn same_type(content: &Content, other: &Content) -> bool
     ensures { result ≡ same_type content.now other.now }
 {
-    match (content, other) {
-        (Content::Record(record), Content::Record(other)) => {
-            same_fields(record.fields(), other.fields())
-        }
-        (Content::Array(array), Content::Array(other)) => array.kind() == other.kind(),
-        (Content::Variant(variant), Content::Variant(other)) => {
-            same_tags(variant.tags(), other.tags())
-        }
-        (Content::Counter(_), Content::Counter(_)) => true,
+    match content {
+        Content::Record(record) => is_record(record.fields(), other),
+        Content::Array(array) => is_array(array.kind(), other),
+        Content::Variant(variant) => is_variant(variant.tags(), other),
+        Content::Counter(_) => matches!(other, Content::Counter(_)),
+    }
+}
+
+fn is_record(fields: &[Field], other: &Content) -> bool
+    ensures { result ≡ is_record fields.now other.now }
+{
+    match other {
+        Content::Record(other) => same_fields(fields, other.fields()),
+        _ => false,
+    }
+}
+
+fn is_array(kind: Kind, other: &Content) -> bool
+    ensures { result ≡ is_array kind other.now }
+{
+    match other {
+        Content::Array(other) => kind == other.kind(),
+        _ => false,
+    }
+}
+
+fn is_variant(tags: &[Tag], other: &Content) -> bool
+    ensures { result ≡ is_variant tags.now other.now }
+{
+    match other {
+        Content::Variant(other) => same_tags(tags, other.tags()),
         _ => false,
     }
 }
