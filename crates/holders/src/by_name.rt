@@ -1,7 +1,7 @@
 //! Rows in a vector, in the order of their names, whatever a row is: mostly there are one or two. A name is compared with the
 //! last row's first, and a lesser one is looked for among the others by a binary search.
 //!
-//! `held_objects` keeps its rows by this too.
+//! `guardian_index` keeps its rows by this too.
 ghost use Rattle.std.specs.Prelude.{◌≡◌, ◌≤◌, ◌&&◌, not, length, drop, filter, is_some, IfOk, IfErr, OnOk, OnErr, if◌then◌else◌};
 ghost use Rattle.std.specs.BTreeMap.{insert_entry, is_at};
 ghost use Rattle.std.specs.List.{list_any, take_while};

@@ -1,7 +1,7 @@
 //! A guardian's stable store in the tables of a SQL database.
 //!
 //! `SqlStable` keeps the content in maps too, so that each answer comes from memory and a call touches only the rows that
-//! it changes; a call is one transaction. What the rows stand for is said in `store_contents`.
+//! it changes; a call is one transaction. `store_tables` says what the rows stand for.
 #![tactic(auto)]
 
 mod asking;
