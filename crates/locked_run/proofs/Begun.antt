@@ -1,11 +1,12 @@
 -- The beginning of a run: each guardian with the part of its number.
-use Rattle.std.proofs.Common.{List, Some, [], ap, ap₂, arith, length, refl, slice_get, subst, suc, sym, zero, ℕ, ◌++◌, ◌+◌, ◌-◌, ◌<◌, ◌∙◌, ◌∷◌, ◌≡◌}
+use Rattle.std.proofs.Common.{List, Some, [], ap, ap₂, arith, length, refl, slice_get, subst, suc, sym, zero, ℕ, ◌++◌, ◌+◌, ◌-◌, ◌<◌, ◌≤◌, ◌∙◌, ◌∷◌, ◌≡◌}
 use Rattle.atomic_table.specs.Seated.{TableId}
 use Rattle.one_run.specs.declared.piece.Piece.{Piece}
 use Rattle.one_run.specs.declared.run.Part.{Part}
 use Rattle.one_run.specs.Pieces.{places_from, seen_of}
 use Rattle.one_run.specs.Rules.{first_of, others_of}
 use Rattle.run_model.specs.declared.history.Event.{Event}
+use Rattle.run_model.specs.LocalHistories.{Stamped}
 use Rattle.run_model.specs.Openings.{Opening}
 use Rattle.layer_contracts.specs.Guardians.{GuardianState}
 use Rattle.world_steps.specs.Standings.{standing}
@@ -33,10 +34,26 @@ module _ (k n : ℕ) (v : List (Piece Event)) (is : v ≡ places_from (k + 2) (n
       ap others_of whole ∙ ap₂ (λ x y. places_from {E = Event} x y) p m
 
 -- a guardian with the part of its number
-pub held_at : {opening : Opening} {table : TableId} {stands : GuardianState → Type 0} {part : Part Event} (number : ℕ) → part.token.table_id ≡ table
-    → part.token.me.0 ≡ guardian_part number stamps [] ∷ [] → stands (standing opening [] number) → IsHeld opening table stands part stamps
-held_at number table parts here =
-    record { number = number; past = []; allowed = stamps; of_table = table; parts = parts; enough = omega arith; run = tt; here = here }
+pub held_at : {opening : Opening} {table : TableId} {stands : GuardianState → Type 0} {part : Part Event} {history : List Stamped} (number : ℕ)
+    → 1 ≤ number → number ≤ length opening.setup → history ≡ [] → part.token.table_id ≡ table → part.token.me.0 ≡ guardian_part number stamps [] ∷ []
+    → stands (standing opening [] number) → IsHeld opening table stands part stamps history
+held_at number first last kept table parts here = record {
+  number = number;
+  past = [];
+  allowed = stamps;
+  of_table = table;
+  parts = parts;
+  enough = omega arith;
+  run = tt;
+  here = here;
+  first = first;
+  last = last;
+  kept = kept;
+}
+
+pub held_count : {G : Type 0} (number : ℕ) (xs : List G) → length (held_from number xs) ≡ length xs
+held_count number [] = refl
+held_count number (x ∷ xs) = ap suc (held_count (suc number) xs)
 
 pub held_more : {G : Type 0} (number : ℕ) (xs : List G) (x : G) → held_from number (xs ++ x ∷ []) ≡ held_from number xs ++ held_first (number + length xs) x ∷ []
 held_more number [] x = ap (λ n. held_first n x ∷ []) (omega arith)

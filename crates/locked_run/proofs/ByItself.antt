@@ -12,7 +12,7 @@ use Rattle.run_model.specs.declared.step.Step.{Step}
 use Rattle.run_model.specs.declared.step.Step.TheVariants.{Abort, Arms, Call, Close, Commit, Crash, Decide, NestedTop, Op, Prepare, Recover, Tell, Top}
 use Rattle.run_model.specs.Actions.{home_of, is_begun}
 use Rattle.run_model.specs.Answers.{answer_of}
-use Rattle.run_model.specs.LocalHistories.{answer_lent, carried_lent, events_of, events_there, local_history, names_guardian, numbered, registry_history, takes_registry}
+use Rattle.run_model.specs.LocalHistories.{Stamped, answer_lent, carried_lent, events_of, events_there, local_history, names_guardian, numbered, registry_history, takes_registry}
 use Rattle.run_model.specs.LocalReadings.{LocalEvent, events_here, nothing_carried}
 use Rattle.run_model.specs.Openings.{Opening}
 use Rattle.run_model.specs.Runs.{IsRun}
@@ -44,7 +44,9 @@ use Rattle.layer_contracts.specs.Guardians.{event_of}
 use Rattle.locked_run.specs.Acting.{StoreAfter, is_own, run_before}
 use Rattle.locked_run.specs.Acting.Outcome.{failed, taken}
 use Rattle.locked_run.specs.Parts.{HasGuardian, IsHeld, Moved, guardian_part}
+use Rattle.locked_run.specs.Stored.{guardian_events}
 use Rattle.locked_run.proofs.Acted.{seen_now}
+use Rattle.locked_run.proofs.Recorded.{events_stay, named_event}
 use Rattle.locked_run.proofs.Together.{goes_further, has_guardian, less_count}
 use Rattle.locked_run.specs.Own.{is_own_here, own_answer}
 
@@ -317,6 +319,12 @@ module _ {opening : Opening} {one : GuardianState → Type 0} {g : ℕ} {v : Lis
         let p = h.place in
         subst (λ z. HasGuardian opening new g z) (sym (ap others_of adds.seen)) (has_guardian opening (it ∷ now) (with_less v) adds.run g (omega (arith, c, p)) led)
 
+    -- and has kept the longer run's events
+    pub recorded : {x y : List Stamped} → x ≡ guardian_events opening (seen_of v) g → y ≡ (number, it) ∷ x → y ≡ guardian_events opening (it ∷ now) g
+    recorded before is =
+        is ∙ ap₂ (λ n l. (n, it) ∷ l) adds.number (before ∙ sym (events_stay opening g (seen_of v) still))
+        ∙ sym (named_event opening it now g (own_named g step now own_now g ∙ eqb_self g))
+
     pub store_kept : (old new : View) → LeavesStore (standing opening (seen_of v) g) (by_itself it) old new None → StoreAfter opening step (taken true) (seen_of w) g old new
     store_kept old new left =
         let there = subst (λ x. LeavesStore x (by_itself it) old new None) (sym same) left in
@@ -326,7 +334,8 @@ module _ {opening : Opening} {one : GuardianState → Type 0} {g : ℕ} {v : Lis
 
 -- ---- under its lock
 
-module _ {opening : Opening} {table : TableId} {one : GuardianState → Type 0} {a : Part Event} {left : ℕ} (x : IsHeld opening table one a left) {w : List (Piece Event)}
+module _ {opening : Opening} {table : TableId} {one : GuardianState → Type 0} {a : Part Event} {left : ℕ} {history : List Stamped}
+    (x : IsHeld opening table one a left history) {w : List (Piece Event)}
     (looks : Looks (IsRun opening) touches a.token.me.0 w) where
   abbrev pub held_alone : List (Piece Event)
   held_alone = guardian_part x.number x.allowed x.past ∷ []
@@ -345,6 +354,11 @@ module _ {opening : Opening} {table : TableId} {one : GuardianState → Type 0} 
       let here : one (standing opening looks.past x.number) =
       subst (λ l. one (record { opening = opening; number = x.number; past = l })) (sym (history_stays opening x.number x.past fits_alone.0)) x.here in
       subst (λ u. HasGuardian opening one x.number u) (sym seen_alone) (has_guardian opening looks.past held_alone looks.run x.number place_alone here)
+
+  -- what it has kept is that of the run as it is now
+  pub kept_alone : history ≡ guardian_events opening (seen_of w) x.number
+  kept_alone =
+      x.kept ∙ sym (events_stay opening x.number x.past fits_alone.0) ∙ ap (λ q. guardian_events opening q x.number) (sym (ap seen_of seen_alone))
 
   pub alone_since : {last : List Event} → AllFit touches last w → GoesOn touches (Some (suc x.number)) x.past last
   alone_since {last} after =

@@ -1,7 +1,14 @@
 pub mod Named
+pub mod Stamps
+pub mod RisingStamps
 pub mod Together
+pub mod Recorded
 pub mod Acted
 pub mod Under
 pub mod Begun
-pub mod Closed
 pub mod ByItself
+pub mod Rising
+pub mod Whole
+pub mod Joined
+pub mod Behind
+pub mod Gathered

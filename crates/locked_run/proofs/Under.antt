@@ -6,6 +6,7 @@ use Rattle.one_run.specs.declared.run.Part.{Part}
 use Rattle.one_run.specs.Pieces.{AllFit, GoesOn, count, first_left, seen_of, with_less, with_seen}
 use Rattle.one_run.specs.Rules.{Looks, first_of, others_of}
 use Rattle.run_model.specs.declared.history.Event.{Event}
+use Rattle.run_model.specs.LocalHistories.{Stamped}
 use Rattle.run_model.specs.Openings.{Opening}
 use Rattle.run_model.specs.Runs.{IsRun}
 use Rattle.run_laws.proofs.Names.{eqb_self}
@@ -19,7 +20,9 @@ use Rattle.run_model.specs.declared.step.Step.{Step}
 use Rattle.layer_contracts.proofs.Stores.{stays_same}
 use Rattle.locked_run.specs.Acting.{IsLeft, IsLeftThere, Outcome, StoreAfter, has_added, run_before}
 use Rattle.locked_run.specs.Acting.Outcome.{elsewhere}
-use Rattle.locked_run.specs.Parts.{AreLocked, HasRegistry, InHeld, IsHeld, IsHeldThere, Moved, guardian_part, number_of, registry_part}
+use Rattle.locked_run.specs.Parts.{AreKept, AreLocked, HasRegistry, InHeld, IsHeld, IsHeldThere, Moved, guardian_part, number_of, registry_part}
+use Rattle.locked_run.specs.Stored.{guardian_events, registry_events}
+use Rattle.locked_run.proofs.Recorded.{events_stay, registry_events_stay}
 use Rattle.locked_run.proofs.Together.{goes_further, has_guardian, has_registry}
 
 abbrev pub three : ℕ → ℕ → List Event → ℕ → ℕ → List Event → ℕ → List Event → List (Piece Event)
@@ -52,7 +55,8 @@ module _ (g l n : ℕ) (p r : List Event) where
 -- ---- taken together
 
 module _ {opening : Opening} {table : TableId} {forest : ForestState → Type 0} {one other : GuardianState → Type 0} {a b c : Part Event} {left more : ℕ}
-    (x : IsHeld opening table one a left) (y : IsHeld opening table other b more) (z : IsHeldThere opening table forest c) {w : List (Piece Event)}
+    {first second registry : List Stamped} (x : IsHeld opening table one a left first) (y : IsHeld opening table other b more second)
+    (z : IsHeldThere opening table forest c registry) {w : List (Piece Event)}
     (looks : Looks (IsRun opening) touches ((a.token.me.0 ++ b.token.me.0) ++ c.token.me.0) w) where
   abbrev pub held_three : List (Piece Event)
   held_three = three x.number x.allowed x.past y.number y.allowed y.past z.left z.past
@@ -82,11 +86,21 @@ module _ {opening : Opening} {table : TableId} {forest : ForestState → Type 0}
         second = has_guardian opening q held_three looks.run y.number (three_second x.number x.allowed y.number y.allowed z.left x.past y.past z.past) also;
       })
 
+  -- what they have kept is that of the run as it is now
+  pub kept_three : AreKept opening x.number y.number (seen_of w) first second registry
+  kept_three =
+      subst (λ q. AreKept opening x.number y.number q first second registry) (sym (ap seen_of seen_three))
+      (record {
+        first = x.kept ∙ sym (events_stay opening x.number x.past fits_three.0);
+        second = y.kept ∙ sym (events_stay opening y.number y.past fits_three.1.0);
+        registry = z.kept ∙ sym (registry_events_stay opening z.past fits_three.1.1.0);
+      })
+
   pub left_three : left ≤ first_left w
   left_three = let e = x.enough in let same : first_left w ≡ x.allowed = ap first_left seen_three in omega arith
 
 module _ {opening : Opening} {table : TableId} {forest : ForestState → Type 0} {one : GuardianState → Type 0} {a c : Part Event} {left : ℕ}
-    (x : IsHeld opening table one a left) (z : IsHeldThere opening table forest c) {w : List (Piece Event)}
+    {first registry : List Stamped} (x : IsHeld opening table one a left first) (z : IsHeldThere opening table forest c registry) {w : List (Piece Event)}
     (looks : Looks (IsRun opening) touches (a.token.me.0 ++ c.token.me.0) w) where
   abbrev pub held_two : List (Piece Event)
   held_two = two x.number x.allowed x.past z.left z.past
@@ -114,6 +128,13 @@ module _ {opening : Opening} {table : TableId} {forest : ForestState → Type 0}
         first = mine;
         second = mine;
       })
+
+  -- what they have kept is that of the run as it is now
+  pub kept_two : AreKept opening x.number x.number (seen_of w) first first registry
+  kept_two =
+      let mine = x.kept ∙ sym (events_stay opening x.number x.past fits_two.0) in
+      subst (λ q. AreKept opening x.number x.number q first first registry) (sym (ap seen_of seen_two))
+      (record { first = mine; second = mine; registry = z.kept ∙ sym (registry_events_stay opening z.past fits_two.1.0) })
 
   pub left_two : left ≤ first_left w
   left_two = let e = x.enough in let same : first_left w ≡ x.allowed = ap first_left seen_two in omega arith
@@ -163,14 +184,28 @@ two_back added g l n p r past v w is moved =
     of false = refl
 
 -- a guardian with its part again
-pub held_again : {opening : Opening} {table : TableId} {one : GuardianState → Type 0} {part : Part Event} (g l left : ℕ) (q : List Event) → part.token.table_id ≡ table
-    → part.token.me.0 ≡ guardian_part g l q ∷ [] → left ≤ l → IsRun opening q → one (standing opening q g) → IsHeld opening table one part left
-held_again g l left q table parts enough run here =
-    record { number = g; past = q; allowed = l; of_table = table; parts = parts; enough = enough; run = run; here = here }
+pub held_again : {opening : Opening} {table : TableId} {before one : GuardianState → Type 0} {was part : Part Event} {left : ℕ} {old new : List Stamped}
+    (x : IsHeld opening table before was left old) (l more : ℕ) (q : List Event) → part.token.table_id ≡ table
+    → part.token.me.0 ≡ guardian_part x.number l q ∷ [] → more ≤ l → IsRun opening q → one (standing opening q x.number)
+    → new ≡ guardian_events opening q x.number → IsHeld opening table one part more new
+held_again x l more q table parts enough run here kept = record {
+  number = x.number;
+  past = q;
+  allowed = l;
+  of_table = table;
+  parts = parts;
+  enough = enough;
+  run = run;
+  here = here;
+  first = x.first;
+  last = x.last;
+  kept = kept;
+}
 
-pub held_there_again : {opening : Opening} {table : TableId} {forest : ForestState → Type 0} {part : Part Event} (n : ℕ) (q : List Event) → part.token.table_id ≡ table
-    → part.token.me.0 ≡ registry_part n q ∷ [] → IsRun opening q → forest (forest_of opening q) → IsHeldThere opening table forest part
-held_there_again n q table parts run there = record { past = q; left = n; of_table = table; parts = parts; run = run; there = there }
+pub held_there_again : {opening : Opening} {table : TableId} {forest : ForestState → Type 0} {part : Part Event} {history : List Stamped} (n : ℕ) (q : List Event)
+    → part.token.table_id ≡ table → part.token.me.0 ≡ registry_part n q ∷ [] → IsRun opening q → forest (forest_of opening q) → history ≡ registry_events opening q
+    → IsHeldThere opening table forest part history
+held_there_again n q table parts run there kept = record { past = q; left = n; of_table = table; parts = parts; run = run; there = there; kept = kept }
 
 -- ---- what a step leaves
 
@@ -246,7 +281,8 @@ module _ {p r past now : List Event} {v : List (Piece Event)} {g l n : ℕ} (is 
 
 -- ---- the registry alone
 
-module _ {opening : Opening} {table : TableId} {forest : ForestState → Type 0} {c : Part Event} (z : IsHeldThere opening table forest c) (part : Part Event)
+module _ {opening : Opening} {table : TableId} {forest : ForestState → Type 0} {c : Part Event} {history : List Stamped}
+    (z : IsHeldThere opening table forest c history) (part : Part Event)
     (looks : Looks (IsRun opening) touches c.token.me.0 part.token.me.0) where
   abbrev pub held_one : List (Piece Event)
   held_one = registry_part z.left z.past ∷ []
@@ -264,10 +300,11 @@ module _ {opening : Opening} {table : TableId} {forest : ForestState → Type 0}
       let place : 0 < count 0 held_one = omega arith in
       subst (λ u. HasRegistry opening forest u) (sym seen_one) (has_registry opening looks.past held_one looks.run place there)
 
-  pub one_again : part.token.table_id ≡ table → IsHeldThere opening table forest part
+  pub one_again : part.token.table_id ≡ table → IsHeldThere opening table forest part history
   one_again same =
       let seen : seen_of part.token.me.0 ≡ looks.past = ap seen_of seen_one in
       held_there_again z.left (seen_of part.token.me.0) same (seen_one ∙ ap (λ l. registry_part z.left l ∷ []) (sym seen)) locked_one.run locked_one.there
+      (z.kept ∙ sym (registry_events_stay opening z.past fits_one.0) ∙ ap (λ l. registry_events opening l) (sym seen))
 
   pub one_since_then : {old : List Event} (o : Outcome) → has_added o ≡ false → seen_of c.token.me.0 ≡ old → IsLeftThere o old (seen_of part.token.me.0)
   one_since_then {old} o not is =

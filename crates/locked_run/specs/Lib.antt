@@ -1,5 +1,9 @@
 pub mod Tables
+pub mod Stored
 pub mod Parts
 pub mod Acting
 pub mod Beginning
 pub mod Own
+pub mod Closing
+pub mod Settling
+pub mod Behind

@@ -1,20 +1,20 @@
 -- What is known of the run by what is locked.
-use Rattle.std.specs.Prelude.{◌≡◌, ◌-◌, ◌<◌, ◌≤◌, ◌++◌, ℕ, suc, Bool, List, [], ◌∷◌, length, slice_get, if◌then◌else◌, Option, Some, None}
+use Rattle.std.specs.Prelude.{◌≡◌, ◌-◌, ◌<◌, ◌≤◌, ℕ, suc, Bool, List, [], ◌∷◌, length, if◌then◌else◌, Option, Some, None}
 use Rattle.atomic_table.specs.Seated.{TableId}
 use Rattle.one_run.specs.declared.piece.Piece.{Piece}
 use Rattle.one_run.specs.declared.run.Part.{Part}
-use Rattle.one_run.specs.Pieces.{AllFit, GoesOn, count, seen_of, with_less, with_seen, witness}
-use Rattle.run_model.specs.LocalHistories.{local_history, numbered, registry_history}
+use Rattle.one_run.specs.Pieces.{GoesOn, count, seen_of, with_less, with_seen, witness}
+use Rattle.run_model.specs.LocalHistories.{Stamped}
 use Rattle.run_model.specs.declared.history.Event.{Event}
 use Rattle.run_model.specs.Openings.{Opening}
 use Rattle.run_model.specs.Runs.{IsRun}
-use Rattle.run_laws.specs.Serving.{IsServed}
 use Rattle.shared_run.specs.Places.{touches}
 use Rattle.layer_contracts.specs.Guardians.{GuardianState}
 use Rattle.layer_contracts.specs.Forests.{ForestState}
 use Rattle.layer_contracts.specs.Stores.{IsStoreOf}
 use Rattle.stable_store.specs.Calls.{View}
 use Rattle.world_steps.specs.Standings.{forest_of, standing}
+use Rattle.locked_run.specs.Stored.{guardian_events, registry_events}
 
 -- the part of a guardian, and of the registry
 abbrev pub guardian_part : ℕ → ℕ → List Event → Piece Event
@@ -24,9 +24,9 @@ abbrev pub registry_part : ℕ → List Event → Piece Event
 registry_part left past = record { place = Some 0; left = left; seen = past }
 
 -- A guardian under its lock stands where the run leads it, as far as its part has seen it; and
--- nothing has touched it since. It may add so many events at least.
+-- nothing has touched it since. It keeps its events of that run, and may add so many at least.
 pub record IsHeld (opening : Opening) (table : TableId) (stands : GuardianState → Type 0)
-    (part : Part Event) (left : ℕ) : Type 0 where
+    (part : Part Event) (left : ℕ) (history : List Stamped) : Type 0 where
   pub number : ℕ
   pub past : List Event
   pub allowed : ℕ
@@ -35,16 +35,27 @@ pub record IsHeld (opening : Opening) (table : TableId) (stands : GuardianState 
   pub enough : left ≤ allowed
   pub run : IsRun opening past
   pub here : stands (standing opening past number)
+  pub first : 1 ≤ number
+  pub last : number ≤ length opening.setup
+  pub kept : history ≡ guardian_events opening past number
 
 -- and so does the registry
 pub record IsHeldThere (opening : Opening) (table : TableId) (stands : ForestState → Type 0)
-    (part : Part Event) : Type 0 where
+    (part : Part Event) (history : List Stamped) : Type 0 where
   pub past : List Event
   pub left : ℕ
   pub of_table : part.token.table_id ≡ table
   pub parts : part.token.me.0 ≡ registry_part left past ∷ []
   pub run : IsRun opening past
   pub there : stands (forest_of opening past)
+  pub kept : history ≡ registry_events opening past
+
+-- Two guardians, which may be one twice, and the registry keep their events of this run.
+pub record AreKept (opening : Opening) (g h : ℕ) (past : List Event)
+    (one other there : List Stamped) : Type 0 where
+  pub first : one ≡ guardian_events opening past g
+  pub second : other ≡ guardian_events opening past h
+  pub registry : there ≡ registry_events opening past
 
 -- A guardian under its lock as contracts see it: its number, the run as it was when the guardian
 -- was named last, and how many events it may still draw a stamp for.
@@ -109,42 +120,3 @@ pub record AreOfOne (opening : Opening) (one other : List Event) : Type 0 where
   pub run : IsRun opening past
   pub first : GoesOn touches None one past
   pub second : GoesOn touches None other past
-
--- At the end there is one run, of this many events, which is served; and what is known of it by
--- parts is so.
-pub record HasEnded (opening : Opening) (v : List (Piece Event)) (number : ℕ) : Type 0 where
-  pub past : List Event
-  pub served : IsServed opening past
-  pub fits : AllFit touches past v
-  pub counted : number ≡ length past
-
--- These parts know what this guardian has seen, and that nothing has touched it since; and of the
--- registry likewise.
-abbrev pub Knows : {G : Type 0} → List (Piece Event) → InHeld G → Type 0
-Knows v x = (past : List Event) → AllFit touches past v → GoesOn touches (Some (suc x.number)) x.seen past
-
-abbrev pub KnowsThere : List (Piece Event) → List Event → Type 0
-KnowsThere v there = (past : List Event) → AllFit touches past v → GoesOn touches (Some 0) there past
-
-abbrev pub AllKnown : {G : Type 0} → List (Piece Event) → List (InHeld G) → Type 0
-AllKnown v [] = Unit {0}
-AllKnown v (x ∷ xs) = Knows v x × AllKnown v xs
-
--- some of these guardians have given up what they know
-pub record IsClosing {G : Type 0} (there : List Event) (all left : List (InHeld G))
-    (v : List (Piece Event)) : Type 0 where
-  pub done : List (InHeld G)
-  pub whole : all ≡ left ++ done
-  pub known : AllKnown v done
-  pub registry : KnowsThere v there
-
--- At the end there is one run, of this many events, which is served. The registry and each guardian
--- have the histories that it gives them.
-pub record IsClosed {G : Type 0} (opening : Opening) (there : List Event) (held : List (InHeld G))
-    (number : ℕ) : Type 0 where
-  pub past : List Event
-  pub served : IsServed opening past
-  pub counted : number ≡ length past
-  pub registry : registry_history opening (numbered past) ≡ registry_history opening (numbered there)
-  pub each : (i : ℕ) (x : InHeld G) → slice_get held i ≡ Some x
-      → local_history opening (numbered past) x.number ≡ local_history opening (numbered x.seen) x.number

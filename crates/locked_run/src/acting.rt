@@ -7,6 +7,7 @@ ghost use Rattle.locked_run.specs.Acting.{IsAnswered, IsElsewhere, IsLeft, IsLef
 use crate::gathering::{gather_three, gather_two, look_alone, scatter_three, scatter_two};
 use crate::held::{Held, HeldRegistry};
 use crate::own::step_own;
+use crate::recording::{RecordsOfOne, RecordsOfTwo};
 use crate::shared::{Answered, OfRun, Shared};
 use crate::stepping::{step_nobody, step_one, step_two};
 use layer_contracts::{Fault, Forest, Guardian};
@@ -48,6 +49,11 @@ pub fn act_two<K: OfRun, R: Forest, G: Guardian>(
         return Ok(None);
     }
     let part = gather_three(shared, &mut one.part, &mut other.part, &mut registry.part);
+    let mut records = RecordsOfTwo {
+        one: &mut one.history,
+        other: &mut other.history,
+        registry: &mut registry.history,
+    };
     let (part, done) = step_two(
         alloc,
         shared,
@@ -56,6 +62,7 @@ pub fn act_two<K: OfRun, R: Forest, G: Guardian>(
         &mut other.guardian,
         low,
         high,
+        &mut records,
         part,
         step,
     );
@@ -97,12 +104,17 @@ pub fn act_one<K: OfRun, R: Forest, G: Guardian>(
     }
     let number = held.guardian.number();
     let part = gather_two(shared, &mut held.part, &mut registry.part);
+    let mut records = RecordsOfOne {
+        guardian: &mut held.history,
+        registry: &mut registry.history,
+    };
     let (part, done) = step_one(
         alloc,
         shared,
         &mut registry.registry,
         &mut held.guardian,
         number,
+        &mut records,
         part,
         step,
     );
@@ -135,7 +147,15 @@ pub fn act_guardian<K: OfRun, G: Guardian>(
     }
     let number = held.guardian.number();
     let part = look_alone(shared, &mut held.part);
-    let (part, done) = step_own(alloc, shared, &mut held.guardian, number, part, step);
+    let (part, done) = step_own(
+        alloc,
+        shared,
+        &mut held.guardian,
+        number,
+        &mut held.history,
+        part,
+        step,
+    );
     held.part = part;
     held.left -= drawn(&done);
     done

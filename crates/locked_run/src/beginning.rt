@@ -8,6 +8,7 @@ ghost use Rattle.locked_run.specs.Beginning.{AreBegun, AreFirst, held_from};
 
 use crate::held::{Held, HeldRegistry};
 use crate::shared::{OfRun, Shared};
+use crate::stored::StoredHistory;
 use layer_contracts::{Forest, Guardian};
 use one_run::Part;
 use run_model::{Event, Opening};
@@ -15,6 +16,7 @@ use shared_run::SharedRun;
 use std::alloc::{AllocError, Global};
 
 /// A run to which nothing has happened, and all its parts, before anything is under a lock.
+#[derive(Drop)]
 pub struct Start {
     pub run: SharedRun,
     pub parts: Part<Event>,
@@ -35,8 +37,8 @@ impl Start {
 }
 
 /// Puts the registry and the guardians under locks, in the run of this name. A caller picks the name by
-/// calling a generic function of its own with `Brand`. Fails only when out of memory: the run is ended,
-/// and the registry and the guardians come back.
+/// calling a generic function of its own with `Brand`. Fails only when out of memory, and then the registry
+/// and the guardians come back.
 pub fn begin<K: OfRun, R: Forest, G: Guardian>(
     alloc: Global,
     start: Start,
@@ -53,23 +55,22 @@ pub fn begin<K: OfRun, R: Forest, G: Guardian>(
     let Start { run, parts } = start;
     let room = match Vec::with_capacity(alloc, guardians.len()) {
         Ok(room) => room,
-        Err(refused) => {
-            run.close(parts);
-            return Err((refused, registry, guardians));
-        }
+        Err(refused) => return Err((refused, registry, guardians)),
     };
     let shared = Shared::<K>::new(run);
     let mut first = parts;
     let mut rest = shared.run.split(&mut first);
-    let registry = HeldRegistry::new(registry, first);
+    let history = StoredHistory::new(alloc);
+    let registry = HeldRegistry::new(registry, first, history);
     // no guardian has the number 0
     let others = shared.run.split(&mut rest);
-    let guardians = hold(&shared, others, guardians, room);
+    let guardians = hold(alloc, &shared, others, guardians, room);
     Ok((shared, registry, guardians))
 }
 
 /// Puts the guardians under locks, each with the part of its number.
 fn hold<K: OfRun, G: Guardian>(
+    alloc: Global,
     shared: &Shared<K>,
     parts: Part<Event>,
     guardians: Vec<G>,
@@ -77,6 +78,7 @@ fn hold<K: OfRun, G: Guardian>(
 ) -> Vec<Held<K, G>>
     requires parts { parts.token.table_id ≡ K.table }
     requires places { parts.token.me.0 ≡ places_from 2 (length guardians.items) }
+    requires count { length guardians.items ≡ length K.opening.setup }
     requires each { AreFirst K.opening G.stands guardians.items }
     requires empty { room.items ≡ [] }
     requires room { length guardians.items ≤ vec_capacity room }
@@ -86,7 +88,8 @@ fn hold<K: OfRun, G: Guardian>(
     let mut held = room;
     for guardian in guardians {
         let others = shared.run.split(&mut rest);
-        held.push_reserved(Held::new(guardian, rest, STAMPS));
+        let history = StoredHistory::new(alloc);
+        held.push_reserved(Held::new(guardian, rest, STAMPS, history));
         rest = others;
     }
     held

@@ -1,35 +1,189 @@
 //! The end of a run.
-ghost use Rattle.std.specs.Prelude.{◌≡◌};
-ghost use Rattle.locked_run.specs.Parts.{HasEnded, IsClosed};
+ghost use Rattle.std.specs.Prelude.{◌≡◌, ◌≤◌, ◌∷◌, ◌↔◌, [], ℕ, IfErr, IfOk, IsPermutation, IsTrue, length, vec_capacity};
+ghost use Rattle.std.specs.List.{AllZip};
+ghost use Rattle.std.specs.List.Sorted.{IsNonDecreasingBy};
+ghost use Rattle.locked_run.specs.Closing.{IsClosed, IsUnclosed};
+ghost use Rattle.locked_run.specs.Parts.{registry_part};
+ghost use Rattle.locked_run.specs.Settling.{AreNumbered, AreOfRun, HaveJoined, IsSettled, IsSettledThere};
 
 use crate::held::{Held, HeldRegistry};
-use crate::shared::{OfRun, Shared};
+use crate::shared::{OfRun, Receipt, Shared};
+use crate::stored::StoredHistory;
 use layer_contracts::{Forest, Guardian};
 use one_run::Part;
 use run_model::Event;
+use std::alloc::AllocError;
 
-/// Ends the run of all guardians and the registry, and gives the number of its events. There is one
-/// run, which is served as the definitions say, and each has the history that it gives it.
+/// What stood under a lock when the run ended, and the events that the lock has kept.
+#[derive(Drop)]
+pub struct Ended<T> {
+    pub value: T,
+    pub history: StoredHistory,
+}
+
+/// All that stood under locks when the run ended, the guardians by number.
+#[derive(Drop)]
+pub struct Ends<R, G> {
+    pub registry: Ended<R>,
+    pub guardians: Vec<Ended<G>>,
+}
+
+/// Why a run is not closed.
+#[derive(Drop)]
+pub enum CloseFault<K: OfRun, R, G> {
+    Memory,
+    /// The receipts are not those of all events, each once. They come back.
+    Receipts(Ends<R, G>, Vec<Receipt<K>>),
+}
+
+impl<K: OfRun, R, G> From<AllocError> for CloseFault<K, R, G> {
+    ghost use Rattle.std.specs.Prelude.{◌≡◌};
+    ghost use Rattle.locked_run.specs.declared.closing.CloseFault.TheVariants.{Memory};
+
+    ghost from_gives = { λ _ e. e ≡ Memory };
+
+    fn from(_refused: AllocError) -> CloseFault<K, R, G> {
+        CloseFault::Memory
+    }
+}
+
+/// Ends the run, which is served: each action that is no orphan sees in it what one plain store would have
+/// shown it, serially. All that stands under locks is a world of that run, and has kept its events. It is
+/// closed exactly if these receipts are those of its events, each once; otherwise they come back.
 pub fn close_all<K: OfRun, R: Forest, G: Guardian>(
     shared: Shared<K>,
     registry: HeldRegistry<K, R>,
-    mut guardians: Vec<Held<K, G>>,
-) -> u64
-    ensures { IsClosed K.opening registry guardians.items result }
+    guardians: Vec<Held<K, G>>,
+    receipts: Vec<Receipt<K>>,
+) -> Result<Ends<R, G>, CloseFault<K, R, G>>
+    requires all { length guardians.items ≡ length K.opening.setup }
+    ensures closed { IfOk result (λ ends. IsClosed G.stands G.stored R.stands K.opening receipts.items ends) }
+    ensures unclosed { IfErr result (λ fault. IsUnclosed G.stands G.stored R.stands K.opening
+        receipts.items fault) }
 {
-    let mut all = registry.settle();
-    while let Some(held) = guardians.pop() {
-        held.settle(&shared, &mut all);
+    let guardians = by_number(guardians)?;
+    let receipts = receipts_by_number(receipts)?;
+    let room = Vec::with_capacity(*guardians.allocator(), guardians.len())?;
+    let (mut part, ends) = settle_all(&shared, registry, guardians, room);
+    let count = shared.run.count(&mut part);
+    if !are_numbered(&receipts, count) {
+        return Err(CloseFault::Receipts(ends, receipts));
     }
-    end(shared, all)
+    look_with(&shared, part, receipts);
+    Ok(ends)
 }
 
-/// Ends the run, and gives the number of its events. It is served as the definitions say, and all that
-/// the part knows is of it.
-pub fn end<K: OfRun>(shared: Shared<K>, all: Part<Event>) -> u64
-    requires { all.token.table_id ≡ K.table }
-    ensures { HasEnded K.opening all.token.me.0 result }
+/// The guardians by number.
+fn by_number<K: OfRun, G: Guardian>(
+    guardians: Vec<Held<K, G>>,
+) -> Result<Vec<Held<K, G>>, AllocError>
+    ensures count { IfOk result (λ sorted. length sorted.items ≡ length guardians.items) }
+    ensures sorted { IfOk result (λ sorted. IsNonDecreasingBy (λ held. held.number) sorted.items) }
 {
-    let Shared { run, of: _ } = shared;
-    run.close(all)
+    let mut sorted = guardians;
+    sorted.sort_by_key(|held| held.number())?;
+    Ok(sorted)
+}
+
+/// The receipts by number.
+fn receipts_by_number<K: OfRun>(receipts: Vec<Receipt<K>>) -> Result<Vec<Receipt<K>>, AllocError>
+    ensures moved { IfOk result (λ sorted. IsPermutation receipts.items sorted.items) }
+    ensures sorted { IfOk result (λ sorted. IsNonDecreasingBy (λ run. length run) sorted.items) }
+{
+    let mut sorted = receipts;
+    sorted.sort_by_key(|receipt| receipt.number())?;
+    Ok(sorted)
+}
+
+/// Takes everything from under its lock, the parts of the run together.
+fn settle_all<K: OfRun, R: Forest, G: Guardian>(
+    shared: &Shared<K>,
+    registry: HeldRegistry<K, R>,
+    guardians: Vec<Held<K, G>>,
+    room: Vec<Ended<G>>,
+) -> (Part<Event>, Ends<R, G>)
+    requires empty { room.items ≡ [] }
+    requires room { length guardians.items ≤ vec_capacity room }
+    ensures table { result.0.token.table_id ≡ K.table }
+    ensures parts { (left : ℕ) × HaveJoined guardians.items (registry_part left registry ∷ [])
+        result.0.token.me.0 }
+    ensures there { IsSettledThere R.stands K.opening registry result.1.registry }
+    ensures each { AllZip (IsSettled G.stands G.stored K.opening) guardians.items
+        result.1.guardians.items }
+{
+    let (mut part, value, history) = registry.settle();
+    let registry = Ended { value, history };
+    let guardians = settle_guardians(shared, &mut part, guardians, room);
+    (
+        part,
+        Ends {
+            registry,
+            guardians,
+        },
+    )
+}
+
+/// Takes the guardians from under their locks, and adds their parts.
+fn settle_guardians<K: OfRun, G: Guardian>(
+    shared: &Shared<K>,
+    part: &mut Part<Event>,
+    guardians: Vec<Held<K, G>>,
+    room: Vec<Ended<G>>,
+) -> Vec<Ended<G>>
+    requires table { part.old.token.table_id ≡ K.table }
+    requires empty { room.items ≡ [] }
+    requires room { length guardians.items ≤ vec_capacity room }
+    ensures table { part.new.token.table_id ≡ K.table }
+    ensures parts { HaveJoined guardians.items part.old.token.me.0 part.new.token.me.0 }
+    ensures each { AllZip (IsSettled G.stands G.stored K.opening) guardians.items result.items }
+{
+    let mut ended = room;
+    for held in guardians {
+        ended.push_reserved(settle_one(shared, part, held));
+    }
+    ended
+}
+
+/// Takes a guardian from under its lock, and adds its part.
+fn settle_one<K: OfRun, G: Guardian>(
+    shared: &Shared<K>,
+    part: &mut Part<Event>,
+    held: Held<K, G>,
+) -> Ended<G>
+    requires { part.old.token.table_id ≡ K.table }
+    ensures table { part.new.token.table_id ≡ K.table }
+    ensures part { HaveJoined (held ∷ []) part.old.token.me.0 part.new.token.me.0 }
+    ensures settled { IsSettled G.stands G.stored K.opening held result }
+{
+    let (value, history) = held.settle(shared, part);
+    // its store is that of its history
+    value.number();
+    Ended { value, history }
+}
+
+/// Whether these are so many receipts, numbered from 1 on.
+fn are_numbered<K: OfRun>(receipts: &[Receipt<K>], count: u64) -> bool
+    ensures { IsTrue result ↔ AreNumbered count receipts.now }
+{
+    if receipts.len() as u64 != count {
+        return false;
+    }
+    for (place, receipt) in receipts.iter().enumerate() {
+        if receipt.number() != place as u64 + 1 {
+            return false;
+        }
+    }
+    true
+}
+
+/// Looks at the run together with all receipts.
+fn look_with<K: OfRun>(shared: &Shared<K>, part: Part<Event>, receipts: Vec<Receipt<K>>)
+    requires { part.token.table_id ≡ K.table }
+    ensures { AreOfRun K.opening part.token.me.0 receipts.items }
+{
+    let mut all = part;
+    for receipt in receipts {
+        shared.run.join(&mut all, receipt.into_part());
+    }
+    shared.run.look(&mut all);
 }

@@ -1,10 +1,13 @@
 //! Parts that are taken together for a step, and given back.
-ghost use Rattle.std.specs.Prelude.{◌≡◌, ◌++◌};
+ghost use Rattle.std.specs.Prelude.{◌≡◌, ◌++◌, ◌∷◌, []};
+ghost use Rattle.one_run.specs.declared.piece.Piece.{Piece};
 ghost use Rattle.one_run.specs.Rules.{Looks, first_of, others_of};
+ghost use Rattle.run_model.specs.declared.history.Event.{Event};
 ghost use Rattle.run_model.specs.Runs.{IsRun};
 ghost use Rattle.shared_run.specs.Places.{touches};
+ghost use Rattle.locked_run.specs.Behind.{LooksBehind};
 
-use crate::shared::{OfRun, Shared};
+use crate::shared::{OfRun, Receipt, Shared};
 use one_run::Part;
 use run_model::Event;
 
@@ -17,6 +20,24 @@ pub(crate) fn look_alone<K: OfRun>(shared: &Shared<K>, one: &mut Part<Event>) ->
     let mut all = shared.run.take(one);
     shared.run.look(&mut all);
     all
+}
+
+/// Looks at the run together with a receipt.
+pub(crate) fn look_behind<K: OfRun>(
+    shared: &Shared<K>,
+    part: &mut Part<Event>,
+    earlier: &mut Receipt<K>,
+)
+    requires table { part.old.token.table_id ≡ K.table }
+    requires one { (piece : Piece Event) × (part.old.token.me.0 ≡ piece ∷ []) }
+    ensures table { part.new.token.table_id ≡ K.table }
+    ensures looks { LooksBehind K.opening earlier.old part.old.token.me.0 part.new.token.me.0 }
+    ensures same { earlier.new ≡ earlier.old }
+{
+    shared.run.join(part, earlier.tell(shared));
+    shared.run.look(part);
+    // what the receipt told stays behind
+    shared.run.split(part);
 }
 
 /// Takes two parts together, and looks at the run.

@@ -1,11 +1,17 @@
 //! What stands under locks: a guardian with its part of the run, and the registry with its own.
-ghost use Rattle.std.specs.Prelude.{◌≡◌, ◌==◌, ◌++◌, ◌∷◌, [], ℕ};
+ghost use Rattle.std.specs.Prelude.{◌≡◌, ◌==◌, ◌≤◌, ◌++◌, ◌∷◌, [], ℕ, suc, length};
+ghost use Rattle.run_model.specs.Runs.{IsRun};
 ghost use Rattle.world_steps.specs.Naming.{first_named, second_named};
-ghost use Rattle.world_steps.specs.Standings.{standing};
+ghost use Rattle.world_steps.specs.Standings.{forest_of, standing};
 ghost use Rattle.locked_run.specs.Parts.{IsHeld, IsHeldThere, guardian_part, number_of, registry_part};
-ghost use Rattle.one_run.specs.Pieces.{seen_of};
+ghost use Rattle.locked_run.specs.Stored.{guardian_events, registry_events};
+ghost use Rattle.locked_run.specs.Behind.{IsBehind};
+ghost use Rattle.one_run.specs.Pieces.{GoesOn, seen_of};
+ghost use Rattle.shared_run.specs.Places.{touches};
 
-use crate::shared::{OfRun, Shared};
+use crate::gathering::look_behind;
+use crate::shared::{OfRun, Receipt, Shared};
+use crate::stored::StoredHistory;
 use layer_contracts::{Forest, Guardian};
 use one_run::Part;
 use run_model::{Event, Step};
@@ -19,6 +25,7 @@ pub struct Held<K: OfRun, G: Guardian> {
     pub(crate) guardian: G,
     pub(crate) part: Part<Event>,
     pub(crate) left: u64,
+    pub(crate) history: StoredHistory,
     pub(crate) of: PhantomData<K>,
 }
 
@@ -35,7 +42,7 @@ impl<K: OfRun, G: Guardian> Model for Held<K, G> {
       left = h.left;
     } };
 
-    ghost invariant = { λ h. IsHeld K.opening K.table (G.stands h.guardian) h.part h.left };
+    ghost invariant = { λ h. IsHeld K.opening K.table (G.stands h.guardian) h.part h.left h.history };
 }
 
 /// The registry under its lock, which stands where the run leads it. Contracts see the run as it was
@@ -44,6 +51,7 @@ impl<K: OfRun, G: Guardian> Model for Held<K, G> {
 pub struct HeldRegistry<K: OfRun, R: Forest> {
     pub(crate) registry: R,
     pub(crate) part: Part<Event>,
+    pub(crate) history: StoredHistory,
     pub(crate) of: PhantomData<K>,
 }
 
@@ -57,18 +65,19 @@ impl<K: OfRun, R: Forest> Model for HeldRegistry<K, R> {
 
     ghost view = { λ h. seen_of h.part.token.me.0 };
 
-    ghost invariant = { λ h. IsHeldThere K.opening K.table (R.stands h.registry) h.part };
+    ghost invariant = { λ h. IsHeldThere K.opening K.table (R.stands h.registry) h.part h.history };
 }
 
 impl<K: OfRun, R: Forest> HeldRegistry<K, R> {
-    /// The registry, with its part.
-    pub fn new(registry: R, part: Part<Event>) -> HeldRegistry<K, R>
-        requires { IsHeldThere K.opening K.table (R.stands registry) part }
+    /// The registry, with its part and the events that it has kept.
+    pub fn new(registry: R, part: Part<Event>, history: StoredHistory) -> HeldRegistry<K, R>
+        requires { IsHeldThere K.opening K.table (R.stands registry) part history }
         ensures { result ≡ seen_of part.token.me.0 }
     {
         HeldRegistry {
             registry,
             part,
+            history,
             of: PhantomData,
         }
     }
@@ -81,24 +90,37 @@ impl<K: OfRun, R: Forest> HeldRegistry<K, R> {
         named(&self.registry, step)
     }
 
-    /// Gives up the part of the registry.
-    pub fn settle(self) -> Part<Event>
-        ensures table { result.token.table_id ≡ K.table }
-        ensures known { (left : ℕ) × (result.token.me.0 ≡ registry_part left self ∷ []) }
+    /// Looks at the run together with a receipt, so that what it knows goes on from there.
+    pub fn learn(&mut self, shared: &Shared<K>, earlier: &mut Receipt<K>)
+        ensures behind { IsBehind earlier.old self.new }
+        ensures since { GoesOn touches (Some 0) self.old self.new }
+        ensures same { earlier.new ≡ earlier.old }
+    {
+        look_behind(shared, &mut self.part, earlier);
+    }
+
+    /// Gives up the part of the registry, the registry, and the events that it has kept.
+    pub fn settle(self) -> (Part<Event>, R, StoredHistory)
+        ensures table { result.0.token.table_id ≡ K.table }
+        ensures known { (left : ℕ) × (result.0.token.me.0 ≡ registry_part left self ∷ []) }
+        ensures run { IsRun K.opening self }
+        ensures stands { R.stands result.1 (forest_of K.opening self) }
+        ensures history { result.2 ≡ registry_events K.opening self }
     {
         let HeldRegistry {
-            registry: _,
+            registry,
             part,
+            history,
             of: _,
         } = self;
-        part
+        (part, registry, history)
     }
 }
 
 impl<K: OfRun, G: Guardian> Held<K, G> {
-    /// A guardian, with its part.
-    pub fn new(guardian: G, part: Part<Event>, left: u64) -> Held<K, G>
-        requires { IsHeld K.opening K.table (G.stands guardian) part left }
+    /// A guardian, with its part and the events that it has kept.
+    pub fn new(guardian: G, part: Part<Event>, left: u64, history: StoredHistory) -> Held<K, G>
+        requires { IsHeld K.opening K.table (G.stands guardian) part left history }
         ensures { result ≡ record {
           guardian = guardian;
           number = number_of part.token.me.0;
@@ -110,6 +132,7 @@ impl<K: OfRun, G: Guardian> Held<K, G> {
             guardian,
             part,
             left,
+            history,
             of: PhantomData,
         }
     }
@@ -121,22 +144,45 @@ impl<K: OfRun, G: Guardian> Held<K, G> {
         self.left == 0
     }
 
-    /// Gives up what it knows of the run to another part.
-    pub fn settle(self, shared: &Shared<K>, all: &mut Part<Event>) -> G
+    /// The number of the guardian.
+    pub fn number(&self) -> u32
+        ensures { result ≡ self.now.number }
+    {
+        self.guardian.number()
+    }
+
+    /// Looks at the run together with a receipt, so that what it knows goes on from there.
+    pub fn learn(&mut self, shared: &Shared<K>, earlier: &mut Receipt<K>)
+        ensures behind { IsBehind earlier.old self.new.seen }
+        ensures since { GoesOn touches (Some (suc self.old.number)) self.old.seen self.new.seen }
+        ensures kept { self.new ≡ record self.old { seen = self.new.seen } }
+        ensures same { earlier.new ≡ earlier.old }
+    {
+        look_behind(shared, &mut self.part, earlier);
+    }
+
+    /// Gives up what it knows of the run to another part, and the guardian with the events that it
+    /// has kept.
+    pub fn settle(self, shared: &Shared<K>, all: &mut Part<Event>) -> (G, StoredHistory)
         requires { all.old.token.table_id ≡ K.table }
         ensures table { all.new.token.table_id ≡ K.table }
         ensures known { (left : ℕ)
             × (all.new.token.me.0 ≡ all.old.token.me.0 ++ guardian_part self.number left self.seen ∷ []) }
-        ensures guardian { result ≡ self.guardian }
-        ensures stands { G.stands result (standing K.opening self.seen self.number) }
+        ensures run { IsRun K.opening self.seen }
+        ensures first { 1 ≤ self.number }
+        ensures last { self.number ≤ length K.opening.setup }
+        ensures guardian { result.0 ≡ self.guardian }
+        ensures stands { G.stands result.0 (standing K.opening self.seen self.number) }
+        ensures history { result.1 ≡ guardian_events K.opening self.seen self.number }
     {
         let Held {
             guardian,
             part,
             left: _,
+            history,
             of: _,
         } = self;
         shared.run.join(all, part);
-        guardian
+        (guardian, history)
     }
 }

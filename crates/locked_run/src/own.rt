@@ -16,10 +16,12 @@ ghost use Rattle.shared_run.specs.Places.{touches};
 ghost use Rattle.locked_run.specs.Acting.{HasMoved, IsAnswered, StoreAfter, is_own, kept_outcome, outcome_of};
 ghost use Rattle.locked_run.specs.Own.{is_own_here, own_answer, turned};
 ghost use Rattle.locked_run.specs.Parts.{HasGuardian, HasStore};
+ghost use Rattle.locked_run.specs.Stored.{guardian_events};
 
 use crate::naming::is_out;
 use crate::shared::{Answered, Deed, Drawing, OfRun, Shared};
 use crate::stepping::receipted;
+use crate::stored::StoredHistory;
 use layer_contracts::{Draw, Fault, Guardian, Message};
 use one_run::Part;
 use run_model::{Answer, Event, Names, Refusal, Step};
@@ -178,16 +180,19 @@ pub(crate) fn step_own<K: OfRun, G: Guardian>(
     shared: &Shared<K>,
     guardian: &mut G,
     number: u32,
+    history: &mut StoredHistory,
     part: Part<Event>,
     step: &Step,
 ) -> (Part<Event>, Result<Option<Answered<K>>, Fault>)
     requires table { part.token.table_id ≡ K.table }
     requires left { 0 < first_left part.token.me.0 }
     requires here { HasGuardian K.opening (G.stands guardian.old) number part.token.me.0 }
+    requires kept { history.old ≡ guardian_events K.opening (seen_of part.token.me.0) number }
     requires store { HasStore (G.stored guardian.old) }
     ensures table { result.0.token.table_id ≡ K.table }
     ensures moved { HasMoved (outcome_of (λ a. a.receipt) result.1) part.token.me.0 result.0.token.me.0 }
     ensures here { HasGuardian K.opening (G.stands guardian.new) number result.0.token.me.0 }
+    ensures kept { history.new ≡ guardian_events K.opening (seen_of result.0.token.me.0) number }
     ensures answered { IfOk result.1 (λ r. MatchOption r
         (is_own number step.now (seen_of result.0.token.me.0) ≡ false)
         (λ a. IsAnswered K.opening step.now a.answer a.receipt (seen_of result.0.token.me.0))) }
@@ -199,7 +204,9 @@ pub(crate) fn step_own<K: OfRun, G: Guardian>(
     match answer_own(&*guardian, number, step) {
         Err(_refused) => (part, Err(Fault::Memory)),
         Ok(None) => (part, Ok(None)),
-        Ok(Some(answer)) => finish_own(alloc, shared, guardian, number, part, step, answer),
+        Ok(Some(answer)) => finish_own(
+            alloc, shared, guardian, number, history, part, step, answer,
+        ),
     }
 }
 
@@ -209,6 +216,7 @@ fn finish_own<K: OfRun, G: Guardian>(
     shared: &Shared<K>,
     guardian: &mut G,
     number: u32,
+    history: &mut StoredHistory,
     part: Part<Event>,
     step: &Step,
     answer: Answer,
@@ -217,10 +225,13 @@ fn finish_own<K: OfRun, G: Guardian>(
     requires left { 0 < first_left part.token.me.0 }
     requires own { is_own number step.now (seen_of part.token.me.0) ≡ true }
     requires here { HasGuardian K.opening (G.stands guardian.old) number part.token.me.0 }
+    requires kept { history.old ≡ guardian_events K.opening (seen_of part.token.me.0) number }
     requires answered { answer ≡ answer_of K.opening step.now (seen_of part.token.me.0) }
+    requires store { HasStore (G.stored guardian.old) }
     ensures table { result.0.token.table_id ≡ K.table }
     ensures moved { HasMoved (outcome_of (λ a. a.receipt) result.1) part.token.me.0 result.0.token.me.0 }
     ensures here { HasGuardian K.opening (G.stands guardian.new) number result.0.token.me.0 }
+    ensures kept { history.new ≡ guardian_events K.opening (seen_of result.0.token.me.0) number }
     ensures answered { IfOk result.1 (λ r. MatchOption r
         (is_own number step.now (seen_of result.0.token.me.0) ≡ false)
         (λ a. IsAnswered K.opening step.now a.answer a.receipt (seen_of result.0.token.me.0))) }
@@ -232,9 +243,13 @@ fn finish_own<K: OfRun, G: Guardian>(
     if !answer.is_accepted() {
         return (part, Ok(Some(Answered::without_event(answer))));
     }
+    if history.push(step, &answer, 0).is_err() {
+        return (part, Err(Fault::Memory));
+    }
     let (part, kept) = keep_own::<K, Brand, G>(
         alloc, shared, guardian, number, part, step, &answer,
     );
+    history.settle(&kept);
     match kept {
         Err(fault) => (part, Err(fault)),
         Ok(stamp) => {

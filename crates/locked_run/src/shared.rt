@@ -49,6 +49,7 @@ impl Deed for Brand {
 }
 
 /// The run, of which threads share no more than the word of its length.
+#[derive(Drop)]
 pub struct Shared<K: OfRun> {
     pub run: SharedRun,
     pub of: PhantomData<K>,
@@ -132,7 +133,8 @@ impl<K: OfRun> Receipt<K> {
         }
     }
 
-    fn into_part(self) -> Part<Event>
+    /// Gives up what it knows of the run.
+    pub(crate) fn into_part(self) -> Part<Event>
         ensures table { result.token.table_id ≡ K.table }
         ensures seen { result.token.me.0 ≡ witness self ∷ [] }
     {
@@ -142,6 +144,24 @@ impl<K: OfRun> Receipt<K> {
             of: _,
         } = self;
         part
+    }
+
+    /// A second receipt of the same event.
+    pub fn copy(&mut self, shared: &Shared<K>) -> Receipt<K>
+        ensures copied { result ≡ self.old }
+        ensures same { self.new ≡ self.old }
+    {
+        let number = self.number;
+        Receipt::new(self.tell(shared), number)
+    }
+
+    /// Tells what it knows of the run.
+    pub(crate) fn tell(&mut self, shared: &Shared<K>) -> Part<Event>
+        ensures table { result.token.table_id ≡ K.table }
+        ensures known { result.token.me.0 ≡ witness self.old ∷ [] }
+        ensures same { self.new ≡ self.old }
+    {
+        shared.run.tell(&mut self.part)
     }
 
     /// The number of its event in the run.

@@ -9,10 +9,11 @@ ghost use Rattle.layer_contracts.specs.declared.guardian.Fault.TheVariants.{Stab
 ghost use Rattle.world_steps.specs.Naming.{AreNamed};
 ghost use Rattle.world_steps.specs.Standings.{Names, forest_of};
 ghost use Rattle.locked_run.specs.Acting.{HasMoved, IsAnswered, StoreAfter, names_nobody, names_one, names_two, outcome_of};
-ghost use Rattle.locked_run.specs.Parts.{AreLocked, HasRegistry, HasStore};
+ghost use Rattle.locked_run.specs.Parts.{AreKept, AreLocked, HasRegistry, HasStore};
 
 use crate::keeping::{keep_at_one, keep_at_two};
 use crate::naming::{names_nobody, names_one, names_two};
+use crate::recording::{RecordsOfOne, RecordsOfTwo};
 use crate::shared::{Answered, OfRun, Receipt, Shared};
 use layer_contracts::{Fault, Forest, Guardian};
 use one_run::Part;
@@ -31,6 +32,7 @@ pub(crate) fn step_two<K: OfRun, R: Forest, G: Guardian>(
     other: &mut G,
     low: u32,
     high: u32,
+    records: &mut RecordsOfTwo,
     part: Part<Event>,
     step: &Step,
 ) -> (Part<Event>, Result<Option<Answered<K>>, Fault>)
@@ -39,12 +41,19 @@ pub(crate) fn step_two<K: OfRun, R: Forest, G: Guardian>(
     requires apart { (low == high) ≡ false }
     requires locked { AreLocked K.opening (R.stands registry.old) (G.stands one.old) (G.stands other.old)
         low high part.token.me.0 }
+    requires kept { AreKept K.opening low high (seen_of part.token.me.0) records.old.one.now
+        records.old.other.now records.old.registry.now }
     requires first_store { HasStore (G.stored one.old) }
     requires second_store { HasStore (G.stored other.old) }
     ensures table { result.0.token.table_id ≡ K.table }
     ensures moved { HasMoved (outcome_of (λ a. a.receipt) result.1) part.token.me.0 result.0.token.me.0 }
     ensures locked { AreLocked K.opening (R.stands registry.new) (G.stands one.new) (G.stands other.new)
         low high result.0.token.me.0 }
+    ensures lent { (records.new.one.ghost_name ≡ records.old.one.ghost_name)
+        × (records.new.other.ghost_name ≡ records.old.other.ghost_name)
+        × (records.new.registry.ghost_name ≡ records.old.registry.ghost_name) }
+    ensures kept { AreKept K.opening low high (seen_of result.0.token.me.0) records.new.one.now
+        records.new.other.now records.new.registry.now }
     ensures answered { IfOk result.1 (λ r. MatchOption r
         (names_two step.now (seen_of result.0.token.me.0) low high ≡ false)
         (λ a. IsAnswered K.opening step.now a.answer a.receipt (seen_of result.0.token.me.0))) }
@@ -62,7 +71,7 @@ pub(crate) fn step_two<K: OfRun, R: Forest, G: Guardian>(
     match answer_two(alloc, &*registry, &*one, &*other, step) {
         Err(_refused) => (part, Err(Fault::Memory)),
         Ok(answer) => finish_two(
-            alloc, shared, registry, one, other, low, high, part, named, step, answer,
+            alloc, shared, registry, one, other, low, high, records, part, named, step, answer,
         ),
     }
 }
@@ -76,6 +85,7 @@ fn finish_two<K: OfRun, R: Forest, G: Guardian>(
     other: &mut G,
     low: u32,
     high: u32,
+    records: &mut RecordsOfTwo,
     part: Part<Event>,
     named: NamedGuardians,
     step: &Step,
@@ -88,11 +98,20 @@ fn finish_two<K: OfRun, R: Forest, G: Guardian>(
     requires names { Names (forest_of K.opening (seen_of part.token.me.0)) step.now low high }
     requires locked { AreLocked K.opening (R.stands registry.old) (G.stands one.old) (G.stands other.old)
         low high part.token.me.0 }
+    requires kept { AreKept K.opening low high (seen_of part.token.me.0) records.old.one.now
+        records.old.other.now records.old.registry.now }
     requires answered { answer ≡ answer_of K.opening step.now (seen_of part.token.me.0) }
+    requires first_store { HasStore (G.stored one.old) }
+    requires second_store { HasStore (G.stored other.old) }
     ensures table { result.0.token.table_id ≡ K.table }
     ensures moved { HasMoved (outcome_of (λ a. a.receipt) result.1) part.token.me.0 result.0.token.me.0 }
     ensures locked { AreLocked K.opening (R.stands registry.new) (G.stands one.new) (G.stands other.new)
         low high result.0.token.me.0 }
+    ensures lent { (records.new.one.ghost_name ≡ records.old.one.ghost_name)
+        × (records.new.other.ghost_name ≡ records.old.other.ghost_name)
+        × (records.new.registry.ghost_name ≡ records.old.registry.ghost_name) }
+    ensures kept { AreKept K.opening low high (seen_of result.0.token.me.0) records.new.one.now
+        records.new.other.now records.new.registry.now }
     ensures answered { IfOk result.1 (λ r. MatchOption r
         (names_two step.now (seen_of result.0.token.me.0) low high ≡ false)
         (λ a. IsAnswered K.opening step.now a.answer a.receipt (seen_of result.0.token.me.0))) }
@@ -106,9 +125,13 @@ fn finish_two<K: OfRun, R: Forest, G: Guardian>(
     if !answer.is_accepted() {
         return (part, Ok(Some(Answered::without_event(answer))));
     }
+    if records.push(step, &answer).is_err() {
+        return (part, Err(Fault::Memory));
+    }
     let (part, kept) = keep_at_two::<K, Brand, R, G>(
         alloc, shared, registry, one, other, low, high, part, named, step, &answer,
     );
+    records.settle(step, &kept);
     match kept {
         Err(fault) => (part, Err(fault)),
         Ok(number) => {
@@ -126,6 +149,7 @@ pub(crate) fn step_one<K: OfRun, R: Forest, G: Guardian>(
     registry: &mut R,
     guardian: &mut G,
     number: u32,
+    records: &mut RecordsOfOne,
     part: Part<Event>,
     step: &Step,
 ) -> (Part<Event>, Result<Option<Answered<K>>, Fault>)
@@ -133,11 +157,17 @@ pub(crate) fn step_one<K: OfRun, R: Forest, G: Guardian>(
     requires left { 0 < first_left part.token.me.0 }
     requires locked { AreLocked K.opening (R.stands registry.old) (G.stands guardian.old)
         (G.stands guardian.old) number number part.token.me.0 }
+    requires kept { AreKept K.opening number number (seen_of part.token.me.0)
+        records.old.guardian.now records.old.guardian.now records.old.registry.now }
     requires store { HasStore (G.stored guardian.old) }
     ensures table { result.0.token.table_id ≡ K.table }
     ensures moved { HasMoved (outcome_of (λ a. a.receipt) result.1) part.token.me.0 result.0.token.me.0 }
     ensures locked { AreLocked K.opening (R.stands registry.new) (G.stands guardian.new)
         (G.stands guardian.new) number number result.0.token.me.0 }
+    ensures lent { (records.new.guardian.ghost_name ≡ records.old.guardian.ghost_name)
+        × (records.new.registry.ghost_name ≡ records.old.registry.ghost_name) }
+    ensures kept { AreKept K.opening number number (seen_of result.0.token.me.0)
+        records.new.guardian.now records.new.guardian.now records.new.registry.now }
     ensures answered { IfOk result.1 (λ r. MatchOption r
         (names_one (length K.opening.setup) step.now (seen_of result.0.token.me.0) number ≡ false)
         (λ a. IsAnswered K.opening step.now a.answer a.receipt (seen_of result.0.token.me.0))) }
@@ -153,7 +183,7 @@ pub(crate) fn step_one<K: OfRun, R: Forest, G: Guardian>(
     match answer_two(alloc, &*registry, &*guardian, &*guardian, step) {
         Err(_refused) => (part, Err(Fault::Memory)),
         Ok(answer) => finish_one(
-            alloc, shared, registry, guardian, number, part, named, step, answer,
+            alloc, shared, registry, guardian, number, records, part, named, step, answer,
         ),
     }
 }
@@ -165,6 +195,7 @@ fn finish_one<K: OfRun, R: Forest, G: Guardian>(
     registry: &mut R,
     guardian: &mut G,
     number: u32,
+    records: &mut RecordsOfOne,
     part: Part<Event>,
     named: NamedGuardians,
     step: &Step,
@@ -176,11 +207,18 @@ fn finish_one<K: OfRun, R: Forest, G: Guardian>(
     requires names { IsTrue (names_one (length K.opening.setup) step.now (seen_of part.token.me.0) number) }
     requires locked { AreLocked K.opening (R.stands registry.old) (G.stands guardian.old)
         (G.stands guardian.old) number number part.token.me.0 }
+    requires kept { AreKept K.opening number number (seen_of part.token.me.0)
+        records.old.guardian.now records.old.guardian.now records.old.registry.now }
     requires answered { answer ≡ answer_of K.opening step.now (seen_of part.token.me.0) }
+    requires store { HasStore (G.stored guardian.old) }
     ensures table { result.0.token.table_id ≡ K.table }
     ensures moved { HasMoved (outcome_of (λ a. a.receipt) result.1) part.token.me.0 result.0.token.me.0 }
     ensures locked { AreLocked K.opening (R.stands registry.new) (G.stands guardian.new)
         (G.stands guardian.new) number number result.0.token.me.0 }
+    ensures lent { (records.new.guardian.ghost_name ≡ records.old.guardian.ghost_name)
+        × (records.new.registry.ghost_name ≡ records.old.registry.ghost_name) }
+    ensures kept { AreKept K.opening number number (seen_of result.0.token.me.0)
+        records.new.guardian.now records.new.guardian.now records.new.registry.now }
     ensures answered { IfOk result.1 (λ r. MatchOption r
         (names_one (length K.opening.setup) step.now (seen_of result.0.token.me.0) number ≡ false)
         (λ a. IsAnswered K.opening step.now a.answer a.receipt (seen_of result.0.token.me.0))) }
@@ -192,9 +230,13 @@ fn finish_one<K: OfRun, R: Forest, G: Guardian>(
     if !answer.is_accepted() {
         return (part, Ok(Some(Answered::without_event(answer))));
     }
+    if records.push(step, &answer).is_err() {
+        return (part, Err(Fault::Memory));
+    }
     let (part, kept) = keep_at_one::<K, Brand, R, G>(
         alloc, shared, registry, guardian, number, part, named, step, &answer,
     );
+    records.settle(step, &kept);
     match kept {
         Err(fault) => (part, Err(fault)),
         Ok(stamp) => {

@@ -1,9 +1,10 @@
-use Rattle.std.proofs.Common.{ap, cond, refl, subst, sym, ◌-◌, ◌∙◌, ◌≡◌, ◌≤◌}
+use Rattle.std.proofs.Common.{ap, cond, subst, sym, ◌-◌, ◌∙◌, ◌≤◌}
 use Rattle.one_run.specs.Pieces.{seen_of}
 use Rattle.world_steps.specs.Standings.{standing}
 use Rattle.locked_run.specs.Acting.{StoreAfter, has_added, outcome_of}
-use Rattle.locked_run.specs.Parts.{AreLocked}
-use Rattle.locked_run.proofs.Under.{fits_two, held_again, left_alone_is, left_alone_there, left_is, left_there, locked_two, one_since, registry_since, seen_two, still_enough, two_back}
+use Rattle.locked_run.specs.Parts.{AreKept, AreLocked}
+use Rattle.locked_run.specs.Stored.{guardian_events}
+use Rattle.locked_run.proofs.Under.{fits_two, held_again, kept_two, left_alone_is, left_alone_there, left_is, left_there, locked_two, one_since, registry_since, seen_two, still_enough, two_back}
 use Rattle.locked_run.proofs.acting.act_one.Goals as goal
 
 pub returns-then-held-eq0-clause-held : goal.returns-then-held-eq0-clause-held
@@ -20,6 +21,15 @@ step_one-part-requires-clause-locked g c =
     let forest = g.R.Forest.stands c.registry.inside.registry in
     let one = g.G.Guardian.stands c.held.inside.guardian in
     subst (λ k. AreLocked o forest one one k k c.gather_two-part.result.token.me.0) (sym number) (locked_two x c.registry.invariant c.gather_two-part.ensures.looks)
+
+pub step_one-part-requires-clause-kept : goal.step_one-part-requires-clause-kept
+step_one-part-requires-clause-kept g c =
+    let o = g.K.OfRun.opening in
+    let x = c.held.invariant in
+    let number = c.number-number.ensures.number (standing o x.past x.number) x.here in
+    let one = c.held.inside.history in
+    subst (λ k. AreKept o k k (seen_of c.gather_two-part.result.token.me.0) one one c.registry.inside.history) (sym number)
+    (kept_two x c.registry.invariant c.gather_two-part.ensures.looks)
 
 pub step_one-part-requires-clause-store : goal.step_one-part-requires-clause-store
 step_one-part-requires-clause-store g c =
@@ -38,11 +48,12 @@ invariant_of-held g c =
     let number = c.number-number.ensures.number (standing o x.past x.number) x.here in
     let parts = two_back added x.number x.allowed z.left x.past z.past looks.past _ w (seen_two x z looks) c.step_one-part.ensures.moved.moved in
     let stands = g.G.Guardian.stands c.step_one-part.new.guardian in
-    held_again x.number (cond added (x.allowed - 1) x.allowed) (c.held.inside.left - c.drawn.result) (seen_of w) c.scatter_two.ensures.tables.0
+    held_again x (cond added (x.allowed - 1) x.allowed) (c.held.inside.left - c.drawn.result) (seen_of w) c.scatter_two.ensures.tables.0
     (c.scatter_two.ensures.first ∙ parts.first)
     (subst (λ n. c.held.inside.left - n ≤ cond added (x.allowed - 1) x.allowed) (sym c.drawn.ensures) (still_enough added c.held.inside.left x.allowed x.enough))
     c.step_one-part.ensures.locked.first.run
     (subst (λ k. stands (standing o (seen_of w) k)) number c.step_one-part.ensures.locked.first.here)
+    (c.step_one-part.ensures.kept.first ∙ ap (λ k. guardian_events o (seen_of w) k) number)
 
 pub returns-clause-held : goal.returns-clause-held
 returns-clause-held g c =

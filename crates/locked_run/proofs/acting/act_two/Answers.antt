@@ -1,9 +1,10 @@
-use Rattle.std.proofs.Common.{ap, cond, refl, subst, sym, ◌-◌, ◌∙◌, ◌≡◌, ◌≤◌}
+use Rattle.std.proofs.Common.{ap, cond, subst, sym, ◌-◌, ◌∙◌, ◌≤◌}
 use Rattle.one_run.specs.Pieces.{seen_of}
 use Rattle.world_steps.specs.Standings.{standing}
 use Rattle.locked_run.specs.Acting.{StoreAfter, has_added, outcome_of}
-use Rattle.locked_run.specs.Parts.{AreLocked}
-use Rattle.locked_run.proofs.Under.{first_since, fits_three, held_again, left_alone_is, left_alone_there, left_is, left_there, locked_three, second_since, seen_three, still_enough, third_since, three_back}
+use Rattle.locked_run.specs.Parts.{AreKept, AreLocked}
+use Rattle.locked_run.specs.Stored.{guardian_events}
+use Rattle.locked_run.proofs.Under.{first_since, fits_three, held_again, kept_three, left_alone_is, left_alone_there, left_is, left_there, locked_three, second_since, seen_three, still_enough, third_since, three_back}
 use Rattle.locked_run.proofs.acting.act_two.Goals as goal
 
 pub returns-then-low-high-clause-one : goal.returns-then-low-high-clause-one
@@ -29,6 +30,20 @@ step_two-part-requires-clause-locked g c =
     subst (λ k. AreLocked o forest one other k c.number-high.result w) (sym low)
     (subst (λ k. AreLocked o forest one other x.number k w) (sym high) (locked_three x y c.registry.invariant c.gather_three-part.ensures.looks))
 
+pub step_two-part-requires-clause-kept : goal.step_two-part-requires-clause-kept
+step_two-part-requires-clause-kept g c =
+    let o = g.K.OfRun.opening in
+    let x = c.one.invariant in
+    let y = c.other.invariant in
+    let low = c.number-low.ensures.number (standing o x.past x.number) x.here in
+    let high = c.number-high.ensures.number (standing o y.past y.number) y.here in
+    let past = seen_of c.gather_three-part.result.token.me.0 in
+    let one = c.one.inside.history in
+    let other = c.other.inside.history in
+    let registry = c.registry.inside.history in
+    subst (λ k. AreKept o k c.number-high.result past one other registry) (sym low)
+    (subst (λ k. AreKept o x.number k past one other registry) (sym high) (kept_three x y c.registry.invariant c.gather_three-part.ensures.looks))
+
 pub step_two-part-requires-clause-first_store : goal.step_two-part-requires-clause-first_store
 step_two-part-requires-clause-first_store g c =
     let x = c.one.invariant in
@@ -53,11 +68,12 @@ invariant_of-one g c =
     let low = c.number-low.ensures.number (standing o x.past x.number) x.here in
     let parts = three_back added x.number x.allowed y.number y.allowed z.left x.past y.past z.past looks.past _ w (seen_three x y z looks) c.step_two-part.ensures.moved.moved in
     let stands = g.G.Guardian.stands c.step_two-part.new.one in
-    held_again x.number (cond added (x.allowed - 1) x.allowed) (c.one.inside.left - c.drawn.result) (seen_of w) c.scatter_three.ensures.tables.0
+    held_again x (cond added (x.allowed - 1) x.allowed) (c.one.inside.left - c.drawn.result) (seen_of w) c.scatter_three.ensures.tables.0
     (c.scatter_three.ensures.first ∙ parts.first)
     (subst (λ n. c.one.inside.left - n ≤ cond added (x.allowed - 1) x.allowed) (sym c.drawn.ensures) (still_enough added c.one.inside.left x.allowed x.enough))
     c.step_two-part.ensures.locked.first.run
     (subst (λ k. stands (standing o (seen_of w) k)) low c.step_two-part.ensures.locked.first.here)
+    (c.step_two-part.ensures.kept.first ∙ ap (λ k. guardian_events o (seen_of w) k) low)
 
 pub invariant_of-other : goal.invariant_of-other
 invariant_of-other g c =
@@ -71,9 +87,10 @@ invariant_of-other g c =
     let high = c.number-high.ensures.number (standing o y.past y.number) y.here in
     let parts = three_back added x.number x.allowed y.number y.allowed z.left x.past y.past z.past looks.past _ w (seen_three x y z looks) c.step_two-part.ensures.moved.moved in
     let stands = g.G.Guardian.stands c.step_two-part.new.other in
-    held_again y.number y.allowed c.other.inside.left (seen_of w) c.scatter_three.ensures.tables.1
+    held_again y y.allowed c.other.inside.left (seen_of w) c.scatter_three.ensures.tables.1
     (c.scatter_three.ensures.second ∙ parts.second) y.enough c.step_two-part.ensures.locked.second.run
     (subst (λ k. stands (standing o (seen_of w) k)) high c.step_two-part.ensures.locked.second.here)
+    (c.step_two-part.ensures.kept.second ∙ ap (λ k. guardian_events o (seen_of w) k) high)
 
 pub returns-clause-one : goal.returns-clause-one
 returns-clause-one g c =

@@ -16,6 +16,7 @@ new-registry-requires g c =
       parts = c.split-rest.ensures.first ∙ ap first_of places ∙ registry_place n;
       run = tt;
       there = c.requires.world.forest;
+      kept = c.new-history.ensures;
     }
 
 pub hold-guardians-requires-clause-places : goal.hold-guardians-requires-clause-places

@@ -17,7 +17,7 @@ new-requires g c =
     let k = length c.loop-guardian.yielded in
     let t = YieldsList-turn (YieldsList-from_vec all (cc) (cc)) c.loop-guardian.yielded _ c.loop-guardian.yielded_by _ c.next.new.self c.in-Some.guardian c.in-Some.is c.next.ensures.steps in
     let at : slice_get all k ≡ Some c.in-Some.guardian = slice_get-get_or all k c.in-Some.guardian t.0 ∙ ap (λ x. Some x) (sym t.1) in
-    held_at (k + 1) (c.split-others.ensures.of.0 ∙ c.loop-guardian.invariant.table)
+    held_at (k + 1) (omega arith) (omega (arith, t.0, c.requires.count)) c.new-history.ensures (c.split-others.ensures.of.0 ∙ c.loop-guardian.invariant.table)
     (c.split-others.ensures.first ∙ first_place k (length all) c.loop-guardian.rest.token.me.0 c.loop-guardian.invariant.places t.0)
     (c.requires.each k c.in-Some.guardian at)
 

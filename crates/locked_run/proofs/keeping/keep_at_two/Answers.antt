@@ -1,4 +1,4 @@
-use Rattle.std.proofs.Common.{ap, refl, subst, sym, ◌∙◌, ◌∷◌, ◌≡◌}
+use Rattle.std.proofs.Common.{ap, subst, sym, ◌∷◌}
 use Rattle.one_run.specs.Pieces.{seen_of}
 use Rattle.one_run.specs.Rules.{Adds, MayAdd}
 use Rattle.run_model.specs.declared.history.Event.{Event}

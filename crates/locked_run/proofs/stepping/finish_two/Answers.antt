@@ -1,12 +1,15 @@
-use Rattle.std.proofs.Common.{ap, is_some, refl, subst, sym, ◌∙◌}
+use Rattle.std.proofs.Common.{ap, is_some, refl, subst, sym, ◌∙◌, ◌∷◌}
 use Rattle.one_run.specs.Pieces.{seen_of}
 use Rattle.one_run.specs.Rules.{Adds}
+use Rattle.run_model.specs.declared.history.Event.{Event}
 use Rattle.run_model.specs.Runs.{IsRun}
 use Rattle.layer_contracts.specs.Guardians.{event_of}
+use Rattle.layer_contracts.specs.declared.guardian.Fault.TheVariants.{Memory}
 use Rattle.shared_run.specs.Places.{touches}
 use Rattle.locked_run.specs.Acting.{HasMoved, StoreAfter, kept_outcome}
 use Rattle.locked_run.specs.Acting.Outcome.{failed, taken}
-use Rattle.locked_run.proofs.Acted.{answered_only, answered_then, counted_now, err_is, first_is_witness, moved_only, moved_then, ok_is, run_now, store_idle, store_then}
+use Rattle.locked_run.proofs.Acted.{err_is, moved_only, moved_then, ok_is, seen_rest, store_refused, store_then}
+use Rattle.locked_run.proofs.Recorded.{kept_at, kept_then, on_err, on_ok, same_kept, settled_back, settled_back_there, settled_kept, settled_kept_there}
 use Rattle.locked_run.proofs.stepping.finish_two.Goals as goal
 
 pub returns-then-not-is_accepted-clause-moved : goal.returns-then-not-is_accepted-clause-moved
@@ -47,3 +50,48 @@ returns-in-Ok-clause-second_store g c =
     let new = g.G.Guardian.stored c.keep_at_two-part.new.other in
     store_then o c.args.step.now c.args.answer 0 c.requires.locked.registry.place adds c.receipted-part.ensures.rest c.receipted-part.ensures.receipt c.args.high old new
     (subst (λ r. StoreAfter o c.args.step.now (kept_outcome r) (seen_of w) c.args.high old new) c.in-Ok.is c.keep_at_two-part.ensures.second_store)
+
+-- no room to record it
+pub returns-then-is_err-clause-moved : goal.returns-then-is_err-clause-moved
+returns-then-is_err-clause-moved g c = moved_only (failed Memory) refl c.requires.locked.registry.seen
+
+pub returns-then-is_err-clause-kept : goal.returns-then-is_err-clause-kept
+returns-then-is_err-clause-kept g c =
+    let same = on_err c.push.result _ (sym c.is_err.ensures.value ∙ c.if-is_err.true) c.push.ensures.err in
+    same_kept c.requires.kept same.0 same.1 same.2
+
+pub returns-then-is_err-clause-first_store : goal.returns-then-is_err-clause-first_store
+returns-then-is_err-clause-first_store g c =
+    store_refused g.K.OfRun.opening c.args.step.now (seen_of c.args.part.token.me.0) c.args.low (g.G.Guardian.stored c.args.one.now) c.requires.first_store.1
+
+pub returns-then-is_err-clause-second_store : goal.returns-then-is_err-clause-second_store
+returns-then-is_err-clause-second_store g c =
+    store_refused g.K.OfRun.opening c.args.step.now (seen_of c.args.part.token.me.0) c.args.high (g.G.Guardian.stored c.args.other.now) c.requires.second_store.1
+
+-- recorded, and not kept
+pub returns-in-Err-clause-kept : goal.returns-in-Err-clause-kept
+returns-in-Err-clause-kept g c =
+    let step = c.args.step.now in
+    let pushed = on_ok c.push.result _ (sym c.is_err.ensures.value ∙ c.if-is_err.false) c.push.ensures.ok in
+    let s = c.settle.ensures in
+    kept_at
+    (same_kept c.requires.kept (settled_back c.in-Err.is pushed.0 s.one) (settled_back c.in-Err.is pushed.1 s.other) (settled_back_there step _ _ c.in-Err.is pushed.2 s.registry))
+    (ap seen_of (err_is _ c.in-Err.is c.keep_at_two-part.ensures.same))
+
+pub returns-in-Ok-clause-kept : goal.returns-in-Ok-clause-kept
+returns-in-Ok-clause-kept g c =
+    let o = g.K.OfRun.opening in
+    let v = c.args.part.token.me.0 in
+    let w = c.keep_at_two-part.result.0.token.me.0 in
+    let step = c.args.step.now in
+    let answer = c.args.answer in
+    let e : Event = event_of step answer in
+    let a = c.requires.locked in
+    let adds = ok_is (λ n. Adds (IsRun o) touches e v n w) c.in-Ok.is c.keep_at_two-part.ensures.added in
+    let r : IsRun o (e ∷ seen_of v) = (c.requires.answered, sym c.is_accepted.ensures ∙ c.if-not-is_accepted.false, a.registry.run) in
+    let pushed = on_ok c.push.result _ (sym c.is_err.ensures.value ∙ c.if-is_err.false) c.push.ensures.ok in
+    let s = c.settle.ensures in
+    kept_at
+    (kept_then a e r c.requires.names adds c.requires.kept (settled_kept c.in-Ok.is pushed.0 s.one) (settled_kept c.in-Ok.is pushed.1 s.other)
+    (settled_kept_there step _ _ c.in-Ok.is pushed.2 s.registry))
+    (ap seen_of c.receipted-part.ensures.rest ∙ seen_rest o step answer 0 a.registry.place adds)

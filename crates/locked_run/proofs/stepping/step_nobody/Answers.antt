@@ -1,4 +1,4 @@
-use Rattle.std.proofs.Common.{ap, length, subst, sym, None, ◌∙◌, ◌≡◌, ◌&&◌}
+use Rattle.std.proofs.Common.{ap, length, subst, sym, ◌∙◌, ◌≡◌, ◌&&◌}
 use Rattle.one_run.specs.Pieces.{seen_of}
 use Rattle.run_model.specs.Answers.{answer_of}
 use Rattle.world_steps.specs.Standings.{forest_of}

@@ -1,4 +1,4 @@
-use Rattle.std.proofs.Common.{ap, length, refl, subst, sym, true, ◌∙◌, ◌≡◌, ◌&&◌}
+use Rattle.std.proofs.Common.{ap, length, refl, sym, ◌∙◌, ◌&&◌}
 use Rattle.one_run.specs.Pieces.{seen_of}
 use Rattle.layer_contracts.specs.declared.guardian.Fault.TheVariants.{Memory}
 use Rattle.world_steps.specs.Standings.{forest_of, standing}
