@@ -4,6 +4,7 @@
 //! definitions at a run, and all threads make one run (`locked_run`). `op_wait` waits until an operation is granted.
 #![tactic(auto)]
 
+mod behind;
 mod fault;
 mod gate;
 mod place;
@@ -12,4 +13,5 @@ mod waiting;
 
 pub use fault::StepFault;
 pub use gate::{Gate, OpenGate};
+pub use locked_run::{Answered, CloseFault, Ended, Ends, OfRun, Receipt, Start, StoredHistory};
 pub use runtime::Runtime;

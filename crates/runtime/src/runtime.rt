@@ -1,20 +1,21 @@
 //! The runtime that all threads of a service share.
-ghost use Rattle.std.specs.Prelude.{◌≡◌, ◌≤◌, [], false, IfOk, IfSome, length, vec_capacity, vec_len};
+ghost use Rattle.std.specs.Prelude.{◌≡◌, ◌≤◌, [], false, IfErr, IfOk, IfSome, length, vec_capacity, vec_len};
 ghost use Rattle.run_model.specs.Openings.{opening_in};
 ghost use Rattle.run_model.specs.declared.step.Step.TheVariants.{Op};
 ghost use Rattle.world_steps.specs.Standings.{IsWorld};
+ghost use Rattle.locked_run.specs.Closing.{IsClosed, IsUnclosed};
 ghost use Rattle.locked_run.specs.Parts.{AreOfOne};
-ghost use Rattle.runtime.specs.Answering.{IsAnsweredOnce, IsRunOf};
+ghost use Rattle.runtime.specs.Answering.{IsAnsweredBehind, IsAnsweredFrom, IsAnsweredOnce};
 ghost use Rattle.runtime.specs.Waiting.{sleeps};
 
+use crate::behind::{guardian_behind, one_behind, registry_behind, two_behind};
 use crate::fault::StepFault;
 use crate::gate::{Gate, action_of};
 use crate::place::Place;
 use crate::waiting::sleeps;
 use layer_contracts::{Forest, Guardian};
 use locked_run::{
-    Answered, Held, HeldRegistry, OfRun, Receipt, Shared, Start, act_guardian, act_one,
-    act_registry, act_two, begin, close_all, end,
+    Answered, CloseFault, Ends, Held, HeldRegistry, OfRun, Receipt, Shared, Start, begin, close_all,
 };
 use run_model::{Name, ObjectId, Op, Step};
 use std::alloc::{AllocError, Global};
@@ -28,11 +29,13 @@ pub struct Runtime<K: OfRun, R: Forest, G: Guardian, P: Gate> {
     gate: P,
     registry: Mutex<HeldRegistry<K, R>>,
     places: Vec<Place<K, G>>,
+    ghost all: { length places.items ≡ length K.opening.setup },
 }
 
 impl<K: OfRun, R: Forest, G: Guardian, P: Gate> Runtime<K, R, G, P> {
     /// The runtime of a system to which nothing has happened. A caller names the run: it calls a generic function of
-    /// its own with `Brand`. Fails only if memory runs out, and then ends the run.
+    /// its own with `Brand`. Fails only if memory runs out, and then nothing of it is kept.
+    #[tactic(auto, using(locked_run::proofs::Begun::held_count))]
     pub fn new(
         alloc: Global,
         start: Start,
@@ -48,13 +51,7 @@ impl<K: OfRun, R: Forest, G: Guardian, P: Gate> Runtime<K, R, G, P> {
             Ok(begun) => begun,
             Err((refused, _, _)) => return Err(refused),
         };
-        let room = match Vec::with_capacity(alloc, held.len()) {
-            Ok(room) => room,
-            Err(refused) => {
-                close_all(shared, registry, held);
-                return Err(refused);
-            }
-        };
+        let room = Vec::with_capacity(alloc, held.len())?;
         Ok(Runtime {
             alloc,
             shared,
@@ -70,12 +67,21 @@ impl<K: OfRun, R: Forest, G: Guardian, P: Gate> Runtime<K, R, G, P> {
     pub fn step<H: Wait>(&self, rt: &H, step: &Step) -> Result<Answered<K>, StepFault>
         ensures { IfOk result (λ a. IsAnsweredOnce K.opening step.now a.answer a.receipt) }
     {
-        for _ in rt.forever() {
-            if let Some(answered) = self.try_step(rt, step)? {
-                return Ok(answered);
-            }
-        }
-        unreachable!()
+        self.until_made(rt, None, step)
+    }
+
+    /// Makes one step behind a receipt, as `step`: the run at which it is answered goes on from the receipt's.
+    pub fn step_behind<H: Wait>(
+        &self,
+        rt: &H,
+        earlier: &mut Receipt<K>,
+        step: &Step,
+    ) -> Result<Answered<K>, StepFault>
+        ensures answered { IfOk result (λ a. IsAnsweredBehind K.opening earlier.old step.now a.answer a.receipt) }
+        ensures same { earlier.new ≡ earlier.old }
+    {
+        let copy = earlier.copy(&self.shared);
+        self.until_made(rt, Some(copy), step)
     }
 
     /// Makes an operation of the action, as `step`. While it has to wait it sleeps, and is tried again after each
@@ -104,10 +110,13 @@ impl<K: OfRun, R: Forest, G: Guardian, P: Gate> Runtime<K, R, G, P> {
         self.shared.compare(one, other)
     }
 
-    /// Ends the run, and gives the number of its events. They are a run that is served: each action that is no orphan
-    /// sees in it what one plain store would have shown it, serially. Fails only if memory runs out.
-    pub fn close_all(self) -> Result<u64, AllocError>
-        ensures { IfOk result (λ number. IsRunOf K.opening number) }
+    /// Ends the run, which is served: each action that is no orphan sees in it what one plain store would have shown
+    /// it, serially. The registry and the guardians are a world of that run, and each has kept its events. It is
+    /// closed exactly if these receipts are those of its events, each once; otherwise they come back.
+    pub fn close_all(self, receipts: Vec<Receipt<K>>) -> Result<Ends<R, G>, CloseFault<K, R, G>>
+        ensures closed { IfOk result (λ ends. IsClosed G.stands G.stored R.stands K.opening receipts.items ends) }
+        ensures unclosed { IfErr result (λ fault. IsUnclosed G.stands G.stored R.stands K.opening
+            receipts.items fault) }
     {
         let Runtime {
             alloc,
@@ -116,29 +125,96 @@ impl<K: OfRun, R: Forest, G: Guardian, P: Gate> Runtime<K, R, G, P> {
             registry,
             places,
         } = self;
-        let registry = registry.into_inner();
-        let room = match Vec::with_capacity(alloc, places.len()) {
-            Ok(room) => room,
-            Err(refused) => {
-                end(shared, registry.settle());
-                return Err(refused);
-            }
-        };
-        Ok(close_all(shared, registry, unplaced(places, room)))
+        let room = Vec::with_capacity(alloc, places.len())?;
+        close_all(
+            shared,
+            registry.into_inner(),
+            unplaced(places, room),
+            receipts,
+        )
     }
 
-    /// One try of a step. `None` if its guardians are others by the time that they are locked.
-    fn try_step<H: Wait>(&self, rt: &H, step: &Step) -> Result<Option<Answered<K>>, StepFault>
-        ensures { IfOk result (λ r. IfSome r (λ a. IsAnsweredOnce K.opening step.now a.answer a.receipt)) }
+    /// Tries a step until it is answered, behind the receipt if there is one.
+    fn until_made<H: Wait>(
+        &self,
+        rt: &H,
+        earlier: Option<Receipt<K>>,
+        step: &Step,
+    ) -> Result<Answered<K>, StepFault>
+        ensures { IfOk result (λ a. IsAnsweredFrom K.opening earlier step.now a.answer a.receipt) }
+    {
+        let mut behind = earlier;
+        for _ in rt.forever() {
+            if let Some(answered) = self.try_step(rt, &mut behind, step)? {
+                return Ok(answered);
+            }
+        }
+        unreachable!()
+    }
+
+    /// One try of a step, behind the receipt if there is one. `None` if its guardians are others by the time that
+    /// they are locked.
+    fn try_step<H: Wait>(
+        &self,
+        rt: &H,
+        earlier: &mut Option<Receipt<K>>,
+        step: &Step,
+    ) -> Result<Option<Answered<K>>, StepFault>
+        ensures answered { IfOk result (λ r. IfSome r (λ a. IsAnsweredFrom K.opening earlier.old step.now
+            a.answer a.receipt)) }
+        ensures same { earlier.new ≡ earlier.old }
+    {
+        match self.own(rt, earlier, step)? {
+            Some(answered) => Ok(Some(answered)),
+            None => self.with_registry(rt, earlier, step),
+        }
+    }
+
+    /// One try of a step that a guardian makes by itself, under its lock alone. `None` if it is none.
+    fn own<H: Wait>(
+        &self,
+        rt: &H,
+        earlier: &mut Option<Receipt<K>>,
+        step: &Step,
+    ) -> Result<Option<Answered<K>>, StepFault>
+        ensures answered { IfOk result (λ r. IfSome r (λ a. IsAnsweredFrom K.opening earlier.old step.now
+            a.answer a.receipt)) }
+        ensures same { earlier.new ≡ earlier.old }
+    {
+        let number = own_guardian(step);
+        let Some(place) = self.at(number) else {
+            return Ok(None);
+        };
+        let mut held = place.lock(rt);
+        self.gate.pass(number, action_of(step));
+        let done = guardian_behind(self.alloc, &self.shared, &mut held, earlier, step)?;
+        if is_accepted(&done) {
+            place.wake();
+        }
+        Ok(done)
+    }
+
+    /// One try of a step that takes the registry's lock.
+    fn with_registry<H: Wait>(
+        &self,
+        rt: &H,
+        earlier: &mut Option<Receipt<K>>,
+        step: &Step,
+    ) -> Result<Option<Answered<K>>, StepFault>
+        ensures answered { IfOk result (λ r. IfSome r (λ a. IsAnsweredFrom K.opening earlier.old step.now
+            a.answer a.receipt)) }
+        ensures same { earlier.new ≡ earlier.old }
     {
         let (low, high) = in_order(self.named(rt, step));
         match (self.at(low), self.at(high)) {
-            (Some(one), Some(other)) if low != high => self.two(rt, low, one, other, step),
-            (Some(one), _) => self.one(rt, low, one, step),
-            (None, Some(one)) => self.one(rt, high, one, step),
+            (Some(one), Some(other)) if low != high => {
+                self.two(rt, low, one, other, earlier, step)
+            }
+            (Some(one), _) => self.one(rt, low, one, earlier, step),
+            (None, Some(one)) => self.one(rt, high, one, earlier, step),
             (None, None) => {
                 let mut registry = self.registry.lock(rt);
-                Ok(act_registry(self.alloc, &self.shared, &mut registry, step)?)
+                Ok(registry_behind(self.alloc, &self.shared, &mut registry, earlier, step)?)
             }
         }
     }
@@ -150,9 +226,12 @@ impl<K: OfRun, R: Forest, G: Guardian, P: Gate> Runtime<K, R, G, P> {
         low: u32,
         one: &Place<K, G>,
         other: &Place<K, G>,
+        earlier: &mut Option<Receipt<K>>,
         step: &Step,
     ) -> Result<Option<Answered<K>>, StepFault>
-        ensures { IfOk result (λ r. IfSome r (λ a. IsAnsweredOnce K.opening step.now a.answer a.receipt)) }
+        ensures answered { IfOk result (λ r. IfSome r (λ a. IsAnsweredFrom K.opening earlier.old step.now
+            a.answer a.receipt)) }
+        ensures same { earlier.new ≡ earlier.old }
     {
         let mut first = one.lock(rt);
         let mut second = other.lock(rt);
@@ -161,12 +240,13 @@ impl<K: OfRun, R: Forest, G: Guardian, P: Gate> Runtime<K, R, G, P> {
             return Err(StepFault::UsedUp);
         }
         let mut registry = self.registry.lock(rt);
-        let done = act_two(
+        let done = two_behind(
             self.alloc,
             &self.shared,
             &mut registry,
             &mut first,
             &mut second,
+            earlier,
             step,
         )?;
         if is_accepted(&done) {
@@ -176,26 +256,33 @@ impl<K: OfRun, R: Forest, G: Guardian, P: Gate> Runtime<K, R, G, P> {
         Ok(done)
     }
 
-    /// One try of a step of one guardian, with the registry only if it is needed.
+    /// One try of a step of one guardian.
     fn one<H: Wait>(
         &self,
         rt: &H,
         number: u32,
         place: &Place<K, G>,
+        earlier: &mut Option<Receipt<K>>,
         step: &Step,
     ) -> Result<Option<Answered<K>>, StepFault>
-        ensures { IfOk result (λ r. IfSome r (λ a. IsAnsweredOnce K.opening step.now a.answer a.receipt)) }
+        ensures answered { IfOk result (λ r. IfSome r (λ a. IsAnsweredFrom K.opening earlier.old step.now
+            a.answer a.receipt)) }
+        ensures same { earlier.new ≡ earlier.old }
     {
         let mut held = place.lock(rt);
         self.gate.pass(number, action_of(step));
         if held.is_used_up() {
             return Err(StepFault::UsedUp);
         }
-        let mut done = act_guardian(self.alloc, &self.shared, &mut held, step)?;
-        if done.is_none() {
-            let mut registry = self.registry.lock(rt);
-            done = act_one(self.alloc, &self.shared, &mut registry, &mut held, step)?;
-        }
+        let mut registry = self.registry.lock(rt);
+        let done = one_behind(
+            self.alloc,
+            &self.shared,
+            &mut registry,
+            &mut held,
+            earlier,
+            step,
+        )?;
         if is_accepted(&done) {
             place.wake();
         }
@@ -230,13 +317,14 @@ impl<K: OfRun, R: Forest, G: Guardian, P: Gate> Runtime<K, R, G, P> {
         ensures answered { IfOk result (λ r. IfSome r (λ a. IsAnsweredOnce K.opening step.now a.answer a.receipt)) }
         ensures waits { IfOk result (λ r. IfSome r (λ a. sleeps a.answer starters.now ≡ false)) }
     {
-        let named = self.named(rt, step);
-        let Some(place) = self.at(named.first) else {
+        let number = own_guardian(step);
+        let Some(place) = self.at(number) else {
             return self.unless_waiting(rt, step, starters);
         };
         let mut held = place.lock(rt);
-        self.gate.pass(named.first, action_of(step));
-        let done = act_guardian(self.alloc, &self.shared, &mut held, step)?;
+        self.gate.pass(number, action_of(step));
+        let mut nobody: Option<Receipt<K>> = None;
+        let done = guardian_behind(self.alloc, &self.shared, &mut held, &mut nobody, step)?;
         let Some(answered) = done else {
             drop(held);
             return self.unless_waiting(rt, step, starters);
@@ -261,7 +349,8 @@ impl<K: OfRun, R: Forest, G: Guardian, P: Gate> Runtime<K, R, G, P> {
         ensures answered { IfOk result (λ r. IfSome r (λ a. IsAnsweredOnce K.opening step.now a.answer a.receipt)) }
         ensures waits { IfOk result (λ r. IfSome r (λ a. sleeps a.answer starters.now ≡ false)) }
     {
-        let Some(answered) = self.try_step(rt, step)? else {
+        let mut nobody: Option<Receipt<K>> = None;
+        let Some(answered) = self.try_step(rt, &mut nobody, step)? else {
             return Ok(None);
         };
         if sleeps(&answered.answer, starters) {
@@ -282,6 +371,16 @@ impl<K: OfRun, R: Forest, G: Guardian, P: Gate> Runtime<K, R, G, P> {
     }
 }
 
+/// The guardian that makes the step by itself, if its action is at home there: the object's, or the one that crashes or
+/// recovers. Else 0, which no guardian has.
+fn own_guardian(step: &Step) -> u32 {
+    match step {
+        Step::Op(_, object, _) => object.guardian,
+        Step::Crash(guardian) | Step::Recover(guardian) => *guardian,
+        _ => 0,
+    }
+}
+
 /// Whether a step was accepted.
 fn is_accepted<K: OfRun>(done: &Option<Answered<K>>) -> bool {
     match done {
@@ -297,6 +396,7 @@ fn placed<K: OfRun, G: Guardian>(
 ) -> Vec<Place<K, G>>
     requires empty { vec_len room ≡ 0 }
     requires room { length guardians.items ≤ vec_capacity room }
+    ensures { length result.items ≡ length guardians.items }
 {
     let mut places = room;
     for held in guardians {
@@ -312,6 +412,7 @@ fn unplaced<K: OfRun, G: Guardian>(
 ) -> Vec<Held<K, G>>
     requires empty { vec_len room ≡ 0 }
     requires room { length places.items ≤ vec_capacity room }
+    ensures { length result.items ≡ length places.items }
 {
     let mut held = room;
     for place in places {
