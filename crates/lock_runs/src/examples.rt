@@ -1,25 +1,12 @@
-//! The rows: an example's steps, made under locks.
-ghost use Rattle.std.specs.Prelude.{◌≡◌, [], IfOk};
-ghost use Rattle.run_model.specs.Openings.{opening_in};
-ghost use Rattle.stable_store.specs.Plain.{plain_view};
-ghost use Rattle.guardian.specs.Guardians.{IsWhole};
-ghost use Rattle.registry.specs.Registries.{StandsIn};
-ghost use Rattle.world_steps.specs.Standings.{IsWorld};
-ghost use Rattle.world.specs.Worlds.{seen_of};
+//! The rows: an example's steps, made by one thread.
 
-use crate::threads::answered_to;
-use guardian::Guardian;
-use layer_contracts as layers;
-use locked_run::{OfRun, Start};
-use registry::Registry;
+use crate::runs::{Section, Threaded, closed, made};
 use rows::{Row, RowFault, Subject};
-use run_model::{Answer, Setup, SetupFault, Step};
-use runtime::{OpenGate, Runtime};
-use stable_store::PlainStable;
+use run_model::{Answer, Step};
+use runtime::{OfRun, OpenGate, Receipt};
 use std::alloc::{AllocError, Global};
-use std::marker::Brand;
 use std::sync::Wait;
-use world::World;
+use std::thread::Threads;
 
 /// What the rows of a section have given.
 #[derive(Drop)]
@@ -39,7 +26,7 @@ impl<'a, H> Examples<'a, H> {
     }
 }
 
-impl<'a, H: Wait> Subject for Examples<'a, H> {
+impl<'a, H: Threads + Wait + Sync> Subject for Examples<'a, H> {
     fn begin(&mut self, _section: &str) -> Result<(), AllocError> {
         self.setup = String::new(self.alloc);
         Ok(())
@@ -51,68 +38,29 @@ impl<'a, H: Wait> Subject for Examples<'a, H> {
                 self.setup = String::from_str(self.alloc, row.given)?;
                 Ok(())
             }
-            "locked" => locked_answers(self.alloc, self.rt, self.setup.as_str(), row.given, answer),
+            "locked" => {
+                let steps = steps_of(self.alloc, row.given)?;
+                let answers = answers_to(self.alloc, self.rt, self.setup.as_str(), &steps)?;
+                write(self.alloc, &answers, answer)
+            }
             _ => Err(RowFault::Unread),
         }
     }
 }
 
-/// A new world of a setup's document.
-pub(crate) fn world_of(alloc: Global, document: &str) -> Result<World<PlainStable>, RowFault>
-    ensures { IfOk result (λ world. world.run.past ≡ []) }
-{
-    match Setup::read(alloc, document.as_bytes()) {
-        Ok(setup) => Ok(World::in_memory(alloc, setup)?),
-        Err(SetupFault::Memory) => Err(RowFault::Memory),
-        Err(SetupFault::Bad) => Err(RowFault::Unread),
-    }
-}
+/// What stands between two steps, and between two answers.
+const SEPARATOR: &str = " | ";
 
-/// The beginning of a run of a setup's document, with the registry and the guardians of a new world.
-pub(crate) fn started(
-    alloc: Global,
-    document: &str,
-) -> Result<(Start, Registry, Vec<Guardian<PlainStable>>), RowFault>
-    ensures { IfOk result (λ r. IsWorld (λ g s. IsWhole plain_view g s) (λ g. seen_of plain_view g)
-        (StandsIn r.1) (opening_in r.0.run.table.shared.key) [] r.2.items) }
-{
-    let (opening, registry, guardians) = world_of(alloc, document)?.into_parts();
-    let start = Start::new(alloc, &opening)?;
-    Ok((start, registry, guardians))
-}
-
-/// `locked STEPS`: what the steps are answered under locks, by one thread. ` | ` stands between two.
-fn locked_answers<H: Wait>(
-    alloc: Global,
-    rt: &H,
-    setup: &str,
-    steps: &str,
-    answer: &mut String,
-) -> Result<(), RowFault> {
-    let answers = under_locks(alloc, rt, setup, steps)?;
+/// Writes the answers, with ` | ` between two.
+fn write(alloc: Global, answers: &[Answer], text: &mut String) -> Result<(), RowFault> {
     for (index, given) in answers.iter().enumerate() {
         if index > 0 {
-            answer.push_str(SEPARATOR)?;
+            text.push_str(SEPARATOR)?;
         }
-        answer.push_str(given.text(alloc)?.as_str())?;
+        text.push_str(given.text(alloc)?.as_str())?;
     }
     Ok(())
 }
-
-/// What the steps are answered, in a run of their own.
-fn under_locks<H: Wait>(
-    alloc: Global,
-    rt: &H,
-    setup: &str,
-    steps: &str,
-) -> Result<Vec<Answer>, RowFault> {
-    let steps = steps_of(alloc, steps)?;
-    let (start, registry, guardians) = started(alloc, setup)?;
-    listed::<Brand, H>(alloc, rt, start, registry, guardians, steps)
-}
-
-/// What stands between two steps, and between two answers.
-const SEPARATOR: &str = " | ";
 
 /// The steps that the text spells.
 fn steps_of(alloc: Global, text: &str) -> Result<Vec<Step>, RowFault> {
@@ -125,40 +73,44 @@ fn steps_of(alloc: Global, text: &str) -> Result<Vec<Step>, RowFault> {
     Ok(steps)
 }
 
-/// The steps, in a run of this name.
-fn listed<K: OfRun, H: Wait>(
+/// What a runtime over the setup answers to the steps, which one thread makes.
+pub(crate) fn answers_to<H: Threads + Wait + Sync>(
     alloc: Global,
     rt: &H,
-    start: Start,
-    registry: Registry,
-    guardians: Vec<Guardian<PlainStable>>,
-    steps: Vec<Step>,
-) -> Result<Vec<Answer>, RowFault>
-    requires table { start.run.table.shared.table_id ≡ K.table }
-    requires opening { opening_in start.run.table.shared.key ≡ K.opening }
-    requires world { IsWorld (λ g s. IsWhole plain_view g s) (λ g. seen_of plain_view g) (StandsIn registry)
-        K.opening [] guardians.items }
-{
-    let runtime = Runtime::<K, Registry, Guardian<PlainStable>, OpenGate>::new(
-        alloc, start, registry, guardians, OpenGate,
-    )?;
-    let answers = answers_of(alloc, &runtime, rt, &steps);
-    runtime.close_all()?;
-    answers
-}
-
-/// What the steps are answered, one after another.
-fn answers_of<K: OfRun, R: layers::Forest, G: layers::Guardian, H: Wait>(
-    alloc: Global,
-    runtime: &Runtime<K, R, G, OpenGate>,
-    rt: &H,
+    setup: &str,
     steps: &[Step],
 ) -> Result<Vec<Answer>, RowFault> {
-    let mut answers = Vec::new(alloc);
-    for step in steps {
-        answers
-            .push(answered_to(runtime, rt, step)?.answer)
-            .map_err(AllocError::from)?;
+    closed(alloc, rt, setup, &Listed { steps })
+}
+
+/// Steps that one thread makes.
+#[derive(Clone, Copy)]
+pub(crate) struct Listed<'a> {
+    pub(crate) steps: &'a [Step],
+}
+
+impl<'a> Section for Listed<'a> {
+    type Gate = OpenGate;
+
+    type Done = Vec<Answer>;
+
+    fn gate(&self) -> OpenGate {
+        OpenGate
     }
-    Ok(answers)
+
+    fn make<K: OfRun + Send + Sync, H: Threads + Wait + Sync>(
+        &self,
+        alloc: Global,
+        rt: &H,
+        runtime: &Threaded<K, OpenGate>,
+        receipts: &mut Vec<Receipt<K>>,
+    ) -> Result<Vec<Answer>, RowFault> {
+        let mut answers = Vec::new(alloc);
+        for step in self.steps {
+            answers
+                .push(made(runtime, rt, step, receipts)?)
+                .map_err(AllocError::from)?;
+        }
+        Ok(answers)
+    }
 }
