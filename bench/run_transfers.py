@@ -71,7 +71,7 @@ class Sqlite:
 class Postgres:
     name = "PostgreSQL"
 
-    def __init__(self, folder, bin):
+    def __init__(self, folder, bin, databases=4, more=""):
         self.folder, self.bin, self.data, self.program = folder, bin, folder / "data", folder / "postgres_transfers"
         include = subprocess.run([bin / "pg_config", "--includedir"], check=True, capture_output=True, text=True).stdout.strip()
         subprocess.run(["cc", "-O2", f"-I{include}", "-o", self.program, HERE / "postgres_transfers.c", "-lpq"], check=True)
@@ -84,8 +84,8 @@ class Postgres:
             self.as_user = []
         self.call("initdb", "-A", "trust", "-U", "argus", "-D", self.data)
         self.call("pg_ctl", "-w", "-D", self.data, "-l", self.data / "log", "-o",
-                  f"-c listen_addresses= -c unix_socket_directories={self.data} -c max_prepared_transactions=10", "start")
-        for guardian in range(1, 5):
+                  f"-c listen_addresses= -c unix_socket_directories={self.data} -c max_prepared_transactions=10 {more}", "start")
+        for guardian in range(1, databases + 1):
             self.call("createdb", "-h", self.data, "-U", "argus", f"g{guardian}")
 
     def call(self, name, *words):
@@ -128,4 +128,5 @@ def main():
             print(f"| {maker.name} | {1 / each:,.0f} | {each * 1e3:.2f} |", flush=True)
 
 
-main()
+if __name__ == "__main__":
+    main()
