@@ -6,12 +6,11 @@ ghost use Rattle.layer_contracts.specs.Messages.{is_operation};
 ghost use Rattle.volatile_state.specs.Plans.{FitsPlan, FollowsWhere, IsPlannedWhere};
 ghost use Rattle.guardian.specs.Guardians.{IsPlannedHere, IsRecordedAt, WhereverPlanned};
 ghost use Rattle.guardian.specs.Writes.{fault_by};
-ghost use Rattle.layer_contracts.specs.Guardians.{event_of};
 
 use crate::guardian::Guardian;
 use crate::records::recorded_in;
 use crate::writes::Write;
-use layer_contracts::{Draw, Fault, Message};
+use layer_contracts::{Draw, EventRef, Fault, Message};
 use run_model::{Answer, Name, Names, ObjectId, Op, Opening, Step};
 use stable_store::{Stable, StoreFault};
 use std::alloc::{AllocError, Global};
@@ -93,24 +92,22 @@ impl<S: Stable> layer_contracts::Guardian for Guardian<S> {
         self.memory.unsent_counts(&to.memory)
     }
 
-    fn plan(&mut self, step: &Step, answer: &Answer, message: Message) -> Result<(), AllocError> {
-        self.memory.plan(step, answer, message, &mut self.plan)
+    fn plan(&mut self, event: &EventRef<'_>, message: Message) -> Result<(), AllocError> {
+        self.memory.plan(event, message, &mut self.plan)
     }
 
     fn operate<D: Draw>(
         &mut self,
-        step: &Step,
-        answer: &Answer,
+        event: &EventRef<'_>,
         stamp: &mut D,
     ) -> Result<u64, AllocError> {
-        self.memory.operate(step, answer, stamp)
+        self.memory.operate(event, stamp)
     }
 
     fn carry_out<D: Draw>(
         &mut self,
         _plan: (),
-        step: &Step,
-        answer: &Answer,
+        event: &EventRef<'_>,
         stamp: &mut D,
     ) -> Result<u64, Fault> {
         if let Err(fault) = write(
@@ -118,8 +115,7 @@ impl<S: Stable> layer_contracts::Guardian for Guardian<S> {
             &self.memory,
             &self.plan,
             &mut self.store,
-            step,
-            answer,
+            event,
         ) {
             return Err(fault);
         }
@@ -128,20 +124,18 @@ impl<S: Stable> layer_contracts::Guardian for Guardian<S> {
             &mut self.memory,
             &mut self.plan,
             &self.store,
-            step,
-            answer,
+            event,
             drawn,
         );
         Ok(drawn)
     }
 
-    fn install(&mut self, _plan: (), step: &Step, answer: &Answer, stamp: u64) {
+    fn install(&mut self, _plan: (), event: &EventRef<'_>, stamp: u64) {
         keep(
             &mut self.memory,
             &mut self.plan,
             &self.store,
-            step,
-            answer,
+            event,
             stamp,
         );
     }
@@ -152,19 +146,18 @@ fn keep<S: Stable>(
     memory: &mut Memory,
     plan: &mut Plan,
     store: &S,
-    step: &Step,
-    answer: &Answer,
+    event: &EventRef<'_>,
     stamp: u64,
 )
     requires fits { FitsPlan plan.old memory.old }
-    requires planned { IsPlannedWhere (IsRecordedAt step.now (S.seen store.now).content) plan.old memory.old (event_of step.now answer.now) }
-    requires other { IsFalse (is_operation step.now) }
+    requires planned { IsPlannedWhere (IsRecordedAt event.now.step (S.seen store.now).content) plan.old memory.old event.now }
+    requires other { IsFalse (is_operation event.now.step) }
     requires found { (S.seen store.now).holds_content ≡ true }
-    ensures { FollowsWhere (IsRecordedAt step.now (S.seen store.now).content) plan.old memory.old (event_of step.now answer.now) stamp memory.new }
+    ensures { FollowsWhere (IsRecordedAt event.now.step (S.seen store.now).content) plan.old memory.old event.now stamp memory.new }
 {
-    match step {
-        Step::Crash(_) => memory.crash(plan, step, answer, stamp, &recorded_in(store)),
-        _ => memory.keep(plan, step, answer, stamp),
+    match event.step {
+        Step::Crash(_) => memory.crash(plan, event, stamp, &recorded_in(store)),
+        _ => memory.keep(plan, event, stamp),
     }
 }
 
@@ -174,15 +167,14 @@ fn write<S: Stable>(
     memory: &Memory,
     plan: &Plan,
     store: &mut S,
-    step: &Step,
-    answer: &Answer,
+    event: &EventRef<'_>,
 ) -> Result<(), Fault>
-    requires { IsPlannedHere S.seen (record { memory = memory.now; plan = plan.now; store = store.old }) (event_of step.now answer.now) }
-    ensures leaves { WhereverPlanned S.seen (record { memory = memory.now; plan = plan.now; store = store.old }) (event_of step.now answer.now)
+    requires { IsPlannedHere S.seen (record { memory = memory.now; plan = plan.now; store = store.old }) event.now }
+    ensures leaves { WhereverPlanned S.seen (record { memory = memory.now; plan = plan.now; store = store.old }) event.now
         (λ s news. LeavesStore s news (S.seen store.old) (S.seen store.new) (fault_in result)) }
     ensures cause { IsErrOf result Stable → CountsFailure (S.seen store.old) (S.seen store.new) }
 {
-    let write = Write::of(memory, plan, store, step, answer)?;
+    let write = Write::of(memory, plan, store, event)?;
     match write.perform(alloc, store) {
         Ok(()) => Ok(()),
         Err(fault) => Err(fault_of(fault)),

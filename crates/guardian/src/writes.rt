@@ -5,7 +5,7 @@ ghost use Rattle.run_model.specs.LocalReadings.{outcome_in, says_committed};
 ghost use Rattle.stable_store.specs.Calls.{Makes};
 ghost use Rattle.stable_store.specs.Stored.{Stored, after_bump};
 ghost use Rattle.guardian_laws.specs.Stored.{after_event, asks_store, has_record};
-ghost use Rattle.layer_contracts.specs.Guardians.{GuardianState, News, event_of, stamped};
+ghost use Rattle.layer_contracts.specs.Guardians.{GuardianState, News, stamped};
 ghost use Rattle.volatile_state.specs.Memories.{IsSound};
 ghost use Rattle.volatile_state.specs.Plans.{IsPlanOf};
 ghost use Rattle.guardian.specs.Guardians.{IsPlannedHere, WhereverPlanned};
@@ -15,6 +15,7 @@ ghost use Rattle.guardian.specs.Writes.{is_nothing, told_stored, written};
 use crate::records::recorded_in;
 use atomic_types::Part;
 use holders::Survivors;
+use layer_contracts::EventRef;
 use run_model::{Answer, Name, Step};
 use stable_store::{Stable, StoreFault};
 use std::alloc::{AllocError, Global};
@@ -43,19 +44,18 @@ impl Write {
         memory: &Memory,
         plan: &Plan,
         store: &S,
-        step: &Step,
-        answer: &Answer,
+        event: &EventRef<'_>,
     ) -> Result<Write, AllocError>
-        requires { IsPlannedHere S.seen (record { memory = memory.now; plan = plan.now; store = store.now }) (event_of step.now answer.now) }
-        ensures written { WhereverPlanned S.seen (record { memory = memory.now; plan = plan.now; store = store.now }) (event_of step.now answer.now) (λ s news. IfOk result (λ write.
+        requires { IsPlannedHere S.seen (record { memory = memory.now; plan = plan.now; store = store.now }) event.now }
+        ensures written { WhereverPlanned S.seen (record { memory = memory.now; plan = plan.now; store = store.now }) event.now (λ s news. IfOk result (λ write.
             written write (S.seen store.now).content ≡ after_event s.opening s.number (stamped 0 news) s.past (S.seen store.now).content)) }
-        ensures asked { WhereverPlanned S.seen (record { memory = memory.now; plan = plan.now; store = store.now }) (event_of step.now answer.now) (λ s news. IfOk result (λ write.
+        ensures asked { WhereverPlanned S.seen (record { memory = memory.now; plan = plan.now; store = store.now }) event.now (λ s news. IfOk result (λ write.
             is_nothing write ≡ not (asks_store s.number (stamped 0 news) (S.seen store.now).content))) }
     {
         let number = memory.number();
-        match step {
+        match event.step {
             Step::Prepare(voter, top) if *voter == number => {
-                Write::of_vote(memory, plan, answer, top)
+                Write::of_vote(memory, plan, event.answer, top)
             }
             Step::Tell(told, action) if *told == number => Ok(Write::of_telling(
                 store, plan, action,

@@ -11,11 +11,11 @@ ghost use Rattle.action_forest.specs.Events.{done};
 ghost use Rattle.action_forest.specs.Forests.{AtEach, IsForest};
 ghost use Rattle.action_forest.specs.Trees.{trees};
 ghost use Rattle.registry.specs.Following.{event_after, is_yes_vote};
-ghost use Rattle.layer_contracts.specs.Guardians.{event_of};
 
 use crate::ballots::Ballots;
 use crate::change::Change;
 use action_forest::Forest;
+use layer_contracts::EventRef;
 use run_model::{Answer, Name, Names, Opening, Step};
 use std::alloc::{AllocError, Global};
 
@@ -54,22 +54,21 @@ impl Actions {
     /// actions and votes stay what they were.
     pub(crate) fn plan(
         &mut self,
-        step: &Step,
-        answer: &Answer,
+        event: &EventRef<'_>,
         home: u32,
         life: u64,
     ) -> Result<Change, AllocError>
         ensures same { AtEachOf self.old (λ opening registry. AreActions opening registry self.new) }
         ensures room { IfOk result (HasRoomFor self.new) }
-        ensures fits { AtEachOf self.old (λ opening registry. IfOk result (FitsChange opening registry (event_of step.now answer.now) home life self.new)) }
+        ensures fits { AtEachOf self.old (λ opening registry. IfOk result (FitsChange opening registry event.now home life self.new)) }
     {
-        if let Answer::Began(names) = answer {
-            return self.plan_begin(step, names, home, life);
+        if let Answer::Began(names) = event.answer {
+            return self.plan_begin(event.step, names, home, life);
         }
-        match step {
+        match event.step {
             Step::Commit(action) => Ok(Change::Commit(self.forest.plan_commit(action)?)),
             Step::Prepare(guardian, top) => {
-                let yes = is_yes(answer);
+                let yes = is_yes(event.answer);
                 let vote = self.ballots.plan_vote(*guardian, top, yes)?;
                 Ok(Change::Vote(vote))
             }

@@ -6,8 +6,8 @@ ghost use Rattle.run_model.specs.Openings.{opening_in};
 use crate::actions::Actions;
 use crate::change::Change;
 use crate::hearing::Told;
-use layer_contracts::{Forest, Guardian};
-use run_model::{Answer, Deps, Name, Opening, Step};
+use layer_contracts::{EventRef, Forest, Guardian};
+use run_model::{Deps, Name, Opening};
 use std::alloc::{AllocError, Global};
 use std::marker::Model;
 use std::mem;
@@ -138,17 +138,16 @@ impl Forest for Registry {
 
     fn plan(
         &mut self,
-        step: &Step,
-        answer: &Answer,
+        event: &EventRef<'_>,
         home: u32,
         life: u64,
     ) -> Result<(), AllocError> {
-        self.change = self.actions.plan(step, answer, home, life)?;
+        self.change = self.actions.plan(event, home, life)?;
         Ok(())
     }
 
-    fn install(&mut self, _plan: (), step: &Step, answer: &Answer, stamp: u64) {
+    fn install(&mut self, _plan: (), event: &EventRef<'_>, stamp: u64) {
         let change = mem::replace(&mut self.change, Change::Other);
-        self.actions.apply(change, step, stamp);
+        self.actions.apply(change, event.step, stamp);
     }
 }

@@ -1,7 +1,7 @@
 //! Keeping an event.
 ghost use Rattle.std.specs.Prelude.{◌≡◌, IfOk, OnErr, IsFalse, IsTrue};
 ghost use Rattle.run_model.specs.Actions.{step_crashes};
-ghost use Rattle.layer_contracts.specs.Guardians.{GuardianState, IsNext, by_itself, event_of};
+ghost use Rattle.layer_contracts.specs.Guardians.{GuardianState, IsNext, by_itself};
 ghost use Rattle.layer_contracts.specs.Messages.{is_operation};
 ghost use Rattle.volatile_state.specs.Memories.{IsSound};
 ghost use Rattle.volatile_state.specs.Plans.{AreRecorded, FitsPlan, Follows, FollowsWhere, IsPlanned, IsPlannedWhere, Operated};
@@ -9,18 +9,18 @@ ghost use Rattle.volatile_state.specs.Plans.{AreRecorded, FitsPlan, Follows, Fol
 use crate::memory::Memory;
 use crate::plan::Plan;
 use holders::Survivors;
-use layer_contracts::Draw;
-use run_model::{Answer, Step};
+use layer_contracts::{Draw, EventRef};
+use run_model::Step;
 use std::alloc::AllocError;
 
 impl Memory {
     /// Follows an event that is neither an operation nor a crash of the guardian. This cannot fail. Nothing is said of what is left in the plan.
-    pub fn keep(&mut self, plan: &mut Plan, step: &Step, answer: &Answer, stamp: u64)
+    pub fn keep(&mut self, plan: &mut Plan, event: &EventRef<'_>, stamp: u64)
         requires fits { FitsPlan plan.old self.old }
-        requires planned { IsPlanned plan.old self.old (event_of step.now answer.now) }
-        requires other { IsFalse (is_operation step.now) }
-        requires up { IsFalse (step_crashes step.now self.old.number) }
-        ensures { Follows plan.old self.old (event_of step.now answer.now) stamp self.new }
+        requires planned { IsPlanned plan.old self.old event.now }
+        requires other { IsFalse (is_operation event.now.step) }
+        requires up { IsFalse (step_crashes event.now.step self.old.number) }
+        ensures { Follows plan.old self.old event.now stamp self.new }
     {
         self.told.hear(&mut plan.heard);
         self.lists.learn(&mut plan.lesson);
@@ -33,15 +33,14 @@ impl Memory {
     pub fn crash<S: Survivors>(
         &mut self,
         plan: &mut Plan,
-        step: &Step,
-        answer: &Answer,
+        event: &EventRef<'_>,
         stamp: u64,
         survivors: &S,
     )
         requires fits { FitsPlan plan.old self.old }
-        requires planned { IsPlannedWhere (AreRecorded (λ a. S.stays survivors.now a)) plan.old self.old (event_of step.now answer.now) }
-        requires down { IsTrue (step_crashes step.now self.old.number) }
-        ensures { FollowsWhere (AreRecorded (λ a. S.stays survivors.now a)) plan.old self.old (event_of step.now answer.now) stamp self.new }
+        requires planned { IsPlannedWhere (AreRecorded (λ a. S.stays survivors.now a)) plan.old self.old event.now }
+        requires down { IsTrue (step_crashes event.now.step self.old.number) }
+        ensures { FollowsWhere (AreRecorded (λ a. S.stays survivors.now a)) plan.old self.old event.now stamp self.new }
     {
         let alloc = self.alloc;
         self.told.crash(&mut plan.heard);
@@ -54,19 +53,18 @@ impl Memory {
     /// object. Fails only if memory runs out.
     pub fn operate<D: Draw>(
         &mut self,
-        step: &Step,
-        answer: &Answer,
+        event: &EventRef<'_>,
         stamp: &mut D,
     ) -> Result<u64, AllocError>
         requires stamp { D.may_draw stamp.old }
-        requires operation { IsTrue (is_operation step.now) }
-        requires next { (s : GuardianState) × IsSound self.old s × IsNext s (by_itself (event_of step.now answer.now)) }
+        requires operation { IsTrue (is_operation event.now.step) }
+        requires next { (s : GuardianState) × IsSound self.old s × IsNext s (by_itself event.now) }
         ensures ok { IfOk result (λ n. D.draws stamp.old n stamp.new) }
         ensures undrawn { OnErr result (stamp.new ≡ stamp.old) }
-        ensures kept { IfOk result (λ n. Operated self.old (event_of step.now answer.now) n self.new) }
+        ensures kept { IfOk result (λ n. Operated self.old event.now n self.new) }
         ensures err { OnErr result ((s : GuardianState) → IsSound self.old s → IsSound self.new s) }
     {
-        let Step::Op(action, object, operation) = step else {
+        let Step::Op(action, object, operation) = event.step else {
             unreachable!();
         };
         self.objects.grant(action, object.number, operation)?;

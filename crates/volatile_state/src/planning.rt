@@ -4,15 +4,14 @@ ghost use Rattle.atomic_object.specs.Staying.{OutcomesRise};
 ghost use Rattle.run_model.specs.Runs.{is_accepted};
 ghost use Rattle.local_laws.specs.Owed.{IsOwed};
 ghost use Rattle.guardian_laws.specs.Laws.{Agrees};
-ghost use Rattle.layer_contracts.specs.Guardians.{GuardianState, event_of};
+ghost use Rattle.layer_contracts.specs.Guardians.{GuardianState};
 ghost use Rattle.volatile_state.specs.Memories.{IsSound};
 ghost use Rattle.volatile_state.specs.Plans.{FitsPlan, IsPlanOf, local_event, news_in};
 
 use crate::memory::Memory;
 use crate::plan::Plan;
-use layer_contracts::Message;
+use layer_contracts::{EventRef, Message};
 use orphans::News;
-use run_model::{Answer, Step};
 use std::alloc::AllocError;
 
 impl Memory {
@@ -21,19 +20,18 @@ impl Memory {
     /// memory, and where one more crash could not be counted; then nothing is said of the plan.
     pub fn plan(
         &mut self,
-        step: &Step,
-        answer: &Answer,
+        event: &EventRef<'_>,
         message: Message,
         plan: &mut Plan,
     ) -> Result<(), AllocError>
-        requires accepted { IsTrue (is_accepted answer.now) }
+        requires accepted { IsTrue (is_accepted event.now.answer) }
         requires rising { OutcomesRise message.outcomes.items }
         ensures same { (s : GuardianState) → IsSound self.old s → IsSound self.new s }
         ensures fits { OnOk result (FitsPlan plan.new self.new) }
         ensures planned { OnOk result ((s : GuardianState) → IsSound self.old s
-            → IsOwed s.opening s.number (local_event (event_of step.now answer.now) message) s.past step.now
-            → Agrees s.opening s.number (local_event (event_of step.now answer.now) message) s.past
-            → IsPlanOf plan.new self.new s (news_in (event_of step.now answer.now) message)) }
+            → IsOwed s.opening s.number (local_event event.now message) s.past event.now.step
+            → Agrees s.opening s.number (local_event event.now message) s.past
+            → IsPlanOf plan.new self.new s (news_in event.now message)) }
     {
         if self.roster.crashes() == u64::MAX {
             return Err(AllocError);
@@ -52,7 +50,7 @@ impl Memory {
         self.told.plan(outcomes, &mut plan.heard)?;
         self.lists.plan_lesson(self.alloc, news, &mut plan.lesson)?;
         self.roster
-            .plan(step, answer, dependencies, &mut plan.entry)?;
+            .plan(event.step, event.answer, dependencies, &mut plan.entry)?;
         plan.sender = message.sender;
         plan.outcomes = message.outcomes;
         Ok(())

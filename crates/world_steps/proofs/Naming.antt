@@ -1,11 +1,11 @@
 -- A step names a guardian just where that is one of the two that it names.
-use Rattle.std.proofs.Common.{Bool, List, None, Option, Some, ap₂, refl, sym, true, false, ℕ, ◌==◌, ◌∙◌, ◌≡◌, ◌||◌}
+use Rattle.std.proofs.Common.{Bool, List, None, Option, Some, ap₂, refl, subst, sym, true, false, ℕ, ◌==◌, ◌∙◌, ◌≡◌, ◌||◌}
 use Rattle.action_names.specs.Names.{Name}
 use Rattle.run_model.specs.declared.history.Event.{Event}
 use Rattle.run_model.specs.declared.step.Step.{Step}
 use Rattle.run_model.specs.declared.step.Step.TheVariants.{Abort, Arms, Call, Close, Commit, Crash, Decide, NestedTop, Op, Prepare, Recover, Tell, Top}
 use Rattle.run_model.specs.Actions.{maker_of, home_of}
-use Rattle.run_model.specs.LocalHistories.{events_there, is_home_of, names_guardian}
+use Rattle.run_model.specs.LocalHistories.{events_there, home_lent, is_home_of, names_guardian}
 use Rattle.layer_contracts.specs.Forests.{ForestState}
 use Rattle.world_steps.specs.declared.names.NamedGuardians.{NamedGuardians}
 use Rattle.world_steps.specs.Naming.{AreNamed, first_named, home_of_maker, second_named}
@@ -48,3 +48,14 @@ named_are {stands} {step} {named} are f at g =
 pub is_as_named : {stands : ForestState → Type 0} {step : Step} {named : NamedGuardians} → AreNamed stands step named → (f : ForestState) → stands f → (g : ℕ) (t : Bool)
     → t ≡ ((named.first == g) || (named.second == g)) → t ≡ names_guardian step (events_there f.registry) g
 is_as_named are f at g t is = is ∙ sym (named_are are f at g)
+
+-- the home of what the step begins that names these
+abbrev pub IsHomeOfNew : NamedGuardians → Step → ℕ → Type 0
+IsHomeOfNew named step home =
+    (f : ForestState) → named.first ≡ first_named step (events_there f.registry)
+    → named.second ≡ second_named step (events_there f.registry) → home ≡ home_lent step f.registry
+
+-- and of what the same step begins
+pub home_of_same : {step same : Step} (named : NamedGuardians) (home : ℕ) → same ≡ step
+    → IsHomeOfNew named step home → IsHomeOfNew named same home
+home_of_same named home is of = subst (λ s. IsHomeOfNew named s home) (sym is) of

@@ -4,7 +4,7 @@ ghost use Rattle.std.specs.List.Sorted.{IsStrictlySortedBy};
 ghost use Rattle.action_names.specs.Names.{name_cmp};
 ghost use Rattle.run_model.specs.Runs.{is_accepted};
 ghost use Rattle.run_model.specs.LocalHistories.{events_there, names_guardian, takes_registry};
-ghost use Rattle.layer_contracts.specs.Guardians.{GuardianState, after_step, event_of, lent_two};
+ghost use Rattle.layer_contracts.specs.Guardians.{GuardianState, after_step, lent_two};
 ghost use Rattle.layer_contracts.specs.Stores.{CountsFailure, LeavesStore, Stays, fault_in};
 ghost use Rattle.layer_contracts.specs.declared.guardian.Fault.TheVariants.{Stable};
 ghost use Rattle.layer_contracts.specs.Messages.{is_operation, may_fail};
@@ -15,8 +15,8 @@ ghost use Rattle.world_steps.specs.Naming.{AreNamed};
 
 use crate::lent::Lent;
 use crate::names::{NamedGuardians, home_of_new, is_named, is_operation, takes_registry};
-use layer_contracts::{Draw, Fault, Forest, Guardian, Message};
-use run_model::{Answer, Step};
+use layer_contracts::{Draw, EventRef, Fault, Forest, Guardian, Message};
+use run_model::Step;
 use std::alloc::{AllocError, Global};
 
 impl<'a, R: Forest, G: Guardian> Lent<'a, R, G> {
@@ -24,38 +24,36 @@ impl<'a, R: Forest, G: Guardian> Lent<'a, R, G> {
     fn brought_to(
         &self,
         named: NamedGuardians,
-        step: &Step,
-        answer: &Answer,
+        event: &EventRef<'_>,
         at: &G,
     ) -> Result<Option<Message>, AllocError>
-        requires { AreNamed (R.stands self.now.forest.now) step.now named }
+        requires { AreNamed (R.stands self.now.forest.now) event.now.step named }
         ensures { IfOk result (λ brought. (f : ForestState) (a b x : GuardianState) → Lends R.stands G.stands self.now f a b → G.stands at.now x
-            → IsOneOf a b x → x.opening ≡ f.opening → IsAnswered f a b (event_of step.now answer.now) → Brings f a b (event_of step.now answer.now) x brought) }
+            → IsOneOf a b x → x.opening ≡ f.opening → IsAnswered f a b event.now → Brings f a b event.now x brought) }
     {
         if !is_named(named, at.number()) {
             return Ok(None);
         }
-        Ok(Some(self.message(named, step, answer, at)?))
+        Ok(Some(self.message(named, event, at)?))
     }
 }
 
 /// Makes room at the guardian for an event that brings this to it, if it brings something.
 fn plan_at<G: Guardian>(
     guardian: &mut G,
-    step: &Step,
-    answer: &Answer,
+    event: &EventRef<'_>,
     brought: Option<Message>,
 ) -> Result<Option<G::Plan>, AllocError>
-    requires accepted { IsTrue (is_accepted answer.now) }
+    requires accepted { IsTrue (is_accepted event.now.answer) }
     requires rising { MatchOption brought (Unit {0}) (λ message. IsStrictlySortedBy name_cmp (map (λ x. x.0) message.outcomes.items)) }
     ensures same { StandsStill (G.stands guardian.old) (G.stands guardian.new) }
     ensures store { Stays (G.stored guardian.old) (G.stored guardian.new) }
     ensures fits { IfOk result (λ planned. MatchOption planned (Unit {0}) (λ plan. G.fits plan guardian.new)) }
-    ensures planned { IfOk result (λ planned. (f : ForestState) (a b x : GuardianState) → G.stands guardian.old x → Brings f a b (event_of step.now answer.now) x brought
-        → Plans (λ plan y. G.is_for plan guardian.new y) f a b (event_of step.now answer.now) x planned) }
+    ensures planned { IfOk result (λ planned. (f : ForestState) (a b x : GuardianState) → G.stands guardian.old x → Brings f a b event.now x brought
+        → Plans (λ plan y. G.is_for plan guardian.new y) f a b event.now x planned) }
 {
     match brought {
-        Some(message) => Ok(Some(guardian.plan(step, answer, message)?)),
+        Some(message) => Ok(Some(guardian.plan(event, message)?)),
         None => Ok(None),
     }
 }
@@ -63,21 +61,20 @@ fn plan_at<G: Guardian>(
 /// Makes room in the forest for an event, if the forest keeps it.
 fn plan_there<R: Forest>(
     forest: &mut R,
-    step: &Step,
-    answer: &Answer,
+    event: &EventRef<'_>,
     home: u32,
     life: u64,
 ) -> Result<Option<R::Plan>, AllocError>
-    requires accepted { IsTrue (is_accepted answer.now) }
+    requires accepted { IsTrue (is_accepted event.now.answer) }
     ensures same { (f : ForestState) → R.stands forest.old f → R.stands forest.new f }
     ensures fits { IfOk result (λ planned. MatchOption planned (Unit {0}) (λ plan. R.fits plan forest.new)) }
-    ensures planned { IfOk result (λ planned. (f : ForestState) → R.stands forest.old f → entered f (event_of step.now answer.now)
-        → MatchOption planned (takes_registry step.now ≡ false) (λ plan. IsPlannedThere (R.is_for plan forest.new f) f home life (event_of step.now answer.now))) }
+    ensures planned { IfOk result (λ planned. (f : ForestState) → R.stands forest.old f → entered f event.now
+        → MatchOption planned (takes_registry event.now.step ≡ false) (λ plan. IsPlannedThere (R.is_for plan forest.new f) f home life event.now)) }
 {
-    if !takes_registry(step) {
+    if !takes_registry(event.step) {
         return Ok(None);
     }
-    Ok(Some(forest.plan(step, answer, home, life)?))
+    Ok(Some(forest.plan(event, home, life)?))
 }
 
 /// Whether what the event changes at this guardian, which it names, may fail though there is room.
@@ -92,36 +89,36 @@ fn may_fail(step: &Step, guardian: u32) -> bool
 }
 
 /// Whether there is a plan whose changes at this guardian may fail though there is room.
-fn plan_may_fail<G: Guardian>(plan: &Option<G::Plan>, step: &Step, guardian: &G) -> bool
-    ensures { (x : GuardianState) → G.stands guardian.now x → result ≡ (is_some plan.now && may_fail step.now x.number) }
+fn plan_may_fail<G: Guardian>(plan: &Option<G::Plan>, event: &EventRef<'_>, guardian: &G) -> bool
+    ensures { (x : GuardianState) → G.stands guardian.now x
+        → result ≡ (is_some plan.now && may_fail event.now.step x.number) }
 {
-    plan.is_some() && may_fail(step, guardian.number())
+    plan.is_some() && may_fail(event.step, guardian.number())
 }
 
 /// Carries the plan out, if there is one, and draws the stamp.
 fn carry_out<G: Guardian, D: Draw>(
     guardian: &mut G,
     plan: Option<G::Plan>,
-    step: &Step,
-    answer: &Answer,
+    event: &EventRef<'_>,
     stamp: &mut D,
 ) -> Result<u64, Fault>
     requires stamp { D.may_draw stamp.old }
-    requires other { IsFalse (is_operation step.now) }
+    requires other { IsFalse (is_operation event.now.step) }
     requires fits { MatchOption plan (Unit {0}) (λ plan. G.fits plan guardian.old) }
-    requires planned { MatchOption plan (Unit {0}) (λ plan. IsPlannedHere (G.stands guardian.old) (G.is_for plan guardian.old) (event_of step.now answer.now)) }
+    requires planned { MatchOption plan (Unit {0}) (λ plan. IsPlannedHere (G.stands guardian.old) (G.is_for plan guardian.old) event.now) }
     ensures drawn { IfOk result (λ n. D.draws stamp.old n stamp.new) }
     ensures undrawn { OnErr result (stamp.new ≡ stamp.old) }
     ensures kept { IfOk result (λ n. MatchOption plan (StandsStill (G.stands guardian.old) (G.stands guardian.new))
-        (λ plan. IsKept (G.stands guardian.old) (G.stands guardian.new) (G.is_for plan guardian.old) (event_of step.now answer.now) n)) }
+        (λ plan. IsKept (G.stands guardian.old) (G.stands guardian.new) (G.is_for plan guardian.old) event.now n)) }
     ensures err { OnErr result (StandsStill (G.stands guardian.old) (G.stands guardian.new)) }
     ensures store { MatchOption plan (Stays (G.stored guardian.old) (G.stored guardian.new))
-        (λ plan. WhereverPlanned (G.stands guardian.old) (G.is_for plan guardian.old) (event_of step.now answer.now)
+        (λ plan. WhereverPlanned (G.stands guardian.old) (G.is_for plan guardian.old) event.now
         (λ x news. LeavesStore x news (G.stored guardian.old) (G.stored guardian.new) (fault_in result))) }
     ensures cause { IsErrOf result Stable → CountsFailure (G.stored guardian.old) (G.stored guardian.new) }
 {
     match plan {
-        Some(plan) => guardian.carry_out(plan, step, answer, stamp),
+        Some(plan) => guardian.carry_out(plan, event, stamp),
         None => Ok(stamp.draw()),
     }
 }
@@ -129,36 +126,34 @@ fn carry_out<G: Guardian, D: Draw>(
 fn install<G: Guardian>(
     guardian: &mut G,
     plan: Option<G::Plan>,
-    step: &Step,
-    answer: &Answer,
+    event: &EventRef<'_>,
     stamp: u64,
 )
     requires fits { MatchOption plan (Unit {0}) (λ plan. G.fits plan guardian.old) }
-    requires planned { MatchOption plan (Unit {0}) (λ plan. IsPlannedHere (G.stands guardian.old) (G.is_for plan guardian.old) (event_of step.now answer.now)) }
-    requires quiet { MatchOption plan (Unit {0}) (λ plan. (x : GuardianState) × G.stands guardian.old x × IsFalse (may_fail step.now x.number)) }
+    requires planned { MatchOption plan (Unit {0}) (λ plan. IsPlannedHere (G.stands guardian.old) (G.is_for plan guardian.old) event.now) }
+    requires quiet { MatchOption plan (Unit {0}) (λ plan. (x : GuardianState) × G.stands guardian.old x × IsFalse (may_fail event.now.step x.number)) }
     ensures kept { MatchOption plan (StandsStill (G.stands guardian.old) (G.stands guardian.new))
-        (λ plan. IsKept (G.stands guardian.old) (G.stands guardian.new) (G.is_for plan guardian.old) (event_of step.now answer.now) stamp) }
+        (λ plan. IsKept (G.stands guardian.old) (G.stands guardian.new) (G.is_for plan guardian.old) event.now stamp) }
     ensures store { Stays (G.stored guardian.old) (G.stored guardian.new) }
 {
     if let Some(plan) = plan {
-        guardian.install(plan, step, answer, stamp);
+        guardian.install(plan, event, stamp);
     }
 }
 
 fn install_there<R: Forest>(
     forest: &mut R,
     plan: Option<R::Plan>,
-    step: &Step,
-    answer: &Answer,
+    event: &EventRef<'_>,
     stamp: u64,
 )
     requires fits { MatchOption plan (Unit {0}) (λ plan. R.fits plan forest.old) }
-    requires planned { MatchOption plan (Unit {0}) (λ plan. IsPlannedInSome (R.stands forest.old) (R.is_for plan forest.old) (event_of step.now answer.now)) }
+    requires planned { MatchOption plan (Unit {0}) (λ plan. IsPlannedInSome (R.stands forest.old) (R.is_for plan forest.old) event.now) }
     ensures { MatchOption plan ((f : ForestState) → R.stands forest.old f → R.stands forest.new f)
-        (λ plan. IsInstalled (R.stands forest.old) (R.stands forest.new) (R.is_for plan forest.old) (event_of step.now answer.now) stamp) }
+        (λ plan. IsInstalled (R.stands forest.old) (R.stands forest.new) (R.is_for plan forest.old) event.now stamp) }
 {
     if let Some(plan) = plan {
-        forest.install(plan, step, answer, stamp);
+        forest.install(plan, event, stamp);
     }
 }
 
@@ -168,24 +163,23 @@ fn operate<R: Forest, G: Guardian, D: Draw>(
     forest: &R,
     guardian: &mut G,
     named: NamedGuardians,
-    step: &Step,
-    answer: &Answer,
+    event: &EventRef<'_>,
     stamp: &mut D,
 ) -> Result<u64, AllocError>
     requires stamp { D.may_draw stamp.old }
-    requires named { AreNamed (R.stands forest.now) step.now named }
-    requires operation { IsTrue (is_operation step.now) }
+    requires named { AreNamed (R.stands forest.now) event.now.step named }
+    requires operation { IsTrue (is_operation event.now.step) }
     requires answered { (f : ForestState) × (a : GuardianState) × (b : GuardianState) × (x : GuardianState)
-        × IsLentAt (R.stands forest.now) (G.stands guardian.old) f a b (event_of step.now answer.now) x }
+        × IsLentAt (R.stands forest.now) (G.stands guardian.old) f a b event.now x }
     ensures drawn { IfOk result (λ n. D.draws stamp.old n stamp.new) }
     ensures undrawn { OnErr result (stamp.new ≡ stamp.old) }
-    ensures kept { IfOk result (λ n. (f : ForestState) (a b x : GuardianState) → IsLentAt (R.stands forest.now) (G.stands guardian.old) f a b (event_of step.now answer.now) x
-        → G.stands guardian.new (after_step x (n, (event_of step.now answer.now)) f.registry (lent_two a b))) }
+    ensures kept { IfOk result (λ n. (f : ForestState) (a b x : GuardianState) → IsLentAt (R.stands forest.now) (G.stands guardian.old) f a b event.now x
+        → G.stands guardian.new (after_step x (n, event.now) f.registry (lent_two a b))) }
     ensures err { OnErr result (StandsStill (G.stands guardian.old) (G.stands guardian.new)) }
     ensures store { Stays (G.stored guardian.old) (G.stored guardian.new) }
 {
     if is_named(named, guardian.number()) {
-        guardian.operate(step, answer, stamp)
+        guardian.operate(event, stamp)
     } else {
         Ok(stamp.draw())
     }
@@ -200,38 +194,37 @@ pub fn keep_two<R: Forest, G: Guardian, D: Draw>(
     first: &mut G,
     second: &mut G,
     named: NamedGuardians,
-    step: &Step,
-    answer: &Answer,
+    event: &EventRef<'_>,
     stamp: &mut D,
 ) -> Result<u64, Fault>
     requires stamp { D.may_draw stamp.old }
-    requires named { AreNamed (R.stands forest.old) step.now named }
+    requires named { AreNamed (R.stands forest.old) event.now.step named }
     requires answered { (f : ForestState) × (a : GuardianState) × (b : GuardianState)
-        × AreAnswered (R.stands forest.old) (G.stands first.old) (G.stands second.old) f a b (event_of step.now answer.now) × ((a.number == b.number) ≡ false) }
+        × AreAnswered (R.stands forest.old) (G.stands first.old) (G.stands second.old) f a b event.now × ((a.number == b.number) ≡ false) }
     ensures drawn { IfOk result (λ n. D.draws stamp.old n stamp.new) }
     ensures undrawn { OnErr result (stamp.new ≡ stamp.old) }
     ensures done { IfOk result (λ n. (f : ForestState) (a b : GuardianState)
-        → AreAnswered (R.stands forest.old) (G.stands first.old) (G.stands second.old) f a b (event_of step.now answer.now)
-        → IsDone (R.stands forest.new) (G.stands first.new) (G.stands second.new) f a b (event_of step.now answer.now) n) }
+        → AreAnswered (R.stands forest.old) (G.stands first.old) (G.stands second.old) f a b event.now
+        → IsDone (R.stands forest.new) (G.stands first.new) (G.stands second.new) f a b event.now n) }
     ensures forest_same { OnErr result ((f : ForestState) → R.stands forest.old f → R.stands forest.new f) }
     ensures first_same { OnErr result (StandsStill (G.stands first.old) (G.stands first.new)) }
     ensures second_same { OnErr result (StandsStill (G.stands second.old) (G.stands second.new)) }
     ensures first_store { (f : ForestState) (a b : GuardianState)
-        → AreAnswered (R.stands forest.old) (G.stands first.old) (G.stands second.old) f a b (event_of step.now answer.now)
-        → StoreLeft f a b (event_of step.now answer.now) a (G.stored first.old) (G.stored first.new) (fault_in result) }
+        → AreAnswered (R.stands forest.old) (G.stands first.old) (G.stands second.old) f a b event.now
+        → StoreLeft f a b event.now a (G.stored first.old) (G.stored first.new) (fault_in result) }
     ensures second_store { (f : ForestState) (a b : GuardianState)
-        → AreAnswered (R.stands forest.old) (G.stands first.old) (G.stands second.old) f a b (event_of step.now answer.now)
-        → StoreLeft f a b (event_of step.now answer.now) b (G.stored second.old) (G.stored second.new) (fault_in result) }
+        → AreAnswered (R.stands forest.old) (G.stands first.old) (G.stands second.old) f a b event.now
+        → StoreLeft f a b event.now b (G.stored second.old) (G.stored second.new) (fault_in result) }
     ensures cause { IsErrOf result Stable → CountsFailure (G.stored first.old) (G.stored first.new) ⊎ CountsFailure (G.stored second.old) (G.stored second.new) }
 {
     // The stores of both are those of their histories.
     first.number();
     second.number();
-    if is_operation(step) {
+    if is_operation(event.step) {
         if is_named(named, first.number()) {
-            return Ok(operate(forest, first, named, step, answer, stamp)?);
+            return Ok(operate(forest, first, named, event, stamp)?);
         }
-        return Ok(operate(forest, second, named, step, answer, stamp)?);
+        return Ok(operate(forest, second, named, event, stamp)?);
     }
     let lent = Lent {
         alloc,
@@ -239,22 +232,22 @@ pub fn keep_two<R: Forest, G: Guardian, D: Draw>(
         first: &*first,
         second: &*second,
     };
-    let home = home_of_new(named, step);
+    let home = home_of_new(named, event.step);
     let life = lent.crashes_at(home);
-    let to_first = lent.brought_to(named, step, answer, lent.first)?;
-    let to_second = lent.brought_to(named, step, answer, lent.second)?;
-    let there = plan_there(forest, step, answer, home, life)?;
-    let one = plan_at(first, step, answer, to_first)?;
-    let other = plan_at(second, step, answer, to_second)?;
-    if plan_may_fail(&one, step, &*first) {
-        let number = carry_out(first, one, step, answer, stamp)?;
-        install(second, other, step, answer, number);
-        install_there(forest, there, step, answer, number);
+    let to_first = lent.brought_to(named, event, lent.first)?;
+    let to_second = lent.brought_to(named, event, lent.second)?;
+    let there = plan_there(forest, event, home, life)?;
+    let one = plan_at(first, event, to_first)?;
+    let other = plan_at(second, event, to_second)?;
+    if plan_may_fail(&one, event, &*first) {
+        let number = carry_out(first, one, event, stamp)?;
+        install(second, other, event, number);
+        install_there(forest, there, event, number);
         Ok(number)
     } else {
-        let number = carry_out(second, other, step, answer, stamp)?;
-        install(first, one, step, answer, number);
-        install_there(forest, there, step, answer, number);
+        let number = carry_out(second, other, event, stamp)?;
+        install(first, one, event, number);
+        install_there(forest, there, event, number);
         Ok(number)
     }
 }
@@ -265,30 +258,29 @@ pub fn keep_one<R: Forest, G: Guardian, D: Draw>(
     forest: &mut R,
     guardian: &mut G,
     named: NamedGuardians,
-    step: &Step,
-    answer: &Answer,
+    event: &EventRef<'_>,
     stamp: &mut D,
 ) -> Result<u64, Fault>
     requires stamp { D.may_draw stamp.old }
-    requires named { AreNamed (R.stands forest.old) step.now named }
+    requires named { AreNamed (R.stands forest.old) event.now.step named }
     requires answered { (f : ForestState) × (x : GuardianState)
-        × AreAnswered (R.stands forest.old) (G.stands guardian.old) (G.stands guardian.old) f x x (event_of step.now answer.now) }
+        × AreAnswered (R.stands forest.old) (G.stands guardian.old) (G.stands guardian.old) f x x event.now }
     ensures drawn { IfOk result (λ n. D.draws stamp.old n stamp.new) }
     ensures undrawn { OnErr result (stamp.new ≡ stamp.old) }
     ensures done { IfOk result (λ n. (f : ForestState) (x : GuardianState)
-        → AreAnswered (R.stands forest.old) (G.stands guardian.old) (G.stands guardian.old) f x x (event_of step.now answer.now)
-        → IsDone (R.stands forest.new) (G.stands guardian.new) (G.stands guardian.new) f x x (event_of step.now answer.now) n) }
+        → AreAnswered (R.stands forest.old) (G.stands guardian.old) (G.stands guardian.old) f x x event.now
+        → IsDone (R.stands forest.new) (G.stands guardian.new) (G.stands guardian.new) f x x event.now n) }
     ensures forest_same { OnErr result ((f : ForestState) → R.stands forest.old f → R.stands forest.new f) }
     ensures guardian_same { OnErr result (StandsStill (G.stands guardian.old) (G.stands guardian.new)) }
     ensures store { (f : ForestState) (x : GuardianState)
-        → AreAnswered (R.stands forest.old) (G.stands guardian.old) (G.stands guardian.old) f x x (event_of step.now answer.now)
-        → StoreLeft f x x (event_of step.now answer.now) x (G.stored guardian.old) (G.stored guardian.new) (fault_in result) }
+        → AreAnswered (R.stands forest.old) (G.stands guardian.old) (G.stands guardian.old) f x x event.now
+        → StoreLeft f x x event.now x (G.stored guardian.old) (G.stored guardian.new) (fault_in result) }
     ensures cause { IsErrOf result Stable → CountsFailure (G.stored guardian.old) (G.stored guardian.new) }
 {
     // Its store is that of its history.
     guardian.number();
-    if is_operation(step) {
-        return Ok(operate(forest, guardian, named, step, answer, stamp)?);
+    if is_operation(event.step) {
+        return Ok(operate(forest, guardian, named, event, stamp)?);
     }
     let lent = Lent {
         alloc,
@@ -296,12 +288,12 @@ pub fn keep_one<R: Forest, G: Guardian, D: Draw>(
         first: &*guardian,
         second: &*guardian,
     };
-    let home = home_of_new(named, step);
+    let home = home_of_new(named, event.step);
     let life = lent.crashes_at(home);
-    let brought = lent.brought_to(named, step, answer, lent.first)?;
-    let there = plan_there(forest, step, answer, home, life)?;
-    let here = plan_at(guardian, step, answer, brought)?;
-    let number = carry_out(guardian, here, step, answer, stamp)?;
-    install_there(forest, there, step, answer, number);
+    let brought = lent.brought_to(named, event, lent.first)?;
+    let there = plan_there(forest, event, home, life)?;
+    let here = plan_at(guardian, event, brought)?;
+    let number = carry_out(guardian, here, event, stamp)?;
+    install_there(forest, there, event, number);
     Ok(number)
 }

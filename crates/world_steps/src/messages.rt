@@ -4,7 +4,7 @@ ghost use Rattle.run_model.specs.Actions.{crashes, home_of, names_begun};
 ghost use Rattle.run_model.specs.LocalReadings.{events_here};
 ghost use Rattle.run_model.specs.LocalHistories.{action_lent, aborts_from, carried_lent, counts_of_sender, dependencies_sent, dependency_there, entries_of, events_there, home_lent, life_lent, outcomes_carried, sender_lent, sender_life};
 ghost use Rattle.layer_contracts.specs.Forests.{ForestState};
-ghost use Rattle.layer_contracts.specs.Guardians.{GuardianState, event_of, lent_two};
+ghost use Rattle.layer_contracts.specs.Guardians.{GuardianState, lent_two};
 ghost use Rattle.guardian_laws.specs.Sent.{sent_of};
 ghost use Rattle.layer_contracts.specs.Messages.{carried_of};
 ghost use Rattle.world_steps.specs.Lending.{IsOneOf, Lends, dependencies_two, new_from, new_two};
@@ -13,8 +13,8 @@ ghost use Rattle.world_steps.specs.Naming.{AreNamed};
 use crate::lent::Lent;
 use crate::names::{NamedGuardians, home_of_new, names_begun};
 use action_names::{Deps, Name, Names};
-use layer_contracts::{Forest, Guardian, Message};
-use run_model::{Answer, Step};
+use layer_contracts::{EventRef, Forest, Guardian, Message};
+use run_model::Step;
 use std::alloc::AllocError;
 use step_answers::Reads;
 
@@ -23,15 +23,14 @@ impl<'a, R: Forest, G: Guardian> Lent<'a, R, G> {
     pub(crate) fn message(
         &self,
         named: NamedGuardians,
-        step: &Step,
-        answer: &Answer,
+        event: &EventRef<'_>,
         at: &G,
     ) -> Result<Message, AllocError>
-        requires { AreNamed (R.stands self.now.forest.now) step.now named }
+        requires { AreNamed (R.stands self.now.forest.now) event.now.step named }
         ensures { (f : ForestState) (a b x : GuardianState) → Lends R.stands G.stands self.now f a b → G.stands at.now x → IsOneOf a b x
-            → IfOk result (λ message. carried_of message ≡ carried_lent f.opening (event_of step.now answer.now) x.number f.registry (lent_two a b)) }
+            → IfOk result (λ message. carried_of message ≡ carried_lent f.opening event.now x.number f.registry (lent_two a b)) }
     {
-        let sender = self.sender(named, step, at.number());
+        let sender = self.sender(named, event.step, at.number());
         let life = self.life_of(sender);
         let (aborts, counts) = self.lists(sender, at)?;
         Ok(Message {
@@ -39,8 +38,8 @@ impl<'a, R: Forest, G: Guardian> Lent<'a, R, G> {
             life,
             aborts,
             counts,
-            dependencies: self.dependencies(named, step, answer, at.number())?,
-            outcomes: self.outcomes(step, at)?,
+            dependencies: self.dependencies(named, event, at.number())?,
+            outcomes: self.outcomes(event.step, at)?,
         })
     }
 
@@ -109,15 +108,14 @@ impl<'a, R: Forest, G: Guardian> Lent<'a, R, G> {
     fn dependencies(
         &self,
         named: NamedGuardians,
-        step: &Step,
-        answer: &Answer,
+        event: &EventRef<'_>,
         at: u32,
     ) -> Result<Vec<(Name, Deps)>, AllocError>
-        requires { AreNamed (R.stands self.now.forest.now) step.now named }
+        requires { AreNamed (R.stands self.now.forest.now) event.now.step named }
         ensures { (f : ForestState) (a b : GuardianState) → Lends R.stands G.stands self.now f a b
-            → IfOk result (λ sent. sent_of sent.items ≡ dependencies_two f a b (event_of step.now answer.now) at) }
+            → IfOk result (λ sent. sent_of sent.items ≡ dependencies_two f a b event.now at) }
     {
-        match step {
+        match event.step {
             Step::Commit(action) => {
                 if named.second == at {
                     return self.dependencies_of(action);
@@ -130,7 +128,7 @@ impl<'a, R: Forest, G: Guardian> Lent<'a, R, G> {
                 }
                 Ok(Vec::new(self.alloc))
             }
-            _ => self.new_dependencies(named, step, answer, at),
+            _ => self.new_dependencies(named, event, at),
         }
     }
 
@@ -148,20 +146,19 @@ impl<'a, R: Forest, G: Guardian> Lent<'a, R, G> {
     fn new_dependencies(
         &self,
         named: NamedGuardians,
-        step: &Step,
-        answer: &Answer,
+        event: &EventRef<'_>,
         at: u32,
     ) -> Result<Vec<(Name, Deps)>, AllocError>
-        requires { AreNamed (R.stands self.now.forest.now) step.now named }
+        requires { AreNamed (R.stands self.now.forest.now) event.now.step named }
         ensures { (f : ForestState) (a b : GuardianState) → Lends R.stands G.stands self.now f a b
-            → IfOk result (λ sent. sent_of sent.items ≡ new_two f a b (event_of step.now answer.now) at) }
+            → IfOk result (λ sent. sent_of sent.items ≡ new_two f a b event.now at) }
     {
-        let home = home_of_new(named, step);
+        let home = home_of_new(named, event.step);
         let life = self.crashes_at(home);
         if home != at {
             return Ok(Vec::new(self.alloc));
         }
-        self.dependencies_of_new(names_begun(answer), home, life)
+        self.dependencies_of_new(names_begun(event.answer), home, life)
     }
 
     fn dependencies_of_new(

@@ -4,7 +4,7 @@ ghost use Rattle.run_model.specs.Runs.{IsRun, history_after, is_accepted};
 ghost use Rattle.run_model.specs.LocalHistories.{answer_lent};
 ghost use Rattle.run_model.specs.Openings.{Opening};
 ghost use Rattle.layer_contracts.specs.Forests.{ForestState};
-ghost use Rattle.layer_contracts.specs.Guardians.{GuardianState, event_of, lent_two};
+ghost use Rattle.layer_contracts.specs.Guardians.{GuardianState, lent_two};
 ghost use Rattle.world_steps.specs.Lending.{nobody};
 ghost use Rattle.world_steps.specs.Naming.{AreNamed};
 ghost use Rattle.layer_contracts.specs.Stores.{fault_in};
@@ -12,7 +12,7 @@ ghost use Rattle.layer_contracts.specs.declared.guardian.Fault.TheVariants.{Stab
 ghost use Rattle.world_steps.specs.Standings.{AreSame, HasFailed, forest_of, IsKeptAt, IsLeftAt, IsOut, IsReady, IsWholeAt, IsWorld, Names, StoresLeft};
 
 use crate::{NamedGuardians, answer_alone, answer_two, keep_one, keep_two, named};
-use layer_contracts::{Draw, Fault, Forest, Guardian};
+use layer_contracts::{Draw, EventRef, Fault, Forest, Guardian};
 use packed_history::PackedHistory;
 use run_model::{Answer, Step};
 use std::alloc::{AllocError, Global};
@@ -42,9 +42,11 @@ pub fn step<R: Forest, G: Guardian>(
     if !answer.is_accepted() {
         return Ok(answer);
     }
-    keep(
-        alloc, forest, guardians, history, named, low, high, step, &answer,
-    )?;
+    let event = EventRef {
+        step,
+        answer: &answer,
+    };
+    keep(alloc, forest, guardians, history, named, low, high, &event)?;
     Ok(answer)
 }
 
@@ -108,25 +110,24 @@ fn keep<R: Forest, G: Guardian>(
     named: NamedGuardians,
     low: u32,
     high: u32,
-    step: &Step,
-    answer: &Answer,
+    event: &EventRef<'_>,
 ) -> Result<(), Fault>
     ghost opening: { Opening }
     requires world { IsWorld G.stands G.stored (R.stands forest.old) opening history.old guardians.old }
-    requires named { AreNamed (R.stands forest.old) step.now named }
-    requires names { Names (forest_of opening history.old) step.now low high }
+    requires named { AreNamed (R.stands forest.old) event.now.step named }
+    requires names { Names (forest_of opening history.old) event.now.step low high }
     requires ordered { low ≤ high }
-    requires more { IsRun opening (event_of step.now answer.now ∷ history.old) }
-    ensures ok { OnOk result (history.new ≡ event_of step.now answer.now ∷ history.old) }
+    requires more { IsRun opening (event.now ∷ history.old) }
+    ensures ok { OnOk result (history.new ≡ event.now ∷ history.old) }
     ensures err { OnErr result (history.new ≡ history.old) }
     ensures world { IsWorld G.stands G.stored (R.stands forest.new) opening history.new guardians.new }
-    ensures stores { StoresLeft G.stored opening history.old step.now guardians.old guardians.new (fault_in result) }
+    ensures stores { StoresLeft G.stored opening history.old event.now.step guardians.old guardians.new (fault_in result) }
     ensures cause { IsErrOf result Stable → HasFailed G.stored guardians.old guardians.new }
 {
     let number = history.next_stamp();
-    history.push(step, answer)?;
+    history.push(event.step, event.answer)?;
     let kept = keep_at(
-        alloc, forest, guardians, named, low, high, step, answer, number,
+        alloc, forest, guardians, named, low, high, event, number,
     );
     ask_number(guardians, low);
     ask_number(guardians, high);
@@ -172,20 +173,19 @@ fn keep_at<R: Forest, G: Guardian>(
     named: NamedGuardians,
     low: u32,
     high: u32,
-    step: &Step,
-    answer: &Answer,
+    event: &EventRef<'_>,
     number: u64,
 ) -> Result<(), Fault>
-    requires named { AreNamed (R.stands forest.old) step.now named }
+    requires named { AreNamed (R.stands forest.old) event.now.step named }
     requires first { 1 ≤ low }
     requires ordered { low ≤ high }
     requires last { high ≤ length guardians.old }
-    requires ready { (f : ForestState) × (states : ℕ → GuardianState) × IsReady G.stands (R.stands forest.old) f states low high (event_of step.now answer.now) guardians.old }
-    ensures ok { OnOk result ((f : ForestState) (states : ℕ → GuardianState) → IsReady G.stands (R.stands forest.old) f states low high (event_of step.now answer.now) guardians.old
-        → IsKeptAt G.stands (R.stands forest.new) f states low high number (event_of step.now answer.now) guardians.old guardians.new) }
+    requires ready { (f : ForestState) × (states : ℕ → GuardianState) × IsReady G.stands (R.stands forest.old) f states low high event.now guardians.old }
+    ensures ok { OnOk result ((f : ForestState) (states : ℕ → GuardianState) → IsReady G.stands (R.stands forest.old) f states low high event.now guardians.old
+        → IsKeptAt G.stands (R.stands forest.new) f states low high number event.now guardians.old guardians.new) }
     ensures err { OnErr result (AreSame G.stands (R.stands forest.old) (R.stands forest.new) guardians.old guardians.new) }
-    ensures stores { (f : ForestState) (states : ℕ → GuardianState) → IsReady G.stands (R.stands forest.old) f states low high (event_of step.now answer.now) guardians.old
-        → IsLeftAt G.stored f states low high (event_of step.now answer.now) guardians.old guardians.new (fault_in result) }
+    ensures stores { (f : ForestState) (states : ℕ → GuardianState) → IsReady G.stands (R.stands forest.old) f states low high event.now guardians.old
+        → IsLeftAt G.stored f states low high event.now guardians.old guardians.new (fault_in result) }
     ensures cause { IsErrOf result Stable → HasFailed G.stored guardians.old guardians.new }
 {
     let mut numbered = Numbered(number);
@@ -195,8 +195,7 @@ fn keep_at<R: Forest, G: Guardian>(
             forest,
             &mut guardians[low as usize - 1],
             named,
-            step,
-            answer,
+            event,
             &mut numbered,
         )?;
         return Ok(());
@@ -208,8 +207,7 @@ fn keep_at<R: Forest, G: Guardian>(
         &mut left[low as usize - 1],
         &mut right[0],
         named,
-        step,
-        answer,
+        event,
         &mut numbered,
     )?;
     Ok(())

@@ -1,11 +1,14 @@
-use Rattle.std.proofs.Common.{None, sym, ◌∙◌}
+use Rattle.std.proofs.Common.{None, ap, sym, ◌∙◌}
 use Rattle.run_model.specs.declared.history.Event.{Event}
 use Rattle.stable_store.specs.Calls.{View}
-use Rattle.layer_contracts.specs.Guardians.{GuardianState, event_of, lent_two}
+use Rattle.layer_contracts.specs.Guardians.{GuardianState, lent_two}
 use Rattle.layer_contracts.specs.Forests.{ForestState}
+use Rattle.layer_contracts.specs.Messages.{is_operation}
+use Rattle.layer_contracts.proofs.Events.{step_is}
 use Rattle.layer_contracts.proofs.Stores.{stays_same}
 use Rattle.world_steps.specs.Keeping.{Brings, Plans, StoreLeft}
 use Rattle.world_steps.proofs.Left.{brought_rising, first_lent, first_one, left_at, left_there, planned_here, planned_there}
+use Rattle.world_steps.proofs.Naming.{home_of_same}
 use Rattle.world_steps.proofs.Operating.{forest_stays}
 use Rattle.world_steps.proofs.Stores.{left_carried, left_early, with_fault}
 use Rattle.world_steps.proofs.keeping.keep_one.Goals as goal
@@ -19,7 +22,7 @@ plan_at-requires-clause-rising g c =
     let f : ForestState = c.requires.answered.0 in
     let x : GuardianState = c.requires.answered.1 in
     let here = c.requires.answered.2 in
-    let e : Event = (event_of c.args.step.now c.args.answer.now) in
+    let e : Event = c.args.event.now in
     let brought : Brings f x x e x c.in_ok-brought.brought =
     c.in_ok-brought.ensures f x x x here.lent here.lent.first (first_one x x) here.lent.opening.first here.answered in
     brought_rising f x x x e c.in_ok-brought.brought brought
@@ -29,7 +32,7 @@ install_there-requires-clause-planned g c =
     let f : ForestState = c.requires.answered.0 in
     let x : GuardianState = c.requires.answered.1 in
     let here = c.requires.answered.2 in
-    planned_there (g.R.Forest.stands c.plan_there.new.forest) (λ plan. g.R.Forest.is_for plan c.plan_there.new.forest) f (event_of c.args.step.now c.args.answer.now)
+    planned_there (g.R.Forest.stands c.plan_there.new.forest) (λ plan. g.R.Forest.is_for plan c.plan_there.new.forest) f c.args.event.now
     c.home_of_new-home.result c.crashes_at-life.result c.in_ok-there.there (c.plan_there.ensures.same f here.lent.forest)
     (c.in_ok-there.ensures.planned f here.lent.forest (lent_two x x, here.answered.answer))
 
@@ -38,7 +41,7 @@ carry_out-requires-clause-planned g c =
     let f : ForestState = c.requires.answered.0 in
     let x : GuardianState = c.requires.answered.1 in
     let here = c.requires.answered.2 in
-    let e : Event = (event_of c.args.step.now c.args.answer.now) in
+    let e : Event = c.args.event.now in
     let brought : Brings f x x e x c.in_ok-brought.brought =
     c.in_ok-brought.ensures f x x x here.lent here.lent.first (first_one x x) here.lent.opening.first here.answered in
     let planned : Plans (λ plan. g.G.Guardian.is_for plan c.plan_at.new.guardian) f x x e x c.in_ok-here.here = c.in_ok-here.ensures.planned f x x x here.lent.first brought in
@@ -47,18 +50,18 @@ carry_out-requires-clause-planned g c =
 
 pub returns-then-is_operation-clause-done : goal.returns-then-is_operation-clause-done
 returns-then-is_operation-clause-done g c = λ f x here.
-    let is = sym c.is_operation.ensures ∙ c.if-is_operation.true in
+    let is = ap is_operation (step_is c.event.view_is) ∙ sym c.is_operation.ensures ∙ c.if-is_operation.true in
     let after = c.in_ok-operate.ensures.kept f x x x
     (record { forest = here.lent.forest; here = here.lent.first; lent = first_one x x; opening = here.lent.opening.first; answered = here.answered }) in
     record {
-      forest = forest_stays f x x (event_of c.args.step.now c.args.answer.now) here.answered is (g.R.Forest.stands c.args.forest.now) c.in_ok-operate.field-0 here.lent.forest;
+      forest = forest_stays f x x c.args.event.now here.answered is (g.R.Forest.stands c.args.forest.now) c.in_ok-operate.field-0 here.lent.forest;
       first = after;
       second = after;
     }
 
 pub returns-clause-done : goal.returns-clause-done
 returns-clause-done g c = λ f x here.
-    let e : Event = (event_of c.args.step.now c.args.answer.now) in
+    let e : Event = c.args.event.now in
     let brought : Brings f x x e x c.in_ok-brought.brought =
     c.in_ok-brought.ensures f x x x here.lent here.lent.first (first_one x x) here.lent.opening.first here.answered in
     let planned : Plans (λ plan. g.G.Guardian.is_for plan c.plan_at.new.guardian) f x x e x c.in_ok-here.here = c.in_ok-here.ensures.planned f x x x here.lent.first brought in
@@ -69,7 +72,7 @@ returns-clause-done g c = λ f x here.
     record {
       forest =
           left_there (g.R.Forest.stands c.plan_there.new.forest) (g.R.Forest.stands c.install_there.new.forest) (λ plan. g.R.Forest.is_for plan c.plan_there.new.forest) f x x e
-          c.home_of_new-home.result c.crashes_at-life.result n c.in_ok-there.there (c.home_of_new-home.ensures f (c.requires.named.first f here.lent.forest) (c.requires.named.second f here.lent.forest))
+          c.home_of_new-home.result c.crashes_at-life.result n c.in_ok-there.there (home_of_same c.args.named c.home_of_new-home.result (step_is c.event.view_is) c.home_of_new-home.ensures f (c.requires.named.first f here.lent.forest) (c.requires.named.second f here.lent.forest))
           (c.crashes_at-life.ensures x x here.lent.first here.lent.first) (c.plan_there.ensures.same f here.lent.forest)
           (c.in_ok-there.ensures.planned f here.lent.forest (lent_two x x, here.answered.answer)) c.install_there.ensures;
       first = after;
@@ -79,24 +82,24 @@ returns-clause-done g c = λ f x here.
 pub returns-in_err-brought-clause-store : goal.returns-in_err-brought-clause-store
 returns-in_err-brought-clause-store g c = λ f x here.
     let old : View = g.G.Guardian.stored c.args.guardian.now in
-    left_early f x x x (event_of c.args.step.now c.args.answer.now) old c.from_residual-in_err-brought.result old c.from_residual-in_err-brought.ensures.1 (stays_same old)
+    left_early f x x x c.args.event.now old c.from_residual-in_err-brought.result old c.from_residual-in_err-brought.ensures.1 (stays_same old)
     (c.number.ensures.whole x here.lent.first)
 
 pub returns-in_err-there-clause-store : goal.returns-in_err-there-clause-store
 returns-in_err-there-clause-store g c = λ f x here.
     let old : View = g.G.Guardian.stored c.args.guardian.now in
-    left_early f x x x (event_of c.args.step.now c.args.answer.now) old c.from_residual-in_err-there.result old c.from_residual-in_err-there.ensures.1 (stays_same old)
+    left_early f x x x c.args.event.now old c.from_residual-in_err-there.result old c.from_residual-in_err-there.ensures.1 (stays_same old)
     (c.number.ensures.whole x here.lent.first)
 
 pub returns-in_err-here-clause-store : goal.returns-in_err-here-clause-store
 returns-in_err-here-clause-store g c = λ f x here.
     let old : View = g.G.Guardian.stored c.args.guardian.now in
-    left_early f x x x (event_of c.args.step.now c.args.answer.now) old c.from_residual-in_err-here.result (g.G.Guardian.stored c.plan_at.new.guardian) c.from_residual-in_err-here.ensures.1 c.plan_at.ensures.store
+    left_early f x x x c.args.event.now old c.from_residual-in_err-here.result (g.G.Guardian.stored c.plan_at.new.guardian) c.from_residual-in_err-here.ensures.1 c.plan_at.ensures.store
     (c.number.ensures.whole x here.lent.first)
 
 pub returns-in_err-number-clause-store : goal.returns-in_err-number-clause-store
 returns-in_err-number-clause-store g c = λ f x here.
-    let e : Event = (event_of c.args.step.now c.args.answer.now) in
+    let e : Event = c.args.event.now in
     let brought : Brings f x x e x c.in_ok-brought.brought =
     c.in_ok-brought.ensures f x x x here.lent here.lent.first (first_one x x) here.lent.opening.first here.answered in
     let planned : Plans (λ plan. g.G.Guardian.is_for plan c.plan_at.new.guardian) f x x e x c.in_ok-here.here = c.in_ok-here.ensures.planned f x x x here.lent.first brought in
@@ -109,7 +112,7 @@ returns-in_err-number-clause-store g c = λ f x here.
 
 pub returns-clause-store : goal.returns-clause-store
 returns-clause-store g c = λ f x here.
-    let e : Event = (event_of c.args.step.now c.args.answer.now) in
+    let e : Event = c.args.event.now in
     let brought : Brings f x x e x c.in_ok-brought.brought =
     c.in_ok-brought.ensures f x x x here.lent here.lent.first (first_one x x) here.lent.opening.first here.answered in
     let planned : Plans (λ plan. g.G.Guardian.is_for plan c.plan_at.new.guardian) f x x e x c.in_ok-here.here = c.in_ok-here.ensures.planned f x x x here.lent.first brought in

@@ -2,13 +2,14 @@ use Rattle.std.proofs.Common.{None, ap, false, sym, true, ◌==◌, ◌∙◌, �
 use Rattle.run_model.specs.declared.history.Event.{Event}
 use Rattle.run_model.specs.LocalHistories.{events_there, names_guardian}
 use Rattle.stable_store.specs.Calls.{View}
-use Rattle.layer_contracts.specs.Guardians.{GuardianState, event_of, lent_two}
+use Rattle.layer_contracts.specs.Guardians.{GuardianState, lent_two}
 use Rattle.layer_contracts.specs.Forests.{ForestState}
 use Rattle.layer_contracts.specs.Messages.{is_operation}
+use Rattle.layer_contracts.proofs.Events.{step_is}
 use Rattle.layer_contracts.proofs.Stores.{stays_same, stays_then}
 use Rattle.world_steps.specs.Keeping.{Brings, IsLentAt, Plans, StoreLeft}
 use Rattle.world_steps.proofs.Left.{brought_rising, differ_as, first_lent, first_one, left_at, left_there, planned_here, planned_there, quiet_here, second_lent, second_one}
-use Rattle.world_steps.proofs.Naming.{is_as_named}
+use Rattle.world_steps.proofs.Naming.{home_of_same, is_as_named}
 use Rattle.world_steps.proofs.Operating.{forest_stays, one_named, passed_at}
 use Rattle.world_steps.proofs.Stores.{left_carried, left_early, left_quiet, quiet_first, quiet_other, with_fault}
 use Rattle.world_steps.proofs.keeping.keep_two.Goals as goal
@@ -23,7 +24,7 @@ plan_at-requires-clause-rising g c =
     let a : GuardianState = c.requires.answered.1 in
     let b : GuardianState = c.requires.answered.2 in
     let here = c.requires.answered.3 in
-    let e : Event = (event_of c.args.step.now c.args.answer.now) in
+    let e : Event = c.args.event.now in
     let to_first : Brings f a b e a c.in_ok-to_first.to_first =
     c.in_ok-to_first.ensures f a b a here.lent here.lent.first (first_one a b) here.lent.opening.first here.answered in
     brought_rising f a b a e c.in_ok-to_first.to_first to_first
@@ -34,7 +35,7 @@ plan_at-requires-2-clause-rising g c =
     let a : GuardianState = c.requires.answered.1 in
     let b : GuardianState = c.requires.answered.2 in
     let here = c.requires.answered.3 in
-    let e : Event = (event_of c.args.step.now c.args.answer.now) in
+    let e : Event = c.args.event.now in
     let apart : (a.number == b.number) ≡ false = c.requires.answered.4 in
     let to_second : Brings f a b e b c.in_ok-to_second.to_second =
     c.in_ok-to_second.ensures f a b b here.lent here.lent.second (second_one a b apart) here.lent.opening.second here.answered in
@@ -46,7 +47,7 @@ install_there-requires-clause-planned g c =
     let a : GuardianState = c.requires.answered.1 in
     let b : GuardianState = c.requires.answered.2 in
     let here = c.requires.answered.3 in
-    planned_there (g.R.Forest.stands c.plan_there.new.forest) (λ plan. g.R.Forest.is_for plan c.plan_there.new.forest) f (event_of c.args.step.now c.args.answer.now)
+    planned_there (g.R.Forest.stands c.plan_there.new.forest) (λ plan. g.R.Forest.is_for plan c.plan_there.new.forest) f c.args.event.now
     c.home_of_new-home.result c.crashes_at-life.result c.in_ok-there.there (c.plan_there.ensures.same f here.lent.forest)
     (c.in_ok-there.ensures.planned f here.lent.forest (lent_two a b, here.answered.answer))
 
@@ -56,7 +57,7 @@ install_there-requires-else-plan_may_fail-clause-planned g c =
     let a : GuardianState = c.requires.answered.1 in
     let b : GuardianState = c.requires.answered.2 in
     let here = c.requires.answered.3 in
-    planned_there (g.R.Forest.stands c.plan_there.new.forest) (λ plan. g.R.Forest.is_for plan c.plan_there.new.forest) f (event_of c.args.step.now c.args.answer.now)
+    planned_there (g.R.Forest.stands c.plan_there.new.forest) (λ plan. g.R.Forest.is_for plan c.plan_there.new.forest) f c.args.event.now
     c.home_of_new-home.result c.crashes_at-life.result c.in_ok-there.there (c.plan_there.ensures.same f here.lent.forest)
     (c.in_ok-there.ensures.planned f here.lent.forest (lent_two a b, here.answered.answer))
 
@@ -66,7 +67,7 @@ carry_out-requires-clause-planned g c =
     let a : GuardianState = c.requires.answered.1 in
     let b : GuardianState = c.requires.answered.2 in
     let here = c.requires.answered.3 in
-    let e : Event = (event_of c.args.step.now c.args.answer.now) in
+    let e : Event = c.args.event.now in
     let to_first : Brings f a b e a c.in_ok-to_first.to_first =
     c.in_ok-to_first.ensures f a b a here.lent here.lent.first (first_one a b) here.lent.opening.first here.answered in
     let one : Plans (λ plan. g.G.Guardian.is_for plan c.plan_at.new.guardian) f a b e a c.in_ok-one.one = c.in_ok-one.ensures.planned f a b a here.lent.first to_first in
@@ -79,7 +80,7 @@ carry_out-requires-else-plan_may_fail-clause-planned g c =
     let a : GuardianState = c.requires.answered.1 in
     let b : GuardianState = c.requires.answered.2 in
     let here = c.requires.answered.3 in
-    let e : Event = (event_of c.args.step.now c.args.answer.now) in
+    let e : Event = c.args.event.now in
     let apart : (a.number == b.number) ≡ false = c.requires.answered.4 in
     let to_second : Brings f a b e b c.in_ok-to_second.to_second =
     c.in_ok-to_second.ensures f a b b here.lent here.lent.second (second_one a b apart) here.lent.opening.second here.answered in
@@ -93,7 +94,7 @@ install-requires-clause-planned g c =
     let a : GuardianState = c.requires.answered.1 in
     let b : GuardianState = c.requires.answered.2 in
     let here = c.requires.answered.3 in
-    let e : Event = (event_of c.args.step.now c.args.answer.now) in
+    let e : Event = c.args.event.now in
     let apart : (a.number == b.number) ≡ false = c.requires.answered.4 in
     let to_second : Brings f a b e b c.in_ok-to_second.to_second =
     c.in_ok-to_second.ensures f a b b here.lent here.lent.second (second_one a b apart) here.lent.opening.second here.answered in
@@ -107,7 +108,7 @@ install-requires-else-plan_may_fail-clause-planned g c =
     let a : GuardianState = c.requires.answered.1 in
     let b : GuardianState = c.requires.answered.2 in
     let here = c.requires.answered.3 in
-    let e : Event = (event_of c.args.step.now c.args.answer.now) in
+    let e : Event = c.args.event.now in
     let to_first : Brings f a b e a c.in_ok-to_first.to_first =
     c.in_ok-to_first.ensures f a b a here.lent here.lent.first (first_one a b) here.lent.opening.first here.answered in
     let one : Plans (λ plan. g.G.Guardian.is_for plan c.plan_at.new.guardian) f a b e a c.in_ok-one.one = c.in_ok-one.ensures.planned f a b a here.lent.first to_first in
@@ -120,7 +121,7 @@ install-requires-clause-quiet g c =
     let a : GuardianState = c.requires.answered.1 in
     let b : GuardianState = c.requires.answered.2 in
     let here = c.requires.answered.3 in
-    let e : Event = (event_of c.args.step.now c.args.answer.now) in
+    let e : Event = c.args.event.now in
     let apart : (a.number == b.number) ≡ false = c.requires.answered.4 in
     let to_first : Brings f a b e a c.in_ok-to_first.to_first =
     c.in_ok-to_first.ensures f a b a here.lent here.lent.first (first_one a b) here.lent.opening.first here.answered in
@@ -139,7 +140,7 @@ install-requires-else-plan_may_fail-clause-quiet g c =
     let a : GuardianState = c.requires.answered.1 in
     let b : GuardianState = c.requires.answered.2 in
     let here = c.requires.answered.3 in
-    let e : Event = (event_of c.args.step.now c.args.answer.now) in
+    let e : Event = c.args.event.now in
     let to_first : Brings f a b e a c.in_ok-to_first.to_first =
     c.in_ok-to_first.ensures f a b a here.lent here.lent.first (first_one a b) here.lent.opening.first here.answered in
     let one : Plans (λ plan. g.G.Guardian.is_for plan c.plan_at.new.guardian) f a b e a c.in_ok-one.one = c.in_ok-one.ensures.planned f a b a here.lent.first to_first in
@@ -150,66 +151,66 @@ install-requires-else-plan_may_fail-clause-quiet g c =
 pub returns-in_err-to_first-clause-first_store : goal.returns-in_err-to_first-clause-first_store
 returns-in_err-to_first-clause-first_store g c = λ f a b here.
     let old : View = g.G.Guardian.stored c.args.first.now in
-    left_early f a b a (event_of c.args.step.now c.args.answer.now) old c.from_residual-in_err-to_first.result old c.from_residual-in_err-to_first.ensures.1 (stays_same old)
+    left_early f a b a c.args.event.now old c.from_residual-in_err-to_first.result old c.from_residual-in_err-to_first.ensures.1 (stays_same old)
     (c.number.ensures.whole a here.lent.first)
 
 pub returns-in_err-to_first-clause-second_store : goal.returns-in_err-to_first-clause-second_store
 returns-in_err-to_first-clause-second_store g c = λ f a b here.
     let old : View = g.G.Guardian.stored c.args.second.now in
-    left_early f a b b (event_of c.args.step.now c.args.answer.now) old c.from_residual-in_err-to_first.result old c.from_residual-in_err-to_first.ensures.1 (stays_same old)
+    left_early f a b b c.args.event.now old c.from_residual-in_err-to_first.result old c.from_residual-in_err-to_first.ensures.1 (stays_same old)
     (c.number-2.ensures.whole b here.lent.second)
 
 pub returns-in_err-to_second-clause-first_store : goal.returns-in_err-to_second-clause-first_store
 returns-in_err-to_second-clause-first_store g c = λ f a b here.
     let old : View = g.G.Guardian.stored c.args.first.now in
-    left_early f a b a (event_of c.args.step.now c.args.answer.now) old c.from_residual-in_err-to_second.result old c.from_residual-in_err-to_second.ensures.1 (stays_same old)
+    left_early f a b a c.args.event.now old c.from_residual-in_err-to_second.result old c.from_residual-in_err-to_second.ensures.1 (stays_same old)
     (c.number.ensures.whole a here.lent.first)
 
 pub returns-in_err-to_second-clause-second_store : goal.returns-in_err-to_second-clause-second_store
 returns-in_err-to_second-clause-second_store g c = λ f a b here.
     let old : View = g.G.Guardian.stored c.args.second.now in
-    left_early f a b b (event_of c.args.step.now c.args.answer.now) old c.from_residual-in_err-to_second.result old c.from_residual-in_err-to_second.ensures.1 (stays_same old)
+    left_early f a b b c.args.event.now old c.from_residual-in_err-to_second.result old c.from_residual-in_err-to_second.ensures.1 (stays_same old)
     (c.number-2.ensures.whole b here.lent.second)
 
 pub returns-in_err-there-clause-first_store : goal.returns-in_err-there-clause-first_store
 returns-in_err-there-clause-first_store g c = λ f a b here.
     let old : View = g.G.Guardian.stored c.args.first.now in
-    left_early f a b a (event_of c.args.step.now c.args.answer.now) old c.from_residual-in_err-there.result old c.from_residual-in_err-there.ensures.1 (stays_same old)
+    left_early f a b a c.args.event.now old c.from_residual-in_err-there.result old c.from_residual-in_err-there.ensures.1 (stays_same old)
     (c.number.ensures.whole a here.lent.first)
 
 pub returns-in_err-there-clause-second_store : goal.returns-in_err-there-clause-second_store
 returns-in_err-there-clause-second_store g c = λ f a b here.
     let old : View = g.G.Guardian.stored c.args.second.now in
-    left_early f a b b (event_of c.args.step.now c.args.answer.now) old c.from_residual-in_err-there.result old c.from_residual-in_err-there.ensures.1 (stays_same old)
+    left_early f a b b c.args.event.now old c.from_residual-in_err-there.result old c.from_residual-in_err-there.ensures.1 (stays_same old)
     (c.number-2.ensures.whole b here.lent.second)
 
 pub returns-in_err-one-clause-first_store : goal.returns-in_err-one-clause-first_store
 returns-in_err-one-clause-first_store g c = λ f a b here.
     let old : View = g.G.Guardian.stored c.args.first.now in
-    left_early f a b a (event_of c.args.step.now c.args.answer.now) old c.from_residual-in_err-one.result (g.G.Guardian.stored c.plan_at.new.guardian) c.from_residual-in_err-one.ensures.1 c.plan_at.ensures.store
+    left_early f a b a c.args.event.now old c.from_residual-in_err-one.result (g.G.Guardian.stored c.plan_at.new.guardian) c.from_residual-in_err-one.ensures.1 c.plan_at.ensures.store
     (c.number.ensures.whole a here.lent.first)
 
 pub returns-in_err-one-clause-second_store : goal.returns-in_err-one-clause-second_store
 returns-in_err-one-clause-second_store g c = λ f a b here.
     let old : View = g.G.Guardian.stored c.args.second.now in
-    left_early f a b b (event_of c.args.step.now c.args.answer.now) old c.from_residual-in_err-one.result old c.from_residual-in_err-one.ensures.1 (stays_same old)
+    left_early f a b b c.args.event.now old c.from_residual-in_err-one.result old c.from_residual-in_err-one.ensures.1 (stays_same old)
     (c.number-2.ensures.whole b here.lent.second)
 
 pub returns-in_err-other-clause-first_store : goal.returns-in_err-other-clause-first_store
 returns-in_err-other-clause-first_store g c = λ f a b here.
     let old : View = g.G.Guardian.stored c.args.first.now in
-    left_early f a b a (event_of c.args.step.now c.args.answer.now) old c.from_residual-in_err-other.result (g.G.Guardian.stored c.plan_at.new.guardian) c.from_residual-in_err-other.ensures.1 c.plan_at.ensures.store
+    left_early f a b a c.args.event.now old c.from_residual-in_err-other.result (g.G.Guardian.stored c.plan_at.new.guardian) c.from_residual-in_err-other.ensures.1 c.plan_at.ensures.store
     (c.number.ensures.whole a here.lent.first)
 
 pub returns-in_err-other-clause-second_store : goal.returns-in_err-other-clause-second_store
 returns-in_err-other-clause-second_store g c = λ f a b here.
     let old : View = g.G.Guardian.stored c.args.second.now in
-    left_early f a b b (event_of c.args.step.now c.args.answer.now) old c.from_residual-in_err-other.result (g.G.Guardian.stored c.plan_at-2.new.guardian) c.from_residual-in_err-other.ensures.1 c.plan_at-2.ensures.store
+    left_early f a b b c.args.event.now old c.from_residual-in_err-other.result (g.G.Guardian.stored c.plan_at-2.new.guardian) c.from_residual-in_err-other.ensures.1 c.plan_at-2.ensures.store
     (c.number-2.ensures.whole b here.lent.second)
 
 pub returns-in_err-number-clause-first_store : goal.returns-in_err-number-clause-first_store
 returns-in_err-number-clause-first_store g c = λ f a b here.
-    let e : Event = (event_of c.args.step.now c.args.answer.now) in
+    let e : Event = c.args.event.now in
     let to_first : Brings f a b e a c.in_ok-to_first.to_first =
     c.in_ok-to_first.ensures f a b a here.lent here.lent.first (first_one a b) here.lent.opening.first here.answered in
     let one : Plans (λ plan. g.G.Guardian.is_for plan c.plan_at.new.guardian) f a b e a c.in_ok-one.one = c.in_ok-one.ensures.planned f a b a here.lent.first to_first in
@@ -222,7 +223,7 @@ returns-in_err-number-clause-first_store g c = λ f a b here.
 
 pub returns-in_err-number-clause-second_store : goal.returns-in_err-number-clause-second_store
 returns-in_err-number-clause-second_store g c = λ f a b here.
-    let e : Event = (event_of c.args.step.now c.args.answer.now) in
+    let e : Event = c.args.event.now in
     let some = c.requires.answered in
     let apart : (a.number == b.number) ≡ false =
     differ_as (g.G.Guardian.stands c.args.first.now) (g.G.Guardian.stands c.args.second.now) some.1 some.2 a b c.number.result c.number-2.result
@@ -243,7 +244,7 @@ returns-in_err-number-clause-second_store g c = λ f a b here.
 
 pub returns-in_err-number-2-clause-first_store : goal.returns-in_err-number-2-clause-first_store
 returns-in_err-number-2-clause-first_store g c = λ f a b here.
-    let e : Event = (event_of c.args.step.now c.args.answer.now) in
+    let e : Event = c.args.event.now in
     let to_first : Brings f a b e a c.in_ok-to_first.to_first =
     c.in_ok-to_first.ensures f a b a here.lent here.lent.first (first_one a b) here.lent.opening.first here.answered in
     let one : Plans (λ plan. g.G.Guardian.is_for plan c.plan_at.new.guardian) f a b e a c.in_ok-one.one = c.in_ok-one.ensures.planned f a b a here.lent.first to_first in
@@ -256,7 +257,7 @@ returns-in_err-number-2-clause-first_store g c = λ f a b here.
 
 pub returns-in_err-number-2-clause-second_store : goal.returns-in_err-number-2-clause-second_store
 returns-in_err-number-2-clause-second_store g c = λ f a b here.
-    let e : Event = (event_of c.args.step.now c.args.answer.now) in
+    let e : Event = c.args.event.now in
     let some = c.requires.answered in
     let apart : (a.number == b.number) ≡ false =
     differ_as (g.G.Guardian.stands c.args.first.now) (g.G.Guardian.stands c.args.second.now) some.1 some.2 a b c.number.result c.number-2.result
@@ -273,7 +274,7 @@ returns-in_err-number-2-clause-second_store g c = λ f a b here.
 
 pub returns-in_ok-number-clause-first_store : goal.returns-in_ok-number-clause-first_store
 returns-in_ok-number-clause-first_store g c = λ f a b here.
-    let e : Event = (event_of c.args.step.now c.args.answer.now) in
+    let e : Event = c.args.event.now in
     let to_first : Brings f a b e a c.in_ok-to_first.to_first =
     c.in_ok-to_first.ensures f a b a here.lent here.lent.first (first_one a b) here.lent.opening.first here.answered in
     let one : Plans (λ plan. g.G.Guardian.is_for plan c.plan_at.new.guardian) f a b e a c.in_ok-one.one = c.in_ok-one.ensures.planned f a b a here.lent.first to_first in
@@ -286,7 +287,7 @@ returns-in_ok-number-clause-first_store g c = λ f a b here.
 
 pub returns-in_ok-number-clause-second_store : goal.returns-in_ok-number-clause-second_store
 returns-in_ok-number-clause-second_store g c = λ f a b here.
-    let e : Event = (event_of c.args.step.now c.args.answer.now) in
+    let e : Event = c.args.event.now in
     let some = c.requires.answered in
     let apart : (a.number == b.number) ≡ false =
     differ_as (g.G.Guardian.stands c.args.first.now) (g.G.Guardian.stands c.args.second.now) some.1 some.2 a b c.number.result c.number-2.result
@@ -308,7 +309,7 @@ returns-in_ok-number-clause-second_store g c = λ f a b here.
 
 pub returns-in_ok-number-2-clause-first_store : goal.returns-in_ok-number-2-clause-first_store
 returns-in_ok-number-2-clause-first_store g c = λ f a b here.
-    let e : Event = (event_of c.args.step.now c.args.answer.now) in
+    let e : Event = c.args.event.now in
     let to_first : Brings f a b e a c.in_ok-to_first.to_first =
     c.in_ok-to_first.ensures f a b a here.lent here.lent.first (first_one a b) here.lent.opening.first here.answered in
     let one : Plans (λ plan. g.G.Guardian.is_for plan c.plan_at.new.guardian) f a b e a c.in_ok-one.one = c.in_ok-one.ensures.planned f a b a here.lent.first to_first in
@@ -322,7 +323,7 @@ returns-in_ok-number-2-clause-first_store g c = λ f a b here.
 
 pub returns-in_ok-number-2-clause-second_store : goal.returns-in_ok-number-2-clause-second_store
 returns-in_ok-number-2-clause-second_store g c = λ f a b here.
-    let e : Event = (event_of c.args.step.now c.args.answer.now) in
+    let e : Event = c.args.event.now in
     let some = c.requires.answered in
     let apart : (a.number == b.number) ≡ false =
     differ_as (g.G.Guardian.stands c.args.first.now) (g.G.Guardian.stands c.args.second.now) some.1 some.2 a b c.number.result c.number-2.result
@@ -347,12 +348,12 @@ operate-requires-clause-answered g c =
 
 pub returns-then-is_named-clause-done : goal.returns-then-is_named-clause-done
 returns-then-is_named-clause-done g c = λ f a b here.
-    let e : Event = (event_of c.args.step.now c.args.answer.now) in
+    let e : Event = c.args.event.now in
     let some = c.requires.answered in
     let apart : (a.number == b.number) ≡ false =
     differ_as (g.G.Guardian.stands c.args.first.now) (g.G.Guardian.stands c.args.second.now) some.1 some.2 a b c.number.result c.number-2.result
     c.number.ensures.number c.number-2.ensures.number some.3.lent.first some.3.lent.second here.lent.first here.lent.second some.4 in
-    let is : is_operation e.step ≡ true = sym c.is_operation.ensures ∙ c.if-is_operation.true in
+    let is : is_operation e.step ≡ true = ap is_operation (step_is c.event.view_is) ∙ sym c.is_operation.ensures ∙ c.if-is_operation.true in
     let named : names_guardian e.step (events_there f.registry) a.number ≡ true =
     sym (is_as_named c.requires.named f here.lent.forest _ _ c.is_named.ensures
     ∙ ap (λ k. names_guardian e.step (events_there f.registry) k) (c.number-then-is_operation.ensures.number a here.lent.first)) ∙ c.if-is_named.true in
@@ -368,12 +369,12 @@ returns-then-is_named-clause-done g c = λ f a b here.
 
 pub returns-then-is_operation-clause-done : goal.returns-then-is_operation-clause-done
 returns-then-is_operation-clause-done g c = λ f a b here.
-    let e : Event = (event_of c.args.step.now c.args.answer.now) in
+    let e : Event = c.args.event.now in
     let some = c.requires.answered in
     let apart : (a.number == b.number) ≡ false =
     differ_as (g.G.Guardian.stands c.args.first.now) (g.G.Guardian.stands c.args.second.now) some.1 some.2 a b c.number.result c.number-2.result
     c.number.ensures.number c.number-2.ensures.number some.3.lent.first some.3.lent.second here.lent.first here.lent.second some.4 in
-    let is : is_operation e.step ≡ true = sym c.is_operation.ensures ∙ c.if-is_operation.true in
+    let is : is_operation e.step ≡ true = ap is_operation (step_is c.event.view_is) ∙ sym c.is_operation.ensures ∙ c.if-is_operation.true in
     let other : names_guardian e.step (events_there f.registry) a.number ≡ false =
     sym (is_as_named c.requires.named f here.lent.forest _ _ c.is_named.ensures
     ∙ ap (λ k. names_guardian e.step (events_there f.registry) k) (c.number-then-is_operation.ensures.number a here.lent.first)) ∙ c.if-is_named.false in
@@ -389,7 +390,7 @@ returns-then-is_operation-clause-done g c = λ f a b here.
 
 pub returns-in_ok-number-clause-done : goal.returns-in_ok-number-clause-done
 returns-in_ok-number-clause-done g c = λ f a b here.
-    let e : Event = (event_of c.args.step.now c.args.answer.now) in
+    let e : Event = c.args.event.now in
     let some = c.requires.answered in
     let apart : (a.number == b.number) ≡ false =
     differ_as (g.G.Guardian.stands c.args.first.now) (g.G.Guardian.stands c.args.second.now) some.1 some.2 a b c.number.result c.number-2.result
@@ -406,7 +407,7 @@ returns-in_ok-number-clause-done g c = λ f a b here.
     record {
       forest =
           left_there (g.R.Forest.stands c.plan_there.new.forest) (g.R.Forest.stands c.install_there.new.forest) (λ plan. g.R.Forest.is_for plan c.plan_there.new.forest) f a b e
-          c.home_of_new-home.result c.crashes_at-life.result n c.in_ok-there.there (c.home_of_new-home.ensures f (c.requires.named.first f here.lent.forest) (c.requires.named.second f here.lent.forest))
+          c.home_of_new-home.result c.crashes_at-life.result n c.in_ok-there.there (home_of_same c.args.named c.home_of_new-home.result (step_is c.event.view_is) c.home_of_new-home.ensures f (c.requires.named.first f here.lent.forest) (c.requires.named.second f here.lent.forest))
           (c.crashes_at-life.ensures a b here.lent.first here.lent.second) (c.plan_there.ensures.same f here.lent.forest)
           (c.in_ok-there.ensures.planned f here.lent.forest (lent_two a b, here.answered.answer)) c.install_there.ensures;
       first =
@@ -419,7 +420,7 @@ returns-in_ok-number-clause-done g c = λ f a b here.
 
 pub returns-in_ok-number-2-clause-done : goal.returns-in_ok-number-2-clause-done
 returns-in_ok-number-2-clause-done g c = λ f a b here.
-    let e : Event = (event_of c.args.step.now c.args.answer.now) in
+    let e : Event = c.args.event.now in
     let some = c.requires.answered in
     let apart : (a.number == b.number) ≡ false =
     differ_as (g.G.Guardian.stands c.args.first.now) (g.G.Guardian.stands c.args.second.now) some.1 some.2 a b c.number.result c.number-2.result
@@ -436,7 +437,7 @@ returns-in_ok-number-2-clause-done g c = λ f a b here.
     record {
       forest =
           left_there (g.R.Forest.stands c.plan_there.new.forest) (g.R.Forest.stands c.install_there-else-plan_may_fail.new.forest) (λ plan. g.R.Forest.is_for plan c.plan_there.new.forest) f a b e
-          c.home_of_new-home.result c.crashes_at-life.result n c.in_ok-there.there (c.home_of_new-home.ensures f (c.requires.named.first f here.lent.forest) (c.requires.named.second f here.lent.forest))
+          c.home_of_new-home.result c.crashes_at-life.result n c.in_ok-there.there (home_of_same c.args.named c.home_of_new-home.result (step_is c.event.view_is) c.home_of_new-home.ensures f (c.requires.named.first f here.lent.forest) (c.requires.named.second f here.lent.forest))
           (c.crashes_at-life.ensures a b here.lent.first here.lent.second) (c.plan_there.ensures.same f here.lent.forest)
           (c.in_ok-there.ensures.planned f here.lent.forest (lent_two a b, here.answered.answer)) c.install_there-else-plan_may_fail.ensures;
       first =

@@ -13,7 +13,7 @@ operate-requires-clause-next g c =
       x,
       at.here,
       next_at at c.requires.operation
-          (sym (is_as_named c.requires.named f at.forest _ _ c.is_named.ensures ∙ ap (λ k. names_guardian c.args.step.now (events_there f.registry) k) (c.number.ensures.number x at.here))
+          (sym (is_as_named c.requires.named f at.forest _ _ c.is_named.ensures ∙ ap (λ k. names_guardian c.args.event.now.step (events_there f.registry) k) (c.number.ensures.number x at.here))
           ∙ c.if-is_named.true),
     )
 
@@ -21,7 +21,7 @@ pub returns-then-is_named-clause-kept : goal.returns-then-is_named-clause-kept
 returns-then-is_named-clause-kept g c =
     IfOk-weaker c.operate.result _ _
     (λ n says f a b x at.
-    let named = sym (is_as_named c.requires.named f at.forest _ _ c.is_named.ensures ∙ ap (λ k. names_guardian c.args.step.now (events_there f.registry) k) (c.number.ensures.number x at.here))
+    let named = sym (is_as_named c.requires.named f at.forest _ _ c.is_named.ensures ∙ ap (λ k. names_guardian c.args.event.now.step (events_there f.registry) k) (c.number.ensures.number x at.here))
     ∙ c.if-is_named.true in
     subst (λ s. g.G.Guardian.stands c.operate.new.self s) (kept_at at c.requires.operation n named) (says x at.here (next_at at c.requires.operation named)))
     c.operate.ensures.kept
@@ -29,5 +29,5 @@ returns-then-is_named-clause-kept g c =
 pub returns-else-is_named-clause-kept : goal.returns-else-is_named-clause-kept
 returns-else-is_named-clause-kept g c = λ f a b x at.
     passed_at at c.requires.operation c.draw.result
-    (sym (is_as_named c.requires.named f at.forest _ _ c.is_named.ensures ∙ ap (λ k. names_guardian c.args.step.now (events_there f.registry) k) (c.number.ensures.number x at.here))
+    (sym (is_as_named c.requires.named f at.forest _ _ c.is_named.ensures ∙ ap (λ k. names_guardian c.args.event.now.step (events_there f.registry) k) (c.number.ensures.number x at.here))
     ∙ c.if-is_named.false)

@@ -2,7 +2,7 @@ use Rattle.std.proofs.Common.{None, Some, ap, arith, drop, length, subst, sym, �
 use Rattle.std.proofs.lemmas.Bool.{or_left, or_right}
 use Rattle.run_laws.proofs.Names.{eqb_self}
 use Rattle.layer_contracts.specs.Forests.{ForestState}
-use Rattle.layer_contracts.specs.Guardians.{GuardianState, event_of}
+use Rattle.layer_contracts.specs.Guardians.{GuardianState}
 use Rattle.layer_contracts.specs.declared.guardian.Fault.TheVariants.{Stable}
 use Rattle.world_steps.proofs.Stores.{with_fault}
 use Rattle.world_steps.specs.Standings.{IsKeptAt, IsReady, IsWorld, StoresLeft, forest_of, standing}
@@ -13,19 +13,19 @@ use Rattle.world_steps.proofs.stepping.keep.Goals as goal
 
 pub keep_at-kept-requires-clause-first : goal.keep_at-kept-requires-clause-first
 keep_at-kept-requires-clause-first g c =
-    let e = event_of c.args.step.now c.args.answer.now in
+    let e = c.args.event.now in
     (place_of g.G.Guardian.stands c.args.history.now g.opening c.args.guardians.now e c.args.low c.args.high c.args.low
     c.requires.1.1.1.1.0 c.requires.1.1.1.1.1.1.1.1 c.requires.1.1.1.1.1.1.0 (or_left _ _ (eqb_self c.args.low))).0
 
 pub keep_at-kept-requires-clause-last : goal.keep_at-kept-requires-clause-last
 keep_at-kept-requires-clause-last g c =
-    let e = event_of c.args.step.now c.args.answer.now in
+    let e = c.args.event.now in
     (place_of g.G.Guardian.stands c.args.history.now g.opening c.args.guardians.now e c.args.low c.args.high c.args.high
     c.requires.1.1.1.1.0 c.requires.1.1.1.1.1.1.1.1 c.requires.1.1.1.1.1.1.0 (or_right _ _ (eqb_self c.args.high))).1
 
 pub keep_at-kept-requires-clause-ready : goal.keep_at-kept-requires-clause-ready
 keep_at-kept-requires-clause-ready g c =
-    let e = event_of c.args.step.now c.args.answer.now in
+    let e = c.args.event.now in
     let low = place_of g.G.Guardian.stands c.args.history.now g.opening c.args.guardians.now e c.args.low c.args.high c.args.low
     c.requires.1.1.1.1.0 c.requires.1.1.1.1.1.1.1.1 c.requires.1.1.1.1.1.1.0 (or_left _ _ (eqb_self c.args.low)) in
     let high = place_of g.G.Guardian.stands c.args.history.now g.opening c.args.guardians.now e c.args.low c.args.high c.args.high
@@ -38,40 +38,40 @@ keep_at-kept-requires-clause-ready g c =
 
 pub ask_number-requires-clause-first : goal.ask_number-requires-clause-first
 ask_number-requires-clause-first g c =
-    let e = event_of c.args.step.now c.args.answer.now in
+    let e = c.args.event.now in
     (place_of g.G.Guardian.stands c.args.history.now g.opening c.args.guardians.now e c.args.low c.args.high c.args.low
     c.requires.1.1.1.1.0 c.requires.1.1.1.1.1.1.1.1 c.requires.1.1.1.1.1.1.0 (or_left _ _ (eqb_self c.args.low))).0
 
 pub ask_number-requires-clause-last : goal.ask_number-requires-clause-last
 ask_number-requires-clause-last g c =
-    let e = event_of c.args.step.now c.args.answer.now in
+    let e = c.args.event.now in
     let low = place_of g.G.Guardian.stands c.args.history.now g.opening c.args.guardians.now e c.args.low c.args.high c.args.low
     c.requires.1.1.1.1.0 c.requires.1.1.1.1.1.1.1.1 c.requires.1.1.1.1.1.1.0 (or_left _ _ (eqb_self c.args.low)) in
     omega (arith, c.keep_at-kept.auto.guardians, low.1)
 
 pub ask_number-requires-2-clause-first : goal.ask_number-requires-2-clause-first
 ask_number-requires-2-clause-first g c =
-    let e = event_of c.args.step.now c.args.answer.now in
+    let e = c.args.event.now in
     (place_of g.G.Guardian.stands c.args.history.now g.opening c.args.guardians.now e c.args.low c.args.high c.args.high
     c.requires.1.1.1.1.0 c.requires.1.1.1.1.1.1.1.1 c.requires.1.1.1.1.1.1.0 (or_right _ _ (eqb_self c.args.high))).0
 
 pub ask_number-requires-2-clause-last : goal.ask_number-requires-2-clause-last
 ask_number-requires-2-clause-last g c =
-    let e = event_of c.args.step.now c.args.answer.now in
+    let e = c.args.event.now in
     let high = place_of g.G.Guardian.stands c.args.history.now g.opening c.args.guardians.now e c.args.low c.args.high c.args.high
     c.requires.1.1.1.1.0 c.requires.1.1.1.1.1.1.1.1 c.requires.1.1.1.1.1.1.0 (or_right _ _ (eqb_self c.args.high)) in
     omega (arith, c.keep_at-kept.auto.guardians, high.1)
 
 pub returns-in_err-push-clause-stores : goal.returns-in_err-push-clause-stores
 returns-in_err-push-clause-stores g c =
-    let e = event_of c.args.step.now c.args.answer.now in
-    with_fault c.from_residual.result _ (λ fault. StoresLeft g.G.Guardian.stored g.opening c.args.history.now c.args.step.now c.args.guardians.now c.args.guardians.now fault)
+    let e = c.args.event.now in
+    with_fault c.from_residual.result _ (λ fault. StoresLeft g.G.Guardian.stored g.opening c.args.history.now c.args.event.now.step c.args.guardians.now c.args.guardians.now fault)
     c.from_residual.ensures.1
-    (stores_refused g.G.Guardian.stored g.opening c.args.history.now c.args.step.now c.args.guardians.now g.G.Guardian.stands (g.R.Forest.stands c.args.forest.now) c.requires.1.1.1.1.0)
+    (stores_refused g.G.Guardian.stored g.opening c.args.history.now c.args.event.now.step c.args.guardians.now g.G.Guardian.stands (g.R.Forest.stands c.args.forest.now) c.requires.1.1.1.1.0)
 
 pub returns-in-Ok-clause-stores : goal.returns-in-Ok-clause-stores
 returns-in-Ok-clause-stores g c =
-    let e = event_of c.args.step.now c.args.answer.now in
+    let e = c.args.event.now in
     let low = place_of g.G.Guardian.stands c.args.history.now g.opening c.args.guardians.now e c.args.low c.args.high c.args.low
     c.requires.1.1.1.1.0 c.requires.1.1.1.1.1.1.1.1 c.requires.1.1.1.1.1.1.0 (or_left _ _ (eqb_self c.args.low)) in
     let high = place_of g.G.Guardian.stands c.args.history.now g.opening c.args.guardians.now e c.args.low c.args.high c.args.high
@@ -86,7 +86,7 @@ returns-in-Ok-clause-stores g c =
 
 pub returns-in-Err-clause-stores : goal.returns-in-Err-clause-stores
 returns-in-Err-clause-stores g c =
-    let e = event_of c.args.step.now c.args.answer.now in
+    let e = c.args.event.now in
     let low = place_of g.G.Guardian.stands c.args.history.now g.opening c.args.guardians.now e c.args.low c.args.high c.args.low
     c.requires.1.1.1.1.0 c.requires.1.1.1.1.1.1.1.1 c.requires.1.1.1.1.1.1.0 (or_left _ _ (eqb_self c.args.low)) in
     let high = place_of g.G.Guardian.stands c.args.history.now g.opening c.args.guardians.now e c.args.low c.args.high c.args.high
@@ -101,7 +101,7 @@ returns-in-Err-clause-stores g c =
 
 pub returns-in-Err-clause-world : goal.returns-in-Err-clause-world
 returns-in-Err-clause-world g c =
-    let e = event_of c.args.step.now c.args.answer.now in
+    let e = c.args.event.now in
     let stands = g.R.Forest.stands c.keep_at-kept.new.forest in
     let gs = c.args.guardians.now in
     let gs' = c.keep_at-kept.new.guardians in
@@ -122,7 +122,7 @@ returns-in-Err-clause-world g c =
 
 pub returns-in-Ok-clause-world : goal.returns-in-Ok-clause-world
 returns-in-Ok-clause-world g c =
-    let e = event_of c.args.step.now c.args.answer.now in
+    let e = c.args.event.now in
     let stands = g.R.Forest.stands c.keep_at-kept.new.forest in
     let gs = c.args.guardians.now in
     let gs' = c.keep_at-kept.new.guardians in
@@ -138,7 +138,7 @@ returns-in-Ok-clause-world g c =
     let prepared : IsReady g.G.Guardian.stands (g.R.Forest.stands c.args.forest.now) f states c.args.low c.args.high e gs =
     ready g.G.Guardian.stands c.args.history.now g.opening gs e c.args.low c.args.high c.requires.1.1.1.1.0 c.requires.1.1.1.1.1.1.0 c.requires.1.1.1.1.1.1.1.1 low.0 high.0 in
     subst (λ h. IsWorld g.G.Guardian.stands g.G.Guardian.stored stands g.opening h gs')
-    (sym c.in_ok-push.ensures.ok)
+    (sym (c.in_ok-push.ensures.ok ∙ ap (λ k. k ∷ c.args.history.now) c.event.view_is))
     (more g.G.Guardian.stands stands c.args.history.now g.opening gs gs' e c.args.low c.args.high
     c.requires.1.1.1.1.0 c.requires.1.1.1.1.1.1.0 c.requires.1.1.1.1.1.1.1.1 low.0 high.0 low.1 high.1 len
     (subst (λ n. IsKeptAt g.G.Guardian.stands stands f states c.args.low c.args.high n e gs gs') number

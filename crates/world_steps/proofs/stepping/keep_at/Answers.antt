@@ -6,7 +6,6 @@ use Rattle.world_steps.proofs.Places.{back_at, front_at, on_err}
 use Rattle.world_steps.proofs.Stores.{with_fault}
 use Rattle.world_steps.specs.Standings.{IsLeftAt}
 use Rattle.world_steps.proofs.WorldStores.{left_one, left_two, one_failed, stable_from, two_failed}
-use Rattle.layer_contracts.specs.Guardians.{event_of}
 use Rattle.world_steps.proofs.stepping.keep_at.Goals as goal
 
 pub keep_two-requires-clause-answered : goal.keep_two-requires-clause-answered
@@ -54,7 +53,7 @@ returns-clause-ok g c = λ f states ready.
     ∙ ap (λ m. slice_get (c.split_at_mut-left.result.0.now ++ c.split_at_mut-left.result.1.now) m) (sym c.split_at_mut-left.ensures.front_len)
     ∙ back_at c.split_at_mut-left.result.0.now c.split_at_mut-left.result.1.now c.index-right-0.result lt2 in
     let same : c.in_ok-keep_two.field-0 ≡ c.args.number = search rules in
-    kept_then g.G.Guardian.stands states c.args.low c.args.high c.in_ok-keep_two.field-0 c.args.number (event_of c.args.step.now c.args.answer.now) (g.R.Forest.stands c.keep_two.new.forest) f c.args.guardians.now
+    kept_then g.G.Guardian.stands states c.args.low c.args.high c.in_ok-keep_two.field-0 c.args.number c.args.event.now (g.R.Forest.stands c.keep_two.new.forest) f c.args.guardians.now
     c.split_at_mut-left.result.0.now c.split_at_mut-left.result.1.now c.keep_two.new.first c.keep_two.new.second
     c.split_at_mut-left.ensures.value c.split_at_mut-left.ensures.front_len lt lt2 same
     (c.in_ok-keep_two.ensures.done f (states c.args.low) (states c.args.high) (ready.each _ _ front back))
@@ -71,9 +70,9 @@ returns-in_err-keep_two-clause-stores g c = λ f states ready.
     let answered = ready.each _ _ front back in
     let after = set c.split_at_mut-left.result.0.now (c.args.low - 1) c.keep_two.new.first ++ set c.split_at_mut-left.result.1.now 0 c.keep_two.new.second in
     with_fault c.from_residual-in_err-keep_two.result c.in_err-keep_two.field-0.0
-    (λ fault. IsLeftAt g.G.Guardian.stored f states c.args.low c.args.high (event_of c.args.step.now c.args.answer.now) c.args.guardians.now after fault)
+    (λ fault. IsLeftAt g.G.Guardian.stored f states c.args.low c.args.high c.args.event.now c.args.guardians.now after fault)
     c.from_residual-in_err-keep_two.ensures.1
-    (left_two g.G.Guardian.stored states c.args.low c.args.high (event_of c.args.step.now c.args.answer.now) f (Some c.in_err-keep_two.field-0.0) c.args.guardians.now
+    (left_two g.G.Guardian.stored states c.args.low c.args.high c.args.event.now f (Some c.in_err-keep_two.field-0.0) c.args.guardians.now
     c.split_at_mut-left.result.0.now c.split_at_mut-left.result.1.now c.keep_two.new.first c.keep_two.new.second c.index-left-low.result c.index-right-0.result
     c.split_at_mut-left.ensures.value c.split_at_mut-left.ensures.front_len lt lt2 (c.in_err-keep_two.ensures.first_store f (states c.args.low) (states c.args.high) answered)
     (c.in_err-keep_two.ensures.second_store f (states c.args.low) (states c.args.high) answered))
@@ -88,7 +87,7 @@ returns-clause-stores g c = λ f states ready.
     ∙ ap (λ m. slice_get (c.split_at_mut-left.result.0.now ++ c.split_at_mut-left.result.1.now) m) (sym c.split_at_mut-left.ensures.front_len)
     ∙ back_at c.split_at_mut-left.result.0.now c.split_at_mut-left.result.1.now c.index-right-0.result lt2 in
     let answered = ready.each _ _ front back in
-    left_two g.G.Guardian.stored states c.args.low c.args.high (event_of c.args.step.now c.args.answer.now) f None c.args.guardians.now
+    left_two g.G.Guardian.stored states c.args.low c.args.high c.args.event.now f None c.args.guardians.now
     c.split_at_mut-left.result.0.now c.split_at_mut-left.result.1.now c.keep_two.new.first c.keep_two.new.second c.index-left-low.result c.index-right-0.result
     c.split_at_mut-left.ensures.value c.split_at_mut-left.ensures.front_len lt lt2 (c.in_ok-keep_two.ensures.first_store f (states c.args.low) (states c.args.high) answered)
     (c.in_ok-keep_two.ensures.second_store f (states c.args.low) (states c.args.high) answered)
@@ -98,12 +97,12 @@ returns-in_err-keep_one-clause-stores g c = λ f states ready.
     let lt : c.args.low - 1 < length c.args.guardians.now = omega (arith, c.requires.first, c.requires.ordered, c.requires.last) in
     let there = slice_get-get_or c.args.guardians.now (c.args.low - 1) c.index-guardians-low.result lt in
     let high = ap (λ n. slice_get c.args.guardians.now (n - 1)) (sym c.if-low-high.true) ∙ there in
-    let one = answered_one g.G.Guardian.stands states c.args.low c.args.high (event_of c.args.step.now c.args.answer.now) (g.R.Forest.stands c.args.forest.now) f _ c.if-low-high.true (ready.each _ _ there high) in
+    let one = answered_one g.G.Guardian.stands states c.args.low c.args.high c.args.event.now (g.R.Forest.stands c.args.forest.now) f _ c.if-low-high.true (ready.each _ _ there high) in
     let after = set c.args.guardians.now (c.args.low - 1) c.keep_one.new.guardian in
     with_fault c.from_residual.result c.in_err-keep_one.field-0.0
-    (λ fault. IsLeftAt g.G.Guardian.stored f states c.args.low c.args.high (event_of c.args.step.now c.args.answer.now) c.args.guardians.now after fault)
+    (λ fault. IsLeftAt g.G.Guardian.stored f states c.args.low c.args.high c.args.event.now c.args.guardians.now after fault)
     c.from_residual.ensures.1
-    (left_one g.G.Guardian.stored states c.args.low c.args.high (event_of c.args.step.now c.args.answer.now) f (Some c.in_err-keep_one.field-0.0) c.args.guardians.now
+    (left_one g.G.Guardian.stored states c.args.low c.args.high c.args.event.now f (Some c.in_err-keep_one.field-0.0) c.args.guardians.now
     c.keep_one.new.guardian c.index-guardians-low.result c.if-low-high.true lt (c.in_err-keep_one.ensures.store f (states c.args.low) one))
 
 pub returns-then-low-high-clause-stores : goal.returns-then-low-high-clause-stores
@@ -111,8 +110,8 @@ returns-then-low-high-clause-stores g c = λ f states ready.
     let lt : c.args.low - 1 < length c.args.guardians.now = omega (arith, c.requires.first, c.requires.ordered, c.requires.last) in
     let there = slice_get-get_or c.args.guardians.now (c.args.low - 1) c.index-guardians-low.result lt in
     let high = ap (λ n. slice_get c.args.guardians.now (n - 1)) (sym c.if-low-high.true) ∙ there in
-    let one = answered_one g.G.Guardian.stands states c.args.low c.args.high (event_of c.args.step.now c.args.answer.now) (g.R.Forest.stands c.args.forest.now) f _ c.if-low-high.true (ready.each _ _ there high) in
-    left_one g.G.Guardian.stored states c.args.low c.args.high (event_of c.args.step.now c.args.answer.now) f None c.args.guardians.now
+    let one = answered_one g.G.Guardian.stands states c.args.low c.args.high c.args.event.now (g.R.Forest.stands c.args.forest.now) f _ c.if-low-high.true (ready.each _ _ there high) in
+    left_one g.G.Guardian.stored states c.args.low c.args.high c.args.event.now f None c.args.guardians.now
     c.keep_one.new.guardian c.index-guardians-low.result c.if-low-high.true lt (c.in_ok-keep_one.ensures.store f (states c.args.low) one)
 
 pub returns-in_err-keep_two-clause-cause : goal.returns-in_err-keep_two-clause-cause
@@ -141,7 +140,7 @@ keep_one-requires-clause-answered g c =
     let states = c.requires.ready.1 in (
       c.requires.ready.0,
       states c.args.low,
-      answered_one g.G.Guardian.stands states c.args.low c.args.high (event_of c.args.step.now c.args.answer.now) (g.R.Forest.stands c.args.forest.now) c.requires.ready.0 _ c.if-low-high.true
+      answered_one g.G.Guardian.stands states c.args.low c.args.high c.args.event.now (g.R.Forest.stands c.args.forest.now) c.requires.ready.0 _ c.if-low-high.true
           (c.requires.ready.2.each _ _ there high),
     )
 
@@ -151,6 +150,6 @@ returns-then-low-high-clause-ok g c = λ f states ready.
     let there = slice_get-get_or c.args.guardians.now (c.args.low - 1) c.index-guardians-low.result lt in
     let high = ap (λ n. slice_get c.args.guardians.now (n - 1)) (sym c.if-low-high.true) ∙ there in
     let same : c.in_ok-keep_one.field-0 ≡ c.args.number = search rules in
-    let one = answered_one g.G.Guardian.stands states c.args.low c.args.high (event_of c.args.step.now c.args.answer.now) (g.R.Forest.stands c.args.forest.now) f _ c.if-low-high.true (ready.each _ _ there high) in
-    kept_one g.G.Guardian.stands states c.args.low c.args.high c.in_ok-keep_one.field-0 c.args.number (event_of c.args.step.now c.args.answer.now) (g.R.Forest.stands c.keep_one.new.forest) f
+    let one = answered_one g.G.Guardian.stands states c.args.low c.args.high c.args.event.now (g.R.Forest.stands c.args.forest.now) f _ c.if-low-high.true (ready.each _ _ there high) in
+    kept_one g.G.Guardian.stands states c.args.low c.args.high c.in_ok-keep_one.field-0 c.args.number c.args.event.now (g.R.Forest.stands c.keep_one.new.forest) f
     c.args.guardians.now c.keep_one.new.guardian c.if-low-high.true lt same (c.in_ok-keep_one.ensures.done f (states c.args.low) one)

@@ -1,6 +1,6 @@
 use Rattle.std.proofs.Common.{None}
 use Rattle.std.proofs.lemmas.Result.{IfOk-weaker, on_err_weaker}
-use Rattle.layer_contracts.specs.Guardians.{by_itself, event_of, stamped}
+use Rattle.layer_contracts.specs.Guardians.{by_itself, stamped}
 use Rattle.guardian.proofs.Asked.{operation_event}
 use Rattle.guardian.proofs.Stores.{alone}
 use Rattle.guardian.proofs.Whole.{inside, next_within, whole_next, whole_operated, whole_same}
@@ -14,14 +14,14 @@ operate-requires-clause-next g c =
 pub invariant_of-self : goal.invariant_of-self
 invariant_of-self g c =
     let next = next_within g.S.Stable.seen c.self.view_is c.requires.next in
-    whole_operated g.S.Stable.seen c.self.inside.memory c.operate.new.self c.self.inside.store (event_of c.args.step.now c.args.answer.now) next.0 c.operate.result c.requires.operation next.1
+    whole_operated g.S.Stable.seen c.self.inside.memory c.operate.new.self c.self.inside.store c.args.event.now next.0 c.operate.result c.requires.operation next.1
     next.2 c.operate.ensures.kept c.operate.ensures.err
 
 pub returns-clause-kept : goal.returns-clause-kept
 returns-clause-kept g c =
     let seen = g.S.Stable.seen in
     let s = c.self.inside.store in
-    let news = by_itself (event_of c.args.step.now c.args.answer.now) in
+    let news = by_itself c.args.event.now in
     IfOk-weaker c.operate.result _ _
     (λ n says h at next.
     let whole = inside seen c.self.view_is at in

@@ -1,5 +1,7 @@
-use Rattle.std.proofs.Common.{rules, subst}
+use Rattle.std.proofs.Common.{ap, rules, subst, sym, ◌∙◌}
 use Rattle.run_model.specs.LocalHistories.{events_there}
+use Rattle.layer_contracts.proofs.Events.{answer_is, step_is}
+use Rattle.registry.specs.Following.{is_yes_vote}
 use Rattle.registry.specs.Polls.{IsVoteOn}
 use Rattle.registry.proofs.actions.Actions.plan.Goals as goal
 
@@ -17,7 +19,7 @@ returns-in_ok-vote-in-Prepare c = record {
   fits = λ opening registry are. (
     c.in-Prepare.guardian,
     c.in-Prepare.top,
-    c.in-Prepare.is,
-    subst (λ b. IsVoteOn c.in-Prepare.guardian c.in-Prepare.top b c.in_ok-vote-in-Prepare.vote) c.is_yes-yes.ensures c.in_ok-vote-in-Prepare.ensures.vote,
+    step_is c.event.view_is ∙ c.in-Prepare.is,
+    subst (λ b. IsVoteOn c.in-Prepare.guardian c.in-Prepare.top b c.in_ok-vote-in-Prepare.vote) (c.is_yes-yes.ensures ∙ ap is_yes_vote (sym (answer_is c.event.view_is))) c.in_ok-vote-in-Prepare.ensures.vote,
   );
 }

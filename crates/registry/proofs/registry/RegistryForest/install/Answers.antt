@@ -1,10 +1,10 @@
-use Rattle.std.proofs.Common.{subst, sym, ◌∷◌}
+use Rattle.std.proofs.Common.{ap, subst, sym, ◌∙◌, ◌∷◌}
+use Rattle.layer_contracts.proofs.Events.{step_is}
 use Rattle.layer_contracts.specs.Forests.{ForestState, RegistryNews, stamped_there}
 use Rattle.registry.specs.Following.{AreActions, HasRoomFor}
 use Rattle.registry.specs.Registries.{FitsRegistry, InRegistry}
 use Rattle.registry.specs.declared.change.Change.TheVariants.{Other}
 use Rattle.registry.proofs.Planned.{Follow, stands_after}
-use Rattle.layer_contracts.specs.Guardians.{event_of}
 use Rattle.registry.proofs.registry.RegistryForest.install.Goals as goal
 
 pub apply-requires : goal.apply-requires
@@ -15,10 +15,11 @@ invariant_of-self c =
     let m : InRegistry = record { opening = c.self.inside.opening.value; actions = c.self.inside.actions; change = c.self.inside.change } in
     let f : ForestState = c.requires.planned.0 in
     let news : RegistryNews = c.requires.planned.1 in
-    let event = event_of c.args.step.now c.args.answer.now in
-    let grows = subst (λ ch. Follow ch m.actions event c.args.stamp c.apply.new.self) c.replace-change.ensures.value c.apply.ensures in
+    let step = c.event.inside.step.now in
+    let grows = subst (λ ch. Follow ch m.actions step c.args.stamp c.apply.new.self) c.replace-change.ensures.value c.apply.ensures in
     let after =
-    stands_after {after = Other} m c.args.self.now f news event c.args.stamp c.apply.new.self c.self.view_is c.requires.planned.2 c.requires.planned.3 c.requires.planned.4 grows in (
+    stands_after {after = Other} m c.args.self.now f news step c.args.stamp c.apply.new.self c.self.view_is c.requires.planned.2 c.requires.planned.3
+    (ap (λ e. e.step) c.requires.planned.4 ∙ step_is c.event.view_is) grows in (
       stamped_there c.args.stamp news ∷ f.registry,
       subst (λ opening. AreActions opening (stamped_there c.args.stamp news ∷ f.registry) c.apply.new.self) after.opening after.actions,
     )
@@ -26,6 +27,7 @@ invariant_of-self c =
 pub returns : goal.returns
 returns c = λ f news at of same.
     let m : InRegistry = record { opening = c.self.inside.opening.value; actions = c.self.inside.actions; change = c.self.inside.change } in
-    let event = event_of c.args.step.now c.args.answer.now in
-    let grows = subst (λ ch. Follow ch m.actions event c.args.stamp c.apply.new.self) c.replace-change.ensures.value c.apply.ensures in
-    stands_after m c.args.self.now f news event c.args.stamp c.apply.new.self c.self.view_is at of same grows
+    let step = c.event.inside.step.now in
+    let grows = subst (λ ch. Follow ch m.actions step c.args.stamp c.apply.new.self) c.replace-change.ensures.value c.apply.ensures in
+    stands_after m c.args.self.now f news step c.args.stamp c.apply.new.self c.self.view_is at of
+    (ap (λ e. e.step) same ∙ step_is c.event.view_is) grows

@@ -2,7 +2,6 @@ use Rattle.std.proofs.Common.{true}
 use Rattle.volatile_state.specs.Plans.{AreRecorded}
 use Rattle.volatile_state.proofs.Kept.{crash_follows, crashes_within, fits_within, follows_where, planned_where, stands_after_where, survivors_top}
 use Rattle.volatile_state.proofs.Sound.{lists_room, told_room}
-use Rattle.layer_contracts.specs.Guardians.{event_of}
 use Rattle.volatile_state.proofs.memory.Memory.crash.Goals as goal
 
 pub crash-requires-clause-fits : goal.crash-requires-clause-fits
@@ -28,13 +27,13 @@ crash-requires-3 g c =
 pub invariant_of-self : goal.invariant_of-self
 invariant_of-self g c =
     stands_after_where (AreRecorded (g.S.Survivors.stays c.args.survivors.now)) (planned_where (AreRecorded (g.S.Survivors.stays c.args.survivors.now)) c.self.view_is c.requires.planned)
-    (crash_follows _ c.args.plan.now (event_of c.args.step.now c.args.answer.now) c.args.stamp _ _ _ _ (g.S.Survivors.stays c.args.survivors.now)
-    (crashes_within c.args.self.now _ c.args.step.now true c.self.view_is c.requires.down)
+    (crash_follows _ c.args.plan.now c.args.event.now c.args.stamp _ _ _ _ (g.S.Survivors.stays c.args.survivors.now)
+    (crashes_within c.args.self.now _ c.args.event.now.step true c.self.view_is c.requires.down)
     c.crash.ensures.told c.crash.ensures.crashes c.crash-2.ensures.lists c.crash-2.ensures.own c.enter.ensures c.crash-3.ensures.crashed c.crash-3.ensures.guardian)
 
 pub returns : goal.returns
 returns g c =
     follows_where (AreRecorded (g.S.Survivors.stays c.args.survivors.now)) c.self.view_is
-    (crash_follows _ c.args.plan.now (event_of c.args.step.now c.args.answer.now) c.args.stamp _ _ _ _ (g.S.Survivors.stays c.args.survivors.now)
-    (crashes_within c.args.self.now _ c.args.step.now true c.self.view_is c.requires.down)
+    (crash_follows _ c.args.plan.now c.args.event.now c.args.stamp _ _ _ _ (g.S.Survivors.stays c.args.survivors.now)
+    (crashes_within c.args.self.now _ c.args.event.now.step true c.self.view_is c.requires.down)
     c.crash.ensures.told c.crash.ensures.crashes c.crash-2.ensures.lists c.crash-2.ensures.own c.enter.ensures c.crash-3.ensures.crashed c.crash-3.ensures.guardian)

@@ -1,6 +1,5 @@
 use Rattle.std.proofs.Common.{false}
 use Rattle.volatile_state.proofs.Kept.{crashes_within, fits_within, follows_without, kept_follows, may_hear, planned_within, stands_after}
-use Rattle.layer_contracts.specs.Guardians.{event_of}
 use Rattle.volatile_state.proofs.memory.Memory.keep.Goals as goal
 
 pub hear-requires : goal.hear-requires
@@ -26,11 +25,11 @@ tell-requires-clause-heard c =
 pub invariant_of-self : goal.invariant_of-self
 invariant_of-self c =
     stands_after (planned_within c.self.view_is c.requires.planned)
-    (kept_follows _ c.args.plan.now (event_of c.args.step.now c.args.answer.now) c.args.stamp _ _ _ _ c.requires.other (crashes_within c.args.self.now _ c.args.step.now false c.self.view_is c.requires.up)
+    (kept_follows _ c.args.plan.now c.args.event.now c.args.stamp _ _ _ _ c.requires.other (crashes_within c.args.self.now _ c.args.event.now.step false c.self.view_is c.requires.up)
     c.hear.ensures.told c.hear.ensures.crashes c.learn.ensures.lists c.learn.ensures.own c.enter.ensures c.tell.ensures.told c.tell.ensures.guardian)
 
 pub returns : goal.returns
 returns c =
     follows_without c.self.view_is
-    (kept_follows _ c.args.plan.now (event_of c.args.step.now c.args.answer.now) c.args.stamp _ _ _ _ c.requires.other (crashes_within c.args.self.now _ c.args.step.now false c.self.view_is c.requires.up)
+    (kept_follows _ c.args.plan.now c.args.event.now c.args.stamp _ _ _ _ c.requires.other (crashes_within c.args.self.now _ c.args.event.now.step false c.self.view_is c.requires.up)
     c.hear.ensures.told c.hear.ensures.crashes c.learn.ensures.lists c.learn.ensures.own c.enter.ensures c.tell.ensures.told c.tell.ensures.guardian)

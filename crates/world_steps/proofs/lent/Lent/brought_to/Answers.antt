@@ -5,12 +5,11 @@ use Rattle.layer_contracts.specs.Messages.{carried_of}
 use Rattle.world_steps.proofs.Agreed.{agrees_at}
 use Rattle.world_steps.proofs.Naming.{is_as_named}
 use Rattle.world_steps.proofs.Owing.{owed_at}
-use Rattle.layer_contracts.specs.Guardians.{event_of}
 use Rattle.world_steps.proofs.lent.Lent.brought_to.Goals as goal
 
 pub returns : goal.returns
 returns g c = λ f a b x lent stood one opening answered.
-    let e : Event = (event_of c.args.step.now c.args.answer.now) in
+    let e : Event = c.args.event.now in
     let yes : c.is_named.result ≡ true = grind arith in
     let named : names_guardian e.step (events_there f.registry) x.number ≡ true =
     ap (λ k. names_guardian e.step (events_there f.registry) k) (sym (c.number.ensures.number x stood)) ∙ sym (is_as_named c.requires f lent.forest _ _ c.is_named.ensures) ∙ yes in

@@ -1,9 +1,10 @@
-use Rattle.std.proofs.Common.{Bool, List, Option, [], ap, ℕ, ◌∙◌, ◌≡◌}
+use Rattle.std.proofs.Common.{Bool, List, Option, [], ap, sym, ℕ, ◌∙◌, ◌≡◌}
 use Rattle.action_names.specs.Names.{Name}
 use Rattle.run_model.specs.declared.history.Event.{Event}
 use Rattle.run_model.specs.LocalReadings.{Carried, LocalEvent}
 use Rattle.run_model.specs.LocalHistories.{aborts_from, carried_lent, counts_of_sender, events_there, outcomes_carried, sender_lent, sender_life}
-use Rattle.layer_contracts.specs.Guardians.{GuardianState, event_of, lent_two}
+use Rattle.layer_contracts.proofs.Events.{step_is}
+use Rattle.layer_contracts.specs.Guardians.{GuardianState, lent_two}
 use Rattle.layer_contracts.specs.Forests.{ForestState}
 use Rattle.guardian_laws.specs.Sent.{sent_of}
 use Rattle.world_steps.specs.Lending.{dependencies_two}
@@ -41,8 +42,10 @@ carried_is f a b e g k m sender life aborts counts dependencies outcomes n o s l
 
 pub returns : goal.returns
 returns g c = λ f a b x lent stood one.
-    carried_is f a b (event_of c.args.step.now c.args.answer.now) x.number c.number.result c.number-2.result c.sender-sender.result c.life_of-life.result
+    let step = step_is c.event.view_is in
+    carried_is f a b c.args.event.now x.number c.number.result c.number-2.result c.sender-sender.result c.life_of-life.result
     c.in_ok-aborts.aborts c.in_ok-aborts.counts.items (sent_of c.in_ok-dependencies.field-0.items) c.in_ok-outcomes.field-0.items
-    (c.number.ensures.number x stood) (c.number-2.ensures.number x stood) (c.sender-sender.ensures f a b lent)
+    (c.number.ensures.number x stood) (c.number-2.ensures.number x stood) (c.sender-sender.ensures f a b lent ∙ ap (λ s. sender_lent s c.number.result f.registry (lent_two a b)) (sym step))
     (c.life_of-life.ensures a b lent.first lent.second) (c.in_ok-aborts.ensures.aborts f a b x lent stood one)
-    (c.in_ok-aborts.ensures.counts f a b x lent stood one) (c.in_ok-dependencies.ensures f a b lent) (c.in_ok-outcomes.ensures f a b x lent stood one)
+    (c.in_ok-aborts.ensures.counts f a b x lent stood one) (c.in_ok-dependencies.ensures f a b lent) (c.in_ok-outcomes.ensures f a b x lent stood one
+    ∙ ap (λ s. outcomes_carried s x.number (events_there f.registry) (lent_two a b x.number)) (sym step))

@@ -1,22 +1,25 @@
-use Rattle.std.proofs.Common.{IfOk, ◌==◌, ap, subst, List, ℕ, ◌∙◌, ◌≡◌}
+use Rattle.std.proofs.Common.{IfOk, ◌==◌, ap, subst, sym, List, ℕ, ◌∙◌, ◌≡◌}
 use Rattle.std.proofs.lemmas.Bool.{ne_eqb}
 use Rattle.action_names.specs.Names.{Name}
+use Rattle.run_model.specs.Actions.{names_begun}
 use Rattle.guardian_laws.specs.Sent.{sent_of}
+use Rattle.layer_contracts.proofs.Events.{answer_is, step_is}
 use Rattle.world_steps.specs.Lending.{new_from}
+use Rattle.world_steps.proofs.Naming.{home_of_same}
 use Rattle.world_steps.proofs.New.{new_elsewhere, new_here}
 use Rattle.run_laws.proofs.Names.{eqb_self}
-use Rattle.layer_contracts.specs.Guardians.{event_of}
 use Rattle.world_steps.proofs.lent.Lent.new_dependencies.Goals as goal
 
 pub returns-then-home-at : goal.returns-then-home-at
 returns-then-home-at g c = λ f a b lent.
     ap sent_of c.new.ensures.items
-    ∙ new_elsewhere f a b (event_of c.args.step.now c.args.answer.now) c.args.at c.home_of_new-home.result (c.home_of_new-home.ensures f (c.requires.first f lent.forest) (c.requires.second f lent.forest)) (ne_eqb _ _ c.if-home-at.true)
+    ∙ new_elsewhere f a b c.args.event.now c.args.at c.home_of_new-home.result (home_of_same c.args.named c.home_of_new-home.result (step_is c.event.view_is) c.home_of_new-home.ensures f (c.requires.first f lent.forest) (c.requires.second f lent.forest)) (ne_eqb _ _ c.if-home-at.true)
 
 pub returns : goal.returns
 returns g c = λ f a b lent.
     let P : List (Name × List (ℕ × ℕ)) → Type 0 = λ all. IfOk c.dependencies_of_new.result (λ sent. sent_of sent.items ≡ all) in
     subst P
-    (ap (λ ns. new_from f c.home_of_new-home.result c.crashes_at-life.result ns) c.names_begun.ensures
-    ∙ new_here f a b (event_of c.args.step.now c.args.answer.now) c.args.at c.home_of_new-home.result c.crashes_at-life.result (c.home_of_new-home.ensures f (c.requires.first f lent.forest) (c.requires.second f lent.forest)) (c.crashes_at-life.ensures a b lent.first lent.second)
+    (ap (λ ns. new_from f c.home_of_new-home.result c.crashes_at-life.result ns)
+    (c.names_begun.ensures ∙ ap names_begun (sym (answer_is c.event.view_is)))
+    ∙ new_here f a b c.args.event.now c.args.at c.home_of_new-home.result c.crashes_at-life.result (home_of_same c.args.named c.home_of_new-home.result (step_is c.event.view_is) c.home_of_new-home.ensures f (c.requires.first f lent.forest) (c.requires.second f lent.forest)) (c.crashes_at-life.ensures a b lent.first lent.second)
     (ap (λ m. m == c.args.at) c.if-home-at.false ∙ eqb_self c.args.at)) (c.dependencies_of_new.ensures f lent.forest)
