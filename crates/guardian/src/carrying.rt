@@ -24,12 +24,9 @@ impl<S: Stable> layer_contracts::Guardian for Guardian<S> {
 
     ghost stored = { λ g. S.seen g.store };
 
-    // The plan stays with the guardian.
-    type Plan = ();
+    ghost is_planned = { λ g s news. IsPlanOf g.plan g.memory s news };
 
-    ghost is_for = { λ _ g s news. IsPlanOf g.plan g.memory s news };
-
-    ghost fits = { λ _ g. FitsPlan g.plan g.memory };
+    ghost fits = { λ g. FitsPlan g.plan g.memory };
 
     fn opening(&self) -> &Opening {
         self.memory.opening()
@@ -96,48 +93,21 @@ impl<S: Stable> layer_contracts::Guardian for Guardian<S> {
         self.memory.plan(event, message, &mut self.plan)
     }
 
-    fn operate<D: Draw>(
-        &mut self,
-        event: &EventRef<'_>,
-        stamp: &mut D,
-    ) -> Result<u64, AllocError> {
+    fn operate<D: Draw>(&mut self, event: &EventRef<'_>, stamp: &mut D) -> Result<u64, AllocError> {
         self.memory.operate(event, stamp)
     }
 
-    fn carry_out<D: Draw>(
-        &mut self,
-        _plan: (),
-        event: &EventRef<'_>,
-        stamp: &mut D,
-    ) -> Result<u64, Fault> {
-        if let Err(fault) = write(
-            self.alloc,
-            &self.memory,
-            &self.plan,
-            &mut self.store,
-            event,
-        ) {
+    fn carry_out<D: Draw>(&mut self, event: &EventRef<'_>, stamp: &mut D) -> Result<u64, Fault> {
+        if let Err(fault) = write(self.alloc, &self.memory, &self.plan, &mut self.store, event) {
             return Err(fault);
         }
         let drawn = stamp.draw();
-        keep(
-            &mut self.memory,
-            &mut self.plan,
-            &self.store,
-            event,
-            drawn,
-        );
+        keep(&mut self.memory, &mut self.plan, &self.store, event, drawn);
         Ok(drawn)
     }
 
-    fn install(&mut self, _plan: (), event: &EventRef<'_>, stamp: u64) {
-        keep(
-            &mut self.memory,
-            &mut self.plan,
-            &self.store,
-            event,
-            stamp,
-        );
+    fn install(&mut self, event: &EventRef<'_>, stamp: u64) {
+        keep(&mut self.memory, &mut self.plan, &self.store, event, stamp);
     }
 }
 

@@ -62,12 +62,9 @@ impl Forest for Registry {
 
     ghost stands = { StandsIn };
 
-    // The plan stays with the registry.
-    type Plan = ();
+    ghost is_planned = { IsChangeOf };
 
-    ghost is_for = { λ _ m f news. IsChangeOf m f news };
-
-    ghost fits = { λ _ m. FitsRegistry m };
+    ghost fits = { FitsRegistry };
 
     fn opening(&self) -> &Opening {
         &self.opening
@@ -136,17 +133,12 @@ impl Forest for Registry {
         self.actions.forest.outcomes_below(top.components(), &told)
     }
 
-    fn plan(
-        &mut self,
-        event: &EventRef<'_>,
-        home: u32,
-        life: u64,
-    ) -> Result<(), AllocError> {
+    fn plan(&mut self, event: &EventRef<'_>, home: u32, life: u64) -> Result<(), AllocError> {
         self.change = self.actions.plan(event, home, life)?;
         Ok(())
     }
 
-    fn install(&mut self, _plan: (), event: &EventRef<'_>, stamp: u64) {
+    fn install(&mut self, event: &EventRef<'_>, stamp: u64) {
         let change = mem::replace(&mut self.change, Change::Other);
         self.actions.apply(change, event.step, stamp);
     }

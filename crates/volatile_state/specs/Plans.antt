@@ -2,10 +2,8 @@
 use Rattle.std.specs.Prelude.{◌≡◌, ◌+◌, ◌<◌, ◌^◌, ℕ, Bool, is_some}
 use Rattle.action_names.specs.Names.{Name}
 use Rattle.run_model.specs.declared.history.Event.{Event}
-use Rattle.run_model.specs.LocalReadings.{LocalEvent, prepared_here}
+use Rattle.run_model.specs.LocalReadings.{prepared_here}
 use Rattle.layer_contracts.specs.Guardians.{GuardianState, IsNext, News, by_itself, kept, stamped}
-use Rattle.layer_contracts.specs.Messages.{carried_of}
-use Rattle.layer_contracts.specs.declared.message.Message.{Message}
 use Rattle.tellings.specs.Hearing.{FitsHeard, IsHeard}
 use Rattle.orphans.specs.Knowing.{FitsLesson, IsLesson}
 use Rattle.roster.specs.Entries.{FitsEntry, IsEntry}
@@ -14,14 +12,6 @@ use Rattle.roster.specs.Tables.{table}
 use Rattle.guardian_objects.specs.Outcomes.{ArePlanned, Fits, outcomes_of}
 use Rattle.volatile_state.specs.Memories.{InMemory, IsSound}
 use Rattle.volatile_state.specs.declared.plan.Plan.{Plan}
-
--- the event with its message
-abbrev pub news_in : Event → Message → News
-news_in e m = record { event = e; carried = carried_of m }
-
--- before it has its stamp
-abbrev pub local_event : Event → Message → LocalEvent
-local_event e m = stamped 0 (news_in e m)
 
 -- of these actions the store has a record
 abbrev pub AreRecorded : (Name → Bool) → GuardianState → Type 0

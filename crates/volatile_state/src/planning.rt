@@ -5,8 +5,9 @@ ghost use Rattle.run_model.specs.Runs.{is_accepted};
 ghost use Rattle.local_laws.specs.Owed.{IsOwed};
 ghost use Rattle.guardian_laws.specs.Laws.{Agrees};
 ghost use Rattle.layer_contracts.specs.Guardians.{GuardianState};
+ghost use Rattle.layer_contracts.specs.Messages.{local_event, news_in};
 ghost use Rattle.volatile_state.specs.Memories.{IsSound};
-ghost use Rattle.volatile_state.specs.Plans.{FitsPlan, IsPlanOf, local_event, news_in};
+ghost use Rattle.volatile_state.specs.Plans.{FitsPlan, IsPlanOf};
 
 use crate::memory::Memory;
 use crate::plan::Plan;

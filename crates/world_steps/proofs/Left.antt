@@ -1,13 +1,14 @@
 -- What plans leave that are carried out.
-use Rattle.std.proofs.Common.{Bool, List, MatchOption, None, Option, Some, [], ap, ap₂, cond, eqb-true, false, map, refl, subst, sym, true, ℕ, ◌==◌, ◌∙◌, ◌∷◌, ◌≡◌, IsFalse}
+use Rattle.std.proofs.Common.{Bool, List, MatchOption, None, Option, Some, [], ap, ap₂, cond, eqb-true, false, map, refl, subst, sym, true, ℕ, ◌==◌, ◌∙◌, ◌∷◌, ◌≡◌, IsFalse, IsTrue}
 use Rattle.std.proofs.lemmas.Bool.{false≢true, or_left, or_right, true≢false}
+use Rattle.std.specs.Bool.{MatchBool, OnTrue}
 use Rattle.std.specs.List.Sorted.{IsStrictlySortedBy}
 use Rattle.action_names.specs.Names.{name_cmp}
 use Rattle.run_model.specs.declared.history.Event.{Event}
 use Rattle.run_model.specs.declared.step.Step.{Step}
 use Rattle.run_model.specs.declared.step.Step.TheVariants.{Abort, Arms, Call, Close, Commit, Crash, Decide, NestedTop, Op, Prepare, Recover, Tell, Top}
 use Rattle.run_model.specs.Actions.{crashes, home_of}
-use Rattle.run_model.specs.LocalHistories.{carried_lent, events_there, home_lent, life_lent, names_guardian, registry_after, registry_event_lent, takes_registry}
+use Rattle.run_model.specs.LocalHistories.{RegistryEvent, carried_lent, events_there, home_lent, life_lent, names_guardian, registry_after, registry_event_lent, takes_registry}
 use Rattle.run_model.specs.LocalReadings.{LocalEvent, events_here}
 use Rattle.run_laws.proofs.Names.{eqb_self}
 use Rattle.layer_contracts.specs.Guardians.{GuardianState, News, after_step, kept, lent_two, stamped}
@@ -15,7 +16,7 @@ use Rattle.layer_contracts.specs.Forests.{ForestState, RegistryNews, begun_at, s
 use Rattle.layer_contracts.specs.Messages.{may_fail}
 use Rattle.layer_contracts.specs.declared.message.Message.{Message}
 use Rattle.world_steps.specs.Lending.{IsOneOf}
-use Rattle.world_steps.specs.Keeping.{Brings, IsInstalled, IsKept, IsPlannedHere, IsPlannedInSome, IsPlannedThere, Plans, StandsStill, news_to}
+use Rattle.world_steps.specs.Keeping.{Brings, IsInstalled, IsKept, IsPlannedHere, IsPlannedInSome, Plans, PlansThere, StandsStill, news_to}
 
 -- each of two that differ is lent
 pub first_lent : (a b : GuardianState) → a.past ≡ lent_two a b a.number
@@ -52,41 +53,55 @@ unnamed_is f a b x e n p q =
     ap (λ past. record x { past = past }) (p ∙ sym (ap (λ t. cond t (new (lent_two a b x.number)) (lent_two a b x.number)) q))
 
 -- by the plan that was carried out
-pub left_at : {P : Type 0} (stood stands : GuardianState → Type 0) (is_for : P → GuardianState → News → Type 0) (f : ForestState) (a b x : GuardianState) (e : Event) (n : ℕ)
-    (o : Option P) → x.opening ≡ f.opening → x.past ≡ lent_two a b x.number → stood x → Plans is_for f a b e x o
-    → MatchOption o (StandsStill stood stands) (λ plan. IsKept stood stands (is_for plan) e n) → stands (after_step x (n, e) f.registry (lent_two a b))
-left_at stood stands is_for f a b x e n None s p u q h = subst stands (unnamed_is f a b x e n p q) (h x u)
-left_at stood stands is_for f a b x e n (Some plan) s p u q h = subst stands (named_is f a b x e n s p q.named) (h x (news_to f a b e x) u q.planned refl)
+pub left_at : (stood stands : GuardianState → Type 0) (is_planned : GuardianState → News → Type 0)
+    (f : ForestState) (a b x : GuardianState) (e : Event) (n : ℕ) (keeps : Bool)
+    → x.opening ≡ f.opening → x.past ≡ lent_two a b x.number → stood x
+    → Plans is_planned f a b e x keeps
+    → MatchBool keeps (IsKept stood stands is_planned e n) (StandsStill stood stands)
+    → stands (after_step x (n, e) f.registry (lent_two a b))
+left_at stood stands is_planned f a b x e n false s p u q h =
+    subst stands (unnamed_is f a b x e n p q) (h x u)
+left_at stood stands is_planned f a b x e n true s p u q h =
+    subst stands (named_is f a b x e n s p q.named) (h x (news_to f a b e x) u q.planned refl)
 
 -- such a plan may be carried out
-pub planned_here : {P : Type 0} (stands : GuardianState → Type 0) (is_for : P → GuardianState → News → Type 0) (f : ForestState) (a b x : GuardianState) (e : Event)
-    (o : Option P) → stands x → Plans is_for f a b e x o → MatchOption o (Unit {0}) (λ plan. IsPlannedHere stands (is_for plan) e)
-planned_here stands is_for f a b x e None s q = tt
-planned_here stands is_for f a b x e (Some plan) s q = (x, news_to f a b e x, s, q.planned, refl)
+pub planned_here : (stands : GuardianState → Type 0) (is_planned : GuardianState → News → Type 0)
+    (f : ForestState) (a b x : GuardianState) (e : Event) (keeps : Bool) → stands x
+    → Plans is_planned f a b e x keeps → OnTrue keeps (IsPlannedHere stands is_planned e)
+planned_here stands is_planned f a b x e false s q = tt
+planned_here stands is_planned f a b x e true s q = (x, news_to f a b e x, s, q.planned, refl)
 
 -- and the forest, by the plan that was made for an event that was entered
-pub left_there : {P : Type 0} (stood stands : ForestState → Type 0) (is_for : P → ForestState → RegistryNews → Type 0) (f : ForestState) (a b : GuardianState) (e : Event)
-    (home life n : ℕ) (o : Option P)
-    → home ≡ home_lent e.step f.registry → life ≡ crashes home (events_here (lent_two a b home)) → stood f
-    → MatchOption o (takes_registry e.step ≡ false) (λ plan. IsPlannedThere (is_for plan f) f home life e)
-    → MatchOption o ((k : ForestState) → stood k → stands k) (λ plan. IsInstalled stood stands (is_for plan) e n)
+pub left_there : (stood stands : ForestState → Type 0)
+    (is_planned : ForestState → RegistryNews → Type 0) (f : ForestState) (a b : GuardianState)
+    (e : Event) (home life n : ℕ) → home ≡ home_lent e.step f.registry
+    → life ≡ crashes home (events_here (lent_two a b home)) → stood f
+    → PlansThere is_planned f home life e
+    → (IsTrue (takes_registry e.step) → IsInstalled stood stands is_planned e n)
+    → (IsFalse (takes_registry e.step) → (k : ForestState) → stood k → stands k)
     → stands (record f { registry = registry_after f.opening (n, e) f.registry (lent_two a b) })
-left_there stood stands is_for f a b e home life n None u v s q h =
-    subst (λ r. stands (record f { registry = r }))
-    (sym (ap (λ t. cond t (registry_event_lent f.opening (n, e) f.registry (lent_two a b) ∷ f.registry) f.registry) q)) (h f s)
-left_there stood stands is_for f a b e home life n (Some plan) u v s q h =
-    let born : life ≡ life_lent e.step f.registry (lent_two a b) = v ∙ ap (λ k. crashes k (events_here (lent_two a b k))) u in
-    subst stands
-    (ap₂ (λ k m. record f { registry = stamped_there n (record { event = e; begun = begun_at f k m e.answer }) ∷ f.registry }) u born
-    ∙ ap (λ r. record f { registry = r }) (sym (ap (λ t. cond t (registry_event_lent f.opening (n, e) f.registry (lent_two a b) ∷ f.registry) f.registry) q.takes)))
-    (h f (record { event = e; begun = begun_at f home life e.answer }) s q.planned refl)
+left_there stood stands is_planned f a b e home life n u v s planned installed same =
+    of (takes_registry e.step) refl
+  where
+    after : Bool → List RegistryEvent
+    after t = cond t (registry_event_lent f.opening (n, e) f.registry (lent_two a b) ∷ f.registry) f.registry
+
+    of : (t : Bool) → takes_registry e.step ≡ t
+        → stands (record f { registry = registry_after f.opening (n, e) f.registry (lent_two a b) })
+    of false takes = subst (λ r. stands (record f { registry = r })) (sym (ap after takes)) (same takes f s)
+    of true takes =
+        let born : life ≡ life_lent e.step f.registry (lent_two a b) = v ∙ ap (λ k. crashes k (events_here (lent_two a b k))) u in
+        subst stands
+        (ap₂ (λ k m. record f { registry = stamped_there n (record { event = e; begun = begun_at f k m e.answer }) ∷ f.registry }) u born
+        ∙ ap (λ r. record f { registry = r }) (sym (ap after takes)))
+        (installed takes f (record { event = e; begun = begun_at f home life e.answer }) s (planned takes) refl)
 
 -- such a plan may be carried out
-pub planned_there : {P : Type 0} (stands : ForestState → Type 0) (is_for : P → ForestState → RegistryNews → Type 0) (f : ForestState) (e : Event) (home life : ℕ)
-    (o : Option P) → stands f → MatchOption o (takes_registry e.step ≡ false) (λ plan. IsPlannedThere (is_for plan f) f home life e)
-    → MatchOption o (Unit {0}) (λ plan. IsPlannedInSome stands (is_for plan) e)
-planned_there stands is_for f e home life None s q = tt
-planned_there stands is_for f e home life (Some plan) s q = (f, record { event = e; begun = begun_at f home life e.answer }, s, q.planned, refl)
+pub planned_there : (stands : ForestState → Type 0) (is_planned : ForestState → RegistryNews → Type 0)
+    (f : ForestState) (e : Event) (home life : ℕ) → stands f → PlansThere is_planned f home life e
+    → IsTrue (takes_registry e.step) → IsPlannedInSome stands is_planned e
+planned_there stands is_planned f e home life s planned takes =
+    (f, record { event = e; begun = begun_at f home life e.answer }, s, planned takes, refl)
 
 -- what agrees tells outcomes by name
 pub brought_rising : (f : ForestState) (a b x : GuardianState) (e : Event) (brought : Option Message) → Brings f a b e x brought
@@ -117,15 +132,16 @@ quiet (Abort a) f m n p q d s = absurd (false≢true s)
 quiet (Crash g) f m n p q d s = absurd (false≢true s)
 
 -- so the other plan cannot fail
-pub quiet_plan : {P : Type 0} (is_for : P → GuardianState → News → Type 0) (f : ForestState) (a b x y : GuardianState) (e : Event) (o : Option P)
-    → names_guardian e.step (events_there f.registry) x.number ≡ true → may_fail e.step x.number ≡ true → (x.number == y.number) ≡ false
-    → Plans is_for f a b e y o → MatchOption o (Unit {0}) (λ plan. may_fail e.step y.number ≡ false)
-quiet_plan is_for f a b x y e None n s d q = tt
-quiet_plan is_for f a b x y e (Some plan) n s d q = quiet e.step f x.number y.number n q.named d s
+pub quiet_plan : (is_planned : GuardianState → News → Type 0) (f : ForestState) (a b x y : GuardianState)
+    (e : Event) (keeps : Bool) → names_guardian e.step (events_there f.registry) x.number ≡ true
+    → may_fail e.step x.number ≡ true → (x.number == y.number) ≡ false
+    → Plans is_planned f a b e y keeps → OnTrue keeps (may_fail e.step y.number ≡ false)
+quiet_plan is_planned f a b x y e false n s d q = tt
+quiet_plan is_planned f a b x y e true n s d q = quiet e.step f x.number y.number n q.named d s
 
 -- and may be installed
-pub quiet_here : {P : Type 0} (stands : GuardianState → Type 0) (x : GuardianState) (step : Step) (o : Option P) → stands x
-    → MatchOption o (Unit {0}) (λ plan. may_fail step x.number ≡ false)
-    → MatchOption o (Unit {0}) (λ plan. (y : GuardianState) × stands y × IsFalse (may_fail step y.number))
-quiet_here stands x step None s q = tt
-quiet_here stands x step (Some plan) s q = (x, s, q)
+pub quiet_here : (stands : GuardianState → Type 0) (x : GuardianState) (step : Step) (keeps : Bool)
+    → stands x → OnTrue keeps (may_fail step x.number ≡ false)
+    → OnTrue keeps ((y : GuardianState) × stands y × IsFalse (may_fail step y.number))
+quiet_here stands x step false s q = tt
+quiet_here stands x step true s q = (x, s, q)

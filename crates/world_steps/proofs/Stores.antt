@@ -1,6 +1,7 @@
 -- What is left of the store of a guardian that was lent: by the plan that was carried out for it, by one that was installed, and where none was.
-use Rattle.std.proofs.Common.{Err, IsErrAnd, MatchOption, None, Ok, OnOk, Option, Result, Some, ap, ap₂, false, refl, subst, sym, true, is_some, ℕ, ◌&&◌, ◌==◌, ◌∙◌, ◌≡◌, ◌⊎◌, Bool}
+use Rattle.std.proofs.Common.{Err, IsErrAnd, None, Ok, OnOk, Option, Result, Some, ap, ap₂, false, refl, subst, sym, true, ℕ, ◌&&◌, ◌==◌, ◌∙◌, ◌≡◌, ◌⊎◌, Bool}
 use Rattle.std.proofs.lemmas.Bool.{false≢true}
+use Rattle.std.specs.Bool.{MatchBool, OnTrue}
 use Rattle.run_model.specs.declared.history.Event.{Event}
 use Rattle.run_model.specs.declared.step.Step.{Step}
 use Rattle.run_model.specs.LocalHistories.{events_there, names_guardian}
@@ -75,34 +76,41 @@ module _ (f : ForestState) (a b x : GuardianState) (e : Event) (old : View) wher
   left_unnamed new fault other stays = left_alone (names_it && asks) content_after old new fault (ap (λ t. t && asks) other) stays
 
   -- a plan was carried out for the guardian, which stood there when room was made, or there was none
-  pub left_carried : {P : Type 0} (stood : GuardianState → Type 0) (is_for : P → GuardianState → News → Type 0) (mid new : View) (fault : Option Fault) (o : Option P)
-      → stood x → Stays old mid → Plans is_for f a b e x o
-      → MatchOption o (Stays mid new) (λ plan. WhereverPlanned stood (is_for plan) e (λ y news. LeavesStore y news mid new fault))
+  pub left_carried : (stood : GuardianState → Type 0) (is_planned : GuardianState → News → Type 0)
+      (mid new : View) (fault : Option Fault) (keeps : Bool) → stood x → Stays old mid
+      → Plans is_planned f a b e x keeps
+      → MatchBool keeps (WhereverPlanned stood is_planned e (λ y news. LeavesStore y news mid new fault))
+      (Stays mid new)
       → StoreLeft f a b e x old new fault
-  left_carried stood is_for mid new fault None s stays q h = left_unnamed new fault q (stays_then old mid new stays h)
-  left_carried stood is_for mid new fault (Some plan) s stays q h =
+  left_carried stood is_planned mid new fault false s stays q h =
+      left_unnamed new fault q (stays_then old mid new stays h)
+  left_carried stood is_planned mid new fault true s stays q h =
       subst (λ t. Leaves (t && asks) content_after old new fault) (sym q.named)
       (store_from x (news_to f a b e x) old mid new fault stays (h x (news_to f a b e x) s q.planned refl))
 
   -- a plan was installed, or is still to be, which asks for nothing; or there is none
-  pub left_quiet : {P : Type 0} (is_for : P → GuardianState → News → Type 0) (new : View) (fault : Option Fault) (o : Option P) → Plans is_for f a b e x o
-      → MatchOption o (Unit {0}) (λ plan. may_fail e.step x.number ≡ false) → Stays old new → StoreLeft f a b e x old new fault
-  left_quiet is_for new fault None q quiet stays = left_unnamed new fault q stays
-  left_quiet is_for new fault (Some plan) q quiet stays =
+  pub left_quiet : (is_planned : GuardianState → News → Type 0) (new : View) (fault : Option Fault)
+      (keeps : Bool) → Plans is_planned f a b e x keeps
+      → OnTrue keeps (may_fail e.step x.number ≡ false) → Stays old new
+      → StoreLeft f a b e x old new fault
+  left_quiet is_planned new fault false q quiet stays = left_unnamed new fault q stays
+  left_quiet is_planned new fault true q quiet stays =
       left_alone (names_it && asks) content_after old new fault
       (ap₂ (λ t u. t && u) q.named (quiet_event x.number (stamped 0 (news_to f a b e x)) old.content quiet)) stays
 
 -- ---- which of two plans asks for nothing
 
 -- the one that was not carried out first, as it cannot fail
-pub quiet_first : {P : Type 0} (step : Step) (n : ℕ) (o : Option P) → (is_some o && may_fail step n) ≡ false
-    → MatchOption o (Unit {0}) (λ plan. may_fail step n ≡ false)
-quiet_first step n None h = tt
-quiet_first step n (Some plan) h = h
+pub quiet_first : (step : Step) (n : ℕ) (keeps : Bool) → (keeps && may_fail step n) ≡ false
+    → OnTrue keeps (may_fail step n ≡ false)
+quiet_first step n false h = tt
+quiet_first step n true h = h
 
 -- the other one, where the first may fail
-pub quiet_other : {P : Type 0} (is_for : P → GuardianState → News → Type 0) (also : P → GuardianState → News → Type 0) (f : ForestState) (a b x y : GuardianState) (e : Event)
-    (o p : Option P) → (is_some o && may_fail e.step x.number) ≡ true → (x.number == y.number) ≡ false → Plans is_for f a b e x o → Plans also f a b e y p
-    → MatchOption p (Unit {0}) (λ plan. may_fail e.step y.number ≡ false)
-quiet_other is_for also f a b x y e None p h d q r = absurd (false≢true h)
-quiet_other is_for also f a b x y e (Some plan) p h d q r = quiet_plan also f a b x y e p q.named h d r
+pub quiet_other : (is_planned also : GuardianState → News → Type 0) (f : ForestState)
+    (a b x y : GuardianState) (e : Event) (keeps keeps_also : Bool)
+    → (keeps && may_fail e.step x.number) ≡ true → (x.number == y.number) ≡ false
+    → Plans is_planned f a b e x keeps → Plans also f a b e y keeps_also
+    → OnTrue keeps_also (may_fail e.step y.number ≡ false)
+quiet_other is_planned also f a b x y e false other h d q r = absurd (false≢true h)
+quiet_other is_planned also f a b x y e true other h d q r = quiet_plan also f a b x y e other q.named h d r

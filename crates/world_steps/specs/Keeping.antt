@@ -1,5 +1,5 @@
 -- What an accepted step leaves of what it was lent.
-use Rattle.std.specs.Prelude.{◌≡◌, ℕ, true, false, ◌&&◌, ◌==◌, ◌||◌, ◌∷◌, Option, IsTrue, MatchOption}
+use Rattle.std.specs.Prelude.{◌≡◌, ℕ, Bool, true, false, ◌&&◌, ◌==◌, ◌||◌, ◌∷◌, Option, IsTrue, MatchBool, MatchOption}
 use Rattle.run_model.specs.declared.history.Event.{Event}
 use Rattle.run_model.specs.Runs.{is_accepted}
 use Rattle.run_model.specs.LocalReadings.{Carried}
@@ -60,41 +60,46 @@ abbrev pub Brings : ForestState → GuardianState → GuardianState → Event �
 Brings f a b e x brought =
     MatchOption brought (names_guardian e.step (events_there f.registry) x.number ≡ false) (λ message. IsBrought f a b e x (carried_of message))
 
--- a plan for a guardian that the event names
-pub record IsPlannedAt (is_for : News → Type 0) (f : ForestState) (a b : GuardianState) (e : Event) (x : GuardianState) : Type 0 where
+-- a guardian that the event names has a plan for it
+pub record IsPlannedAt (is_planned : News → Type 0) (f : ForestState) (a b : GuardianState)
+    (e : Event) (x : GuardianState) : Type 0 where
   pub named : names_guardian e.step (events_there f.registry) x.number ≡ true
-  pub planned : is_for (news_to f a b e x)
+  pub planned : is_planned (news_to f a b e x)
 
--- and none for one that it does not name
-abbrev pub Plans : {P : Type 0} → (P → GuardianState → News → Type 0) → ForestState → GuardianState → GuardianState → Event → GuardianState → Option P → Type 0
-Plans is_for f a b e x planned =
-    MatchOption planned (names_guardian e.step (events_there f.registry) x.number ≡ false) (λ plan. IsPlannedAt (is_for plan x) f a b e x)
+-- and one that it does not name keeps nothing
+abbrev pub Plans : (GuardianState → News → Type 0) → ForestState → GuardianState → GuardianState
+    → Event → GuardianState → Bool → Type 0
+Plans is_planned f a b e x keeps =
+    MatchBool keeps (IsPlannedAt (is_planned x) f a b e x)
+    (names_guardian e.step (events_there f.registry) x.number ≡ false)
 
 -- in some state in which the guardian stands the plan is for this event
 abbrev pub IsPlannedHere : (GuardianState → Type 0) → (GuardianState → News → Type 0) → Event → Type 0
-IsPlannedHere stands is_for e = (x : GuardianState) × (news : News) × stands x × is_for x news × (news.event ≡ e)
+IsPlannedHere stands is_planned e = (x : GuardianState) × (news : News) × stands x × is_planned x news × (news.event ≡ e)
 
 -- of each such state and what the plan is for there
 abbrev pub WhereverPlanned : (GuardianState → Type 0) → (GuardianState → News → Type 0) → Event → (GuardianState → News → Type 0) → Type 0
-WhereverPlanned stands is_for e holds = (x : GuardianState) (news : News) → stands x → is_for x news → news.event ≡ e → holds x news
+WhereverPlanned stands is_planned e holds = (x : GuardianState) (news : News) → stands x → is_planned x news → news.event ≡ e → holds x news
 
 -- the guardian stands where it stood
 abbrev pub StandsStill : (GuardianState → Type 0) → (GuardianState → Type 0) → Type 0
 StandsStill stood stands = (x : GuardianState) → stood x → stands x
 
--- and for the forest in this state, where what the event begins begins at this home in this life of it
-pub record IsPlannedThere (is_for : RegistryNews → Type 0) (f : ForestState) (home life : ℕ) (e : Event) : Type 0 where
-  pub takes : takes_registry e.step ≡ true
-  pub planned : is_for (record { event = e; begun = begun_at f home life e.answer })
+-- And the forest in this state has one, if it keeps the event. What the event begins begins at this
+-- home in this life of it.
+abbrev pub PlansThere : (ForestState → RegistryNews → Type 0) → ForestState → ℕ → ℕ → Event → Type 0
+PlansThere is_planned f home life e =
+    IsTrue (takes_registry e.step)
+    → is_planned f (record { event = e; begun = begun_at f home life e.answer })
 
 -- in some state in which the forest stands the plan is for this event
 abbrev pub IsPlannedInSome : (ForestState → Type 0) → (ForestState → RegistryNews → Type 0) → Event → Type 0
-IsPlannedInSome stands is_for e = (f : ForestState) × (news : RegistryNews) × stands f × is_for f news × (news.event ≡ e)
+IsPlannedInSome stands is_planned e = (f : ForestState) × (news : RegistryNews) × stands f × is_planned f news × (news.event ≡ e)
 
 -- once it is carried out the forest stands, with the event, where it stood
 abbrev pub IsInstalled : (ForestState → Type 0) → (ForestState → Type 0) → (ForestState → RegistryNews → Type 0) → Event → ℕ → Type 0
-IsInstalled stood stands is_for e n =
-    (f : ForestState) (news : RegistryNews) → stood f → is_for f news → news.event ≡ e → stands (record f { registry = stamped_there n news ∷ f.registry })
+IsInstalled stood stands is_planned e n =
+    (f : ForestState) (news : RegistryNews) → stood f → is_planned f news → news.event ≡ e → stands (record f { registry = stamped_there n news ∷ f.registry })
 
 -- What a step leaves of the store of x, of those lent. Where the event does not name x, or asks nothing of its store, that is as it was.
 abbrev pub StoreLeft : ForestState → GuardianState → GuardianState → Event → GuardianState → View → View → Option Fault → Type 0
@@ -104,7 +109,7 @@ StoreLeft f a b e x old new fault =
 
 -- once it is carried out the guardian stands, with the event, where it stood
 abbrev pub IsKept : (GuardianState → Type 0) → (GuardianState → Type 0) → (GuardianState → News → Type 0) → Event → ℕ → Type 0
-IsKept stood stands is_for e n = WhereverPlanned stood is_for e (λ x news. stands (kept x (stamped n news)))
+IsKept stood stands is_planned e n = WhereverPlanned stood is_planned e (λ x news. stands (kept x (stamped n news)))
 
 -- After the event, with its stamp, the forest stands where this leads from the state f, and two guardians where it leads from a and b.
 pub record IsDone (stands : ForestState → Type 0) (one other : GuardianState → Type 0) (f : ForestState) (a b : GuardianState) (e : Event) (n : ℕ) : Type 0 where

@@ -1,5 +1,6 @@
 //! What an accepted step leaves of the forest and of the guardians that it was lent.
-ghost use Rattle.std.specs.Prelude.{◌≡◌, ◌==◌, ◌&&◌, false, ◌⊎◌, IfOk, OnErr, IsErrOf, IsTrue, IsFalse, MatchOption, is_some, map};
+ghost use Rattle.std.specs.Prelude.{◌≡◌, ◌==◌, ◌&&◌, false, ◌⊎◌, IfOk, OnErr, OnOk, IsErrOf, IsTrue, IsFalse, MatchBool, MatchOption, map};
+ghost use Rattle.std.specs.Bool.{OnTrue};
 ghost use Rattle.std.specs.List.Sorted.{IsStrictlySortedBy};
 ghost use Rattle.action_names.specs.Names.{name_cmp};
 ghost use Rattle.run_model.specs.Runs.{is_accepted};
@@ -10,7 +11,7 @@ ghost use Rattle.layer_contracts.specs.declared.guardian.Fault.TheVariants.{Stab
 ghost use Rattle.layer_contracts.specs.Messages.{is_operation, may_fail};
 ghost use Rattle.layer_contracts.specs.Forests.{ForestState, entered};
 ghost use Rattle.world_steps.specs.Lending.{IsOneOf, Lends};
-ghost use Rattle.world_steps.specs.Keeping.{AreAnswered, Brings, IsAnswered, IsDone, IsInstalled, IsKept, IsLentAt, IsPlannedHere, IsPlannedInSome, IsPlannedThere, Plans, StandsStill, StoreLeft, WhereverPlanned};
+ghost use Rattle.world_steps.specs.Keeping.{AreAnswered, Brings, IsAnswered, IsDone, IsInstalled, IsKept, IsLentAt, IsPlannedHere, IsPlannedInSome, Plans, PlansThere, StandsStill, StoreLeft, WhereverPlanned};
 ghost use Rattle.world_steps.specs.Naming.{AreNamed};
 
 use crate::lent::Lent;
@@ -38,24 +39,28 @@ impl<'a, R: Forest, G: Guardian> Lent<'a, R, G> {
     }
 }
 
-/// Makes room at the guardian for an event that brings this to it, if it brings something.
+/// Makes room at the guardian for an event that brings this to it, if it brings something. Answers
+/// whether the guardian is to keep the event.
 fn plan_at<G: Guardian>(
     guardian: &mut G,
     event: &EventRef<'_>,
     brought: Option<Message>,
-) -> Result<Option<G::Plan>, AllocError>
+) -> Result<bool, AllocError>
     requires accepted { IsTrue (is_accepted event.now.answer) }
-    requires rising { MatchOption brought (Unit {0}) (λ message. IsStrictlySortedBy name_cmp (map (λ x. x.0) message.outcomes.items)) }
+    requires rising { MatchOption brought (Unit {0})
+        (λ message. IsStrictlySortedBy name_cmp (map (λ x. x.0) message.outcomes.items)) }
     ensures same { StandsStill (G.stands guardian.old) (G.stands guardian.new) }
     ensures store { Stays (G.stored guardian.old) (G.stored guardian.new) }
-    ensures fits { IfOk result (λ planned. MatchOption planned (Unit {0}) (λ plan. G.fits plan guardian.new)) }
-    ensures planned { IfOk result (λ planned. (f : ForestState) (a b x : GuardianState) → G.stands guardian.old x → Brings f a b event.now x brought
-        → Plans (λ plan y. G.is_for plan guardian.new y) f a b event.now x planned) }
+    ensures fits { IfOk result (λ keeps. OnTrue keeps (G.fits guardian.new)) }
+    ensures planned { IfOk result (λ keeps. (f : ForestState) (a b x : GuardianState)
+        → G.stands guardian.old x → Brings f a b event.now x brought
+        → Plans (G.is_planned guardian.new) f a b event.now x keeps) }
 {
-    match brought {
-        Some(message) => Ok(Some(guardian.plan(event, message)?)),
-        None => Ok(None),
-    }
+    let Some(message) = brought else {
+        return Ok(false);
+    };
+    guardian.plan(event, message)?;
+    Ok(true)
 }
 
 /// Makes room in the forest for an event, if the forest keeps it.
@@ -64,17 +69,17 @@ fn plan_there<R: Forest>(
     event: &EventRef<'_>,
     home: u32,
     life: u64,
-) -> Result<Option<R::Plan>, AllocError>
+) -> Result<(), AllocError>
     requires accepted { IsTrue (is_accepted event.now.answer) }
     ensures same { (f : ForestState) → R.stands forest.old f → R.stands forest.new f }
-    ensures fits { IfOk result (λ planned. MatchOption planned (Unit {0}) (λ plan. R.fits plan forest.new)) }
-    ensures planned { IfOk result (λ planned. (f : ForestState) → R.stands forest.old f → entered f event.now
-        → MatchOption planned (takes_registry event.now.step ≡ false) (λ plan. IsPlannedThere (R.is_for plan forest.new f) f home life event.now)) }
+    ensures fits { OnOk result (IsTrue (takes_registry event.now.step) → R.fits forest.new) }
+    ensures planned { OnOk result ((f : ForestState) → R.stands forest.old f → entered f event.now
+        → PlansThere (R.is_planned forest.new) f home life event.now) }
 {
     if !takes_registry(event.step) {
-        return Ok(None);
+        return Ok(());
     }
-    Ok(Some(forest.plan(event, home, life)?))
+    forest.plan(event, home, life)
 }
 
 /// Whether what the event changes at this guardian, which it names, may fail though there is room.
@@ -88,72 +93,74 @@ fn may_fail(step: &Step, guardian: u32) -> bool
     }
 }
 
-/// Whether there is a plan whose changes at this guardian may fail though there is room.
-fn plan_may_fail<G: Guardian>(plan: &Option<G::Plan>, event: &EventRef<'_>, guardian: &G) -> bool
+/// Whether the guardian keeps the event and what that changes there may fail though there is room.
+fn may_fail_at<G: Guardian>(keeps: bool, event: &EventRef<'_>, guardian: &G) -> bool
     ensures { (x : GuardianState) → G.stands guardian.now x
-        → result ≡ (is_some plan.now && may_fail event.now.step x.number) }
+        → result ≡ (keeps && may_fail event.now.step x.number) }
 {
-    plan.is_some() && may_fail(event.step, guardian.number())
+    keeps && may_fail(event.step, guardian.number())
 }
 
-/// Carries the plan out, if there is one, and draws the stamp.
+/// Draws the stamp, and keeps the event at the guardian, if that is to keep it.
 fn carry_out<G: Guardian, D: Draw>(
     guardian: &mut G,
-    plan: Option<G::Plan>,
+    keeps: bool,
     event: &EventRef<'_>,
     stamp: &mut D,
 ) -> Result<u64, Fault>
     requires stamp { D.may_draw stamp.old }
     requires other { IsFalse (is_operation event.now.step) }
-    requires fits { MatchOption plan (Unit {0}) (λ plan. G.fits plan guardian.old) }
-    requires planned { MatchOption plan (Unit {0}) (λ plan. IsPlannedHere (G.stands guardian.old) (G.is_for plan guardian.old) event.now) }
+    requires fits { OnTrue keeps (G.fits guardian.old) }
+    requires planned { OnTrue keeps
+        (IsPlannedHere (G.stands guardian.old) (G.is_planned guardian.old) event.now) }
     ensures drawn { IfOk result (λ n. D.draws stamp.old n stamp.new) }
     ensures undrawn { OnErr result (stamp.new ≡ stamp.old) }
-    ensures kept { IfOk result (λ n. MatchOption plan (StandsStill (G.stands guardian.old) (G.stands guardian.new))
-        (λ plan. IsKept (G.stands guardian.old) (G.stands guardian.new) (G.is_for plan guardian.old) event.now n)) }
+    ensures kept { IfOk result (λ n. MatchBool keeps
+        (IsKept (G.stands guardian.old) (G.stands guardian.new) (G.is_planned guardian.old) event.now n)
+        (StandsStill (G.stands guardian.old) (G.stands guardian.new))) }
     ensures err { OnErr result (StandsStill (G.stands guardian.old) (G.stands guardian.new)) }
-    ensures store { MatchOption plan (Stays (G.stored guardian.old) (G.stored guardian.new))
-        (λ plan. WhereverPlanned (G.stands guardian.old) (G.is_for plan guardian.old) event.now
-        (λ x news. LeavesStore x news (G.stored guardian.old) (G.stored guardian.new) (fault_in result))) }
+    ensures store { MatchBool keeps
+        (WhereverPlanned (G.stands guardian.old) (G.is_planned guardian.old) event.now
+        (λ x news. LeavesStore x news (G.stored guardian.old) (G.stored guardian.new) (fault_in result)))
+        (Stays (G.stored guardian.old) (G.stored guardian.new)) }
     ensures cause { IsErrOf result Stable → CountsFailure (G.stored guardian.old) (G.stored guardian.new) }
 {
-    match plan {
-        Some(plan) => guardian.carry_out(plan, event, stamp),
-        None => Ok(stamp.draw()),
+    if keeps {
+        guardian.carry_out(event, stamp)
+    } else {
+        Ok(stamp.draw())
     }
 }
 
-fn install<G: Guardian>(
-    guardian: &mut G,
-    plan: Option<G::Plan>,
-    event: &EventRef<'_>,
-    stamp: u64,
-)
-    requires fits { MatchOption plan (Unit {0}) (λ plan. G.fits plan guardian.old) }
-    requires planned { MatchOption plan (Unit {0}) (λ plan. IsPlannedHere (G.stands guardian.old) (G.is_for plan guardian.old) event.now) }
-    requires quiet { MatchOption plan (Unit {0}) (λ plan. (x : GuardianState) × G.stands guardian.old x × IsFalse (may_fail event.now.step x.number)) }
-    ensures kept { MatchOption plan (StandsStill (G.stands guardian.old) (G.stands guardian.new))
-        (λ plan. IsKept (G.stands guardian.old) (G.stands guardian.new) (G.is_for plan guardian.old) event.now stamp) }
+/// Keeps the event at the guardian, if that is to keep it and cannot fail.
+fn install<G: Guardian>(guardian: &mut G, keeps: bool, event: &EventRef<'_>, stamp: u64)
+    requires fits { OnTrue keeps (G.fits guardian.old) }
+    requires planned { OnTrue keeps
+        (IsPlannedHere (G.stands guardian.old) (G.is_planned guardian.old) event.now) }
+    requires quiet { OnTrue keeps ((x : GuardianState) × G.stands guardian.old x
+        × IsFalse (may_fail event.now.step x.number)) }
+    ensures kept { MatchBool keeps
+        (IsKept (G.stands guardian.old) (G.stands guardian.new) (G.is_planned guardian.old) event.now stamp)
+        (StandsStill (G.stands guardian.old) (G.stands guardian.new)) }
     ensures store { Stays (G.stored guardian.old) (G.stored guardian.new) }
 {
-    if let Some(plan) = plan {
-        guardian.install(plan, event, stamp);
+    if keeps {
+        guardian.install(event, stamp);
     }
 }
 
-fn install_there<R: Forest>(
-    forest: &mut R,
-    plan: Option<R::Plan>,
-    event: &EventRef<'_>,
-    stamp: u64,
-)
-    requires fits { MatchOption plan (Unit {0}) (λ plan. R.fits plan forest.old) }
-    requires planned { MatchOption plan (Unit {0}) (λ plan. IsPlannedInSome (R.stands forest.old) (R.is_for plan forest.old) event.now) }
-    ensures { MatchOption plan ((f : ForestState) → R.stands forest.old f → R.stands forest.new f)
-        (λ plan. IsInstalled (R.stands forest.old) (R.stands forest.new) (R.is_for plan forest.old) event.now stamp) }
+/// Keeps the event in the forest, if the forest keeps it.
+fn install_there<R: Forest>(forest: &mut R, event: &EventRef<'_>, stamp: u64)
+    requires fits { IsTrue (takes_registry event.now.step) → R.fits forest.old }
+    requires planned { IsTrue (takes_registry event.now.step)
+        → IsPlannedInSome (R.stands forest.old) (R.is_planned forest.old) event.now }
+    ensures kept { IsTrue (takes_registry event.now.step)
+        → IsInstalled (R.stands forest.old) (R.stands forest.new) (R.is_planned forest.old) event.now stamp }
+    ensures same { IsFalse (takes_registry event.now.step)
+        → (f : ForestState) → R.stands forest.old f → R.stands forest.new f }
 {
-    if let Some(plan) = plan {
-        forest.install(plan, event, stamp);
+    if takes_registry(event.step) {
+        forest.install(event, stamp);
     }
 }
 
@@ -236,18 +243,18 @@ pub fn keep_two<R: Forest, G: Guardian, D: Draw>(
     let life = lent.crashes_at(home);
     let to_first = lent.brought_to(named, event, lent.first)?;
     let to_second = lent.brought_to(named, event, lent.second)?;
-    let there = plan_there(forest, event, home, life)?;
-    let one = plan_at(first, event, to_first)?;
-    let other = plan_at(second, event, to_second)?;
-    if plan_may_fail(&one, event, &*first) {
-        let number = carry_out(first, one, event, stamp)?;
-        install(second, other, event, number);
-        install_there(forest, there, event, number);
+    plan_there(forest, event, home, life)?;
+    let keeps_first = plan_at(first, event, to_first)?;
+    let keeps_second = plan_at(second, event, to_second)?;
+    if may_fail_at(keeps_first, event, &*first) {
+        let number = carry_out(first, keeps_first, event, stamp)?;
+        install(second, keeps_second, event, number);
+        install_there(forest, event, number);
         Ok(number)
     } else {
-        let number = carry_out(second, other, event, stamp)?;
-        install(first, one, event, number);
-        install_there(forest, there, event, number);
+        let number = carry_out(second, keeps_second, event, stamp)?;
+        install(first, keeps_first, event, number);
+        install_there(forest, event, number);
         Ok(number)
     }
 }
@@ -291,9 +298,9 @@ pub fn keep_one<R: Forest, G: Guardian, D: Draw>(
     let home = home_of_new(named, event.step);
     let life = lent.crashes_at(home);
     let brought = lent.brought_to(named, event, lent.first)?;
-    let there = plan_there(forest, event, home, life)?;
-    let here = plan_at(guardian, event, brought)?;
-    let number = carry_out(guardian, here, event, stamp)?;
-    install_there(forest, there, event, number);
+    plan_there(forest, event, home, life)?;
+    let keeps = plan_at(guardian, event, brought)?;
+    let number = carry_out(guardian, keeps, event, stamp)?;
+    install_there(forest, event, number);
     Ok(number)
 }

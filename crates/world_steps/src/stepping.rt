@@ -126,9 +126,7 @@ fn keep<R: Forest, G: Guardian>(
 {
     let number = history.next_stamp();
     history.push(event.step, event.answer)?;
-    let kept = keep_at(
-        alloc, forest, guardians, named, low, high, event, number,
-    );
+    let kept = keep_at(alloc, forest, guardians, named, low, high, event, number);
     ask_number(guardians, low);
     ask_number(guardians, high);
     match kept {

@@ -32,9 +32,9 @@ install_there-requires-clause-planned g c =
     let f : ForestState = c.requires.answered.0 in
     let x : GuardianState = c.requires.answered.1 in
     let here = c.requires.answered.2 in
-    planned_there (g.R.Forest.stands c.plan_there.new.forest) (λ plan. g.R.Forest.is_for plan c.plan_there.new.forest) f c.args.event.now
-    c.home_of_new-home.result c.crashes_at-life.result c.in_ok-there.there (c.plan_there.ensures.same f here.lent.forest)
-    (c.in_ok-there.ensures.planned f here.lent.forest (lent_two x x, here.answered.answer))
+    planned_there (g.R.Forest.stands c.plan_there.new.forest) (g.R.Forest.is_planned c.plan_there.new.forest) f c.args.event.now
+    c.home_of_new-home.result c.crashes_at-life.result (c.plan_there.ensures.same f here.lent.forest)
+    (c.in_ok-plan_there.ensures.planned f here.lent.forest (lent_two x x, here.answered.answer))
 
 pub carry_out-requires-clause-planned : goal.carry_out-requires-clause-planned
 carry_out-requires-clause-planned g c =
@@ -44,9 +44,9 @@ carry_out-requires-clause-planned g c =
     let e : Event = c.args.event.now in
     let brought : Brings f x x e x c.in_ok-brought.brought =
     c.in_ok-brought.ensures f x x x here.lent here.lent.first (first_one x x) here.lent.opening.first here.answered in
-    let planned : Plans (λ plan. g.G.Guardian.is_for plan c.plan_at.new.guardian) f x x e x c.in_ok-here.here = c.in_ok-here.ensures.planned f x x x here.lent.first brought in
+    let planned : Plans (g.G.Guardian.is_planned c.plan_at.new.guardian) f x x e x c.in_ok-keeps.keeps = c.in_ok-keeps.ensures.planned f x x x here.lent.first brought in
     let stood = c.plan_at.ensures.same x here.lent.first in
-    planned_here (g.G.Guardian.stands c.plan_at.new.guardian) (λ plan. g.G.Guardian.is_for plan c.plan_at.new.guardian) f x x x e c.in_ok-here.here stood planned
+    planned_here (g.G.Guardian.stands c.plan_at.new.guardian) (g.G.Guardian.is_planned c.plan_at.new.guardian) f x x x e c.in_ok-keeps.keeps stood planned
 
 pub returns-then-is_operation-clause-done : goal.returns-then-is_operation-clause-done
 returns-then-is_operation-clause-done g c = λ f x here.
@@ -64,17 +64,18 @@ returns-clause-done g c = λ f x here.
     let e : Event = c.args.event.now in
     let brought : Brings f x x e x c.in_ok-brought.brought =
     c.in_ok-brought.ensures f x x x here.lent here.lent.first (first_one x x) here.lent.opening.first here.answered in
-    let planned : Plans (λ plan. g.G.Guardian.is_for plan c.plan_at.new.guardian) f x x e x c.in_ok-here.here = c.in_ok-here.ensures.planned f x x x here.lent.first brought in
+    let planned : Plans (g.G.Guardian.is_planned c.plan_at.new.guardian) f x x e x c.in_ok-keeps.keeps = c.in_ok-keeps.ensures.planned f x x x here.lent.first brought in
     let stood = c.plan_at.ensures.same x here.lent.first in
     let n = c.in_ok-number.number in
-    let after = left_at (g.G.Guardian.stands c.plan_at.new.guardian) (g.G.Guardian.stands c.carry_out.new.guardian) (λ plan. g.G.Guardian.is_for plan c.plan_at.new.guardian) f x x x e n c.in_ok-here.here here.lent.opening.first
+    let after = left_at (g.G.Guardian.stands c.plan_at.new.guardian) (g.G.Guardian.stands c.carry_out.new.guardian) (g.G.Guardian.is_planned c.plan_at.new.guardian) f x x x e n c.in_ok-keeps.keeps here.lent.opening.first
     (first_lent x x) stood planned c.in_ok-number.ensures.kept in
     record {
       forest =
-          left_there (g.R.Forest.stands c.plan_there.new.forest) (g.R.Forest.stands c.install_there.new.forest) (λ plan. g.R.Forest.is_for plan c.plan_there.new.forest) f x x e
-          c.home_of_new-home.result c.crashes_at-life.result n c.in_ok-there.there (home_of_same c.args.named c.home_of_new-home.result (step_is c.event.view_is) c.home_of_new-home.ensures f (c.requires.named.first f here.lent.forest) (c.requires.named.second f here.lent.forest))
+          left_there (g.R.Forest.stands c.plan_there.new.forest) (g.R.Forest.stands c.install_there.new.forest) (g.R.Forest.is_planned c.plan_there.new.forest) f x x e
+          c.home_of_new-home.result c.crashes_at-life.result n (home_of_same c.args.named c.home_of_new-home.result (step_is c.event.view_is) c.home_of_new-home.ensures f (c.requires.named.first f here.lent.forest) (c.requires.named.second f here.lent.forest))
           (c.crashes_at-life.ensures x x here.lent.first here.lent.first) (c.plan_there.ensures.same f here.lent.forest)
-          (c.in_ok-there.ensures.planned f here.lent.forest (lent_two x x, here.answered.answer)) c.install_there.ensures;
+          (c.in_ok-plan_there.ensures.planned f here.lent.forest (lent_two x x, here.answered.answer)) c.install_there.ensures.kept
+          c.install_there.ensures.same;
       first = after;
       second = after;
     }
@@ -85,16 +86,16 @@ returns-in_err-brought-clause-store g c = λ f x here.
     left_early f x x x c.args.event.now old c.from_residual-in_err-brought.result old c.from_residual-in_err-brought.ensures.1 (stays_same old)
     (c.number.ensures.whole x here.lent.first)
 
-pub returns-in_err-there-clause-store : goal.returns-in_err-there-clause-store
-returns-in_err-there-clause-store g c = λ f x here.
+pub returns-in_err-plan_there-clause-store : goal.returns-in_err-plan_there-clause-store
+returns-in_err-plan_there-clause-store g c = λ f x here.
     let old : View = g.G.Guardian.stored c.args.guardian.now in
-    left_early f x x x c.args.event.now old c.from_residual-in_err-there.result old c.from_residual-in_err-there.ensures.1 (stays_same old)
+    left_early f x x x c.args.event.now old c.from_residual-in_err-plan_there.result old c.from_residual-in_err-plan_there.ensures.1 (stays_same old)
     (c.number.ensures.whole x here.lent.first)
 
-pub returns-in_err-here-clause-store : goal.returns-in_err-here-clause-store
-returns-in_err-here-clause-store g c = λ f x here.
+pub returns-in_err-keeps-clause-store : goal.returns-in_err-keeps-clause-store
+returns-in_err-keeps-clause-store g c = λ f x here.
     let old : View = g.G.Guardian.stored c.args.guardian.now in
-    left_early f x x x c.args.event.now old c.from_residual-in_err-here.result (g.G.Guardian.stored c.plan_at.new.guardian) c.from_residual-in_err-here.ensures.1 c.plan_at.ensures.store
+    left_early f x x x c.args.event.now old c.from_residual-in_err-keeps.result (g.G.Guardian.stored c.plan_at.new.guardian) c.from_residual-in_err-keeps.ensures.1 c.plan_at.ensures.store
     (c.number.ensures.whole x here.lent.first)
 
 pub returns-in_err-number-clause-store : goal.returns-in_err-number-clause-store
@@ -102,23 +103,23 @@ returns-in_err-number-clause-store g c = λ f x here.
     let e : Event = c.args.event.now in
     let brought : Brings f x x e x c.in_ok-brought.brought =
     c.in_ok-brought.ensures f x x x here.lent here.lent.first (first_one x x) here.lent.opening.first here.answered in
-    let planned : Plans (λ plan. g.G.Guardian.is_for plan c.plan_at.new.guardian) f x x e x c.in_ok-here.here = c.in_ok-here.ensures.planned f x x x here.lent.first brought in
+    let planned : Plans (g.G.Guardian.is_planned c.plan_at.new.guardian) f x x e x c.in_ok-keeps.keeps = c.in_ok-keeps.ensures.planned f x x x here.lent.first brought in
     let stood = c.plan_at.ensures.same x here.lent.first in
     let old : View = g.G.Guardian.stored c.args.guardian.now in
     let mid : View = g.G.Guardian.stored c.plan_at.new.guardian in
     let new : View = g.G.Guardian.stored c.carry_out.new.guardian in
     with_fault c.from_residual-in_err-number.result _ (λ fault. StoreLeft f x x e x old new fault) c.from_residual-in_err-number.ensures.1
-    (left_carried f x x x e old (g.G.Guardian.stands c.plan_at.new.guardian) (λ plan. g.G.Guardian.is_for plan c.plan_at.new.guardian) mid new _ c.in_ok-here.here stood c.plan_at.ensures.store planned c.in_err-number.ensures.store)
+    (left_carried f x x x e old (g.G.Guardian.stands c.plan_at.new.guardian) (g.G.Guardian.is_planned c.plan_at.new.guardian) mid new _ c.in_ok-keeps.keeps stood c.plan_at.ensures.store planned c.in_err-number.ensures.store)
 
 pub returns-clause-store : goal.returns-clause-store
 returns-clause-store g c = λ f x here.
     let e : Event = c.args.event.now in
     let brought : Brings f x x e x c.in_ok-brought.brought =
     c.in_ok-brought.ensures f x x x here.lent here.lent.first (first_one x x) here.lent.opening.first here.answered in
-    let planned : Plans (λ plan. g.G.Guardian.is_for plan c.plan_at.new.guardian) f x x e x c.in_ok-here.here = c.in_ok-here.ensures.planned f x x x here.lent.first brought in
+    let planned : Plans (g.G.Guardian.is_planned c.plan_at.new.guardian) f x x e x c.in_ok-keeps.keeps = c.in_ok-keeps.ensures.planned f x x x here.lent.first brought in
     let stood = c.plan_at.ensures.same x here.lent.first in
     let old : View = g.G.Guardian.stored c.args.guardian.now in
     let mid : View = g.G.Guardian.stored c.plan_at.new.guardian in
     let new : View = g.G.Guardian.stored c.carry_out.new.guardian in
-    left_carried f x x x e old (g.G.Guardian.stands c.plan_at.new.guardian) (λ plan. g.G.Guardian.is_for plan c.plan_at.new.guardian) mid new None c.in_ok-here.here stood c.plan_at.ensures.store planned
+    left_carried f x x x e old (g.G.Guardian.stands c.plan_at.new.guardian) (g.G.Guardian.is_planned c.plan_at.new.guardian) mid new None c.in_ok-keeps.keeps stood c.plan_at.ensures.store planned
     c.in_ok-number.ensures.store

@@ -47,19 +47,19 @@ install_there-requires-clause-planned g c =
     let a : GuardianState = c.requires.answered.1 in
     let b : GuardianState = c.requires.answered.2 in
     let here = c.requires.answered.3 in
-    planned_there (g.R.Forest.stands c.plan_there.new.forest) (λ plan. g.R.Forest.is_for plan c.plan_there.new.forest) f c.args.event.now
-    c.home_of_new-home.result c.crashes_at-life.result c.in_ok-there.there (c.plan_there.ensures.same f here.lent.forest)
-    (c.in_ok-there.ensures.planned f here.lent.forest (lent_two a b, here.answered.answer))
+    planned_there (g.R.Forest.stands c.plan_there.new.forest) (g.R.Forest.is_planned c.plan_there.new.forest) f c.args.event.now
+    c.home_of_new-home.result c.crashes_at-life.result (c.plan_there.ensures.same f here.lent.forest)
+    (c.in_ok-plan_there.ensures.planned f here.lent.forest (lent_two a b, here.answered.answer))
 
-pub install_there-requires-else-plan_may_fail-clause-planned : goal.install_there-requires-else-plan_may_fail-clause-planned
-install_there-requires-else-plan_may_fail-clause-planned g c =
+pub install_there-requires-else-may_fail_at-clause-planned : goal.install_there-requires-else-may_fail_at-clause-planned
+install_there-requires-else-may_fail_at-clause-planned g c =
     let f : ForestState = c.requires.answered.0 in
     let a : GuardianState = c.requires.answered.1 in
     let b : GuardianState = c.requires.answered.2 in
     let here = c.requires.answered.3 in
-    planned_there (g.R.Forest.stands c.plan_there.new.forest) (λ plan. g.R.Forest.is_for plan c.plan_there.new.forest) f c.args.event.now
-    c.home_of_new-home.result c.crashes_at-life.result c.in_ok-there.there (c.plan_there.ensures.same f here.lent.forest)
-    (c.in_ok-there.ensures.planned f here.lent.forest (lent_two a b, here.answered.answer))
+    planned_there (g.R.Forest.stands c.plan_there.new.forest) (g.R.Forest.is_planned c.plan_there.new.forest) f c.args.event.now
+    c.home_of_new-home.result c.crashes_at-life.result (c.plan_there.ensures.same f here.lent.forest)
+    (c.in_ok-plan_there.ensures.planned f here.lent.forest (lent_two a b, here.answered.answer))
 
 pub carry_out-requires-clause-planned : goal.carry_out-requires-clause-planned
 carry_out-requires-clause-planned g c =
@@ -70,12 +70,12 @@ carry_out-requires-clause-planned g c =
     let e : Event = c.args.event.now in
     let to_first : Brings f a b e a c.in_ok-to_first.to_first =
     c.in_ok-to_first.ensures f a b a here.lent here.lent.first (first_one a b) here.lent.opening.first here.answered in
-    let one : Plans (λ plan. g.G.Guardian.is_for plan c.plan_at.new.guardian) f a b e a c.in_ok-one.one = c.in_ok-one.ensures.planned f a b a here.lent.first to_first in
+    let one : Plans (g.G.Guardian.is_planned c.plan_at.new.guardian) f a b e a c.in_ok-keeps_first.keeps_first = c.in_ok-keeps_first.ensures.planned f a b a here.lent.first to_first in
     let stood = c.plan_at.ensures.same a here.lent.first in
-    planned_here (g.G.Guardian.stands c.plan_at.new.guardian) (λ plan. g.G.Guardian.is_for plan c.plan_at.new.guardian) f a b a e c.in_ok-one.one stood one
+    planned_here (g.G.Guardian.stands c.plan_at.new.guardian) (g.G.Guardian.is_planned c.plan_at.new.guardian) f a b a e c.in_ok-keeps_first.keeps_first stood one
 
-pub carry_out-requires-else-plan_may_fail-clause-planned : goal.carry_out-requires-else-plan_may_fail-clause-planned
-carry_out-requires-else-plan_may_fail-clause-planned g c =
+pub carry_out-requires-else-may_fail_at-clause-planned : goal.carry_out-requires-else-may_fail_at-clause-planned
+carry_out-requires-else-may_fail_at-clause-planned g c =
     let f : ForestState = c.requires.answered.0 in
     let a : GuardianState = c.requires.answered.1 in
     let b : GuardianState = c.requires.answered.2 in
@@ -84,9 +84,9 @@ carry_out-requires-else-plan_may_fail-clause-planned g c =
     let apart : (a.number == b.number) ≡ false = c.requires.answered.4 in
     let to_second : Brings f a b e b c.in_ok-to_second.to_second =
     c.in_ok-to_second.ensures f a b b here.lent here.lent.second (second_one a b apart) here.lent.opening.second here.answered in
-    let other : Plans (λ plan. g.G.Guardian.is_for plan c.plan_at-2.new.guardian) f a b e b c.in_ok-other.other = c.in_ok-other.ensures.planned f a b b here.lent.second to_second in
+    let other : Plans (g.G.Guardian.is_planned c.plan_at-2.new.guardian) f a b e b c.in_ok-keeps_second.keeps_second = c.in_ok-keeps_second.ensures.planned f a b b here.lent.second to_second in
     let stood_also = c.plan_at-2.ensures.same b here.lent.second in
-    planned_here (g.G.Guardian.stands c.plan_at-2.new.guardian) (λ plan. g.G.Guardian.is_for plan c.plan_at-2.new.guardian) f a b b e c.in_ok-other.other stood_also other
+    planned_here (g.G.Guardian.stands c.plan_at-2.new.guardian) (g.G.Guardian.is_planned c.plan_at-2.new.guardian) f a b b e c.in_ok-keeps_second.keeps_second stood_also other
 
 pub install-requires-clause-planned : goal.install-requires-clause-planned
 install-requires-clause-planned g c =
@@ -98,12 +98,12 @@ install-requires-clause-planned g c =
     let apart : (a.number == b.number) ≡ false = c.requires.answered.4 in
     let to_second : Brings f a b e b c.in_ok-to_second.to_second =
     c.in_ok-to_second.ensures f a b b here.lent here.lent.second (second_one a b apart) here.lent.opening.second here.answered in
-    let other : Plans (λ plan. g.G.Guardian.is_for plan c.plan_at-2.new.guardian) f a b e b c.in_ok-other.other = c.in_ok-other.ensures.planned f a b b here.lent.second to_second in
+    let other : Plans (g.G.Guardian.is_planned c.plan_at-2.new.guardian) f a b e b c.in_ok-keeps_second.keeps_second = c.in_ok-keeps_second.ensures.planned f a b b here.lent.second to_second in
     let stood_also = c.plan_at-2.ensures.same b here.lent.second in
-    planned_here (g.G.Guardian.stands c.plan_at-2.new.guardian) (λ plan. g.G.Guardian.is_for plan c.plan_at-2.new.guardian) f a b b e c.in_ok-other.other stood_also other
+    planned_here (g.G.Guardian.stands c.plan_at-2.new.guardian) (g.G.Guardian.is_planned c.plan_at-2.new.guardian) f a b b e c.in_ok-keeps_second.keeps_second stood_also other
 
-pub install-requires-else-plan_may_fail-clause-planned : goal.install-requires-else-plan_may_fail-clause-planned
-install-requires-else-plan_may_fail-clause-planned g c =
+pub install-requires-else-may_fail_at-clause-planned : goal.install-requires-else-may_fail_at-clause-planned
+install-requires-else-may_fail_at-clause-planned g c =
     let f : ForestState = c.requires.answered.0 in
     let a : GuardianState = c.requires.answered.1 in
     let b : GuardianState = c.requires.answered.2 in
@@ -111,9 +111,9 @@ install-requires-else-plan_may_fail-clause-planned g c =
     let e : Event = c.args.event.now in
     let to_first : Brings f a b e a c.in_ok-to_first.to_first =
     c.in_ok-to_first.ensures f a b a here.lent here.lent.first (first_one a b) here.lent.opening.first here.answered in
-    let one : Plans (λ plan. g.G.Guardian.is_for plan c.plan_at.new.guardian) f a b e a c.in_ok-one.one = c.in_ok-one.ensures.planned f a b a here.lent.first to_first in
+    let one : Plans (g.G.Guardian.is_planned c.plan_at.new.guardian) f a b e a c.in_ok-keeps_first.keeps_first = c.in_ok-keeps_first.ensures.planned f a b a here.lent.first to_first in
     let stood = c.plan_at.ensures.same a here.lent.first in
-    planned_here (g.G.Guardian.stands c.plan_at.new.guardian) (λ plan. g.G.Guardian.is_for plan c.plan_at.new.guardian) f a b a e c.in_ok-one.one stood one
+    planned_here (g.G.Guardian.stands c.plan_at.new.guardian) (g.G.Guardian.is_planned c.plan_at.new.guardian) f a b a e c.in_ok-keeps_first.keeps_first stood one
 
 pub install-requires-clause-quiet : goal.install-requires-clause-quiet
 install-requires-clause-quiet g c =
@@ -125,17 +125,17 @@ install-requires-clause-quiet g c =
     let apart : (a.number == b.number) ≡ false = c.requires.answered.4 in
     let to_first : Brings f a b e a c.in_ok-to_first.to_first =
     c.in_ok-to_first.ensures f a b a here.lent here.lent.first (first_one a b) here.lent.opening.first here.answered in
-    let one : Plans (λ plan. g.G.Guardian.is_for plan c.plan_at.new.guardian) f a b e a c.in_ok-one.one = c.in_ok-one.ensures.planned f a b a here.lent.first to_first in
+    let one : Plans (g.G.Guardian.is_planned c.plan_at.new.guardian) f a b e a c.in_ok-keeps_first.keeps_first = c.in_ok-keeps_first.ensures.planned f a b a here.lent.first to_first in
     let stood = c.plan_at.ensures.same a here.lent.first in
     let to_second : Brings f a b e b c.in_ok-to_second.to_second =
     c.in_ok-to_second.ensures f a b b here.lent here.lent.second (second_one a b apart) here.lent.opening.second here.answered in
-    let other : Plans (λ plan. g.G.Guardian.is_for plan c.plan_at-2.new.guardian) f a b e b c.in_ok-other.other = c.in_ok-other.ensures.planned f a b b here.lent.second to_second in
+    let other : Plans (g.G.Guardian.is_planned c.plan_at-2.new.guardian) f a b e b c.in_ok-keeps_second.keeps_second = c.in_ok-keeps_second.ensures.planned f a b b here.lent.second to_second in
     let stood_also = c.plan_at-2.ensures.same b here.lent.second in
-    quiet_here (g.G.Guardian.stands c.plan_at-2.new.guardian) b e.step c.in_ok-other.other stood_also
-    (quiet_other (λ plan. g.G.Guardian.is_for plan c.plan_at.new.guardian) (λ plan. g.G.Guardian.is_for plan c.plan_at-2.new.guardian) f a b a b e c.in_ok-one.one c.in_ok-other.other (sym (c.plan_may_fail.ensures a stood) ∙ c.if-plan_may_fail.true) apart one other)
+    quiet_here (g.G.Guardian.stands c.plan_at-2.new.guardian) b e.step c.in_ok-keeps_second.keeps_second stood_also
+    (quiet_other (g.G.Guardian.is_planned c.plan_at.new.guardian) (g.G.Guardian.is_planned c.plan_at-2.new.guardian) f a b a b e c.in_ok-keeps_first.keeps_first c.in_ok-keeps_second.keeps_second (sym (c.may_fail_at.ensures a stood) ∙ c.if-may_fail_at.true) apart one other)
 
-pub install-requires-else-plan_may_fail-clause-quiet : goal.install-requires-else-plan_may_fail-clause-quiet
-install-requires-else-plan_may_fail-clause-quiet g c =
+pub install-requires-else-may_fail_at-clause-quiet : goal.install-requires-else-may_fail_at-clause-quiet
+install-requires-else-may_fail_at-clause-quiet g c =
     let f : ForestState = c.requires.answered.0 in
     let a : GuardianState = c.requires.answered.1 in
     let b : GuardianState = c.requires.answered.2 in
@@ -143,10 +143,10 @@ install-requires-else-plan_may_fail-clause-quiet g c =
     let e : Event = c.args.event.now in
     let to_first : Brings f a b e a c.in_ok-to_first.to_first =
     c.in_ok-to_first.ensures f a b a here.lent here.lent.first (first_one a b) here.lent.opening.first here.answered in
-    let one : Plans (λ plan. g.G.Guardian.is_for plan c.plan_at.new.guardian) f a b e a c.in_ok-one.one = c.in_ok-one.ensures.planned f a b a here.lent.first to_first in
+    let one : Plans (g.G.Guardian.is_planned c.plan_at.new.guardian) f a b e a c.in_ok-keeps_first.keeps_first = c.in_ok-keeps_first.ensures.planned f a b a here.lent.first to_first in
     let stood = c.plan_at.ensures.same a here.lent.first in
-    quiet_here (g.G.Guardian.stands c.plan_at.new.guardian) a e.step c.in_ok-one.one stood
-    (quiet_first e.step a.number c.in_ok-one.one (sym (c.plan_may_fail.ensures a stood) ∙ c.if-plan_may_fail.false))
+    quiet_here (g.G.Guardian.stands c.plan_at.new.guardian) a e.step c.in_ok-keeps_first.keeps_first stood
+    (quiet_first e.step a.number c.in_ok-keeps_first.keeps_first (sym (c.may_fail_at.ensures a stood) ∙ c.if-may_fail_at.false))
 
 pub returns-in_err-to_first-clause-first_store : goal.returns-in_err-to_first-clause-first_store
 returns-in_err-to_first-clause-first_store g c = λ f a b here.
@@ -172,40 +172,40 @@ returns-in_err-to_second-clause-second_store g c = λ f a b here.
     left_early f a b b c.args.event.now old c.from_residual-in_err-to_second.result old c.from_residual-in_err-to_second.ensures.1 (stays_same old)
     (c.number-2.ensures.whole b here.lent.second)
 
-pub returns-in_err-there-clause-first_store : goal.returns-in_err-there-clause-first_store
-returns-in_err-there-clause-first_store g c = λ f a b here.
+pub returns-in_err-plan_there-clause-first_store : goal.returns-in_err-plan_there-clause-first_store
+returns-in_err-plan_there-clause-first_store g c = λ f a b here.
     let old : View = g.G.Guardian.stored c.args.first.now in
-    left_early f a b a c.args.event.now old c.from_residual-in_err-there.result old c.from_residual-in_err-there.ensures.1 (stays_same old)
+    left_early f a b a c.args.event.now old c.from_residual-in_err-plan_there.result old c.from_residual-in_err-plan_there.ensures.1 (stays_same old)
     (c.number.ensures.whole a here.lent.first)
 
-pub returns-in_err-there-clause-second_store : goal.returns-in_err-there-clause-second_store
-returns-in_err-there-clause-second_store g c = λ f a b here.
+pub returns-in_err-plan_there-clause-second_store : goal.returns-in_err-plan_there-clause-second_store
+returns-in_err-plan_there-clause-second_store g c = λ f a b here.
     let old : View = g.G.Guardian.stored c.args.second.now in
-    left_early f a b b c.args.event.now old c.from_residual-in_err-there.result old c.from_residual-in_err-there.ensures.1 (stays_same old)
+    left_early f a b b c.args.event.now old c.from_residual-in_err-plan_there.result old c.from_residual-in_err-plan_there.ensures.1 (stays_same old)
     (c.number-2.ensures.whole b here.lent.second)
 
-pub returns-in_err-one-clause-first_store : goal.returns-in_err-one-clause-first_store
-returns-in_err-one-clause-first_store g c = λ f a b here.
+pub returns-in_err-keeps_first-clause-first_store : goal.returns-in_err-keeps_first-clause-first_store
+returns-in_err-keeps_first-clause-first_store g c = λ f a b here.
     let old : View = g.G.Guardian.stored c.args.first.now in
-    left_early f a b a c.args.event.now old c.from_residual-in_err-one.result (g.G.Guardian.stored c.plan_at.new.guardian) c.from_residual-in_err-one.ensures.1 c.plan_at.ensures.store
+    left_early f a b a c.args.event.now old c.from_residual-in_err-keeps_first.result (g.G.Guardian.stored c.plan_at.new.guardian) c.from_residual-in_err-keeps_first.ensures.1 c.plan_at.ensures.store
     (c.number.ensures.whole a here.lent.first)
 
-pub returns-in_err-one-clause-second_store : goal.returns-in_err-one-clause-second_store
-returns-in_err-one-clause-second_store g c = λ f a b here.
+pub returns-in_err-keeps_first-clause-second_store : goal.returns-in_err-keeps_first-clause-second_store
+returns-in_err-keeps_first-clause-second_store g c = λ f a b here.
     let old : View = g.G.Guardian.stored c.args.second.now in
-    left_early f a b b c.args.event.now old c.from_residual-in_err-one.result old c.from_residual-in_err-one.ensures.1 (stays_same old)
+    left_early f a b b c.args.event.now old c.from_residual-in_err-keeps_first.result old c.from_residual-in_err-keeps_first.ensures.1 (stays_same old)
     (c.number-2.ensures.whole b here.lent.second)
 
-pub returns-in_err-other-clause-first_store : goal.returns-in_err-other-clause-first_store
-returns-in_err-other-clause-first_store g c = λ f a b here.
+pub returns-in_err-keeps_second-clause-first_store : goal.returns-in_err-keeps_second-clause-first_store
+returns-in_err-keeps_second-clause-first_store g c = λ f a b here.
     let old : View = g.G.Guardian.stored c.args.first.now in
-    left_early f a b a c.args.event.now old c.from_residual-in_err-other.result (g.G.Guardian.stored c.plan_at.new.guardian) c.from_residual-in_err-other.ensures.1 c.plan_at.ensures.store
+    left_early f a b a c.args.event.now old c.from_residual-in_err-keeps_second.result (g.G.Guardian.stored c.plan_at.new.guardian) c.from_residual-in_err-keeps_second.ensures.1 c.plan_at.ensures.store
     (c.number.ensures.whole a here.lent.first)
 
-pub returns-in_err-other-clause-second_store : goal.returns-in_err-other-clause-second_store
-returns-in_err-other-clause-second_store g c = λ f a b here.
+pub returns-in_err-keeps_second-clause-second_store : goal.returns-in_err-keeps_second-clause-second_store
+returns-in_err-keeps_second-clause-second_store g c = λ f a b here.
     let old : View = g.G.Guardian.stored c.args.second.now in
-    left_early f a b b c.args.event.now old c.from_residual-in_err-other.result (g.G.Guardian.stored c.plan_at-2.new.guardian) c.from_residual-in_err-other.ensures.1 c.plan_at-2.ensures.store
+    left_early f a b b c.args.event.now old c.from_residual-in_err-keeps_second.result (g.G.Guardian.stored c.plan_at-2.new.guardian) c.from_residual-in_err-keeps_second.ensures.1 c.plan_at-2.ensures.store
     (c.number-2.ensures.whole b here.lent.second)
 
 pub returns-in_err-number-clause-first_store : goal.returns-in_err-number-clause-first_store
@@ -213,13 +213,13 @@ returns-in_err-number-clause-first_store g c = λ f a b here.
     let e : Event = c.args.event.now in
     let to_first : Brings f a b e a c.in_ok-to_first.to_first =
     c.in_ok-to_first.ensures f a b a here.lent here.lent.first (first_one a b) here.lent.opening.first here.answered in
-    let one : Plans (λ plan. g.G.Guardian.is_for plan c.plan_at.new.guardian) f a b e a c.in_ok-one.one = c.in_ok-one.ensures.planned f a b a here.lent.first to_first in
+    let one : Plans (g.G.Guardian.is_planned c.plan_at.new.guardian) f a b e a c.in_ok-keeps_first.keeps_first = c.in_ok-keeps_first.ensures.planned f a b a here.lent.first to_first in
     let stood = c.plan_at.ensures.same a here.lent.first in
     let old : View = g.G.Guardian.stored c.args.first.now in
     let mid : View = g.G.Guardian.stored c.plan_at.new.guardian in
     let new : View = g.G.Guardian.stored c.carry_out.new.guardian in
     with_fault c.from_residual-in_err-number.result _ (λ fault. StoreLeft f a b e a old new fault) c.from_residual-in_err-number.ensures.1
-    (left_carried f a b a e old (g.G.Guardian.stands c.plan_at.new.guardian) (λ plan. g.G.Guardian.is_for plan c.plan_at.new.guardian) mid new _ c.in_ok-one.one stood c.plan_at.ensures.store one c.in_err-number.ensures.store)
+    (left_carried f a b a e old (g.G.Guardian.stands c.plan_at.new.guardian) (g.G.Guardian.is_planned c.plan_at.new.guardian) mid new _ c.in_ok-keeps_first.keeps_first stood c.plan_at.ensures.store one c.in_err-number.ensures.store)
 
 pub returns-in_err-number-clause-second_store : goal.returns-in_err-number-clause-second_store
 returns-in_err-number-clause-second_store g c = λ f a b here.
@@ -230,16 +230,16 @@ returns-in_err-number-clause-second_store g c = λ f a b here.
     c.number.ensures.number c.number-2.ensures.number some.3.lent.first some.3.lent.second here.lent.first here.lent.second some.4 in
     let to_first : Brings f a b e a c.in_ok-to_first.to_first =
     c.in_ok-to_first.ensures f a b a here.lent here.lent.first (first_one a b) here.lent.opening.first here.answered in
-    let one : Plans (λ plan. g.G.Guardian.is_for plan c.plan_at.new.guardian) f a b e a c.in_ok-one.one = c.in_ok-one.ensures.planned f a b a here.lent.first to_first in
+    let one : Plans (g.G.Guardian.is_planned c.plan_at.new.guardian) f a b e a c.in_ok-keeps_first.keeps_first = c.in_ok-keeps_first.ensures.planned f a b a here.lent.first to_first in
     let stood = c.plan_at.ensures.same a here.lent.first in
     let to_second : Brings f a b e b c.in_ok-to_second.to_second =
     c.in_ok-to_second.ensures f a b b here.lent here.lent.second (second_one a b apart) here.lent.opening.second here.answered in
-    let other : Plans (λ plan. g.G.Guardian.is_for plan c.plan_at-2.new.guardian) f a b e b c.in_ok-other.other = c.in_ok-other.ensures.planned f a b b here.lent.second to_second in
+    let other : Plans (g.G.Guardian.is_planned c.plan_at-2.new.guardian) f a b e b c.in_ok-keeps_second.keeps_second = c.in_ok-keeps_second.ensures.planned f a b b here.lent.second to_second in
     let stood_also = c.plan_at-2.ensures.same b here.lent.second in
     let old : View = g.G.Guardian.stored c.args.second.now in
     let mid : View = g.G.Guardian.stored c.plan_at-2.new.guardian in
-    left_quiet f a b b e old (λ plan. g.G.Guardian.is_for plan c.plan_at-2.new.guardian) mid _ c.in_ok-other.other other
-    (quiet_other (λ plan. g.G.Guardian.is_for plan c.plan_at.new.guardian) (λ plan. g.G.Guardian.is_for plan c.plan_at-2.new.guardian) f a b a b e c.in_ok-one.one c.in_ok-other.other (sym (c.plan_may_fail.ensures a stood) ∙ c.if-plan_may_fail.true) apart one other)
+    left_quiet f a b b e old (g.G.Guardian.is_planned c.plan_at-2.new.guardian) mid _ c.in_ok-keeps_second.keeps_second other
+    (quiet_other (g.G.Guardian.is_planned c.plan_at.new.guardian) (g.G.Guardian.is_planned c.plan_at-2.new.guardian) f a b a b e c.in_ok-keeps_first.keeps_first c.in_ok-keeps_second.keeps_second (sym (c.may_fail_at.ensures a stood) ∙ c.if-may_fail_at.true) apart one other)
     c.plan_at-2.ensures.store
 
 pub returns-in_err-number-2-clause-first_store : goal.returns-in_err-number-2-clause-first_store
@@ -247,12 +247,12 @@ returns-in_err-number-2-clause-first_store g c = λ f a b here.
     let e : Event = c.args.event.now in
     let to_first : Brings f a b e a c.in_ok-to_first.to_first =
     c.in_ok-to_first.ensures f a b a here.lent here.lent.first (first_one a b) here.lent.opening.first here.answered in
-    let one : Plans (λ plan. g.G.Guardian.is_for plan c.plan_at.new.guardian) f a b e a c.in_ok-one.one = c.in_ok-one.ensures.planned f a b a here.lent.first to_first in
+    let one : Plans (g.G.Guardian.is_planned c.plan_at.new.guardian) f a b e a c.in_ok-keeps_first.keeps_first = c.in_ok-keeps_first.ensures.planned f a b a here.lent.first to_first in
     let stood = c.plan_at.ensures.same a here.lent.first in
     let old : View = g.G.Guardian.stored c.args.first.now in
     let mid : View = g.G.Guardian.stored c.plan_at.new.guardian in
-    left_quiet f a b a e old (λ plan. g.G.Guardian.is_for plan c.plan_at.new.guardian) mid _ c.in_ok-one.one one
-    (quiet_first e.step a.number c.in_ok-one.one (sym (c.plan_may_fail.ensures a stood) ∙ c.if-plan_may_fail.false))
+    left_quiet f a b a e old (g.G.Guardian.is_planned c.plan_at.new.guardian) mid _ c.in_ok-keeps_first.keeps_first one
+    (quiet_first e.step a.number c.in_ok-keeps_first.keeps_first (sym (c.may_fail_at.ensures a stood) ∙ c.if-may_fail_at.false))
     c.plan_at.ensures.store
 
 pub returns-in_err-number-2-clause-second_store : goal.returns-in_err-number-2-clause-second_store
@@ -264,25 +264,25 @@ returns-in_err-number-2-clause-second_store g c = λ f a b here.
     c.number.ensures.number c.number-2.ensures.number some.3.lent.first some.3.lent.second here.lent.first here.lent.second some.4 in
     let to_second : Brings f a b e b c.in_ok-to_second.to_second =
     c.in_ok-to_second.ensures f a b b here.lent here.lent.second (second_one a b apart) here.lent.opening.second here.answered in
-    let other : Plans (λ plan. g.G.Guardian.is_for plan c.plan_at-2.new.guardian) f a b e b c.in_ok-other.other = c.in_ok-other.ensures.planned f a b b here.lent.second to_second in
+    let other : Plans (g.G.Guardian.is_planned c.plan_at-2.new.guardian) f a b e b c.in_ok-keeps_second.keeps_second = c.in_ok-keeps_second.ensures.planned f a b b here.lent.second to_second in
     let stood_also = c.plan_at-2.ensures.same b here.lent.second in
     let old : View = g.G.Guardian.stored c.args.second.now in
     let mid : View = g.G.Guardian.stored c.plan_at-2.new.guardian in
-    let new : View = g.G.Guardian.stored c.carry_out-else-plan_may_fail.new.guardian in
+    let new : View = g.G.Guardian.stored c.carry_out-else-may_fail_at.new.guardian in
     with_fault c.from_residual-in_err-number-2.result _ (λ fault. StoreLeft f a b e b old new fault) c.from_residual-in_err-number-2.ensures.1
-    (left_carried f a b b e old (g.G.Guardian.stands c.plan_at-2.new.guardian) (λ plan. g.G.Guardian.is_for plan c.plan_at-2.new.guardian) mid new _ c.in_ok-other.other stood_also c.plan_at-2.ensures.store other c.in_err-number-2.ensures.store)
+    (left_carried f a b b e old (g.G.Guardian.stands c.plan_at-2.new.guardian) (g.G.Guardian.is_planned c.plan_at-2.new.guardian) mid new _ c.in_ok-keeps_second.keeps_second stood_also c.plan_at-2.ensures.store other c.in_err-number-2.ensures.store)
 
 pub returns-in_ok-number-clause-first_store : goal.returns-in_ok-number-clause-first_store
 returns-in_ok-number-clause-first_store g c = λ f a b here.
     let e : Event = c.args.event.now in
     let to_first : Brings f a b e a c.in_ok-to_first.to_first =
     c.in_ok-to_first.ensures f a b a here.lent here.lent.first (first_one a b) here.lent.opening.first here.answered in
-    let one : Plans (λ plan. g.G.Guardian.is_for plan c.plan_at.new.guardian) f a b e a c.in_ok-one.one = c.in_ok-one.ensures.planned f a b a here.lent.first to_first in
+    let one : Plans (g.G.Guardian.is_planned c.plan_at.new.guardian) f a b e a c.in_ok-keeps_first.keeps_first = c.in_ok-keeps_first.ensures.planned f a b a here.lent.first to_first in
     let stood = c.plan_at.ensures.same a here.lent.first in
     let old : View = g.G.Guardian.stored c.args.first.now in
     let mid : View = g.G.Guardian.stored c.plan_at.new.guardian in
     let new : View = g.G.Guardian.stored c.carry_out.new.guardian in
-    left_carried f a b a e old (g.G.Guardian.stands c.plan_at.new.guardian) (λ plan. g.G.Guardian.is_for plan c.plan_at.new.guardian) mid new None c.in_ok-one.one stood c.plan_at.ensures.store one
+    left_carried f a b a e old (g.G.Guardian.stands c.plan_at.new.guardian) (g.G.Guardian.is_planned c.plan_at.new.guardian) mid new None c.in_ok-keeps_first.keeps_first stood c.plan_at.ensures.store one
     c.in_ok-number.ensures.store
 
 pub returns-in_ok-number-clause-second_store : goal.returns-in_ok-number-clause-second_store
@@ -294,17 +294,17 @@ returns-in_ok-number-clause-second_store g c = λ f a b here.
     c.number.ensures.number c.number-2.ensures.number some.3.lent.first some.3.lent.second here.lent.first here.lent.second some.4 in
     let to_first : Brings f a b e a c.in_ok-to_first.to_first =
     c.in_ok-to_first.ensures f a b a here.lent here.lent.first (first_one a b) here.lent.opening.first here.answered in
-    let one : Plans (λ plan. g.G.Guardian.is_for plan c.plan_at.new.guardian) f a b e a c.in_ok-one.one = c.in_ok-one.ensures.planned f a b a here.lent.first to_first in
+    let one : Plans (g.G.Guardian.is_planned c.plan_at.new.guardian) f a b e a c.in_ok-keeps_first.keeps_first = c.in_ok-keeps_first.ensures.planned f a b a here.lent.first to_first in
     let stood = c.plan_at.ensures.same a here.lent.first in
     let to_second : Brings f a b e b c.in_ok-to_second.to_second =
     c.in_ok-to_second.ensures f a b b here.lent here.lent.second (second_one a b apart) here.lent.opening.second here.answered in
-    let other : Plans (λ plan. g.G.Guardian.is_for plan c.plan_at-2.new.guardian) f a b e b c.in_ok-other.other = c.in_ok-other.ensures.planned f a b b here.lent.second to_second in
+    let other : Plans (g.G.Guardian.is_planned c.plan_at-2.new.guardian) f a b e b c.in_ok-keeps_second.keeps_second = c.in_ok-keeps_second.ensures.planned f a b b here.lent.second to_second in
     let stood_also = c.plan_at-2.ensures.same b here.lent.second in
     let old : View = g.G.Guardian.stored c.args.second.now in
     let mid : View = g.G.Guardian.stored c.plan_at-2.new.guardian in
     let new : View = g.G.Guardian.stored c.install.new.guardian in
-    left_quiet f a b b e old (λ plan. g.G.Guardian.is_for plan c.plan_at-2.new.guardian) new None c.in_ok-other.other other
-    (quiet_other (λ plan. g.G.Guardian.is_for plan c.plan_at.new.guardian) (λ plan. g.G.Guardian.is_for plan c.plan_at-2.new.guardian) f a b a b e c.in_ok-one.one c.in_ok-other.other (sym (c.plan_may_fail.ensures a stood) ∙ c.if-plan_may_fail.true) apart one other)
+    left_quiet f a b b e old (g.G.Guardian.is_planned c.plan_at-2.new.guardian) new None c.in_ok-keeps_second.keeps_second other
+    (quiet_other (g.G.Guardian.is_planned c.plan_at.new.guardian) (g.G.Guardian.is_planned c.plan_at-2.new.guardian) f a b a b e c.in_ok-keeps_first.keeps_first c.in_ok-keeps_second.keeps_second (sym (c.may_fail_at.ensures a stood) ∙ c.if-may_fail_at.true) apart one other)
     (stays_then old mid new c.plan_at-2.ensures.store c.install.ensures.store)
 
 pub returns-in_ok-number-2-clause-first_store : goal.returns-in_ok-number-2-clause-first_store
@@ -312,14 +312,14 @@ returns-in_ok-number-2-clause-first_store g c = λ f a b here.
     let e : Event = c.args.event.now in
     let to_first : Brings f a b e a c.in_ok-to_first.to_first =
     c.in_ok-to_first.ensures f a b a here.lent here.lent.first (first_one a b) here.lent.opening.first here.answered in
-    let one : Plans (λ plan. g.G.Guardian.is_for plan c.plan_at.new.guardian) f a b e a c.in_ok-one.one = c.in_ok-one.ensures.planned f a b a here.lent.first to_first in
+    let one : Plans (g.G.Guardian.is_planned c.plan_at.new.guardian) f a b e a c.in_ok-keeps_first.keeps_first = c.in_ok-keeps_first.ensures.planned f a b a here.lent.first to_first in
     let stood = c.plan_at.ensures.same a here.lent.first in
     let old : View = g.G.Guardian.stored c.args.first.now in
     let mid : View = g.G.Guardian.stored c.plan_at.new.guardian in
-    let new : View = g.G.Guardian.stored c.install-else-plan_may_fail.new.guardian in
-    left_quiet f a b a e old (λ plan. g.G.Guardian.is_for plan c.plan_at.new.guardian) new None c.in_ok-one.one one
-    (quiet_first e.step a.number c.in_ok-one.one (sym (c.plan_may_fail.ensures a stood) ∙ c.if-plan_may_fail.false))
-    (stays_then old mid new c.plan_at.ensures.store c.install-else-plan_may_fail.ensures.store)
+    let new : View = g.G.Guardian.stored c.install-else-may_fail_at.new.guardian in
+    left_quiet f a b a e old (g.G.Guardian.is_planned c.plan_at.new.guardian) new None c.in_ok-keeps_first.keeps_first one
+    (quiet_first e.step a.number c.in_ok-keeps_first.keeps_first (sym (c.may_fail_at.ensures a stood) ∙ c.if-may_fail_at.false))
+    (stays_then old mid new c.plan_at.ensures.store c.install-else-may_fail_at.ensures.store)
 
 pub returns-in_ok-number-2-clause-second_store : goal.returns-in_ok-number-2-clause-second_store
 returns-in_ok-number-2-clause-second_store g c = λ f a b here.
@@ -330,12 +330,12 @@ returns-in_ok-number-2-clause-second_store g c = λ f a b here.
     c.number.ensures.number c.number-2.ensures.number some.3.lent.first some.3.lent.second here.lent.first here.lent.second some.4 in
     let to_second : Brings f a b e b c.in_ok-to_second.to_second =
     c.in_ok-to_second.ensures f a b b here.lent here.lent.second (second_one a b apart) here.lent.opening.second here.answered in
-    let other : Plans (λ plan. g.G.Guardian.is_for plan c.plan_at-2.new.guardian) f a b e b c.in_ok-other.other = c.in_ok-other.ensures.planned f a b b here.lent.second to_second in
+    let other : Plans (g.G.Guardian.is_planned c.plan_at-2.new.guardian) f a b e b c.in_ok-keeps_second.keeps_second = c.in_ok-keeps_second.ensures.planned f a b b here.lent.second to_second in
     let stood_also = c.plan_at-2.ensures.same b here.lent.second in
     let old : View = g.G.Guardian.stored c.args.second.now in
     let mid : View = g.G.Guardian.stored c.plan_at-2.new.guardian in
-    let new : View = g.G.Guardian.stored c.carry_out-else-plan_may_fail.new.guardian in
-    left_carried f a b b e old (g.G.Guardian.stands c.plan_at-2.new.guardian) (λ plan. g.G.Guardian.is_for plan c.plan_at-2.new.guardian) mid new None c.in_ok-other.other stood_also c.plan_at-2.ensures.store other
+    let new : View = g.G.Guardian.stored c.carry_out-else-may_fail_at.new.guardian in
+    left_carried f a b b e old (g.G.Guardian.stands c.plan_at-2.new.guardian) (g.G.Guardian.is_planned c.plan_at-2.new.guardian) mid new None c.in_ok-keeps_second.keeps_second stood_also c.plan_at-2.ensures.store other
     c.in_ok-number-2.ensures.store
 
 pub operate-requires-clause-answered : goal.operate-requires-clause-answered
@@ -397,24 +397,25 @@ returns-in_ok-number-clause-done g c = λ f a b here.
     c.number.ensures.number c.number-2.ensures.number some.3.lent.first some.3.lent.second here.lent.first here.lent.second some.4 in
     let to_first : Brings f a b e a c.in_ok-to_first.to_first =
     c.in_ok-to_first.ensures f a b a here.lent here.lent.first (first_one a b) here.lent.opening.first here.answered in
-    let one : Plans (λ plan. g.G.Guardian.is_for plan c.plan_at.new.guardian) f a b e a c.in_ok-one.one = c.in_ok-one.ensures.planned f a b a here.lent.first to_first in
+    let one : Plans (g.G.Guardian.is_planned c.plan_at.new.guardian) f a b e a c.in_ok-keeps_first.keeps_first = c.in_ok-keeps_first.ensures.planned f a b a here.lent.first to_first in
     let stood = c.plan_at.ensures.same a here.lent.first in
     let to_second : Brings f a b e b c.in_ok-to_second.to_second =
     c.in_ok-to_second.ensures f a b b here.lent here.lent.second (second_one a b apart) here.lent.opening.second here.answered in
-    let other : Plans (λ plan. g.G.Guardian.is_for plan c.plan_at-2.new.guardian) f a b e b c.in_ok-other.other = c.in_ok-other.ensures.planned f a b b here.lent.second to_second in
+    let other : Plans (g.G.Guardian.is_planned c.plan_at-2.new.guardian) f a b e b c.in_ok-keeps_second.keeps_second = c.in_ok-keeps_second.ensures.planned f a b b here.lent.second to_second in
     let stood_also = c.plan_at-2.ensures.same b here.lent.second in
     let n = c.in_ok-number.number in
     record {
       forest =
-          left_there (g.R.Forest.stands c.plan_there.new.forest) (g.R.Forest.stands c.install_there.new.forest) (λ plan. g.R.Forest.is_for plan c.plan_there.new.forest) f a b e
-          c.home_of_new-home.result c.crashes_at-life.result n c.in_ok-there.there (home_of_same c.args.named c.home_of_new-home.result (step_is c.event.view_is) c.home_of_new-home.ensures f (c.requires.named.first f here.lent.forest) (c.requires.named.second f here.lent.forest))
+          left_there (g.R.Forest.stands c.plan_there.new.forest) (g.R.Forest.stands c.install_there.new.forest) (g.R.Forest.is_planned c.plan_there.new.forest) f a b e
+          c.home_of_new-home.result c.crashes_at-life.result n (home_of_same c.args.named c.home_of_new-home.result (step_is c.event.view_is) c.home_of_new-home.ensures f (c.requires.named.first f here.lent.forest) (c.requires.named.second f here.lent.forest))
           (c.crashes_at-life.ensures a b here.lent.first here.lent.second) (c.plan_there.ensures.same f here.lent.forest)
-          (c.in_ok-there.ensures.planned f here.lent.forest (lent_two a b, here.answered.answer)) c.install_there.ensures;
+          (c.in_ok-plan_there.ensures.planned f here.lent.forest (lent_two a b, here.answered.answer)) c.install_there.ensures.kept
+          c.install_there.ensures.same;
       first =
-          left_at (g.G.Guardian.stands c.plan_at.new.guardian) (g.G.Guardian.stands c.carry_out.new.guardian) (λ plan. g.G.Guardian.is_for plan c.plan_at.new.guardian) f a b a e n c.in_ok-one.one here.lent.opening.first
+          left_at (g.G.Guardian.stands c.plan_at.new.guardian) (g.G.Guardian.stands c.carry_out.new.guardian) (g.G.Guardian.is_planned c.plan_at.new.guardian) f a b a e n c.in_ok-keeps_first.keeps_first here.lent.opening.first
           (first_lent a b) stood one c.in_ok-number.ensures.kept;
       second =
-          left_at (g.G.Guardian.stands c.plan_at-2.new.guardian) (g.G.Guardian.stands c.install.new.guardian) (λ plan. g.G.Guardian.is_for plan c.plan_at-2.new.guardian) f a b b e n c.in_ok-other.other here.lent.opening.second
+          left_at (g.G.Guardian.stands c.plan_at-2.new.guardian) (g.G.Guardian.stands c.install.new.guardian) (g.G.Guardian.is_planned c.plan_at-2.new.guardian) f a b b e n c.in_ok-keeps_second.keeps_second here.lent.opening.second
           (second_lent a b apart) stood_also other c.install.ensures.kept;
     }
 
@@ -427,23 +428,24 @@ returns-in_ok-number-2-clause-done g c = λ f a b here.
     c.number.ensures.number c.number-2.ensures.number some.3.lent.first some.3.lent.second here.lent.first here.lent.second some.4 in
     let to_first : Brings f a b e a c.in_ok-to_first.to_first =
     c.in_ok-to_first.ensures f a b a here.lent here.lent.first (first_one a b) here.lent.opening.first here.answered in
-    let one : Plans (λ plan. g.G.Guardian.is_for plan c.plan_at.new.guardian) f a b e a c.in_ok-one.one = c.in_ok-one.ensures.planned f a b a here.lent.first to_first in
+    let one : Plans (g.G.Guardian.is_planned c.plan_at.new.guardian) f a b e a c.in_ok-keeps_first.keeps_first = c.in_ok-keeps_first.ensures.planned f a b a here.lent.first to_first in
     let stood = c.plan_at.ensures.same a here.lent.first in
     let to_second : Brings f a b e b c.in_ok-to_second.to_second =
     c.in_ok-to_second.ensures f a b b here.lent here.lent.second (second_one a b apart) here.lent.opening.second here.answered in
-    let other : Plans (λ plan. g.G.Guardian.is_for plan c.plan_at-2.new.guardian) f a b e b c.in_ok-other.other = c.in_ok-other.ensures.planned f a b b here.lent.second to_second in
+    let other : Plans (g.G.Guardian.is_planned c.plan_at-2.new.guardian) f a b e b c.in_ok-keeps_second.keeps_second = c.in_ok-keeps_second.ensures.planned f a b b here.lent.second to_second in
     let stood_also = c.plan_at-2.ensures.same b here.lent.second in
     let n = c.in_ok-number-2.number in
     record {
       forest =
-          left_there (g.R.Forest.stands c.plan_there.new.forest) (g.R.Forest.stands c.install_there-else-plan_may_fail.new.forest) (λ plan. g.R.Forest.is_for plan c.plan_there.new.forest) f a b e
-          c.home_of_new-home.result c.crashes_at-life.result n c.in_ok-there.there (home_of_same c.args.named c.home_of_new-home.result (step_is c.event.view_is) c.home_of_new-home.ensures f (c.requires.named.first f here.lent.forest) (c.requires.named.second f here.lent.forest))
+          left_there (g.R.Forest.stands c.plan_there.new.forest) (g.R.Forest.stands c.install_there-else-may_fail_at.new.forest) (g.R.Forest.is_planned c.plan_there.new.forest) f a b e
+          c.home_of_new-home.result c.crashes_at-life.result n (home_of_same c.args.named c.home_of_new-home.result (step_is c.event.view_is) c.home_of_new-home.ensures f (c.requires.named.first f here.lent.forest) (c.requires.named.second f here.lent.forest))
           (c.crashes_at-life.ensures a b here.lent.first here.lent.second) (c.plan_there.ensures.same f here.lent.forest)
-          (c.in_ok-there.ensures.planned f here.lent.forest (lent_two a b, here.answered.answer)) c.install_there-else-plan_may_fail.ensures;
+          (c.in_ok-plan_there.ensures.planned f here.lent.forest (lent_two a b, here.answered.answer)) c.install_there-else-may_fail_at.ensures.kept
+          c.install_there-else-may_fail_at.ensures.same;
       first =
-          left_at (g.G.Guardian.stands c.plan_at.new.guardian) (g.G.Guardian.stands c.install-else-plan_may_fail.new.guardian) (λ plan. g.G.Guardian.is_for plan c.plan_at.new.guardian) f a b a e n c.in_ok-one.one here.lent.opening.first
-          (first_lent a b) stood one c.install-else-plan_may_fail.ensures.kept;
+          left_at (g.G.Guardian.stands c.plan_at.new.guardian) (g.G.Guardian.stands c.install-else-may_fail_at.new.guardian) (g.G.Guardian.is_planned c.plan_at.new.guardian) f a b a e n c.in_ok-keeps_first.keeps_first here.lent.opening.first
+          (first_lent a b) stood one c.install-else-may_fail_at.ensures.kept;
       second =
-          left_at (g.G.Guardian.stands c.plan_at-2.new.guardian) (g.G.Guardian.stands c.carry_out-else-plan_may_fail.new.guardian) (λ plan. g.G.Guardian.is_for plan c.plan_at-2.new.guardian) f a b b e n c.in_ok-other.other here.lent.opening.second
+          left_at (g.G.Guardian.stands c.plan_at-2.new.guardian) (g.G.Guardian.stands c.carry_out-else-may_fail_at.new.guardian) (g.G.Guardian.is_planned c.plan_at-2.new.guardian) f a b b e n c.in_ok-keeps_second.keeps_second here.lent.opening.second
           (second_lent a b apart) stood_also other c.in_ok-number-2.ensures.kept;
     }

@@ -9,7 +9,7 @@ pub answer_two-requires : goal.answer_two-requires
 answer_two-requires g c =
     let past = c.args._history.now in
     let gs = c.args.guardians.now in
-    let world = c.requires.1.1.1.1.0 in
+    let world = c.requires.1.1.0 in
     let stands = g.G.Guardian.stands in
     let x = stands_at stands g.opening past gs c.args.low c.in-Some.first.now world c.in-Some.ensures.0 c.in-Some.ensures.2 in
     let y = stands_at stands g.opening past gs c.args.high c.in-Some-at.second.now world c.in-Some-at.ensures.0 c.in-Some-at.ensures.2 in (
@@ -23,7 +23,7 @@ pub answer_two-requires-in-None-at : goal.answer_two-requires-in-None-at
 answer_two-requires-in-None-at g c =
     let past = c.args._history.now in
     let gs = c.args.guardians.now in
-    let world = c.requires.1.1.1.1.0 in
+    let world = c.requires.1.1.0 in
     let stands = g.G.Guardian.stands in
     let x = stands_at stands g.opening past gs c.args.low c.in-Some.first.now world c.in-Some.ensures.0 c.in-Some.ensures.2 in (
       forest_of g.opening past,
@@ -36,7 +36,7 @@ pub answer_two-requires-in-Some-at-2 : goal.answer_two-requires-in-Some-at-2
 answer_two-requires-in-Some-at-2 g c =
     let past = c.args._history.now in
     let gs = c.args.guardians.now in
-    let world = c.requires.1.1.1.1.0 in
+    let world = c.requires.1.1.0 in
     let stands = g.G.Guardian.stands in
     let y = stands_at stands g.opening past gs c.args.high c.in-Some-at-2.second.now world c.in-Some-at-2.ensures.0 c.in-Some-at-2.ensures.2 in (
       forest_of g.opening past,
@@ -49,8 +49,8 @@ pub returns-in-Some-at : goal.returns-in-Some-at
 returns-in-Some-at g c =
     let past = c.args._history.now in
     let gs = c.args.guardians.now in
-    let world = c.requires.1.1.1.1.0 in
-    let names = c.requires.1.1.1.1.1 in
+    let world = c.requires.1.1.0 in
+    let names = c.requires.1.1.1 in
     let stands = g.G.Guardian.stands in
     let a = standing g.opening past c.args.low in
     let b = standing g.opening past c.args.high in
@@ -66,8 +66,8 @@ pub returns-in-None-at : goal.returns-in-None-at
 returns-in-None-at g c =
     let past = c.args._history.now in
     let gs = c.args.guardians.now in
-    let world = c.requires.1.1.1.1.0 in
-    let names = c.requires.1.1.1.1.1 in
+    let world = c.requires.1.1.0 in
+    let names = c.requires.1.1.1 in
     let stands = g.G.Guardian.stands in
     let a = standing g.opening past c.args.low in
     let x = stands_at stands g.opening past gs c.args.low c.in-Some.first.now world c.in-Some.ensures.0 c.in-Some.ensures.2 in
@@ -82,8 +82,8 @@ pub returns-in-Some-at-2 : goal.returns-in-Some-at-2
 returns-in-Some-at-2 g c =
     let past = c.args._history.now in
     let gs = c.args.guardians.now in
-    let world = c.requires.1.1.1.1.0 in
-    let names = c.requires.1.1.1.1.1 in
+    let world = c.requires.1.1.0 in
+    let names = c.requires.1.1.1 in
     let stands = g.G.Guardian.stands in
     let b = standing g.opening past c.args.high in
     let y = stands_at stands g.opening past gs c.args.high c.in-Some-at-2.second.now world c.in-Some-at-2.ensures.0 c.in-Some-at-2.ensures.2 in
@@ -97,8 +97,8 @@ returns-in-Some-at-2 g c =
 pub returns-in-None-at-2 : goal.returns-in-None-at-2
 returns-in-None-at-2 g c =
     let past = c.args._history.now in
-    let world = c.requires.1.1.1.1.0 in
-    let names = c.requires.1.1.1.1.1 in
+    let world = c.requires.1.1.0 in
+    let names = c.requires.1.1.1 in
     let P : Answer → Type 0 = λ a. IfOk c.answer_alone.result (λ answer. answer ≡ a) in
     subst P (answers_alone past g.opening c.args.step.now c.args.low c.args.high world.is_run names
     (subst (λ n. IsOut n c.args.low) world.count c.in-None.ensures) (subst (λ n. IsOut n c.args.high) world.count c.in-None-at-2.ensures))

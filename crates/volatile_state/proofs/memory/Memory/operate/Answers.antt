@@ -8,7 +8,7 @@ use Rattle.volatile_state.proofs.Sound.{inside, sound_same}
 use Rattle.volatile_state.proofs.memory.Memory.operate.Goals as goal
 
 pub unreachable-requires : goal.unreachable-requires
-unreachable-requires g c = 
+unreachable-requires g c =
     no_operation c.event.inside.step.now (ap is_operation (sym (step_is c.event.view_is)) ∙ c.requires.operation) c.in_default.not-Op
 
 pub grant-requires : goal.grant-requires

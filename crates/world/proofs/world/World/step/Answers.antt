@@ -27,7 +27,7 @@ step-requires g c = λ κs within.
     subst (λ o. IsWorld (λ x s. IsWhole g.S.Stable.seen x s) stored (λ f. StandsIn registry f) o past c.self.inside.guardians.items) c.self.invariant.forest.opening c.self.invariant in
     let lent = subst (λ gs. IsWorld (λ x s. IsWhole g.S.Stable.seen x s) stored (λ f. StandsIn registry f) (opening_in registry.opening) past gs) (sym c.deref_mut.ensures.value) world in
     let store = ⊑_meet _ _ _ within (⊑_static _) in
-    (⊑_static _, (⊑_meet _ _ _ store store, (⊑_static _, (⊑_static _, lent))))
+    (⊑_static _, (⊑_meet _ _ _ store store, lent))
 
 pub returns-clause-orphans : goal.returns-clause-orphans
 returns-clause-orphans g c =
