@@ -15,7 +15,7 @@ ghost use Rattle.locked_run.specs.Acting.{StoreAfter, kept_outcome};
 ghost use Rattle.locked_run.specs.Parts.{AreLocked};
 
 use crate::shared::{Deed, Drawing, OfRun, Shared};
-use layer_contracts::{Fault, Forest, Guardian};
+use layer_contracts::{EventRef, Fault, Forest, Guardian};
 use one_run::Part;
 use run_model::{Answer, Event, Step};
 use std::alloc::Global;
@@ -67,16 +67,8 @@ pub(crate) fn keep_at_two<K: OfRun, T: Deed, R: Forest, G: Guardian>(
         part,
         of: PhantomData,
     };
-    let kept = keep_two(
-        alloc,
-        registry,
-        one,
-        other,
-        named,
-        step,
-        answer,
-        &mut drawing,
-    );
+    let event = EventRef { step, answer };
+    let kept = keep_two(alloc, registry, one, other, named, &event, &mut drawing);
     let Drawing {
         shared: _,
         part,
@@ -127,7 +119,8 @@ pub(crate) fn keep_at_one<K: OfRun, T: Deed, R: Forest, G: Guardian>(
         part,
         of: PhantomData,
     };
-    let kept = keep_one(alloc, registry, guardian, named, step, answer, &mut drawing);
+    let event = EventRef { step, answer };
+    let kept = keep_one(alloc, registry, guardian, named, &event, &mut drawing);
     let Drawing {
         shared: _,
         part,

@@ -22,7 +22,7 @@ use crate::naming::is_out;
 use crate::shared::{Answered, Deed, Drawing, OfRun, Shared};
 use crate::stepping::receipted;
 use crate::stored::StoredHistory;
-use layer_contracts::{Draw, Fault, Guardian, Message};
+use layer_contracts::{Draw, EventRef, Fault, Guardian, Message};
 use one_run::Part;
 use run_model::{Answer, Event, Names, Refusal, Step};
 use std::alloc::{AllocError, Global};
@@ -119,11 +119,12 @@ fn keep_by_itself<G: Guardian, D: Draw>(
 {
     // Its store is that of its history.
     guardian.number();
+    let event = EventRef { step, answer };
     if is_operation(step) {
-        return Ok(guardian.operate(step, answer, stamp)?);
+        return Ok(guardian.operate(&event, stamp)?);
     }
-    let plan = guardian.plan(step, answer, no_message(alloc))?;
-    guardian.carry_out(plan, step, answer, stamp)
+    guardian.plan(&event, no_message(alloc))?;
+    guardian.carry_out(&event, stamp)
 }
 
 /// Keeps an event of a guardian by itself, which has this number, and adds it to the run. After an error

@@ -30,7 +30,7 @@ returns-clause-store g c = λ s here next.
     let nothing = c.no_message.ensures.carried in
     let owed = subst (λ (m : Carried). IsOwed s.opening s.number (stamped 0 (record { event = e; carried = m })) s.past c.args.step.now) (sym nothing) next.owed in
     let agrees = subst (λ (m : Carried). Agrees s.opening s.number (stamped 0 (record { event = e; carried = m })) s.past) (sym nothing) next.agrees in
-    let planned = subst (λ (m : Carried). g.G.Guardian.is_for c.in_ok-plan.plan c.plan.new.self s (record { event = e; carried = m })) nothing (c.in_ok-plan.ensures.planned s here owed agrees) in
+    let planned = subst (λ (m : Carried). g.G.Guardian.is_planned c.plan.new.self s (record { event = e; carried = m })) nothing (c.in_ok-plan.ensures.planned s here owed agrees) in
     let left = c.carry_out.ensures.store s news (c.plan.ensures.same s here) planned refl in
     leaves_from (asks_store s.number (stamped 0 news) old.content) (after_event s.opening s.number (stamped 0 news) s.past old.content) old mid new (fault_in c.carry_out.result) c.plan.ensures.store
     (subst (λ v. Leaves (asks_store s.number (stamped 0 news) v) (after_event s.opening s.number (stamped 0 news) s.past v) mid new (fault_in c.carry_out.result)) c.plan.ensures.store.content left)
