@@ -8,7 +8,7 @@ use Rattle.script_model.specs.declared.fault.ScriptFault.{ScriptFault}
 use Rattle.script_model.specs.Reading.{Outcome, Read, and_then, step, each}
 use Rattle.script_model.specs.Scopes.{Scope}
 use Rattle.script_model.specs.ScriptReading.{parameter, parameters_from, Guardians, add_guardian, guardians_from}
-use Rattle.script.proofs.Asked.{one_more}
+use Rattle.script_parts.proofs.Asked.{one_more}
 
 drop_at : (vs : List Value) (i : ℕ) (v : Value) → i < length vs → v ≡ get_or vs i v → drop i vs ≡ v ∷ drop (i + 1) vs
 drop_at vs i v less is = drop_more vs i v less ∙ ap (λ w. w ∷ drop (i + 1) vs) (sym is)

@@ -1,25 +1,18 @@
 -- Each handler of a script that was read stands in a guardian of a number from 1 on.
-use Rattle.std.proofs.Common.{◌≡◌, ◌≤◌, ℕ, zero, suc, List, [], ◌∷◌, ◌++◌, length, get_or, Contains, Ok, Err, codes, decimal, not, nat_lt, refl, sym, ap, subst, arith}
+use Rattle.std.proofs.Common.{◌≡◌, ◌≤◌, ℕ, zero, suc, List, [], ◌∷◌, ◌++◌, length, get_or, Contains, Ok, codes, decimal, not, nat_lt, sym, ap, subst, arith}
 use Rattle.std.specs.List.{AllByRecursion}
 use Rattle.serde_json.specs.Data.{Data, Items, no_items, item, Members, no_members, member}
 use Rattle.values.specs.declared.content.Content.{Content}
 use Rattle.script_model.specs.declared.fault.FaultKind.TheVariants as is
 use Rattle.script_model.specs.declared.checked.Handler.{Handler}
 use Rattle.script_model.specs.declared.checked.Checked.{Checked}
-use Rattle.script_model.specs.Reading.{Outcome, and_then, step, ask}
+use Rattle.script_model.specs.Reading.{step, ask}
 use Rattle.script_model.specs.Shapes.{the_object, the_two, the_three, the_list, are_named}
 use Rattle.script_model.specs.Signatures.{max_handlers, gives_in}
 use Rattle.script_model.specs.StatementReading.{body_in}
 use Rattle.script_model.specs.ScriptReading.{Site, context_at, may_lack_value, parameters, the_gives, handler, handlers_from, handlers, objects, Guardians, guardian, add_guardian, guardians_from, guardians_in, clients, script}
 use Rattle.limits.specs.Limits.{max_guardians}
-
--- what comes after a part that was read
-pub and_then_ok : {A B : Type 0} (r : Outcome A) (f : A → Outcome B) (b : B) → and_then r f ≡ Ok b → (a : A) × (r ≡ Ok a) × (f a ≡ Ok b)
-and_then_ok (Ok a) f b e = (a, refl, e)
-and_then_ok (Err x) f b e = cc
-
-pub ok_is : {A : Type 0} (a b : A) → ◌≡◌ {A = Outcome A} (Ok a) (Ok b) → a ≡ b
-ok_is a b e = cc
+use Rattle.script_parts.proofs.Asked.{and_then_ok, ok_is}
 
 abbrev AreNumbered : List Handler → Type 0
 AreNumbered hs = AllByRecursion (λ h. 1 ≤ h.guardian) hs

@@ -11,7 +11,7 @@ use Rattle.serde_json.proofs.Views.{Entry}
 use Rattle.values.specs.Words.{same_bytes}
 use Rattle.script_model.specs.Signatures.{handlers_in, place_among, handlers_before, max_handlers}
 use Rattle.script.specs.Found.{found_in}
-use Rattle.script.proofs.Looked.{get_item-found, get_item-lost}
+use Rattle.script_parts.proofs.Looked.{get_item-found, get_item-lost}
 
 -- ---- the place of a name
 

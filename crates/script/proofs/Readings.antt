@@ -21,8 +21,7 @@ use Rattle.script_model.specs.Signatures.{max_handlers, gives_in}
 use Rattle.script_model.specs.StatementReading.{body_in, guardian_index, guardian_numbered}
 use Rattle.script_model.specs.ScriptReading.{Site, context_at, may_lack_value, parameters, the_gives, kind_given, handler, objects_of, client, clients, guardians_in, Guardians, script}
 use Rattle.limits.specs.Limits.{max_guardians}
-use Rattle.script.proofs.Asked.{ask_true, need_some}
-use Rattle.script.proofs.Guardians.{and_then_ok, ok_is}
+use Rattle.script_parts.proofs.Asked.{and_then_ok, ask_true, need_some, ok_is}
 
 -- ---- handlers
 

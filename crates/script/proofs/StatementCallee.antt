@@ -10,7 +10,7 @@ use Rattle.script_model.specs.Shapes.{int_of, three_items}
 use Rattle.script_model.specs.Signatures.{handler_found}
 use Rattle.script_model.specs.StatementReading.{guardian_index, callee}
 use Rattle.script.specs.Found.{found_in}
-use Rattle.script.proofs.Items.{three_none}
+use Rattle.script_parts.proofs.Items.{three_none}
 
 -- the same, by the number of the guardian and the name of the handler
 abbrev pub called : Items → Data → Data → Option Data

@@ -13,7 +13,7 @@ use Rattle.script_model.specs.Shapes.{the_string, the_triple}
 use Rattle.script_model.specs.Signatures.{handler_found, handler_number, handler_gives, sort_given}
 use Rattle.script_model.specs.StatementReading.{Arguments, CallParts, guardian_numbered, arguments_in, call_sorted}
 use Rattle.script.specs.Found.{found_in}
-use Rattle.script.proofs.Pairs.{some_pair}
+use Rattle.script_parts.proofs.Pairs.{some_pair}
 
 abbrev Parts : Type 0
 Parts = ℕ × Data × Arguments

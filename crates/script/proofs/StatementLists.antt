@@ -18,7 +18,7 @@ use Rattle.script_model.specs.Scopes.{Scope}
 use Rattle.script_model.specs.Shapes.{the_array}
 use Rattle.script_model.specs.Signatures.{wanted_kind, takes_count}
 use Rattle.script_model.specs.StatementReading.{Body, BodyReading, Context, Arguments, with_argument, argument_in, arguments_from, arguments_in, statement, statements}
-use Rattle.script.proofs.Asked.{one_more}
+use Rattle.script_parts.proofs.Asked.{one_more}
 
 pub items_at : (vs : List Value) (i : ℕ) (v : Value) → i < length vs → v ≡ get_or vs i v → items_view (drop i vs) ≡ item (view v) (items_view (drop (i + 1) vs))
 items_at vs i v h is = ap items_view (drop_more vs i v h ∙ ap (λ w. w ∷ drop (i + 1) vs) (sym is))

@@ -2,7 +2,7 @@
 use Rattle.std.proofs.Common.{◌≡◌, ◌≤◌, List, [], ◌∷◌, ◌++◌, length, length-append, sym, ap, ◌∙◌, append_assoc, arith}
 use Rattle.script_model.specs.Scopes.{Bound, Scope}
 use Rattle.script.specs.Contexts.{Extends}
-use Rattle.script.proofs.ScopeLemmas.{same_end}
+use Rattle.script_parts.proofs.ScopeLemmas.{same_end}
 
 pub extends_same : (old new : Scope) → new ≡ old → Extends old new
 extends_same old new same = ([], same)

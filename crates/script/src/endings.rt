@@ -3,8 +3,8 @@ ghost use Rattle.serde_json.specs.Find.{get_member};
 ghost use Rattle.serde_json.specs.View.{view, members_view};
 ghost use Rattle.script_model.specs.ScriptReading as spec;
 
-use crate::shapes::member;
 use script_model::Gives;
+use script_parts::shapes::member;
 use serde_json::{Map, Value as Json};
 
 fn has(members: &Map<String, Json>, name: &str) -> bool

@@ -3,17 +3,10 @@
 //! One walk goes over the document in its order and builds the checked script on its way; it ends at the first fault.
 #![tactic(auto)]
 
-mod contents;
 mod documents;
 mod endings;
-mod expressions;
-mod names;
-mod operations;
-mod place;
 mod reader;
 mod recursion;
-mod scope;
-mod shapes;
 mod signatures;
 mod statements;
 

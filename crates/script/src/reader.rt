@@ -5,9 +5,9 @@ ghost use Rattle.script_model.specs.Reaching.{Fits, IsFirstFault};
 ghost use Rattle.script_model.specs.Resolved.{IsResolved};
 
 use crate::documents::script;
-use crate::place::Place;
 use crate::recursion::ask_endings;
 use script_model::{Checked, FaultKind, ScriptFault};
+use script_parts::Place;
 use serde_json::Value as Json;
 use std::alloc::Global;
 

@@ -4,8 +4,8 @@ ghost use Rattle.script_model.specs.Reaching.{called, called_by, Reaches, handle
 ghost use Rattle.script_model.specs.declared.checked.Handler.{Handler};
 ghost use Rattle.script.specs.Marks.{marked_all, called_in_arm, called_in_arms, call_rows, rows_of, AddsRow, Spreads, IsAsked};
 
-use crate::place::Place;
 use script_model::{Arm, Checked, FaultKind, Handler, ScriptFault, Statement};
+use script_parts::Place;
 use std::alloc::{AllocError, Global};
 
 /// Marks the handler of this number.

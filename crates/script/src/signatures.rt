@@ -6,9 +6,9 @@ ghost use Rattle.serde_json.specs.Events.{members_len};
 ghost use Rattle.limits.specs.Limits.{max_guardians};
 ghost use Rattle.script.specs.Found.{found_in};
 
-use crate::operations::sort_of_kind;
-use crate::shapes::{kind_in, kind_named, member};
 use script_model::{Gives, Sort};
+use script_parts::operations::sort_of_kind;
+use script_parts::shapes::{kind_in, kind_named, member};
 use serde_json::{Map, Value as Json};
 use std::alloc::{AllocError, Global};
 use std::marker::Model;

@@ -8,23 +8,22 @@ ghost use Rattle.script_model.specs.Signatures.{sort_given, wanted_kind};
 ghost use Rattle.script_model.specs.Shapes.{has_only};
 ghost use Rattle.script_model.specs.StatementReading as spec;
 ghost use Rattle.script_model.specs.StatementReading.{body_at};
-ghost use Rattle.script.specs.Places.{pointer, AnswersBy};
-ghost use Rattle.script.specs.Scoping.{variable_of};
+ghost use Rattle.script_parts.specs.Places.{pointer, AnswersBy};
+ghost use Rattle.script_parts.specs.Scoping.{variable_of};
 ghost use Rattle.script.specs.Contexts.{context_of, Extends, AnswersWith, call_of, arguments_of};
 
-use crate::expressions::{agree, condition, expr_of_kind, sort_of, value_expr};
-use crate::operations::{op_gives_nothing, operation, sort_of_kind};
-use crate::place::Place;
-use crate::scope::{Scope, Variable};
-use crate::shapes::{
-    array, has_only, int, list, member, object, pair, string, triple, two_members,
-};
 use crate::signatures::{Handlers, handler_gives, sort_given, takes_count, wanted_kind};
 use limits::MAX_ARMS;
 use script_model::{
     Arm, Binding, Expr, FaultKind, Gives, HandlerCall, IntExpr, ObjectCall, ScriptFault, Sort,
     Statement, TextExpr,
 };
+use script_parts::expressions::{agree, condition, expr_of_kind, sort_of, value_expr};
+use script_parts::operations::{op_gives_nothing, operation, sort_of_kind};
+use script_parts::shapes::{
+    array, has_only, int, list, member, object, pair, string, triple, two_members,
+};
+use script_parts::{Place, Scope, Variable};
 use serde_json::{Map, Value as Json};
 use sqlite_items::Items;
 use std::alloc::Global;

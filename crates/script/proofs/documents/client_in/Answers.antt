@@ -9,7 +9,7 @@ use Rattle.script_model.specs.StatementReading.{body_in, guardian_numbered}
 use Rattle.script_model.specs.ScriptReading.{Site, context_at}
 use Rattle.script.specs.Contexts.{context_of}
 use Rattle.script.specs.Handling.{documents_of}
-use Rattle.script.specs.Places.{pointer}
+use Rattle.script_parts.specs.Places.{pointer}
 use Rattle.script.proofs.Readings.{ClientBefore, client_lost, client_stop, client_read, guardian_within}
 use Rattle.script.proofs.documents.client_in.Goals as goal
 

@@ -4,7 +4,7 @@ use Rattle.serde_json.specs.View.{view}
 use Rattle.script_model.specs.Reading.{and_then, each}
 use Rattle.script_model.specs.ScriptReading.{client}
 use Rattle.script.specs.Handling.{documents_of}
-use Rattle.script.specs.Places.{pointer}
+use Rattle.script_parts.specs.Places.{pointer}
 use Rattle.script.proofs.Elements.{each_push, each_stop}
 use Rattle.script.proofs.documents.clients_in.Goals as goal
 

@@ -3,7 +3,7 @@ use Rattle.serde_json.specs.View.{items_view}
 use Rattle.script_model.specs.Reading.{and_then, each}
 use Rattle.script_model.specs.ScriptReading.{client}
 use Rattle.script.specs.Handling.{documents_of}
-use Rattle.script.specs.Places.{pointer}
+use Rattle.script_parts.specs.Places.{pointer}
 use Rattle.script.proofs.documents.clients_in.Given as goal
 
 -- the whole is what was read and what is left

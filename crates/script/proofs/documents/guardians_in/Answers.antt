@@ -3,7 +3,7 @@ use Rattle.std.proofs.lemmas.Result.{err_from_is_err_and}
 use Rattle.serde_json.specs.View.{view, items_view}
 use Rattle.script_model.specs.ScriptReading.{Guardians, add_guardian, guardians_from}
 use Rattle.script.specs.Handling.{documents_of}
-use Rattle.script.specs.Places.{pointer}
+use Rattle.script_parts.specs.Places.{pointer}
 use Rattle.script.specs.Sites.{guardians_of}
 use Rattle.script.proofs.Elements.{guardians_more, guardians_stop, guardians_end}
 use Rattle.script.proofs.documents.guardians_in.Goals as goal

@@ -2,7 +2,7 @@ use Rattle.std.proofs.Common.{◌≡◌, [], drop}
 use Rattle.serde_json.specs.View.{items_view}
 use Rattle.script_model.specs.ScriptReading.{guardians_from}
 use Rattle.script.specs.Handling.{documents_of}
-use Rattle.script.specs.Places.{pointer}
+use Rattle.script_parts.specs.Places.{pointer}
 use Rattle.script.specs.Sites.{guardians_of}
 use Rattle.script.proofs.documents.guardians_in.Given as goal
 

@@ -2,7 +2,7 @@ use Rattle.std.proofs.Common.{◌≡◌, ◌++◌, Ok, drop}
 use Rattle.serde_json.specs.View.{items_view}
 use Rattle.script_model.specs.Reading.{and_then, each}
 use Rattle.script_model.specs.ContentReading.{content}
-use Rattle.script.specs.Places.{pointer}
+use Rattle.script_parts.specs.Places.{pointer}
 use Rattle.script.proofs.documents.objects_in.Given as goal
 
 -- the whole is what was read and what is left

@@ -3,7 +3,7 @@ use Rattle.std.proofs.lemmas.Result.{err_from_is_err_and}
 use Rattle.serde_json.specs.View.{view}
 use Rattle.script_model.specs.Reading.{and_then}
 use Rattle.script_model.specs.ScriptReading.{parameter, parameters_from}
-use Rattle.script.specs.Places.{pointer}
+use Rattle.script_parts.specs.Places.{pointer}
 use Rattle.script.proofs.Elements.{parameters_stop}
 use Rattle.script.proofs.documents.parameters.Goals as goal
 

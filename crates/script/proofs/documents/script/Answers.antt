@@ -4,7 +4,7 @@ use Rattle.serde_json.specs.View.{view, items_view}
 use Rattle.script_model.specs.Shapes.{the_list}
 use Rattle.script_model.specs.ScriptReading.{clients, guardians_in}
 use Rattle.limits.specs.Limits.{max_guardians}
-use Rattle.script.specs.Places.{pointer}
+use Rattle.script_parts.specs.Places.{pointer}
 use Rattle.script.specs.Sites.{guardians_of}
 use Rattle.script.proofs.Readings.{ScriptBefore, script_stop, script_read, list_within}
 use Rattle.script.proofs.documents.script.Goals as goal

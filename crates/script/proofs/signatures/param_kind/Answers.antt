@@ -1,7 +1,7 @@
 use Rattle.std.proofs.Common.{ap, ◌∙◌, option_and_then, arith}
 use Rattle.serde_json.specs.View.{items_view}
 use Rattle.script_model.specs.Shapes.{two_items, kind_in}
-use Rattle.script.proofs.Looked.{two_items-few, two_items-many}
+use Rattle.script.proofs.Wanted.{two_items-few, two_items-many}
 use Rattle.script.proofs.signatures.param_kind.Goals as goal
 
 pub returns-in_default : goal.returns-in_default

@@ -1,5 +1,5 @@
 use Rattle.serde_json.specs.View.{view}
-use Rattle.script.proofs.Looked.{takes_count-params}
+use Rattle.script.proofs.Wanted.{takes_count-params}
 use Rattle.script.proofs.signatures.takes_count.Goals as goal
 
 pub returns-in-Some : goal.returns-in-Some

@@ -1,7 +1,7 @@
 use Rattle.std.proofs.Common.{Some, refl, ap, ◌∙◌}
 use Rattle.std.proofs.lemmas.Option.{slice_get_past, slice_get_read}
 use Rattle.serde_json.specs.View.{view, items_view}
-use Rattle.script.proofs.Looked.{wanted_kind-found, wanted_kind-lost}
+use Rattle.script.proofs.Wanted.{wanted_kind-found, wanted_kind-lost}
 use Rattle.script.proofs.signatures.wanted_kind.Goals as goal
 
 pub returns-in_err-get : goal.returns-in_err-get

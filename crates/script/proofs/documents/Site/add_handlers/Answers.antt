@@ -6,7 +6,7 @@ use Rattle.script_model.specs.declared.fault.FaultKind.TheVariants as is
 use Rattle.script_model.specs.declared.checked.Handler.{Handler}
 use Rattle.script_model.specs.Reading.{and_then, ask, step}
 use Rattle.script_model.specs.ScriptReading.{handler, handlers_from}
-use Rattle.script.specs.Places.{pointer}
+use Rattle.script_parts.specs.Places.{pointer}
 use Rattle.script.specs.Sites.{site_of}
 use Rattle.script.proofs.Listed.{handlers_more, handlers_stop, handlers_at}
 use Rattle.script.proofs.documents.Site.add_handlers.Goals as goal

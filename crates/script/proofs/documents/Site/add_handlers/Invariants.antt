@@ -3,7 +3,7 @@ use Rattle.serde_json.specs.View.{members_view}
 use Rattle.script_model.specs.declared.checked.Handler.{Handler}
 use Rattle.script_model.specs.Reading.{and_then}
 use Rattle.script_model.specs.ScriptReading.{handlers_from}
-use Rattle.script.specs.Places.{pointer}
+use Rattle.script_parts.specs.Places.{pointer}
 use Rattle.script.specs.Sites.{site_of}
 use Rattle.script.proofs.documents.Site.add_handlers.Given as goal
 

@@ -6,7 +6,7 @@ use Rattle.script_model.specs.declared.checked.Handler.{Handler}
 use Rattle.script_model.specs.Reading.{ask, need, step}
 use Rattle.script_model.specs.StatementReading.{body_in}
 use Rattle.script_model.specs.ScriptReading.{may_lack_value, parameters}
-use Rattle.script.specs.Places.{pointer}
+use Rattle.script_parts.specs.Places.{pointer}
 use Rattle.script.specs.Sites.{site_of}
 use Rattle.script.proofs.Readings.{HandlerBefore, handler_flow, handler_stop, handler_read}
 use Rattle.script.proofs.documents.Site.handler.Goals as goal

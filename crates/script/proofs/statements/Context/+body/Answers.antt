@@ -2,7 +2,7 @@ use Rattle.std.proofs.Common.{◌≡◌, Ok, decimal, ap, sym, ◌∙◌, arith,
 use Rattle.serde_json.specs.View.{view, members_view}
 use Rattle.script_model.specs.Reading.{step}
 use Rattle.script_model.specs.StatementReading.{body_at, statement}
-use Rattle.script.specs.Places.{pointer}
+use Rattle.script_parts.specs.Places.{pointer}
 use Rattle.script.specs.Contexts.{context_of}
 use Rattle.script.proofs.StatementLists.{items_at, statements_step}
 use Rattle.script.proofs.StatementScopes.{left_again, extends_more}

@@ -2,7 +2,7 @@ use Rattle.std.proofs.Common.{◌≡◌, ◌+◌, ◌*◌, ◌++◌, Ok, drop}
 use Rattle.serde_json.specs.View.{items_view}
 use Rattle.script_model.specs.Reading.{and_then, each}
 use Rattle.script_model.specs.StatementReading.{body_at, arm_in, statements}
-use Rattle.script.specs.Places.{pointer}
+use Rattle.script_parts.specs.Places.{pointer}
 use Rattle.script.specs.Contexts.{context_of, Extends}
 use Rattle.script.proofs.statements.Context.+body.Given as goal
 

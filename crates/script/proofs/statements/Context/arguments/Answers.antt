@@ -1,6 +1,6 @@
 use Rattle.std.proofs.Common.{arith, rules}
 use Rattle.serde_json.specs.View.{view}
-use Rattle.script.specs.Places.{pointer}
+use Rattle.script_parts.specs.Places.{pointer}
 use Rattle.script.proofs.StatementLists.{arguments_are, arguments_end, items_at}
 use Rattle.script.proofs.statements.Context.arguments.Goals as goal
 

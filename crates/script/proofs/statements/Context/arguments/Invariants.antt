@@ -2,7 +2,7 @@ use Rattle.std.proofs.Common.{◌≡◌, Ok, drop}
 use Rattle.serde_json.specs.View.{view, items_view}
 use Rattle.script_model.specs.Reading.{and_then}
 use Rattle.script_model.specs.StatementReading.{arguments_from}
-use Rattle.script.specs.Places.{pointer}
+use Rattle.script_parts.specs.Places.{pointer}
 use Rattle.script.proofs.StatementLists.{after}
 use Rattle.script.proofs.statements.Context.arguments.Given as goal
 

@@ -1,6 +1,6 @@
 use Rattle.std.proofs.Common.{rules}
 use Rattle.serde_json.specs.View.{view, members_view}
-use Rattle.script.specs.Places.{pointer}
+use Rattle.script_parts.specs.Places.{pointer}
 use Rattle.script.proofs.StatementBindings.{bind_into}
 use Rattle.script.proofs.StatementScopes.{extends_one}
 use Rattle.script.proofs.statements.Context.bind.Goals as goal

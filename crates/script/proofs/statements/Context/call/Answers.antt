@@ -4,7 +4,7 @@ use Rattle.script_model.specs.declared.fault.FaultKind.TheVariants as is
 use Rattle.script_model.specs.declared.fault.ScriptFault.TheVariants.{Bad}
 use Rattle.script_model.specs.Shapes.{the_string}
 use Rattle.script_model.specs.StatementReading.{guardian_numbered}
-use Rattle.script.specs.Places.{pointer}
+use Rattle.script_parts.specs.Places.{pointer}
 use Rattle.script.proofs.StatementCalls.{call_are, call_at, call_lost, call_found}
 use Rattle.script.proofs.statements.Context.call.Goals as goal
 

@@ -1,6 +1,6 @@
 use Rattle.std.proofs.Common.{sym, ◌∙◌, rules}
 use Rattle.serde_json.specs.View.{view}
-use Rattle.script.specs.Places.{pointer}
+use Rattle.script_parts.specs.Places.{pointer}
 use Rattle.script.specs.Contexts.{context_of}
 use Rattle.script.proofs.StatementEndings.{return_in-value}
 use Rattle.script.proofs.statements.Context.return_value.Goals as goal

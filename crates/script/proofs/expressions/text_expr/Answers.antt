@@ -1,5 +1,0 @@
-use Rattle.script.proofs.ExpressionShapes.{text_expr_only}
-use Rattle.script.proofs.expressions.text_expr.Goals as goal
-
-pub returns-in-Some-only_member : goal.returns-in-Some-only_member
-returns-in-Some-only_member c = rw (text_expr_only c.args.scope.now _ _ _ c.in-Some-only_member.ensures) c.text_member.ensures

@@ -1,0 +1,13 @@
+pub mod Asked
+pub mod Depths
+pub mod ExpressionShapes
+pub mod Forms
+pub mod Held
+pub mod Items
+pub mod Listed
+pub mod Looked
+pub mod Members
+pub mod OpParts
+pub mod OpSteps
+pub mod Pairs
+pub mod ScopeLemmas
