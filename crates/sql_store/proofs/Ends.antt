@@ -10,7 +10,7 @@ use Rattle.sqlite.specs.declared.error.Error.{Error}
 use Rattle.sqlite.specs.declared.error.Error.TheVariants.{SqliteFailure}
 use Rattle.sqlite.specs.declared.error.ErrorCode.TheVariants.{TransactionState}
 use Rattle.sql_store.specs.Reading.{RunsInside}
-use Rattle.sql_store.proofs.Inside.{keeps_same}
+use Rattle.store_writing.proofs.Inside.{keeps_same}
 
 pub unchanged : (old new : State) → IsUnchanged old new → KeepsCommit old new
 unchanged old new h = record { was_open = λ _. h.0.was_open; committed = λ _. h.0.committed_is }

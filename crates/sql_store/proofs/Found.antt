@@ -7,7 +7,7 @@ use Rattle.stable_store.specs.Stored.{Stored}
 use Rattle.stable_store.specs.Held.{held}
 use Rattle.store_tables.specs.Tables.{no_schema}
 use Rattle.store_tables.specs.Holds.{IsStore}
-use Rattle.sql_store.specs.Steps.{Stands}
+use Rattle.store_writing.specs.Steps.{Stands}
 use Rattle.sql_store.specs.declared.layout.Layout.{Layout}
 use Rattle.sql_store.specs.declared.layout.Layout.TheVariants.{Nothing, Second}
 use Rattle.sql_store.specs.declared.opening.Opened.{Opened}

@@ -6,7 +6,7 @@ use Rattle.atomic_types.specs.declared.part.Part.{Part}
 use Rattle.stable_store.specs.Stored.{Stored, Record, laid, installed, after_install, after_discard}
 use Rattle.stable_store.specs.Numbers.{has_zero}
 use Rattle.store_tables.specs.Changes.{with_base, all_put}
-use Rattle.sql_store.specs.Steps.{While, Stands}
+use Rattle.store_writing.specs.Steps.{While, Stands}
 use Rattle.sql_store.proofs.Over.{record_above}
 
 module _ (s : Stored) (top : ℕ) (r : Record) (found : get s.prepared top ≡ Some r) (parts : List (ℕ × Part)) (put : all_put parts s.base ≡ laid r.parts s.base) where

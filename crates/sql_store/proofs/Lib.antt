@@ -1,15 +1,9 @@
-mod Runs
 mod Queries
 mod Sequences
 mod Rowids
-mod Inside
 mod Known
 mod Back
 mod Loads
-mod Loops
-mod Waits
-mod Pairs
-mod Puts
 mod Over
 mod Installs
 mod Made

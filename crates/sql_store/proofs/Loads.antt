@@ -6,7 +6,7 @@ use Rattle.sqlite.specs.State.{State, HasCleanDisk}
 use Rattle.stable_store.specs.Stored.{Stored}
 use Rattle.stable_store.specs.declared.fault.StoreFault.{StoreFault}
 use Rattle.store_tables.specs.Holds.{IsStore}
-use Rattle.sql_store.specs.Steps.{IsAtRest, Stands, Carries}
+use Rattle.store_writing.specs.Steps.{IsAtRest, Stands, Carries}
 use Rattle.sql_store.specs.Reading.{Quiets, ShowsTheSame, LooksUp}
 
 pub quiets : (s : State) (c : Stored) → Stands s c → Quiets s

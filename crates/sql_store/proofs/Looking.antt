@@ -23,7 +23,7 @@ use Rattle.store_tables.specs.Tables.{stable_schema}
 use Rattle.store_tables.proofs.PartRows.{went, same_value}
 use Rattle.sql_store.specs.Reading.{Looks, RunsInside, IsQueryText, IsAnswered}
 use Rattle.sql_store.proofs.Queries.{shown_same, failed_leaves}
-use Rattle.sql_store.proofs.Inside.{keeps_then}
+use Rattle.store_writing.proofs.Inside.{keeps_then}
 use Rattle.sql_store.proofs.Ends.{unchanged, undone}
 
 -- ---- a write that shows its rows leaves the schema

@@ -13,7 +13,7 @@ use Rattle.stable_store.specs.Stored.{Stored}
 use Rattle.stable_store.specs.Held.{held}
 use Rattle.stable_store.specs.Calls.{Makes, IsExcused, IsRefused}
 use Rattle.store_tables.specs.Holds.{Tables, Holds, IsStore}
-use Rattle.sql_store.specs.Steps.{IsAtRest, Stands, Carries}
+use Rattle.store_writing.specs.Steps.{IsAtRest, Stands, Carries}
 use Rattle.sql_store.specs.Views.{InTables, sql_view, Finds}
 
 -- a store over the device of these ghosts

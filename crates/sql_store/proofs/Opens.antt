@@ -7,7 +7,7 @@ use Rattle.stable_store.specs.declared.kept.Kept.{Kept}
 use Rattle.stable_store.specs.Held.{held}
 use Rattle.store_tables.specs.Tables.{stable_schema}
 use Rattle.store_tables.specs.Holds.{IsStore, IsLaidOut}
-use Rattle.sql_store.specs.Steps.{Stands}
+use Rattle.store_writing.specs.Steps.{Stands}
 use Rattle.sql_store.specs.Reading.{Quiets, IsAlone, LooksUp}
 
 store_of : (s : State) (c : Stored) → IsAlone s → IsTrue s.is_open → IsLaidOut s.now.trees c → IsStore s.now.trees c

@@ -3,7 +3,7 @@ use Rattle.std.proofs.Common.{◌≡◌, Result, Ok, Err, sym, subst, arith}
 use Rattle.sqlite.specs.State.{State, HasCleanDisk}
 use Rattle.sqlite.proofs.StateLemmas.{survives_then}
 use Rattle.sql_store.specs.Reading.{Works}
-use Rattle.sql_store.proofs.Inside.{keeps_same, keeps_then, survives_self}
+use Rattle.store_writing.proofs.Inside.{keeps_same, keeps_then, survives_self}
 
 pub works_none : {T E : Type 0} (s : State) (x : T) → Works {T = T} {E = E} s s (Ok x)
 works_none s x = record { survives = survives_self s; runs = λ _. record { kept = keeps_same s; within = λ w. w } }

@@ -1,7 +1,5 @@
-pub mod Steps
 pub mod Mirror
 pub mod Views
 pub mod Reading
 pub mod Layouts
 pub mod Placed
-pub mod Waiting

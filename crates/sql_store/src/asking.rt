@@ -8,12 +8,12 @@ ghost use Rattle.store_tables.specs.Holds.{Holds, IsLaidOut, tables_of};
 ghost use Rattle.store_tables.specs.Rows.{HaveRowids};
 ghost use Rattle.sql_store.specs.Reading.{IsQueryText, IsAnswered, AreQueryTexts, AreAnswered, Quiets, LooksUp, StaysOut};
 
-use crate::faults::fault_of;
 use crate::layout::{READ_COUNT, number_named};
 use sqlite::{Alter, Connection, Row};
 use stable_store::{Kept, StoreFault};
 use std::alloc::Global;
 use store_tables::{FIRST_QUERIES, QUERIES, ROWIDS, all_rise, content_of, first_content_of};
+use store_writing::faults::fault_of;
 
 /// The rows that a query with no parameters answers.
 pub(crate) fn answer<A: Alter>(

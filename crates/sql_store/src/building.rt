@@ -9,10 +9,8 @@ ghost use Rattle.sql_store.specs.declared.layout.Layout.TheVariants.{Second};
 ghost use Rattle.store_tables.specs.Holds.{IsLaidOut};
 ghost use Rattle.sql_store.specs.Reading.{RunsInside, Works, Looks, IsQueryText, IsAnswered, AreQueryTexts, AreAnswered};
 
-use crate::faults::fault_of;
 use crate::layout::Layout;
 use crate::mirror::are_same;
-use crate::parameters::{amount, great_number, number};
 use atomic_types::Part;
 use sqlite::types::ValueRef;
 use sqlite::{Alter, Row, Transaction};
@@ -20,6 +18,8 @@ use stable_store::{GREATEST_COUNT, Kept, Prepared, StoreFault};
 use std::alloc::Global;
 use std::collections::BTreeMap;
 use store_tables::{QUERIES, ROWIDS, all_rise, content_of};
+use store_writing::faults::fault_of;
+use store_writing::parameters::{amount, great_number, number};
 
 /// The texts that make the tables of version 1, in the order in which a reference finds its parent.
 const FIRST_TABLES: [&str; 5] = [

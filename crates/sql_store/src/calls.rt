@@ -6,16 +6,17 @@ ghost use Rattle.stable_store.specs.Numbers.{has_zero};
 ghost use Rattle.stable_store.specs.Calls.{Changes, IsRefused};
 ghost use Rattle.stable_store.specs.Held.{held};
 ghost use Rattle.stable_store.specs.declared.fault.StoreFault.TheVariants.{NotOurs};
-ghost use Rattle.sql_store.specs.Steps.{Stands, Carries};
+ghost use Rattle.store_writing.specs.Steps.{Stands, Carries};
 
 use crate::asking::read_content;
-use crate::faults::fault_of;
-use crate::{mirror, statements};
+use crate::mirror;
 use atomic_types::Part;
 use sqlite::{Alter, Connection};
 use stable_store::{GREATEST_COUNT, Kept, Prepared, StoreFault, laid};
 use std::alloc::Global;
 use std::collections::BTreeMap;
+use store_writing::faults::fault_of;
+use store_writing::statements;
 use values::Content;
 
 pub(crate) fn prepare<A: Alter>(

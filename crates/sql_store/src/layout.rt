@@ -9,11 +9,11 @@ ghost use Rattle.sql_store.specs.declared.layout.Layout.TheVariants.{Nothing, Se
 ghost use Rattle.sql_store.specs.declared.layout.Presence.TheVariants.{Missing, There};
 
 use crate::asking::answer;
-use crate::faults::fault_of;
 use sqlite::{Alter, Connection, Error, ErrorCode, Row};
 use sqlite_resolve::CompileError;
 use stable_store::StoreFault;
 use store_tables::is_known;
+use store_writing::faults::fault_of;
 
 /// The query of the columns of the first table.
 const META_COLUMNS: &str = "SELECT k, v FROM meta";

@@ -1,23 +1,17 @@
 //! A guardian's stable store in the tables of a SQL database.
 //!
-//! `SqlStable` keeps the content in maps too, so that each answer comes from memory and a call touches only the rows that
-//! it changes; a call is one transaction. `store_tables` says what the rows stand for.
+//! `SqlStable` keeps the content in maps too, so that each answer comes from memory and a call
+//! touches only the rows that it changes; a call is one transaction. `store_tables` says what the
+//! rows stand for, and `store_writing` writes them.
 #![tactic(auto)]
 
 mod asking;
 mod building;
 mod calls;
-mod faults;
-mod installing;
 mod layout;
 mod mirror;
 mod opening;
-mod parameters;
 mod places;
-mod preparing;
-mod statements;
-mod steps;
 mod store;
-mod waiting;
 
 pub use store::SqlStable;

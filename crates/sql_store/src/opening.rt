@@ -6,19 +6,19 @@ ghost use Rattle.stable_store.specs.Stored.{Stored, empty};
 ghost use Rattle.stable_store.specs.Held.{held};
 ghost use Rattle.store_tables.specs.Tables.{no_schema, stable_schema};
 ghost use Rattle.sql_store.specs.declared.layout.Layout.TheVariants.{Second};
-ghost use Rattle.sql_store.specs.Steps.{Stands};
+ghost use Rattle.store_writing.specs.Steps.{Stands};
 ghost use Rattle.store_tables.specs.Holds.{IsLaidOut};
 ghost use Rattle.sql_store.specs.Reading.{Quiets, LooksUp, Knows};
 
 use crate::asking::{read_first, read_store};
 use crate::building::build;
-use crate::faults::fault_of;
 use crate::layout::{Layout, READ_COUNT, is_alone, layout_of, number_named};
 use crate::places::have_places;
 use sqlite::{Alter, Connection};
 use stable_store::{Kept, StoreFault};
 use std::alloc::Global;
 use store_tables::one_content_is_held;
+use store_writing::faults::fault_of;
 
 const READ_VERSION: &str = "SELECT v FROM meta WHERE k = 'version'";
 

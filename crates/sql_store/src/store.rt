@@ -1,6 +1,5 @@
 //! A store in SQL tables.
 use crate::calls;
-use crate::faults::count_fault;
 use crate::opening::{Opened, open};
 use atomic_types::Part;
 use sqlite::{Alter, Connection};
@@ -10,6 +9,7 @@ use std::alloc::Global;
 use std::collections::BTreeMap;
 use std::marker::Model;
 use store_tables::one_content_is_held;
+use store_writing::faults::count_fault;
 use values::Content;
 
 /// A store in the tables of a database, with the content that they stand for.
@@ -28,7 +28,7 @@ impl<A: Alter + Drop> Model for SqlStable<A> {
     ghost use Rattle.std.specs.Prelude.{IsTrue};
     ghost use Rattle.sqlite.specs.Held.{state};
     ghost use Rattle.stable_store.specs.Held.{held};
-    ghost use Rattle.sql_store.specs.Steps.{Stands};
+    ghost use Rattle.store_writing.specs.Steps.{Stands};
     ghost use Rattle.sql_store.specs.Views.{InTables, in_tables_code};
 
     ghost Value = { InTables A };
@@ -54,7 +54,7 @@ impl<A: Alter + Drop> SqlStable<A> {
     ghost use Rattle.stable_store.specs.Calls.{View, Rests, found};
     ghost use Rattle.stable_store.specs.Held.{held};
     ghost use Rattle.store_tables.specs.Tables.{no_schema};
-    ghost use Rattle.sql_store.specs.Steps.{Stands};
+    ghost use Rattle.store_writing.specs.Steps.{Stands};
     ghost use Rattle.sql_store.specs.Reading.{Knows};
     ghost use Rattle.sql_store.specs.Views.{sql_view};
 

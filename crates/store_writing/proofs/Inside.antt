@@ -16,8 +16,8 @@ use Rattle.sqlite_trees.specs.declared.store.Store.{Ghosts}
 use Rattle.sqlite.specs.Held.{Held, state}
 use Rattle.stable_store.specs.Stored.{Stored}
 use Rattle.store_tables.specs.Holds.{IsStore}
-use Rattle.sql_store.specs.Steps.{While, IsAtRest, Stands, Carries, Sees, Stays, Steps}
-use Rattle.sql_store.proofs.Runs.{Means, runs_to}
+use Rattle.store_writing.specs.Steps.{While, IsAtRest, Stands, Carries, Sees, Stays, Steps}
+use Rattle.store_writing.proofs.Runs.{Means, runs_to}
 
 unchanged_keeps : (old new : State) → IsUnchanged old new → KeepsCommit old new
 unchanged_keeps old new h = record { was_open = λ _. h.0.was_open; committed = λ _. h.0.committed_is }

@@ -4,8 +4,8 @@ use Rattle.sqlite.specs.declared.types.Value.TheVariants.{Int, Text}
 use Rattle.sqlite_value.specs.declared.value.ValueRef.{ValueRef}
 use Rattle.sqlite_value.specs.Value.{owned}
 use Rattle.sqlite.specs.Values.{bound, bound_value}
-use Rattle.sql_store.specs.declared.waiting.PartText.{PartText}
-use Rattle.sql_store.specs.Waiting.{parameters_of}
+use Rattle.store_writing.specs.declared.waiting.PartText.{PartText}
+use Rattle.store_writing.specs.Waiting.{parameters_of}
 
 -- an object and its text more
 pub two_more : (all : List ValueRef) (object text : ValueRef) (w : PartText) (ws : List PartText) → owned object ≡ Int (pos w.object)

@@ -20,12 +20,12 @@ use Rattle.store_tables.proofs.Texts.{base_command, value_command}
 use Rattle.store_tables.specs.Changes.{with_base, all_put, with_record}
 use Rattle.store_tables.specs.Shown.{IsValue}
 use Rattle.store_tables.proofs.Tables.{InRange}
-use Rattle.sql_store.specs.declared.waiting.PartText.{PartText}
-use Rattle.sql_store.specs.Steps.{While, Sees, Steps}
-use Rattle.sql_store.specs.Waiting.{AreTextsOf, parameters_of}
-use Rattle.sql_store.proofs.Inside.{steps}
-use Rattle.sql_store.proofs.Runs.{base_means, value_means}
-use Rattle.sql_store.proofs.Waits.{texts_length, parameters_are, fit_the_base, fit_a_record}
+use Rattle.store_writing.specs.declared.waiting.PartText.{PartText}
+use Rattle.store_writing.specs.Steps.{While, Sees, Steps}
+use Rattle.store_writing.specs.Waiting.{AreTextsOf, parameters_of}
+use Rattle.store_writing.proofs.Inside.{steps}
+use Rattle.store_writing.proofs.Runs.{base_means, value_means}
+use Rattle.store_writing.proofs.Waits.{texts_length, parameters_are, fit_the_base, fit_a_record}
 
 module _ {S : Type 0} (g : Ghosts S) (s t : Held S) (clean : HasCleanDisk (state g t) → HasCleanDisk (state g s)) (r : Result ℕ Error)
     (ended : (state g s).in_transaction ≡ false → (r ≡ Err (SqliteFailure TransactionState)) × (t ≡ s)) (text : List ℕ) (count : ℕ) (ws : List PartText) (many : length ws ≡ count) (params : Row)

@@ -37,7 +37,7 @@ use Rattle.store_tables.specs.Changes.{with_count, with_next, with_base, all_put
 use Rattle.store_tables.proofs.Tables.{InRange}
 use Rattle.store_tables.proofs.Statements.{more, spelled, FitsBase, FitsRecord, after_decides, after_counts, after_raises, after_puts_base, after_puts_home}
 use Rattle.store_tables.proofs.Statements.{after_puts_values, after_puts_delta, after_discards, after_forgets}
-use Rattle.sql_store.specs.Steps.{IsAtRest, Stands, Carries}
+use Rattle.store_writing.specs.Steps.{IsAtRest, Stands, Carries}
 
 abbrev pub writes_rows : Command → Type 0
 writes_rows (InsertOr at way from clauses) = Unit {0}

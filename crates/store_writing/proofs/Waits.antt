@@ -13,11 +13,11 @@ use Rattle.store_tables.proofs.Decides.{cells}
 use Rattle.store_tables.specs.Changes.{with_base, all_put}
 use Rattle.store_tables.specs.Shown.{IsValue}
 use Rattle.store_tables.proofs.Statements.{spelled, FitsBase, FitsRecord}
-use Rattle.sql_store.specs.declared.waiting.PartText.{PartText}
-use Rattle.sql_store.specs.Steps.{Stays, Steps}
-use Rattle.sql_store.specs.Waiting.{IsTextOf, AreTextsOf, HasOneMore, parameters_of, Waits, Takes}
-use Rattle.sql_store.proofs.Inside.{steps_then, step_ok}
-use Rattle.sql_store.proofs.Loops.{or_false, first_above, rest_above}
+use Rattle.store_writing.specs.declared.waiting.PartText.{PartText}
+use Rattle.store_writing.specs.Steps.{Stays, Steps}
+use Rattle.store_writing.specs.Waiting.{IsTextOf, AreTextsOf, HasOneMore, parameters_of, Waits, Takes}
+use Rattle.store_writing.proofs.Inside.{steps_then, step_ok}
+use Rattle.store_writing.proofs.Loops.{or_false, first_above, rest_above}
 
 -- ---- texts
 

@@ -9,8 +9,8 @@ use Rattle.atomic_types.specs.declared.part.Part.{Part}
 use Rattle.store_tables.specs.PartTexts.{IsStoredPart, part_text}
 use Rattle.stable_store.specs.Stored.{Stored}
 use Rattle.store_tables.specs.Shown.{greatest_number}
-use Rattle.sql_store.specs.declared.waiting.PartText.{PartText}
-use Rattle.sql_store.specs.Steps.{Steps}
+use Rattle.store_writing.specs.declared.waiting.PartText.{PartText}
+use Rattle.store_writing.specs.Steps.{Steps}
 
 -- it is the object and the text of a part that a store may hold
 pub record IsTextOf (w : PartText) (e : ℕ × Part) : Type 0 where

@@ -13,8 +13,9 @@ pub(crate) const BUSY: Error = Error::SqliteFailure(ErrorCode::TransactionState)
 /// Want of memory.
 pub(crate) const WANT: Error = Error::SqliteFailure(ErrorCode::OutOfMemory);
 
-/// The fault of a statement that the database refused.
-pub(crate) fn fault_of(error: Error) -> StoreFault
+/// The fault of a statement that the database refused: `Memory` if memory ran out, and else
+/// `Failed`.
+pub fn fault_of(error: Error) -> StoreFault
     ensures { result ≢ NotOurs }
 {
     match error {
@@ -24,8 +25,8 @@ pub(crate) fn fault_of(error: Error) -> StoreFault
     }
 }
 
-/// The fault of a call. All but out of memory are counted.
-pub(crate) fn count_fault(failures: &mut u64, fault: StoreFault) -> StoreFault
+/// Counts the fault of a call, unless memory ran out, and gives it back.
+pub fn count_fault(failures: &mut u64, fault: StoreFault) -> StoreFault
     ensures same { result ≡ fault }
     ensures counts { IsExcused (Unit {0}) failures.old failures.new fault }
 {

@@ -6,8 +6,8 @@ ghost use Rattle.atomic_types.specs.declared.part.Part.{Part as Spec};
 ghost use Rattle.stable_store.specs.Stored.{Stored};
 ghost use Rattle.stable_store.specs.Numbers.{has_zero};
 ghost use Rattle.store_tables.specs.Changes.{with_base, with_part, all_put};
-ghost use Rattle.sql_store.specs.Steps.{While, Sees, Stays, Steps};
-ghost use Rattle.sql_store.specs.Waiting.{IsTextOf, AreTextsOf, Waits, Takes, IsAny};
+ghost use Rattle.store_writing.specs.Steps.{While, Sees, Stays, Steps};
+ghost use Rattle.store_writing.specs.Waiting.{IsTextOf, AreTextsOf, Waits, Takes, IsAny};
 
 use crate::faults::WANT;
 use crate::parameters::{number, words};

@@ -13,21 +13,21 @@ pub(crate) fn words(text: &String) -> ValueRef<'_>
 }
 
 /// A number as a parameter.
-pub(crate) fn number(n: u32) -> ValueRef<'static>
+pub fn number(n: u32) -> ValueRef<'static>
     ensures { owned result ≡ Int (pos n) }
 {
     ValueRef::Int(i64::from(n))
 }
 
 /// A delta as a parameter.
-pub(crate) fn amount(by: i64) -> ValueRef<'static>
+pub fn amount(by: i64) -> ValueRef<'static>
     ensures { owned result ≡ Int by }
 {
     ValueRef::Int(by)
 }
 
 /// A count as a parameter.
-pub(crate) fn great_number(n: u64) -> ValueRef<'static>
+pub fn great_number(n: u64) -> ValueRef<'static>
     requires { n ≤ 9223372036854775807 }
     ensures { owned result ≡ Int (pos n) }
 {

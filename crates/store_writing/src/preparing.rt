@@ -11,8 +11,8 @@ ghost use Rattle.stable_store.specs.Stored.{Stored};
 ghost use Rattle.stable_store.specs.Numbers.{has_zero};
 ghost use Rattle.store_tables.specs.Shown.{IsValue};
 ghost use Rattle.store_tables.specs.Changes.{with_record};
-ghost use Rattle.sql_store.specs.Steps.{Sees, Stays, Steps};
-ghost use Rattle.sql_store.specs.Waiting.{IsTextOf, AreTextsOf, Waits, Takes};
+ghost use Rattle.store_writing.specs.Steps.{Sees, Stays, Steps};
+ghost use Rattle.store_writing.specs.Waiting.{IsTextOf, AreTextsOf, Waits, Takes};
 
 use crate::faults::WANT;
 use crate::parameters::{amount, number, words};

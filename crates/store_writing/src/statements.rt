@@ -3,7 +3,7 @@ ghost use Rattle.std.specs.Prelude.{◌≡◌, ◌≤◌, ◌<◌, false};
 ghost use Rattle.sqlite.specs.Held.{state};
 ghost use Rattle.stable_store.specs.Stored.{Stored, after_prepare, after_discard, after_decide, greatest_count};
 ghost use Rattle.stable_store.specs.Numbers.{has_zero};
-ghost use Rattle.sql_store.specs.Steps.{While, Stands, Carries};
+ghost use Rattle.store_writing.specs.Steps.{While, Stands, Carries};
 ghost use Rattle.store_tables.specs.Changes.{with_count, with_base, with_none_decided, all_put};
 
 use crate::faults::BUSY;
@@ -15,8 +15,9 @@ use stable_store::Prepared;
 use std::alloc::Global;
 use std::collections::BTreeMap;
 
-/// Adds a number to the decided.
-pub(crate) fn decide<A: Alter>(conn: &mut Connection<A>, top: u32) -> Result<(), Error>
+/// Adds a number to the decided. Fails if the database refuses it, or a
+/// transaction is under way, and then changes nothing.
+pub fn decide<A: Alter>(conn: &mut Connection<A>, top: u32) -> Result<(), Error>
     requires { 0 < top }
     ensures { (c : Stored) → Stands (state A.Store conn.old) c
         → Carries (state A.Store conn.old) (state A.Store conn.new) c (after_decide top c) result }
@@ -30,8 +31,9 @@ pub(crate) fn decide<A: Alter>(conn: &mut Connection<A>, top: u32) -> Result<(),
     }
 }
 
-/// Writes the count.
-pub(crate) fn count<A: Alter>(conn: &mut Connection<A>, count: u64) -> Result<(), Error>
+/// Writes the count. Fails if the database refuses it, or a
+/// transaction is under way, and then changes nothing.
+pub fn count<A: Alter>(conn: &mut Connection<A>, count: u64) -> Result<(), Error>
     requires { count ≤ greatest_count }
     ensures { (c : Stored) → Stands (state A.Store conn.old) c
         → Carries (state A.Store conn.old) (state A.Store conn.new) c (with_count count c) result }
@@ -48,8 +50,9 @@ pub(crate) fn count<A: Alter>(conn: &mut Connection<A>, count: u64) -> Result<()
     }
 }
 
-/// Deletes a record. Its parts go with it.
-pub(crate) fn discard<A: Alter>(conn: &mut Connection<A>, top: u32) -> Result<(), Error>
+/// Deletes a record. Its parts go with it. Fails if the database refuses it, or a
+/// transaction is under way, and then changes nothing.
+pub fn discard<A: Alter>(conn: &mut Connection<A>, top: u32) -> Result<(), Error>
     ensures { (c : Stored) → Stands (state A.Store conn.old) c
         → Carries (state A.Store conn.old) (state A.Store conn.new) c (after_discard top c) result }
 {
@@ -62,8 +65,10 @@ pub(crate) fn discard<A: Alter>(conn: &mut Connection<A>, top: u32) -> Result<()
     }
 }
 
-/// Writes a record in place of the one that the top action had, and raises the next top action's number above it.
-pub(crate) fn prepare<A: Alter>(
+/// Writes a record in place of the one that the top action had, and raises the next top action's
+/// number above it. Fails if the database refuses it, or a transaction is under way, and then
+/// changes nothing.
+pub fn prepare<A: Alter>(
     conn: &mut Connection<A>,
     alloc: Global,
     top: u32,
@@ -90,8 +95,9 @@ pub(crate) fn prepare<A: Alter>(
     }
 }
 
-/// Deletes a record, and writes what its objects have then.
-pub(crate) fn install<A: Alter>(
+/// Deletes a record, and writes what its objects have then. Fails if the database refuses it, or a
+/// transaction is under way, and then changes nothing.
+pub fn install<A: Alter>(
     conn: &mut Connection<A>,
     alloc: Global,
     top: u32,
@@ -114,8 +120,9 @@ pub(crate) fn install<A: Alter>(
     }
 }
 
-/// Deletes all that is decided, and writes these values into the base.
-pub(crate) fn save<A: Alter>(
+/// Deletes all that is decided, and writes these values into the base. Fails if the database
+/// refuses it, or a transaction is under way, and then changes nothing.
+pub fn save<A: Alter>(
     conn: &mut Connection<A>,
     alloc: Global,
     values: &BTreeMap<u32, Part>,

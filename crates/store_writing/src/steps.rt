@@ -6,7 +6,7 @@ ghost use Rattle.sqlite.specs.Held.{state};
 ghost use Rattle.stable_store.specs.Stored.{Stored, after_discard, after_prepare};
 ghost use Rattle.stable_store.specs.Numbers.{has_zero};
 ghost use Rattle.store_tables.specs.Changes.{with_base, with_record, with_next, with_none_decided, all_put};
-ghost use Rattle.sql_store.specs.Steps.{While, Sees, Stays, Steps};
+ghost use Rattle.store_writing.specs.Steps.{While, Sees, Stays, Steps};
 
 use crate::installing::put_base;
 use crate::parameters::{great_number, number};

@@ -2,7 +2,7 @@
 ghost use Rattle.std.specs.Prelude.{◌≡◌, pos, ◌∷◌, ◌++◌, IfOk, OnOk};
 ghost use Rattle.sqlite.specs.declared.types.Value.TheVariants.{Int};
 ghost use Rattle.sqlite.specs.Values.{bound};
-ghost use Rattle.sql_store.specs.Waiting.{HasOneMore, parameters_of};
+ghost use Rattle.store_writing.specs.Waiting.{HasOneMore, parameters_of};
 
 use crate::parameters::{number, words};
 use atomic_types::Part;

@@ -7,7 +7,7 @@ use Rattle.sqlite.proofs.StateLemmas.{survives_then}
 use Rattle.store_tables.specs.Answered.{rows_of}
 use Rattle.std.proofs.lemmas.Result.{err_from_is_err_and}
 use Rattle.sql_store.specs.Reading.{AreAnswered, IsAnswered, Looks}
-use Rattle.sql_store.proofs.Inside.{keeps_same, survives_self}
+use Rattle.store_writing.proofs.Inside.{keeps_same, survives_self}
 use Rattle.sql_store.proofs.Sequences.{one_answer}
 use Rattle.sql_store.proofs.Asked.{next_text, text_at, no_text}
 use Rattle.sql_store.proofs.Looking.{clean_before, looks_ok, looks_err, looks_none, then_looks}

@@ -5,7 +5,7 @@ use Rattle.sqlite.specs.declared.error.Error.{Error}
 use Rattle.stable_store.specs.Stored.{installed}
 use Rattle.stable_store.specs.Held.{held, record_of, parts_in}
 use Rattle.stable_store.specs.Calls.{Changes}
-use Rattle.sql_store.specs.Steps.{Carries}
+use Rattle.store_writing.specs.Steps.{Carries}
 use Rattle.stable_store.proofs.Maps.{taken_seen}
 use Rattle.sql_store.proofs.Back.{record_found}
 use Rattle.sql_store.proofs.Installs.{install_is, parts_above}

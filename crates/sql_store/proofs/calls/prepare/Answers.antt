@@ -6,7 +6,7 @@ use Rattle.stable_store.specs.declared.kept.Prepared.{Prepared}
 use Rattle.stable_store.specs.Stored.{after_prepare}
 use Rattle.stable_store.specs.Held.{held, record_of, records_of}
 use Rattle.sql_store.specs.Mirror.{record_back as back_to}
-use Rattle.sql_store.specs.Steps.{Carries}
+use Rattle.store_writing.specs.Steps.{Carries}
 use Rattle.stable_store.proofs.Maps.{given_seen, found_inserted}
 use Rattle.sql_store.proofs.Back.{record_back, record_found, put_found, same_some}
 use Rattle.sql_store.proofs.Made.{as_ok, as_err}

@@ -5,7 +5,7 @@ use Rattle.sqlite.specs.declared.error.Error.{Error}
 use Rattle.stable_store.specs.Stored.{after_save}
 use Rattle.stable_store.specs.Held.{held}
 use Rattle.store_tables.specs.Changes.{with_base, with_none_decided, all_put}
-use Rattle.sql_store.specs.Steps.{Carries}
+use Rattle.store_writing.specs.Steps.{Carries}
 use Rattle.sql_store.proofs.Over.{values_are_laid}
 use Rattle.sql_store.proofs.Made.{as_ok, as_err}
 use Rattle.sql_store.proofs.calls.save.Goals as goal

@@ -1,7 +1,7 @@
 use Rattle.std.proofs.Common.{refl, sym, subst, ◌∙◌}
 use Rattle.sqlite.specs.Held.{state}
 use Rattle.sqlite_catalog.specs.Listing.{IsSound}
-use Rattle.sql_store.proofs.Runs.{not_true}
+use Rattle.store_writing.proofs.Runs.{not_true}
 use Rattle.sql_store.proofs.layout.is_alone.Goals as goal
 
 pub returns-then-is_autocommit-clause-alone : goal.returns-then-is_autocommit-clause-alone

@@ -4,12 +4,12 @@ use Rattle.sqlite.specs.Held.{state}
 use Rattle.sqlite.proofs.StateLemmas.{survives_then}
 use Rattle.stable_store.specs.Numbers.{has_zero}
 use Rattle.store_tables.specs.Changes.{with_base, with_part, all_put}
-use Rattle.sql_store.specs.Steps.{While}
-use Rattle.sql_store.specs.Waiting.{Waits, IsAny}
-use Rattle.sql_store.proofs.Inside.{steps_then, steps_as, step_ok, step_err, step_same, sees_of, survives_self}
-use Rattle.sql_store.proofs.Loops.{first_above}
-use Rattle.sql_store.proofs.Waits.{next_waits, all_written, zero_parts, put_more}
-use Rattle.sql_store.proofs.installing.install_rest.Goals as goal
+use Rattle.store_writing.specs.Steps.{While}
+use Rattle.store_writing.specs.Waiting.{Waits, IsAny}
+use Rattle.store_writing.proofs.Inside.{steps_then, steps_as, step_ok, step_err, step_same, sees_of, survives_self}
+use Rattle.store_writing.proofs.Loops.{first_above}
+use Rattle.store_writing.proofs.Waits.{next_waits, all_written, zero_parts, put_more}
+use Rattle.store_writing.proofs.installing.install_rest.Goals as goal
 
 pub loop-part-init : goal.loop-part-init
 loop-part-init g c = record {

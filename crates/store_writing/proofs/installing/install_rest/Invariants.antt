@@ -6,9 +6,9 @@ use Rattle.atomic_types.specs.declared.part.Part.{Part}
 use Rattle.stable_store.specs.Stored.{Stored}
 use Rattle.stable_store.specs.Numbers.{has_zero}
 use Rattle.store_tables.specs.Changes.{with_base, all_put}
-use Rattle.sql_store.specs.Steps.{While, Stays, Steps}
-use Rattle.sql_store.specs.Waiting.{Waits, IsAny}
-use Rattle.sql_store.proofs.installing.install_rest.Given as goal
+use Rattle.store_writing.specs.Steps.{While, Stays, Steps}
+use Rattle.store_writing.specs.Waiting.{Waits, IsAny}
+use Rattle.store_writing.proofs.installing.install_rest.Given as goal
 
 abbrev pub invariant-loop-part : goal.invariant-loop-part
 invariant-loop-part g l = record {

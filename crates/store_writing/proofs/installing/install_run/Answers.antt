@@ -4,10 +4,10 @@ use Rattle.sqlite.specs.Held.{state}
 use Rattle.store_tables.specs.Changes.{with_base, all_put}
 use Rattle.store_tables.specs.Texts.{base_run_text}
 use Rattle.store_tables.proofs.Texts.{base_run_is, base_run_plain}
-use Rattle.sql_store.specs.Steps.{Steps}
-use Rattle.sql_store.proofs.Inside.{step_ok, step_err}
-use Rattle.sql_store.proofs.Puts.{writes_parts}
-use Rattle.sql_store.proofs.installing.install_run.Goals as goal
+use Rattle.store_writing.specs.Steps.{Steps}
+use Rattle.store_writing.proofs.Inside.{step_ok, step_err}
+use Rattle.store_writing.proofs.Puts.{writes_parts}
+use Rattle.store_writing.proofs.installing.install_run.Goals as goal
 
 pub returns-in-Ok-execute-clause-steps : goal.returns-in-Ok-execute-clause-steps
 returns-in-Ok-execute-clause-steps g c es k none texts sees =

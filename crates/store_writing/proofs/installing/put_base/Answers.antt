@@ -7,12 +7,12 @@ use Rattle.sqlite.proofs.StateLemmas.{survives_then}
 use Rattle.stable_store.specs.Numbers.{has_zero}
 use Rattle.store_tables.specs.Changes.{with_base, all_put}
 use Rattle.store_tables.proofs.Statements.{more}
-use Rattle.sql_store.specs.Steps.{While}
-use Rattle.sql_store.specs.Waiting.{Waits, IsAny}
-use Rattle.sql_store.proofs.Inside.{steps_then, step_err, step_same, survives_self}
-use Rattle.sql_store.proofs.Loops.{later}
-use Rattle.sql_store.proofs.Waits.{none_wait, zero_parts, takes_then, takes_ok, stays_after}
-use Rattle.sql_store.proofs.installing.put_base.Goals as goal
+use Rattle.store_writing.specs.Steps.{While}
+use Rattle.store_writing.specs.Waiting.{Waits, IsAny}
+use Rattle.store_writing.proofs.Inside.{steps_then, step_err, step_same, survives_self}
+use Rattle.store_writing.proofs.Loops.{later}
+use Rattle.store_writing.proofs.Waits.{none_wait, zero_parts, takes_then, takes_ok, stays_after}
+use Rattle.store_writing.proofs.installing.put_base.Goals as goal
 
 pub loop-object-init : goal.loop-object-init
 loop-object-init g c = record {

@@ -5,9 +5,9 @@ use Rattle.atomic_types.specs.declared.part.Part.{Part}
 use Rattle.stable_store.specs.Stored.{Stored}
 use Rattle.stable_store.specs.Numbers.{has_zero}
 use Rattle.store_tables.specs.Changes.{with_base, all_put}
-use Rattle.sql_store.specs.Steps.{While, Stays}
-use Rattle.sql_store.specs.Waiting.{Takes, IsAny}
-use Rattle.sql_store.proofs.installing.put_base.Given as goal
+use Rattle.store_writing.specs.Steps.{While, Stays}
+use Rattle.store_writing.specs.Waiting.{Takes, IsAny}
+use Rattle.store_writing.proofs.installing.put_base.Given as goal
 
 abbrev pub invariant-loop-object : goal.invariant-loop-object
 invariant-loop-object g l = record {

@@ -6,11 +6,11 @@ use Rattle.sqlite.specs.Held.{state}
 use Rattle.store_tables.specs.Changes.{with_part}
 use Rattle.store_tables.specs.Texts.{base_text}
 use Rattle.store_tables.proofs.Texts.{base_is, base_plain}
-use Rattle.sql_store.specs.Steps.{Steps}
-use Rattle.sql_store.proofs.Inside.{step_ok, step_err}
-use Rattle.sql_store.proofs.Waits.{above_is}
-use Rattle.sql_store.proofs.Puts.{writes_parts}
-use Rattle.sql_store.proofs.installing.put_installed.Goals as goal
+use Rattle.store_writing.specs.Steps.{Steps}
+use Rattle.store_writing.proofs.Inside.{step_ok, step_err}
+use Rattle.store_writing.proofs.Waits.{above_is}
+use Rattle.store_writing.proofs.Puts.{writes_parts}
+use Rattle.store_writing.proofs.installing.put_installed.Goals as goal
 
 pub returns-in-Ok-clause-steps : goal.returns-in-Ok-clause-steps
 returns-in-Ok-clause-steps g c e k low text sees =

@@ -4,11 +4,11 @@ use Rattle.sqlite.specs.Held.{state}
 use Rattle.stable_store.specs.Numbers.{has_zero}
 use Rattle.store_tables.specs.Changes.{with_base, all_put}
 use Rattle.store_tables.proofs.Statements.{more}
-use Rattle.sql_store.specs.Steps.{While}
-use Rattle.sql_store.specs.Waiting.{AreTextsOf, IsAny}
-use Rattle.sql_store.proofs.Inside.{step_same, steps_as, step_ok, step_err, sees_of}
-use Rattle.sql_store.proofs.Waits.{none_wait, one_more_waits, zero_parts, put_more}
-use Rattle.sql_store.proofs.installing.take_installed.Goals as goal
+use Rattle.store_writing.specs.Steps.{While}
+use Rattle.store_writing.specs.Waiting.{AreTextsOf, IsAny}
+use Rattle.store_writing.proofs.Inside.{step_same, steps_as, step_ok, step_err, sees_of}
+use Rattle.store_writing.proofs.Waits.{none_wait, one_more_waits, zero_parts, put_more}
+use Rattle.store_writing.proofs.installing.take_installed.Goals as goal
 
 pub returns-then-len-lt-RUN-clause-steps : goal.returns-then-len-lt-RUN-clause-steps
 returns-then-len-lt-RUN-clause-steps g c written all k none waits stays =

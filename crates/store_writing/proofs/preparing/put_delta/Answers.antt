@@ -5,17 +5,17 @@ use Rattle.sqlite_value.specs.Value.{owned}
 use Rattle.sqlite.specs.Values.{bound_value}
 use Rattle.sqlite.specs.State.{HasCleanDisk, ExecutesInside}
 use Rattle.sqlite.specs.Held.{state}
-use Rattle.sql_store.specs.Steps.{Steps}
-use Rattle.sql_store.proofs.Inside.{steps, step_ok, step_err}
+use Rattle.store_writing.specs.Steps.{Steps}
+use Rattle.store_writing.proofs.Inside.{steps, step_ok, step_err}
 use Rattle.std.proofs.Common.{rules}
 use Rattle.atomic_types.specs.declared.part.Part.TheVariants.{Delta}
 use Rattle.store_tables.specs.Changes.{with_record}
 use Rattle.store_tables.proofs.Statements.{more}
-use Rattle.sql_store.proofs.Runs.{delta_means}
+use Rattle.store_writing.proofs.Runs.{delta_means}
 use Rattle.store_tables.proofs.Tables.{InRange}
 use Rattle.store_tables.specs.Texts.{delta_text}
 use Rattle.store_tables.proofs.Texts.{delta_command}
-use Rattle.sql_store.proofs.preparing.put_delta.Goals as goal
+use Rattle.store_writing.proofs.preparing.put_delta.Goals as goal
 
 pub returns-in-Ok-clause-steps : goal.returns-in-Ok-clause-steps
 returns-in-Ok-clause-steps g c low home before k sorted sees =

@@ -11,11 +11,11 @@ use Rattle.stable_store.specs.Numbers.{has_zero}
 use Rattle.store_tables.specs.Changes.{with_record}
 use Rattle.store_tables.specs.Shown.{IsValue}
 use Rattle.store_tables.proofs.Statements.{more}
-use Rattle.sql_store.specs.Waiting.{Waits}
-use Rattle.sql_store.proofs.Inside.{steps_then, step_err, step_same, survives_self}
-use Rattle.sql_store.proofs.Loops.{all_rise, rising, later}
-use Rattle.sql_store.proofs.Waits.{none_wait, zero_parts, takes_then, takes_ok, stays_after}
-use Rattle.sql_store.proofs.preparing.put_parts.Goals as goal
+use Rattle.store_writing.specs.Waiting.{Waits}
+use Rattle.store_writing.proofs.Inside.{steps_then, step_err, step_same, survives_self}
+use Rattle.store_writing.proofs.Loops.{all_rise, rising, later}
+use Rattle.store_writing.proofs.Waits.{none_wait, zero_parts, takes_then, takes_ok, stays_after}
+use Rattle.store_writing.proofs.preparing.put_parts.Goals as goal
 
 pub loop-object-init : goal.loop-object-init
 loop-object-init g c = record {

@@ -5,9 +5,9 @@ use Rattle.atomic_types.specs.declared.part.Part.{Part}
 use Rattle.stable_store.specs.Stored.{Stored}
 use Rattle.store_tables.specs.Changes.{with_record}
 use Rattle.store_tables.specs.Shown.{IsValue}
-use Rattle.sql_store.specs.Steps.{Stays}
-use Rattle.sql_store.specs.Waiting.{Takes}
-use Rattle.sql_store.proofs.preparing.put_parts.Given as goal
+use Rattle.store_writing.specs.Steps.{Stays}
+use Rattle.store_writing.specs.Waiting.{Takes}
+use Rattle.store_writing.proofs.preparing.put_parts.Given as goal
 
 abbrev pub invariant-loop-object : goal.invariant-loop-object
 invariant-loop-object g l = record {

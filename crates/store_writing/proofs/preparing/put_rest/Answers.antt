@@ -7,11 +7,11 @@ use Rattle.stable_store.specs.Numbers.{has_zero}
 use Rattle.store_tables.specs.Changes.{with_record}
 use Rattle.store_tables.specs.Shown.{IsValue}
 use Rattle.store_tables.proofs.Statements.{front_rises}
-use Rattle.sql_store.specs.Waiting.{Waits}
-use Rattle.sql_store.proofs.Inside.{steps_then, steps_as, step_ok, step_err, step_same, sees_of, survives_self}
-use Rattle.sql_store.proofs.Loops.{first_above}
-use Rattle.sql_store.proofs.Waits.{next_waits, all_written, zero_parts}
-use Rattle.sql_store.proofs.preparing.put_rest.Goals as goal
+use Rattle.store_writing.specs.Waiting.{Waits}
+use Rattle.store_writing.proofs.Inside.{steps_then, steps_as, step_ok, step_err, step_same, sees_of, survives_self}
+use Rattle.store_writing.proofs.Loops.{first_above}
+use Rattle.store_writing.proofs.Waits.{next_waits, all_written, zero_parts}
+use Rattle.store_writing.proofs.preparing.put_rest.Goals as goal
 
 pub loop-value-init : goal.loop-value-init
 loop-value-init g c = record {

@@ -8,9 +8,9 @@ use Rattle.stable_store.specs.Stored.{Stored}
 use Rattle.stable_store.specs.Numbers.{has_zero}
 use Rattle.store_tables.specs.Changes.{with_record}
 use Rattle.store_tables.specs.Shown.{IsValue}
-use Rattle.sql_store.specs.Steps.{Stays, Steps}
-use Rattle.sql_store.specs.Waiting.{Waits}
-use Rattle.sql_store.proofs.preparing.put_rest.Given as goal
+use Rattle.store_writing.specs.Steps.{Stays, Steps}
+use Rattle.store_writing.specs.Waiting.{Waits}
+use Rattle.store_writing.proofs.preparing.put_rest.Given as goal
 
 abbrev pub invariant-loop-value : goal.invariant-loop-value
 invariant-loop-value g l = record {

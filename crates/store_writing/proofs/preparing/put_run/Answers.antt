@@ -5,10 +5,10 @@ use Rattle.store_tables.specs.Changes.{with_record}
 use Rattle.store_tables.proofs.Tables.{InRange}
 use Rattle.store_tables.specs.Texts.{value_run_text}
 use Rattle.store_tables.proofs.Texts.{value_run_is, value_run_plain}
-use Rattle.sql_store.specs.Steps.{Steps}
-use Rattle.sql_store.proofs.Inside.{step_ok, step_err}
-use Rattle.sql_store.proofs.Puts.{writes_values}
-use Rattle.sql_store.proofs.preparing.put_run.Goals as goal
+use Rattle.store_writing.specs.Steps.{Steps}
+use Rattle.store_writing.proofs.Inside.{step_ok, step_err}
+use Rattle.store_writing.proofs.Puts.{writes_values}
+use Rattle.store_writing.proofs.preparing.put_run.Goals as goal
 
 pub returns-in-Ok-execute-clause-steps : goal.returns-in-Ok-execute-clause-steps
 returns-in-Ok-execute-clause-steps g c home before es k texts kinds none sorted sees =

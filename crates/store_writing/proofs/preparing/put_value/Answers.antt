@@ -7,11 +7,11 @@ use Rattle.store_tables.specs.Changes.{with_record}
 use Rattle.store_tables.proofs.Tables.{InRange}
 use Rattle.store_tables.specs.Texts.{value_text}
 use Rattle.store_tables.proofs.Texts.{value_is, value_plain}
-use Rattle.sql_store.specs.Steps.{Steps}
-use Rattle.sql_store.proofs.Inside.{step_ok, step_err}
-use Rattle.sql_store.proofs.Waits.{above_is}
-use Rattle.sql_store.proofs.Puts.{writes_values}
-use Rattle.sql_store.proofs.preparing.put_value.Goals as goal
+use Rattle.store_writing.specs.Steps.{Steps}
+use Rattle.store_writing.proofs.Inside.{step_ok, step_err}
+use Rattle.store_writing.proofs.Waits.{above_is}
+use Rattle.store_writing.proofs.Puts.{writes_values}
+use Rattle.store_writing.proofs.preparing.put_value.Goals as goal
 
 pub returns-in-Ok-clause-steps : goal.returns-in-Ok-clause-steps
 returns-in-Ok-clause-steps g c home before e k text kind low sorted sees =

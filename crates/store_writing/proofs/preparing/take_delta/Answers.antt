@@ -3,17 +3,17 @@ use Rattle.std.proofs.lemmas.Int.{to_z-of_z}
 use Rattle.std.specs.FinMap.{is_sorted}
 use Rattle.atomic_types.specs.declared.part.Part.{Part}
 use Rattle.stable_store.specs.Stored.{Stored}
-use Rattle.sql_store.specs.Steps.{Sees, Steps}
+use Rattle.store_writing.specs.Steps.{Sees, Steps}
 use Rattle.sqlite.specs.Held.{state}
 use Rattle.atomic_types.specs.declared.part.Part.TheVariants.{Delta}
 use Rattle.store_tables.specs.Changes.{with_record}
 use Rattle.store_tables.specs.Shown.{IsValue}
 use Rattle.store_tables.proofs.Statements.{more, front_rises}
-use Rattle.sql_store.specs.Waiting.{Waits}
-use Rattle.sql_store.proofs.Inside.{steps_then, step_err, sees_of}
-use Rattle.sql_store.proofs.Loops.{first_above}
-use Rattle.sql_store.proofs.Waits.{none_wait, zero_parts, when_ok}
-use Rattle.sql_store.proofs.preparing.take_delta.Goals as goal
+use Rattle.store_writing.specs.Waiting.{Waits}
+use Rattle.store_writing.proofs.Inside.{steps_then, step_err, sees_of}
+use Rattle.store_writing.proofs.Loops.{first_above}
+use Rattle.store_writing.proofs.Waits.{none_wait, zero_parts, when_ok}
+use Rattle.store_writing.proofs.preparing.take_delta.Goals as goal
 
 pub returns-in-Ok-clause-steps : goal.returns-in-Ok-clause-steps
 returns-in-Ok-clause-steps g c home written all k none sorted waits stays =

@@ -8,9 +8,9 @@ use Rattle.stable_store.specs.Stored.{Stored}
 use Rattle.stable_store.specs.Numbers.{has_zero}
 use Rattle.store_tables.specs.Changes.{with_record}
 use Rattle.store_tables.specs.Shown.{IsValue}
-use Rattle.sql_store.specs.Steps.{Stays}
-use Rattle.sql_store.specs.Waiting.{Waits, Takes}
-use Rattle.sql_store.proofs.preparing.take_part.Goals as goal
+use Rattle.store_writing.specs.Steps.{Stays}
+use Rattle.store_writing.specs.Waiting.{Waits, Takes}
+use Rattle.store_writing.proofs.preparing.take_part.Goals as goal
 
 pub returns-in-Value-clause-steps : goal.returns-in-Value-clause-steps
 returns-in-Value-clause-steps g c = c.take_value.ensures.steps (subst IsValue (sym c.in-Value.is) tt)

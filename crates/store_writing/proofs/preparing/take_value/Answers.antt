@@ -6,10 +6,10 @@ use Rattle.stable_store.specs.Numbers.{has_zero}
 use Rattle.store_tables.specs.Changes.{with_record}
 use Rattle.store_tables.specs.Shown.{IsValue}
 use Rattle.store_tables.proofs.Statements.{more}
-use Rattle.sql_store.specs.Waiting.{AreTextsOf}
-use Rattle.sql_store.proofs.Inside.{step_same, steps_as, step_ok, step_err, sees_of}
-use Rattle.sql_store.proofs.Waits.{none_wait, one_more_waits, zero_parts}
-use Rattle.sql_store.proofs.preparing.take_value.Goals as goal
+use Rattle.store_writing.specs.Waiting.{AreTextsOf}
+use Rattle.store_writing.proofs.Inside.{step_same, steps_as, step_ok, step_err, sees_of}
+use Rattle.store_writing.proofs.Waits.{none_wait, one_more_waits, zero_parts}
+use Rattle.store_writing.proofs.preparing.take_value.Goals as goal
 
 pub put_run-requires-clause-full : goal.put_run-requires-clause-full
 put_run-requires-clause-full g c =

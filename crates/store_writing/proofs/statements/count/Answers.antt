@@ -3,10 +3,10 @@ use Rattle.sqlite.specs.Values.{bound_value}
 use Rattle.sqlite.specs.State.{Survives, Executes, CommitsBy}
 use Rattle.sqlite.specs.Held.{state}
 use Rattle.store_tables.specs.Changes.{with_count}
-use Rattle.sql_store.proofs.Runs.{not_true, count_means, carried, refused}
+use Rattle.store_writing.proofs.Runs.{not_true, count_means, carried, refused}
 use Rattle.store_tables.specs.Texts.{count_text}
 use Rattle.store_tables.proofs.Texts.{number_command}
-use Rattle.sql_store.proofs.statements.count.Goals as goal
+use Rattle.store_writing.proofs.statements.count.Goals as goal
 
 pub returns-in-Ok : goal.returns-in-Ok
 returns-in-Ok g c k stands =

@@ -3,11 +3,11 @@ use Rattle.sqlite.specs.Values.{bound_value}
 use Rattle.sqlite.specs.State.{Survives, Executes, CommitsBy}
 use Rattle.sqlite.specs.Held.{state}
 use Rattle.stable_store.specs.Stored.{after_decide}
-use Rattle.sql_store.proofs.Runs.{not_true, decide_means, carried, refused}
+use Rattle.store_writing.proofs.Runs.{not_true, decide_means, carried, refused}
 use Rattle.store_tables.proofs.Tables.{InRange}
 use Rattle.store_tables.specs.Texts.{decide_text}
 use Rattle.store_tables.proofs.Texts.{decide_command}
-use Rattle.sql_store.proofs.statements.decide.Goals as goal
+use Rattle.store_writing.proofs.statements.decide.Goals as goal
 
 pub returns-in-Ok : goal.returns-in-Ok
 returns-in-Ok g c k stands =

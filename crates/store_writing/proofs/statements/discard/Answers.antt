@@ -3,10 +3,10 @@ use Rattle.sqlite.specs.Values.{bound_value}
 use Rattle.sqlite.specs.State.{Survives, Executes, CommitsBy}
 use Rattle.sqlite.specs.Held.{state}
 use Rattle.stable_store.specs.Stored.{after_discard}
-use Rattle.sql_store.proofs.Runs.{not_true, discard_means, carried, refused}
+use Rattle.store_writing.proofs.Runs.{not_true, discard_means, carried, refused}
 use Rattle.store_tables.specs.Texts.{discard_text}
 use Rattle.store_tables.proofs.Texts.{discard_command}
-use Rattle.sql_store.proofs.statements.discard.Goals as goal
+use Rattle.store_writing.proofs.statements.discard.Goals as goal
 
 pub returns-in-Ok : goal.returns-in-Ok
 returns-in-Ok g c k stands =

@@ -3,9 +3,9 @@ use Rattle.sqlite.specs.Held.{state}
 use Rattle.sqlite.proofs.Callers.{survives_begin}
 use Rattle.stable_store.specs.Stored.{after_discard}
 use Rattle.store_tables.specs.Changes.{with_base, all_put}
-use Rattle.sql_store.specs.Steps.{Carries, Steps}
-use Rattle.sql_store.proofs.Inside.{committed, rolled, begin_sees, begin_steps}
-use Rattle.sql_store.proofs.statements.install.Goals as goal
+use Rattle.store_writing.specs.Steps.{Carries, Steps}
+use Rattle.store_writing.proofs.Inside.{committed, rolled, begin_sees, begin_steps}
+use Rattle.store_writing.proofs.statements.install.Goals as goal
 
 pub returns-in-Ok : goal.returns-in-Ok
 returns-in-Ok g c k above stands =

@@ -2,9 +2,9 @@ use Rattle.std.proofs.Common.{◌≡◌, Ok, Err, true, subst, rules}
 use Rattle.sqlite.specs.Held.{state}
 use Rattle.sqlite.proofs.Callers.{survives_begin}
 use Rattle.stable_store.specs.Stored.{after_prepare}
-use Rattle.sql_store.specs.Steps.{Carries, Steps}
-use Rattle.sql_store.proofs.Inside.{committed, rolled, begin_sees, begin_steps}
-use Rattle.sql_store.proofs.statements.prepare.Goals as goal
+use Rattle.store_writing.specs.Steps.{Carries, Steps}
+use Rattle.store_writing.proofs.Inside.{committed, rolled, begin_sees, begin_steps}
+use Rattle.store_writing.proofs.statements.prepare.Goals as goal
 
 pub returns-in-Ok : goal.returns-in-Ok
 returns-in-Ok g c k next stands =

@@ -2,14 +2,14 @@ use Rattle.std.proofs.Common.{[], ◌∷◌, IsTrue, subst, subst₂, arith}
 use Rattle.sqlite.specs.Values.{bound_value}
 use Rattle.sqlite.specs.State.{HasCleanDisk, ExecutesInside}
 use Rattle.sqlite.specs.Held.{state}
-use Rattle.sql_store.specs.Steps.{Steps}
-use Rattle.sql_store.proofs.Inside.{steps, step_ok, step_err}
+use Rattle.store_writing.specs.Steps.{Steps}
+use Rattle.store_writing.proofs.Inside.{steps, step_ok, step_err}
 use Rattle.store_tables.specs.Changes.{with_record}
-use Rattle.sql_store.proofs.Runs.{record_means}
+use Rattle.store_writing.proofs.Runs.{record_means}
 use Rattle.store_tables.proofs.Tables.{InRange}
 use Rattle.store_tables.specs.Texts.{record_text}
 use Rattle.store_tables.proofs.Texts.{record_command}
-use Rattle.sql_store.proofs.steps.add_record.Goals as goal
+use Rattle.store_writing.proofs.steps.add_record.Goals as goal
 
 pub returns-in-Ok-clause-steps : goal.returns-in-Ok-clause-steps
 returns-in-Ok-clause-steps g c k none sees =

@@ -1,12 +1,12 @@
 use Rattle.std.proofs.Common.{subst, arith}
 use Rattle.sqlite.specs.Held.{state}
-use Rattle.sql_store.specs.Steps.{Steps}
-use Rattle.sql_store.proofs.Inside.{steps, step_ok, step_err}
+use Rattle.store_writing.specs.Steps.{Steps}
+use Rattle.store_writing.proofs.Inside.{steps, step_ok, step_err}
 use Rattle.store_tables.specs.Changes.{with_none_decided}
-use Rattle.sql_store.proofs.Runs.{forget_means}
+use Rattle.store_writing.proofs.Runs.{forget_means}
 use Rattle.store_tables.specs.Texts.{forget_text}
 use Rattle.store_tables.proofs.Texts.{forget_command}
-use Rattle.sql_store.proofs.steps.delete_decided.Goals as goal
+use Rattle.store_writing.proofs.steps.delete_decided.Goals as goal
 
 pub returns-in-Ok-clause-steps : goal.returns-in-Ok-clause-steps
 returns-in-Ok-clause-steps g c k sees =

@@ -2,13 +2,13 @@ use Rattle.std.proofs.Common.{[], ◌∷◌, IsTrue, subst, arith}
 use Rattle.sqlite.specs.Values.{bound_value}
 use Rattle.sqlite.specs.State.{HasCleanDisk, ExecutesInside}
 use Rattle.sqlite.specs.Held.{state}
-use Rattle.sql_store.specs.Steps.{Steps}
-use Rattle.sql_store.proofs.Inside.{steps, step_ok, step_err}
+use Rattle.store_writing.specs.Steps.{Steps}
+use Rattle.store_writing.proofs.Inside.{steps, step_ok, step_err}
 use Rattle.stable_store.specs.Stored.{after_discard}
-use Rattle.sql_store.proofs.Runs.{discard_means}
+use Rattle.store_writing.proofs.Runs.{discard_means}
 use Rattle.store_tables.specs.Texts.{discard_text}
 use Rattle.store_tables.proofs.Texts.{discard_command}
-use Rattle.sql_store.proofs.steps.delete_record.Goals as goal
+use Rattle.store_writing.proofs.steps.delete_record.Goals as goal
 
 pub returns-in-Ok-clause-steps : goal.returns-in-Ok-clause-steps
 returns-in-Ok-clause-steps g c k sees =

@@ -2,9 +2,9 @@ use Rattle.std.proofs.Common.{[], arith}
 use Rattle.sqlite.specs.Held.{state}
 use Rattle.stable_store.specs.Stored.{after_discard}
 use Rattle.store_tables.specs.Changes.{with_record}
-use Rattle.sql_store.proofs.Inside.{steps_then, steps_as, step_err, sees_of}
-use Rattle.sql_store.proofs.Loops.{in_place, taken_away}
-use Rattle.sql_store.proofs.steps.put_home.Goals as goal
+use Rattle.store_writing.proofs.Inside.{steps_then, steps_as, step_err, sees_of}
+use Rattle.store_writing.proofs.Loops.{in_place, taken_away}
+use Rattle.store_writing.proofs.steps.put_home.Goals as goal
 
 pub returns-in-Ok-clause-steps : goal.returns-in-Ok-clause-steps
 returns-in-Ok-clause-steps g c k sees =

@@ -2,13 +2,13 @@ use Rattle.std.proofs.Common.{[], ◌∷◌, IsTrue, subst, arith, codes}
 use Rattle.sqlite.specs.Values.{bound_value}
 use Rattle.sqlite.specs.State.{HasCleanDisk, ExecutesInside}
 use Rattle.sqlite.specs.Held.{state}
-use Rattle.sql_store.specs.Steps.{Steps}
-use Rattle.sql_store.proofs.Inside.{steps, step_ok, step_err}
+use Rattle.store_writing.specs.Steps.{Steps}
+use Rattle.store_writing.proofs.Inside.{steps, step_ok, step_err}
 use Rattle.store_tables.specs.Changes.{with_next}
-use Rattle.sql_store.proofs.Runs.{next_means}
+use Rattle.store_writing.proofs.Runs.{next_means}
 use Rattle.store_tables.specs.Texts.{next_text}
 use Rattle.store_tables.proofs.Texts.{number_command}
-use Rattle.sql_store.proofs.steps.put_next.Goals as goal
+use Rattle.store_writing.proofs.steps.put_next.Goals as goal
 
 pub returns-in-Ok-clause-steps : goal.returns-in-Ok-clause-steps
 returns-in-Ok-clause-steps g c k sees =

@@ -1,8 +1,8 @@
 use Rattle.std.proofs.Common.{[], arith}
 use Rattle.sqlite.specs.Held.{state}
 use Rattle.store_tables.specs.Changes.{with_record}
-use Rattle.sql_store.proofs.Inside.{steps_then, step_err}
-use Rattle.sql_store.proofs.steps.put_whole.Goals as goal
+use Rattle.store_writing.proofs.Inside.{steps_then, step_err}
+use Rattle.store_writing.proofs.steps.put_whole.Goals as goal
 
 pub returns-in-Ok-clause-steps : goal.returns-in-Ok-clause-steps
 returns-in-Ok-clause-steps g c k sees =

@@ -1,9 +1,9 @@
 use Rattle.std.proofs.Common.{◌≡◌, ◌<◌, ◌+◌, [], ◌∷◌, ◌++◌, drop, length, sym, ap, ◌∙◌, arith}
 use Rattle.std.proofs.lemmas.List.{drop_more}
 use Rattle.sqlite.specs.Values.{bound}
-use Rattle.sql_store.specs.Waiting.{parameters_of}
-use Rattle.sql_store.proofs.Pairs.{two_more}
-use Rattle.sql_store.proofs.waiting.push_parameters.Goals as goal
+use Rattle.store_writing.specs.Waiting.{parameters_of}
+use Rattle.store_writing.proofs.Pairs.{two_more}
+use Rattle.store_writing.proofs.waiting.push_parameters.Goals as goal
 
 pub loop-part-preserved : goal.loop-part-preserved
 loop-part-preserved c =

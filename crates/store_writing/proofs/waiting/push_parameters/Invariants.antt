@@ -1,7 +1,7 @@
 use Rattle.std.proofs.Common.{◌≡◌, ◌++◌, drop}
 use Rattle.sqlite.specs.Values.{bound}
-use Rattle.sql_store.specs.Waiting.{parameters_of}
-use Rattle.sql_store.proofs.waiting.push_parameters.Given as goal
+use Rattle.store_writing.specs.Waiting.{parameters_of}
+use Rattle.store_writing.proofs.waiting.push_parameters.Given as goal
 
 abbrev pub invariant-loop-part : goal.invariant-loop-part
 invariant-loop-part l = bound l.all.items ++ parameters_of (drop l.part-index l.parts) ≡ bound l.fn.all.items ++ parameters_of l.parts

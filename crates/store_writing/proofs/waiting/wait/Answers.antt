@@ -1,5 +1,5 @@
 use Rattle.std.proofs.Common.{refl, arith}
-use Rattle.sql_store.proofs.waiting.wait.Goals as goal
+use Rattle.store_writing.proofs.waiting.wait.Goals as goal
 
 pub returns : goal.returns
 returns c =

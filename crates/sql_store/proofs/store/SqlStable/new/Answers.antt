@@ -2,7 +2,7 @@ use Rattle.std.proofs.Common.{◌≡◌, IfSome, sym, subst, ◌∙◌}
 use Rattle.sqlite.specs.Held.{state}
 use Rattle.sqlite.specs.State.{HasCleanDisk}
 use Rattle.stable_store.specs.Held.{held}
-use Rattle.sql_store.specs.Steps.{Stands}
+use Rattle.store_writing.specs.Steps.{Stands}
 use Rattle.sql_store.proofs.Made.{at_rest}
 use Rattle.sql_store.proofs.store.SqlStable.new.Goals as goal
 

@@ -4,7 +4,7 @@ use Rattle.stable_store.specs.Held.{held}
 use Rattle.stable_store.specs.Stored.{after_install}
 use Rattle.stable_store.specs.Calls.{Makes, IsRefused}
 use Rattle.stable_store.specs.declared.fault.StoreFault.TheVariants.{NotOurs}
-use Rattle.sql_store.specs.Steps.{IsAtRest}
+use Rattle.store_writing.specs.Steps.{IsAtRest}
 use Rattle.sql_store.specs.Views.{sql_view}
 use Rattle.sql_store.proofs.Made.{Shelf, shelf, made_ok, made_err, untouched, excused_as}
 use Rattle.sql_store.proofs.store.SqlStableStable.install.Goals as goal

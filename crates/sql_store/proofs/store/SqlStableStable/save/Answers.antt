@@ -5,7 +5,7 @@ use Rattle.stable_store.specs.Numbers.{has_zero}
 use Rattle.stable_store.specs.Stored.{after_save}
 use Rattle.stable_store.specs.Calls.{Makes, IsRefused}
 use Rattle.stable_store.specs.declared.fault.StoreFault.TheVariants.{Failed, NotOurs}
-use Rattle.sql_store.specs.Steps.{IsAtRest}
+use Rattle.store_writing.specs.Steps.{IsAtRest}
 use Rattle.sql_store.specs.Views.{sql_view}
 use Rattle.sql_store.proofs.Made.{Shelf, shelf, made_ok, made_err, untouched, excused_more, excused_as}
 use Rattle.sql_store.proofs.store.SqlStableStable.save.Goals as goal

@@ -1,0 +1,6 @@
+pub mod Runs
+pub mod Inside
+mod Loops
+mod Waits
+mod Pairs
+mod Puts
