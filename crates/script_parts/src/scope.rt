@@ -1,5 +1,5 @@
 //! The variables that are bound while a body is read.
-ghost use Rattle.std.specs.Prelude.{◌≡◌, ℕ, ◌≤◌, List, [], ◌∷◌, ◌++◌, length, None, option_map, if◌then◌else◌, IfOk};
+ghost use Rattle.std.specs.Prelude.{◌≡◌, ℕ, ◌≤◌, List, [], ◌∷◌, ◌++◌, length, None, option_map, if◌then◌else◌, IfOk, OnErr};
 ghost use Rattle.script_model.specs.declared.names.Sort.{Sort};
 ghost use Rattle.script_model.specs.Scopes as spec;
 ghost use Rattle.script_model.specs.Scopes.{find, count_bound, same_sort};
@@ -117,11 +117,13 @@ impl<'j> Scope<'j> {
         self.variables.get(name).copied()
     }
 
-    /// Binds a name that is not bound, and gives its place. Fails if memory runs out.
+    /// Binds a name that is not bound, and gives its place. Fails if memory runs out, and then
+    /// binds nothing.
     pub fn bind(&mut self, name: &'j str, sort: Sort) -> Result<u32, AllocError>
         requires { find self.old name.now ≡ None }
         ensures bound { IfOk result (λ _. self.new ≡ record { name = name.now; sort = sort } ∷ self.old) }
         ensures place { IfOk result (λ place. place ≡ count_bound sort self.old) }
+        ensures refused { OnErr result (self.new ≡ self.old) }
     {
         let place = self.counts.of(sort);
         let Some(count) = place.checked_add(1) else {
