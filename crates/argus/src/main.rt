@@ -2,16 +2,16 @@
 //! error.
 #![tactic(auto)]
 
+mod refusing;
 mod run;
 mod stores;
 
+use crate::refusing::FAULT;
+use crate::stores::Files;
 use argus_engine::Fault;
-use command_line::request::{Command, CommandFault};
+use command_line::request::Command;
 use std::env;
 use std::process::ExitCode;
-
-/// The exit status of a fault and of a mistake in the command line.
-const FAULT: u8 = 2;
 
 fn main(rt: HostRuntime) -> ExitCode {
     match obey(&rt) {
@@ -38,26 +38,9 @@ fn obey(rt: &HostRuntime) -> Result<ExitCode, Fault> {
         words.push(text.as_str())?;
     }
     match command_line::command(rt.alloc(), words.as_slice()) {
-        Ok(Command::Steps(given)) => run::steps(rt, &given),
+        Ok(Command::Steps(given)) => run::steps(rt, &Files { rt }, &given),
         Ok(Command::Check(given)) => run::check(rt, &given),
-        Ok(Command::Run(given)) => run::run(rt, &given),
-        Err(fault) => explain(rt, &fault),
+        Ok(Command::Run(given)) => run::run(rt, &Files { rt }, &given),
+        Err(fault) => refusing::explain(rt, &fault),
     }
-}
-
-/// Prints what clap says.
-fn explain(rt: &HostRuntime, fault: &CommandFault) -> Result<ExitCode, Fault> {
-    let CommandFault::Said(error) = fault else {
-        return Ok(ExitCode::from(FAULT));
-    };
-    if error.kind() == clap::error::ErrorKind::OutOfMemory {
-        return Err(Fault::Memory);
-    }
-    if error.print(rt).is_err() {
-        return Err(Fault::Output);
-    }
-    Ok(match error.exit_code() {
-        0 => ExitCode::SUCCESS,
-        _ => ExitCode::from(FAULT),
-    })
 }

@@ -2,7 +2,8 @@
 
 ghost use Rattle.std.specs.Prelude.{◌≡◌, length};
 
-use crate::stores::{open_stores, stores_in};
+use crate::refusing::refuse;
+use crate::stores::{Opens, open_stores, stores_in};
 use argus_engine::{
     Ended, Fault, check_script, explain_text, finish, read_script, steps as answer_steps,
 };
@@ -10,8 +11,9 @@ use command_line::request::{Check, Run, Steps};
 use run_model::{Setup, SetupFault};
 use script_engine::{run_file, run_stored};
 use stable_store::Stable;
+use std::alloc::Global;
 use std::fs;
-use std::io::{self, Read};
+use std::io::{self, Read, Write};
 use std::process::ExitCode;
 use world::{Refused, World};
 
@@ -21,14 +23,14 @@ const STANDARD_INPUT: &str = "-";
 /// Makes the steps of a file in a world of the setup, and writes their answers to standard output, and after them what is to be
 /// explained. The world is a new one, in memory or over new stores in a folder, or one that goes on from the stores there. The status is 1 where
 /// the setup is none, where the stores cannot be used, or a line is no step; then nothing is explained.
-pub fn steps(rt: &HostRuntime, given: &Steps<'_>) -> Result<ExitCode, Fault> {
+pub fn steps<O: Opens>(rt: &HostRuntime, files: &O, given: &Steps<'_>) -> Result<ExitCode, Fault> {
     let Some(setup) = read_setup(rt, given.setup)? else {
         return refuse(rt, "error setup");
     };
     match given.store {
         None if given.reopen => refuse(rt, "error store"),
         None => answer(rt, World::in_memory(rt.alloc(), setup)?, given),
-        Some(folder) => match stores_in(rt, folder, setup.guardians(), given.reopen)? {
+        Some(folder) => match stores_in(rt, files, folder, setup.guardians(), given.reopen)? {
             Some(stores) => answer_over(rt, setup, stores, given),
             None => refuse(rt, "error store"),
         },
@@ -83,22 +85,27 @@ pub fn check(rt: &HostRuntime, given: &Check<'_>) -> Result<ExitCode, Fault> {
 
 /// Runs the script in a file and writes how its clients ended, and the bases of its objects, to standard output. The
 /// status is 1 where the file is no script, or where a store is not its own.
-pub fn run(rt: &HostRuntime, given: &Run<'_>) -> Result<ExitCode, Fault> {
+pub fn run<O: Opens>(rt: &HostRuntime, files: &O, given: &Run<'_>) -> Result<ExitCode, Fault> {
     let bytes = read_file(rt, given.script)?;
     let ended = match given.store {
         None => run_file(rt.alloc(), bytes.as_slice(), &mut io::writer(rt))?,
-        Some(folder) => run_over(rt, bytes.as_slice(), folder)?,
+        Some(folder) => run_over(rt, files, bytes.as_slice(), folder)?,
     };
     Ok(status_of(ended))
 }
 
 /// The same over the stores in a folder.
-fn run_over(rt: &HostRuntime, bytes: &[u8], folder: &str) -> Result<Ended, Fault> {
+fn run_over<O: Opens>(
+    rt: &HostRuntime,
+    files: &O,
+    bytes: &[u8],
+    folder: &str,
+) -> Result<Ended, Fault> {
     let writer = &mut io::writer(rt);
     let Some(script) = read_script(rt.alloc(), bytes, writer)? else {
         return Ok(Ended::Stopped);
     };
-    let Some(mut stores) = open_stores(rt, folder, &script)? else {
+    let Some(mut stores) = open_stores(rt.alloc(), files, folder, &script)? else {
         finish(writer, "error store\n")?;
         return Ok(Ended::Stopped);
     };
@@ -113,14 +120,6 @@ fn status_of(ended: Ended) -> ExitCode {
     }
 }
 
-/// Writes why nothing was run, to standard output.
-fn refuse(rt: &HostRuntime, why: &str) -> Result<ExitCode, Fault> {
-    match println!(rt; "{why}") {
-        Ok(()) => Ok(ExitCode::FAILURE),
-        Err(_) => Err(Fault::Output),
-    }
-}
-
 /// Makes the steps of a file in the world, and writes their answers.
 fn answer_file<S: Stable>(
     rt: &HostRuntime,
@@ -128,21 +127,22 @@ fn answer_file<S: Stable>(
     file: &str,
 ) -> Result<Ended, Fault> {
     if file == STANDARD_INPUT {
-        return answer_all(rt, world, &mut rt.reader());
+        return answer_all(rt.alloc(), world, &mut rt.reader(), &mut io::writer(rt));
     }
     match fs::open(rt, file) {
-        Ok(mut input) => answer_all(rt, world, &mut input),
+        Ok(mut input) => answer_all(rt.alloc(), world, &mut input, &mut io::writer(rt)),
         Err(error) => Err(read_fault(&error)),
     }
 }
 
-/// Makes the steps that the reader gives in the world, and writes their answers to standard output.
-fn answer_all<S: Stable, R: Read>(
-    rt: &HostRuntime,
+/// Makes the steps that the reader gives in the world, and writes their answers.
+fn answer_all<S: Stable, R: Read, W: Write>(
+    alloc: Global,
     world: &mut World<S>,
     input: &mut R,
+    writer: &mut W,
 ) -> Result<Ended, Fault> {
-    answer_steps(rt.alloc(), world, input, &mut io::writer(rt))
+    answer_steps(alloc, world, input, writer)
 }
 
 /// The setup in a file; `None` where the file holds none.

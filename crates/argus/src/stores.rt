@@ -7,25 +7,49 @@ use script::Checked;
 use script_engine::can_open;
 use sql_store::SqlStable;
 use sqlite::{Connection, Error, ErrorCode, File, FileStore};
-use stable_store::StoreFault;
+use stable_store::{Stable, StoreFault};
+use std::alloc::Global;
 use std::fs;
 use std::io::ErrorKind;
 
 /// A store in a file.
 pub type FileStable = SqlStable<FileStore<File>>;
 
+/// A way to open the stores of guardians.
+pub trait Opens {
+    type Store: Stable;
+
+    /// The store that the guardian of this number has in the folder; `None` where its file has none.
+    fn open(&self, folder: &str, number: usize) -> Result<Option<Self::Store>, Fault>;
+}
+
+/// Stores are opened in files.
+#[derive(Clone, Copy)]
+pub struct Files<'a> {
+    pub rt: &'a HostRuntime,
+}
+
+impl Opens for Files<'_> {
+    type Store = FileStable;
+
+    fn open(&self, folder: &str, number: usize) -> Result<Option<FileStable>, Fault> {
+        open_numbered(self.rt, folder, number)
+    }
+}
+
 /// The stores of a script's guardians, in order; a file that is not there is made, and tables of version 1 are migrated.
 /// `None` where one of them is no store, or can not open its guardian; the files behind it are then not looked at.
-pub fn open_stores(
-    rt: &HostRuntime,
+pub fn open_stores<O: Opens>(
+    alloc: Global,
+    files: &O,
     folder: &str,
     script: &Checked,
-) -> Result<Option<Vec<FileStable>>, Fault>
+) -> Result<Option<Vec<O::Store>>, Fault>
     ensures { IfOk result (λ found. IfSome found (λ stores. length stores.items ≡ length script.now.guardians)) }
 {
-    let mut stores = Vec::new(rt.alloc());
+    let mut stores = Vec::new(alloc);
     for (index, objects) in script.guardians.as_slice().iter().enumerate() {
-        let Some(store) = open_numbered(rt, folder, index + 1)? else {
+        let Some(store) = files.open(folder, index + 1)? else {
             return Ok(None);
         };
         if !can_open(&store, objects.len()) {
@@ -38,12 +62,13 @@ pub fn open_stores(
 
 /// The stores of so many guardians, in order, in files of the folder: new ones, or where they are to be opened again those that are there. `None`
 /// where a file is there that is to be made, or is not there and is to be opened again, and where a file holds no store.
-pub fn stores_in(
+pub fn stores_in<O: Opens>(
     rt: &HostRuntime,
+    files: &O,
     folder: &str,
     guardians: usize,
     reopen: bool,
-) -> Result<Option<Vec<FileStable>>, Fault>
+) -> Result<Option<Vec<O::Store>>, Fault>
     ensures { IfOk result (λ found. IfSome found (λ stores. length stores.items ≡ guardians)) }
 {
     if !all_are_so(rt, folder, guardians, reopen)? {
@@ -51,7 +76,7 @@ pub fn stores_in(
     }
     let mut stores = Vec::new(rt.alloc());
     for index in 0..guardians {
-        let Some(store) = open_numbered(rt, folder, index + 1)? else {
+        let Some(store) = files.open(folder, index + 1)? else {
             return Ok(None);
         };
         stores.push(store)?;

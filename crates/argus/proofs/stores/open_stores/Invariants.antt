@@ -3,4 +3,4 @@ use Rattle.argus.proofs.stores.open_stores.Given as goal
 
 -- the stores of the first guardians
 abbrev pub invariant-loop-index : goal.invariant-loop-index
-invariant-loop-index l = length l.stores.items ≡ l.index
+invariant-loop-index g l = length l.stores.items ≡ l.index
