@@ -6,7 +6,7 @@ use argus_engine::Fault;
 use script::Checked;
 use script_engine::can_open;
 use sql_store::SqlStable;
-use sqlite::{Connection, Error, ErrorCode, File, FileStore};
+use sqlite::{Alter, Connection, Error, ErrorCode, File, FileStore};
 use stable_store::{Stable, StoreFault};
 use std::alloc::Global;
 use std::fs;
@@ -126,13 +126,21 @@ fn open_numbered(
 
 /// The store in a file; `None` where the file has none.
 fn open_store(rt: &HostRuntime, path: &str) -> Result<Option<FileStable>, Fault> {
-    let conn = match Connection::open(rt, path) {
+    store_over(rt.alloc(), Connection::open(rt, path))
+}
+
+/// The store in a database that was opened with this result; `None` where it is no database, or has no store.
+fn store_over<A: Alter + Drop>(
+    alloc: Global,
+    opened: Result<Connection<A>, Error>,
+) -> Result<Option<SqlStable<A>>, Fault> {
+    let conn = match opened {
         Ok(conn) => conn,
         Err(Error::SqliteFailure(ErrorCode::NotADatabase)) => return Ok(None),
         Err(Error::SqliteFailure(ErrorCode::OutOfMemory)) => return Err(Fault::Memory),
         Err(_) => return Err(Fault::Store),
     };
-    match SqlStable::new(rt.alloc(), conn) {
+    match SqlStable::new(alloc, conn) {
         Ok(store) => Ok(Some(store)),
         Err((StoreFault::NotOurs, _)) => Ok(None),
         Err((fault, _)) => Err(fault.into()),
