@@ -1,7 +1,7 @@
 -- The arms of a `coenter`: the names with which they begin, of which no two are one.
-use Rattle.std.proofs.Common.{Bool, List, [], Option, None, Some, ap, ap₂, arith, false, length, refl, reverse, subst, suc, sym, true, ℕ, ◌<◌, ◌||◌, ◌∙◌, ◌∷◌, ◌≡◌, ◌≢◌}
+use Rattle.std.proofs.Common.{Bool, IfSome, List, [], Option, None, Some, ap, arith, false, length, option_map, refl, reverse, subst, suc, sym, true, ℕ, ◌<◌, ◌||◌, ◌∙◌, ◌∷◌, ◌≡◌, ◌≢◌}
 use Rattle.std.proofs.lemmas.Bool.{false_from_ne_true, or_from}
-use Rattle.std.proofs.lemmas.List.{reverse-append}
+use Rattle.std.proofs.lemmas.List.{length-map, length-reverse, reverse-append, reverse-reverse}
 use Rattle.action_names.specs.Names.{Name, child_of, has_name, last_of, parent_of, same_name}
 use Rattle.run_model.specs.declared.answer.Answer.{Answer}
 use Rattle.run_model.specs.declared.answer.Answer.TheVariants.{Began, Done, Granted, Refused, VoteNo, VoteYes, Waits}
@@ -19,8 +19,10 @@ use Rattle.run_model.specs.Runs.{IsRun, World, world_after}
 use Rattle.run_laws.proofs.Accepted.{makes_facts}
 use Rattle.run_laws.proofs.Begun.{nameless}
 use Rattle.run_laws.proofs.Names.{has_name_append, last_child, parent_child, same_name_self, same_name_true}
-use Rattle.activities.specs.Continuing.{HaveBegun, IsAfter}
-use Rattle.activities.proofs.Steps.{step_begins}
+use Rattle.script_model.specs.declared.statement.Arm.{Arm}
+use Rattle.activities.specs.Bodies.{kind_of, kinds}
+use Rattle.activities.specs.Continuing.{HaveBegun}
+use Rattle.activities.specs.Serial.{waiting_by}
 
 -- ---- the names of arms differ
 
@@ -141,18 +143,35 @@ begun_differ opening a kinds past r = go (answer_of opening (Arms a kinds) past)
     go (Done n) h = none
     go (Refused why) h = none
 
--- the step that was made is the one of these arms
-pub together : (old new : World) (a b : Name) (ks all : List ArmKind) (answer : Answer) → answer ≡ answer_of (opening_in old.lists) (Arms a ks) old.past
-    → new ≡ world_after old (Arms a ks) answer → a ≡ b → ks ≡ all → IsAfter (Arms b all) old new
-together old new a b ks all answer h w e f =
-    w ∙ ap (λ x. world_after old (Arms a ks) x) h
-    ∙ ap₂ (λ x y. world_after old (Arms x y) (answer_of (opening_in old.lists) (Arms x y) old.past)) e f
+-- ---- the arms that wait
 
--- the arms' names, that of the first arm last, have just begun
-pub arms_begun : (old new : World) (a : Name) (ks : List ArmKind) (answer : Answer) (names turned : List Name) → IsRun (opening_in old.lists) old.past
-    → answer ≡ answer_of (opening_in old.lists) (Arms a ks) old.past → new ≡ world_after old (Arms a ks) answer → answer ≡ Began names
-    → turned ≡ reverse names → HaveBegun turned old new
-arms_begun old new a ks answer names turned r h w b t =
-    subst (λ l. HaveBegun l old new) (sym t) (begun_reverse names old new
-    (subst (λ v. HaveBegun names old v) (sym (w ∙ ap (λ x. world_after old (Arms a ks) x) b))
-    (step_begins old (Arms a ks) (Began names) r (sym b ∙ h))))
+waiting_began : (answer : Answer) (names : List Name) → Some names ≡ waiting_by answer → answer ≡ Began names
+waiting_began (Began names) more e = cc
+waiting_began (Granted reply) more e = cc
+waiting_began (Waits names) more e = cc
+waiting_began VoteYes more e = cc
+waiting_began VoteNo more e = cc
+waiting_began (Done n) more e = cc
+waiting_began (Refused why) more e = cc
+
+-- what is so of the names that an answer began, turned round, is so of those that wait
+where_waiting : {X : Type 0} (found : Option X) (items : X → List Name) (answer : Answer) (so : List Name → Type 0)
+    → option_map (λ x. reverse (items x)) found ≡ waiting_by answer → ((names : List Name) → answer ≡ Began names → so (reverse names))
+    → IfSome found (λ x. so (items x))
+where_waiting None items answer so e f = tt
+where_waiting (Some x) items answer so e f =
+    subst so (reverse-reverse (items x)) (f (reverse (items x)) (waiting_began answer (reverse (items x)) e))
+
+pub waiting_each : {X : Type 0} (found : Option X) (items : X → List Name) (w : World) (a : Name) (ks : List ArmKind) (arms : List Arm) (answer : Answer)
+    → option_map (λ x. reverse (items x)) found ≡ waiting_by answer → answer ≡ answer_of (opening_in w.lists) (Arms a ks) w.past
+    → ks ≡ kinds arms → IfSome found (λ x. length (items x) ≡ length arms)
+waiting_each found items w a ks arms answer e h k =
+    where_waiting found items answer (λ names. length names ≡ length arms) e
+    (λ names b. length-reverse names ∙ arms_begin_each (opening_in w.lists) a ks w.past names (sym b ∙ h) ∙ ap length k ∙ length-map arms kind_of)
+
+pub waiting_begun : {X : Type 0} (found : Option X) (items : X → List Name) (old new : World) (answer : Answer)
+    → option_map (λ x. reverse (items x)) found ≡ waiting_by answer → HaveBegun (names_begun answer) old new
+    → IfSome found (λ x. HaveBegun (items x) old new)
+waiting_begun found items old new answer e begun =
+    where_waiting found items answer (λ names. HaveBegun names old new) e
+    (λ names b. begun_reverse names old new (subst (λ x. HaveBegun (names_begun x) old new) b begun))

@@ -1,14 +1,12 @@
 -- What an answer began.
-use Rattle.std.proofs.Common.{List, None, [], arith, length, ◌∷◌, ap, refl, ◌∙◌, ◌≡◌}
+use Rattle.std.proofs.Common.{List, None, [], arith, length, ◌∷◌, refl, ◌≡◌}
 use Rattle.action_names.specs.Names.{Name}
 use Rattle.run_model.specs.declared.answer.Answer.{Answer}
 use Rattle.run_model.specs.declared.answer.Answer.TheVariants.{Began, Done, Granted, Refused, VoteNo, VoteYes, Waits}
 use Rattle.run_model.specs.declared.answer.Refusal.TheVariants as refusal
 use Rattle.run_model.specs.Actions.{names_begun}
-use Rattle.run_model.specs.declared.step.ArmKind.{ArmKind}
-use Rattle.run_model.specs.declared.step.Step.TheVariants.{Arms}
 use Rattle.activities.specs.Ends.{called, named_by}
-use Rattle.activities.specs.Serial.{begun_by, called_by, waiting_by}
+use Rattle.activities.specs.Serial.{begun_by, called_by}
 
 -- what a call began, which is one action at most
 pub called_names : (a : Answer) → ((names : List Name) → a ≡ Began names → length names ≡ 1) → called (called_by a) ≡ names_begun a
@@ -37,15 +35,6 @@ begun_names VoteNo f = refl
 begun_names (Done n) f = refl
 
 -- an answer that began nothing
-pub none_waiting : (a : Answer) → ((names : List Name) → a ≡ Began names → ⊥) → None ≡ waiting_by a
-none_waiting (Began names) n = absurd (n names refl)
-none_waiting (Granted reply) n = refl
-none_waiting (Waits names) n = refl
-none_waiting VoteYes n = refl
-none_waiting VoteNo n = refl
-none_waiting (Done m) n = refl
-none_waiting (Refused why) n = refl
-
 pub none_begun_by : (a : Answer) → ((names : List Name) → a ≡ Began names → ⊥) → None ≡ begun_by a
 none_begun_by (Began names) n = absurd (n names refl)
 none_begun_by (Granted reply) n = refl
@@ -54,7 +43,3 @@ none_begun_by VoteYes n = refl
 none_begun_by VoteNo n = refl
 none_begun_by (Done m) n = refl
 none_begun_by (Refused why) n = refl
-
--- the step that begins arms, under other names
-pub step_named : (a b : Name) (kinds more : List ArmKind) → a ≡ b → kinds ≡ more → Arms a kinds ≡ Arms b more
-step_named a b kinds more e k = ap (λ x. Arms x kinds) e ∙ ap (λ x. Arms b x) k

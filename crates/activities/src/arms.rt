@@ -7,12 +7,12 @@ ghost use Rattle.activities.specs.OwnSteps.{KeepsTo};
 ghost use Rattle.activities.specs.Serial.{asked, waiting_by};
 ghost use Rattle.run_model.specs.Openings.{opening_in};
 
-use crate::open_action::OpenAction;
+use crate::open_action::{OpenAction, make};
 use action_names::Name;
 use run_model::{Answer, ArmKind, ArmKinds, Step};
 use script_model::{Arm, Statement};
 use stable_store::Stable;
-use std::alloc::Global;
+use std::alloc::{AllocError, Global};
 use world::{Fault, World};
 
 /// Begins the arms together, and gives their names, that of the first arm last; none where that is refused.
@@ -32,18 +32,33 @@ pub(crate) fn begin_arms<S: Stable>(
     ensures waiting { IfOk result (λ found. option_map (λ names. reverse names.items) found
         ≡ waiting_by (asked (Arms action.now.name (kinds arms.now)) world.old.run)) }
 {
+    let kinds = arm_kinds(alloc, arms)?;
+    let answer = make(world, Step::Arms(action.name.copy()?, kinds))?;
+    Ok(waiting_by(answer))
+}
+
+/// The names that an answer began, that of the first arm last.
+fn waiting_by(answer: Answer) -> Option<Vec<Name>>
+    ensures { option_map (λ names. reverse names.items) result ≡ waiting_by answer }
+{
+    match answer {
+        Answer::Began(names) => {
+            let mut names = names.into_vec();
+            names.reverse();
+            Some(names)
+        }
+        _ => None,
+    }
+}
+
+fn arm_kinds(alloc: Global, arms: &[Arm]) -> Result<ArmKinds, AllocError>
+    ensures { IfOk result (λ them. them ≡ kinds arms.now) }
+{
     let mut kinds = ArmKinds::new(alloc);
     for arm in arms {
         kinds.push(arm_kind(arm))?;
     }
-    match world.step(&Step::Arms(action.name.copy()?, kinds))? {
-        Answer::Began(names) => {
-            let mut names = names.into_vec();
-            names.reverse();
-            Ok(Some(names))
-        }
-        _ => Ok(None),
-    }
+    Ok(kinds)
 }
 
 fn arm_kind(arm: &Arm) -> ArmKind

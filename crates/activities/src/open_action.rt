@@ -428,7 +428,7 @@ pub(crate) fn only(names: Names) -> Name
 }
 
 /// Makes a step that is about an action.
-fn make<S: Stable>(world: &mut World<S>, step: Step) -> Result<Answer, Fault>
+pub(crate) fn make<S: Stable>(world: &mut World<S>, step: Step) -> Result<Answer, Fault>
     requires run { IsRun (opening_in world.old.run.lists) world.old.run.past }
     requires step { IsOfAction step }
     ensures goes_on { GoesOn world.old.run world.new.run [] }
