@@ -4,3 +4,4 @@ mod Loops
 mod Waits
 mod Pairs
 mod Puts
+mod OtherErrors

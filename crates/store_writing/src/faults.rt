@@ -2,6 +2,7 @@
 ghost use Rattle.std.specs.Prelude.{◌≡◌, ◌≢◌};
 ghost use Rattle.stable_store.specs.declared.fault.StoreFault.TheVariants.{NotOurs};
 ghost use Rattle.stable_store.specs.Calls.{IsExcused};
+ghost use Rattle.store_writing.specs.Faults as spec;
 
 use sqlite::{Error, ErrorCode};
 use sqlite_resolve::CompileError;
@@ -16,11 +17,33 @@ pub(crate) const WANT: Error = Error::SqliteFailure(ErrorCode::OutOfMemory);
 /// The fault of a statement that the database refused: `Memory` if memory ran out, and else
 /// `Failed`.
 pub fn fault_of(error: Error) -> StoreFault
-    ensures { result ≢ NotOurs }
+    ensures told { result ≢ NotOurs }
+    ensures fault { result ≡ spec.fault_of error }
 {
     match error {
-        Error::SqliteFailure(ErrorCode::OutOfMemory)
-        | Error::SqlInputError(CompileError::OutOfMemory) => StoreFault::Memory,
+        Error::SqliteFailure(code) => fault_of_code(code),
+        Error::SqlInputError(refusal) => fault_of_refusal(refusal),
+        _ => StoreFault::Failed,
+    }
+}
+
+fn fault_of_code(code: ErrorCode) -> StoreFault
+    ensures told { result ≢ NotOurs }
+    ensures fault { result ≡ spec.fault_of_code code }
+{
+    match code {
+        ErrorCode::OutOfMemory => StoreFault::Memory,
+        _ => StoreFault::Failed,
+    }
+}
+
+/// The fault of a statement that was not understood.
+fn fault_of_refusal(refusal: CompileError) -> StoreFault
+    ensures told { result ≢ NotOurs }
+    ensures fault { result ≡ spec.fault_of_refusal refusal }
+{
+    match refusal {
+        CompileError::OutOfMemory => StoreFault::Memory,
         _ => StoreFault::Failed,
     }
 }
