@@ -155,6 +155,10 @@ pub not_true : (b : Bool) → true ≡ not b → b ≡ false
 not_true true h = h
 not_true false h = refl
 
+pub not_busy : (b : Bool) → true ≡ not b → IsTrue b → ⊥
+not_busy true h busy = cc
+not_busy false h busy = cc
+
 -- a database with the tables of a store, which holds this content
 abbrev pub IsStored : Database → Stored → Type 0
 IsStored d c = (d.schema ≡ stable_schema) × IsStore d.trees c

@@ -53,8 +53,8 @@ pub(crate) fn put_parts<A: Alter>(
     put_rest(tx, top, &waiting)
 }
 
-/// Takes one part more of a record. A value waits until one statement can write sixteen, a delta is written behind those
-/// that wait.
+/// Takes one part more of a record. A value waits until one statement can write sixteen, a delta is
+/// written behind those that wait.
 fn take_part<A: Alter>(
     tx: &mut Transaction<'_, A>,
     alloc: Global,

@@ -1,5 +1,5 @@
 //! The calls that write, each one transaction.
-ghost use Rattle.std.specs.Prelude.{◌≡◌, ◌≤◌, ◌<◌, false};
+ghost use Rattle.std.specs.Prelude.{◌≡◌, ◌≤◌, ◌<◌, false, IsTrue, IsErr};
 ghost use Rattle.sqlite.specs.Held.{state};
 ghost use Rattle.stable_store.specs.Stored.{Stored, after_prepare, after_discard, after_decide, greatest_count};
 ghost use Rattle.stable_store.specs.Numbers.{has_zero};
@@ -19,8 +19,10 @@ use std::collections::BTreeMap;
 /// transaction is under way, and then changes nothing.
 pub fn decide<A: Alter>(conn: &mut Connection<A>, top: u32) -> Result<(), Error>
     requires { 0 < top }
-    ensures { (c : Stored) → Stands (state A.Store conn.old) c
+    ensures carries { (c : Stored) → Stands (state A.Store conn.old) c
         → Carries (state A.Store conn.old) (state A.Store conn.new) c (after_decide top c) result }
+    ensures busy { IsTrue (state A.Store conn.old).in_transaction
+        → IsErr result × (conn.new ≡ conn.old) }
 {
     if !conn.is_autocommit() {
         return Err(BUSY);
@@ -35,8 +37,10 @@ pub fn decide<A: Alter>(conn: &mut Connection<A>, top: u32) -> Result<(), Error>
 /// transaction is under way, and then changes nothing.
 pub fn count<A: Alter>(conn: &mut Connection<A>, count: u64) -> Result<(), Error>
     requires { count ≤ greatest_count }
-    ensures { (c : Stored) → Stands (state A.Store conn.old) c
+    ensures carries { (c : Stored) → Stands (state A.Store conn.old) c
         → Carries (state A.Store conn.old) (state A.Store conn.new) c (with_count count c) result }
+    ensures busy { IsTrue (state A.Store conn.old).in_transaction
+        → IsErr result × (conn.new ≡ conn.old) }
 {
     if !conn.is_autocommit() {
         return Err(BUSY);
@@ -53,8 +57,10 @@ pub fn count<A: Alter>(conn: &mut Connection<A>, count: u64) -> Result<(), Error
 /// Deletes a record. Its parts go with it. Fails if the database refuses it, or a
 /// transaction is under way, and then changes nothing.
 pub fn discard<A: Alter>(conn: &mut Connection<A>, top: u32) -> Result<(), Error>
-    ensures { (c : Stored) → Stands (state A.Store conn.old) c
+    ensures carries { (c : Stored) → Stands (state A.Store conn.old) c
         → Carries (state A.Store conn.old) (state A.Store conn.new) c (after_discard top c) result }
+    ensures busy { IsTrue (state A.Store conn.old).in_transaction
+        → IsErr result × (conn.new ≡ conn.old) }
 {
     if !conn.is_autocommit() {
         return Err(BUSY);
@@ -78,9 +84,11 @@ pub fn prepare<A: Alter>(
     requires top { 0 < top }
     requires home { 0 < whole.now.home }
     requires objects { has_zero whole.now.parts.entries ≡ false }
-    ensures { (c : Stored) → c.next_top ≡ next_top → Stands (state A.Store conn.old) c
+    ensures carries { (c : Stored) → c.next_top ≡ next_top → Stands (state A.Store conn.old) c
         → Carries (state A.Store conn.old) (state A.Store conn.new) c
         (after_prepare top whole.now.home whole.now.parts.entries c) result }
+    ensures busy { IsTrue (state A.Store conn.old).in_transaction
+        → IsErr result × (conn.new ≡ conn.old) }
 {
     if !conn.is_autocommit() {
         return Err(BUSY);
@@ -103,9 +111,11 @@ pub fn install<A: Alter>(
     top: u32,
     installed: &BTreeMap<u32, Part>,
 ) -> Result<(), Error>
-    ensures { (c : Stored) → While (state A.Store conn.old) (has_zero installed.now.entries ≡ false) → Stands (state A.Store conn.old) c
+    ensures carries { (c : Stored) → While (state A.Store conn.old) (has_zero installed.now.entries ≡ false) → Stands (state A.Store conn.old) c
         → Carries (state A.Store conn.old) (state A.Store conn.new) c
         (with_base (all_put installed.now.entries c.base) (after_discard top c)) result }
+    ensures busy { IsTrue (state A.Store conn.old).in_transaction
+        → IsErr result × (conn.new ≡ conn.old) }
 {
     if !conn.is_autocommit() {
         return Err(BUSY);
@@ -127,9 +137,11 @@ pub fn save<A: Alter>(
     alloc: Global,
     values: &BTreeMap<u32, Part>,
 ) -> Result<(), Error>
-    ensures { (c : Stored) → While (state A.Store conn.old) (has_zero values.now.entries ≡ false) → Stands (state A.Store conn.old) c
+    ensures carries { (c : Stored) → While (state A.Store conn.old) (has_zero values.now.entries ≡ false) → Stands (state A.Store conn.old) c
         → Carries (state A.Store conn.old) (state A.Store conn.new) c
         (with_base (all_put values.now.entries c.base) (with_none_decided c)) result }
+    ensures busy { IsTrue (state A.Store conn.old).in_transaction
+        → IsErr result × (conn.new ≡ conn.old) }
 {
     if !conn.is_autocommit() {
         return Err(BUSY);

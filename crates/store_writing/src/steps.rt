@@ -17,7 +17,8 @@ use stable_store::Prepared;
 use std::alloc::Global;
 use std::collections::BTreeMap;
 
-/// Writes a record in place of the one that the top action had, and raises the next top action's number above it.
+/// Writes a record in place of the one that the top action had, and raises the next top action's
+/// number above it.
 pub(crate) fn put_record<A: Alter>(
     tx: &mut Transaction<'_, A>,
     alloc: Global,

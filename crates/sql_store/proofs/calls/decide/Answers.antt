@@ -13,7 +13,7 @@ returns-in-Ok-decide-clause-changes g c =
     ap (λ d. record (held c.args.kept.now) { decided = d }) (grown _ _ c.args.top c.in-Ok.ensures.updates.0)
 
 pub returns-in-Ok-decide-clause-carries : goal.returns-in-Ok-decide-clause-carries
-returns-in-Ok-decide-clause-carries g c stands = as_ok (c.in-Ok-decide.ensures (held c.args.kept.now) stands)
+returns-in-Ok-decide-clause-carries g c stands = as_ok (c.in-Ok-decide.ensures.carries (held c.args.kept.now) stands)
 
 pub returns-after-added-clause-changes : goal.returns-after-added-clause-changes
 returns-after-added-clause-changes g c = elim c.if-added.branch [
@@ -24,4 +24,4 @@ returns-after-added-clause-changes g c = elim c.if-added.branch [
 ]
 
 pub returns-after-added-clause-carries : goal.returns-after-added-clause-carries
-returns-after-added-clause-carries g c stands = as_err (c.in-Err.ensures (held c.args.kept.now) stands)
+returns-after-added-clause-carries g c stands = as_err (c.in-Err.ensures.carries (held c.args.kept.now) stands)

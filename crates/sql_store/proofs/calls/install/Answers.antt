@@ -44,7 +44,7 @@ returns-in-Ok-install-clause-carries g c stands =
     let old = state g.A.Store c.args.conn.now in
     as_ok (subst (λ a. Carries {T = Unit {0}} {E = Error} old (state g.A.Store c.install.new.conn) s a (Ok c.in-Ok-install.field-0))
     (install_is s c.args.top (record_of c.in-Some.record.now) found c.in-Ok.installed.entries c.in-Ok.ensures.put)
-    (c.in-Ok-install.ensures s (parts_above s c.args.top (record_of c.in-Some.record.now) found c.in-Ok.installed.entries c.in-Ok.ensures.put old stands c.in-Ok.ensures.above) stands))
+    (c.in-Ok-install.ensures.carries s (parts_above s c.args.top (record_of c.in-Some.record.now) found c.in-Ok.installed.entries c.in-Ok.ensures.put old stands c.in-Ok.ensures.above) stands))
 
 pub returns-clause-carries : goal.returns-clause-carries
 returns-clause-carries g c stands =
@@ -54,4 +54,4 @@ returns-clause-carries g c stands =
     let old = state g.A.Store c.args.conn.now in
     as_err (subst (λ a. Carries {T = Unit {0}} {E = Error} old (state g.A.Store c.install.new.conn) s a (Err c.in-Err.error))
     (install_is s c.args.top (record_of c.in-Some.record.now) found c.in-Ok.installed.entries c.in-Ok.ensures.put)
-    (c.in-Err.ensures s (parts_above s c.args.top (record_of c.in-Some.record.now) found c.in-Ok.installed.entries c.in-Ok.ensures.put old stands c.in-Ok.ensures.above) stands))
+    (c.in-Err.ensures.carries s (parts_above s c.args.top (record_of c.in-Some.record.now) found c.in-Ok.installed.entries c.in-Ok.ensures.put old stands c.in-Ok.ensures.above) stands))

@@ -23,7 +23,7 @@ returns-in-Ok-prepare-clause-carries g c stands =
     same_some _ _ (c.in-Some.ensures.value ∙ put_found c.args.kept.now.prepared.entries _ c.args.top put c.in-Ok.ensures.updates.0) in
     let s = held c.args.kept.now in
     as_ok (subst (λ (p : Prepared). Carries {T = Unit {0}} {E = Error} (state g.A.Store c.args.conn.now) (state g.A.Store c.prepare.new.conn) s (after_prepare c.args.top p.home p.parts.entries s) (Ok c.in-Ok-prepare.field-0)) same
-    (c.in-Ok-prepare.ensures s refl stands))
+    (c.in-Ok-prepare.ensures.carries s refl stands))
 
 pub returns-in-Err-clause-changes : goal.returns-in-Err-clause-changes
 returns-in-Err-clause-changes g c =
@@ -41,7 +41,7 @@ returns-in-Err-clause-carries g c stands =
     same_some _ _ (c.in-Some.ensures.value ∙ put_found c.args.kept.now.prepared.entries _ c.args.top put c.in-Ok.ensures.updates.0) in
     let s = held c.args.kept.now in
     as_err (subst (λ (p : Prepared). Carries {T = Unit {0}} {E = Error} (state g.A.Store c.args.conn.now) (state g.A.Store c.prepare.new.conn) s (after_prepare c.args.top p.home p.parts.entries s) (Err c.in-Err.error)) same
-    (c.in-Err.ensures s refl stands))
+    (c.in-Err.ensures.carries s refl stands))
 
 pub returns-in-Ok-prepare-clause-changes : goal.returns-in-Ok-prepare-clause-changes
 returns-in-Ok-prepare-clause-changes g c =

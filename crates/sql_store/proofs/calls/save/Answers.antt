@@ -17,7 +17,7 @@ returns-in-Ok-save-clause-carries g c stands =
     ap (λ es. record s { base = all_put es s.base; decided = set.empty }) c.in-Ok.ensures.values
     ∙ ap (λ b. record s { base = b; decided = set.empty }) (values_are_laid c.args.contents.now.entries s.base) in
     as_ok (subst (λ a. Carries {T = Unit {0}} {E = Error} (state g.A.Store c.args.conn.now) (state g.A.Store c.save.new.conn) s a (Ok c.in-Ok-save.field-0)) is
-    (c.in-Ok-save.ensures s (λ _ _. c.in-Ok.ensures.above ∙ c.requires) stands))
+    (c.in-Ok-save.ensures.carries s (λ _ _. c.in-Ok.ensures.above ∙ c.requires) stands))
 
 pub returns-clause-carries : goal.returns-clause-carries
 returns-clause-carries g c stands =
@@ -26,4 +26,4 @@ returns-clause-carries g c stands =
     ap (λ es. record s { base = all_put es s.base; decided = set.empty }) c.in-Ok.ensures.values
     ∙ ap (λ b. record s { base = b; decided = set.empty }) (values_are_laid c.args.contents.now.entries s.base) in
     as_err (subst (λ a. Carries {T = Unit {0}} {E = Error} (state g.A.Store c.args.conn.now) (state g.A.Store c.save.new.conn) s a (Err c.in-Err.error)) is
-    (c.in-Err.ensures s (λ _ _. c.in-Ok.ensures.above ∙ c.requires) stands))
+    (c.in-Err.ensures.carries s (λ _ _. c.in-Ok.ensures.above ∙ c.requires) stands))

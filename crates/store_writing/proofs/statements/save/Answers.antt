@@ -3,11 +3,12 @@ use Rattle.sqlite.specs.Held.{state}
 use Rattle.sqlite.proofs.Callers.{survives_begin}
 use Rattle.store_tables.specs.Changes.{with_base, all_put, with_none_decided}
 use Rattle.store_writing.specs.Steps.{Carries, Steps}
+use Rattle.store_writing.proofs.Runs.{not_busy}
 use Rattle.store_writing.proofs.Inside.{committed, rolled, begin_sees, begin_steps}
 use Rattle.store_writing.proofs.statements.save.Goals as goal
 
-pub returns-in-Ok : goal.returns-in-Ok
-returns-in-Ok g c k above stands =
+pub returns-in-Ok-clause-carries : goal.returns-in-Ok-clause-carries
+returns-in-Ok-clause-carries g c k above stands =
     let at = state g.A.Store in
     let old = c.args.conn.now in
     let mid = c.save_values.new.tx.conn.now in
@@ -20,8 +21,8 @@ returns-in-Ok g c k above stands =
     (committed (at old) (at mid) (at last) k (with_base (all_put c.args.values.now.entries k.base) (with_none_decided k)) stands (λ up db may. g.met.A.Store.settled old.store db up may) ran c.in-Ok.field-0 c.commit.result
     (begin_steps g.A.Store old (at mid) (with_base (all_put c.args.values.now.entries k.base) (with_none_decided k)) (Ok c.in-Ok.field-0) part) c.commit.ensures.ended c.commit.ensures.ok c.commit.ensures.err c.commit.ensures.survives)
 
-pub returns-in-Err : goal.returns-in-Err
-returns-in-Err g c k above stands =
+pub returns-in-Err-clause-carries : goal.returns-in-Err-clause-carries
+returns-in-Err-clause-carries g c k above stands =
     let at = state g.A.Store in
     let old = c.args.conn.now in
     let mid = c.save_values.new.tx.conn.now in
@@ -33,3 +34,9 @@ returns-in-Err g c k above stands =
     subst (λ h. Carries {T = Unit {0}} (at old) (at h) k (with_base (all_put c.args.values.now.entries k.base) (with_none_decided k)) (Err c.in-Err.error)) same
     (rolled (at old) (at mid) (at last) k (with_base (all_put c.args.values.now.entries k.base) (with_none_decided k)) stands (λ up db may. g.met.A.Store.settled old.store db up may) ran c.in-Err.error c.in-Err.error
     (begin_steps g.A.Store old (at mid) (with_base (all_put c.args.values.now.entries k.base) (with_none_decided k)) (Err c.in-Err.error) part) c.rollback.ensures.ended c.rollback.ensures.undone c.rollback.ensures.survives)
+
+pub returns-in-Ok-clause-busy : goal.returns-in-Ok-clause-busy
+returns-in-Ok-clause-busy g c busy = absurd (not_busy _ c.if-not-is_autocommit.ensures.value busy)
+
+pub returns-in-Err-clause-busy : goal.returns-in-Err-clause-busy
+returns-in-Err-clause-busy g c busy = absurd (not_busy _ c.if-not-is_autocommit.ensures.value busy)
