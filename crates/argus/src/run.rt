@@ -29,12 +29,18 @@ pub fn steps<O: Opens>(rt: &HostRuntime, files: &O, given: &Steps<'_>) -> Result
     };
     match given.store {
         None if given.reopen => refuse(rt, "error store"),
-        None => answer(rt, World::in_memory(rt.alloc(), setup)?, given),
+        None => answer_in_memory(rt, setup, given),
         Some(folder) => match stores_in(rt, files, folder, setup.guardians(), given.reopen)? {
             Some(stores) => answer_over(rt, setup, stores, given),
             None => refuse(rt, "error store"),
         },
     }
+}
+
+/// Makes the steps in a new world in memory.
+fn answer_in_memory(rt: &HostRuntime, setup: Setup, given: &Steps<'_>) -> Result<ExitCode, Fault> {
+    let mut world = World::in_memory(rt.alloc(), setup)?;
+    answer(rt, &mut world, given)
 }
 
 /// Makes the steps in a world over these stores, new ones or those that a stop left.
@@ -52,7 +58,7 @@ fn answer_over<S: Stable>(
         World::begin(rt.alloc(), setup, stores)
     };
     match opened {
-        Ok(world) => answer(rt, world, given),
+        Ok(mut world) => answer(rt, &mut world, given),
         Err((Refused::NotOurs, _)) => refuse(rt, "error store"),
         Err((Refused::Memory, _)) => Err(Fault::Memory),
         Err((Refused::Stable, _)) => Err(Fault::Store),
@@ -62,18 +68,21 @@ fn answer_over<S: Stable>(
 /// Makes the steps in the world, and writes what is to be written of them.
 fn answer<S: Stable>(
     rt: &HostRuntime,
-    mut world: World<S>,
+    world: &mut World<S>,
     given: &Steps<'_>,
 ) -> Result<ExitCode, Fault> {
-    match (answer_file(rt, &mut world, given.file)?, given.explain) {
+    match (answer_file(rt, world, given.file)?, given.explain) {
         (Ended::Stopped, _) => Ok(ExitCode::FAILURE),
         (Ended::Done, None) => Ok(ExitCode::SUCCESS),
-        (Ended::Done, Some(action)) => {
-            let history = world.history().unpacked()?;
-            explain_text(rt.alloc(), &history, action, &mut io::writer(rt))?;
-            Ok(ExitCode::SUCCESS)
-        }
+        (Ended::Done, Some(action)) => explain(rt, world, action),
     }
+}
+
+/// Writes what is to be explained of an action, after the steps of the world.
+fn explain<S: Stable>(rt: &HostRuntime, world: &World<S>, action: &str) -> Result<ExitCode, Fault> {
+    let history = world.history().unpacked()?;
+    explain_text(rt.alloc(), &history, action, &mut io::writer(rt))?;
+    Ok(ExitCode::SUCCESS)
 }
 
 /// Writes whether a file is a script, or its first fault, to standard output. The status is 1 where it is none.
