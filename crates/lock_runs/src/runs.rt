@@ -8,10 +8,11 @@ ghost use Rattle.world_steps.specs.Standings.{IsWorld};
 ghost use Rattle.world.specs.Worlds.{seen_of};
 
 use guardian::Guardian;
+use layer_contracts::Fault;
 use registry::Registry;
 use rows::RowFault;
-use run_model::{Setup, SetupFault, Step};
-use runtime::{Answered, CloseFault, Gate, OfRun, Receipt, Runtime, Start, StepFault};
+use run_model::{Answer, Setup, SetupFault, Step};
+use runtime::{Answered, CloseFault, Ends, Gate, OfRun, Receipt, Runtime, Start, StepFault};
 use stable_store::PlainStable;
 use std::alloc::{AllocError, Global};
 use std::marker::Brand;
@@ -21,6 +22,9 @@ use world::World;
 
 /// A runtime over stores in memory.
 pub(crate) type Threaded<K, P> = Runtime<K, Registry, Guardian<PlainStable>, P>;
+
+/// Why a run over stores in memory was not closed.
+type Unclosed<K> = CloseFault<K, Registry, Guardian<PlainStable>>;
 
 /// What a section does with a runtime.
 pub(crate) trait Section {
@@ -78,10 +82,19 @@ fn end<K: OfRun, P: Gate>(
     runtime: Threaded<K, P>,
     receipts: Vec<Receipt<K>>,
 ) -> Result<(), RowFault> {
-    match runtime.close_all(receipts) {
-        Ok(_ends) => Ok(()),
+    let ended = runtime.close_all(receipts);
+    how_closed(&ended)
+}
+
+/// Whether a run was closed. What stood under the locks is only looked at, since letting it go at each exit is dear to
+/// check.
+fn how_closed<K: OfRun>(
+    ended: &Result<Ends<Registry, Guardian<PlainStable>>, Unclosed<K>>,
+) -> Result<(), RowFault> {
+    match ended {
+        Ok(_) => Ok(()),
         Err(CloseFault::Memory) => Err(RowFault::Memory),
-        Err(CloseFault::Receipts(_ends, _receipts)) => Err(RowFault::Unread),
+        Err(CloseFault::Receipts(_, _)) => Err(RowFault::Unread),
     }
 }
 
@@ -106,6 +119,18 @@ pub(crate) fn world_of(alloc: Global, document: &str) -> Result<World<PlainStabl
         Ok(setup) => Ok(World::in_memory(alloc, setup)?),
         Err(SetupFault::Memory) => Err(RowFault::Memory),
         Err(SetupFault::Bad) => Err(RowFault::Unread),
+    }
+}
+
+/// The world's answer to a step.
+pub(crate) fn world_answer(
+    world: &mut World<PlainStable>,
+    step: &Step,
+) -> Result<Answer, RowFault> {
+    match world.step(step) {
+        Ok(answer) => Ok(answer),
+        Err(Fault::Memory) => Err(RowFault::Memory),
+        Err(Fault::Stable) => Err(RowFault::Unread),
     }
 }
 
@@ -141,7 +166,7 @@ pub(crate) fn made<K: OfRun, P: Gate, H: Wait>(
     rt: &H,
     step: &Step,
     receipts: &mut Vec<Receipt<K>>,
-) -> Result<run_model::Answer, RowFault> {
+) -> Result<Answer, RowFault> {
     kept(answered(runtime.step(rt, step))?, receipts)
 }
 
@@ -149,7 +174,7 @@ pub(crate) fn made<K: OfRun, P: Gate, H: Wait>(
 pub(crate) fn kept<K: OfRun>(
     given: Answered<K>,
     receipts: &mut Vec<Receipt<K>>,
-) -> Result<run_model::Answer, RowFault> {
+) -> Result<Answer, RowFault> {
     let Answered { answer, receipt } = given;
     if let Some(receipt) = receipt {
         receipts.push(receipt).map_err(AllocError::from)?;

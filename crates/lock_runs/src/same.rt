@@ -2,13 +2,14 @@
 
 use crate::examples::answers_to;
 use crate::random::{SETUP, Walk};
-use crate::runs::world_of;
-use layer_contracts::Fault;
+use crate::runs::{world_answer, world_of};
 use rows::RowFault;
 use run_model::{Answer, Step};
+use stable_store::PlainStable;
 use std::alloc::{AllocError, Global};
 use std::sync::Wait;
 use std::thread::Threads;
+use world::World;
 
 /// How many lists there are, and how many steps each has.
 const LISTS: u64 = 200;
@@ -69,18 +70,24 @@ fn list_of(alloc: Global, seed: u64) -> Result<List, RowFault> {
         steps: Vec::new(alloc),
         answers: Vec::new(alloc),
     };
+    make_list(&mut world, &mut walk, &mut list)?;
+    Ok(list)
+}
+
+/// Makes the steps of the walk in the world, and notes them and the answers.
+fn make_list(
+    world: &mut World<PlainStable>,
+    walk: &mut Walk,
+    list: &mut List,
+) -> Result<(), RowFault> {
     for _ in 0..STEPS {
         let step = walk.next_step()?;
-        let answer = match world.step(&step) {
-            Ok(answer) => answer,
-            Err(Fault::Memory) => return Err(RowFault::Memory),
-            Err(Fault::Stable) => return Err(RowFault::Unread),
-        };
+        let answer = world_answer(world, &step)?;
         walk.note(&answer)?;
         list.steps.push(step).map_err(AllocError::from)?;
         list.answers.push(answer).map_err(AllocError::from)?;
     }
-    Ok(list)
+    Ok(())
 }
 
 /// Whether the answers are the same, one by one.

@@ -2,8 +2,7 @@
 //! receipts, and has to answer the same.
 
 use crate::random::{SETUP, Walk};
-use crate::runs::{Section, Threaded, answered, closed, world_of};
-use layer_contracts::Fault;
+use crate::runs::{Section, Threaded, answered, closed, world_answer, world_of};
 use rows::RowFault;
 use run_model::{Answer, Step};
 use runtime::{Answered, OfRun, OpenGate, Receipt};
@@ -36,8 +35,16 @@ pub(crate) fn at_once<H: Threads + Wait + Sync>(
 /// Whether a new world answers so.
 fn is_one_run(alloc: Global, made: &[Made]) -> Result<bool, RowFault> {
     let mut world = world_of(alloc, SETUP)?;
+    all_answered_so(alloc, &mut world, made)
+}
+
+fn all_answered_so(
+    alloc: Global,
+    world: &mut World<PlainStable>,
+    made: &[Made],
+) -> Result<bool, RowFault> {
     for one in made {
-        if !answers_so(alloc, &mut world, one)? {
+        if !answers_so(alloc, world, one)? {
             return Ok(false);
         }
     }
@@ -46,11 +53,8 @@ fn is_one_run(alloc: Global, made: &[Made]) -> Result<bool, RowFault> {
 
 /// Whether the world answers the step as the threads were answered.
 fn answers_so(alloc: Global, world: &mut World<PlainStable>, one: &Made) -> Result<bool, RowFault> {
-    match world.step(&one.step) {
-        Ok(answer) => Ok(answer.text(alloc)?.as_str() == one.answer.text(alloc)?.as_str()),
-        Err(Fault::Memory) => Err(RowFault::Memory),
-        Err(Fault::Stable) => Err(RowFault::Unread),
-    }
+    let answer = world_answer(world, &one.step)?;
+    Ok(answer.text(alloc)?.as_str() == one.answer.text(alloc)?.as_str())
 }
 
 /// Threads that make so many steps each.

@@ -2,9 +2,8 @@
 //! one lock.
 
 use crate::examples::Listed;
-use crate::runs::{Section, Threaded, closed, setup_of, world_of};
+use crate::runs::{Section, Threaded, closed, setup_of, world_answer, world_of};
 use crate::transfers::{ACCOUNT, GUARDIANS, Share, Steps, Work, Workers};
-use layer_contracts::Fault;
 use rows::RowFault;
 use run_model::{Answer, Step};
 use runtime::{OfRun, Receipt};
@@ -96,21 +95,24 @@ fn by_world<C: Clock>(
     steps: &[Step],
 ) -> Result<u64, RowFault> {
     let mut world = world_of(alloc, setup)?;
-    let mut answers = Vec::new(alloc);
     let begun = Instant::now(clock);
-    for step in steps {
-        let answer = answer_of(&mut world, step)?;
-        answers.push(answer).map_err(AllocError::from)?;
-    }
+    answer_all(alloc, &mut world, steps)?;
     since(clock, begun)
 }
 
-fn answer_of(world: &mut World<PlainStable>, step: &Step) -> Result<Answer, RowFault> {
-    match world.step(step) {
-        Ok(answer) => Ok(answer),
-        Err(Fault::Memory) => Err(RowFault::Memory),
-        Err(Fault::Stable) => Err(RowFault::Unread),
+/// Makes the steps in the world, and keeps the answers while it does.
+fn answer_all(
+    alloc: Global,
+    world: &mut World<PlainStable>,
+    steps: &[Step],
+) -> Result<(), RowFault> {
+    let mut answers = Vec::new(alloc);
+    for step in steps {
+        answers
+            .push(world_answer(world, step)?)
+            .map_err(AllocError::from)?;
     }
+    Ok(())
 }
 
 /// The nanoseconds of the work by threads that share a runtime.
@@ -141,7 +143,7 @@ struct Locked<'a, H> {
 impl<'a, H: Wait> Steps for Locked<'a, H> {
     fn accepted(&mut self, step: &Step) -> Result<Answer, RowFault> {
         let mut world = self.world.lock(self.rt);
-        let answer = answer_of(&mut world, step)?;
+        let answer = world_answer(&mut world, step)?;
         if answer.is_accepted() {
             Ok(answer)
         } else {
