@@ -1,12 +1,22 @@
 //! The rows: an example's steps, made by one thread.
+ghost use Rattle.std.specs.Prelude.{◌≡◌, []};
+ghost use Rattle.run_model.specs.Openings.{opening_in};
+ghost use Rattle.stable_store.specs.Plain.{plain_view};
+ghost use Rattle.guardian.specs.Guardians.{IsWhole};
+ghost use Rattle.registry.specs.Registries.{StandsIn};
+ghost use Rattle.world_steps.specs.Standings.{IsWorld};
+ghost use Rattle.world.specs.Worlds.{seen_of};
 
-use crate::runs::{Section, Threaded, closed, made};
+use crate::runs::{Threaded, end, made, push, started};
+use guardian::Guardian;
+use registry::Registry;
 use rows::{Row, RowFault, Subject};
 use run_model::{Answer, Step};
-use runtime::{OfRun, OpenGate, Receipt};
+use runtime::{Gate, OfRun, OpenGate, Receipt, Start};
+use stable_store::PlainStable;
 use std::alloc::{AllocError, Global};
+use std::marker::Brand;
 use std::sync::Wait;
-use std::thread::Threads;
 
 /// What the rows of a section have given.
 #[derive(Drop)]
@@ -26,7 +36,7 @@ impl<'a, H> Examples<'a, H> {
     }
 }
 
-impl<'a, H: Threads + Wait + Sync> Subject for Examples<'a, H> {
+impl<'a, H: Wait> Subject for Examples<'a, H> {
     fn begin(&mut self, _section: &str) -> Result<(), AllocError> {
         self.setup = String::new(self.alloc);
         Ok(())
@@ -67,50 +77,54 @@ fn steps_of(alloc: Global, text: &str) -> Result<Vec<Step>, RowFault> {
     let mut steps = Vec::new(alloc);
     for line in text.split(SEPARATOR) {
         if let Some(step) = Step::read(alloc, line.as_bytes())? {
-            steps.push(step).map_err(AllocError::from)?;
+            push(&mut steps, step)?;
         }
     }
     Ok(steps)
 }
 
 /// What a runtime over the setup answers to the steps, which one thread makes.
-pub(crate) fn answers_to<H: Threads + Wait + Sync>(
+pub(crate) fn answers_to<H: Wait>(
     alloc: Global,
     rt: &H,
     setup: &str,
     steps: &[Step],
 ) -> Result<Vec<Answer>, RowFault> {
-    closed(alloc, rt, setup, &Listed { steps })
+    let (start, registry, guardians) = started(alloc, setup)?;
+    listed::<Brand, H>(alloc, rt, start, registry, guardians, steps)
 }
 
-/// Steps that one thread makes.
-#[derive(Clone, Copy)]
-pub(crate) struct Listed<'a> {
-    pub(crate) steps: &'a [Step],
+fn listed<K: OfRun, H: Wait>(
+    alloc: Global,
+    rt: &H,
+    start: Start,
+    registry: Registry,
+    guardians: Vec<Guardian<PlainStable>>,
+    steps: &[Step],
+) -> Result<Vec<Answer>, RowFault>
+    requires table { start.run.table.shared.table_id ≡ K.table }
+    requires opening { opening_in start.run.table.shared.key ≡ K.opening }
+    requires world { IsWorld (λ g s. IsWhole plain_view g s) (λ g. seen_of plain_view g) (StandsIn registry)
+        K.opening [] guardians.items }
+{
+    let runtime = Threaded::<K, OpenGate>::new(alloc, start, registry, guardians, OpenGate)?;
+    let mut receipts = Vec::new(alloc);
+    let answers = make_all(alloc, rt, &runtime, steps, &mut receipts);
+    end(runtime, receipts)?;
+    answers
 }
 
-impl<'a> Section for Listed<'a> {
-    type Gate = OpenGate;
-
-    type Done = Vec<Answer>;
-
-    fn gate(&self) -> OpenGate {
-        OpenGate
+/// Makes the steps one after another; their answers.
+pub(crate) fn make_all<K: OfRun, P: Gate, H: Wait>(
+    alloc: Global,
+    rt: &H,
+    runtime: &Threaded<K, P>,
+    steps: &[Step],
+    receipts: &mut Vec<Receipt<K>>,
+) -> Result<Vec<Answer>, RowFault> {
+    let mut answers = Vec::new(alloc);
+    for step in steps {
+        push(&mut answers, made(runtime, rt, step, receipts)?)?;
     }
-
-    fn make<K: OfRun + Send + Sync, H: Threads + Wait + Sync>(
-        &self,
-        alloc: Global,
-        rt: &H,
-        runtime: &Threaded<K, OpenGate>,
-        receipts: &mut Vec<Receipt<K>>,
-    ) -> Result<Vec<Answer>, RowFault> {
-        let mut answers = Vec::new(alloc);
-        for step in self.steps {
-            answers
-                .push(made(runtime, rt, step, receipts)?)
-                .map_err(AllocError::from)?;
-        }
-        Ok(answers)
-    }
+    Ok(answers)
 }

@@ -1,11 +1,22 @@
 //! Operations at 64 guardians at once: a gate holds each of them inside the lock of its guardian until all have come.
+ghost use Rattle.std.specs.Prelude.{◌≡◌, []};
+ghost use Rattle.run_model.specs.Openings.{opening_in};
+ghost use Rattle.stable_store.specs.Plain.{plain_view};
+ghost use Rattle.guardian.specs.Guardians.{IsWhole};
+ghost use Rattle.registry.specs.Registries.{StandsIn};
+ghost use Rattle.world_steps.specs.Standings.{IsWorld};
+ghost use Rattle.world.specs.Worlds.{seen_of};
 
-use crate::runs::{Section, Threaded, answered, closed, made, setup_of};
+use crate::runs::{Threaded, answered, end, first_begun, kept, make, push, setup_of, started};
 use action_names::Name;
+use guardian::Guardian;
+use registry::Registry;
 use rows::RowFault;
 use run_model::{Answer, Step};
-use runtime::{Gate, OfRun, Receipt};
-use std::alloc::{AllocError, Global};
+use runtime::{Answered, Gate, OfRun, Receipt, Start};
+use stable_store::PlainStable;
+use std::alloc::Global;
+use std::marker::Brand;
 use std::sync::Wait;
 use std::sync::atomic::{AtomicBool, AtomicU64, Ordering};
 use std::thread::{Threads, map_indices, yield_now};
@@ -53,65 +64,78 @@ pub(crate) fn all_meet<H: Threads + Wait + Sync>(
         failed: AtomicBool::new(false),
     };
     let setup = setup_of(alloc, every.saturating_mul(SIZE), "{\"counter\":0}")?;
-    let section = Meet {
-        every,
-        meeting: &meeting,
-    };
-    let granted = closed(alloc, rt, setup.as_str(), &section)?;
+    let (start, registry, guardians) = started(alloc, setup.as_str())?;
+    let granted = meet_in::<Brand, H>(alloc, rt, start, registry, guardians, every, &meeting)?;
     Ok(granted && !meeting.failed.load(Ordering::SeqCst))
 }
 
-#[derive(Clone, Copy)]
-struct Meet<'a> {
+fn meet_in<K: OfRun + Send + Sync, H: Threads + Wait + Sync>(
+    alloc: Global,
+    rt: &H,
+    start: Start,
+    registry: Registry,
+    guardians: Vec<Guardian<PlainStable>>,
     every: u32,
-    meeting: &'a Meeting,
+    meeting: &Meeting,
+) -> Result<bool, RowFault>
+    requires table { start.run.table.shared.table_id ≡ K.table }
+    requires opening { opening_in start.run.table.shared.key ≡ K.opening }
+    requires world { IsWorld (λ g s. IsWhole plain_view g s) (λ g. seen_of plain_view g) (StandsIn registry)
+        K.opening [] guardians.items }
+{
+    let runtime = Threaded::<K, &Meeting>::new(alloc, start, registry, guardians, meeting)?;
+    let mut receipts = Vec::new(alloc);
+    let granted = meet(alloc, rt, &runtime, every, meeting, &mut receipts);
+    end(runtime, receipts)?;
+    granted
 }
 
-impl<'a> Section for Meet<'a> {
-    type Gate = &'a Meeting;
+/// Begins a top action at each of the guardians, and has all their operations meet.
+fn meet<K: OfRun + Send + Sync, H: Threads + Wait + Sync>(
+    alloc: Global,
+    rt: &H,
+    runtime: &Threaded<K, &Meeting>,
+    every: u32,
+    meeting: &Meeting,
+    receipts: &mut Vec<Receipt<K>>,
+) -> Result<bool, RowFault> {
+    let operations = begun(alloc, rt, runtime, every, receipts)?;
+    meeting.is_on.store(true, Ordering::SeqCst);
+    let steps = operations.as_slice();
+    let given = map_indices(
+        rt,
+        alloc,
+        steps.len(),
+        &|index| { answered(runtime.step(rt, &steps[index])) },
+    )?;
+    all_granted(given, receipts)
+}
 
-    type Done = bool;
-
-    fn gate(&self) -> &'a Meeting {
-        self.meeting
+/// Begins a top action at each of the guardians, and gives an operation of each.
+fn begun<K: OfRun, P: Gate, H: Wait>(
+    alloc: Global,
+    rt: &H,
+    runtime: &Threaded<K, P>,
+    every: u32,
+    receipts: &mut Vec<Receipt<K>>,
+) -> Result<Vec<Step>, RowFault> {
+    let mut operations = Vec::new(alloc);
+    for place in 1..=SIZE {
+        let guardian = place.saturating_mul(every);
+        let answer = make(runtime, rt, Step::Top(guardian), receipts)?;
+        push(&mut operations, operation_of(alloc, &answer, guardian)?)?;
     }
-
-    /// Begins a top action at each of the guardians, and has all their operations meet.
-    fn make<K: OfRun + Send + Sync, H: Threads + Wait + Sync>(
-        &self,
-        alloc: Global,
-        rt: &H,
-        runtime: &Threaded<K, &'a Meeting>,
-        receipts: &mut Vec<Receipt<K>>,
-    ) -> Result<bool, RowFault> {
-        let mut operations = Vec::new(alloc);
-        for place in 1..=SIZE {
-            let guardian = place.saturating_mul(self.every);
-            let answer = made(runtime, rt, &Step::Top(guardian), receipts)?;
-            operations
-                .push(operation_of(alloc, &answer, guardian)?)
-                .map_err(AllocError::from)?;
-        }
-        self.meeting.is_on.store(true, Ordering::SeqCst);
-        let steps = operations.as_slice();
-        let given = map_indices(
-            rt,
-            alloc,
-            steps.len(),
-            &|index| { answered(runtime.step(rt, &steps[index])) },
-        )?;
-        all_granted(given, receipts)
-    }
+    Ok(operations)
 }
 
 /// Whether all operations were granted. Their receipts are kept.
 fn all_granted<K: OfRun>(
-    given: Vec<Result<runtime::Answered<K>, RowFault>>,
+    given: Vec<Result<Answered<K>, RowFault>>,
     receipts: &mut Vec<Receipt<K>>,
 ) -> Result<bool, RowFault> {
     let mut all = true;
     for one in given {
-        let answer = crate::runs::kept(one?, receipts)?;
+        let answer = kept(one?, receipts)?;
         all = all && answer.is_accepted();
     }
     Ok(all)
@@ -119,12 +143,7 @@ fn all_granted<K: OfRun>(
 
 /// An operation of the action that the answer began, at this guardian.
 fn operation_of(alloc: Global, answer: &Answer, guardian: u32) -> Result<Step, RowFault> {
-    let Answer::Began(names) = answer else {
-        return Err(RowFault::Unread);
-    };
-    let Some(name) = names.as_slice().first() else {
-        return Err(RowFault::Unread);
-    };
+    let name = first_begun(answer)?;
     let mut text = String::new(alloc);
     name.write_to(&mut text)?;
     let name = text.as_str();

@@ -125,7 +125,7 @@ impl Walk {
     /// A call by the action that was begun last.
     fn call(&mut self, guardian: u64) -> Result<String, AllocError> {
         let alloc = self.alloc;
-        self.calls -= 1;
+        self.calls = self.calls.saturating_sub(1);
         match self.begun_before(0) {
             Some(begun) => {
                 let name = text_of(alloc, &begun.name)?;

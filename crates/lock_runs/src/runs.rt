@@ -1,4 +1,4 @@
-//! A runtime over a setup's guardians, what a section does with it, and whether its receipts close the run.
+//! A runtime over a setup's guardians, its steps, and whether its receipts close the run.
 ghost use Rattle.std.specs.Prelude.{◌≡◌, [], IfOk};
 ghost use Rattle.run_model.specs.Openings.{opening_in};
 ghost use Rattle.stable_store.specs.Plain.{plain_view};
@@ -7,17 +7,16 @@ ghost use Rattle.registry.specs.Registries.{StandsIn};
 ghost use Rattle.world_steps.specs.Standings.{IsWorld};
 ghost use Rattle.world.specs.Worlds.{seen_of};
 
+use action_names::Name;
 use guardian::Guardian;
 use layer_contracts::Fault;
 use registry::Registry;
 use rows::RowFault;
-use run_model::{Answer, Setup, SetupFault, Step};
+use run_model::{Answer, Op, Setup, SetupFault, Step};
 use runtime::{Answered, CloseFault, Ends, Gate, OfRun, Receipt, Runtime, Start, StepFault};
 use stable_store::PlainStable;
 use std::alloc::{AllocError, Global};
-use std::marker::Brand;
 use std::sync::Wait;
-use std::thread::Threads;
 use world::World;
 
 /// A runtime over stores in memory.
@@ -26,59 +25,8 @@ pub(crate) type Threaded<K, P> = Runtime<K, Registry, Guardian<PlainStable>, P>;
 /// Why a run over stores in memory was not closed.
 type Unclosed<K> = CloseFault<K, Registry, Guardian<PlainStable>>;
 
-/// What a section does with a runtime.
-pub(crate) trait Section {
-    type Gate: Gate;
-
-    type Done: Drop;
-
-    fn gate(&self) -> Self::Gate;
-
-    /// Makes the section's steps. It keeps the receipt of each accepted one.
-    fn make<K: OfRun + Send + Sync, H: Threads + Wait + Sync>(
-        &self,
-        alloc: Global,
-        rt: &H,
-        runtime: &Threaded<K, Self::Gate>,
-        receipts: &mut Vec<Receipt<K>>,
-    ) -> Result<Self::Done, RowFault>;
-}
-
-/// What the section does over a setup, if its receipts then close the run.
-pub(crate) fn closed<S: Section, H: Threads + Wait + Sync>(
-    alloc: Global,
-    rt: &H,
-    setup: &str,
-    section: &S,
-) -> Result<S::Done, RowFault> {
-    let (start, registry, guardians) = started(alloc, setup)?;
-    in_run::<Brand, S, H>(alloc, rt, start, registry, guardians, section)
-}
-
-/// The section's steps, in a run of this name.
-fn in_run<K: OfRun + Send + Sync, S: Section, H: Threads + Wait + Sync>(
-    alloc: Global,
-    rt: &H,
-    start: Start,
-    registry: Registry,
-    guardians: Vec<Guardian<PlainStable>>,
-    section: &S,
-) -> Result<S::Done, RowFault>
-    requires table { start.run.table.shared.table_id ≡ K.table }
-    requires opening { opening_in start.run.table.shared.key ≡ K.opening }
-    requires world { IsWorld (λ g s. IsWhole plain_view g s) (λ g. seen_of plain_view g) (StandsIn registry)
-        K.opening [] guardians.items }
-{
-    let gate = section.gate();
-    let runtime = Threaded::<K, S::Gate>::new(alloc, start, registry, guardians, gate)?;
-    let mut receipts = Vec::new(alloc);
-    let done = section.make(alloc, rt, &runtime, &mut receipts);
-    end(runtime, receipts)?;
-    done
-}
-
 /// Ends a run, which these receipts have to close.
-fn end<K: OfRun, P: Gate>(
+pub(crate) fn end<K: OfRun, P: Gate>(
     runtime: Threaded<K, P>,
     receipts: Vec<Receipt<K>>,
 ) -> Result<(), RowFault> {
@@ -99,7 +47,7 @@ fn how_closed<K: OfRun>(
 }
 
 /// The beginning of a run of a setup's document, with the registry and the guardians of a new world.
-fn started(
+pub(crate) fn started(
     alloc: Global,
     document: &str,
 ) -> Result<(Start, Registry, Vec<Guardian<PlainStable>>), RowFault>
@@ -134,6 +82,36 @@ pub(crate) fn world_answer(
     }
 }
 
+/// The first of the actions that the answer began.
+pub(crate) fn first_begun(answer: &Answer) -> Result<Name, RowFault> {
+    match answer {
+        Answer::Began(names) => first_of(names.as_slice()),
+        _ => Err(RowFault::Unread),
+    }
+}
+
+fn first_of(names: &[Name]) -> Result<Name, RowFault> {
+    match names.first() {
+        Some(name) => Ok(name.copy()?),
+        None => Err(RowFault::Unread),
+    }
+}
+
+/// The operation of a step's text.
+pub(crate) fn operation(alloc: Global, text: &str) -> Result<Op, RowFault> {
+    match Step::read(alloc, text.as_bytes())? {
+        Some(step) => operation_of(step),
+        None => Err(RowFault::Unread),
+    }
+}
+
+fn operation_of(step: Step) -> Result<Op, RowFault> {
+    match step {
+        Step::Op(_, _, operation) => Ok(operation),
+        _ => Err(RowFault::Unread),
+    }
+}
+
 /// The setup of so many guardians with these objects each.
 pub(crate) fn setup_of(alloc: Global, guardians: u32, objects: &str) -> Result<String, AllocError> {
     let mut text = String::from_str(alloc, "{\"guardians\":[")?;
@@ -149,6 +127,20 @@ pub(crate) fn setup_of(alloc: Global, guardians: u32, objects: &str) -> Result<S
     Ok(text)
 }
 
+/// Adds one at the end.
+pub(crate) fn push<T: Drop>(all: &mut Vec<T>, one: T) -> Result<(), AllocError> {
+    all.push(one)?;
+    Ok(())
+}
+
+/// Adds the others at the end.
+pub(crate) fn append<T: Drop>(all: &mut Vec<T>, others: Vec<T>) -> Result<(), AllocError> {
+    for one in others {
+        all.push(one)?;
+    }
+    Ok(())
+}
+
 /// What came of a step under locks.
 pub(crate) fn answered<K: OfRun>(
     given: Result<Answered<K>, StepFault>,
@@ -158,6 +150,16 @@ pub(crate) fn answered<K: OfRun>(
         Err(StepFault::Memory) => Err(RowFault::Memory),
         Err(StepFault::Stable | StepFault::UsedUp) => Err(RowFault::Unread),
     }
+}
+
+/// Makes a step that somebody else does not need, and keeps its receipt.
+pub(crate) fn make<K: OfRun, P: Gate, H: Wait>(
+    runtime: &Threaded<K, P>,
+    rt: &H,
+    step: Step,
+    receipts: &mut Vec<Receipt<K>>,
+) -> Result<Answer, RowFault> {
+    made(runtime, rt, &step, receipts)
 }
 
 /// Makes a step, and keeps its receipt.
@@ -177,7 +179,7 @@ pub(crate) fn kept<K: OfRun>(
 ) -> Result<Answer, RowFault> {
     let Answered { answer, receipt } = given;
     if let Some(receipt) = receipt {
-        receipts.push(receipt).map_err(AllocError::from)?;
+        push(receipts, receipt)?;
     }
     Ok(answer)
 }

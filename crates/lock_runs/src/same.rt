@@ -2,7 +2,7 @@
 
 use crate::examples::answers_to;
 use crate::random::{SETUP, Walk};
-use crate::runs::{world_answer, world_of};
+use crate::runs::{push, world_answer, world_of};
 use rows::RowFault;
 use run_model::{Answer, Step};
 use stable_store::PlainStable;
@@ -81,12 +81,21 @@ fn make_list(
     list: &mut List,
 ) -> Result<(), RowFault> {
     for _ in 0..STEPS {
-        let step = walk.next_step()?;
-        let answer = world_answer(world, &step)?;
-        walk.note(&answer)?;
-        list.steps.push(step).map_err(AllocError::from)?;
-        list.answers.push(answer).map_err(AllocError::from)?;
+        make_next(world, walk, list)?;
     }
+    Ok(())
+}
+
+fn make_next(
+    world: &mut World<PlainStable>,
+    walk: &mut Walk,
+    list: &mut List,
+) -> Result<(), RowFault> {
+    let step = walk.next_step()?;
+    let answer = world_answer(world, &step)?;
+    push(&mut list.steps, step)?;
+    walk.note(&answer)?;
+    push(&mut list.answers, answer)?;
     Ok(())
 }
 

@@ -1,13 +1,23 @@
 //! Threads that make steps at random, at once. One world then makes all that was accepted, in the order of the
 //! receipts, and has to answer the same.
+ghost use Rattle.std.specs.Prelude.{◌≡◌, []};
+ghost use Rattle.run_model.specs.Openings.{opening_in};
+ghost use Rattle.stable_store.specs.Plain.{plain_view};
+ghost use Rattle.guardian.specs.Guardians.{IsWhole};
+ghost use Rattle.registry.specs.Registries.{StandsIn};
+ghost use Rattle.world_steps.specs.Standings.{IsWorld};
+ghost use Rattle.world.specs.Worlds.{seen_of};
 
 use crate::random::{SETUP, Walk};
-use crate::runs::{Section, Threaded, answered, closed, world_answer, world_of};
+use crate::runs::{Threaded, answered, append, end, push, started, world_answer, world_of};
+use guardian::Guardian;
+use registry::Registry;
 use rows::RowFault;
 use run_model::{Answer, Step};
-use runtime::{Answered, OfRun, OpenGate, Receipt};
+use runtime::{Answered, OfRun, OpenGate, Receipt, Start};
 use stable_store::PlainStable;
-use std::alloc::{AllocError, Global};
+use std::alloc::Global;
+use std::marker::Brand;
 use std::sync::Wait;
 use std::thread::{Threads, map_indices};
 use world::World;
@@ -27,7 +37,8 @@ pub(crate) fn at_once<H: Threads + Wait + Sync>(
     rt: &H,
     walkers: Walkers,
 ) -> Result<bool, RowFault> {
-    let mut made = closed(alloc, rt, SETUP, &walkers)?;
+    let (start, registry, guardians) = started(alloc, SETUP)?;
+    let mut made = all_in::<Brand, H>(alloc, rt, start, registry, guardians, walkers)?;
     made.sort_by_key(|one| one.number)?;
     is_one_run(alloc, &made)
 }
@@ -65,51 +76,53 @@ pub(crate) struct Walkers {
     pub(crate) seed: u64,
 }
 
-impl Section for Walkers {
-    type Gate = OpenGate;
-
-    type Done = Vec<Made>;
-
-    fn gate(&self) -> OpenGate {
-        OpenGate
-    }
-
-    fn make<K: OfRun + Send + Sync, H: Threads + Wait + Sync>(
-        &self,
-        alloc: Global,
-        rt: &H,
-        runtime: &Threaded<K, OpenGate>,
-        receipts: &mut Vec<Receipt<K>>,
-    ) -> Result<Vec<Made>, RowFault> {
-        let walkers = *self;
-        let walked = map_indices(
-            rt,
-            alloc,
-            walkers.threads,
-            &|index| {
-                let seed = walkers.seed.wrapping_add(index as u64);
-                walk(alloc, rt, runtime, walkers.steps, seed)
-            },
-        )?;
-        let mut made = Vec::new(alloc);
-        for one in walked {
-            let Walked {
-                made: more,
-                receipts: others,
-            } = one?;
-            append(&mut made, more)?;
-            append(receipts, others)?;
-        }
-        Ok(made)
-    }
+fn all_in<K: OfRun + Send + Sync, H: Threads + Wait + Sync>(
+    alloc: Global,
+    rt: &H,
+    start: Start,
+    registry: Registry,
+    guardians: Vec<Guardian<PlainStable>>,
+    walkers: Walkers,
+) -> Result<Vec<Made>, RowFault>
+    requires table { start.run.table.shared.table_id ≡ K.table }
+    requires opening { opening_in start.run.table.shared.key ≡ K.opening }
+    requires world { IsWorld (λ g s. IsWhole plain_view g s) (λ g. seen_of plain_view g) (StandsIn registry)
+        K.opening [] guardians.items }
+{
+    let runtime = Threaded::<K, OpenGate>::new(alloc, start, registry, guardians, OpenGate)?;
+    let mut receipts = Vec::new(alloc);
+    let made = all_walk(alloc, rt, &runtime, walkers, &mut receipts);
+    end(runtime, receipts)?;
+    made
 }
 
-/// Adds the others at the end.
-fn append<T: Drop>(all: &mut Vec<T>, others: Vec<T>) -> Result<(), AllocError> {
-    for one in others {
-        all.push(one)?;
+/// What all threads made.
+fn all_walk<K: OfRun + Send + Sync, H: Threads + Wait + Sync>(
+    alloc: Global,
+    rt: &H,
+    runtime: &Threaded<K, OpenGate>,
+    walkers: Walkers,
+    receipts: &mut Vec<Receipt<K>>,
+) -> Result<Vec<Made>, RowFault> {
+    let walked = map_indices(
+        rt,
+        alloc,
+        walkers.threads,
+        &|index| {
+            let seed = walkers.seed.wrapping_add(index as u64);
+            walk(alloc, rt, runtime, walkers.steps, seed)
+        },
+    )?;
+    let mut made = Vec::new(alloc);
+    for one in walked {
+        let Walked {
+            made: more,
+            receipts: others,
+        } = one?;
+        append(&mut made, more)?;
+        append(receipts, others)?;
     }
-    Ok(())
+    Ok(made)
 }
 
 /// What one thread made.
@@ -133,29 +146,46 @@ fn walk<K: OfRun, H: Wait>(
     };
     let mut walk = Walk::new(alloc, seed);
     for _ in 0..count {
-        let step = walk.next_step()?;
-        let given = answered(runtime.step(rt, &step))?;
-        walk.note(&given.answer)?;
-        keep(&mut walked, step, given)?;
+        go_on(rt, runtime, &mut walk, &mut walked)?;
     }
     Ok(walked)
 }
 
-/// Keeps a step that was accepted.
+/// Makes the next step of the walk.
+fn go_on<K: OfRun, H: Wait>(
+    rt: &H,
+    runtime: &Threaded<K, OpenGate>,
+    walk: &mut Walk,
+    walked: &mut Walked<K>,
+) -> Result<(), RowFault> {
+    let step = walk.next_step()?;
+    let given = answered(runtime.step(rt, &step))?;
+    keep(walk, walked, step, given)
+}
+
+/// Notes what a step began, and keeps the step if it was accepted.
 fn keep<K: OfRun>(
+    walk: &mut Walk,
     walked: &mut Walked<K>,
     step: Step,
     given: Answered<K>,
-) -> Result<(), AllocError> {
-    let Answered { answer, receipt } = given;
-    if let Some(receipt) = receipt {
+) -> Result<(), RowFault> {
+    walk.note(&given.answer)?;
+    if let Answered {
+        answer,
+        receipt: Some(receipt),
+    } = given
+    {
         let number = receipt.number();
-        walked.made.push(Made {
-            number,
-            step,
-            answer,
-        })?;
-        walked.receipts.push(receipt)?;
+        push(&mut walked.receipts, receipt)?;
+        push(
+            &mut walked.made,
+            Made {
+                number,
+                step,
+                answer,
+            },
+        )?;
     }
     Ok(())
 }

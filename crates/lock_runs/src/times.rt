@@ -1,15 +1,25 @@
 //! What steps cost: by a world and by a runtime with one caller, and by threads that share a runtime or a world under
 //! one lock.
+ghost use Rattle.std.specs.Prelude.{◌≡◌, []};
+ghost use Rattle.run_model.specs.Openings.{opening_in};
+ghost use Rattle.stable_store.specs.Plain.{plain_view};
+ghost use Rattle.guardian.specs.Guardians.{IsWhole};
+ghost use Rattle.registry.specs.Registries.{StandsIn};
+ghost use Rattle.world_steps.specs.Standings.{IsWorld};
+ghost use Rattle.world.specs.Worlds.{seen_of};
 
-use crate::examples::Listed;
-use crate::runs::{Section, Threaded, closed, setup_of, world_answer, world_of};
-use crate::transfers::{ACCOUNT, GUARDIANS, Share, Steps, Work, Workers};
+use crate::examples::make_all;
+use crate::runs::{Threaded, end, push, setup_of, started, world_answer, world_of};
+use crate::transfers::{ACCOUNT, GUARDIANS, Share, Steps, Work, Workers, all_work};
+use guardian::Guardian;
+use registry::Registry;
 use rows::RowFault;
 use run_model::{Answer, Step};
-use runtime::{OfRun, Receipt};
+use runtime::{OfRun, OpenGate, Start};
 use stable_store::PlainStable;
-use std::alloc::{AllocError, Global};
+use std::alloc::Global;
 use std::io;
+use std::marker::Brand;
 use std::sync::{Mutex, Wait};
 use std::thread::{Threads, map_indices};
 use std::time::{Clock, Instant};
@@ -26,35 +36,6 @@ fn since<C: Clock>(clock: &C, begun: io::Result<Instant>) -> Result<u64, RowFaul
     match begun.elapsed(clock) {
         Ok(taken) => Ok(u64::try_from(taken.as_nanos()).unwrap_or(u64::MAX)),
         Err(_error) => Err(RowFault::Unread),
-    }
-}
-
-/// A section and its clock. It gives the nanoseconds of the section's steps.
-#[derive(Clone, Copy)]
-struct Timed<'a, C, S> {
-    clock: &'a C,
-    section: S,
-}
-
-impl<'a, C: Clock, S: Section> Section for Timed<'a, C, S> {
-    type Gate = S::Gate;
-
-    type Done = u64;
-
-    fn gate(&self) -> S::Gate {
-        self.section.gate()
-    }
-
-    fn make<K: OfRun + Send + Sync, H: Threads + Wait + Sync>(
-        &self,
-        alloc: Global,
-        rt: &H,
-        runtime: &Threaded<K, S::Gate>,
-        receipts: &mut Vec<Receipt<K>>,
-    ) -> Result<u64, RowFault> {
-        let begun = Instant::now(self.clock);
-        self.section.make(alloc, rt, runtime, receipts)?;
-        since(self.clock, begun)
     }
 }
 
@@ -78,11 +59,7 @@ pub(crate) fn both_ways<H: Threads + Wait + Sync + Clock>(
     };
     for _ in 0..ROUNDS {
         least.world = by_world(alloc, rt, setup, steps)?.min(least.world);
-        let section = Timed {
-            clock: rt,
-            section: Listed { steps },
-        };
-        least.runtime = closed(alloc, rt, setup, &section)?.min(least.runtime);
+        least.runtime = by_runtime(alloc, rt, setup, steps)?.min(least.runtime);
     }
     Ok(least)
 }
@@ -108,11 +85,43 @@ fn answer_all(
 ) -> Result<(), RowFault> {
     let mut answers = Vec::new(alloc);
     for step in steps {
-        answers
-            .push(world_answer(world, step)?)
-            .map_err(AllocError::from)?;
+        push(&mut answers, world_answer(world, step)?)?;
     }
     Ok(())
+}
+
+/// The nanoseconds of the steps, made by a runtime with one caller.
+fn by_runtime<H: Wait + Clock>(
+    alloc: Global,
+    rt: &H,
+    setup: &str,
+    steps: &[Step],
+) -> Result<u64, RowFault> {
+    let (start, registry, guardians) = started(alloc, setup)?;
+    listed_in::<Brand, H>(alloc, rt, start, registry, guardians, steps)
+}
+
+fn listed_in<K: OfRun, H: Wait + Clock>(
+    alloc: Global,
+    rt: &H,
+    start: Start,
+    registry: Registry,
+    guardians: Vec<Guardian<PlainStable>>,
+    steps: &[Step],
+) -> Result<u64, RowFault>
+    requires table { start.run.table.shared.table_id ≡ K.table }
+    requires opening { opening_in start.run.table.shared.key ≡ K.opening }
+    requires world { IsWorld (λ g s. IsWhole plain_view g s) (λ g. seen_of plain_view g) (StandsIn registry)
+        K.opening [] guardians.items }
+{
+    let runtime = Threaded::<K, OpenGate>::new(alloc, start, registry, guardians, OpenGate)?;
+    let mut receipts = Vec::new(alloc);
+    let begun = Instant::now(rt);
+    let made = make_all(alloc, rt, &runtime, steps, &mut receipts);
+    let taken = since(rt, begun);
+    end(runtime, receipts)?;
+    made?;
+    taken
 }
 
 /// The nanoseconds of the work by threads that share a runtime.
@@ -124,13 +133,43 @@ pub(crate) fn over_runtime<H: Threads + Wait + Sync + Clock>(
     let setup = setup_of(alloc, GUARDIANS, ACCOUNT)?;
     let mut least = u64::MAX;
     for _ in 0..ROUNDS {
-        let section = Timed {
-            clock: rt,
-            section: workers,
-        };
-        least = closed(alloc, rt, setup.as_str(), &section)?.min(least);
+        least = by_workers(alloc, rt, setup.as_str(), workers)?.min(least);
     }
     Ok(least)
+}
+
+/// The nanoseconds of the work, once.
+fn by_workers<H: Threads + Wait + Sync + Clock>(
+    alloc: Global,
+    rt: &H,
+    setup: &str,
+    workers: Workers,
+) -> Result<u64, RowFault> {
+    let (start, registry, guardians) = started(alloc, setup)?;
+    workers_in::<Brand, H>(alloc, rt, start, registry, guardians, workers)
+}
+
+fn workers_in<K: OfRun + Send + Sync, H: Threads + Wait + Sync + Clock>(
+    alloc: Global,
+    rt: &H,
+    start: Start,
+    registry: Registry,
+    guardians: Vec<Guardian<PlainStable>>,
+    workers: Workers,
+) -> Result<u64, RowFault>
+    requires table { start.run.table.shared.table_id ≡ K.table }
+    requires opening { opening_in start.run.table.shared.key ≡ K.opening }
+    requires world { IsWorld (λ g s. IsWhole plain_view g s) (λ g. seen_of plain_view g) (StandsIn registry)
+        K.opening [] guardians.items }
+{
+    let runtime = Threaded::<K, OpenGate>::new(alloc, start, registry, guardians, OpenGate)?;
+    let mut receipts = Vec::new(alloc);
+    let begun = Instant::now(rt);
+    let made = all_work(alloc, rt, &runtime, workers, &mut receipts);
+    let taken = since(rt, begun);
+    end(runtime, receipts)?;
+    made?;
+    taken
 }
 
 /// A world under one lock, as one thread sees it.
@@ -141,14 +180,9 @@ struct Locked<'a, H> {
 }
 
 impl<'a, H: Wait> Steps for Locked<'a, H> {
-    fn accepted(&mut self, step: &Step) -> Result<Answer, RowFault> {
+    fn answer(&mut self, step: &Step) -> Result<Answer, RowFault> {
         let mut world = self.world.lock(self.rt);
-        let answer = world_answer(&mut world, step)?;
-        if answer.is_accepted() {
-            Ok(answer)
-        } else {
-            Err(RowFault::Unread)
-        }
+        world_answer(&mut world, step)
     }
 }
 

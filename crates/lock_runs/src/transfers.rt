@@ -1,11 +1,13 @@
 //! Transfers between pairs of 64 guardians, and operations alone, by threads that share nothing but the runtime.
 
-use crate::runs::{Section, Threaded, made};
+ghost use Rattle.std.specs.Prelude.{◌<◌};
+
+use crate::runs::{Threaded, append, first_begun, made, operation, push};
 use action_names::Name;
 use rows::RowFault;
 use run_model::{Answer, ObjectId, Op, Step};
 use runtime::{OfRun, OpenGate, Receipt};
-use std::alloc::{AllocError, Global};
+use std::alloc::Global;
 use std::sync::Wait;
 use std::thread::{Threads, map_indices};
 
@@ -17,8 +19,7 @@ pub(crate) const ACCOUNT: &str = "{\"record\":{\"n\":0}}";
 
 /// Whatever makes steps: a runtime, or a world under one lock.
 pub(crate) trait Steps {
-    /// The answer of a step, which has to be accepted.
-    fn accepted(&mut self, step: &Step) -> Result<Answer, RowFault>;
+    fn answer(&mut self, step: &Step) -> Result<Answer, RowFault>;
 }
 
 /// A runtime as one thread sees it. It keeps the receipts.
@@ -30,13 +31,8 @@ pub(crate) struct Caller<'a, K: OfRun, H> {
 }
 
 impl<'a, K: OfRun, H: Wait> Steps for Caller<'a, K, H> {
-    fn accepted(&mut self, step: &Step) -> Result<Answer, RowFault> {
-        let answer = made(self.runtime, self.rt, step, &mut self.receipts)?;
-        if answer.is_accepted() {
-            Ok(answer)
-        } else {
-            Err(RowFault::Unread)
-        }
+    fn answer(&mut self, step: &Step) -> Result<Answer, RowFault> {
+        made(self.runtime, self.rt, step, &mut self.receipts)
     }
 }
 
@@ -78,36 +74,24 @@ pub(crate) struct Workers {
     pub(crate) turns: u32,
 }
 
-impl Section for Workers {
-    type Gate = OpenGate;
-
-    type Done = ();
-
-    fn gate(&self) -> OpenGate {
-        OpenGate
+/// What all threads do.
+pub(crate) fn all_work<K: OfRun + Send + Sync, H: Threads + Wait + Sync>(
+    alloc: Global,
+    rt: &H,
+    runtime: &Threaded<K, OpenGate>,
+    workers: Workers,
+    receipts: &mut Vec<Receipt<K>>,
+) -> Result<(), RowFault> {
+    let worked = map_indices(
+        rt,
+        alloc,
+        workers.threads as usize,
+        &|index| { by_one(alloc, rt, runtime, workers, index as u32) },
+    )?;
+    for one in worked {
+        append(receipts, one?)?;
     }
-
-    fn make<K: OfRun + Send + Sync, H: Threads + Wait + Sync>(
-        &self,
-        alloc: Global,
-        rt: &H,
-        runtime: &Threaded<K, OpenGate>,
-        receipts: &mut Vec<Receipt<K>>,
-    ) -> Result<(), RowFault> {
-        let workers = *self;
-        let worked = map_indices(
-            rt,
-            alloc,
-            workers.threads as usize,
-            &|index| { by_one(alloc, rt, runtime, workers, index as u32) },
-        )?;
-        for one in worked {
-            for receipt in one? {
-                receipts.push(receipt).map_err(AllocError::from)?;
-            }
-        }
-        Ok(())
-    }
+    Ok(())
 }
 
 /// What one thread does; its receipts.
@@ -153,42 +137,101 @@ fn transfer<S: Steps>(
     get: &Op,
     set: &Op,
 ) -> Result<(), RowFault> {
-    let top = begun(steps, &Step::Top(home))?;
-    steps.accepted(&Step::Op(top.copy()?, account(home), get.copy()?))?;
-    steps.accepted(&Step::Op(top.copy()?, account(home), set.copy()?))?;
-    let sub = begun(steps, &Step::Call(top.copy()?, other))?;
-    steps.accepted(&Step::Op(sub.copy()?, account(other), get.copy()?))?;
-    steps.accepted(&Step::Op(sub.copy()?, account(other), set.copy()?))?;
-    steps.accepted(&Step::Commit(sub.copy()?))?;
-    steps.accepted(&Step::Tell(other, sub.copy()?))?;
-    steps.accepted(&Step::Tell(home, sub))?;
-    steps.accepted(&Step::Close(top.copy()?))?;
-    steps.accepted(&Step::Prepare(home, top.copy()?))?;
-    steps.accepted(&Step::Prepare(other, top.copy()?))?;
-    steps.accepted(&Step::Decide(top.copy()?))?;
-    steps.accepted(&Step::Tell(home, top.copy()?))?;
-    steps.accepted(&Step::Tell(other, top))?;
-    Ok(())
+    let top = begun(steps, Step::Top(home))?;
+    change(steps, &top, home, get, set)?;
+    call(steps, &top, home, other, get, set)?;
+    commit(steps, &top, home, other)
+}
+
+/// The part of a transfer that the other guardian does, by a handler call.
+fn call<S: Steps>(
+    steps: &mut S,
+    top: &Name,
+    home: u32,
+    other: u32,
+    get: &Op,
+    set: &Op,
+) -> Result<(), RowFault> {
+    let sub = begun(steps, Step::Call(top.copy()?, other))?;
+    change(steps, &sub, other, get, set)?;
+    make(steps, Step::Commit(sub.copy()?))?;
+    tell(steps, other, &sub)?;
+    tell(steps, home, &sub)
+}
+
+/// Commits a top action by two phases, and tells the participants so.
+fn commit<S: Steps>(steps: &mut S, top: &Name, home: u32, other: u32) -> Result<(), RowFault> {
+    make(steps, Step::Close(top.copy()?))?;
+    make(steps, Step::Prepare(home, top.copy()?))?;
+    make(steps, Step::Prepare(other, top.copy()?))?;
+    make(steps, Step::Decide(top.copy()?))?;
+    tell(steps, home, top)?;
+    tell(steps, other, top)
+}
+
+/// Reads and writes the account at the guardian.
+fn change<S: Steps>(
+    steps: &mut S,
+    action: &Name,
+    guardian: u32,
+    get: &Op,
+    set: &Op,
+) -> Result<(), RowFault> {
+    operate(steps, action, guardian, get)?;
+    operate(steps, action, guardian, set)
+}
+
+fn operate<S: Steps>(
+    steps: &mut S,
+    action: &Name,
+    guardian: u32,
+    operation: &Op,
+) -> Result<(), RowFault> {
+    let operation = operation.copy()?;
+    make(
+        steps,
+        Step::Op(action.copy()?, account(guardian), operation),
+    )
+}
+
+fn tell<S: Steps>(steps: &mut S, guardian: u32, action: &Name) -> Result<(), RowFault> {
+    make(steps, Step::Tell(guardian, action.copy()?))
 }
 
 /// Operations of one top action at each guardian of one thread.
 fn operations<S: Steps>(alloc: Global, steps: &mut S, share: Share) -> Result<(), RowFault> {
-    let each = each_of(GUARDIANS, share);
-    let set = operation(alloc, "op 1 1/1 set n 5")?;
-    let first = share.index.wrapping_mul(each);
-    let mut all = Vec::new(alloc);
-    for place in 1..=each {
-        let guardian = first.wrapping_add(place);
-        let top = begun(steps, &Step::Top(guardian))?;
-        all.push(Step::Op(top, account(guardian), set.copy()?))
-            .map_err(AllocError::from)?;
-    }
+    let all = own_operations(alloc, steps, share)?;
     for turn in 0..share.turns {
-        if let Some(step) = all.get((turn % each) as usize) {
-            steps.accepted(step)?;
+        if let Some(step) = all.get(turn as usize % all.len().max(1)) {
+            accepted(steps, step)?;
         }
     }
     Ok(())
+}
+
+/// An operation at each guardian of one thread, each of a top action that begins there.
+fn own_operations<S: Steps>(
+    alloc: Global,
+    steps: &mut S,
+    share: Share,
+) -> Result<Vec<Step>, RowFault> {
+    let set = operation(alloc, "op 1 1/1 set n 5")?;
+    let each = each_of(GUARDIANS, share);
+    let first = share.index.wrapping_mul(each);
+    let mut all = Vec::new(alloc);
+    for place in 1..=each {
+        push(
+            &mut all,
+            own_operation(steps, first.wrapping_add(place), &set)?,
+        )?;
+    }
+    Ok(all)
+}
+
+fn own_operation<S: Steps>(steps: &mut S, guardian: u32, set: &Op) -> Result<Step, RowFault> {
+    let set = set.copy()?;
+    let top = begun(steps, Step::Top(guardian))?;
+    Ok(Step::Op(top, account(guardian), set))
 }
 
 /// How many of these each thread has, at least one.
@@ -209,20 +252,22 @@ fn account(guardian: u32) -> ObjectId {
 }
 
 /// The action that the step began.
-fn begun<S: Steps>(steps: &mut S, step: &Step) -> Result<Name, RowFault> {
-    let Answer::Began(names) = steps.accepted(step)? else {
-        return Err(RowFault::Unread);
-    };
-    match names.as_slice().first() {
-        Some(name) => Ok(name.copy()?),
-        None => Err(RowFault::Unread),
-    }
+fn begun<S: Steps>(steps: &mut S, step: Step) -> Result<Name, RowFault> {
+    first_begun(&accepted(steps, &step)?)
 }
 
-/// The operation of a step's text.
-fn operation(alloc: Global, text: &str) -> Result<Op, RowFault> {
-    match Step::read(alloc, text.as_bytes())? {
-        Some(Step::Op(_, _, operation)) => Ok(operation),
-        _ => Err(RowFault::Unread),
+/// Makes a step, which has to be accepted.
+fn make<S: Steps>(steps: &mut S, step: Step) -> Result<(), RowFault> {
+    accepted(steps, &step)?;
+    Ok(())
+}
+
+/// The answer of a step, which has to be accepted.
+fn accepted<S: Steps>(steps: &mut S, step: &Step) -> Result<Answer, RowFault> {
+    let answer = steps.answer(step)?;
+    if answer.is_accepted() {
+        Ok(answer)
+    } else {
+        Err(RowFault::Unread)
     }
 }

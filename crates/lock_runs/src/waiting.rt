@@ -1,16 +1,35 @@
 //! Two threads at one object: each writes it in one top action after another, and the other's operations wait for these.
+ghost use Rattle.std.specs.Prelude.{◌≡◌, []};
+ghost use Rattle.run_model.specs.Openings.{opening_in};
+ghost use Rattle.stable_store.specs.Plain.{plain_view};
+ghost use Rattle.guardian.specs.Guardians.{IsWhole};
+ghost use Rattle.registry.specs.Registries.{StandsIn};
+ghost use Rattle.world_steps.specs.Standings.{IsWorld};
+ghost use Rattle.world.specs.Worlds.{seen_of};
 
-use crate::runs::{Section, Threaded, answered, closed, kept, made, setup_of};
+use crate::runs::{
+    Threaded, answered, append, end, first_begun, kept, make, operation, setup_of, started,
+};
 use action_names::Name;
+use guardian::Guardian;
+use registry::Registry;
 use rows::RowFault;
-use run_model::{Answer, Step};
-use runtime::{OfRun, OpenGate, Receipt};
-use std::alloc::{AllocError, Global};
+use run_model::{Answer, ObjectId, Op, Step};
+use runtime::{OfRun, OpenGate, Receipt, Start};
+use stable_store::PlainStable;
+use std::alloc::Global;
+use std::marker::Brand;
 use std::sync::Wait;
 use std::thread::{Threads, join};
 
 /// How many top actions each thread makes.
 const ROUNDS: u32 = 200;
+
+/// The object that they write.
+const OBJECT: ObjectId = ObjectId {
+    guardian: 1,
+    number: 1,
+};
 
 /// Whether each operation of two threads that write one object was granted in the end.
 pub(crate) fn both_are_granted<H: Threads + Wait + Sync>(
@@ -18,39 +37,44 @@ pub(crate) fn both_are_granted<H: Threads + Wait + Sync>(
     rt: &H,
 ) -> Result<bool, RowFault> {
     let setup = setup_of(alloc, 1, "{\"record\":{\"a\":0}}")?;
-    closed(alloc, rt, setup.as_str(), &Writers)
+    let (start, registry, guardians) = started(alloc, setup.as_str())?;
+    both_in::<Brand, H>(alloc, rt, start, registry, guardians)
+}
+
+fn both_in<K: OfRun + Send + Sync, H: Threads + Wait + Sync>(
+    alloc: Global,
+    rt: &H,
+    start: Start,
+    registry: Registry,
+    guardians: Vec<Guardian<PlainStable>>,
+) -> Result<bool, RowFault>
+    requires table { start.run.table.shared.table_id ≡ K.table }
+    requires opening { opening_in start.run.table.shared.key ≡ K.opening }
+    requires world { IsWorld (λ g s. IsWhole plain_view g s) (λ g. seen_of plain_view g) (StandsIn registry)
+        K.opening [] guardians.items }
+{
+    let runtime = Threaded::<K, OpenGate>::new(alloc, start, registry, guardians, OpenGate)?;
+    let mut receipts = Vec::new(alloc);
+    let granted = both_write(alloc, rt, &runtime, &mut receipts);
+    end(runtime, receipts)?;
+    granted
 }
 
 /// Two threads that write one object.
-struct Writers;
-
-impl Section for Writers {
-    type Gate = OpenGate;
-
-    type Done = bool;
-
-    fn gate(&self) -> OpenGate {
-        OpenGate
-    }
-
-    fn make<K: OfRun + Send + Sync, H: Threads + Wait + Sync>(
-        &self,
-        alloc: Global,
-        rt: &H,
-        runtime: &Threaded<K, OpenGate>,
-        receipts: &mut Vec<Receipt<K>>,
-    ) -> Result<bool, RowFault> {
-        let mut others = Vec::new(alloc);
-        let (one, other) = join(
-            rt,
-            || writes(alloc, rt, runtime, receipts),
-            || writes(alloc, rt, runtime, &mut others),
-        );
-        for receipt in others {
-            receipts.push(receipt).map_err(AllocError::from)?;
-        }
-        Ok(one? && other?)
-    }
+fn both_write<K: OfRun + Send + Sync, H: Threads + Wait + Sync>(
+    alloc: Global,
+    rt: &H,
+    runtime: &Threaded<K, OpenGate>,
+    receipts: &mut Vec<Receipt<K>>,
+) -> Result<bool, RowFault> {
+    let mut others = Vec::new(alloc);
+    let (one, other) = join(
+        rt,
+        || writes(alloc, rt, runtime, receipts),
+        || writes(alloc, rt, runtime, &mut others),
+    );
+    append(receipts, others)?;
+    Ok(one? && other?)
 }
 
 /// Writes the object in one top action after another. Whether each write was granted.
@@ -60,8 +84,9 @@ fn writes<K: OfRun, H: Wait>(
     runtime: &Threaded<K, OpenGate>,
     receipts: &mut Vec<Receipt<K>>,
 ) -> Result<bool, RowFault> {
+    let write = operation(alloc, "op 1 1/1 set a 1")?;
     for _ in 0..ROUNDS {
-        if !writes_once(alloc, rt, runtime, receipts)? {
+        if !writes_once(rt, runtime, &write, receipts)? {
             return Ok(false);
         }
     }
@@ -70,44 +95,54 @@ fn writes<K: OfRun, H: Wait>(
 
 /// Begins a top action, writes the object, aborts the action, and tells the guardian so.
 fn writes_once<K: OfRun, H: Wait>(
-    alloc: Global,
     rt: &H,
     runtime: &Threaded<K, OpenGate>,
+    write: &Op,
     receipts: &mut Vec<Receipt<K>>,
 ) -> Result<bool, RowFault> {
-    let top = match made(runtime, rt, &Step::Top(1), receipts)? {
-        Answer::Began(names) => first_of(names.as_slice())?,
-        _ => return Err(RowFault::Unread),
-    };
-    let granted = is_granted(alloc, rt, runtime, &top, receipts)?;
-    made(runtime, rt, &Step::Abort(top.copy()?), receipts)?;
-    made(runtime, rt, &Step::Tell(1, top), receipts)?;
+    let top = begun(rt, runtime, receipts)?;
+    let granted = is_granted(rt, runtime, &top, write, receipts)?;
+    aborted(rt, runtime, &top, receipts)?;
+    told(rt, runtime, top, receipts)?;
     Ok(granted)
 }
 
-fn first_of(names: &[Name]) -> Result<Name, RowFault> {
-    match names.first() {
-        Some(name) => Ok(name.copy()?),
-        None => Err(RowFault::Unread),
-    }
+fn begun<K: OfRun, H: Wait>(
+    rt: &H,
+    runtime: &Threaded<K, OpenGate>,
+    receipts: &mut Vec<Receipt<K>>,
+) -> Result<Name, RowFault> {
+    first_begun(&make(runtime, rt, Step::Top(1), receipts)?)
 }
 
-/// Whether the write of the action was granted, after it waited.
-fn is_granted<K: OfRun, H: Wait>(
-    alloc: Global,
+fn aborted<K: OfRun, H: Wait>(
     rt: &H,
     runtime: &Threaded<K, OpenGate>,
     top: &Name,
     receipts: &mut Vec<Receipt<K>>,
+) -> Result<(), RowFault> {
+    make(runtime, rt, Step::Abort(top.copy()?), receipts)?;
+    Ok(())
+}
+
+fn told<K: OfRun, H: Wait>(
+    rt: &H,
+    runtime: &Threaded<K, OpenGate>,
+    top: Name,
+    receipts: &mut Vec<Receipt<K>>,
+) -> Result<(), RowFault> {
+    make(runtime, rt, Step::Tell(1, top), receipts)?;
+    Ok(())
+}
+
+/// Whether the write of the action was granted, after it waited.
+fn is_granted<K: OfRun, H: Wait>(
+    rt: &H,
+    runtime: &Threaded<K, OpenGate>,
+    top: &Name,
+    write: &Op,
+    receipts: &mut Vec<Receipt<K>>,
 ) -> Result<bool, RowFault> {
-    let mut name = String::new(alloc);
-    top.write_to(&mut name)?;
-    let name = name.as_str();
-    let text = format!(in alloc; "op {name} 1/1 set a 1")?;
-    let Some(Step::Op(action, object, operation)) = Step::read(alloc, text.as_str().as_bytes())?
-    else {
-        return Err(RowFault::Unread);
-    };
-    let given = answered(runtime.op_wait(rt, &action, object, &operation, &[]))?;
+    let given = answered(runtime.op_wait(rt, top, OBJECT, write, &[]))?;
     Ok(matches!(kept(given, receipts)?, Answer::Granted(_)))
 }

@@ -1,5 +1,5 @@
 use Rattle.run_model.specs.Openings.{opening_in}
 use Rattle.lock_runs.proofs.meeting.all_meet.Given as goal
 
-abbrev pub ghosts-meet : goal.ghosts-meet
-ghosts-meet g a = record { opening = opening_in a.start.run.table.shared.key; table = a.start.run.table.shared.table_id }
+abbrev pub ghosts-meet_in : goal.ghosts-meet_in
+ghosts-meet_in g a = record { opening = opening_in a.start.run.table.shared.key; table = a.start.run.table.shared.table_id }

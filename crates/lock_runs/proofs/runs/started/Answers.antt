@@ -5,7 +5,7 @@ use Rattle.registry.specs.Registries.{StandsIn}
 use Rattle.run_model.specs.Openings.{opening_in}
 use Rattle.stable_store.specs.Plain.{plain_view}
 use Rattle.world.specs.Worlds.{seen_of}
-use Rattle.lock_runs.proofs.examples.started.Goals as goal
+use Rattle.lock_runs.proofs.runs.started.Goals as goal
 
 pub returns : goal.returns
 returns c =
