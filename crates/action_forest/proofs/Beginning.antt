@@ -56,7 +56,6 @@ module _ (opening : Opening) (registry : List RegistryEvent) (stamp : ℕ) (step
           maker = born.maker ∙ of (maker_in step) refl;
           depends = born.depends;
           status = born.status;
-          closing = born.closing;
           unended = born.unended;
           children = born.children;
         },
@@ -119,7 +118,6 @@ born_fresh opening registry m h n forest b node maker is entries placed = record
   depends = λ g.
       tree.get-entries node.depends g ∙ find_beside (tree.entries node.depends) g ∙ ap (λ es. beside es g) entries;
   status = ap (λ x. x.status) is;
-  closing = ap (λ x. x.closing) is;
   unended = ap (λ x. x.unended) is;
   children = ap (λ x. x.children) is;
 }

@@ -8,7 +8,7 @@ use Rattle.run_model.specs.Openings.{Opening, given_before}
 use Rattle.action_forest.proofs.Found.{below_none, numbered_none}
 use Rattle.action_forest.specs.Forests.{IsForest}
 use Rattle.action_forest.specs.Trees.{Action, Trees, action_of, children_of, name_at, place_below, place_of, said}
-use Rattle.action_forest.specs.declared.forest.Status.TheVariants.{Active}
+use Rattle.step_answers.specs.declared.actor.Status.TheVariants.{Active}
 
 module _ (first guardians : ℕ) where
   abbrev pub empty : Trees
@@ -39,7 +39,6 @@ module _ (first guardians : ℕ) where
       parents = λ a was top. absurd (cc);
     };
     status = λ a. nothing_said (λ action. action.status) Active a;
-    closing = λ a. nothing_said (λ action. action.closing) None a;
     depends = λ a g. nothing_said (λ action. tree.get action.depends g) None a;
     unended = λ a. nothing_said (λ action. action.unended) 0 a;
     inside = λ a g some. absurd (cc);

@@ -8,11 +8,11 @@ use Rattle.action_names.specs.Deps.{Deps, lesser}
 use Rattle.run_model.specs.declared.history.Event.{Event}
 use Rattle.run_model.specs.declared.step.Step.{Step}
 use Rattle.run_model.specs.declared.step.Step.TheVariants.{Abort, Close, Commit, Decide}
-use Rattle.run_model.specs.Actions.{is_aborted, is_committed, is_ended, is_exactly, made_by, maker_of}
+use Rattle.run_model.specs.Actions.{is_aborted, is_closed, is_committed, is_ended, is_exactly, made_by, maker_of}
 use Rattle.run_model.specs.LocalHistories.{RegistryEvent, dependency_there, events_there}
 use Rattle.run_model.specs.Openings.{Opening}
-use Rattle.action_forest.specs.declared.forest.Status.{Status}
-use Rattle.action_forest.specs.declared.forest.Status.TheVariants.{Aborted, Active, Committed}
+use Rattle.step_answers.specs.declared.actor.Status.{Status}
+use Rattle.step_answers.specs.declared.actor.Status.TheVariants.{Aborted, Active, Closed, Committed}
 use Rattle.action_forest.proofs.Changed.{KeepsTree, elsewhere, kept_at, name_changed, place_changed, said_at, said_kept}
 use Rattle.action_forest.proofs.Counted.{fewer}
 use Rattle.action_forest.proofs.Found.{there}
@@ -20,10 +20,10 @@ use Rattle.action_forest.proofs.Names.{same_name_true}
 use Rattle.action_forest.proofs.Quiet.{made_quiet, tree_changed, tree_changed_at, tree_quiet}
 use Rattle.action_forest.specs.Events.{IsUnended, done, status_there, unended_there}
 use Rattle.action_forest.specs.Forests.{IsForest, IsTree}
-use Rattle.action_forest.specs.Trees.{Action, Trees, action_of, changed, changed_at, committed, depends_at, ended, maker_at, maker_place, name_at, one_less, place_of, said, status_at, unended_at, with_closing, with_depends, with_status}
+use Rattle.action_forest.specs.Trees.{Action, Trees, action_of, changed, changed_at, closed, committed, depends_at, ended, maker_at, maker_place, name_at, one_less, place_of, said, status_at, unended_at, with_closed, with_depends, with_status}
 
-pub closing_keeps : (n : ℕ) → KeepsTree (with_closing n)
-closing_keeps n = record { name = λ x. refl; home = λ x. refl; life = λ x. refl; maker = λ x. refl; children = λ x. refl }
+pub closed_keeps : KeepsTree with_closed
+closed_keeps = record { name = λ x. refl; home = λ x. refl; life = λ x. refl; maker = λ x. refl; children = λ x. refl }
 
 pub status_keeps : (status : Status) → KeepsTree (with_status status)
 status_keeps status = record { name = λ x. refl; home = λ x. refl; life = λ x. refl; maker = λ x. refl; children = λ x. refl }
@@ -180,31 +180,56 @@ not_committed t registry h = of (is_committed t (events_there registry)) (is_abo
 
 -- an action that stands as active has not ended
 pub active_not_ended : (a : Name) (past : List Event) → status_there a past ≡ Active → is_ended a past ≡ false
-active_not_ended a past h = of (is_committed a past) (is_aborted a past) h
+active_not_ended a past h = of (is_committed a past) (is_aborted a past) (is_closed a past) h
   where
-    of : (c b : Bool) → cond c Committed (cond b Aborted Active) ≡ Active → (c || b) ≡ false
-    of true b k = absurd (cc)
-    of false true k = absurd (cc)
-    of false false k = refl
+    of : (c b k : Bool) → cond c Committed (cond b Aborted (cond k Closed Active)) ≡ Active → (c || b) ≡ false
+    of true b k e = absurd (cc)
+    of false true k e = absurd (cc)
+    of false false k e = refl
+
+-- what stood so is closed, unless it has ended
+closed_then : (c a k : Bool) → closed (cond c Committed (cond a Aborted (cond k Closed Active))) ≡ cond c Committed (cond a Aborted Closed)
+closed_then true a k = refl
+closed_then false true k = refl
+closed_then false false true = refl
+closed_then false false false = refl
 
 -- An action is closed.
 pub closes : (opening : Opening) (registry : List RegistryEvent) (forest : Trees) (t : Name) (i n : ℕ) → place_of forest t ≡ Some i
-    → IsForest opening registry forest → IsForest opening (done n (Close t) ∷ registry) (changed (with_closing n) i forest)
-closes opening registry forest t i n at h =
-    let x = there forest i t (h.tree.named t i at) in
-    record {
-      first = h.first;
-      setup = h.setup;
-      tree = tree_quiet registry (changed (with_closing n) i forest) (done n (Close t)) refl
-          (tree_changed registry forest (with_closing n) i (closing_keeps n) h.tree);
-      status = λ a. said_kept (λ action. action.status) Active (with_closing n) i forest (closing_keeps n) (λ x. refl) a ∙ h.status a;
-      closing = λ a.
-          said_at (λ action. action.closing) None (with_closing n) i forest (closing_keeps n) h.tree.named t x.0 at x.1 a
-          ∙ ap (cond (same_name t a) (Some n)) (h.closing a);
-      depends = λ a g. said_kept (λ action. tree.get action.depends g) None (with_closing n) i forest (closing_keeps n) (λ x. refl) a ∙ h.depends a g;
-      unended = λ a. said_kept (λ action. action.unended) 0 (with_closing n) i forest (closing_keeps n) (λ x. refl) a ∙ h.unended a;
-      inside = h.inside;
-    }
+    → IsForest opening registry forest → IsForest opening (done n (Close t) ∷ registry) (changed with_closed i forest)
+closes opening registry forest t i n at h = record {
+  first = h.first;
+  setup = h.setup;
+  tree = tree_quiet registry (changed with_closed i forest) (done n (Close t)) refl
+      (tree_changed registry forest with_closed i closed_keeps h.tree);
+  status = λ a.
+      said_at (λ action. action.status) Active with_closed i forest closed_keeps h.tree.named t x.0 at x.1 a
+      ∙ stands a (same_name t a) refl;
+  depends = λ a g. said_kept (λ action. tree.get action.depends g) None with_closed i forest closed_keeps (λ x. refl) a ∙ h.depends a g;
+  unended = λ a. said_kept (λ action. action.unended) 0 with_closed i forest closed_keeps (λ x. refl) a ∙ h.unended a;
+  inside = h.inside;
+}
+  where
+    past : List Event
+    past = events_there registry
+
+    x : (y : Action) × (slice_get forest.actions i ≡ Some y) × (y.name ≡ t)
+    x = there forest i t (h.tree.named t i at)
+
+    own : x.0.status ≡ status_there t past
+    own = sym (ap (said (λ action. action.status) Active) (at_place forest t i at ∙ x.1)) ∙ h.status t
+
+    stands_by : Name → Bool → Status
+    stands_by a b =
+        cond (is_committed a past) Committed (cond (is_aborted a past) Aborted (cond (b || is_closed a past) Closed Active))
+
+    stands : (a : Name) (b : Bool) → same_name t a ≡ b
+        → cond b (closed x.0.status) (status_at forest a) ≡ status_there a (events_there (done n (Close t) ∷ registry))
+    stands a true same =
+        ap closed (own ∙ ap (λ c. status_there c past) (same_name_true t a same))
+        ∙ closed_then (is_committed a past) (is_aborted a past) (is_closed a past)
+        ∙ ap (stands_by a) (sym same)
+    stands a false differ = h.status a ∙ ap (stands_by a) (sym differ)
 
 -- An action aborts.
 pub aborts : (opening : Opening) (registry : List RegistryEvent) (forest : Trees) (t : Name) (i n : ℕ) → place_of forest t ≡ Some i
@@ -214,25 +239,33 @@ aborts opening registry forest t i n at was h = record {
   setup = guardians_ended Aborted i forest ∙ h.setup;
   tree = tree_quiet registry (ended Aborted i forest) (done n (Abort t)) refl (tree_ended registry forest Aborted i h.tree);
   status = λ a. status_after registry forest Aborted t i h.tree at a ∙ ap (cond (same_name t a) Aborted) (h.status a) ∙ stands a;
-  closing = λ a. said_ended (λ action. action.closing) None Aborted i forest (λ x s. refl) (λ x. refl) a ∙ h.closing a;
   depends = λ a g. said_ended (λ action. tree.get action.depends g) None Aborted i forest (λ x s. refl) (λ x. refl) a ∙ h.depends a g;
   unended = unended_after registry forest Aborted t i n (Abort t) h.tree h.unended was.not_ended at (λ b. or_over (same_name t b) _ _);
   inside = h.inside;
 }
   where
-    of : (s c a : Bool) → (s ≡ true → c ≡ false)
-        → cond s Aborted (cond c Committed (cond a Aborted Active)) ≡ cond c Committed (cond (s || a) Aborted Active)
-    of true c a k = ap (λ v. cond v Committed Aborted) (sym (k refl))
-    of false c a k = refl
+    of : (s c a k : Bool) → (s ≡ true → c ≡ false)
+        → cond s Aborted (cond c Committed (cond a Aborted (cond k Closed Active)))
+        ≡ cond c Committed (cond (s || a) Aborted (cond k Closed Active))
+    of true c a k e = ap (λ v. cond v Committed Aborted) (sym (e refl))
+    of false c a k e = refl
 
     stands : (a : Name) → cond (same_name t a) Aborted (status_there a (events_there registry)) ≡ status_there a (events_there (done n (Abort t) ∷ registry))
     stands a =
         of (same_name t a) (is_committed a (events_there registry)) (is_aborted a (events_there registry))
+        (is_closed a (events_there registry))
         (λ same. subst (λ c. is_committed c (events_there registry) ≡ false) (same_name_true t a same) (not_committed t registry was.not_ended))
 
-committed_first : (s c a : Bool) → cond s Committed (cond c Committed (cond a Aborted Active)) ≡ cond (s || c) Committed (cond a Aborted Active)
-committed_first true c a = refl
-committed_first false c a = refl
+committed_first : (s c : Bool) (other : Status) → cond s Committed (cond c Committed other) ≡ cond (s || c) Committed other
+committed_first true c other = refl
+committed_first false c other = refl
+
+-- a subaction commits and closes at once
+committed_closed : (s c a k : Bool)
+    → cond s Committed (cond c Committed (cond a Aborted (cond k Closed Active)))
+    ≡ cond (s || c) Committed (cond a Aborted (cond (s || k) Closed Active))
+committed_closed true c a k = refl
+committed_closed false c a k = refl
 
 -- A top action is decided.
 pub decides : (opening : Opening) (registry : List RegistryEvent) (forest : Trees) (t : Name) (i n : ℕ) → place_of forest t ≡ Some i
@@ -244,8 +277,7 @@ decides opening registry forest t i n at was h = record {
   status = λ a.
       status_after registry forest Committed t i h.tree at a
       ∙ ap (cond (same_name t a) Committed) (h.status a)
-      ∙ committed_first (same_name t a) (is_committed a (events_there registry)) (is_aborted a (events_there registry));
-  closing = λ a. said_ended (λ action. action.closing) None Committed i forest (λ x s. refl) (λ x. refl) a ∙ h.closing a;
+      ∙ committed_first (same_name t a) (is_committed a (events_there registry)) _;
   depends = λ a g. said_ended (λ action. tree.get action.depends g) None Committed i forest (λ x s. refl) (λ x. refl) a ∙ h.depends a g;
   unended = unended_after registry forest Committed t i n (Decide t) h.tree h.unended was.not_ended at (λ b. or_first (same_name t b) _ _);
   inside = h.inside;
@@ -265,31 +297,25 @@ lesser_some (Some m) y h = inl refl
 pub commits : (opening : Opening) (registry : List RegistryEvent) (forest : Trees) (t : Name) (i n : ℕ) (deps : Deps) → place_of forest t ≡ Some i
     → ((g : ℕ) → tree.get deps g ≡ lesser (depends_at forest (parent_of t) g) (depends_at forest t g))
     → IsUnended (events_there registry) t → is_top t ≡ false → IsForest opening registry forest
-    → IsForest opening (done n (Commit t) ∷ registry) (committed n deps i forest)
+    → IsForest opening (done n (Commit t) ∷ registry) (committed deps i forest)
 commits opening registry forest t i n deps at merged was no_top h = record {
-  first = first_at (with_depends deps) (maker_place forest i) closed ∙ first_ended Committed i forest ∙ h.first;
-  setup = guardians_at (with_depends deps) (maker_place forest i) closed ∙ guardians_ended Committed i forest ∙ h.setup;
-  tree = tree_quiet registry (committed n deps i forest) (done n (Commit t)) refl
-      (tree_changed_at registry closed (with_depends deps) (maker_place forest i) (depends_keeps deps) tree_closed);
+  first = first_at (with_depends deps) (maker_place forest i) gone ∙ first_ended Committed i forest ∙ h.first;
+  setup = guardians_at (with_depends deps) (maker_place forest i) gone ∙ guardians_ended Committed i forest ∙ h.setup;
+  tree = tree_quiet registry (committed deps i forest) (done n (Commit t)) refl
+      (tree_changed_at registry gone (with_depends deps) (maker_place forest i) (depends_keeps deps) tree_gone);
   status = λ a.
-      said_kept_at (λ action. action.status) Active (with_depends deps) (maker_place forest i) closed (depends_keeps deps) (λ x. refl) a
-      ∙ said_kept (λ action. action.status) Active (with_closing n) i gone (closing_keeps n) (λ x. refl) a
+      said_kept_at (λ action. action.status) Active (with_depends deps) (maker_place forest i) gone (depends_keeps deps) (λ x. refl) a
       ∙ status_after registry forest Committed t i h.tree at a
       ∙ ap (cond (same_name t a) Committed) (h.status a)
-      ∙ committed_first (same_name t a) (is_committed a (events_there registry)) (is_aborted a (events_there registry));
-  closing = λ a.
-      said_kept_at (λ action. action.closing) None (with_depends deps) (maker_place forest i) closed (depends_keeps deps) (λ x. refl) a
-      ∙ said_at (λ action. action.closing) None (with_closing n) i gone (closing_keeps n) tree_gone.named t own.0 at_gone own.1 a
-      ∙ ap (cond (same_name t a) (Some n))
-      (said_ended (λ action. action.closing) None Committed i forest (λ x s. refl) (λ x. refl) a ∙ h.closing a);
+      ∙ committed_closed (same_name t a) (is_committed a (events_there registry)) (is_aborted a (events_there registry))
+      (is_closed a (events_there registry));
   depends = λ a g.
-      ap (λ o. depends_at (changed_at (with_depends deps) o closed) a g) parent.1
-      ∙ said_at (λ action. tree.get action.depends g) None (with_depends deps) parent.0 closed (depends_keeps deps) tree_closed.named
+      ap (λ o. depends_at (changed_at (with_depends deps) o gone) a g) parent.1
+      ∙ said_at (λ action. tree.get action.depends g) None (with_depends deps) parent.0 gone (depends_keeps deps) tree_gone.named
       (parent_of t) above.0 at_parent above.1 a
       ∙ now a g (same_name (parent_of t) a) refl;
   unended = λ a.
-      said_kept_at (λ action. action.unended) 0 (with_depends deps) (maker_place forest i) closed (depends_keeps deps) (λ x. refl) a
-      ∙ said_kept (λ action. action.unended) 0 (with_closing n) i gone (closing_keeps n) (λ x. refl) a
+      said_kept_at (λ action. action.unended) 0 (with_depends deps) (maker_place forest i) gone (depends_keeps deps) (λ x. refl) a
       ∙ unended_after registry forest Committed t i n (Commit t) h.tree h.unended was.not_ended at (λ b. or_first (same_name t b) _ _) a;
   inside = λ a g some. inside_now a g (same_name (parent_of t) a) some;
 }
@@ -297,38 +323,25 @@ commits opening registry forest t i n deps at merged was no_top h = record {
     gone : Trees
     gone = ended Committed i forest
 
-    closed : Trees
-    closed = changed (with_closing n) i gone
-
     tree_gone : IsTree registry gone
     tree_gone = tree_ended registry forest Committed i h.tree
-
-    tree_closed : IsTree registry closed
-    tree_closed = tree_changed registry gone (with_closing n) i (closing_keeps n) tree_gone
-
-    at_gone : place_of gone t ≡ Some i
-    at_gone = place_ended Committed i forest t ∙ at
-
-    own : (x : Action) × (slice_get gone.actions i ≡ Some x) × (x.name ≡ t)
-    own = there gone i t (tree_gone.named t i at_gone)
 
     parent : (j : ℕ) × (maker_place forest i ≡ Some j) × (place_of forest (parent_of t) ≡ Some j)
     parent = maker_named registry forest (maker_place forest i) (parent_of t) h.tree
         (maker_found forest t i at ∙ h.tree.maker t ∙ h.tree.parents t was.begun no_top)
 
-    at_parent : place_of closed (parent_of t) ≡ Some parent.0
-    at_parent = place_changed (with_closing n) i gone (closing_keeps n) (parent_of t) ∙ place_ended Committed i forest (parent_of t) ∙ parent.2
+    at_parent : place_of gone (parent_of t) ≡ Some parent.0
+    at_parent = place_ended Committed i forest (parent_of t) ∙ parent.2
 
-    above : (x : Action) × (slice_get closed.actions parent.0 ≡ Some x) × (x.name ≡ parent_of t)
-    above = there closed parent.0 (parent_of t) (tree_closed.named (parent_of t) parent.0 at_parent)
+    above : (x : Action) × (slice_get gone.actions parent.0 ≡ Some x) × (x.name ≡ parent_of t)
+    above = there gone parent.0 (parent_of t) (tree_gone.named (parent_of t) parent.0 at_parent)
 
-    before : (a : Name) (g : ℕ) → depends_at closed a g ≡ dependency_there a g registry
+    before : (a : Name) (g : ℕ) → depends_at gone a g ≡ dependency_there a g registry
     before a g =
-        said_kept (λ action. tree.get action.depends g) None (with_closing n) i gone (closing_keeps n) (λ x. refl) a
-        ∙ said_ended (λ action. tree.get action.depends g) None Committed i forest (λ x s. refl) (λ x. refl) a ∙ h.depends a g
+        said_ended (λ action. tree.get action.depends g) None Committed i forest (λ x s. refl) (λ x. refl) a ∙ h.depends a g
 
     now : (a : Name) (g : ℕ) (b : Bool) → same_name (parent_of t) a ≡ b
-        → cond b (tree.get deps g) (depends_at closed a g)
+        → cond b (tree.get deps g) (depends_at gone a g)
         ≡ cond b (lesser (dependency_there a g registry) (dependency_there t g registry)) (dependency_there a g registry)
     now a g true same =
         merged g
@@ -345,19 +358,14 @@ commits opening registry forest t i n deps at merged was no_top h = record {
     inside_now a g false some = h.inside a g some
 
 -- the trees of a commit, one change after another
-pub commit_changes : (n i : ℕ) (deps : Deps) (before first second after : Trees) (parent : Option ℕ) → first ≡ ended Committed i before
-    → second ≡ changed (with_closing n) i first → parent ≡ maker_place second i → after ≡ changed_at (with_depends deps) parent second
-    → after ≡ committed n deps i before
-commit_changes n i deps before first second after parent ends closes up hangs =
+pub commit_changes : (i : ℕ) (deps : Deps) (before first after : Trees) (parent : Option ℕ) → first ≡ ended Committed i before
+    → parent ≡ maker_place first i → after ≡ changed_at (with_depends deps) parent first → after ≡ committed deps i before
+commit_changes i deps before first after parent ends up hangs =
     hangs
-    ∙ ap (λ o. changed_at (with_depends deps) o second) (up ∙ ap (λ forest. maker_place forest i) is_second ∙ same_maker)
-    ∙ ap (changed_at (with_depends deps) (maker_place before i)) is_second
+    ∙ ap (λ o. changed_at (with_depends deps) o first) (up ∙ ap (λ forest. maker_place forest i) ends ∙ same_maker)
+    ∙ ap (changed_at (with_depends deps) (maker_place before i)) ends
   where
-    is_second : second ≡ changed (with_closing n) i (ended Committed i before)
-    is_second = closes ∙ ap (changed (with_closing n) i) ends
-
-    same_maker : maker_place (changed (with_closing n) i (ended Committed i before)) i ≡ maker_place before i
+    same_maker : maker_place (ended Committed i before) i ≡ maker_place before i
     same_maker =
-        maker_place_at (with_closing n) (Some i) (ended Committed i before) (closing_keeps n) i
-        ∙ maker_place_at one_less (maker_place before i) (changed (with_status Committed) i before) less_keeps i
+        maker_place_at one_less (maker_place before i) (changed (with_status Committed) i before) less_keeps i
         ∙ maker_place_at (with_status Committed) (Some i) before (status_keeps Committed) i

@@ -22,7 +22,7 @@ use Rattle.action_forest.proofs.Quiet.{tree_changed_at}
 use Rattle.action_forest.specs.Events.{beginning, first_entries, life_there, status_there, unended_there}
 use Rattle.action_forest.specs.Forests.{IsBorn, IsForest, IsTree}
 use Rattle.action_forest.specs.Trees.{Action, Trees, action_of, added, changed_at, children_of, first_of, grown, name_at, one_more, place_of, said, unended_at, with_child}
-use Rattle.action_forest.specs.declared.forest.Status.TheVariants.{Active}
+use Rattle.step_answers.specs.declared.actor.Status.TheVariants.{Active}
 
 pub more_keeps : KeepsTree one_more
 more_keeps = record { name = λ x. refl; home = λ x. refl; life = λ x. refl; maker = λ x. refl; children = λ x. refl }
@@ -260,10 +260,6 @@ module _ (opening : Opening) (registry : List RegistryEvent) (stamp : ℕ) (step
           said_absent (λ y. y.status) Active (λ y. refl) b.born.status a
           ∙ said_kept_at (λ y. y.status) Active one_more x.maker forest more_keeps (λ y. refl) a
           ∙ h.status a;
-      closing = λ a.
-          said_absent (λ y. y.closing) None (λ y. refl) b.born.closing a
-          ∙ said_kept_at (λ y. y.closing) None one_more x.maker forest more_keeps (λ y. refl) a
-          ∙ h.closing a;
       depends = λ a g.
           said_grown (c ∷ registry) base x tree_base next (λ y. tree.get y.depends g) None (λ y. refl) top refl a
           ∙ (λ i. cond (same_name x.name a) (b.born.depends g i)

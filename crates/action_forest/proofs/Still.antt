@@ -1,18 +1,18 @@
 -- Events that neither begin, close nor end an action.
-use Rattle.std.proofs.Common.{List, [], Option, Some, ap, cond, count_by, false, is_some, not, refl, sym, true, ℕ, ◌∙◌, ◌∷◌, ◌≡◌, ◌||◌}
+use Rattle.std.proofs.Common.{List, [], Option, ap, cond, count_by, false, is_some, not, refl, sym, true, ℕ, ◌∙◌, ◌∷◌, ◌≡◌, ◌||◌}
 use Rattle.std.proofs.lemmas.Bool.{false≢true}
 use Rattle.action_names.specs.Names.{Name, has_name}
 use Rattle.run_model.specs.declared.step.Step.{Step}
 use Rattle.run_model.specs.declared.step.Step.TheVariants.{Abort, Close, Commit, Decide}
-use Rattle.run_model.specs.Actions.{is_aborted, is_committed, is_ended, made_by, names_begun, step_aborts, step_closes, step_commits}
-use Rattle.run_model.specs.LocalHistories.{RegistryEvent, closing_there, dependency_there, events_there, new_least}
+use Rattle.run_model.specs.Actions.{is_aborted, is_closed, is_committed, is_ended, made_by, names_begun, step_aborts, step_closes, step_commits}
+use Rattle.run_model.specs.LocalHistories.{RegistryEvent, dependency_there, events_there, new_least}
 use Rattle.run_model.specs.LocalReadings.{after_commit}
 use Rattle.run_model.specs.Openings.{Opening}
 use Rattle.action_forest.proofs.Quiet.{made_quiet, tree_quiet}
 use Rattle.action_forest.specs.Events.{is_still, status_there}
 use Rattle.action_forest.specs.Forests.{IsForest}
 use Rattle.action_forest.specs.Trees.{Trees}
-use Rattle.action_forest.specs.declared.forest.Status.TheVariants.{Aborted, Active, Committed}
+use Rattle.step_answers.specs.declared.actor.Status.TheVariants.{Aborted, Active, Closed, Committed}
 
 pub still_commits : (step : Step) (a : Name) → is_still step ≡ true → step_commits step a ≡ false
 still_commits (Commit b) a h = absurd (false≢true h)
@@ -44,13 +44,15 @@ pub ended_still : (c : RegistryEvent) (registry : List RegistryEvent) → is_sti
     → is_ended a (events_there (c ∷ registry)) ≡ is_ended a (events_there registry)
 ended_still c registry h a = λ i. committed_still c registry h a i || aborted_still c registry h a i
 
+pub closed_still : (c : RegistryEvent) (registry : List RegistryEvent) → is_still c.event.step ≡ true → (a : Name)
+    → is_closed a (events_there (c ∷ registry)) ≡ is_closed a (events_there registry)
+closed_still c registry h a = ap (λ b. b || is_closed a (events_there registry)) (still_closes c.event.step a h)
+
 pub status_still : (c : RegistryEvent) (registry : List RegistryEvent) → is_still c.event.step ≡ true → (a : Name)
     → status_there a (events_there (c ∷ registry)) ≡ status_there a (events_there registry)
-status_still c registry h a = λ i. cond (committed_still c registry h a i) Committed (cond (aborted_still c registry h a i) Aborted Active)
-
-pub closing_still : (c : RegistryEvent) (registry : List RegistryEvent) → is_still c.event.step ≡ true → (a : Name)
-    → closing_there a (c ∷ registry) ≡ closing_there a registry
-closing_still c registry h a = ap (λ b. cond b (Some c.stamp) (closing_there a registry)) (still_closes c.event.step a h)
+status_still c registry h a = λ i.
+    cond (committed_still c registry h a i) Committed
+    (cond (aborted_still c registry h a i) Aborted (cond (closed_still c registry h a i) Closed Active))
 
 -- Such an event leaves a forest to say what it says.
 pub unmoved : (opening : Opening) (registry : List RegistryEvent) (forest : Trees) (c : RegistryEvent) → names_begun c.event.answer ≡ []
@@ -60,7 +62,6 @@ unmoved opening registry forest c none still h = record {
   setup = h.setup;
   tree = tree_quiet registry forest c none h.tree;
   status = λ a. h.status a ∙ sym (status_still c registry still a);
-  closing = λ a. h.closing a ∙ sym (closing_still c registry still a);
   depends = λ a g. h.depends a g ∙ sym (depends_same a g);
   unended = λ a.
       h.unended a

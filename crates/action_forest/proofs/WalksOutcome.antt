@@ -6,11 +6,11 @@ use Rattle.std.specs.Option.{option_and_then, option_copied}
 use Rattle.std.proofs.lemmas.Option.{slice_get-get_or, slice_get-map, slice_get_past}
 use Rattle.action_names.specs.Names.{Name}
 use Rattle.run_model.specs.declared.history.Event.{Event}
-use Rattle.run_model.specs.Actions.{is_aborted, is_committed, is_ended}
+use Rattle.run_model.specs.Actions.{is_aborted, is_closed, is_committed, is_ended}
 use Rattle.run_model.specs.LocalHistories.{RegistryEvent, events_there}
 use Rattle.run_model.specs.Openings.{Opening}
 use Rattle.action_forest.specs.declared.forest.Node.{Node}
-use Rattle.action_forest.specs.declared.forest.Status.TheVariants.{Aborted, Active, Committed}
+use Rattle.step_answers.specs.declared.actor.Status.TheVariants.{Aborted, Active, Closed, Committed}
 use Rattle.action_forest.specs.Events.{status_there}
 use Rattle.action_forest.specs.Forests.{IsForest}
 use Rattle.action_forest.specs.Trees.{Action, Trees, action_in, place_of, said}
@@ -25,12 +25,13 @@ got xs items k (Some x) same h =
 
 -- how an action stands says whether it has ended, and whether it committed
 outcome_there : (b : Name) (past : List Event) → outcome_of (status_there b past) ≡ cond (is_ended b past) (Some (is_committed b past)) None
-outcome_there b past = of (is_committed b past) (is_aborted b past)
+outcome_there b past = of (is_committed b past) (is_aborted b past) (is_closed b past)
   where
-    of : (c a : Bool) → outcome_of (cond c Committed (cond a Aborted Active)) ≡ cond (c || a) (Some c) None
-    of true a = refl
-    of false true = refl
-    of false false = refl
+    of : (c a k : Bool) → outcome_of (cond c Committed (cond a Aborted (cond k Closed Active))) ≡ cond (c || a) (Some c) None
+    of true a k = refl
+    of false true k = refl
+    of false false true = refl
+    of false false false = refl
 
 -- an outcome, unless it was told
 abbrev pub unless_told : (Name → Bool) → Name → Option Bool → Option (Name × Bool)

@@ -6,16 +6,18 @@ use Rattle.run_model.specs.declared.answer.Answer.TheVariants.{Began, Done}
 use Rattle.run_model.specs.declared.history.Event.{Event}
 use Rattle.run_model.specs.declared.step.Step.{Step}
 use Rattle.run_model.specs.declared.step.Step.TheVariants.{Abort, Close, Commit, Decide}
-use Rattle.run_model.specs.Actions.{begins, begun, is_aborted, is_begun, is_committed, is_ended, made_by}
+use Rattle.run_model.specs.Actions.{begins, begun, is_aborted, is_begun, is_closed, is_committed, is_ended, made_by}
 use Rattle.run_model.specs.Dependencies.{inherited, own_entry}
 use Rattle.run_model.specs.LocalHistories.{NewAction, RegistryEvent, dependency_there, entries_of}
 use Rattle.run_model.specs.Openings.{Opening}
-use Rattle.action_forest.specs.declared.forest.Status.{Status}
-use Rattle.action_forest.specs.declared.forest.Status.TheVariants.{Aborted, Active, Committed}
+use Rattle.step_answers.specs.declared.actor.Status.{Status}
+use Rattle.step_answers.specs.declared.actor.Status.TheVariants.{Aborted, Active, Closed, Committed}
 
 -- how an action stands; one that was not begun counts as active
 abbrev pub status_there : Name → List Event → Status
-status_there a past = if is_committed a past then Committed else (if is_aborted a past then Aborted else Active)
+status_there a past =
+    if is_committed a past then Committed
+    else (if is_aborted a past then Aborted else (if is_closed a past then Closed else Active))
 
 -- in which incarnation of its home an action began, by the registry's history; 0 where it was not begun
 abbrev pub new_life : List NewAction → Name → ℕ

@@ -5,13 +5,13 @@ use Rattle.std.specs.FinMap as tree
 use Rattle.action_names.specs.Deps.{lesser}
 use Rattle.action_names.specs.Names.{Name, is_top, parent_of, same_name}
 use Rattle.run_model.specs.Actions.{begun, home_of, is_begun, is_exactly, made_by, maker_of}
-use Rattle.run_model.specs.LocalHistories.{RegistryEvent, closing_there, dependency_there, events_there}
+use Rattle.run_model.specs.LocalHistories.{RegistryEvent, dependency_there, events_there}
 use Rattle.run_model.specs.LocalReadings.{beside}
 use Rattle.run_model.specs.Openings.{Opening, given_before}
 use Rattle.action_forest.specs.declared.forest.Commitment.{Commitment}
-use Rattle.action_forest.specs.declared.forest.Status.TheVariants.{Active}
+use Rattle.step_answers.specs.declared.actor.Status.TheVariants.{Active}
 use Rattle.action_forest.specs.Events.{children_there, first_entries, life_there, status_there, unended_there}
-use Rattle.action_forest.specs.Trees.{Action, Trees, action_of, children_of, closing_at, depends_at, home_at, life_at, maker_at, name_at, place_of, said, status_at, unended_at}
+use Rattle.action_forest.specs.Trees.{Action, Trees, action_of, children_of, depends_at, home_at, life_at, maker_at, name_at, place_of, said, status_at, unended_at}
 
 -- What does not change once an action has begun. Each action that was begun stands at one place, under its name, with its home and its maker. An
 -- action is made once, and a subaction by its parent.
@@ -34,7 +34,6 @@ pub record IsForest (opening : Opening) (registry : List RegistryEvent) (forest 
   pub setup : forest.guardians ≡ length opening.setup
   pub tree : IsTree registry forest
   pub status : (a : Name) → status_at forest a ≡ status_there a (events_there registry)
-  pub closing : (a : Name) → closing_at forest a ≡ closing_there a registry
   pub depends : (a : Name) (g : ℕ) → depends_at forest a g ≡ dependency_there a g registry
   pub unended : (a : Name) → unended_at forest a ≡ unended_there a (events_there registry)
   -- whom an action depends on is of the setup
@@ -57,6 +56,5 @@ pub record IsBorn (opening : Opening) (registry : List RegistryEvent) (m : Optio
   pub maker : x.maker ≡ option_and_then (λ a. place_of forest a) m
   pub depends : (g : ℕ) → tree.get x.depends g ≡ beside (first_entries opening registry h n b) g
   pub status : x.status ≡ Active
-  pub closing : x.closing ≡ None
   pub unended : x.unended ≡ 0
   pub children : x.children ≡ []

@@ -7,8 +7,8 @@ use Rattle.action_names.specs.Deps.{Deps}
 use Rattle.action_names.specs.Names.{Name, is_top}
 use Rattle.action_forest.specs.declared.forest.Forest.{Forest}
 use Rattle.action_forest.specs.declared.forest.Node.{Node}
-use Rattle.action_forest.specs.declared.forest.Status.{Status}
-use Rattle.action_forest.specs.declared.forest.Status.TheVariants.{Active, Committed}
+use Rattle.step_answers.specs.declared.actor.Status.{Status}
+use Rattle.step_answers.specs.declared.actor.Status.TheVariants.{Active, Closed, Committed}
 
 -- An action. Its maker and its children are named by their places.
 pub record Action : Type 0 where
@@ -18,7 +18,6 @@ pub record Action : Type 0 where
   pub maker : Option ℕ
   pub depends : Deps
   pub status : Status
-  pub closing : Option ℕ
   pub unended : ℕ
   pub children : List ℕ
 
@@ -37,7 +36,6 @@ action_in node = record {
   maker = node.maker;
   depends = node.depends;
   status = node.status;
-  closing = node.closing;
   unended = node.unended;
   children = node.children.items;
 }
@@ -90,9 +88,6 @@ maker_at forest a = said (λ action. option_and_then (λ i. name_at forest i) ac
 abbrev pub status_at : Trees → Name → Status
 status_at forest a = said (λ action. action.status) Active (action_of forest a)
 
-abbrev pub closing_at : Trees → Name → Option ℕ
-closing_at forest a = said (λ action. action.closing) None (action_of forest a)
-
 abbrev pub depends_at : Trees → Name → ℕ → Option ℕ
 depends_at forest a g = said (λ action. tree.get action.depends g) None (action_of forest a)
 
@@ -125,8 +120,13 @@ changed_at f (Some i) forest = changed f i forest
 abbrev pub with_status : Status → Action → Action
 with_status status action = record action { status = status }
 
-abbrev pub with_closing : ℕ → Action → Action
-with_closing stamp action = record action { closing = Some stamp }
+-- how an action stands that stood so and closes
+abbrev pub closed : Status → Status
+closed Active = Closed
+closed status = status
+
+abbrev pub with_closed : Action → Action
+with_closed action = record action { status = closed action.status }
 
 abbrev pub with_depends : Deps → Action → Action
 with_depends depends action = record action { depends = depends }
@@ -143,9 +143,8 @@ abbrev pub ended : Status → ℕ → Trees → Trees
 ended status i forest = changed_at one_less (maker_place forest i) (changed (with_status status) i forest)
 
 -- it commits: its maker, which is its parent, is left with these dependencies
-abbrev pub committed : ℕ → Deps → ℕ → Trees → Trees
-committed stamp depends i forest =
-    changed_at (with_depends depends) (maker_place forest i) (changed (with_closing stamp) i (ended Committed i forest))
+abbrev pub committed : Deps → ℕ → Trees → Trees
+committed depends i forest = changed_at (with_depends depends) (maker_place forest i) (ended Committed i forest)
 
 abbrev pub one_more : Action → Action
 one_more action = record action { unended = action.unended + 1 }
@@ -183,7 +182,6 @@ fresh_action a maker home life depends = record {
   maker = maker;
   depends = depends;
   status = Active;
-  closing = None;
   unended = 0;
   children = [];
 }

@@ -3,8 +3,8 @@ use Rattle.std.specs.Prelude.{◌≡◌, ℕ, ◌+◌, Bool, true, false, not, �
 use Rattle.action_names.specs.Names.{Name, is_proper_ancestor, parent_of, rising_names, same_name}
 use Rattle.run_model.specs.declared.history.Event.{Event}
 use Rattle.run_model.specs.Actions.{begun, is_begun, is_committed, is_ended}
-use Rattle.action_forest.specs.declared.forest.Status.{Status}
-use Rattle.action_forest.specs.declared.forest.Status.TheVariants.{Aborted, Active, Committed}
+use Rattle.step_answers.specs.declared.actor.Status.{Status}
+use Rattle.step_answers.specs.declared.actor.Status.TheVariants.{Aborted, Active, Closed, Committed}
 use Rattle.action_forest.specs.Trees.{Trees, said}
 
 -- the ended descendants of an action that were not told, by name, each with whether it committed
@@ -35,6 +35,7 @@ AreReached forest a past first places =
 -- whether it committed, if an action that stands so has ended
 abbrev pub outcome_of : Status → Option Bool
 outcome_of Active = None
+outcome_of Closed = None
 outcome_of Committed = Some true
 outcome_of Aborted = Some false
 

@@ -3,27 +3,18 @@ ghost use Rattle.std.specs.Prelude.{◌≡◌, ◌∷◌, [], ℕ, List, IsFalse
 ghost use Rattle.std.specs.FinMap as map;
 ghost use Rattle.std.specs.Option.{option_and_then, option_map};
 ghost use Rattle.action_names.specs.Names.{Name, is_top};
-ghost use Rattle.run_model.specs.Actions.{home_of, is_begun, is_busy, is_closed, is_committed, is_done, is_ended, maker_in, maker_of, next_number};
-ghost use Rattle.run_model.specs.LocalHistories.{RegistryEvent, closing_there, dependency_there, entries_of, events_there};
+ghost use Rattle.run_model.specs.Actions.{home_of, is_begun, is_committed, maker_in, maker_of, next_number};
+ghost use Rattle.run_model.specs.LocalHistories.{RegistryEvent, dependency_there, entries_of, events_there};
 ghost use Rattle.run_model.specs.Openings.{opening_in};
 ghost use Rattle.run_model.specs.Refusals.{max_number};
 ghost use Rattle.run_model.specs.declared.step.Step.TheVariants.{Abort, Close, Commit, Decide};
 ghost use Rattle.run_model.specs.declared.step.Step.{Step};
-ghost use Rattle.step_answers.specs.Actors.{IsReadAs};
-ghost use Rattle.action_forest.specs.Acting.{is_over};
-ghost use Rattle.action_forest.specs.Trees.{numbered};
+ghost use Rattle.step_answers.specs.Actors.{IsActorOf, IsReadAs};
+ghost use Rattle.action_forest.specs.Trees.{closed, numbered};
 
 use run_model::{Deps, Name, Names, Opening};
 use std::alloc::{AllocError, Global};
-use step_answers::Actor;
-
-/// How an action stands. A top action that is closed and has not been decided is still active.
-#[derive(Clone, Copy, Debug, PartialEq, Eq)]
-pub enum Status {
-    Active,
-    Committed,
-    Aborted,
-}
+use step_answers::{Actor, Status};
 
 /// An action. Other actions are named by their places in the forest.
 #[derive(Drop)]
@@ -34,7 +25,6 @@ pub struct Node {
     maker: Option<usize>,
     depends: Deps,
     pub(crate) status: Status,
-    closing: Option<u64>,
     unended: u64,
     pub(crate) children: Vec<usize>,
 }
@@ -72,7 +62,7 @@ impl Node {
     {
         Actor {
             home: self.home,
-            done: is_over(self.status) || self.closing.is_some(),
+            status: self.status,
             busy: self.unended > 0,
         }
     }
@@ -82,7 +72,7 @@ impl Node {
 const USED_UP: u64 = 4294967296;
 
 impl Forest {
-    ghost use Rattle.action_forest.specs.Trees.{action_in, action_of, added, changed, changed_at, children_of, depends_at, ended, fresh_action, hung, maker_place, one_less, one_more, place_of, status_at, trees, with_closing, with_depends, with_status};
+    ghost use Rattle.action_forest.specs.Trees.{action_in, action_of, added, changed, changed_at, children_of, depends_at, ended, fresh_action, hung, maker_place, one_less, one_more, place_of, status_at, trees, with_closed, with_depends, with_status};
     ghost use Rattle.action_forest.specs.Events.{IsUnended, beginning, done, first_entries};
     ghost use Rattle.action_forest.specs.Rooms.{AreBorn, FitsBegun, HasRoom, HasRoomAt, HasRoomBelow, IsBeginning};
     ghost use Rattle.action_forest.specs.Forests.{AtEach, IsCommitmentOf, IsForest};
@@ -99,33 +89,14 @@ impl Forest {
         }
     }
 
-    /// What refusals ask of the action, if it was begun, in one look-up.
+    /// What refusals ask of the action, if it was begun, in one look-up. This takes no memory, as no
+    /// reading below does but those that give a list.
     pub fn actor(&self, path: &[u32]) -> Option<Actor>
-        ensures { AtEach (trees self.now) (λ opening registry. IsReadAs (is_begun path.now (events_there registry)) (home_of path.now (events_there registry))
-            (is_done path.now (events_there registry)) (is_busy path.now (events_there registry)) result) }
+        ensures { AtEach (trees self.now) (λ opening registry. IsReadAs
+            (is_begun path.now (events_there registry))
+            (IsActorOf path.now (events_there registry)) result) }
     {
         Some(self.node(path)?.actor())
-    }
-
-    /// Whether the action was begun. This takes no memory, as no reading below does but those that give a list.
-    pub fn is_begun(&self, path: &[u32]) -> bool
-        ensures { AtEach (trees self.now) (λ opening registry. result ≡ is_begun path.now (events_there registry)) }
-    {
-        self.place(path).is_some()
-    }
-
-    /// Whether the action has committed or aborted.
-    pub fn is_ended(&self, path: &[u32]) -> bool
-        ensures { AtEach (trees self.now) (λ opening registry. result ≡ is_ended path.now (events_there registry)) }
-    {
-        !matches!(self.standing(path), Status::Active)
-    }
-
-    /// Whether the closing step of the action has come.
-    pub fn is_closed(&self, path: &[u32]) -> bool
-        ensures { AtEach (trees self.now) (λ opening registry. result ≡ is_closed path.now (events_there registry)) }
-    {
-        self.closing(path).is_some()
     }
 
     /// Whether the action has committed.
@@ -133,13 +104,6 @@ impl Forest {
         ensures { AtEach (trees self.now) (λ opening registry. result ≡ is_committed path.now (events_there registry)) }
     {
         matches!(self.standing(path), Status::Committed)
-    }
-
-    // The stamp of the action's closing step, if it has come.
-    fn closing(&self, path: &[u32]) -> Option<u64>
-        ensures { AtEach (trees self.now) (λ opening registry. result ≡ closing_there path.now registry) }
-    {
-        self.node(path)?.closing
     }
 
     /// The home of the action, and 0 where there is no such action.
@@ -204,16 +168,18 @@ impl Forest {
         Ok(depends)
     }
 
-    /// A top action closes at the step with this stamp.
-    pub fn close(&mut self, top: &Name, stamp: u64)
-        ensures { AtEach (trees self.old) (λ opening registry. IsTrue (is_begun top.now (events_there registry)) → IsForest opening (done stamp (Close top.now) ∷ registry) (trees self.new)) }
+    /// A top action closes.
+    pub fn close(&mut self, top: &Name)
+        ensures { AtEach (trees self.old) (λ opening registry. (stamp : ℕ)
+            → IsTrue (is_begun top.now (events_there registry))
+            → IsForest opening (done stamp (Close top.now) ∷ registry) (trees self.new)) }
     {
         if let Some(at) = self.place(top.components()) {
-            self.set_closing(at, stamp);
+            self.set_closed(at);
         }
     }
 
-    /// A top action commits, at the step with this stamp.
+    /// A top action commits.
     pub fn decide(&mut self, top: &Name)
         ensures { AtEach (trees self.old) (λ opening registry. (stamp : ℕ) → IsUnended (events_there registry) top.now →
             IsForest opening (done stamp (Decide top.now) ∷ registry) (trees self.new)) }
@@ -248,15 +214,16 @@ impl Forest {
         })
     }
 
-    /// A subaction commits at the step with this stamp. This cannot fail.
-    pub fn commit(&mut self, plan: Commitment, stamp: u64)
-        ensures { AtEach (trees self.old) (λ opening registry. (a : Name) → IsCommitmentOf (trees self.old) a plan →
-            IsUnended (events_there registry) a → IsFalse (is_top a) → IsForest opening (done stamp (Commit a) ∷ registry) (trees self.new)) }
+    /// A subaction commits. This cannot fail.
+    pub fn commit(&mut self, plan: Commitment)
+        ensures { AtEach (trees self.old) (λ opening registry. (stamp : ℕ) (a : Name)
+            → IsCommitmentOf (trees self.old) a plan → IsUnended (events_there registry) a
+            → IsFalse (is_top a)
+            → IsForest opening (done stamp (Commit a) ∷ registry) (trees self.new)) }
     {
         let Commitment { action, depends } = plan;
         if let Some(at) = self.place(action.components()) {
             self.end(at, Status::Committed);
-            self.set_closing(at, stamp);
             if let Some(parent) = self.maker_place(at) {
                 self.set_depends(parent, depends);
             }
@@ -358,7 +325,6 @@ impl Forest {
             maker,
             depends: self.new_dependencies(name, home, life)?,
             status: Status::Active,
-            closing: None,
             unended: 0,
             children: Vec::new(*self.nodes.allocator()),
         })
@@ -470,11 +436,12 @@ impl Forest {
         }
     }
 
-    fn set_closing(&mut self, at: usize, stamp: u64)
-        ensures { trees self.new ≡ changed (with_closing stamp) at (trees self.old) }
+    // The action closes, unless it has ended.
+    fn set_closed(&mut self, at: usize)
+        ensures { trees self.new ≡ changed with_closed at (trees self.old) }
     {
         if let Some(node) = self.nodes.get_mut(at) {
-            node.closing = Some(stamp);
+            node.status = closed(node.status);
         }
     }
 
@@ -515,11 +482,14 @@ impl Forest {
     }
 }
 
-// Whether an action that stands so has ended.
-fn is_over(status: Status) -> bool
-    ensures { result ≡ is_over status }
+// How an action stands that stood so and closes.
+fn closed(status: Status) -> Status
+    ensures { result ≡ closed status }
 {
-    !matches!(status, Status::Active)
+    match status {
+        Status::Active => Status::Closed,
+        _ => status,
+    }
 }
 
 // The place that has this number, where these are all, from the first number on.

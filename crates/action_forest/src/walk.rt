@@ -3,9 +3,10 @@ ghost use Rattle.std.specs.Prelude.{◌≡◌, ℕ, Bool, List, IfOk, slice_get}
 ghost use Rattle.run_model.specs.LocalHistories.{events_there};
 ghost use Rattle.action_forest.specs.Walks.{outcome_of};
 
-use crate::forest::{Forest, Status};
+use crate::forest::Forest;
 use run_model::Name;
 use std::alloc::AllocError;
+use step_answers::Status;
 
 /// Who knows of which actions it was told.
 pub trait Hearer {
@@ -110,7 +111,7 @@ fn outcome_of(status: Status) -> Option<bool>
     ensures { result ≡ outcome_of status }
 {
     match status {
-        Status::Active => None,
+        Status::Active | Status::Closed => None,
         Status::Committed => Some(true),
         Status::Aborted => Some(false),
     }

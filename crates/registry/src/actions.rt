@@ -107,29 +107,31 @@ impl Actions {
     }
 
     /// Carries out what an event of this step changes, for which there is room. This cannot fail.
-    pub(crate) fn apply(&mut self, change: Change, step: &Step, stamp: u64)
+    pub(crate) fn apply(&mut self, change: Change, step: &Step)
         requires { HasRoomFor self.old change }
-        ensures { AtEachOf self.old (λ opening registry. (e : Event) (home life : ℕ) → IsEntered opening registry e
+        ensures { AtEachOf self.old (λ opening registry. (stamp : ℕ) (e : Event) (home life : ℕ)
+            → IsEntered opening registry e
             → FitsChange opening registry e home life self.old change → step.now ≡ e.step
             → AreActions opening (event_after opening registry stamp e home life ∷ registry) self.new) }
     {
         match change {
             Change::Begin(begun) => self.forest.begin(begun),
-            Change::Commit(commitment) => self.forest.commit(commitment, stamp),
+            Change::Commit(commitment) => self.forest.commit(commitment),
             Change::Vote(vote) => self.ballots.note(vote),
-            Change::Other => self.end(step, stamp),
+            Change::Other => self.end(step),
         }
     }
 
     // Closes or ends the action that the step closes or ends, if that takes no room.
-    fn end(&mut self, step: &Step, stamp: u64)
+    fn end(&mut self, step: &Step)
         ensures ballots { self.new.ballots ≡ self.old.ballots }
         ensures other { IsFalse (is_ending step.now) → trees self.new.forest ≡ trees self.old.forest }
-        ensures ended { AtEach (trees self.old.forest) (λ opening registry. MayEnd registry step.now
+        ensures ended { AtEach (trees self.old.forest) (λ opening registry. (stamp : ℕ)
+            → MayEnd registry step.now
             → IsForest opening (done stamp step.now ∷ registry) (trees self.new.forest)) }
     {
         match step {
-            Step::Close(top) => self.forest.close(top, stamp),
+            Step::Close(top) => self.forest.close(top),
             Step::Decide(top) => self.forest.decide(top),
             Step::Abort(action) => self.forest.abort(action),
             _ => {}

@@ -74,18 +74,6 @@ impl Forest for Registry {
         self.actions.forest.actor(action.components())
     }
 
-    fn is_begun(&self, action: &Name) -> bool {
-        self.actions.forest.is_begun(action.components())
-    }
-
-    fn is_ended(&self, action: &Name) -> bool {
-        self.actions.forest.is_ended(action.components())
-    }
-
-    fn is_closed(&self, action: &Name) -> bool {
-        self.actions.forest.is_closed(action.components())
-    }
-
     fn is_committed(&self, action: &Name) -> bool {
         self.actions.forest.is_committed(action.components())
     }
@@ -138,8 +126,8 @@ impl Forest for Registry {
         Ok(())
     }
 
-    fn install(&mut self, event: &EventRef<'_>, stamp: u64) {
+    fn install(&mut self, event: &EventRef<'_>, _stamp: u64) {
         let change = mem::replace(&mut self.change, Change::Other);
-        self.actions.apply(change, event.step, stamp);
+        self.actions.apply(change, event.step);
     }
 }

@@ -14,7 +14,7 @@ mod outcomes;
 mod reads;
 mod refusals;
 
-pub use actor::Actor;
+pub use actor::{Actor, Status, Worker};
 use outcomes::outcome_of;
 pub use reads::{Reads, ReadsAction};
 use refusals::{refusal_of, refusal_of_operation};

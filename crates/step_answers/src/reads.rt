@@ -2,10 +2,10 @@ ghost use Rattle.std.specs.Prelude.{◌≡◌, IfOk, IsTrue, None, min, suc};
 ghost use Rattle.run_model.specs.declared.step.Step.TheVariants as steps;
 ghost use Rattle.run_model.specs.Refusals.{checks_by, first_refusal, max_number};
 ghost use Rattle.run_model.specs.Openings.{opening_in};
-ghost use Rattle.step_answers.specs.Actors.{IsReadAs};
+ghost use Rattle.step_answers.specs.Actors.{IsActor, IsReadAs, IsWorker};
 ghost use Rattle.step_answers.specs.Saying.{Said};
 
-use crate::actor::Actor;
+use crate::actor::{Actor, Worker};
 use run_model::{Answer, Name, ObjectId, Op, Opening};
 use std::alloc::{AllocError, Global};
 
@@ -20,10 +20,11 @@ pub trait ReadsAction {
     fn opening(&self) -> &Opening
         ensures { (s : Said) → says self.now s → opening_in result.now ≡ s.opening };
 
-    /// How the action stands, if it was begun.
-    fn actor(&self, action: &Name) -> Option<Actor>
-        ensures { (s : Said) → says self.now s → IsReadAs (s.facts.begun action.now) (s.facts.home action.now) (s.facts.done action.now)
-            (s.facts.busy action.now) result };
+    /// How the action stands, if it was begun, as far as what it does by itself asks.
+    fn worker(&self, action: &Name) -> Option<Worker>
+        ensures { (s : Said) → says self.now s → IsReadAs (s.facts.begun action.now)
+            (IsWorker (s.facts.home action.now) (s.facts.done action.now) (s.facts.busy action.now))
+            result };
 
     fn is_gone(&self, action: &Name, home: u32) -> bool
         requires begun { (s : Said) → says self.now s → IsTrue (s.facts.begun action.now) }
@@ -52,14 +53,11 @@ pub trait ReadsAction {
 pub trait Reads: ReadsAction {
     fn alloc(&self) -> Global;
 
-    fn is_begun(&self, action: &Name) -> bool
-        ensures { (s : Said) → Self.says self.now s → result ≡ s.facts.begun action.now };
-
-    fn is_ended(&self, action: &Name) -> bool
-        ensures { (s : Said) → Self.says self.now s → result ≡ s.facts.ended action.now };
-
-    fn is_closed(&self, action: &Name) -> bool
-        ensures { (s : Said) → Self.says self.now s → result ≡ s.facts.closed action.now };
+    /// How the action stands, if it was begun.
+    fn actor(&self, action: &Name) -> Option<Actor>
+        ensures { (s : Said) → Self.says self.now s → IsReadAs (s.facts.begun action.now)
+            (IsActor (s.facts.home action.now) (s.facts.ended action.now)
+            (s.facts.closed action.now) (s.facts.busy action.now)) result };
 
     fn is_ready(&self, top: &Name) -> bool
         ensures { (s : Said) → Self.says self.now s → result ≡ s.facts.ready top.now };

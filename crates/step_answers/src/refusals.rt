@@ -3,12 +3,12 @@ ghost use Rattle.std.specs.Prelude.{◌≡◌, ◌≤◌, ◌==◌, ◌||◌, le
 ghost use Rattle.run_model.specs.declared.step.Step.TheVariants.{Top, NestedTop, Call, Arms, Commit, Close, Prepare, Decide, Abort, Tell, Crash, Recover};
 ghost use Rattle.run_model.specs.declared.step.Step.TheVariants as steps;
 ghost use Rattle.run_model.specs.Refusals.{checks_by, first_refusal, has_sub, is_past_arms_by};
-ghost use Rattle.step_answers.specs.Actors.{IsActor};
+ghost use Rattle.step_answers.specs.Actors.{IsWorker};
 ghost use Rattle.step_answers.specs.Arms.{uses_up};
 ghost use Rattle.step_answers.specs.Checks.{actor_checks, worker_checks};
 ghost use Rattle.step_answers.specs.Saying.{Said};
 
-use crate::actor::Actor;
+use crate::actor::Worker;
 use crate::arms::uses_up;
 use crate::reads::{Reads, ReadsAction};
 use action_names::{MAX_DEPTH, Name};
@@ -48,18 +48,19 @@ fn is_no_guardian(opening: &Opening, guardian: u32) -> bool
 }
 
 /// Why the action, which stands so, may do nothing more: it is over, it is busy, or its home crashed.
-fn of_worker<A: ReadsAction>(reads: &A, name: &Name, actor: Actor) -> Option<Refusal>
+fn of_worker<A: ReadsAction>(reads: &A, name: &Name, worker: Worker) -> Option<Refusal>
     requires begun { (s : Said) → A.says reads.now s → IsTrue (s.facts.begun name.now) }
-    requires actor { (s : Said) → A.says reads.now s → IsActor (s.facts.home name.now) (s.facts.done name.now) (s.facts.busy name.now) actor }
+    requires worker { (s : Said) → A.says reads.now s
+        → IsWorker (s.facts.home name.now) (s.facts.done name.now) (s.facts.busy name.now) worker }
     ensures { (s : Said) → A.says reads.now s → result ≡ first_refusal (worker_checks name.now s.facts) }
 {
-    if actor.done {
+    if worker.done {
         return Some(Refusal::Ended);
     }
-    if actor.busy {
+    if worker.busy {
         return Some(Refusal::Busy);
     }
-    if reads.is_gone(name, actor.home) {
+    if reads.is_gone(name, worker.home) {
         return Some(Refusal::Gone);
     }
     None
@@ -69,13 +70,13 @@ fn of_worker<A: ReadsAction>(reads: &A, name: &Name, actor: Actor) -> Option<Ref
 fn of_actor<A: ReadsAction>(reads: &A, name: &Name) -> Result<Option<Refusal>, AllocError>
     ensures { (s : Said) → A.says reads.now s → IfOk result (λ why. why ≡ first_refusal (actor_checks name.now s.facts)) }
 {
-    let Some(actor) = reads.actor(name) else {
+    let Some(worker) = reads.worker(name) else {
         return Ok(Some(Refusal::NoAction));
     };
-    if let Some(why) = of_worker(reads, name, actor) {
+    if let Some(why) = of_worker(reads, name, worker) {
         return Ok(Some(why));
     }
-    if reads.is_orphan(name, actor.home)? {
+    if reads.is_orphan(name, worker.home)? {
         return Ok(Some(Refusal::Orphan));
     }
     Ok(None)
@@ -114,16 +115,16 @@ fn of_call<A: Reads>(reads: &A, name: &Name, guardian: u32) -> Result<Option<Ref
     if is_no_guardian(reads.opening(), guardian) {
         return Ok(Some(Refusal::NoGuardian));
     }
-    let Some(actor) = reads.actor(name) else {
+    let Some(worker) = reads.worker(name) else {
         return Ok(Some(Refusal::NoAction));
     };
-    if let Some(why) = of_worker(reads, name, actor) {
+    if let Some(why) = of_worker(reads, name, worker) {
         return Ok(Some(why));
     }
     if reads.is_down(guardian) {
         return Ok(Some(Refusal::Down));
     }
-    if reads.is_orphan(name, actor.home)? {
+    if reads.is_orphan(name, worker.home)? {
         return Ok(Some(Refusal::Orphan));
     }
     if name.depth() >= MAX_DEPTH {
@@ -168,7 +169,7 @@ fn of_prepare<A: Reads>(reads: &A, guardian: u32, name: &Name) -> Option<Refusal
     let Some(actor) = reads.actor(name) else {
         return Some(Refusal::NoAction);
     };
-    if reads.is_ended(name) {
+    if actor.status.has_ended() {
         return Some(Refusal::Ended);
     }
     if reads.is_gone(name, actor.home) {
@@ -183,7 +184,7 @@ fn of_prepare<A: Reads>(reads: &A, guardian: u32, name: &Name) -> Option<Refusal
     if !name.is_top() {
         return Some(Refusal::NotTop);
     }
-    if !reads.is_closed(name) {
+    if !actor.status.is_closed() {
         return Some(Refusal::NotClosed);
     }
     if reads.has_voted(guardian, name) {
@@ -198,7 +199,7 @@ fn of_decide<A: Reads>(reads: &A, name: &Name) -> Option<Refusal>
     let Some(actor) = reads.actor(name) else {
         return Some(Refusal::NoAction);
     };
-    if reads.is_ended(name) {
+    if actor.status.has_ended() {
         return Some(Refusal::Ended);
     }
     if reads.is_gone(name, actor.home) {
@@ -207,7 +208,7 @@ fn of_decide<A: Reads>(reads: &A, name: &Name) -> Option<Refusal>
     if !name.is_top() {
         return Some(Refusal::NotTop);
     }
-    if !reads.is_closed(name) {
+    if !actor.status.is_closed() {
         return Some(Refusal::NotClosed);
     }
     if !reads.is_ready(name) {
@@ -219,10 +220,10 @@ fn of_decide<A: Reads>(reads: &A, name: &Name) -> Option<Refusal>
 fn of_abort<A: Reads>(reads: &A, name: &Name) -> Option<Refusal>
     ensures { (s : Said) → A.says reads.now s → result ≡ first_refusal (checks_by s.opening s.facts (Abort name.now)) }
 {
-    if !reads.is_begun(name) {
+    let Some(actor) = reads.actor(name) else {
         return Some(Refusal::NoAction);
-    }
-    if reads.is_ended(name) {
+    };
+    if actor.status.has_ended() {
         return Some(Refusal::Ended);
     }
     None
@@ -234,13 +235,13 @@ fn of_tell<A: Reads>(reads: &A, guardian: u32, name: &Name) -> Option<Refusal>
     if is_no_guardian(reads.opening(), guardian) {
         return Some(Refusal::NoGuardian);
     }
-    if !reads.is_begun(name) {
+    let Some(actor) = reads.actor(name) else {
         return Some(Refusal::NoAction);
-    }
+    };
     if reads.is_down(guardian) {
         return Some(Refusal::Down);
     }
-    if !reads.is_ended(name) {
+    if !actor.status.has_ended() {
         return Some(Refusal::NotSo);
     }
     if reads.was_told(guardian, name) {
@@ -326,19 +327,19 @@ pub(crate) fn refusal_of_operation<A: ReadsAction>(
     if is_no_guardian(opening, object.guardian) {
         return Ok(Some(Refusal::NoGuardian));
     }
-    let Some(actor) = reads.actor(name) else {
+    let Some(worker) = reads.worker(name) else {
         return Ok(Some(Refusal::NoAction));
     };
     if !opening.has_object(object) {
         return Ok(Some(Refusal::NoObject));
     }
-    if let Some(why) = of_worker(reads, name, actor) {
+    if let Some(why) = of_worker(reads, name, worker) {
         return Ok(Some(why));
     }
-    if object.guardian != actor.home {
+    if object.guardian != worker.home {
         return Ok(Some(Refusal::Elsewhere));
     }
-    if reads.is_orphan(name, actor.home)? {
+    if reads.is_orphan(name, worker.home)? {
         return Ok(Some(Refusal::Orphan));
     }
     if !opening.knows(object, operation) {

@@ -6,7 +6,7 @@ use atomic_types::AtomicType;
 use layer_contracts::Forest;
 use run_model::{Answer, ObjectId, Op, Opening};
 use std::alloc::{AllocError, Global};
-use step_answers::{Actor, Reads, ReadsAction};
+use step_answers::{Actor, Reads, ReadsAction, Worker};
 
 /// What a step reads that is lent the forest alone.
 #[derive(Drop)]
@@ -22,8 +22,8 @@ impl<'a, R: Forest> ReadsAction for Alone<'a, R> {
         self.forest.opening()
     }
 
-    fn actor(&self, action: &Name) -> Option<Actor> {
-        self.forest.actor(action)
+    fn worker(&self, action: &Name) -> Option<Worker> {
+        Some(self.forest.actor(action)?.worker())
     }
 
     fn is_gone(&self, _action: &Name, _home: u32) -> bool {
@@ -50,16 +50,8 @@ impl<'a, R: Forest> Reads for Alone<'a, R> {
         self.alloc
     }
 
-    fn is_begun(&self, action: &Name) -> bool {
-        self.forest.is_begun(action)
-    }
-
-    fn is_ended(&self, action: &Name) -> bool {
-        self.forest.is_ended(action)
-    }
-
-    fn is_closed(&self, action: &Name) -> bool {
-        self.forest.is_closed(action)
+    fn actor(&self, action: &Name) -> Option<Actor> {
+        self.forest.actor(action)
     }
 
     fn is_ready(&self, top: &Name) -> bool {

@@ -8,7 +8,7 @@ use action_names::Name;
 use layer_contracts::Guardian;
 use run_model::{Answer, ObjectId, Op, Opening};
 use std::alloc::AllocError;
-use step_answers::{Actor, ReadsAction, operation_of};
+use step_answers::{ReadsAction, Worker, operation_of};
 
 /// What an operation reads of one guardian: the actions on its roster, and its objects.
 #[derive(Drop)]
@@ -23,11 +23,11 @@ impl<'a, G: Guardian> ReadsAction for Here<'a, G> {
         self.guardian.opening()
     }
 
-    fn actor(&self, action: &Name) -> Option<Actor> {
+    fn worker(&self, action: &Name) -> Option<Worker> {
         if !self.guardian.is_there(action) {
             return None;
         }
-        Some(Actor {
+        Some(Worker {
             home: self.guardian.number(),
             done: self.guardian.is_done(action),
             busy: self.guardian.is_busy(action),

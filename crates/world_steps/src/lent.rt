@@ -7,7 +7,7 @@ use atomic_types::AtomicType;
 use layer_contracts::{Forest, Guardian};
 use run_model::{Answer, ObjectId, Op, Opening};
 use std::alloc::{AllocError, Global};
-use step_answers::{Actor, Reads, ReadsAction};
+use step_answers::{Actor, Reads, ReadsAction, Worker};
 
 /// What a step reads that is lent the forest and two guardians, or one guardian twice.
 #[derive(Drop)]
@@ -41,8 +41,8 @@ impl<'a, R: Forest, G: Guardian> ReadsAction for Lent<'a, R, G> {
         self.forest.opening()
     }
 
-    fn actor(&self, action: &Name) -> Option<Actor> {
-        self.forest.actor(action)
+    fn worker(&self, action: &Name) -> Option<Worker> {
+        Some(self.forest.actor(action)?.worker())
     }
 
     fn is_gone(&self, action: &Name, home: u32) -> bool {
@@ -80,16 +80,8 @@ impl<'a, R: Forest, G: Guardian> Reads for Lent<'a, R, G> {
         self.alloc
     }
 
-    fn is_begun(&self, action: &Name) -> bool {
-        self.forest.is_begun(action)
-    }
-
-    fn is_ended(&self, action: &Name) -> bool {
-        self.forest.is_ended(action)
-    }
-
-    fn is_closed(&self, action: &Name) -> bool {
-        self.forest.is_closed(action)
+    fn actor(&self, action: &Name) -> Option<Actor> {
+        self.forest.actor(action)
     }
 
     fn is_ready(&self, top: &Name) -> bool {

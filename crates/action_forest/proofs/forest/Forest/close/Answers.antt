@@ -7,7 +7,7 @@ use Rattle.action_forest.specs.Trees.{place_of, trees}
 use Rattle.action_forest.proofs.forest.Forest.close.Goals as goal
 
 pub returns-in-Some : goal.returns-in-Some
-returns-in-Some c = λ opening registry h was.
-    subst (λ f. IsForest opening (done c.args.stamp (Close c.args.top.now) ∷ registry) f) (sym c.set_closing.ensures)
-    (closes opening registry (trees c.args.self.now) c.args.top.now c.in-Some.at c.args.stamp
+returns-in-Some c = λ opening registry h stamp was.
+    subst (λ f. IsForest opening (done stamp (Close c.args.top.now) ∷ registry) f) (sym c.set_closed.ensures)
+    (closes opening registry (trees c.args.self.now) c.args.top.now c.in-Some.at stamp
     (ap (place_of (trees c.args.self.now)) (sym c.components.ensures.numbers) ∙ sym c.in-Some.ensures) h)

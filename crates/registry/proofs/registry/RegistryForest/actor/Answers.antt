@@ -1,11 +1,11 @@
-use Rattle.run_model.specs.Actions.{home_of, is_begun, is_busy, is_done}
+use Rattle.run_model.specs.Actions.{is_begun}
 use Rattle.run_model.specs.LocalHistories.{events_there}
-use Rattle.step_answers.specs.Actors.{IsReadAs}
+use Rattle.step_answers.specs.Actors.{IsActorOf, IsReadAs}
 use Rattle.registry.proofs.Reading.{inside, named}
 use Rattle.registry.proofs.registry.RegistryForest.actor.Goals as goal
 
 pub returns : goal.returns
 returns c = λ f at.
     let past = events_there f.registry in
-    named (λ a. IsReadAs (is_begun a past) (home_of a past) (is_done a past) (is_busy a past) c.actor.result)
+    named (λ a. IsReadAs (is_begun a past) (IsActorOf a past) c.actor.result)
     c.components.ensures.numbers (c.actor.ensures _ _ (inside c.self.view_is at).actions.forest)

@@ -16,18 +16,18 @@ invariant_of-self c =
     let f : ForestState = c.requires.planned.0 in
     let news : RegistryNews = c.requires.planned.1 in
     let step = c.event.inside.step.now in
-    let grows = subst (λ ch. Follow ch m.actions step c.args.stamp c.apply.new.self) c.replace-change.ensures.value c.apply.ensures in
+    let grows = subst (λ ch. Follow ch m.actions step c.apply.new.self) c.replace-change.ensures.value c.apply.ensures in
     let after =
-    stands_after {after = Other} m c.args.self.now f news step c.args.stamp c.apply.new.self c.self.view_is c.requires.planned.2 c.requires.planned.3
+    stands_after {after = Other} m c.args.self.now f news step c.args._stamp c.apply.new.self c.self.view_is c.requires.planned.2 c.requires.planned.3
     (ap (λ e. e.step) c.requires.planned.4 ∙ step_is c.event.view_is) grows in (
-      stamped_there c.args.stamp news ∷ f.registry,
-      subst (λ opening. AreActions opening (stamped_there c.args.stamp news ∷ f.registry) c.apply.new.self) after.opening after.actions,
+      stamped_there c.args._stamp news ∷ f.registry,
+      subst (λ opening. AreActions opening (stamped_there c.args._stamp news ∷ f.registry) c.apply.new.self) after.opening after.actions,
     )
 
 pub returns : goal.returns
 returns c = λ f news at of same.
     let m : InRegistry = record { opening = c.self.inside.opening.value; actions = c.self.inside.actions; change = c.self.inside.change } in
     let step = c.event.inside.step.now in
-    let grows = subst (λ ch. Follow ch m.actions step c.args.stamp c.apply.new.self) c.replace-change.ensures.value c.apply.ensures in
-    stands_after m c.args.self.now f news step c.args.stamp c.apply.new.self c.self.view_is at of
+    let grows = subst (λ ch. Follow ch m.actions step c.apply.new.self) c.replace-change.ensures.value c.apply.ensures in
+    stands_after m c.args.self.now f news step c.args._stamp c.apply.new.self c.self.view_is at of
     (ap (λ e. e.step) same ∙ step_is c.event.view_is) grows

@@ -1,9 +1,9 @@
-use Rattle.std.proofs.Common.{Some, arith, length, map, refl, sym, ◌≤◌}
+use Rattle.std.proofs.Common.{ap, arith, length, map, refl, sym, ◌≤◌}
 use Rattle.std.proofs.lemmas.List.{length-map}
 use Rattle.std.proofs.lemmas.Option.{slice_get_read}
 use Rattle.action_forest.proofs.Written.{written, written_past}
-use Rattle.action_forest.specs.Trees.{action_in, with_closing}
-use Rattle.action_forest.proofs.forest.Forest.set_closing.Goals as goal
+use Rattle.action_forest.specs.Trees.{action_in, with_closed, with_status}
+use Rattle.action_forest.proofs.forest.Forest.set_closed.Goals as goal
 
 pub returns-in-Some : goal.returns-in-Some
 returns-in-Some c =
@@ -13,7 +13,8 @@ returns-in-Some c =
     λ i. record {
       first_top = c.args.self.now.first_top;
       guardians = c.args.self.now.guardians;
-      actions = written (with_closing c.args.stamp) nodes.items c.args.at node (record node { closing = Some c.args.stamp }) there refl i;
+      actions = written with_closed nodes.items c.args.at node (record node { status = c.closed-node.result }) there
+          (ap (λ s. with_status s (action_in node)) c.closed-node.ensures) i;
       tops = c.args.self.now.tops.items;
     }
 
@@ -24,6 +25,6 @@ returns-in_default c =
     λ i. record {
       first_top = self.first_top;
       guardians = self.guardians;
-      actions = sym (written_past (with_closing c.args.stamp) (map action_in self.nodes.items) c.args.at past) i;
+      actions = sym (written_past with_closed (map action_in self.nodes.items) c.args.at past) i;
       tops = self.tops.items;
     }
