@@ -22,10 +22,9 @@ use atomic_types::Reply;
 use frames::Frames;
 use script_model::{Arm, Binding, Checked, HandlerCall, Statement};
 use sqlite_items::Items;
-use stable_store::Stable;
 use std::alloc::{AllocError, Global};
+use stepping::{Fault, MakesSteps};
 use values::Value;
-use world::{Fault, World};
 
 /// How many statements and turns of `repeat` an activity may begin.
 pub(crate) const BUDGET: u32 = 100_000;
@@ -69,26 +68,27 @@ impl<'s> Activity<'s> {
     /// failed too.
     #[cycle(activity)]
     #[tactic(auto, using(crate::proofs::Ways::steps))]
-    pub(crate) fn run<S: Stable>(
+    pub(crate) fn run<W: MakesSteps>(
         &mut self,
-        world: &mut World<S>,
+        world: &mut W,
         action: &mut OpenAction,
         frames: &mut Frames,
         body: &[Statement],
     ) -> Result<Flow, Fault>
         requires script { IsResolved self.old.script.now }
         requires body { IsBody self.old.script.now (sizes frames.old) body.now }
-        requires run { IsRun (opening_in world.old.run.lists) world.old.run.past }
-        ensures goes_on { GoesOn world.old.run world.new.run [] }
-        ensures own { KeepsTo (action.old.name ∷ []) world.old.run world.new.run }
-        ensures others { CommitsAmong (action.old.name ∷ []) world.old.run world.new.run }
+        requires run { IsRun (opening_in (W.run world.old).lists) (W.run world.old).past }
+        ensures goes_on { GoesOn (W.run world.old) (W.run world.new) [] }
+        ensures own { KeepsTo (action.old.name ∷ []) (W.run world.old) (W.run world.new) }
+        ensures others { CommitsAmong (action.old.name ∷ []) (W.run world.old) (W.run world.new) }
         ensures left { self.new.left ≤ self.old.left }
         ensures script { self.new.script.now ≡ self.old.script.now }
         ensures name { action.new.name ≡ action.old.name }
         ensures home { action.new.home ≡ action.old.home }
         ensures means { IfOk result (λ flow. ComesSo self.old.script.now self.old.left
-            (done world.new.run self.new.left action.new frames.new flow)
-            (λ go. run go (acting action.old) frames.old body.now (doing world.old.run self.old.left action.old frames.old))) }
+            (done (W.run world.new) self.new.left action.new frames.new flow)
+            (λ go. run go (acting action.old) frames.old body.now
+            (doing (W.run world.old) self.old.left action.old frames.old))) }
     {
         match self.body(world, action, frames, body) {
             Ok(flow) => action.end(world, flow),
@@ -101,27 +101,27 @@ impl<'s> Activity<'s> {
 
     #[cycle(activity)]
     #[tactic(auto, using(crate::proofs::Ways::turns))]
-    fn body<S: Stable>(
+    fn body<W: MakesSteps>(
         &mut self,
-        world: &mut World<S>,
+        world: &mut W,
         action: &mut OpenAction,
         frames: &mut Frames,
         body: &[Statement],
     ) -> Result<Flow, Fault>
         requires script { IsResolved self.old.script.now }
         requires body { IsBody self.old.script.now (sizes frames.old) body.now }
-        requires run { IsRun (opening_in world.old.run.lists) world.old.run.past }
-        ensures goes_on { GoesOn world.old.run world.new.run [] }
-        ensures own { KeepsTo (action.old.name ∷ []) world.old.run world.new.run }
-        ensures commits { CommitsNone world.old.run world.new.run }
+        requires run { IsRun (opening_in (W.run world.old).lists) (W.run world.old).past }
+        ensures goes_on { GoesOn (W.run world.old) (W.run world.new) [] }
+        ensures own { KeepsTo (action.old.name ∷ []) (W.run world.old) (W.run world.new) }
+        ensures commits { CommitsNone (W.run world.old) (W.run world.new) }
         ensures frames { IfOk result (λ flow. WhereEnded flow (Within (sizes frames.old) (sizes frames.new))) }
         ensures left { self.new.left ≤ self.old.left }
         ensures script { self.new.script.now ≡ self.old.script.now }
         ensures name { action.new.name ≡ action.old.name }
         ensures home { action.new.home ≡ action.old.home }
         ensures means { IfOk result (λ flow. ComesSo self.old.script.now self.old.left
-            (done world.new.run self.new.left action.new frames.new flow)
-            (λ go. go body.now (doing world.old.run self.old.left action.old frames.old))) }
+            (done (W.run world.new) self.new.left action.new frames.new flow)
+            (λ go. go body.now (doing (W.run world.old) self.old.left action.old frames.old))) }
     {
         for statement in body {
             if !self.begin() {
@@ -138,27 +138,28 @@ impl<'s> Activity<'s> {
     /// A body within another: what it binds newly is forgotten at its end.
     #[cycle(activity)]
     #[tactic(auto, using(crate::proofs::Ways::steps, crate::proofs::Following::cut_where_ended))]
-    fn inner<S: Stable>(
+    fn inner<W: MakesSteps>(
         &mut self,
-        world: &mut World<S>,
+        world: &mut W,
         action: &mut OpenAction,
         frames: &mut Frames,
         body: &[Statement],
     ) -> Result<Flow, Fault>
         requires script { IsResolved self.old.script.now }
         requires body { IsBody self.old.script.now (sizes frames.old) body.now }
-        requires run { IsRun (opening_in world.old.run.lists) world.old.run.past }
-        ensures goes_on { GoesOn world.old.run world.new.run [] }
-        ensures own { KeepsTo (action.old.name ∷ []) world.old.run world.new.run }
-        ensures commits { CommitsNone world.old.run world.new.run }
+        requires run { IsRun (opening_in (W.run world.old).lists) (W.run world.old).past }
+        ensures goes_on { GoesOn (W.run world.old) (W.run world.new) [] }
+        ensures own { KeepsTo (action.old.name ∷ []) (W.run world.old) (W.run world.new) }
+        ensures commits { CommitsNone (W.run world.old) (W.run world.new) }
         ensures frames { IfOk result (λ flow. WhereEnded flow (sizes frames.new ≡ sizes frames.old)) }
         ensures left { self.new.left ≤ self.old.left }
         ensures script { self.new.script.now ≡ self.old.script.now }
         ensures name { action.new.name ≡ action.old.name }
         ensures home { action.new.home ≡ action.old.home }
         ensures means { IfOk result (λ flow. ComesSo self.old.script.now self.old.left
-            (done world.new.run self.new.left action.new frames.new flow)
-            (λ go. inner go body.now (doing world.old.run self.old.left action.old frames.old))) }
+            (done (W.run world.new) self.new.left action.new frames.new flow)
+            (λ go. inner go body.now
+            (doing (W.run world.old) self.old.left action.old frames.old))) }
     {
         let sizes = frames.sizes();
         let flow = self.body(world, action, frames, body)?;
@@ -168,27 +169,28 @@ impl<'s> Activity<'s> {
 
     #[cycle(activity)]
     #[tactic(auto, using(crate::proofs::Ways::steps, crate::proofs::Resolving::statements))]
-    fn statement<S: Stable>(
+    fn statement<W: MakesSteps>(
         &mut self,
-        world: &mut World<S>,
+        world: &mut W,
         action: &mut OpenAction,
         frames: &mut Frames,
         statement: &Statement,
     ) -> Result<Flow, Fault>
         requires script { IsResolved self.old.script.now }
         requires statement { IsStatement self.old.script.now (sizes frames.old) statement.now }
-        requires run { IsRun (opening_in world.old.run.lists) world.old.run.past }
-        ensures goes_on { GoesOn world.old.run world.new.run [] }
-        ensures own { KeepsTo (action.old.name ∷ []) world.old.run world.new.run }
-        ensures commits { CommitsNone world.old.run world.new.run }
+        requires run { IsRun (opening_in (W.run world.old).lists) (W.run world.old).past }
+        ensures goes_on { GoesOn (W.run world.old) (W.run world.new) [] }
+        ensures own { KeepsTo (action.old.name ∷ []) (W.run world.old) (W.run world.new) }
+        ensures commits { CommitsNone (W.run world.old) (W.run world.new) }
         ensures frames { IfOk result (λ flow. WhereEnded flow (sizes frames.new ≡ (asked statement.now).after (sizes frames.old))) }
         ensures left { self.new.left ≤ self.old.left }
         ensures script { self.new.script.now ≡ self.old.script.now }
         ensures name { action.new.name ≡ action.old.name }
         ensures home { action.new.home ≡ action.old.home }
         ensures means { IfOk result (λ flow. ComesSo self.old.script.now self.old.left
-            (done world.new.run self.new.left action.new frames.new flow)
-            (λ go. statement_done self.old.script.now.handlers go statement.now (doing world.old.run self.old.left action.old frames.old))) }
+            (done (W.run world.new) self.new.left action.new frames.new flow)
+            (λ go. statement_done self.old.script.now.handlers go statement.now
+            (doing (W.run world.old) self.old.left action.old frames.old))) }
     {
         match statement {
             Statement::Op(call, signals) => match perform(world, action, frames, call)? {
@@ -222,19 +224,19 @@ impl<'s> Activity<'s> {
     /// What a statement does where it signals: its body for that, without which the innermost action aborts.
     #[cycle(activity)]
     #[tactic(auto, using(crate::proofs::Ways::turns))]
-    fn run_signals<S: Stable>(
+    fn run_signals<W: MakesSteps>(
         &mut self,
-        world: &mut World<S>,
+        world: &mut W,
         action: &mut OpenAction,
         frames: &mut Frames,
         signals: &Option<Items<Statement>>,
     ) -> Result<Flow, Fault>
         requires script { IsResolved self.old.script.now }
         requires signals { SignalsHold self.old.script.now (sizes frames.old) signals.now }
-        requires run { IsRun (opening_in world.old.run.lists) world.old.run.past }
-        ensures goes_on { GoesOn world.old.run world.new.run [] }
-        ensures own { KeepsTo (action.old.name ∷ []) world.old.run world.new.run }
-        ensures commits { CommitsNone world.old.run world.new.run }
+        requires run { IsRun (opening_in (W.run world.old).lists) (W.run world.old).past }
+        ensures goes_on { GoesOn (W.run world.old) (W.run world.new) [] }
+        ensures own { KeepsTo (action.old.name ∷ []) (W.run world.old) (W.run world.new) }
+        ensures commits { CommitsNone (W.run world.old) (W.run world.new) }
         ensures frames { IfOk result (λ flow. WhereEnded flow (sizes frames.new ≡ sizes frames.old)) }
         ensures unheard { signals.now ≡ None → IfOk result (λ flow. flow ≡ Aborted) }
         ensures left { self.new.left ≤ self.old.left }
@@ -242,8 +244,9 @@ impl<'s> Activity<'s> {
         ensures name { action.new.name ≡ action.old.name }
         ensures home { action.new.home ≡ action.old.home }
         ensures means { IfOk result (λ flow. ComesSo self.old.script.now self.old.left
-            (done world.new.run self.new.left action.new frames.new flow)
-            (λ go. on_signal go signals.now (doing world.old.run self.old.left action.old frames.old))) }
+            (done (W.run world.new) self.new.left action.new frames.new flow)
+            (λ go. on_signal go signals.now
+            (doing (W.run world.old) self.old.left action.old frames.old))) }
     {
         match signals {
             Some(body) => self.inner(world, action, frames, body.as_slice()),
@@ -253,9 +256,9 @@ impl<'s> Activity<'s> {
 
     #[cycle(activity)]
     #[tactic(auto, using(crate::proofs::Ways::turns))]
-    fn repeat<S: Stable>(
+    fn repeat<W: MakesSteps>(
         &mut self,
-        world: &mut World<S>,
+        world: &mut W,
         action: &mut OpenAction,
         frames: &mut Frames,
         turns: u32,
@@ -263,18 +266,19 @@ impl<'s> Activity<'s> {
     ) -> Result<Flow, Fault>
         requires script { IsResolved self.old.script.now }
         requires body { IsBody self.old.script.now (sizes frames.old) body.now }
-        requires run { IsRun (opening_in world.old.run.lists) world.old.run.past }
-        ensures goes_on { GoesOn world.old.run world.new.run [] }
-        ensures own { KeepsTo (action.old.name ∷ []) world.old.run world.new.run }
-        ensures commits { CommitsNone world.old.run world.new.run }
+        requires run { IsRun (opening_in (W.run world.old).lists) (W.run world.old).past }
+        ensures goes_on { GoesOn (W.run world.old) (W.run world.new) [] }
+        ensures own { KeepsTo (action.old.name ∷ []) (W.run world.old) (W.run world.new) }
+        ensures commits { CommitsNone (W.run world.old) (W.run world.new) }
         ensures frames { IfOk result (λ flow. WhereEnded flow (sizes frames.new ≡ sizes frames.old)) }
         ensures left { self.new.left ≤ self.old.left }
         ensures script { self.new.script.now ≡ self.old.script.now }
         ensures name { action.new.name ≡ action.old.name }
         ensures home { action.new.home ≡ action.old.home }
         ensures means { IfOk result (λ flow. ComesSo self.old.script.now self.old.left
-            (done world.new.run self.new.left action.new frames.new flow)
-            (λ go. repeated go turns body.now (doing world.old.run self.old.left action.old frames.old))) }
+            (done (W.run world.new) self.new.left action.new frames.new flow)
+            (λ go. repeated go turns body.now
+            (doing (W.run world.old) self.old.left action.old frames.old))) }
     {
         for _ in 0..turns {
             if !self.begin() {
@@ -291,9 +295,9 @@ impl<'s> Activity<'s> {
     /// A handler call: the handler's body as a subaction at its guardian.
     #[cycle(activity)]
     #[tactic(auto, using(crate::proofs::Ways::children))]
-    fn call<S: Stable>(
+    fn call<W: MakesSteps>(
         &mut self,
-        world: &mut World<S>,
+        world: &mut W,
         action: &mut OpenAction,
         frames: &mut Frames,
         call: &HandlerCall,
@@ -302,19 +306,20 @@ impl<'s> Activity<'s> {
         requires script { IsResolved self.old.script.now }
         requires call { IsCall self.old.script.now (sizes frames.old) call.now }
         requires signals { SignalsFollow self.old.script.now (sizes frames.old) call.now.binding signals.now }
-        requires run { IsRun (opening_in world.old.run.lists) world.old.run.past }
-        ensures goes_on { GoesOn world.old.run world.new.run [] }
-        ensures own { KeepsTo (action.old.name ∷ []) world.old.run world.new.run }
-        ensures commits { CommitsNone world.old.run world.new.run }
+        requires run { IsRun (opening_in (W.run world.old).lists) (W.run world.old).past }
+        ensures goes_on { GoesOn (W.run world.old) (W.run world.new) [] }
+        ensures own { KeepsTo (action.old.name ∷ []) (W.run world.old) (W.run world.new) }
+        ensures commits { CommitsNone (W.run world.old) (W.run world.new) }
         ensures frames { IfOk result (λ flow. WhereEnded flow (sizes frames.new ≡ frames_after (sizes frames.old) call.now.binding)) }
         ensures left { self.new.left ≤ self.old.left }
         ensures script { self.new.script.now ≡ self.old.script.now }
         ensures name { action.new.name ≡ action.old.name }
         ensures home { action.new.home ≡ action.old.home }
         ensures means { IfOk result (λ flow. ComesSo self.old.script.now self.old.left
-            (done world.new.run self.new.left action.new frames.new flow)
+            (done (W.run world.new) self.new.left action.new frames.new flow)
             (λ go. call_done go (slice_get self.old.script.now.handlers call.now.handler) call.now signals.now
-            (given frames.old call.now) (doing world.old.run self.old.left action.old frames.old))) }
+            (given frames.old call.now)
+            (doing (W.run world.old) self.old.left action.old frames.old))) }
     {
         let script = self.script;
         let handler = &script.handlers.as_slice()[call.handler as usize];
@@ -343,9 +348,9 @@ impl<'s> Activity<'s> {
     /// A nested top action, over a copy of the variables; where it aborts, the statement's body for that runs.
     #[cycle(activity)]
     #[tactic(auto, using(crate::proofs::Ways::children))]
-    fn top_action<S: Stable>(
+    fn top_action<W: MakesSteps>(
         &mut self,
-        world: &mut World<S>,
+        world: &mut W,
         action: &mut OpenAction,
         frames: &mut Frames,
         body: &[Statement],
@@ -354,18 +359,19 @@ impl<'s> Activity<'s> {
         requires script { IsResolved self.old.script.now }
         requires body { IsBody self.old.script.now (sizes frames.old) body.now }
         requires signals { IsBody self.old.script.now (sizes frames.old) signals.now }
-        requires run { IsRun (opening_in world.old.run.lists) world.old.run.past }
-        ensures goes_on { GoesOn world.old.run world.new.run [] }
-        ensures own { KeepsTo (action.old.name ∷ []) world.old.run world.new.run }
-        ensures commits { CommitsNone world.old.run world.new.run }
+        requires run { IsRun (opening_in (W.run world.old).lists) (W.run world.old).past }
+        ensures goes_on { GoesOn (W.run world.old) (W.run world.new) [] }
+        ensures own { KeepsTo (action.old.name ∷ []) (W.run world.old) (W.run world.new) }
+        ensures commits { CommitsNone (W.run world.old) (W.run world.new) }
         ensures frames { IfOk result (λ flow. WhereEnded flow (sizes frames.new ≡ sizes frames.old)) }
         ensures left { self.new.left ≤ self.old.left }
         ensures script { self.new.script.now ≡ self.old.script.now }
         ensures name { action.new.name ≡ action.old.name }
         ensures home { action.new.home ≡ action.old.home }
         ensures means { IfOk result (λ flow. ComesSo self.old.script.now self.old.left
-            (done world.new.run self.new.left action.new frames.new flow)
-            (λ go. nested_done go body.now signals.now (doing world.old.run self.old.left action.old frames.old))) }
+            (done (W.run world.new) self.new.left action.new frames.new flow)
+            (λ go. nested_done go body.now signals.now
+            (doing (W.run world.old) self.old.left action.old frames.old))) }
     {
         let mut inside = frames.copy()?;
         let reached = Reached::new(self.alloc, action.home)?;
@@ -382,27 +388,28 @@ impl<'s> Activity<'s> {
     /// Arms are begun together; where one returns or is left, those that have not run are aborted.
     #[cycle(activity)]
     #[tactic(auto, using(crate::proofs::Ways::together))]
-    fn coenter<S: Stable>(
+    fn coenter<W: MakesSteps>(
         &mut self,
-        world: &mut World<S>,
+        world: &mut W,
         action: &mut OpenAction,
         frames: &mut Frames,
         arms: &[Arm],
     ) -> Result<Flow, Fault>
         requires script { IsResolved self.old.script.now }
         requires arms { AreArms self.old.script.now (sizes frames.old) arms.now }
-        requires run { IsRun (opening_in world.old.run.lists) world.old.run.past }
-        ensures goes_on { GoesOn world.old.run world.new.run [] }
-        ensures own { KeepsTo (action.old.name ∷ []) world.old.run world.new.run }
-        ensures commits { CommitsNone world.old.run world.new.run }
+        requires run { IsRun (opening_in (W.run world.old).lists) (W.run world.old).past }
+        ensures goes_on { GoesOn (W.run world.old) (W.run world.new) [] }
+        ensures own { KeepsTo (action.old.name ∷ []) (W.run world.old) (W.run world.new) }
+        ensures commits { CommitsNone (W.run world.old) (W.run world.new) }
         ensures frames { IfOk result (λ flow. WhereEnded flow (sizes frames.new ≡ sizes frames.old)) }
         ensures left { self.new.left ≤ self.old.left }
         ensures script { self.new.script.now ≡ self.old.script.now }
         ensures name { action.new.name ≡ action.old.name }
         ensures home { action.new.home ≡ action.old.home }
         ensures means { IfOk result (λ flow. ComesSo self.old.script.now self.old.left
-            (done world.new.run self.new.left action.new frames.new flow)
-            (λ go. coenter_done go arms.now (doing world.old.run self.old.left action.old frames.old))) }
+            (done (W.run world.new) self.new.left action.new frames.new flow)
+            (λ go. coenter_done go arms.now
+            (doing (W.run world.old) self.old.left action.old frames.old))) }
     {
         let Some(mut waiting) = begin_arms(self.alloc, world, action, arms)? else {
             return Ok(Flow::Aborted);
@@ -418,9 +425,9 @@ impl<'s> Activity<'s> {
     /// the last is that of the next arm.
     #[cycle(activity)]
     #[tactic(auto, using(crate::proofs::Ways::arms))]
-    fn run_arms<S: Stable>(
+    fn run_arms<W: MakesSteps>(
         &mut self,
-        world: &mut World<S>,
+        world: &mut W,
         action: &mut OpenAction,
         frames: &mut Frames,
         arms: &[Arm],
@@ -429,10 +436,10 @@ impl<'s> Activity<'s> {
         requires script { IsResolved self.old.script.now }
         requires arms { AreArms self.old.script.now (sizes frames.old) arms.now }
         requires each { length waiting.old.items ≡ length arms.now }
-        requires run { IsRun (opening_in world.old.run.lists) world.old.run.past }
-        ensures goes_on { GoesOn world.old.run world.new.run [] }
-        ensures own { KeepsTo waiting.old.items world.old.run world.new.run }
-        ensures others { CommitsAmong waiting.old.items world.old.run world.new.run }
+        requires run { IsRun (opening_in (W.run world.old).lists) (W.run world.old).past }
+        ensures goes_on { GoesOn (W.run world.old) (W.run world.new) [] }
+        ensures own { KeepsTo waiting.old.items (W.run world.old) (W.run world.new) }
+        ensures others { CommitsAmong waiting.old.items (W.run world.old) (W.run world.new) }
         ensures rest { (a : Name) → IsTrue (has_name waiting.new.items a) → IsTrue (has_name waiting.old.items a) }
         ensures frames { sizes frames.new ≡ sizes frames.old }
         ensures left { self.new.left ≤ self.old.left }
@@ -440,8 +447,9 @@ impl<'s> Activity<'s> {
         ensures name { action.new.name ≡ action.old.name }
         ensures home { action.new.home ≡ action.old.home }
         ensures means { IfOk result (λ flow. ComesSo self.old.script.now self.old.left
-            (done world.new.run self.new.left action.new frames.new flow, reverse waiting.new.items)
-            (λ go. arms_run go arms.now (reverse waiting.old.items) (doing world.old.run self.old.left action.old frames.old))) }
+            (done (W.run world.new) self.new.left action.new frames.new flow, reverse waiting.new.items)
+            (λ go. arms_run go arms.now (reverse waiting.old.items)
+            (doing (W.run world.old) self.old.left action.old frames.old))) }
     {
         for arm in arms {
             let mut inside = frames.copy()?;

@@ -11,26 +11,27 @@ use crate::open_action::{OpenAction, make};
 use action_names::Name;
 use run_model::{Answer, ArmKind, ArmKinds, Step};
 use script_model::{Arm, Statement};
-use stable_store::Stable;
 use std::alloc::{AllocError, Global};
-use world::{Fault, World};
+use stepping::{Fault, MakesSteps};
 
 /// Begins the arms together, and gives their names, that of the first arm last; none where that is refused.
-pub(crate) fn begin_arms<S: Stable>(
+pub(crate) fn begin_arms<W: MakesSteps>(
     alloc: Global,
-    world: &mut World<S>,
+    world: &mut W,
     action: &OpenAction,
     arms: &[Arm],
 ) -> Result<Option<Vec<Name>>, Fault>
-    requires { IsRun (opening_in world.old.run.lists) world.old.run.past }
-    ensures goes_on { GoesOn world.old.run world.new.run [] }
-    ensures own { KeepsTo (action.now.name ∷ []) world.old.run world.new.run }
-    ensures commits { CommitsNone world.old.run world.new.run }
-    ensures together { IfOk result (λ found. IsAfter (Arms action.now.name (kinds arms.now)) world.old.run world.new.run) }
+    requires { IsRun (opening_in (W.run world.old).lists) (W.run world.old).past }
+    ensures goes_on { GoesOn (W.run world.old) (W.run world.new) [] }
+    ensures own { KeepsTo (action.now.name ∷ []) (W.run world.old) (W.run world.new) }
+    ensures commits { CommitsNone (W.run world.old) (W.run world.new) }
+    ensures together { IfOk result (λ found.
+        IsAfter (Arms action.now.name (kinds arms.now)) (W.run world.old) (W.run world.new)) }
     ensures each { IfOk result (λ found. IfSome found (λ names. length names.items ≡ length arms.now)) }
-    ensures began { IfOk result (λ found. IfSome found (λ names. HaveBegun names.items world.old.run world.new.run)) }
+    ensures began { IfOk result (λ found. IfSome found
+        (λ names. HaveBegun names.items (W.run world.old) (W.run world.new))) }
     ensures waiting { IfOk result (λ found. option_map (λ names. reverse names.items) found
-        ≡ waiting_by (asked (Arms action.now.name (kinds arms.now)) world.old.run)) }
+        ≡ waiting_by (asked (Arms action.now.name (kinds arms.now)) (W.run world.old))) }
 {
     let kinds = arm_kinds(alloc, arms)?;
     let answer = make(world, Step::Arms(action.name.copy()?, kinds))?;

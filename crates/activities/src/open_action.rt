@@ -18,10 +18,9 @@ use crate::flow::{Flow, Reach};
 use action_names::{Name, Names};
 use atomic_types::Op;
 use run_model::{Answer, ObjectId, Refusal, Step};
-use stable_store::Stable;
 use std::alloc::{AllocError, Global};
 use std::collections::BTreeSet;
-use world::{Fault, World};
+use stepping::{Fault, MakesSteps};
 
 /// Guardians that an action has to do with, in rising number.
 #[derive(Drop)]
@@ -80,35 +79,38 @@ impl OpenAction {
     }
 
     /// Begins a subaction of it at a guardian.
-    pub(crate) fn begin_call<S: Stable>(
+    pub(crate) fn begin_call<W: MakesSteps>(
         &self,
-        world: &mut World<S>,
+        world: &mut W,
         guardian: u32,
     ) -> Result<Called, Fault>
-        requires { IsRun (opening_in world.old.run.lists) world.old.run.past }
-        ensures goes_on { GoesOn world.old.run world.new.run [] }
-        ensures own { KeepsTo (self.now.name ∷ []) world.old.run world.new.run }
-        ensures commits { CommitsNone world.old.run world.new.run }
-        ensures began { IfOk result (λ c. HaveBegun (called c) world.old.run world.new.run) }
-        ensures made { OnOk result (world.new.run ≡ after (Call self.now.name guardian) world.old.run) }
-        ensures called { IfOk result (λ c. c ≡ called_by (asked (Call self.now.name guardian) world.old.run)) }
+        requires { IsRun (opening_in (W.run world.old).lists) (W.run world.old).past }
+        ensures goes_on { GoesOn (W.run world.old) (W.run world.new) [] }
+        ensures own { KeepsTo (self.now.name ∷ []) (W.run world.old) (W.run world.new) }
+        ensures commits { CommitsNone (W.run world.old) (W.run world.new) }
+        ensures began { IfOk result (λ c. HaveBegun (called c)
+            (W.run world.old) (W.run world.new)) }
+        ensures made { OnOk result (W.run world.new
+            ≡ after (Call self.now.name guardian) (W.run world.old)) }
+        ensures called { IfOk result (λ c. c
+            ≡ called_by (asked (Call self.now.name guardian) (W.run world.old))) }
     {
         let answer = make(world, Step::Call(self.name.copy()?, guardian))?;
         Ok(what_came(answer))
     }
 
     /// Begins a nested top action that it starts; none where that is refused.
-    pub(crate) fn begin_nested<S: Stable>(
-        &self,
-        world: &mut World<S>,
-    ) -> Result<Option<Name>, Fault>
-        requires { IsRun (opening_in world.old.run.lists) world.old.run.past }
-        ensures goes_on { GoesOn world.old.run world.new.run [] }
-        ensures own { KeepsTo (self.now.name ∷ []) world.old.run world.new.run }
-        ensures commits { CommitsNone world.old.run world.new.run }
-        ensures began { IfOk result (λ found. HaveBegun (named_by found) world.old.run world.new.run) }
-        ensures made { OnOk result (world.new.run ≡ after (NestedTop self.now.name) world.old.run) }
-        ensures begun { IfOk result (λ found. found ≡ begun_by (asked (NestedTop self.now.name) world.old.run)) }
+    pub(crate) fn begin_nested<W: MakesSteps>(&self, world: &mut W) -> Result<Option<Name>, Fault>
+        requires { IsRun (opening_in (W.run world.old).lists) (W.run world.old).past }
+        ensures goes_on { GoesOn (W.run world.old) (W.run world.new) [] }
+        ensures own { KeepsTo (self.now.name ∷ []) (W.run world.old) (W.run world.new) }
+        ensures commits { CommitsNone (W.run world.old) (W.run world.new) }
+        ensures began { IfOk result (λ found. HaveBegun (named_by found)
+            (W.run world.old) (W.run world.new)) }
+        ensures made { OnOk result (W.run world.new
+            ≡ after (NestedTop self.now.name) (W.run world.old)) }
+        ensures begun { IfOk result (λ found. found
+            ≡ begun_by (asked (NestedTop self.now.name) (W.run world.old))) }
     {
         let answer = make(world, Step::NestedTop(self.name.copy()?))?;
         Ok(begun_by(answer))
@@ -116,21 +118,23 @@ impl OpenAction {
 
     /// Makes an operation on an object of its home. After an error the world is as it was.
     #[tactic(auto, using(crate::proofs::Performing::after_made, crate::proofs::Performing::answer_made))]
-    pub(crate) fn perform<S: Stable>(
+    pub(crate) fn perform<W: MakesSteps>(
         &self,
-        world: &mut World<S>,
+        world: &mut W,
         object: u32,
         operation: Op,
     ) -> Result<Answer, Fault>
-        requires { IsRun (opening_in world.old.run.lists) world.old.run.past }
-        ensures goes_on { GoesOn world.old.run world.new.run [] }
-        ensures own { KeepsTo (self.now.name ∷ []) world.old.run world.new.run }
-        ensures commits { CommitsNone world.old.run world.new.run }
-        ensures ends { EndsAll world.old.run world.new.run }
-        ensures made { OnOk result (IsAfter (op_step self.now.name self.now.home object operation) world.old.run world.new.run) }
+        requires { IsRun (opening_in (W.run world.old).lists) (W.run world.old).past }
+        ensures goes_on { GoesOn (W.run world.old) (W.run world.new) [] }
+        ensures own { KeepsTo (self.now.name ∷ []) (W.run world.old) (W.run world.new) }
+        ensures commits { CommitsNone (W.run world.old) (W.run world.new) }
+        ensures ends { EndsAll (W.run world.old) (W.run world.new) }
+        ensures made { OnOk result (IsAfter
+            (op_step self.now.name self.now.home object operation) (W.run world.old) (W.run world.new)) }
         ensures answer { IfOk result (λ answer. answer
-            ≡ answer_of (opening_in world.old.run.lists) (op_step self.now.name self.now.home object operation) world.old.run.past) }
-        ensures err { OnErr result (world.new.run ≡ world.old.run) }
+            ≡ answer_of (opening_in (W.run world.old).lists)
+            (op_step self.now.name self.now.home object operation) (W.run world.old).past) }
+        ensures err { OnErr result (W.run world.new ≡ W.run world.old) }
     {
         let object = ObjectId {
             guardian: self.home,
@@ -154,13 +158,14 @@ impl OpenAction {
 
     /// Ends it as its body ended, and says how: where it cannot commit it aborts. After an error it has ended, or its abort
     /// failed too.
-    pub(crate) fn end<S: Stable>(&self, world: &mut World<S>, flow: Flow) -> Result<Flow, Fault>
-        requires { IsRun (opening_in world.old.run.lists) world.old.run.past }
-        ensures goes_on { GoesOn world.old.run world.new.run [] }
-        ensures own { KeepsTo (self.now.name ∷ []) world.old.run world.new.run }
-        ensures others { CommitsAmong (self.now.name ∷ []) world.old.run world.new.run }
-        ensures ends { EndsAll world.old.run world.new.run }
-        ensures means { IfOk result (λ end. record { world = world.new.run; flow = end } ≡ ended (acting self.now) flow world.old.run) }
+    pub(crate) fn end<W: MakesSteps>(&self, world: &mut W, flow: Flow) -> Result<Flow, Fault>
+        requires { IsRun (opening_in (W.run world.old).lists) (W.run world.old).past }
+        ensures goes_on { GoesOn (W.run world.old) (W.run world.new) [] }
+        ensures own { KeepsTo (self.now.name ∷ []) (W.run world.old) (W.run world.new) }
+        ensures others { CommitsAmong (self.now.name ∷ []) (W.run world.old) (W.run world.new) }
+        ensures ends { EndsAll (W.run world.old) (W.run world.new) }
+        ensures means { IfOk result (λ end. record { world = W.run world.new; flow = end }
+            ≡ ended (acting self.now) flow (W.run world.old)) }
     {
         match self.try_end(world, wants_commit(&flow)) {
             Ok(true) => Ok(flow),
@@ -173,13 +178,14 @@ impl OpenAction {
     }
 
     /// Commits it where that is wanted; where it cannot, and else, aborts it. Whether it has committed.
-    fn try_end<S: Stable>(&self, world: &mut World<S>, wanted: bool) -> Result<bool, Fault>
-        requires { IsRun (opening_in world.old.run.lists) world.old.run.past }
-        ensures goes_on { GoesOn world.old.run world.new.run [] }
-        ensures own { KeepsTo (self.now.name ∷ []) world.old.run world.new.run }
-        ensures others { CommitsAmong (self.now.name ∷ []) world.old.run world.new.run }
-        ensures ends { EndsAll world.old.run world.new.run }
-        ensures means { IfOk result (λ done. record { world = world.new.run; done = done } ≡ end_tried (acting self.now) wanted world.old.run) }
+    fn try_end<W: MakesSteps>(&self, world: &mut W, wanted: bool) -> Result<bool, Fault>
+        requires { IsRun (opening_in (W.run world.old).lists) (W.run world.old).past }
+        ensures goes_on { GoesOn (W.run world.old) (W.run world.new) [] }
+        ensures own { KeepsTo (self.now.name ∷ []) (W.run world.old) (W.run world.new) }
+        ensures others { CommitsAmong (self.now.name ∷ []) (W.run world.old) (W.run world.new) }
+        ensures ends { EndsAll (W.run world.old) (W.run world.new) }
+        ensures means { IfOk result (λ done. record { world = W.run world.new; done = done }
+            ≡ end_tried (acting self.now) wanted (W.run world.old)) }
     {
         if wanted {
             self.commit_or_abort(world)
@@ -189,13 +195,14 @@ impl OpenAction {
         }
     }
 
-    fn commit_or_abort<S: Stable>(&self, world: &mut World<S>) -> Result<bool, Fault>
-        requires { IsRun (opening_in world.old.run.lists) world.old.run.past }
-        ensures goes_on { GoesOn world.old.run world.new.run [] }
-        ensures own { KeepsTo (self.now.name ∷ []) world.old.run world.new.run }
-        ensures others { CommitsAmong (self.now.name ∷ []) world.old.run world.new.run }
-        ensures ends { EndsAll world.old.run world.new.run }
-        ensures means { IfOk result (λ done. record { world = world.new.run; done = done } ≡ or_aborted (acting self.now) (committed (acting self.now) world.old.run)) }
+    fn commit_or_abort<W: MakesSteps>(&self, world: &mut W) -> Result<bool, Fault>
+        requires { IsRun (opening_in (W.run world.old).lists) (W.run world.old).past }
+        ensures goes_on { GoesOn (W.run world.old) (W.run world.new) [] }
+        ensures own { KeepsTo (self.now.name ∷ []) (W.run world.old) (W.run world.new) }
+        ensures others { CommitsAmong (self.now.name ∷ []) (W.run world.old) (W.run world.new) }
+        ensures ends { EndsAll (W.run world.old) (W.run world.new) }
+        ensures means { IfOk result (λ done. record { world = W.run world.new; done = done }
+            ≡ or_aborted (acting self.now) (committed (acting self.now) (W.run world.old))) }
     {
         if self.commit(world)? {
             return Ok(true);
@@ -219,13 +226,14 @@ impl OpenAction {
     }
 
     /// Commits it, and tells so; whether that succeeded.
-    fn commit<S: Stable>(&self, world: &mut World<S>) -> Result<bool, Fault>
-        requires { IsRun (opening_in world.old.run.lists) world.old.run.past }
-        ensures goes_on { GoesOn world.old.run world.new.run [] }
-        ensures own { KeepsTo (self.now.name ∷ []) world.old.run world.new.run }
-        ensures others { CommitsAmong (self.now.name ∷ []) world.old.run world.new.run }
-        ensures ends { EndsAll world.old.run world.new.run }
-        ensures means { IfOk result (λ done. record { world = world.new.run; done = done } ≡ committed (acting self.now) world.old.run) }
+    fn commit<W: MakesSteps>(&self, world: &mut W) -> Result<bool, Fault>
+        requires { IsRun (opening_in (W.run world.old).lists) (W.run world.old).past }
+        ensures goes_on { GoesOn (W.run world.old) (W.run world.new) [] }
+        ensures own { KeepsTo (self.now.name ∷ []) (W.run world.old) (W.run world.new) }
+        ensures others { CommitsAmong (self.now.name ∷ []) (W.run world.old) (W.run world.new) }
+        ensures ends { EndsAll (W.run world.old) (W.run world.new) }
+        ensures means { IfOk result (λ done. record { world = W.run world.new; done = done }
+            ≡ committed (acting self.now) (W.run world.old)) }
     {
         if !self.try_commit(world)? {
             return Ok(false);
@@ -235,13 +243,14 @@ impl OpenAction {
     }
 
     /// Commits it; whether that succeeded.
-    fn try_commit<S: Stable>(&self, world: &mut World<S>) -> Result<bool, Fault>
-        requires { IsRun (opening_in world.old.run.lists) world.old.run.past }
-        ensures goes_on { GoesOn world.old.run world.new.run [] }
-        ensures own { KeepsTo (self.now.name ∷ []) world.old.run world.new.run }
-        ensures others { CommitsAmong (self.now.name ∷ []) world.old.run world.new.run }
-        ensures ends { EndsAll world.old.run world.new.run }
-        ensures means { IfOk result (λ done. record { world = world.new.run; done = done } ≡ commit_tried (acting self.now) world.old.run) }
+    fn try_commit<W: MakesSteps>(&self, world: &mut W) -> Result<bool, Fault>
+        requires { IsRun (opening_in (W.run world.old).lists) (W.run world.old).past }
+        ensures goes_on { GoesOn (W.run world.old) (W.run world.new) [] }
+        ensures own { KeepsTo (self.now.name ∷ []) (W.run world.old) (W.run world.new) }
+        ensures others { CommitsAmong (self.now.name ∷ []) (W.run world.old) (W.run world.new) }
+        ensures ends { EndsAll (W.run world.old) (W.run world.new) }
+        ensures means { IfOk result (λ done. record { world = W.run world.new; done = done }
+            ≡ commit_tried (acting self.now) (W.run world.old)) }
     {
         if self.name.is_top() {
             self.commit_top(world)
@@ -251,13 +260,14 @@ impl OpenAction {
     }
 
     /// Commits it by two phases; false at the first participant that does not vote yes.
-    fn commit_top<S: Stable>(&self, world: &mut World<S>) -> Result<bool, Fault>
-        requires { IsRun (opening_in world.old.run.lists) world.old.run.past }
-        ensures goes_on { GoesOn world.old.run world.new.run [] }
-        ensures own { KeepsTo (self.now.name ∷ []) world.old.run world.new.run }
-        ensures others { CommitsAmong (self.now.name ∷ []) world.old.run world.new.run }
-        ensures ends { EndsAll world.old.run world.new.run }
-        ensures means { IfOk result (λ done. record { world = world.new.run; done = done } ≡ two_phases (acting self.now) world.old.run) }
+    fn commit_top<W: MakesSteps>(&self, world: &mut W) -> Result<bool, Fault>
+        requires { IsRun (opening_in (W.run world.old).lists) (W.run world.old).past }
+        ensures goes_on { GoesOn (W.run world.old) (W.run world.new) [] }
+        ensures own { KeepsTo (self.now.name ∷ []) (W.run world.old) (W.run world.new) }
+        ensures others { CommitsAmong (self.now.name ∷ []) (W.run world.old) (W.run world.new) }
+        ensures ends { EndsAll (W.run world.old) (W.run world.new) }
+        ensures means { IfOk result (λ done. record { world = W.run world.new; done = done }
+            ≡ two_phases (acting self.now) (W.run world.old)) }
     {
         if !try_step(world, Step::Close(self.name.copy()?))? {
             return Ok(false);
@@ -271,13 +281,14 @@ impl OpenAction {
     }
 
     /// Aborts it, and tells so.
-    pub(crate) fn abort<S: Stable>(&self, world: &mut World<S>) -> Result<(), Fault>
-        requires { IsRun (opening_in world.old.run.lists) world.old.run.past }
-        ensures goes_on { GoesOn world.old.run world.new.run [] }
-        ensures own { KeepsTo (self.now.name ∷ []) world.old.run world.new.run }
-        ensures commits { CommitsNone world.old.run world.new.run }
-        ensures ends { EndsAll world.old.run world.new.run }
-        ensures means { OnOk result (world.new.run ≡ aborted (acting self.now) world.old.run) }
+    pub(crate) fn abort<W: MakesSteps>(&self, world: &mut W) -> Result<(), Fault>
+        requires { IsRun (opening_in (W.run world.old).lists) (W.run world.old).past }
+        ensures goes_on { GoesOn (W.run world.old) (W.run world.new) [] }
+        ensures own { KeepsTo (self.now.name ∷ []) (W.run world.old) (W.run world.new) }
+        ensures commits { CommitsNone (W.run world.old) (W.run world.new) }
+        ensures ends { EndsAll (W.run world.old) (W.run world.new) }
+        ensures means { OnOk result (W.run world.new
+            ≡ aborted (acting self.now) (W.run world.old)) }
     {
         try_step(world, Step::Abort(self.name.copy()?))?;
         tell(world, &self.name, &self.reached.homes)
@@ -285,17 +296,18 @@ impl OpenAction {
 
     /// Aborts arms of it that have not run, of which the last is the first to be aborted, and tells so. Also after an error the others are
     /// aborted.
-    pub(crate) fn abort_arms<S: Stable>(
+    pub(crate) fn abort_arms<W: MakesSteps>(
         &self,
-        world: &mut World<S>,
+        world: &mut W,
         arms: &[Name],
     ) -> Result<(), Fault>
-        requires { IsRun (opening_in world.old.run.lists) world.old.run.past }
-        ensures goes_on { GoesOn world.old.run world.new.run [] }
-        ensures own { KeepsTo arms.now world.old.run world.new.run }
-        ensures commits { CommitsNone world.old.run world.new.run }
-        ensures ends { EndsAll world.old.run world.new.run }
-        ensures means { OnOk result (world.new.run ≡ arms_aborted self.now.home (reverse arms.now) world.old.run) }
+        requires { IsRun (opening_in (W.run world.old).lists) (W.run world.old).past }
+        ensures goes_on { GoesOn (W.run world.old) (W.run world.new) [] }
+        ensures own { KeepsTo arms.now (W.run world.old) (W.run world.new) }
+        ensures commits { CommitsNone (W.run world.old) (W.run world.new) }
+        ensures ends { EndsAll (W.run world.old) (W.run world.new) }
+        ensures means { OnOk result (W.run world.new
+            ≡ arms_aborted self.now.home (reverse arms.now) (W.run world.old)) }
     {
         let mut fault = Ok(());
         for arm in arms.iter().rev() {
@@ -306,13 +318,14 @@ impl OpenAction {
 }
 
 /// Aborts an action that has done nothing yet, and tells its home.
-fn abort_at_home<S: Stable>(world: &mut World<S>, action: &Name, home: u32) -> Result<(), Fault>
-    requires { IsRun (opening_in world.old.run.lists) world.old.run.past }
-    ensures goes_on { GoesOn world.old.run world.new.run [] }
-    ensures own { KeepsTo (action.now ∷ []) world.old.run world.new.run }
-    ensures commits { CommitsNone world.old.run world.new.run }
-    ensures ends { EndsAll world.old.run world.new.run }
-    ensures means { OnOk result (world.new.run ≡ after (Tell home action.now) (after (Abort action.now) world.old.run)) }
+fn abort_at_home<W: MakesSteps>(world: &mut W, action: &Name, home: u32) -> Result<(), Fault>
+    requires { IsRun (opening_in (W.run world.old).lists) (W.run world.old).past }
+    ensures goes_on { GoesOn (W.run world.old) (W.run world.new) [] }
+    ensures own { KeepsTo (action.now ∷ []) (W.run world.old) (W.run world.new) }
+    ensures commits { CommitsNone (W.run world.old) (W.run world.new) }
+    ensures ends { EndsAll (W.run world.old) (W.run world.new) }
+    ensures means { OnOk result (W.run world.new
+        ≡ after (Tell home action.now) (after (Abort action.now) (W.run world.old))) }
 {
     try_step(world, Step::Abort(action.copy()?))?;
     try_step(world, Step::Tell(home, action.copy()?))?;
@@ -320,17 +333,14 @@ fn abort_at_home<S: Stable>(world: &mut World<S>, action: &Name, home: u32) -> R
 }
 
 /// Tells the outcome of an action to guardians, in rising number. Those that are down refuse it.
-fn tell<S: Stable>(
-    world: &mut World<S>,
-    action: &Name,
-    guardians: &BTreeSet<u32>,
-) -> Result<(), Fault>
-    requires { IsRun (opening_in world.old.run.lists) world.old.run.past }
-    ensures goes_on { GoesOn world.old.run world.new.run [] }
-    ensures own { KeepsTo (action.now ∷ []) world.old.run world.new.run }
-    ensures commits { CommitsNone world.old.run world.new.run }
-    ensures ends { EndsAll world.old.run world.new.run }
-    ensures means { OnOk result (world.new.run ≡ once_told action.now guardians.now.keys world.old.run) }
+fn tell<W: MakesSteps>(world: &mut W, action: &Name, guardians: &BTreeSet<u32>) -> Result<(), Fault>
+    requires { IsRun (opening_in (W.run world.old).lists) (W.run world.old).past }
+    ensures goes_on { GoesOn (W.run world.old) (W.run world.new) [] }
+    ensures own { KeepsTo (action.now ∷ []) (W.run world.old) (W.run world.new) }
+    ensures commits { CommitsNone (W.run world.old) (W.run world.new) }
+    ensures ends { EndsAll (W.run world.old) (W.run world.new) }
+    ensures means { OnOk result (W.run world.new
+        ≡ once_told action.now guardians.now.keys (W.run world.old)) }
 {
     for guardian in guardians {
         try_step(world, Step::Tell(*guardian, action.copy()?))?;
@@ -362,14 +372,17 @@ fn begun_by(answer: Answer) -> Option<Name>
 }
 
 /// Asks a guardian for its vote on a top action; whether that is yes.
-fn prepare<S: Stable>(world: &mut World<S>, guardian: u32, top: &Name) -> Result<bool, Fault>
-    requires { IsRun (opening_in world.old.run.lists) world.old.run.past }
-    ensures goes_on { GoesOn world.old.run world.new.run [] }
-    ensures own { KeepsTo (top.now ∷ []) world.old.run world.new.run }
-    ensures commits { CommitsNone world.old.run world.new.run }
-    ensures after { OnOk result (IsAfter (Prepare guardian top.now) world.old.run world.new.run) }
-    ensures yes { IfOk result (λ yes. yes ≡ is_yes (answer_of (opening_in world.old.run.lists) (Prepare guardian top.now) world.old.run.past)) }
-    ensures ends { EndsAll world.old.run world.new.run }
+fn prepare<W: MakesSteps>(world: &mut W, guardian: u32, top: &Name) -> Result<bool, Fault>
+    requires { IsRun (opening_in (W.run world.old).lists) (W.run world.old).past }
+    ensures goes_on { GoesOn (W.run world.old) (W.run world.new) [] }
+    ensures own { KeepsTo (top.now ∷ []) (W.run world.old) (W.run world.new) }
+    ensures commits { CommitsNone (W.run world.old) (W.run world.new) }
+    ensures after { OnOk result (IsAfter (Prepare guardian top.now)
+        (W.run world.old) (W.run world.new)) }
+    ensures yes { IfOk result (λ yes. yes
+        ≡ is_yes (answer_of (opening_in
+        (W.run world.old).lists) (Prepare guardian top.now) (W.run world.old).past)) }
+    ensures ends { EndsAll (W.run world.old) (W.run world.new) }
 {
     let vote = make(world, Step::Prepare(guardian, top.copy()?))?;
     Ok(is_yes(vote))
@@ -382,15 +395,16 @@ fn is_yes(answer: Answer) -> bool
 }
 
 /// Makes a step; whether it was done.
-fn try_step<S: Stable>(world: &mut World<S>, step: Step) -> Result<bool, Fault>
-    requires run { IsRun (opening_in world.old.run.lists) world.old.run.past }
+fn try_step<W: MakesSteps>(world: &mut W, step: Step) -> Result<bool, Fault>
+    requires run { IsRun (opening_in (W.run world.old).lists) (W.run world.old).past }
     requires step { IsOfAction step }
-    ensures goes_on { GoesOn world.old.run world.new.run [] }
-    ensures own { KeepsTo (about step) world.old.run world.new.run }
-    ensures commits { CommitsBy step world.old.run world.new.run }
-    ensures after { OnOk result (IsAfter step world.old.run world.new.run) }
-    ensures done { IfOk result (λ done. done ≡ is_made (answer_of (opening_in world.old.run.lists) step world.old.run.past)) }
-    ensures ends { maker_in step ≡ None → EndsAll world.old.run world.new.run }
+    ensures goes_on { GoesOn (W.run world.old) (W.run world.new) [] }
+    ensures own { KeepsTo (about step) (W.run world.old) (W.run world.new) }
+    ensures commits { CommitsBy step (W.run world.old) (W.run world.new) }
+    ensures after { OnOk result (IsAfter step (W.run world.old) (W.run world.new)) }
+    ensures done { IfOk result (λ done. done
+        ≡ is_made (answer_of (opening_in (W.run world.old).lists) step (W.run world.old).past)) }
+    ensures ends { maker_in step ≡ None → EndsAll (W.run world.old) (W.run world.new) }
 {
     let answer = make(world, step)?;
     Ok(is_done(answer))
@@ -428,17 +442,20 @@ pub(crate) fn only(names: Names) -> Name
 }
 
 /// Makes a step that is about an action.
-pub(crate) fn make<S: Stable>(world: &mut World<S>, step: Step) -> Result<Answer, Fault>
-    requires run { IsRun (opening_in world.old.run.lists) world.old.run.past }
+pub(crate) fn make<W: MakesSteps>(world: &mut W, step: Step) -> Result<Answer, Fault>
+    requires run { IsRun (opening_in (W.run world.old).lists) (W.run world.old).past }
     requires step { IsOfAction step }
-    ensures goes_on { GoesOn world.old.run world.new.run [] }
-    ensures own { KeepsTo (about step) world.old.run world.new.run }
-    ensures commits { CommitsBy step world.old.run world.new.run }
-    ensures answer { IfOk result (λ answer. answer ≡ answer_of (opening_in world.old.run.lists) step world.old.run.past) }
-    ensures after { IfOk result (λ answer. world.new.run ≡ world_after world.old.run step answer) }
-    ensures err { OnErr result (world.new.run ≡ world.old.run) }
-    ensures began { IfOk result (λ answer. HaveBegun (names_begun answer) world.old.run world.new.run) }
-    ensures ends { maker_in step ≡ None → EndsAll world.old.run world.new.run }
+    ensures goes_on { GoesOn (W.run world.old) (W.run world.new) [] }
+    ensures own { KeepsTo (about step) (W.run world.old) (W.run world.new) }
+    ensures commits { CommitsBy step (W.run world.old) (W.run world.new) }
+    ensures answer { IfOk result (λ answer. answer
+        ≡ answer_of (opening_in (W.run world.old).lists) step (W.run world.old).past) }
+    ensures after { IfOk result (λ answer. W.run world.new
+        ≡ world_after (W.run world.old) step answer) }
+    ensures err { OnErr result (W.run world.new ≡ W.run world.old) }
+    ensures began { IfOk result (λ answer. HaveBegun (names_begun answer)
+        (W.run world.old) (W.run world.new)) }
+    ensures ends { maker_in step ≡ None → EndsAll (W.run world.old) (W.run world.new) }
 {
     world.step(&step)
 }

@@ -12,9 +12,8 @@ use atomic_types::Reply;
 use frames::Frames;
 use run_model::Answer;
 use script_model::{Binding, ObjectCall};
-use stable_store::Stable;
 use std::alloc::AllocError;
-use world::{Fault, World};
+use stepping::{Fault, MakesSteps};
 
 /// What came of an operation.
 #[derive(Drop)]
@@ -28,25 +27,28 @@ pub(crate) enum Outcome {
 /// Makes an operation, and binds what it replies. After an error the variables are as they were, and the world too, unless memory was
 /// wanting for a variable: then the step was made.
 #[tactic(auto, using(crate::proofs::Performing::comings))]
-pub(crate) fn perform<S: Stable>(
-    world: &mut World<S>,
+pub(crate) fn perform<W: MakesSteps>(
+    world: &mut W,
     action: &OpenAction,
     frames: &mut Frames,
     call: &ObjectCall,
 ) -> Result<Outcome, Fault>
-    requires run { IsRun (opening_in world.old.run.lists) world.old.run.past }
+    requires run { IsRun (opening_in (W.run world.old).lists) (W.run world.old).past }
     requires call { IsOp (sizes frames.old) call.now }
-    ensures goes_on { GoesOn world.old.run world.new.run [] }
-    ensures own { KeepsTo (action.now.name ∷ []) world.old.run world.new.run }
-    ensures commits { CommitsNone world.old.run world.new.run }
-    ensures ends { EndsAll world.old.run world.new.run }
+    ensures goes_on { GoesOn (W.run world.old) (W.run world.new) [] }
+    ensures own { KeepsTo (action.now.name ∷ []) (W.run world.old) (W.run world.new) }
+    ensures commits { CommitsNone (W.run world.old) (W.run world.new) }
+    ensures ends { EndsAll (W.run world.old) (W.run world.new) }
     ensures frames { IfOk result (λ done. IsOutcome done call.now.binding (sizes frames.old) (sizes frames.new)) }
-    ensures made { OnOk result (IsAfterAny (step_for action.now.name action.now.home frames.old call.now) world.old.run world.new.run) }
+    ensures made { OnOk result (IsAfterAny
+        (step_for action.now.name action.now.home frames.old call.now) (W.run world.old) (W.run world.new)) }
     ensures outcome { IfOk result (λ done. (done, frames.new)
-        ≡ outcome_of world.old.run frames.old call.now.binding (step_for action.now.name action.now.home frames.old call.now)) }
+        ≡ outcome_of (W.run world.old) frames.old call.now.binding
+        (step_for action.now.name action.now.home frames.old call.now)) }
     ensures unbound { OnErr result (frames.new ≡ frames.old) }
-    ensures err { OnErr result ((world.new.run ≡ world.old.run)
-        ⊎ IsAfterAny (step_for action.now.name action.now.home frames.old call.now) world.old.run world.new.run) }
+    ensures err { OnErr result ((W.run world.new ≡ W.run world.old)
+        ⊎ IsAfterAny
+        (step_for action.now.name action.now.home frames.old call.now) (W.run world.old) (W.run world.new)) }
 {
     let Some(operation) = frames.operation(&call.operation)? else {
         return Ok(Outcome::Refused);

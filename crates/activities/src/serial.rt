@@ -14,26 +14,26 @@ use action_names::Name;
 use frames::Frames;
 use run_model::{Answer, Step};
 use script_model::{Checked, Client};
-use stable_store::Stable;
 use std::alloc::Global;
-use world::{Fault, World};
+use stepping::{Fault, MakesSteps};
 
 /// Runs the clients of a script one after another, each to its end, and gives how they ended, in their order. The arms of a `coenter` are
 /// begun together and run in order. An operation that would wait aborts the enclosing top action.
 ///
 /// `Err` comes if memory runs out, or where the store of a guardian failed. A client to which that happens aborts its open actions,
 /// outwards, as far as that succeeds, and the others are run all the same; the last such fault is answered.
-pub fn run_serial<S: Stable>(
+pub fn run_serial<W: MakesSteps>(
     alloc: Global,
-    world: &mut World<S>,
+    world: &mut W,
     script: &Checked,
 ) -> Result<Vec<ClientEnd>, Fault>
     requires { IsResolved script.now }
-    ensures ok { IfOk result (λ ends. record { world = world.new.run; ends = ends.items } ≡ serial_run script.now world.old.run) }
-    ensures err { OnErr result (AreTried script.now.clients world.old.run world.new.run) }
+    ensures ok { IfOk result (λ ends. record { world = W.run world.new; ends = ends.items }
+        ≡ serial_run script.now (W.run world.old)) }
+    ensures err { OnErr result (AreTried script.now.clients (W.run world.old) (W.run world.new)) }
 {
     // so that what happened before is known to be a run
-    let _ = world.history();
+    let _ = world.opening();
     let clients = script.clients.as_slice();
     let mut ends = Vec::with_capacity(alloc, clients.len())?;
     let mut fault = Ok(());
@@ -50,17 +50,18 @@ pub fn run_serial<S: Stable>(
     Ok(ends)
 }
 
-fn run_client<S: Stable>(
+fn run_client<W: MakesSteps>(
     alloc: Global,
-    world: &mut World<S>,
+    world: &mut W,
     script: &Checked,
     client: &Client,
 ) -> Result<ClientEnd, Fault>
     requires script { IsResolved script.now }
     requires client { IsTrue (is_resolved_client script.now client.now) }
-    requires run { IsRun (opening_in world.old.run.lists) world.old.run.past }
-    ensures ok { IfOk result (λ end. (world.new.run, end) ≡ client_ran script.now.handlers client.now world.old.run) }
-    ensures err { OnErr result (ClientCut client.now.home world.old.run world.new.run) }
+    requires run { IsRun (opening_in (W.run world.old).lists) (W.run world.old).past }
+    ensures ok { IfOk result (λ end. (W.run world.new, end)
+        ≡ client_ran script.now.handlers client.now (W.run world.old)) }
+    ensures err { OnErr result (ClientCut client.now.home (W.run world.old) (W.run world.new)) }
 {
     let reached = Reached::new(alloc, client.home)?;
     let Some(name) = begin_top(world, client.home)? else {
@@ -74,11 +75,11 @@ fn run_client<S: Stable>(
 }
 
 /// Begins a top action at a guardian; none where that is refused.
-fn begin_top<S: Stable>(world: &mut World<S>, home: u32) -> Result<Option<Name>, Fault>
-    requires { IsRun (opening_in world.old.run.lists) world.old.run.past }
-    ensures after { OnOk result (world.new.run ≡ after (Top home) world.old.run) }
-    ensures begun { IfOk result (λ found. found ≡ begun_by (asked (Top home) world.old.run)) }
-    ensures err { OnErr result (world.new.run ≡ world.old.run) }
+fn begin_top<W: MakesSteps>(world: &mut W, home: u32) -> Result<Option<Name>, Fault>
+    requires { IsRun (opening_in (W.run world.old).lists) (W.run world.old).past }
+    ensures after { OnOk result (W.run world.new ≡ after (Top home) (W.run world.old)) }
+    ensures begun { IfOk result (λ found. found ≡ begun_by (asked (Top home) (W.run world.old))) }
+    ensures err { OnErr result (W.run world.new ≡ W.run world.old) }
 {
     match world.step(&Step::Top(home))? {
         Answer::Began(names) => Ok(Some(only(names))),

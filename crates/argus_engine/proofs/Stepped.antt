@@ -5,44 +5,48 @@ use Rattle.run_model.specs.declared.answer.Answer.{Answer}
 use Rattle.run_model.specs.declared.step.Step.{Step}
 use Rattle.run_model.specs.Answers.{answer_of}
 use Rattle.run_model.specs.Openings.{opening_in}
-use Rattle.run_model.specs.Runs.{world_after}
-use Rattle.stable_store.specs.Calls.{View}
+use Rattle.run_model.specs.Runs.{World, world_after}
 use Rattle.layer_contracts.specs.declared.guardian.Fault.{Fault as StepFault}
 use Rattle.layer_contracts.specs.declared.guardian.Fault.TheVariants as of_step
-use Rattle.world_steps.specs.Standings.{HasFailed, StoresLeft}
-use Rattle.world.specs.Worlds.{InWorld, seen_of}
 use Rattle.argus_engine.specs.declared.engine.Fault.{Fault}
 use Rattle.argus_engine.specs.declared.engine.Fault.TheVariants.{Memory, Store}
 use Rattle.argus_engine.specs.Reading.{IsOfReader, IsOfReaderOrStep, IsOfStep}
 use Rattle.argus_engine.specs.Serving.{fault_of_step}
-use Rattle.argus_engine.specs.Stepping.{AreMade, FailsAtStore, HasMade}
+use Rattle.argus_engine.specs.Stepping.{AreMade, FailsAtStore, HasMade, Leaves}
 
-join : {S : Type 0} (seen : S → View) (steps more : List Step) (old now new : InWorld S) → AreMade seen steps old now → AreMade seen more now new
-    → AreMade seen (steps ++ more) old new
-join seen [] more old now new e m = subst (λ w. AreMade seen more w new) e m
-join seen (step ∷ steps) more old now new a m = (a.0, a.1, join seen steps more a.0 now new a.2 m)
+join : {M : Type 0} (run : M → World) (leaves : Leaves M) (steps more : List Step) (old now new : M)
+    → AreMade run leaves steps old now → AreMade run leaves more now new → AreMade run leaves (steps ++ more) old new
+join run leaves [] more old now new e m = subst (λ w. AreMade run leaves more w new) e m
+join run leaves (step ∷ steps) more old now new a m = (a.0, a.1, join run leaves steps more a.0 now new a.2 m)
 
-pub made_none : {S : Type 0} (seen : S → View) (w : InWorld S) → HasMade seen w w
-made_none seen w = ([], refl)
+pub made_none : {M : Type 0} (run : M → World) (leaves : Leaves M) (w : M) → HasMade run leaves w w
+made_none run leaves w = ([], refl)
 
-pub made_one : {S : Type 0} (seen : S → View) (old new : InWorld S) (step : Step) (answer : Answer)
-    → answer ≡ answer_of (opening_in old.run.lists) step old.run.past → new.run ≡ world_after old.run step answer
-    → StoresLeft (λ g. seen_of seen g) (opening_in old.run.lists) old.run.past step old.guardians new.guardians None → HasMade seen old new
-made_one seen old new step answer is run stores =
-    (step ∷ [], (new, record { run = run ∙ ap (λ a. world_after old.run step a) is; stores = stores }, refl))
+pub made_one : {M : Type 0} (run : M → World) (leaves : Leaves M) (old new : M) (step : Step) (answer : Answer)
+    → answer ≡ answer_of (opening_in (run old).lists) step (run old).past → run new ≡ world_after (run old) step answer
+    → leaves step None old new → HasMade run leaves old new
+made_one run leaves old new step answer is after stores =
+    (step ∷ [], (new, record { after = after ∙ ap (λ a. world_after (run old) step a) is; stores = stores }, refl))
 
-pub made_more : {S : Type 0} (seen : S → View) (old now new : InWorld S) → HasMade seen old now → HasMade seen now new → HasMade seen old new
-made_more seen old now new a m = (a.0 ++ m.0, join seen a.0 m.0 old now new a.1 m.1)
+pub made_more : {M : Type 0} (run : M → World) (leaves : Leaves M) (old now new : M) → HasMade run leaves old now
+    → HasMade run leaves now new → HasMade run leaves old new
+made_more run leaves old now new a m = (a.0 ++ m.0, join run leaves a.0 m.0 old now new a.1 m.1)
 
 -- what comes after steps that were made
-pub made_after : {S A E : Type 0} (seen : S → View) (old now new : InWorld S) → HasMade seen old now → (result : Result A E)
-    → OnOk result (HasMade seen now new) → OnOk result (HasMade seen old new)
-made_after seen old now new made (Err e) ok = tt
-made_after seen old now new made (Ok a) ok = made_more seen old now new made ok
+pub made_after : {M A E : Type 0} (run : M → World) (leaves : Leaves M) (old now new : M) → HasMade run leaves old now
+    → (result : Result A E) → OnOk result (HasMade run leaves now new) → OnOk result (HasMade run leaves old new)
+made_after run leaves old now new made (Err e) ok = tt
+made_after run leaves old now new made (Ok a) ok = made_more run leaves old now new made ok
 
-pub fails_after : {S : Type 0} (seen : S → View) (old now new : InWorld S) → HasMade seen old now → FailsAtStore seen now new → FailsAtStore seen old new
-fails_after seen old now new made f =
-    record { before = f.before; made = made_more seen old now f.before made f.made; step = f.step; run = f.run; stores = f.stores; failed = f.failed }
+pub fails_after : {M : Type 0} (run : M → World) (leaves : Leaves M) (old now new : M) → HasMade run leaves old now
+    → FailsAtStore run leaves now new → FailsAtStore run leaves old new
+fails_after run leaves old now new made f = record {
+  before = f.before;
+  made = made_more run leaves old now f.before made f.made;
+  step = f.step;
+  same = f.same;
+  stores = f.stores;
+}
 
 -- ---- a fault
 
@@ -56,29 +60,26 @@ not_both r e f = absurd_of (sym e ∙ f)
     absurd_of e = cc
 
 -- the step failed at a store, and none was made before
-pub failed_here : {S A : Type 0} (seen : S → View) (old new : InWorld S) (step : Step) (fault : StepFault) (result : Result A Fault)
-    → IsErrAnd result (λ e. e ≡ fault_of_step fault) → new.run ≡ old.run
-    → StoresLeft (λ g. seen_of seen g) (opening_in old.run.lists) old.run.past step old.guardians new.guardians (Some fault)
-    → (refused {A = Answer} fault ≡ refused of_step.Stable → HasFailed (λ g. seen_of seen g) old.guardians new.guardians)
-    → IsErrOf result Store → FailsAtStore seen old new
-failed_here seen old new step fault (Ok a) is run stores failed e = absurd is
-failed_here seen old new step of_step.Memory (Err x) is run stores failed e = absurd (not_both (Err x) (ap (λ y. Err y) is) e)
-failed_here seen old new step of_step.Stable (Err x) is run stores failed e = record {
+pub failed_here : {M A : Type 0} (run : M → World) (leaves : Leaves M) (old new : M) (step : Step) (fault : StepFault)
+    (result : Result A Fault) → IsErrAnd result (λ e. e ≡ fault_of_step fault) → run new ≡ run old
+    → leaves step (Some fault) old new → IsErrOf result Store → FailsAtStore run leaves old new
+failed_here run leaves old new step fault (Ok a) is same stores e = absurd is
+failed_here run leaves old new step of_step.Memory (Err x) is same stores e = absurd (not_both (Err x) (ap (λ y. Err y) is) e)
+failed_here run leaves old new step of_step.Stable (Err x) is same stores e = record {
   before = old;
-  made = made_none seen old;
+  made = made_none run leaves old;
   step = step;
-  run = run;
+  same = same;
   stores = stores;
-  failed = failed refl;
 }
 
 -- seen from before the steps that were made
-pub failed_later : {S A B : Type 0} {seen : S → View} {old now new : InWorld S} (fault : Fault) (result : Result A Fault)
-    → IsErrAnd result (λ e. e ≡ fault) → HasMade seen old now → (refused {A = B} fault ≡ refused Store → FailsAtStore seen now new)
-    → IsErrOf result Store → FailsAtStore seen old new
+pub failed_later : {M A B : Type 0} {run : M → World} {leaves : Leaves M} {old now new : M} (fault : Fault) (result : Result A Fault)
+    → IsErrAnd result (λ e. e ≡ fault) → HasMade run leaves old now
+    → (refused {A = B} fault ≡ refused Store → FailsAtStore run leaves now new) → IsErrOf result Store → FailsAtStore run leaves old new
 failed_later fault (Ok a) is m fails e = absurd is
-failed_later {A = A} {B = B} {seen = seen} {old = old} {now = now} {new = new} fault (Err x) is m fails e =
-    fails_after seen old now new m (fails (ap (λ y. refused {A = B} y) (sym is ∙ same x e)))
+failed_later {A = A} {B = B} {run = run} {leaves = leaves} {old = old} {now = now} {new = new} fault (Err x) is m fails e =
+    fails_after run leaves old now new m (fails (ap (λ y. refused {A = B} y) (sym is ∙ same x e)))
   where
     same : (x : Fault) → refused {A = A} x ≡ refused Store → x ≡ Store
     same x e = cc

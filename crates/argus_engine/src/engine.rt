@@ -9,11 +9,11 @@ ghost use Rattle.argus_engine.specs.declared.engine.Fault.TheVariants.{Store};
 use crate::reading::{Line, Met, front_of, read_line};
 use crate::writing::{finish, send_if_full};
 use run_model::{Answer, MAX_LINE, Step};
-use stable_store::{Stable, StoreFault};
+use stable_store::StoreFault;
 use std::alloc::{AllocError, AllocFailed, Global};
 use std::io::{BufRead, BufReader, ErrorKind, Read, Write};
+use stepping::MakesSteps;
 use thiserror::Error;
-use world::World;
 
 /// How the engine came to its end.
 #[derive(Clone, Copy, Debug, PartialEq, Eq, Drop)]
@@ -77,16 +77,16 @@ impl From<StoreFault> for Fault {
     }
 }
 
-impl From<world::Fault> for Fault {
+impl From<stepping::Fault> for Fault {
     ghost use Rattle.std.specs.Prelude.{◌≡◌};
     ghost use Rattle.argus_engine.specs.Serving.{fault_of_step};
 
     ghost from_gives = { λ fault e. e ≡ fault_of_step fault };
 
-    fn from(fault: world::Fault) -> Fault {
+    fn from(fault: stepping::Fault) -> Fault {
         match fault {
-            world::Fault::Memory => Fault::Memory,
-            world::Fault::Stable => Fault::Store,
+            stepping::Fault::Memory => Fault::Memory,
+            stepping::Fault::Stable => Fault::Store,
         }
     }
 }
@@ -105,19 +105,19 @@ pub(crate) enum Next {
 /// that belong to some beginning of it; of the world it is then said that its setup is the same and its history a run. `Store` comes only
 /// where a step failed at the store of a guardian, which then has counted one failure more; the world and the contents of the stores are as the
 /// steps before left them.
-pub fn steps<S: Stable, R: Read, W: Write>(
+pub fn steps<M: MakesSteps, R: Read, W: Write>(
     alloc: Global,
-    world: &mut World<S>,
+    world: &mut M,
     reader: &mut R,
     writer: &mut W,
 ) -> Result<Ended, Fault>
     ensures ok { IfOk result (λ ended. Writes (W.contents writer.old) (W.contents writer.new)
-        (λ written. Answers (R.remaining reader.old) world.old.run world.new.run written ended)) }
+        (λ written. Answers (R.remaining reader.old) (M.run world.old) (M.run world.new) written ended)) }
     // also after a fault
     ensures begun { Writes (W.contents writer.old) (W.contents writer.new)
-        (λ written. BeginsAnswers (R.remaining reader.old) world.old.run written) }
-    ensures setup { world.new.run.lists ≡ world.old.run.lists }
-    ensures cause { IsErrOf result Store → FailsAtStore S.seen world.old world.new }
+        (λ written. BeginsAnswers (R.remaining reader.old) (M.run world.old) written) }
+    ensures setup { (M.run world.new).lists ≡ (M.run world.old).lists }
+    ensures cause { IsErrOf result Store → FailsAtStore M.run M.leaves world.old world.new }
 {
     let Ok(mut buffered) = BufReader::new(alloc, reader) else {
         return Err(Fault::Memory);
@@ -131,20 +131,20 @@ pub fn steps<S: Stable, R: Read, W: Write>(
 }
 
 /// Answers line after line. Answers that are not yet written are left in the text, also after a fault.
-fn answer_all<S: Stable, R: BufRead, W: Write>(
+fn answer_all<M: MakesSteps, R: BufRead, W: Write>(
     alloc: Global,
-    world: &mut World<S>,
+    world: &mut M,
     reader: &mut R,
     writer: &mut W,
     answers: &mut String,
 ) -> Result<Ended, Fault>
     requires { string_bytes answers.old ≡ [] }
     ensures ok { IfOk result (λ ended. Writes (W.contents writer.old) (W.contents writer.new)
-        (λ sent. Answers (R.remaining reader.old) world.old.run world.new.run (sent ++ string_bytes answers.new) ended)) }
+        (λ sent. Answers (R.remaining reader.old) (M.run world.old) (M.run world.new) (sent ++ string_bytes answers.new) ended)) }
     ensures begun { Writes (W.contents writer.old) (W.contents writer.new)
-        (λ sent. BeginsAnswers (R.remaining reader.old) world.old.run (sent ++ string_bytes answers.new)) }
-    ensures setup { world.new.run.lists ≡ world.old.run.lists }
-    ensures cause { IsErrOf result Store → FailsAtStore S.seen world.old world.new }
+        (λ sent. BeginsAnswers (R.remaining reader.old) (M.run world.old) (sent ++ string_bytes answers.new)) }
+    ensures setup { (M.run world.new).lists ≡ (M.run world.old).lists }
+    ensures cause { IsErrOf result Store → FailsAtStore M.run M.leaves world.old world.new }
 {
     let mut line = Vec::new(alloc);
     for number in 1..u64::MAX {
@@ -162,20 +162,20 @@ fn answer_all<S: Stable, R: BufRead, W: Write>(
 }
 
 /// Reads one line, makes its step and appends the line of its answer. After a fault the text is as it was.
-fn answer_next<S: Stable, R: BufRead>(
+fn answer_next<M: MakesSteps, R: BufRead>(
     alloc: Global,
-    world: &mut World<S>,
+    world: &mut M,
     reader: &mut R,
     line: &mut Vec<u8>,
     answers: &mut String,
 ) -> Result<Next, Fault>
-    ensures ok { IfOk result (λ next. GoesOn (R.remaining reader.old) (R.remaining reader.new) world.old.run world.new.run
+    ensures ok { IfOk result (λ next. GoesOn (R.remaining reader.old) (R.remaining reader.new) (M.run world.old) (M.run world.new)
         (string_bytes answers.old) (string_bytes answers.new) next) }
     ensures err { OnErr result (string_bytes answers.new ≡ string_bytes answers.old) }
-    ensures setup { world.new.run.lists ≡ world.old.run.lists }
-    ensures made { OnOk result (HasMade S.seen world.old world.new) }
+    ensures setup { (M.run world.new).lists ≡ (M.run world.old).lists }
+    ensures made { OnOk result (HasMade M.run M.leaves world.old world.new) }
     ensures fault { IfErr result IsOfReaderOrStep }
-    ensures cause { IsErrOf result Store → FailsAtStore S.seen world.old world.new }
+    ensures cause { IsErrOf result Store → FailsAtStore M.run M.leaves world.old world.new }
 {
     match answer_ready(alloc, world, reader, answers)? {
         Some(next) => Ok(next),
@@ -185,19 +185,19 @@ fn answer_next<S: Stable, R: BufRead>(
 
 /// Where the reader has the next line ready with its line feed, makes its step and appends the line of its answer. The line is read where it lies.
 /// Otherwise nothing is read; at the end of the input the reader is not asked again. After a fault the text is as it was.
-fn answer_ready<S: Stable, R: BufRead>(
+fn answer_ready<M: MakesSteps, R: BufRead>(
     alloc: Global,
-    world: &mut World<S>,
+    world: &mut M,
     reader: &mut R,
     answers: &mut String,
 ) -> Result<Option<Next>, Fault>
-    ensures ok { IfOk result (MayGoOn (R.remaining reader.old) (R.remaining reader.new) world.old.run world.new.run
+    ensures ok { IfOk result (MayGoOn (R.remaining reader.old) (R.remaining reader.new) (M.run world.old) (M.run world.new)
         (string_bytes answers.old) (string_bytes answers.new)) }
     ensures err { OnErr result (string_bytes answers.new ≡ string_bytes answers.old) }
-    ensures setup { world.new.run.lists ≡ world.old.run.lists }
-    ensures made { OnOk result (HasMade S.seen world.old world.new) }
+    ensures setup { (M.run world.new).lists ≡ (M.run world.old).lists }
+    ensures made { OnOk result (HasMade M.run M.leaves world.old world.new) }
     ensures fault { IfErr result IsOfReaderOrStep }
-    ensures cause { IsErrOf result Store → FailsAtStore S.seen world.old world.new }
+    ensures cause { IsErrOf result Store → FailsAtStore M.run M.leaves world.old world.new }
 {
     let ready = match reader.fill_buf() {
         Ok(ready) => ready,
@@ -220,20 +220,20 @@ fn answer_ready<S: Stable, R: BufRead>(
 
 /// Reads one line piece by piece, makes its step and appends the line of its answer. After a fault the text is as it was.
 #[tactic(auto, using(crate::proofs::Bytes::line_is_no_step))]
-fn answer_read<S: Stable, R: BufRead>(
+fn answer_read<M: MakesSteps, R: BufRead>(
     alloc: Global,
-    world: &mut World<S>,
+    world: &mut M,
     reader: &mut R,
     line: &mut Vec<u8>,
     answers: &mut String,
 ) -> Result<Next, Fault>
-    ensures ok { IfOk result (λ next. GoesOn (R.remaining reader.old) (R.remaining reader.new) world.old.run world.new.run
+    ensures ok { IfOk result (λ next. GoesOn (R.remaining reader.old) (R.remaining reader.new) (M.run world.old) (M.run world.new)
         (string_bytes answers.old) (string_bytes answers.new) next) }
     ensures err { OnErr result (string_bytes answers.new ≡ string_bytes answers.old) }
-    ensures setup { world.new.run.lists ≡ world.old.run.lists }
-    ensures made { OnOk result (HasMade S.seen world.old world.new) }
+    ensures setup { (M.run world.new).lists ≡ (M.run world.old).lists }
+    ensures made { OnOk result (HasMade M.run M.leaves world.old world.new) }
     ensures fault { IfErr result IsOfReaderOrStep }
-    ensures cause { IsErrOf result Store → FailsAtStore S.seen world.old world.new }
+    ensures cause { IsErrOf result Store → FailsAtStore M.run M.leaves world.old world.new }
 {
     match read_line(reader, line)? {
         Line::Whole => match answer_line(alloc, world, line, answers)? {
@@ -247,18 +247,18 @@ fn answer_read<S: Stable, R: BufRead>(
 
 /// Makes the step that the line spells and appends the line of its answer; `false` where the line spells no step. After a
 /// fault the text is as it was.
-fn answer_line<S: Stable>(
+fn answer_line<M: MakesSteps>(
     alloc: Global,
-    world: &mut World<S>,
+    world: &mut M,
     line: &[u8],
     answers: &mut String,
 ) -> Result<bool, Fault>
-    ensures ok { IfOk result (AnswersLine line.now world.old.run world.new.run (string_bytes answers.old) (string_bytes answers.new)) }
+    ensures ok { IfOk result (AnswersLine line.now (M.run world.old) (M.run world.new) (string_bytes answers.old) (string_bytes answers.new)) }
     ensures err { OnErr result (string_bytes answers.new ≡ string_bytes answers.old) }
-    ensures setup { world.new.run.lists ≡ world.old.run.lists }
-    ensures made { OnOk result (HasMade S.seen world.old world.new) }
+    ensures setup { (M.run world.new).lists ≡ (M.run world.old).lists }
+    ensures made { OnOk result (HasMade M.run M.leaves world.old world.new) }
     ensures fault { IfErr result IsOfStep }
-    ensures cause { IsErrOf result Store → FailsAtStore S.seen world.old world.new }
+    ensures cause { IsErrOf result Store → FailsAtStore M.run M.leaves world.old world.new }
 {
     let Some(step) = Step::read(alloc, line)? else {
         return Ok(false);

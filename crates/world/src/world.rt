@@ -14,7 +14,7 @@ ghost use Rattle.std.specs.Arc.{arc_value};
 ghost use Rattle.recovery_laws.specs.Runs.{AreOfRun};
 ghost use Rattle.world.specs.Running.{Ran, RanBefore};
 ghost use Rattle.world.specs.Stops.{IsKeptBetweenSteps, IsKeptThroughStops, StayUp, contents_of};
-ghost use Rattle.world.specs.Worlds.{AreOpened, seen_of, store_in};
+ghost use Rattle.world.specs.Worlds.{AreOpened, LeavesStores, seen_of, store_in};
 
 use crate::beginning::{Beginning, empty_stores, guardians};
 use guardian::Guardian;
@@ -26,6 +26,7 @@ use stable_store::{PlainStable, Stable};
 use std::alloc::{AllocError, Global};
 use std::marker::Model;
 use std::sync::Arc;
+use stepping::MakesSteps;
 
 /// Guardians over stable stores, their objects and the actions on them.
 #[derive(Drop)]
@@ -249,5 +250,21 @@ impl<S: Stable> World<S> {
             ..
         } = self;
         (opening, registry, guardians)
+    }
+}
+
+impl<S: Stable> MakesSteps for World<S> {
+    ghost run = { λ w. w.run };
+
+    ghost leaves = { λ step fault old new. LeavesStores S.seen step fault old new };
+
+    fn step(&mut self, step: &Step) -> Result<Answer, Fault> {
+        World::step(self, step)
+    }
+
+    fn opening(&self) -> &Opening {
+        // so that what happened is known to be a run
+        let _ = self.history();
+        World::opening(self)
     }
 }

@@ -6,9 +6,9 @@ use Rattle.activities.proofs.open_action.tell.Given as goal
 
 abbrev pub invariant-loop-guardian : goal.invariant-loop-guardian
 invariant-loop-guardian g l = record {
-  goes_on : GoesOn l.fn.world.run l.world.run [];
-  own : KeepsTo (l.action ∷ []) l.fn.world.run l.world.run;
-  commits : CommitsNone l.fn.world.run l.world.run;
-  ends : EndsAll l.fn.world.run l.world.run;
-  means : once_told l.action l.guardian-iterator l.world.run ≡ once_told l.action l.guardians.keys l.fn.world.run;
+  goes_on : GoesOn (g.W.MakesSteps.run l.fn.world) (g.W.MakesSteps.run l.world) [];
+  own : KeepsTo (l.action ∷ []) (g.W.MakesSteps.run l.fn.world) (g.W.MakesSteps.run l.world);
+  commits : CommitsNone (g.W.MakesSteps.run l.fn.world) (g.W.MakesSteps.run l.world);
+  ends : EndsAll (g.W.MakesSteps.run l.fn.world) (g.W.MakesSteps.run l.world);
+  means : once_told l.action l.guardian-iterator (g.W.MakesSteps.run l.world) ≡ once_told l.action l.guardians.keys (g.W.MakesSteps.run l.fn.world);
 }

@@ -7,7 +7,7 @@ use Rattle.activities.proofs.serial.begin_top.Goals as goal
 
 pub only-requires : goal.only-requires
 only-requires g c =
-    top_begins_one (opening_in c.args.world.now.run.lists) c.args.home c.args.world.now.run.past c.in-Began.names
+    top_begins_one (opening_in (g.W.MakesSteps.run c.args.world.now).lists) c.args.home (g.W.MakesSteps.run c.args.world.now).past c.in-Began.names
     (sym c.in-Began.is ∙ c.in_ok-names.ensures.answer)
 
 pub returns-clause-begun : goal.returns-clause-begun

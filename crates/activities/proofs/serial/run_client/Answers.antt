@@ -11,7 +11,7 @@ use Rattle.activities.proofs.serial.run_client.Goals as goal
 pub returns-in_default : goal.returns-in_default
 returns-in_default g c = record {
   ok =
-      top_lacks c.args.script.now.handlers c.args.client.now c.args.world.now.run c.begin_top.new.world.run c.in_ok-name.field-0 c.in_ok-name.ensures.after
+      top_lacks c.args.script.now.handlers c.args.client.now (g.W.MakesSteps.run c.args.world.now) (g.W.MakesSteps.run c.begin_top.new.world) c.in_ok-name.field-0 c.in_ok-name.ensures.after
       c.in_ok-name.ensures.begun c.in_default.is;
   err = tt;
 }
@@ -23,8 +23,8 @@ run-requires-clause-body g c =
 
 pub returns-in_err-flow-clause-err : goal.returns-in_err-flow-clause-err
 returns-in_err-flow-clause-err g c =
-    on_err _ (cut_after c.args.client.now.home c.args.world.now.run c.begin_top.new.world.run c.run.new.world.run c.new-top.result.name
-    (top_named c.args.client.now.home c.args.world.now.run c.begin_top.new.world.run c.in_ok-name.field-0 c.in-Some.name c.new-top.result.name
+    on_err _ (cut_after c.args.client.now.home (g.W.MakesSteps.run c.args.world.now) (g.W.MakesSteps.run c.begin_top.new.world) (g.W.MakesSteps.run c.run.new.world) c.new-top.result.name
+    (top_named c.args.client.now.home (g.W.MakesSteps.run c.args.world.now) (g.W.MakesSteps.run c.begin_top.new.world) c.in_ok-name.field-0 c.in-Some.name c.new-top.result.name
     c.requires.run c.in_ok-name.ensures.after c.in_ok-name.ensures.begun c.in-Some.is c.new-top.ensures.name)
     c.run.ensures.goes_on c.run.ensures.others c.run.ensures.own)
 
@@ -33,8 +33,8 @@ returns-clause-ok g c =
     let script = c.args.script.now in
     let home = c.args.client.now.home in
     let a = c.in-Some.name in
-    let y = c.begin_top.new.world.run in
-    let r : Done = done c.run.new.world.run c.run.new.self.left c.run.new.action c.run.new.frames c.in_ok-flow.flow in
+    let y = (g.W.MakesSteps.run c.begin_top.new.world) in
+    let r : Done = done (g.W.MakesSteps.run c.run.new.world) c.run.new.self.left c.run.new.action c.run.new.frames c.in_ok-flow.flow in
     let acts : acting c.new-top.result ≡ begun_at home a =
     acting_begun c.new-top.result a home c.new-top.ensures.name c.new-top.ensures.home
     (ap (λ x. x.homes.keys) c.new-top.ensures.reached ∙ c.in_ok-reached.ensures.homes)
@@ -49,7 +49,7 @@ returns-clause-ok g c =
     subst (λ n. ComesSo script n r
     (λ go. run go (acting c.new-top.result) c.new-frames.result c.as_slice-body.result.now (doing y n c.new-top.result c.new-frames.result)))
     c.new-2.ensures.left own in
-    top_runs script c.args.client.now c.args.world.now.run y c.in_ok-name.field-0 a r c.end_of.result c.in_ok-name.ensures.after c.in_ok-name.ensures.begun
+    top_runs script c.args.client.now (g.W.MakesSteps.run c.args.world.now) y c.in_ok-name.field-0 a r c.end_of.result c.in_ok-name.ensures.after c.in_ok-name.ensures.begun
     c.in-Some.is
     (λ most h. whole most h
     ∙ run_named (body_done script.handlers most) (acting c.new-top.result) (begun_at home a) c.new-frames.result nothing_bound c.as_slice-body.result.now

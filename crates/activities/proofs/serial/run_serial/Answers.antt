@@ -8,60 +8,60 @@ use Rattle.activities.proofs.serial.run_serial.Goals.{in-Err, in-Ok+in_ok-reserv
 
 pub returns-in_err-ends-clause-err : goal.returns-in_err-ends-clause-err
 returns-in_err-ends-clause-err g c =
-    on_err _ (some_tried c.as_slice-clients.result.now c.args.script.now.clients 0 c.args.world.now.run c.args.world.now.run c.as_slice-clients.ensures
-    (none_tried c.as_slice-clients.result.now c.args.world.now.run c.history.ensures.served.is_run))
+    on_err _ (some_tried c.as_slice-clients.result.now c.args.script.now.clients 0 (g.W.MakesSteps.run c.args.world.now) (g.W.MakesSteps.run c.args.world.now) c.as_slice-clients.ensures
+    (none_tried c.as_slice-clients.result.now (g.W.MakesSteps.run c.args.world.now) c.opening.ensures.is_run))
 
 pub loop-client-init : goal.loop-client-init
 loop-client-init g c = record {
-  tried = none_tried c.as_slice-clients.result.now c.args.world.now.run c.history.ensures.served.is_run;
-  ran = ap (λ l. record { world = c.args.world.now.run; ends = l }) c.in_ok-ends.ensures.items;
+  tried = none_tried c.as_slice-clients.result.now (g.W.MakesSteps.run c.args.world.now) c.opening.ensures.is_run;
+  ran = ap (λ l. record { world = (g.W.MakesSteps.run c.args.world.now); ends = l }) c.in_ok-ends.ensures.items;
 }
 
 pub returns-in_err-reserve-in-Ok-clause-err : goal.returns-in_err-reserve-in-Ok-clause-err
 returns-in_err-reserve-in-Ok-clause-err g c =
-    on_err _ (some_tried c.as_slice-clients.result.now c.args.script.now.clients (c.loop-client.client-index + 1) c.args.world.now.run
-    c.run_client.new.world.run c.as_slice-clients.ensures
-    (ran_is_tried c.args.script.now.handlers c.as_slice-clients.result.now c.loop-client.client-index c.client-item.result c.args.world.now.run c.loop-client.world.run
-    c.run_client.new.world.run c.in-Ok.end (omega arith) c.client-item.is c.loop-client.invariant.tried c.in-Ok.ensures.ok))
+    on_err _ (some_tried c.as_slice-clients.result.now c.args.script.now.clients (c.loop-client.client-index + 1) (g.W.MakesSteps.run c.args.world.now)
+    (g.W.MakesSteps.run c.run_client.new.world) c.as_slice-clients.ensures
+    (ran_is_tried c.args.script.now.handlers c.as_slice-clients.result.now c.loop-client.client-index c.client-item.result (g.W.MakesSteps.run c.args.world.now) (g.W.MakesSteps.run c.loop-client.world)
+    (g.W.MakesSteps.run c.run_client.new.world) c.in-Ok.end (omega arith) c.client-item.is c.loop-client.invariant.tried c.in-Ok.ensures.ok))
 
 pub loop-client-preserved : goal.loop-client-preserved
 loop-client-preserved g c = elim c.match-run_client.branch [
   | in-Ok+in_ok-reserve-in-Ok w ↦ record {
     tried =
-        ran_is_tried c.args.script.now.handlers c.as_slice-clients.result.now c.loop-client.client-index c.client-item.result c.args.world.now.run c.loop-client.world.run
-        c.run_client.new.world.run w.in-Ok.end (omega arith) c.client-item.is c.loop-client.invariant.tried w.in-Ok.ensures.ok;
+        ran_is_tried c.args.script.now.handlers c.as_slice-clients.result.now c.loop-client.client-index c.client-item.result (g.W.MakesSteps.run c.args.world.now) (g.W.MakesSteps.run c.loop-client.world)
+        (g.W.MakesSteps.run c.run_client.new.world) w.in-Ok.end (omega arith) c.client-item.is c.loop-client.invariant.tried w.in-Ok.ensures.ok;
     ran =
-        subst (λ f. IfOk f (λ u. record { world = c.run_client.new.world.run; ends = c.match-run_client.ends.items }
-        ≡ clients_ran c.args.script.now.handlers (take (c.loop-client.client-index + 1) c.as_slice-clients.result.now) c.args.world.now.run)) (sym w.fault-is)
+        subst (λ f. IfOk f (λ u. record { world = (g.W.MakesSteps.run c.run_client.new.world); ends = c.match-run_client.ends.items }
+        ≡ clients_ran c.args.script.now.handlers (take (c.loop-client.client-index + 1) c.as_slice-clients.result.now) (g.W.MakesSteps.run c.args.world.now))) (sym w.fault-is)
         (if_ok_then c.loop-client.fault c.loop-client.invariant.ran
-        (λ u e. ap (λ l. record { world = c.run_client.new.world.run; ends = l })
+        (λ u e. ap (λ l. record { world = (g.W.MakesSteps.run c.run_client.new.world); ends = l })
         (ap (λ v. v.items) w.ends-is ∙ w.push_reserved.ensures.items ∙ ap (λ l. l ++ w.in-Ok.end ∷ []) w.reserve.ensures.items)
-        ∙ one_more_ran c.args.script.now.handlers (take c.loop-client.client-index c.as_slice-clients.result.now) c.client-item.result c.args.world.now.run
-        c.loop-client.world.run c.run_client.new.world.run c.loop-client.ends.items w.in-Ok.end e w.in-Ok.ensures.ok
-        ∙ ap (λ l. clients_ran c.args.script.now.handlers l c.args.world.now.run)
+        ∙ one_more_ran c.args.script.now.handlers (take c.loop-client.client-index c.as_slice-clients.result.now) c.client-item.result (g.W.MakesSteps.run c.args.world.now)
+        (g.W.MakesSteps.run c.loop-client.world) (g.W.MakesSteps.run c.run_client.new.world) c.loop-client.ends.items w.in-Ok.end e w.in-Ok.ensures.ok
+        ∙ ap (λ l. clients_ran c.args.script.now.handlers l (g.W.MakesSteps.run c.args.world.now))
         (ap (λ x. take c.loop-client.client-index c.as_slice-clients.result.now ++ (x ∷ [])) c.client-item.is
         ∙ sym (take_more c.as_slice-clients.result.now c.loop-client.client-index c.client-item.result (omega arith)))));
   }
   | in-Err w ↦ record {
     tried =
-        cut_is_tried c.as_slice-clients.result.now c.loop-client.client-index c.client-item.result c.args.world.now.run c.loop-client.world.run
-        c.run_client.new.world.run (omega arith) c.client-item.is c.loop-client.invariant.tried w.in-Err.ensures.err;
+        cut_is_tried c.as_slice-clients.result.now c.loop-client.client-index c.client-item.result (g.W.MakesSteps.run c.args.world.now) (g.W.MakesSteps.run c.loop-client.world)
+        (g.W.MakesSteps.run c.run_client.new.world) (omega arith) c.client-item.is c.loop-client.invariant.tried w.in-Err.ensures.err;
     ran = if_err c.match-run_client.fault _ _ w.fault-is;
   }
 ]
 
 pub returns-in_err-fault-clause-err : goal.returns-in_err-fault-clause-err
 returns-in_err-fault-clause-err g c =
-    on_err _ (some_tried c.as_slice-clients.result.now c.args.script.now.clients c.loop-client.client-index c.args.world.now.run
-    c.loop-client.world.run c.as_slice-clients.ensures c.loop-client.invariant.tried)
+    on_err _ (some_tried c.as_slice-clients.result.now c.args.script.now.clients c.loop-client.client-index (g.W.MakesSteps.run c.args.world.now)
+    (g.W.MakesSteps.run c.loop-client.world) c.as_slice-clients.ensures c.loop-client.invariant.tried)
 
 pub returns : goal.returns
 returns g c = record {
   ok =
-      if_ok_at (λ u. record { world = c.loop-client.world.run; ends = c.loop-client.ends.items }
-      ≡ clients_ran c.args.script.now.handlers (take c.loop-client.client-index c.as_slice-clients.result.now) c.args.world.now.run)
+      if_ok_at (λ u. record { world = (g.W.MakesSteps.run c.loop-client.world); ends = c.loop-client.ends.items }
+      ≡ clients_ran c.args.script.now.handlers (take c.loop-client.client-index c.as_slice-clients.result.now) (g.W.MakesSteps.run c.args.world.now))
       c.loop-client.fault c.in_ok-fault.field-0 c.in_ok-fault.was c.loop-client.invariant.ran
-      ∙ ap (λ l. clients_ran c.args.script.now.handlers l c.args.world.now.run)
+      ∙ ap (λ l. clients_ran c.args.script.now.handlers l (g.W.MakesSteps.run c.args.world.now))
       (take_all c.loop-client.client-index c.as_slice-clients.result.now (omega arith) ∙ c.as_slice-clients.ensures);
   err = tt;
 }

@@ -4,7 +4,7 @@ use Rattle.argus_engine.proofs.Progressed.{started, went_on, sent_some, begun, b
 use Rattle.argus_engine.proofs.engine.answer_all.Goals as goal
 
 pub loop-number-init : goal.loop-number-init
-loop-number-init g c = record { running = started _ _ _ _ c.requires; made = made_none _ _ }
+loop-number-init g c = record { running = started _ _ _ _ c.requires; made = made_none g.M.MakesSteps.run g.M.MakesSteps.leaves _ }
 
 pub returns-in_err-answer_next-clause-cause : goal.returns-in_err-answer_next-clause-cause
 returns-in_err-answer_next-clause-cause g c =
@@ -21,32 +21,32 @@ returns-in_err-push_error-in-NoStep-clause-begun g c =
 
 pub returns-in-NoStep-clause-ok : goal.returns-in-NoStep-clause-ok
 returns-in-NoStep-clause-ok g c =
-    stopped (g.R.Read.remaining c.answer_next.new.reader) c.answer_next.new.world.run (string_bytes c.answer_next.new.answers) (string_bytes c.push_error.new.answers) c.in_ok-answer_next.field-0 c.loop-number.invariant.running
+    stopped (g.R.Read.remaining c.answer_next.new.reader) (g.M.MakesSteps.run c.answer_next.new.world) (string_bytes c.answer_next.new.answers) (string_bytes c.push_error.new.answers) c.in_ok-answer_next.field-0 c.loop-number.invariant.running
     c.in_ok-answer_next.ensures.ok c.in-NoStep.is c.in_ok-push_error-in-NoStep.ensures.ok
 
 pub returns-in-NoStep-clause-begun : goal.returns-in-NoStep-clause-begun
 returns-in-NoStep-clause-begun g c =
-    begun_of_answers _ _ _ _ _ _ _ (stopped (g.R.Read.remaining c.answer_next.new.reader) c.answer_next.new.world.run (string_bytes c.answer_next.new.answers) (string_bytes c.push_error.new.answers) c.in_ok-answer_next.field-0 c.loop-number.invariant.running
+    begun_of_answers _ _ _ _ _ _ _ (stopped (g.R.Read.remaining c.answer_next.new.reader) (g.M.MakesSteps.run c.answer_next.new.world) (string_bytes c.answer_next.new.answers) (string_bytes c.push_error.new.answers) c.in_ok-answer_next.field-0 c.loop-number.invariant.running
     c.in_ok-answer_next.ensures.ok c.in-NoStep.is c.in_ok-push_error-in-NoStep.ensures.ok)
 
 pub returns-in-End-clause-ok : goal.returns-in-End-clause-ok
-returns-in-End-clause-ok g c = done (g.R.Read.remaining c.answer_next.new.reader) c.answer_next.new.world.run (string_bytes c.answer_next.new.answers) c.in_ok-answer_next.field-0 c.loop-number.invariant.running c.in_ok-answer_next.ensures.ok c.in-End.is
+returns-in-End-clause-ok g c = done (g.R.Read.remaining c.answer_next.new.reader) (g.M.MakesSteps.run c.answer_next.new.world) (string_bytes c.answer_next.new.answers) c.in_ok-answer_next.field-0 c.loop-number.invariant.running c.in_ok-answer_next.ensures.ok c.in-End.is
 
 pub returns-in-End-clause-begun : goal.returns-in-End-clause-begun
-returns-in-End-clause-begun g c = begun_of_answers _ _ _ _ _ _ _ (done (g.R.Read.remaining c.answer_next.new.reader) c.answer_next.new.world.run (string_bytes c.answer_next.new.answers) c.in_ok-answer_next.field-0 c.loop-number.invariant.running c.in_ok-answer_next.ensures.ok c.in-End.is)
+returns-in-End-clause-begun g c = begun_of_answers _ _ _ _ _ _ _ (done (g.R.Read.remaining c.answer_next.new.reader) (g.M.MakesSteps.run c.answer_next.new.world) (string_bytes c.answer_next.new.answers) c.in_ok-answer_next.field-0 c.loop-number.invariant.running c.in_ok-answer_next.ensures.ok c.in-End.is)
 
 pub returns-in_err-send_if_full-clause-begun : goal.returns-in_err-send_if_full-clause-begun
 returns-in_err-send_if_full-clause-begun g c =
     begun_part (g.W.Write.contents c.send_if_full.new.writer) (string_bytes c.send_if_full.new.text)
-    (went_on (g.R.Read.remaining c.answer_next.new.reader) c.answer_next.new.world.run (string_bytes c.answer_next.new.answers) c.in_ok-answer_next.field-0 c.loop-number.invariant.running c.in_ok-answer_next.ensures.ok c.in-Answered.is)
+    (went_on (g.R.Read.remaining c.answer_next.new.reader) (g.M.MakesSteps.run c.answer_next.new.world) (string_bytes c.answer_next.new.answers) c.in_ok-answer_next.field-0 c.loop-number.invariant.running c.in_ok-answer_next.ensures.ok c.in-Answered.is)
     c.in_err-send_if_full.ensures.err.0 c.in_err-send_if_full.ensures.err.1
 
 pub loop-number-preserved : goal.loop-number-preserved
 loop-number-preserved g c = record {
   running =
       sent_some (g.W.Write.contents c.send_if_full.new.writer) (string_bytes c.send_if_full.new.text)
-      (went_on (g.R.Read.remaining c.answer_next.new.reader) c.answer_next.new.world.run (string_bytes c.answer_next.new.answers) c.in_ok-answer_next.field-0 c.loop-number.invariant.running c.in_ok-answer_next.ensures.ok c.in-Answered.is) c.in_ok-send_if_full.ensures.ok;
-  made = made_more g.S.Stable.seen c.args.world.now c.loop-number.world c.answer_next.new.world c.loop-number.invariant.made c.in_ok-answer_next.ensures.made;
+      (went_on (g.R.Read.remaining c.answer_next.new.reader) (g.M.MakesSteps.run c.answer_next.new.world) (string_bytes c.answer_next.new.answers) c.in_ok-answer_next.field-0 c.loop-number.invariant.running c.in_ok-answer_next.ensures.ok c.in-Answered.is) c.in_ok-send_if_full.ensures.ok;
+  made = made_more g.M.MakesSteps.run g.M.MakesSteps.leaves c.args.world.now c.loop-number.world c.answer_next.new.world c.loop-number.invariant.made c.in_ok-answer_next.ensures.made;
 }
 
 pub returns-clause-begun : goal.returns-clause-begun

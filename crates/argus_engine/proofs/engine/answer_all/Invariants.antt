@@ -8,6 +8,6 @@ abbrev pub invariant-loop-number : goal.invariant-loop-number
 invariant-loop-number g l = record {
   running :
       Running (g.R.Read.remaining l.fn.reader) (g.R.Read.remaining l.reader) (g.W.Write.contents l.fn.writer) (g.W.Write.contents l.writer)
-      l.fn.world.run l.world.run l.number (string_bytes l.answers);
-  made : HasMade g.S.Stable.seen l.fn.world l.world;
+      (g.M.MakesSteps.run l.fn.world) (g.M.MakesSteps.run l.world) l.number (string_bytes l.answers);
+  made : HasMade g.M.MakesSteps.run g.M.MakesSteps.leaves l.fn.world l.world;
 }

@@ -2,17 +2,17 @@ use Rattle.argus_engine.proofs.Stepped.{failed_here, fault_of_either, made_none,
 use Rattle.argus_engine.proofs.engine.answer_line.Goals as goal
 
 pub returns-in_default-clause-made : goal.returns-in_default-clause-made
-returns-in_default-clause-made g c = made_none _ _
+returns-in_default-clause-made g c = made_none g.M.MakesSteps.run g.M.MakesSteps.leaves _
 
 pub returns-in_err-answer-clause-fault : goal.returns-in_err-answer-clause-fault
 returns-in_err-answer-clause-fault g c = fault_of_either c.in_err-answer.field-0.0 c.from_residual-in_err-answer.result c.from_residual-in_err-answer.ensures.1
 
 pub returns-in_err-answer-clause-cause : goal.returns-in_err-answer-clause-cause
 returns-in_err-answer-clause-cause g c =
-    failed_here g.S.Stable.seen c.args.world.now c.step.new.self c.in-Some.step c.in_err-answer.field-0.0 c.from_residual-in_err-answer.result
-    c.from_residual-in_err-answer.ensures.1 c.in_err-answer.ensures.err c.in_err-answer.ensures.stores c.in_err-answer.ensures.cause
+    failed_here g.M.MakesSteps.run g.M.MakesSteps.leaves c.args.world.now c.step.new.self c.in-Some.step c.in_err-answer.field-0.0 c.from_residual-in_err-answer.result
+    c.from_residual-in_err-answer.ensures.1 c.in_err-answer.ensures.err c.in_err-answer.ensures.stores
 
 pub returns-clause-made : goal.returns-clause-made
 returns-clause-made g c =
-    made_one g.S.Stable.seen c.args.world.now c.step.new.self c.in-Some.step c.in_ok-answer.answer c.in_ok-answer.ensures.answer
+    made_one g.M.MakesSteps.run g.M.MakesSteps.leaves c.args.world.now c.step.new.self c.in-Some.step c.in_ok-answer.answer c.in_ok-answer.ensures.answer
     c.in_ok-answer.ensures.after c.in_ok-answer.ensures.stores

@@ -8,19 +8,19 @@ pub returns-in-None-clause-ok : goal.returns-in-None-clause-ok
 returns-in-None-clause-ok g c =
     let old = g.R.Read.remaining c.args.reader.now in
     let mid = g.R.Read.remaining c.answer_ready.new.reader in
-    let world = c.args.world.now.run in
-    let now = c.answer_ready.new.world.run in
+    let world = (g.M.MakesSteps.run c.args.world.now) in
+    let now = (g.M.MakesSteps.run c.answer_ready.new.world) in
     let pending = string_bytes c.args.answers.now in
     let held = string_bytes c.answer_ready.new.answers in
     let idle = subst (MayGoOn old mid world now pending held) c.in-None.is c.in_ok-next.ensures.ok in
-    goes_on_after old mid (g.R.Read.remaining c.answer_read.new.reader) world now c.answer_read.new.world.run pending held
+    goes_on_after old mid (g.R.Read.remaining c.answer_read.new.reader) world now (g.M.MakesSteps.run c.answer_read.new.world) pending held
     (string_bytes c.answer_read.new.answers) idle c.answer_read.result c.answer_read.ensures.ok
 
 pub returns-in-None-clause-made : goal.returns-in-None-clause-made
 returns-in-None-clause-made g c =
-    made_after g.S.Stable.seen c.args.world.now c.answer_ready.new.world c.answer_read.new.world c.in_ok-next.ensures.made c.answer_read.result
+    made_after g.M.MakesSteps.run g.M.MakesSteps.leaves c.args.world.now c.answer_ready.new.world c.answer_read.new.world c.in_ok-next.ensures.made c.answer_read.result
     c.answer_read.ensures.made
 
 pub returns-in-None-clause-cause : goal.returns-in-None-clause-cause
 returns-in-None-clause-cause g c e =
-    fails_after g.S.Stable.seen c.args.world.now c.answer_ready.new.world c.answer_read.new.world c.in_ok-next.ensures.made (c.answer_read.ensures.cause e)
+    fails_after g.M.MakesSteps.run g.M.MakesSteps.leaves c.args.world.now c.answer_ready.new.world c.answer_read.new.world c.in_ok-next.ensures.made (c.answer_read.ensures.cause e)

@@ -17,10 +17,10 @@ returns-in_err-answer_line-in-Whole-clause-fault g c =
 pub returns-in_err-answer_line-in-Whole-clause-cause : goal.returns-in_err-answer_line-in-Whole-clause-cause
 returns-in_err-answer_line-in-Whole-clause-cause g c =
     failed_later c.in_err-answer_line-in-Whole.field-0.0 c.from_residual-in_err-answer_line-in-Whole.result
-    c.from_residual-in_err-answer_line-in-Whole.ensures.1 (made_none g.S.Stable.seen c.args.world.now) c.in_err-answer_line-in-Whole.ensures.cause
+    c.from_residual-in_err-answer_line-in-Whole.ensures.1 (made_none g.M.MakesSteps.run g.M.MakesSteps.leaves c.args.world.now) c.in_err-answer_line-in-Whole.ensures.cause
 
 pub returns-in-Bad-clause-made : goal.returns-in-Bad-clause-made
-returns-in-Bad-clause-made g c = made_none _ _
+returns-in-Bad-clause-made g c = made_none g.M.MakesSteps.run g.M.MakesSteps.leaves _
 
 pub returns-in-Missing-clause-made : goal.returns-in-Missing-clause-made
-returns-in-Missing-clause-made g c = made_none _ _
+returns-in-Missing-clause-made g c = made_none g.M.MakesSteps.run g.M.MakesSteps.leaves _

@@ -18,8 +18,8 @@ returns-clause-ok g c =
     let taken = takes_line old (g.R.Read.remaining rested) new (g.R.BufRead.consumable_len rested) ready front.count front.taken before
     c.in-Ok.ensures.front c.in-Ok.ensures.end filled.0 filled.1 c.consume.ensures.bytes in
     let line = take front.count ready in
-    let world = c.args.world.now.run in
-    let after = c.answer_line.new.world.run in
+    let world = (g.M.MakesSteps.run c.args.world.now) in
+    let after = (g.M.MakesSteps.run c.answer_line.new.world) in
     let pending = string_bytes c.args.answers.now in
     let grown = string_bytes c.answer_line.new.answers in
     let answers = AnswersLine line world after pending grown in

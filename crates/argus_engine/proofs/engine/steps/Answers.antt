@@ -9,23 +9,23 @@ returns-in_default-clause-begun g c = ends_nothing _ _ _
 
 pub returns-in_err-ended-clause-begun : goal.returns-in_err-ended-clause-begun
 returns-in_err-ended-clause-begun g c =
-    subst (λ input. Writes (g.W.Write.contents c.args.writer.now) (g.W.Write.contents c.finish-finished.new.writer) (λ written. BeginsAnswers input c.args.world.now.run written))
+    subst (λ input. Writes (g.W.Write.contents c.args.writer.now) (g.W.Write.contents c.finish-finished.new.writer) (λ written. BeginsAnswers input (g.M.MakesSteps.run c.args.world.now) written))
     (buffered_gives c.in-Ok.buffered _ (λ r. g.R.Read.remaining r.now) c.in-Ok.ensures.inner c.in-Ok.ensures.empty c.in-Ok.ensures.capacity)
     (ends_begun _ _ _ _ _ _ _ c.answer_all-ended.ensures.begun c.as_str.ensures.value c.finish-finished.ensures.front)
 
 pub returns-in_err-finished-clause-begun : goal.returns-in_err-finished-clause-begun
 returns-in_err-finished-clause-begun g c =
-    subst (λ input. Writes (g.W.Write.contents c.args.writer.now) (g.W.Write.contents c.finish-finished.new.writer) (λ written. BeginsAnswers input c.args.world.now.run written))
+    subst (λ input. Writes (g.W.Write.contents c.args.writer.now) (g.W.Write.contents c.finish-finished.new.writer) (λ written. BeginsAnswers input (g.M.MakesSteps.run c.args.world.now) written))
     (buffered_gives c.in-Ok.buffered _ (λ r. g.R.Read.remaining r.now) c.in-Ok.ensures.inner c.in-Ok.ensures.empty c.in-Ok.ensures.capacity)
     (ends_begun _ _ _ _ _ _ _ c.answer_all-ended.ensures.begun c.as_str.ensures.value c.finish-finished.ensures.front)
 
 pub returns-clause-begun : goal.returns-clause-begun
 returns-clause-begun g c =
-    subst (λ input. Writes (g.W.Write.contents c.args.writer.now) (g.W.Write.contents c.finish-finished.new.writer) (λ written. BeginsAnswers input c.args.world.now.run written))
+    subst (λ input. Writes (g.W.Write.contents c.args.writer.now) (g.W.Write.contents c.finish-finished.new.writer) (λ written. BeginsAnswers input (g.M.MakesSteps.run c.args.world.now) written))
     (buffered_gives c.in-Ok.buffered _ (λ r. g.R.Read.remaining r.now) c.in-Ok.ensures.inner c.in-Ok.ensures.empty c.in-Ok.ensures.capacity)
     (ends_begun _ _ _ _ _ _ _ c.answer_all-ended.ensures.begun c.as_str.ensures.value c.finish-finished.ensures.front)
 
 pub returns-in_err-ended-clause-cause : goal.returns-in_err-ended-clause-cause
 returns-in_err-ended-clause-cause g c =
-    failed_later c.in_err-ended.field-0.0 c.from_residual.result c.from_residual.ensures.1 (made_none g.S.Stable.seen c.args.world.now)
+    failed_later c.in_err-ended.field-0.0 c.from_residual.result c.from_residual.ensures.1 (made_none g.M.MakesSteps.run g.M.MakesSteps.leaves c.args.world.now)
     c.in_err-ended.ensures.cause

@@ -30,32 +30,32 @@ use Rattle.activities.proofs.activity.Activity.+activity.Goals as goal
 
 pub run-returns-in-Ok-clause-others : goal.run-returns-in-Ok-clause-others
 run-returns-in-Ok-clause-others g t c =
-    among_then c.args.action.now.name c.body.new.action.name c.args.world.now.run c.body.new.world.run c.end.new.world.run c.body.ensures.goes_on
+    among_then c.args.action.now.name c.body.new.action.name (g.W.MakesSteps.run c.args.world.now) (g.W.MakesSteps.run c.body.new.world) (g.W.MakesSteps.run c.end.new.world) c.body.ensures.goes_on
     c.body.ensures.commits c.body.ensures.name c.end.ensures.others
 
 pub run-returns-in-Ok-clause-own : goal.run-returns-in-Ok-clause-own
 run-returns-in-Ok-clause-own g t c =
-    keeps_then c.args.action.now.name c.body.new.action.name c.args.world.now.run c.body.new.world.run c.end.new.world.run c.body.ensures.name
+    keeps_then c.args.action.now.name c.body.new.action.name (g.W.MakesSteps.run c.args.world.now) (g.W.MakesSteps.run c.body.new.world) (g.W.MakesSteps.run c.end.new.world) c.body.ensures.name
     c.body.ensures.own c.end.ensures.own
 
 pub body-returns-in_err-flow-clause-own : goal.body-returns-in_err-flow-clause-own
 body-returns-in_err-flow-clause-own g t c =
-    keeps_then c.args.action.now.name c.loop-statement.action.name c.args.world.now.run c.loop-statement.world.run c.statement.new.world.run
+    keeps_then c.args.action.now.name c.loop-statement.action.name (g.W.MakesSteps.run c.args.world.now) (g.W.MakesSteps.run c.loop-statement.world) (g.W.MakesSteps.run c.statement.new.world)
     c.loop-statement.invariant.name c.loop-statement.invariant.own c.statement.ensures.own
 
 pub body-returns-then-not-matches-clause-own : goal.body-returns-then-not-matches-clause-own
 body-returns-then-not-matches-clause-own g t c =
-    keeps_then c.args.action.now.name c.loop-statement.action.name c.args.world.now.run c.loop-statement.world.run c.statement.new.world.run
+    keeps_then c.args.action.now.name c.loop-statement.action.name (g.W.MakesSteps.run c.args.world.now) (g.W.MakesSteps.run c.loop-statement.world) (g.W.MakesSteps.run c.statement.new.world)
     c.loop-statement.invariant.name c.loop-statement.invariant.own c.statement.ensures.own
 
 pub body-returns-in_err-flow-clause-commits : goal.body-returns-in_err-flow-clause-commits
 body-returns-in_err-flow-clause-commits g t c =
-    then_commits c.args.world.now.run c.loop-statement.world.run c.statement.new.world.run c.loop-statement.invariant.goes_on
+    then_commits (g.W.MakesSteps.run c.args.world.now) (g.W.MakesSteps.run c.loop-statement.world) (g.W.MakesSteps.run c.statement.new.world) c.loop-statement.invariant.goes_on
     c.loop-statement.invariant.commits c.statement.ensures.commits
 
 pub body-returns-then-not-matches-clause-commits : goal.body-returns-then-not-matches-clause-commits
 body-returns-then-not-matches-clause-commits g t c =
-    then_commits c.args.world.now.run c.loop-statement.world.run c.statement.new.world.run c.loop-statement.invariant.goes_on
+    then_commits (g.W.MakesSteps.run c.args.world.now) (g.W.MakesSteps.run c.loop-statement.world) (g.W.MakesSteps.run c.statement.new.world) c.loop-statement.invariant.goes_on
     c.loop-statement.invariant.commits c.statement.ensures.commits
 
 pub body-loop-statement-preserved : goal.body-loop-statement-preserved
@@ -65,17 +65,17 @@ body-loop-statement-preserved g t c =
     let script = c.args.self.now.script.now in
     let left = c.args.self.now.left in
     let body = c.args.body.now in
-    let old : Doing = doing c.args.world.now.run left c.args.action.now c.args.frames.now in
-    let d : Doing = doing l.world.run l.self.left l.action l.frames in
+    let old : Doing = doing (g.W.MakesSteps.run c.args.world.now) left c.args.action.now c.args.frames.now in
+    let d : Doing = doing (g.W.MakesSteps.run l.world) l.self.left l.action l.frames in
     let rest = drop (l.statement-index + 1) body in
     let from : IsBodyFrom script left body old (s ∷ rest) d =
     subst (λ (x : List Statement). IsBodyFrom script left body old x d) (next_list body l.statement-index s (omega arith) c.statement-item.is)
     l.invariant.means in
     let less = c.begin.new.self.left in
     let budget : l.self.left ≡ less + 1 = c.if-not-begin.ensures.left refl in
-    let r : Done = done c.statement.new.world.run c.statement.new.self.left c.statement.new.action c.statement.new.frames c.in_ok-flow.flow in
-    let came : ComesSo script less r (λ go. statement_done script.handlers go s (doing l.world.run less l.action l.frames)) =
-    of_script c.begin.new.self.script.now script less r (λ x go. statement_done x.handlers go s (doing l.world.run less l.action l.frames))
+    let r : Done = done (g.W.MakesSteps.run c.statement.new.world) c.statement.new.self.left c.statement.new.action c.statement.new.frames c.in_ok-flow.flow in
+    let came : ComesSo script less r (λ go. statement_done script.handlers go s (doing (g.W.MakesSteps.run l.world) less l.action l.frames)) =
+    of_script c.begin.new.self.script.now script less r (λ x go. statement_done x.handlers go s (doing (g.W.MakesSteps.run l.world) less l.action l.frames))
     (c.begin.ensures.script ∙ l.invariant.script) c.in_ok-flow.ensures.means in
     let ended : c.in_ok-flow.flow ≡ Ended = elim c.match-matches.branch [
       | body-in-Ended w ↦ w.in-Ended.is
@@ -85,10 +85,10 @@ body-loop-statement-preserved g t c =
     let bound : sizes c.statement.new.frames ≡ (asked s).after (sizes l.frames) = search rules in
     let same : c.statement.new.self.script.now ≡ l.self.script.now = cc in
     record {
-      goes_on = then_goes c.args.world.now.run l.world.run c.statement.new.world.run l.invariant.goes_on c.statement.ensures.goes_on;
-      own = keeps_then c.args.action.now.name l.action.name c.args.world.now.run l.world.run c.statement.new.world.run l.invariant.name l.invariant.own
+      goes_on = then_goes (g.W.MakesSteps.run c.args.world.now) (g.W.MakesSteps.run l.world) (g.W.MakesSteps.run c.statement.new.world) l.invariant.goes_on c.statement.ensures.goes_on;
+      own = keeps_then c.args.action.now.name l.action.name (g.W.MakesSteps.run c.args.world.now) (g.W.MakesSteps.run l.world) (g.W.MakesSteps.run c.statement.new.world) l.invariant.name l.invariant.own
           c.statement.ensures.own;
-      commits = then_commits c.args.world.now.run l.world.run c.statement.new.world.run l.invariant.goes_on l.invariant.commits c.statement.ensures.commits;
+      commits = then_commits (g.W.MakesSteps.run c.args.world.now) (g.W.MakesSteps.run l.world) (g.W.MakesSteps.run c.statement.new.world) l.invariant.goes_on l.invariant.commits c.statement.ensures.commits;
       resolved = subst IsResolved (sym same) l.invariant.resolved;
       rest = next_rest l.self.script.now c.statement.new.self.script.now (sizes l.frames) (sizes c.statement.new.frames) c.args.body.now
           l.statement-index s (omega arith) c.statement-item.is same bound l.invariant.rest;
@@ -102,22 +102,22 @@ body-loop-statement-preserved g t c =
 
 pub repeat-returns-in_err-flow-clause-own : goal.repeat-returns-in_err-flow-clause-own
 repeat-returns-in_err-flow-clause-own g t c =
-    keeps_then c.args.action.now.name c.loop.action.name c.args.world.now.run c.loop.world.run c.inner.new.world.run c.loop.invariant.name
+    keeps_then c.args.action.now.name c.loop.action.name (g.W.MakesSteps.run c.args.world.now) (g.W.MakesSteps.run c.loop.world) (g.W.MakesSteps.run c.inner.new.world) c.loop.invariant.name
     c.loop.invariant.own c.inner.ensures.own
 
 pub repeat-returns-then-not-matches-clause-own : goal.repeat-returns-then-not-matches-clause-own
 repeat-returns-then-not-matches-clause-own g t c =
-    keeps_then c.args.action.now.name c.loop.action.name c.args.world.now.run c.loop.world.run c.inner.new.world.run c.loop.invariant.name
+    keeps_then c.args.action.now.name c.loop.action.name (g.W.MakesSteps.run c.args.world.now) (g.W.MakesSteps.run c.loop.world) (g.W.MakesSteps.run c.inner.new.world) c.loop.invariant.name
     c.loop.invariant.own c.inner.ensures.own
 
 pub repeat-returns-in_err-flow-clause-commits : goal.repeat-returns-in_err-flow-clause-commits
 repeat-returns-in_err-flow-clause-commits g t c =
-    then_commits c.args.world.now.run c.loop.world.run c.inner.new.world.run c.loop.invariant.goes_on
+    then_commits (g.W.MakesSteps.run c.args.world.now) (g.W.MakesSteps.run c.loop.world) (g.W.MakesSteps.run c.inner.new.world) c.loop.invariant.goes_on
     c.loop.invariant.commits c.inner.ensures.commits
 
 pub repeat-returns-then-not-matches-clause-commits : goal.repeat-returns-then-not-matches-clause-commits
 repeat-returns-then-not-matches-clause-commits g t c =
-    then_commits c.args.world.now.run c.loop.world.run c.inner.new.world.run c.loop.invariant.goes_on
+    then_commits (g.W.MakesSteps.run c.args.world.now) (g.W.MakesSteps.run c.loop.world) (g.W.MakesSteps.run c.inner.new.world) c.loop.invariant.goes_on
     c.loop.invariant.commits c.inner.ensures.commits
 
 pub repeat-loop-preserved : goal.repeat-loop-preserved
@@ -127,17 +127,17 @@ repeat-loop-preserved g t c =
     let left = c.args.self.now.left in
     let body = c.args.body.now in
     let turns = c.args.turns in
-    let old : Doing = doing c.args.world.now.run left c.args.action.now c.args.frames.now in
-    let d : Doing = doing l.world.run l.self.left l.action l.frames in
+    let old : Doing = doing (g.W.MakesSteps.run c.args.world.now) left c.args.action.now c.args.frames.now in
+    let d : Doing = doing (g.W.MakesSteps.run l.world) l.self.left l.action l.frames in
     let n = turns - l.counter in
     let m = turns - (l.counter + 1) in
     let one : n ≡ m + 1 = omega (arith, c.loop-test.true) in
     let less = c.begin.new.self.left in
     let budget : l.self.left ≡ less + 1 = c.if-not-begin.ensures.left refl in
     let fewer : less ≤ left = omega (arith, budget, l.invariant.left) in
-    let r : Done = done c.inner.new.world.run c.inner.new.self.left c.inner.new.action c.inner.new.frames c.in_ok-flow.flow in
-    let came : ComesSo script less r (λ go. inner go body (doing l.world.run less l.action l.frames)) =
-    of_script c.begin.new.self.script.now script less r (λ x go. inner go body (doing l.world.run less l.action l.frames))
+    let r : Done = done (g.W.MakesSteps.run c.inner.new.world) c.inner.new.self.left c.inner.new.action c.inner.new.frames c.in_ok-flow.flow in
+    let came : ComesSo script less r (λ go. inner go body (doing (g.W.MakesSteps.run l.world) less l.action l.frames)) =
+    of_script c.begin.new.self.script.now script less r (λ x go. inner go body (doing (g.W.MakesSteps.run l.world) less l.action l.frames))
     (c.begin.ensures.script ∙ l.invariant.script) c.in_ok-flow.ensures.means in
     let ended : c.in_ok-flow.flow ≡ Ended = elim c.match-matches.branch [
       | repeat-in-Ended w ↦ w.in-Ended.is
@@ -146,10 +146,10 @@ repeat-loop-preserved g t c =
     let bound : sizes c.inner.new.frames ≡ sizes l.frames = search rules in
     let same : c.inner.new.self.script.now ≡ l.self.script.now = cc in
     record {
-      goes_on = then_goes c.args.world.now.run l.world.run c.inner.new.world.run l.invariant.goes_on c.inner.ensures.goes_on;
-      own = keeps_then c.args.action.now.name l.action.name c.args.world.now.run l.world.run c.inner.new.world.run l.invariant.name l.invariant.own
+      goes_on = then_goes (g.W.MakesSteps.run c.args.world.now) (g.W.MakesSteps.run l.world) (g.W.MakesSteps.run c.inner.new.world) l.invariant.goes_on c.inner.ensures.goes_on;
+      own = keeps_then c.args.action.now.name l.action.name (g.W.MakesSteps.run c.args.world.now) (g.W.MakesSteps.run l.world) (g.W.MakesSteps.run c.inner.new.world) l.invariant.name l.invariant.own
           c.inner.ensures.own;
-      commits = then_commits c.args.world.now.run l.world.run c.inner.new.world.run l.invariant.goes_on l.invariant.commits c.inner.ensures.commits;
+      commits = then_commits (g.W.MakesSteps.run c.args.world.now) (g.W.MakesSteps.run l.world) (g.W.MakesSteps.run c.inner.new.world) l.invariant.goes_on l.invariant.commits c.inner.ensures.commits;
       resolved = subst IsResolved (sym same) l.invariant.resolved;
       body = same_body l.self.script.now c.inner.new.self.script.now (sizes l.frames) (sizes c.inner.new.frames) c.args.body.now same bound
           l.invariant.body;
@@ -172,11 +172,11 @@ pub top_action-returns : goal.top_action-returns
 top_action-returns g t c =
     let script = c.args.self.now.script.now in
     let left = c.args.self.now.left in
-    let old : Doing = doing c.args.world.now.run left c.args.action.now c.args.frames.now in
-    let d : Doing = doing c.begin_nested.new.world.run left c.args.action.now c.args.frames.now in
+    let old : Doing = doing (g.W.MakesSteps.run c.args.world.now) left c.args.action.now c.args.frames.now in
+    let d : Doing = doing (g.W.MakesSteps.run c.begin_nested.new.world) left c.args.action.now c.args.frames.now in
     let home = c.args.action.now.home in
     let a = c.in-Some.name in
-    let r : Done = done c.run.new.world.run c.run.new.self.left c.run.new.action c.run.new.frames c.in_ok-flow.flow in
+    let r : Done = done (g.W.MakesSteps.run c.run.new.world) c.run.new.self.left c.run.new.action c.run.new.frames c.in_ok-flow.flow in
     let acts : acting c.new-nested.result ≡ begun_at home a =
     acting_begun c.new-nested.result a home c.new-nested.ensures.name c.new-nested.ensures.home
     (ap (λ x. x.homes.keys) c.new-nested.ensures.reached ∙ c.in_ok-reached.ensures.homes)
@@ -186,10 +186,10 @@ top_action-returns g t c =
     ∙ run_named (body_done script.handlers most) (acting c.new-nested.result) (begun_at home a) c.in_ok-inside.inside c.args.frames.now c.args.body.now
     c.args.body.now d acts c.in_ok-inside.ensures refl in
     let begun = sym c.in-Some.is ∙ c.in_ok-name.ensures.begun in
-    let this : Done = done c.run.new.world.run c.run.new.self.left c.args.action.now c.args.frames.now c.in_ok-flow.flow in
-    let x = c.args.world.now.run in
-    let y = c.begin_nested.new.world.run in
-    let z = c.run.new.world.run in
+    let this : Done = done (g.W.MakesSteps.run c.run.new.world) c.run.new.self.left c.args.action.now c.args.frames.now c.in_ok-flow.flow in
+    let x = (g.W.MakesSteps.run c.args.world.now) in
+    let y = (g.W.MakesSteps.run c.begin_nested.new.world) in
+    let z = (g.W.MakesSteps.run c.run.new.world) in
     let n = c.new-nested.result.name in
     let began = began_named c.in_ok-name.field-0 c.in-Some.name n x y c.in-Some.is c.new-nested.ensures.name c.in_ok-name.ensures.began in
     record {
@@ -213,22 +213,22 @@ top_action-returns-in-Aborted-clause-goes_on g t c =
 
 pub top_action-returns-in-Aborted-clause-own : goal.top_action-returns-in-Aborted-clause-own
 top_action-returns-in-Aborted-clause-own g t c =
-    let x = c.args.world.now.run in
-    let y = c.begin_nested.new.world.run in
-    let z = c.run.new.world.run in
+    let x = (g.W.MakesSteps.run c.args.world.now) in
+    let y = (g.W.MakesSteps.run c.begin_nested.new.world) in
+    let z = (g.W.MakesSteps.run c.run.new.world) in
     let n = c.new-nested.result.name in
     let began = began_named c.in_ok-name.field-0 c.in-Some.name n x y c.in-Some.is c.new-nested.ensures.name c.in_ok-name.ensures.began in
-    then_keeps c.args.action.now.name x z c.inner.new.world.run
+    then_keeps c.args.action.now.name x z (g.W.MakesSteps.run c.inner.new.world)
     (child_keeps n (c.args.action.now.name ∷ []) x y z began c.begin_nested.ensures.own c.run.ensures.own) c.inner.ensures.own
 
 pub top_action-returns-in-Aborted-clause-commits : goal.top_action-returns-in-Aborted-clause-commits
 top_action-returns-in-Aborted-clause-commits g t c =
-    let x = c.args.world.now.run in
-    let y = c.begin_nested.new.world.run in
-    let z = c.run.new.world.run in
+    let x = (g.W.MakesSteps.run c.args.world.now) in
+    let y = (g.W.MakesSteps.run c.begin_nested.new.world) in
+    let z = (g.W.MakesSteps.run c.run.new.world) in
     let n = c.new-nested.result.name in
     let began = began_named c.in_ok-name.field-0 c.in-Some.name n x y c.in-Some.is c.new-nested.ensures.name c.in_ok-name.ensures.began in
-    then_commits x z c.inner.new.world.run (then_goes x y z c.begin_nested.ensures.goes_on c.run.ensures.goes_on)
+    then_commits x z (g.W.MakesSteps.run c.inner.new.world) (then_goes x y z c.begin_nested.ensures.goes_on c.run.ensures.goes_on)
     (child_commits n x y z began c.begin_nested.ensures.goes_on c.begin_nested.ensures.commits c.run.ensures.others) c.inner.ensures.commits
 
 pub call-run-ended-requires : goal.call-run-ended-requires
@@ -252,22 +252,22 @@ call-returns-in-Aborted-clause-goes_on g t c =
 
 pub call-returns-in-Aborted-clause-own : goal.call-returns-in-Aborted-clause-own
 call-returns-in-Aborted-clause-own g t c =
-    let x = c.args.world.now.run in
-    let y = c.begin_call.new.world.run in
-    let z = c.run-ended.new.world.run in
+    let x = (g.W.MakesSteps.run c.args.world.now) in
+    let y = (g.W.MakesSteps.run c.begin_call.new.world) in
+    let z = (g.W.MakesSteps.run c.run-ended.new.world) in
     let n = c.new-child.result.name in
     let began = called_began c.in_ok-name.field-0 c.in-Began.name n x y c.in-Began.is c.new-child.ensures.name c.in_ok-name.ensures.began in
-    keeps_then c.args.action.now.name c.take_in-taken.new.self.name x z c.run_signals-in-Aborted.new.world.run c.take_in-taken.ensures.name
+    keeps_then c.args.action.now.name c.take_in-taken.new.self.name x z (g.W.MakesSteps.run c.run_signals-in-Aborted.new.world) c.take_in-taken.ensures.name
     (child_keeps n (c.args.action.now.name ∷ []) x y z began c.begin_call.ensures.own c.run-ended.ensures.own) c.run_signals-in-Aborted.ensures.own
 
 pub call-returns-in-Aborted-clause-commits : goal.call-returns-in-Aborted-clause-commits
 call-returns-in-Aborted-clause-commits g t c =
-    let x = c.args.world.now.run in
-    let y = c.begin_call.new.world.run in
-    let z = c.run-ended.new.world.run in
+    let x = (g.W.MakesSteps.run c.args.world.now) in
+    let y = (g.W.MakesSteps.run c.begin_call.new.world) in
+    let z = (g.W.MakesSteps.run c.run-ended.new.world) in
     let n = c.new-child.result.name in
     let began = called_began c.in_ok-name.field-0 c.in-Began.name n x y c.in-Began.is c.new-child.ensures.name c.in_ok-name.ensures.began in
-    then_commits x z c.run_signals-in-Aborted.new.world.run (then_goes x y z c.begin_call.ensures.goes_on c.run-ended.ensures.goes_on)
+    then_commits x z (g.W.MakesSteps.run c.run_signals-in-Aborted.new.world) (then_goes x y z c.begin_call.ensures.goes_on c.run-ended.ensures.goes_on)
     (child_commits n x y z began c.begin_call.ensures.goes_on c.begin_call.ensures.commits c.run-ended.ensures.others)
     c.run_signals-in-Aborted.ensures.commits
 
@@ -294,10 +294,10 @@ run_arms-loop-arm-preserved g t c =
     let arm = c.arm-item.result in
     let a = c.new-child.result.name in
     let names = c.pop.new.self.items in
-    let old : Doing = doing c.args.world.now.run left c.args.action.now frames in
-    let d : Doing = doing l.world.run l.self.left l.action frames in
-    let r : Done = done c.run-ended.new.world.run c.run-ended.new.self.left c.run-ended.new.action c.run-ended.new.frames c.in_ok-flow.flow in
-    let next : Doing = doing c.run-ended.new.world.run c.run-ended.new.self.left c.match-arm.action frames in
+    let old : Doing = doing (g.W.MakesSteps.run c.args.world.now) left c.args.action.now frames in
+    let d : Doing = doing (g.W.MakesSteps.run l.world) l.self.left l.action frames in
+    let r : Done = done (g.W.MakesSteps.run c.run-ended.new.world) c.run-ended.new.self.left c.run-ended.new.action c.run-ended.new.frames c.in_ok-flow.flow in
+    let next : Doing = doing (g.W.MakesSteps.run c.run-ended.new.world) c.run-ended.new.self.left c.match-arm.action frames in
     let popped_so = popped l.waiting.items names c.pop.result c.unwrap.result a c.pop.ensures.items c.unwrap.ensures c.new-child.ensures.name in
     let from : AreArmsFrom script left arms (reverse c.args.waiting.now.items) old (arm ∷ drop (l.arm-index + 1) arms) (a ∷ reverse names) d =
     subst (λ (x : List Arm). AreArmsFrom script left arms (reverse c.args.waiting.now.items) old x (a ∷ reverse names) d)
@@ -317,12 +317,12 @@ run_arms-loop-arm-preserved g t c =
     (body_of arm) d acts c.in_ok-inside.ensures c.arm_body.ensures in
     let knows : next ≡ past_arm (kind_of arm) d r = elim c.match-arm.branch [
       | run_arms-in-Sub w ↦
-          ap (λ (x : OpenAction). doing c.run-ended.new.world.run c.run-ended.new.self.left x frames) w.action-is
+          ap (λ (x : OpenAction). doing (g.W.MakesSteps.run c.run-ended.new.world) c.run-ended.new.self.left x frames) w.action-is
           ∙ sub_past arm w.in-Sub.field-0 d r (acting w.take_in-taken.new.self) w.in-Sub.is
           (ok_so w.take_in-taken.result c.in_ok-taken.field-0 _ (sym w.taken-is ∙ c.in_ok-taken.was) w.take_in-taken.ensures.taken
           ∙ ap (λ b. taken_in (acting l.action) r.doing.acting b) (w.has_committed.ensures ∙ ap (λ x. has_committed x) c.in_ok-flow.was))
       | run_arms-in-Top w ↦
-          ap (λ (x : OpenAction). doing c.run-ended.new.world.run c.run-ended.new.self.left x frames) w.action-is
+          ap (λ (x : OpenAction). doing (g.W.MakesSteps.run c.run-ended.new.world) c.run-ended.new.self.left x frames) w.action-is
           ∙ top_past arm w.in-Top.field-0 d r w.in-Top.is
     ] in
     let past : is_past c.in_ok-flow.flow ≡ true = elim c.match-matches.branch [
@@ -331,16 +331,16 @@ run_arms-loop-arm-preserved g t c =
     ] in
     let arms_mean = arm_goes script left arms (reverse c.args.waiting.now.items) old d arm a (drop (l.arm-index + 1) arms) (reverse names) r next from
     l.invariant.left came past knows in
-    let x = c.args.world.now.run in
-    let z = c.run-ended.new.world.run in
+    let x = (g.W.MakesSteps.run c.args.world.now) in
+    let z = (g.W.MakesSteps.run c.run-ended.new.world) in
     let all = c.args.waiting.now.items in
     let waits = l.waiting.items in
     let rest = c.pop.new.self.items in
     let is = popped waits rest c.pop.result c.unwrap.result a c.pop.ensures.items c.unwrap.ensures c.new-child.ensures.name in
     record {
-      goes_on = then_goes x l.world.run z l.invariant.goes_on c.run-ended.ensures.goes_on;
-      own = one_keeps a all x l.world.run z (l.invariant.among a (last_waits waits rest a is)) l.invariant.own c.run-ended.ensures.own;
-      others = others_commit waits rest a is all x l.world.run z l.invariant.goes_on l.invariant.others l.invariant.among c.run-ended.ensures.others;
+      goes_on = then_goes x (g.W.MakesSteps.run l.world) z l.invariant.goes_on c.run-ended.ensures.goes_on;
+      own = one_keeps a all x (g.W.MakesSteps.run l.world) z (l.invariant.among a (last_waits waits rest a is)) l.invariant.own c.run-ended.ensures.own;
+      others = others_commit waits rest a is all x (g.W.MakesSteps.run l.world) z l.invariant.goes_on l.invariant.others l.invariant.among c.run-ended.ensures.others;
       among = λ b h. l.invariant.among b (earlier_waits waits rest a is b h);
       each = omega (arith, popped_length waits rest a is, l.invariant.each);
       resolved = subst IsResolved (sym c.run-ended.ensures.script) l.invariant.resolved;
@@ -359,7 +359,7 @@ run_arms-returns-in_err-flow-clause-others g t c =
     let rest = c.pop.new.self.items in
     let a = c.new-child.result.name in
     let is = popped l.waiting.items rest c.pop.result c.unwrap.result a c.pop.ensures.items c.unwrap.ensures c.new-child.ensures.name in
-    others_commit l.waiting.items rest a is c.args.waiting.now.items c.args.world.now.run l.world.run c.run-ended.new.world.run l.invariant.goes_on
+    others_commit l.waiting.items rest a is c.args.waiting.now.items (g.W.MakesSteps.run c.args.world.now) (g.W.MakesSteps.run l.world) (g.W.MakesSteps.run c.run-ended.new.world) l.invariant.goes_on
     l.invariant.others l.invariant.among c.run-ended.ensures.others
 
 pub run_arms-returns-in_err-taken-clause-others : goal.run_arms-returns-in_err-taken-clause-others
@@ -368,7 +368,7 @@ run_arms-returns-in_err-taken-clause-others g t c =
     let rest = c.pop.new.self.items in
     let a = c.new-child.result.name in
     let is = popped l.waiting.items rest c.pop.result c.unwrap.result a c.pop.ensures.items c.unwrap.ensures c.new-child.ensures.name in
-    others_commit l.waiting.items rest a is c.args.waiting.now.items c.args.world.now.run l.world.run c.run-ended.new.world.run l.invariant.goes_on
+    others_commit l.waiting.items rest a is c.args.waiting.now.items (g.W.MakesSteps.run c.args.world.now) (g.W.MakesSteps.run l.world) (g.W.MakesSteps.run c.run-ended.new.world) l.invariant.goes_on
     l.invariant.others l.invariant.among c.run-ended.ensures.others
 
 pub run_arms-returns-then-not-matches-clause-others : goal.run_arms-returns-then-not-matches-clause-others
@@ -377,7 +377,7 @@ run_arms-returns-then-not-matches-clause-others g t c =
     let rest = c.pop.new.self.items in
     let a = c.new-child.result.name in
     let is = popped l.waiting.items rest c.pop.result c.unwrap.result a c.pop.ensures.items c.unwrap.ensures c.new-child.ensures.name in
-    others_commit l.waiting.items rest a is c.args.waiting.now.items c.args.world.now.run l.world.run c.run-ended.new.world.run l.invariant.goes_on
+    others_commit l.waiting.items rest a is c.args.waiting.now.items (g.W.MakesSteps.run c.args.world.now) (g.W.MakesSteps.run l.world) (g.W.MakesSteps.run c.run-ended.new.world) l.invariant.goes_on
     l.invariant.others l.invariant.among c.run-ended.ensures.others
 
 pub run_arms-returns-in_err-flow-clause-own : goal.run_arms-returns-in_err-flow-clause-own
@@ -386,7 +386,7 @@ run_arms-returns-in_err-flow-clause-own g t c =
     let rest = c.pop.new.self.items in
     let a = c.new-child.result.name in
     let is = popped l.waiting.items rest c.pop.result c.unwrap.result a c.pop.ensures.items c.unwrap.ensures c.new-child.ensures.name in
-    one_keeps a c.args.waiting.now.items c.args.world.now.run l.world.run c.run-ended.new.world.run
+    one_keeps a c.args.waiting.now.items (g.W.MakesSteps.run c.args.world.now) (g.W.MakesSteps.run l.world) (g.W.MakesSteps.run c.run-ended.new.world)
     (l.invariant.among a (last_waits l.waiting.items rest a is)) l.invariant.own c.run-ended.ensures.own
 
 pub run_arms-returns-in_err-flow-clause-rest : goal.run_arms-returns-in_err-flow-clause-rest
@@ -403,7 +403,7 @@ run_arms-returns-in_err-taken-clause-own g t c =
     let rest = c.pop.new.self.items in
     let a = c.new-child.result.name in
     let is = popped l.waiting.items rest c.pop.result c.unwrap.result a c.pop.ensures.items c.unwrap.ensures c.new-child.ensures.name in
-    one_keeps a c.args.waiting.now.items c.args.world.now.run l.world.run c.run-ended.new.world.run
+    one_keeps a c.args.waiting.now.items (g.W.MakesSteps.run c.args.world.now) (g.W.MakesSteps.run l.world) (g.W.MakesSteps.run c.run-ended.new.world)
     (l.invariant.among a (last_waits l.waiting.items rest a is)) l.invariant.own c.run-ended.ensures.own
 
 pub run_arms-returns-in_err-taken-clause-rest : goal.run_arms-returns-in_err-taken-clause-rest
@@ -420,7 +420,7 @@ run_arms-returns-then-not-matches-clause-own g t c =
     let rest = c.pop.new.self.items in
     let a = c.new-child.result.name in
     let is = popped l.waiting.items rest c.pop.result c.unwrap.result a c.pop.ensures.items c.unwrap.ensures c.new-child.ensures.name in
-    one_keeps a c.args.waiting.now.items c.args.world.now.run l.world.run c.run-ended.new.world.run
+    one_keeps a c.args.waiting.now.items (g.W.MakesSteps.run c.args.world.now) (g.W.MakesSteps.run l.world) (g.W.MakesSteps.run c.run-ended.new.world)
     (l.invariant.among a (last_waits l.waiting.items rest a is)) l.invariant.own c.run-ended.ensures.own
 
 pub run_arms-returns-then-not-matches-clause-rest : goal.run_arms-returns-then-not-matches-clause-rest
@@ -476,17 +476,17 @@ statement-returns-in-Signalled-clause-frames g t c =
 
 pub run-returns-in-Ok-clause-means : goal.run-returns-in-Ok-clause-means
 run-returns-in-Ok-clause-means g t c =
-    let r : Done = done c.body.new.world.run c.body.new.self.left c.body.new.action c.body.new.frames c.in-Ok.flow in
+    let r : Done = done (g.W.MakesSteps.run c.body.new.world) c.body.new.self.left c.body.new.action c.body.new.frames c.in-Ok.flow in
     if_ok_then c.end.result c.end.ensures.means
     (λ end e. run_ends c.args.self.now.script.now c.args.self.now.left (acting c.args.action.now) c.args.frames.now c.args.body.now
-    (doing c.args.world.now.run c.args.self.now.left c.args.action.now c.args.frames.now) r
-    (record { world = c.end.new.world.run; flow = end }) c.in-Ok.ensures.means e)
+    (doing (g.W.MakesSteps.run c.args.world.now) c.args.self.now.left c.args.action.now c.args.frames.now) r
+    (record { world = (g.W.MakesSteps.run c.end.new.world); flow = end }) c.in-Ok.ensures.means e)
 
 pub body-loop-statement-init : goal.body-loop-statement-init
 body-loop-statement-init g t c = record {
-  goes_on = goes_nowhere c.args.world.now.run c.requires.run;
-  own = keeps_nowhere (c.args.action.now.name ∷ []) c.args.world.now.run;
-  commits = commits_nowhere c.args.world.now.run;
+  goes_on = goes_nowhere (g.W.MakesSteps.run c.args.world.now) c.requires.run;
+  own = keeps_nowhere (c.args.action.now.name ∷ []) (g.W.MakesSteps.run c.args.world.now);
+  commits = commits_nowhere (g.W.MakesSteps.run c.args.world.now);
   resolved = c.requires.script;
   rest = c.requires.body;
   frames = record { ints = omega arith; texts = omega arith; truths = omega arith };
@@ -504,13 +504,13 @@ body-returns-then-not-begin-clause-means g t c =
     let script = c.args.self.now.script.now in
     let left = c.args.self.now.left in
     let body = c.args.body.now in
-    let old : Doing = doing c.args.world.now.run left c.args.action.now c.args.frames.now in
-    let d : Doing = doing l.world.run l.self.left l.action l.frames in
+    let old : Doing = doing (g.W.MakesSteps.run c.args.world.now) left c.args.action.now c.args.frames.now in
+    let d : Doing = doing (g.W.MakesSteps.run l.world) l.self.left l.action l.frames in
     let rest = drop (l.statement-index + 1) body in
     let from : IsBodyFrom script left body old (s ∷ rest) d =
     subst (λ (x : List Statement). IsBodyFrom script left body old x d) (next_list body l.statement-index s (omega arith) c.statement-item.is)
     l.invariant.means in
-    subst (λ n. ComesSo script left (done l.world.run n l.action l.frames (Outwards reach.Client)) (λ go. go body old))
+    subst (λ n. ComesSo script left (done (g.W.MakesSteps.run l.world) n l.action l.frames (Outwards reach.Client)) (λ go. go body old))
     ((c.if-not-begin.ensures.none refl).0 ∙ sym (c.if-not-begin.ensures.none refl).1) (body_lacks script left body old d s rest from (c.if-not-begin.ensures.none refl).0)
 
 pub body-returns-then-not-matches-clause-means : goal.body-returns-then-not-matches-clause-means
@@ -520,17 +520,17 @@ body-returns-then-not-matches-clause-means g t c =
     let script = c.args.self.now.script.now in
     let left = c.args.self.now.left in
     let body = c.args.body.now in
-    let old : Doing = doing c.args.world.now.run left c.args.action.now c.args.frames.now in
-    let d : Doing = doing l.world.run l.self.left l.action l.frames in
+    let old : Doing = doing (g.W.MakesSteps.run c.args.world.now) left c.args.action.now c.args.frames.now in
+    let d : Doing = doing (g.W.MakesSteps.run l.world) l.self.left l.action l.frames in
     let rest = drop (l.statement-index + 1) body in
     let from : IsBodyFrom script left body old (s ∷ rest) d =
     subst (λ (x : List Statement). IsBodyFrom script left body old x d) (next_list body l.statement-index s (omega arith) c.statement-item.is)
     l.invariant.means in
     let less = c.begin.new.self.left in
     let budget : l.self.left ≡ less + 1 = c.if-not-begin.ensures.left refl in
-    let r : Done = done c.statement.new.world.run c.statement.new.self.left c.statement.new.action c.statement.new.frames c.in_ok-flow.flow in
-    let came : ComesSo script less r (λ go. statement_done script.handlers go s (doing l.world.run less l.action l.frames)) =
-    of_script c.begin.new.self.script.now script less r (λ x go. statement_done x.handlers go s (doing l.world.run less l.action l.frames))
+    let r : Done = done (g.W.MakesSteps.run c.statement.new.world) c.statement.new.self.left c.statement.new.action c.statement.new.frames c.in_ok-flow.flow in
+    let came : ComesSo script less r (λ go. statement_done script.handlers go s (doing (g.W.MakesSteps.run l.world) less l.action l.frames)) =
+    of_script c.begin.new.self.script.now script less r (λ x go. statement_done x.handlers go s (doing (g.W.MakesSteps.run l.world) less l.action l.frames))
     (c.begin.ensures.script ∙ l.invariant.script) c.in_ok-flow.ensures.means in
     body_stops script left body old d s rest less r from budget came (λ e. elim c.match-matches.branch [
       | body-in-Ended w ↦ clash w.matches-is c.if-not-matches.true
@@ -541,15 +541,15 @@ pub body-returns-clause-means : goal.body-returns-clause-means
 body-returns-clause-means g t c =
     let l = c.loop-statement in
     body_ends c.args.self.now.script.now c.args.self.now.left c.args.body.now
-    (doing c.args.world.now.run c.args.self.now.left c.args.action.now c.args.frames.now)
-    (doing l.world.run l.self.left l.action l.frames) (drop l.statement-index c.args.body.now)
+    (doing (g.W.MakesSteps.run c.args.world.now) c.args.self.now.left c.args.action.now c.args.frames.now)
+    (doing (g.W.MakesSteps.run l.world) l.self.left l.action l.frames) (drop l.statement-index c.args.body.now)
     (drop_of_length-le c.args.body.now (omega (arith, c.loop-statement-test.false))) l.invariant.means
 
 pub repeat-loop-init : goal.repeat-loop-init
 repeat-loop-init g t c = record {
-  goes_on = goes_nowhere c.args.world.now.run c.requires.run;
-  own = keeps_nowhere (c.args.action.now.name ∷ []) c.args.world.now.run;
-  commits = commits_nowhere c.args.world.now.run;
+  goes_on = goes_nowhere (g.W.MakesSteps.run c.args.world.now) c.requires.run;
+  own = keeps_nowhere (c.args.action.now.name ∷ []) (g.W.MakesSteps.run c.args.world.now);
+  commits = commits_nowhere (g.W.MakesSteps.run c.args.world.now);
   resolved = c.requires.script;
   body = c.requires.body;
   frames = refl;
@@ -557,7 +557,7 @@ repeat-loop-init g t c = record {
   script = refl;
   name = refl;
   home = refl;
-  means = λ most h. ap (λ n. repeated (body_done c.args.self.now.script.now.handlers most) n c.args.body.now (doing c.args.world.now.run c.args.self.now.left c.args.action.now c.args.frames.now)) (omega arith);
+  means = λ most h. ap (λ n. repeated (body_done c.args.self.now.script.now.handlers most) n c.args.body.now (doing (g.W.MakesSteps.run c.args.world.now) c.args.self.now.left c.args.action.now c.args.frames.now)) (omega arith);
 }
 
 pub repeat-returns-then-not-begin-clause-means : goal.repeat-returns-then-not-begin-clause-means
@@ -567,12 +567,12 @@ repeat-returns-then-not-begin-clause-means g t c =
     let left = c.args.self.now.left in
     let body = c.args.body.now in
     let turns = c.args.turns in
-    let old : Doing = doing c.args.world.now.run left c.args.action.now c.args.frames.now in
-    let d : Doing = doing l.world.run l.self.left l.action l.frames in
+    let old : Doing = doing (g.W.MakesSteps.run c.args.world.now) left c.args.action.now c.args.frames.now in
+    let d : Doing = doing (g.W.MakesSteps.run l.world) l.self.left l.action l.frames in
     let n = turns - l.counter in
     let m = turns - (l.counter + 1) in
     let one : n ≡ m + 1 = omega (arith, c.loop-test.true) in
-    subst (λ k. ComesSo script left (done l.world.run k l.action l.frames (Outwards reach.Client)) (λ go. repeated go turns body old))
+    subst (λ k. ComesSo script left (done (g.W.MakesSteps.run l.world) k l.action l.frames (Outwards reach.Client)) (λ go. repeated go turns body old))
     ((c.if-not-begin.ensures.none refl).0 ∙ sym (c.if-not-begin.ensures.none refl).1)
     (turn_lacks script left turns body old d n m l.invariant.means one (c.if-not-begin.ensures.none refl).0)
 
@@ -583,17 +583,17 @@ repeat-returns-then-not-matches-clause-means g t c =
     let left = c.args.self.now.left in
     let body = c.args.body.now in
     let turns = c.args.turns in
-    let old : Doing = doing c.args.world.now.run left c.args.action.now c.args.frames.now in
-    let d : Doing = doing l.world.run l.self.left l.action l.frames in
+    let old : Doing = doing (g.W.MakesSteps.run c.args.world.now) left c.args.action.now c.args.frames.now in
+    let d : Doing = doing (g.W.MakesSteps.run l.world) l.self.left l.action l.frames in
     let n = turns - l.counter in
     let m = turns - (l.counter + 1) in
     let one : n ≡ m + 1 = omega (arith, c.loop-test.true) in
     let less = c.begin.new.self.left in
     let budget : l.self.left ≡ less + 1 = c.if-not-begin.ensures.left refl in
     let fewer : less ≤ left = omega (arith, budget, l.invariant.left) in
-    let r : Done = done c.inner.new.world.run c.inner.new.self.left c.inner.new.action c.inner.new.frames c.in_ok-flow.flow in
-    let came : ComesSo script less r (λ go. inner go body (doing l.world.run less l.action l.frames)) =
-    of_script c.begin.new.self.script.now script less r (λ x go. inner go body (doing l.world.run less l.action l.frames))
+    let r : Done = done (g.W.MakesSteps.run c.inner.new.world) c.inner.new.self.left c.inner.new.action c.inner.new.frames c.in_ok-flow.flow in
+    let came : ComesSo script less r (λ go. inner go body (doing (g.W.MakesSteps.run l.world) less l.action l.frames)) =
+    of_script c.begin.new.self.script.now script less r (λ x go. inner go body (doing (g.W.MakesSteps.run l.world) less l.action l.frames))
     (c.begin.ensures.script ∙ l.invariant.script) c.in_ok-flow.ensures.means in
     turn_stops script left turns body old d n m less r l.invariant.means one budget fewer came (λ e. elim c.match-matches.branch [
       | repeat-in-Ended w ↦ clash w.matches-is c.if-not-matches.true
@@ -604,8 +604,8 @@ pub repeat-returns-clause-means : goal.repeat-returns-clause-means
 repeat-returns-clause-means g t c =
     let l = c.loop in
     turns_end c.args.self.now.script.now c.args.self.now.left c.args.turns c.args.body.now
-    (doing c.args.world.now.run c.args.self.now.left c.args.action.now c.args.frames.now)
-    (doing l.world.run l.self.left l.action l.frames) (c.args.turns - l.counter) (omega (arith, c.loop-test.false)) l.invariant.means
+    (doing (g.W.MakesSteps.run c.args.world.now) c.args.self.now.left c.args.action.now c.args.frames.now)
+    (doing (g.W.MakesSteps.run l.world) l.self.left l.action l.frames) (c.args.turns - l.counter) (omega (arith, c.loop-test.false)) l.invariant.means
 
 pub call-returns-in-Signalled-clause-means : goal.call-returns-in-Signalled-clause-means
 call-returns-in-Signalled-clause-means g t c =
@@ -616,18 +616,18 @@ call-returns-in-Signalled-clause-means g t c =
     let action = c.args.action.now in
     let frames = c.args.frames.now in
     let h = c.index-as_slice-call.result in
-    let y = c.begin_call.new.world.run in
+    let y = (g.W.MakesSteps.run c.begin_call.new.world) in
     let found : slice_get script.handlers call.handler ≡ Some h =
     subst (λ (l : List Handler). slice_get l call.handler ≡ Some h) c.as_slice.ensures
     (slice_get_read c.as_slice.result.now (length c.as_slice.result.now) call.handler h refl
     (subst (λ (l : List Handler). call.handler < length l) (sym c.as_slice.ensures) (called_within script (sizes frames) call c.requires.call))
     c.index-as_slice-call.is) in
     let handed : given frames call ≡ Some c.in-Some.inside = sym c.in_ok-inside.ensures ∙ c.in-Some.is in
-    let old : Doing = doing c.args.world.now.run left action frames in
+    let old : Doing = doing (g.W.MakesSteps.run c.args.world.now) left action frames in
     let d : Doing = doing y left action frames in
     if_ok_then c.run_signals.result c.run_signals.ensures.means
     (λ flow m. call_so script left old (slice_get script.handlers call.handler) h call signals (given frames call) c.in-Some.inside y called.Signalled
-    (done c.run_signals.new.world.run c.run_signals.new.self.left c.run_signals.new.action c.run_signals.new.frames flow) found handed
+    (done (g.W.MakesSteps.run c.run_signals.new.world) c.run_signals.new.self.left c.run_signals.new.action c.run_signals.new.frames flow) found handed
     c.in_ok-name.ensures.made (sym c.in-Signalled.is ∙ c.in_ok-name.ensures.called) m)
 
 pub call-returns-in-Refused-clause-means : goal.call-returns-in-Refused-clause-means
@@ -639,14 +639,14 @@ call-returns-in-Refused-clause-means g t c =
     let action = c.args.action.now in
     let frames = c.args.frames.now in
     let h = c.index-as_slice-call.result in
-    let y = c.begin_call.new.world.run in
+    let y = (g.W.MakesSteps.run c.begin_call.new.world) in
     let found : slice_get script.handlers call.handler ≡ Some h =
     subst (λ (l : List Handler). slice_get l call.handler ≡ Some h) c.as_slice.ensures
     (slice_get_read c.as_slice.result.now (length c.as_slice.result.now) call.handler h refl
     (subst (λ (l : List Handler). call.handler < length l) (sym c.as_slice.ensures) (called_within script (sizes frames) call c.requires.call))
     c.index-as_slice-call.is) in
     let handed : given frames call ≡ Some c.in-Some.inside = sym c.in_ok-inside.ensures ∙ c.in-Some.is in
-    let old : Doing = doing c.args.world.now.run left action frames in
+    let old : Doing = doing (g.W.MakesSteps.run c.args.world.now) left action frames in
     let d : Doing = doing y left action frames in
     call_so script left old (slice_get script.handlers call.handler) h call signals (given frames call) c.in-Some.inside y called.Refused
     (done y left action frames Aborted) found handed c.in_ok-name.ensures.made (sym c.in-Refused.is ∙ c.in_ok-name.ensures.called) (λ most lt. refl)
@@ -660,24 +660,24 @@ call-returns-in-Aborted-clause-means g t c =
     let action = c.args.action.now in
     let frames = c.args.frames.now in
     let h = c.index-as_slice-call.result in
-    let y = c.begin_call.new.world.run in
+    let y = (g.W.MakesSteps.run c.begin_call.new.world) in
     let found : slice_get script.handlers call.handler ≡ Some h =
     subst (λ (l : List Handler). slice_get l call.handler ≡ Some h) c.as_slice.ensures
     (slice_get_read c.as_slice.result.now (length c.as_slice.result.now) call.handler h refl
     (subst (λ (l : List Handler). call.handler < length l) (sym c.as_slice.ensures) (called_within script (sizes frames) call c.requires.call))
     c.index-as_slice-call.is) in
     let handed : given frames call ≡ Some c.in-Some.inside = sym c.in_ok-inside.ensures ∙ c.in-Some.is in
-    let old : Doing = doing c.args.world.now.run left action frames in
+    let old : Doing = doing (g.W.MakesSteps.run c.args.world.now) left action frames in
     let d : Doing = doing y left action frames in
     let n = c.in-Began.name in
-    let r : Done = done c.run-ended.new.world.run c.run-ended.new.self.left c.run-ended.new.action c.run-ended.new.frames c.in_ok-flow.flow in
+    let r : Done = done (g.W.MakesSteps.run c.run-ended.new.world) c.run-ended.new.self.left c.run-ended.new.action c.run-ended.new.frames c.in_ok-flow.flow in
     let was : c.run-ended.result ≡ Ok c.in_ok-flow.flow = search rules in
     let acts : acting c.new-child.result ≡ begun_at h.guardian n =
     acting_begun c.new-child.result n h.guardian c.new-child.ensures.name c.new-child.ensures.home
     (ap (λ x. x.homes.keys) c.new-child.ensures.reached ∙ c.in_ok-reached.ensures.homes)
     (ap (λ x. x.participants.keys) c.new-child.ensures.reached ∙ c.in_ok-reached.ensures.participants) in
     let own : ComesSo script left r (λ go. run go (acting c.new-child.result) c.in-Some.inside c.as_slice-2.result.now d) =
-    if_ok_at (λ flow. ComesSo script left (done c.run-ended.new.world.run c.run-ended.new.self.left c.run-ended.new.action c.run-ended.new.frames flow)
+    if_ok_at (λ flow. ComesSo script left (done (g.W.MakesSteps.run c.run-ended.new.world) c.run-ended.new.self.left c.run-ended.new.action c.run-ended.new.frames flow)
     (λ go. run go (acting c.new-child.result) c.in-Some.inside c.as_slice-2.result.now d)) c.run-ended.result c.in_ok-flow.flow was c.run-ended.ensures.means in
     let ran : ComesSo script left r (λ go. run go (begun_at h.guardian n) c.in-Some.inside h.body d) =
     λ most lt. own most lt
@@ -690,11 +690,11 @@ call-returns-in-Aborted-clause-means g t c =
     let e = c.run_signals-in-Aborted in
     if_ok_then e.result e.ensures.means
     (λ flow m.
-    let this : Done = done e.new.world.run e.new.self.left e.new.action e.new.frames flow in
+    let this : Done = done (g.W.MakesSteps.run e.new.world) e.new.self.left e.new.action e.new.frames flow in
     let signalled : ComesSo script c.run-ended.new.self.left this
-    (λ go. on_signal go signals (doing c.run-ended.new.world.run c.run-ended.new.self.left c.take_in-taken.new.self frames)) =
+    (λ go. on_signal go signals (doing (g.W.MakesSteps.run c.run-ended.new.world) c.run-ended.new.self.left c.take_in-taken.new.self frames)) =
     of_script c.run-ended.new.self.script.now script c.run-ended.new.self.left this
-    (λ x go. on_signal go signals (doing c.run-ended.new.world.run c.run-ended.new.self.left c.take_in-taken.new.self frames)) c.run-ended.ensures.script m in
+    (λ x go. on_signal go signals (doing (g.W.MakesSteps.run c.run-ended.new.world) c.run-ended.new.self.left c.take_in-taken.new.self frames)) c.run-ended.ensures.script m in
     call_so script left old (slice_get script.handlers call.handler) h call signals (given frames call) c.in-Some.inside y (called.Began n) this found handed
     c.in_ok-name.ensures.made came
     (called_so script left d h c.in-Some.inside call.binding signals n r this ran
@@ -710,24 +710,24 @@ call-returns-in-Ended-clause-means g t c =
     let action = c.args.action.now in
     let frames = c.args.frames.now in
     let h = c.index-as_slice-call.result in
-    let y = c.begin_call.new.world.run in
+    let y = (g.W.MakesSteps.run c.begin_call.new.world) in
     let found : slice_get script.handlers call.handler ≡ Some h =
     subst (λ (l : List Handler). slice_get l call.handler ≡ Some h) c.as_slice.ensures
     (slice_get_read c.as_slice.result.now (length c.as_slice.result.now) call.handler h refl
     (subst (λ (l : List Handler). call.handler < length l) (sym c.as_slice.ensures) (called_within script (sizes frames) call c.requires.call))
     c.index-as_slice-call.is) in
     let handed : given frames call ≡ Some c.in-Some.inside = sym c.in_ok-inside.ensures ∙ c.in-Some.is in
-    let old : Doing = doing c.args.world.now.run left action frames in
+    let old : Doing = doing (g.W.MakesSteps.run c.args.world.now) left action frames in
     let d : Doing = doing y left action frames in
     let n = c.in-Began.name in
-    let r : Done = done c.run-ended.new.world.run c.run-ended.new.self.left c.run-ended.new.action c.run-ended.new.frames c.in_ok-flow.flow in
+    let r : Done = done (g.W.MakesSteps.run c.run-ended.new.world) c.run-ended.new.self.left c.run-ended.new.action c.run-ended.new.frames c.in_ok-flow.flow in
     let was : c.run-ended.result ≡ Ok c.in_ok-flow.flow = search rules in
     let acts : acting c.new-child.result ≡ begun_at h.guardian n =
     acting_begun c.new-child.result n h.guardian c.new-child.ensures.name c.new-child.ensures.home
     (ap (λ x. x.homes.keys) c.new-child.ensures.reached ∙ c.in_ok-reached.ensures.homes)
     (ap (λ x. x.participants.keys) c.new-child.ensures.reached ∙ c.in_ok-reached.ensures.participants) in
     let own : ComesSo script left r (λ go. run go (acting c.new-child.result) c.in-Some.inside c.as_slice-2.result.now d) =
-    if_ok_at (λ flow. ComesSo script left (done c.run-ended.new.world.run c.run-ended.new.self.left c.run-ended.new.action c.run-ended.new.frames flow)
+    if_ok_at (λ flow. ComesSo script left (done (g.W.MakesSteps.run c.run-ended.new.world) c.run-ended.new.self.left c.run-ended.new.action c.run-ended.new.frames flow)
     (λ go. run go (acting c.new-child.result) c.in-Some.inside c.as_slice-2.result.now d)) c.run-ended.result c.in_ok-flow.flow was c.run-ended.ensures.means in
     let ran : ComesSo script left r (λ go. run go (begun_at h.guardian n) c.in-Some.inside h.body d) =
     λ most lt. own most lt
@@ -737,7 +737,7 @@ call-returns-in-Ended-clause-means g t c =
     c.in_ok-taken.ensures.taken
     ∙ ap (λ b. taken_in (acting action) r.doing.acting b) (c.has_committed.ensures ∙ ap (λ x. has_committed x) was) in
     let came = sym c.in-Began.is ∙ c.in_ok-name.ensures.called in
-    let this : Done = done c.run-ended.new.world.run c.run-ended.new.self.left c.take_in-taken.new.self c.bind_value.new.frames c.in_ok-bind_value-in-Ended.field-0 in
+    let this : Done = done (g.W.MakesSteps.run c.run-ended.new.world) c.run-ended.new.self.left c.take_in-taken.new.self c.bind_value.new.frames c.in_ok-bind_value-in-Ended.field-0 in
     call_so script left old (slice_get script.handlers call.handler) h call signals (given frames call) c.in-Some.inside y (called.Began n) this found handed
     c.in_ok-name.ensures.made came
     (called_so script left d h c.in-Some.inside call.binding signals n r this ran (λ most lt. ended_back (body_done script.handlers most) call.binding signals d r (acting c.take_in-taken.new.self) taken c.bind_value.new.frames c.in_ok-bind_value-in-Ended.field-0 c.in-Ended.is c.in_ok-bind_value-in-Ended.ensures.means))
@@ -751,24 +751,24 @@ call-returns-in-Returned-clause-means g t c =
     let action = c.args.action.now in
     let frames = c.args.frames.now in
     let h = c.index-as_slice-call.result in
-    let y = c.begin_call.new.world.run in
+    let y = (g.W.MakesSteps.run c.begin_call.new.world) in
     let found : slice_get script.handlers call.handler ≡ Some h =
     subst (λ (l : List Handler). slice_get l call.handler ≡ Some h) c.as_slice.ensures
     (slice_get_read c.as_slice.result.now (length c.as_slice.result.now) call.handler h refl
     (subst (λ (l : List Handler). call.handler < length l) (sym c.as_slice.ensures) (called_within script (sizes frames) call c.requires.call))
     c.index-as_slice-call.is) in
     let handed : given frames call ≡ Some c.in-Some.inside = sym c.in_ok-inside.ensures ∙ c.in-Some.is in
-    let old : Doing = doing c.args.world.now.run left action frames in
+    let old : Doing = doing (g.W.MakesSteps.run c.args.world.now) left action frames in
     let d : Doing = doing y left action frames in
     let n = c.in-Began.name in
-    let r : Done = done c.run-ended.new.world.run c.run-ended.new.self.left c.run-ended.new.action c.run-ended.new.frames c.in_ok-flow.flow in
+    let r : Done = done (g.W.MakesSteps.run c.run-ended.new.world) c.run-ended.new.self.left c.run-ended.new.action c.run-ended.new.frames c.in_ok-flow.flow in
     let was : c.run-ended.result ≡ Ok c.in_ok-flow.flow = search rules in
     let acts : acting c.new-child.result ≡ begun_at h.guardian n =
     acting_begun c.new-child.result n h.guardian c.new-child.ensures.name c.new-child.ensures.home
     (ap (λ x. x.homes.keys) c.new-child.ensures.reached ∙ c.in_ok-reached.ensures.homes)
     (ap (λ x. x.participants.keys) c.new-child.ensures.reached ∙ c.in_ok-reached.ensures.participants) in
     let own : ComesSo script left r (λ go. run go (acting c.new-child.result) c.in-Some.inside c.as_slice-2.result.now d) =
-    if_ok_at (λ flow. ComesSo script left (done c.run-ended.new.world.run c.run-ended.new.self.left c.run-ended.new.action c.run-ended.new.frames flow)
+    if_ok_at (λ flow. ComesSo script left (done (g.W.MakesSteps.run c.run-ended.new.world) c.run-ended.new.self.left c.run-ended.new.action c.run-ended.new.frames flow)
     (λ go. run go (acting c.new-child.result) c.in-Some.inside c.as_slice-2.result.now d)) c.run-ended.result c.in_ok-flow.flow was c.run-ended.ensures.means in
     let ran : ComesSo script left r (λ go. run go (begun_at h.guardian n) c.in-Some.inside h.body d) =
     λ most lt. own most lt
@@ -778,7 +778,7 @@ call-returns-in-Returned-clause-means g t c =
     c.in_ok-taken.ensures.taken
     ∙ ap (λ b. taken_in (acting action) r.doing.acting b) (c.has_committed.ensures ∙ ap (λ x. has_committed x) was) in
     let came = sym c.in-Began.is ∙ c.in_ok-name.ensures.called in
-    let this : Done = done c.run-ended.new.world.run c.run-ended.new.self.left c.take_in-taken.new.self c.bind_value-in-Returned.new.frames c.in_ok-bind_value-in-Returned.field-0 in
+    let this : Done = done (g.W.MakesSteps.run c.run-ended.new.world) c.run-ended.new.self.left c.take_in-taken.new.self c.bind_value-in-Returned.new.frames c.in_ok-bind_value-in-Returned.field-0 in
     call_so script left old (slice_get script.handlers call.handler) h call signals (given frames call) c.in-Some.inside y (called.Began n) this found handed
     c.in_ok-name.ensures.made came
     (called_so script left d h c.in-Some.inside call.binding signals n r this ran (λ most lt. returned_back (body_done script.handlers most) call.binding signals d r (acting c.take_in-taken.new.self) taken c.in-Returned.value c.bind_value-in-Returned.new.frames c.in_ok-bind_value-in-Returned.field-0 c.in-Returned.is c.in_ok-bind_value-in-Returned.ensures.means))
@@ -792,24 +792,24 @@ call-returns-clause-means g t c =
     let action = c.args.action.now in
     let frames = c.args.frames.now in
     let h = c.index-as_slice-call.result in
-    let y = c.begin_call.new.world.run in
+    let y = (g.W.MakesSteps.run c.begin_call.new.world) in
     let found : slice_get script.handlers call.handler ≡ Some h =
     subst (λ (l : List Handler). slice_get l call.handler ≡ Some h) c.as_slice.ensures
     (slice_get_read c.as_slice.result.now (length c.as_slice.result.now) call.handler h refl
     (subst (λ (l : List Handler). call.handler < length l) (sym c.as_slice.ensures) (called_within script (sizes frames) call c.requires.call))
     c.index-as_slice-call.is) in
     let handed : given frames call ≡ Some c.in-Some.inside = sym c.in_ok-inside.ensures ∙ c.in-Some.is in
-    let old : Doing = doing c.args.world.now.run left action frames in
+    let old : Doing = doing (g.W.MakesSteps.run c.args.world.now) left action frames in
     let d : Doing = doing y left action frames in
     let n = c.in-Began.name in
-    let r : Done = done c.run-ended.new.world.run c.run-ended.new.self.left c.run-ended.new.action c.run-ended.new.frames c.in_ok-flow.flow in
+    let r : Done = done (g.W.MakesSteps.run c.run-ended.new.world) c.run-ended.new.self.left c.run-ended.new.action c.run-ended.new.frames c.in_ok-flow.flow in
     let was : c.run-ended.result ≡ Ok c.in_ok-flow.flow = search rules in
     let acts : acting c.new-child.result ≡ begun_at h.guardian n =
     acting_begun c.new-child.result n h.guardian c.new-child.ensures.name c.new-child.ensures.home
     (ap (λ x. x.homes.keys) c.new-child.ensures.reached ∙ c.in_ok-reached.ensures.homes)
     (ap (λ x. x.participants.keys) c.new-child.ensures.reached ∙ c.in_ok-reached.ensures.participants) in
     let own : ComesSo script left r (λ go. run go (acting c.new-child.result) c.in-Some.inside c.as_slice-2.result.now d) =
-    if_ok_at (λ flow. ComesSo script left (done c.run-ended.new.world.run c.run-ended.new.self.left c.run-ended.new.action c.run-ended.new.frames flow)
+    if_ok_at (λ flow. ComesSo script left (done (g.W.MakesSteps.run c.run-ended.new.world) c.run-ended.new.self.left c.run-ended.new.action c.run-ended.new.frames flow)
     (λ go. run go (acting c.new-child.result) c.in-Some.inside c.as_slice-2.result.now d)) c.run-ended.result c.in_ok-flow.flow was c.run-ended.ensures.means in
     let ran : ComesSo script left r (λ go. run go (begun_at h.guardian n) c.in-Some.inside h.body d) =
     λ most lt. own most lt
@@ -819,15 +819,15 @@ call-returns-clause-means g t c =
     c.in_ok-taken.ensures.taken
     ∙ ap (λ b. taken_in (acting action) r.doing.acting b) (c.has_committed.ensures ∙ ap (λ x. has_committed x) was) in
     let came = sym c.in-Began.is ∙ c.in_ok-name.ensures.called in
-    let this : Done = done c.run-ended.new.world.run c.run-ended.new.self.left c.take_in-taken.new.self frames (Outwards c.in-Outwards.reach) in
+    let this : Done = done (g.W.MakesSteps.run c.run-ended.new.world) c.run-ended.new.self.left c.take_in-taken.new.self frames (Outwards c.in-Outwards.reach) in
     call_so script left old (slice_get script.handlers call.handler) h call signals (given frames call) c.in-Some.inside y (called.Began n) this found handed
     c.in_ok-name.ensures.made came
     (called_so script left d h c.in-Some.inside call.binding signals n r this ran (λ most lt. outwards_back (body_done script.handlers most) call.binding signals d r (acting c.take_in-taken.new.self) taken c.in-Outwards.reach c.in-Outwards.is))
 
 pub run_arms-loop-arm-init : goal.run_arms-loop-arm-init
 run_arms-loop-arm-init g t c = record {
-  goes_on = goes_nowhere c.args.world.now.run c.requires.run;
-  own = keeps_nowhere c.args.waiting.now.items c.args.world.now.run;
+  goes_on = goes_nowhere (g.W.MakesSteps.run c.args.world.now) c.requires.run;
+  own = keeps_nowhere c.args.waiting.now.items (g.W.MakesSteps.run c.args.world.now);
   others = λ a h k. refl;
   among = λ a h. h;
   each = omega (arith, c.requires.each);
@@ -851,10 +851,10 @@ run_arms-returns-then-not-matches-clause-means g t c =
     let arm = c.arm-item.result in
     let a = c.new-child.result.name in
     let names = c.pop.new.self.items in
-    let old : Doing = doing c.args.world.now.run left c.args.action.now frames in
-    let d : Doing = doing l.world.run l.self.left l.action frames in
-    let r : Done = done c.run-ended.new.world.run c.run-ended.new.self.left c.run-ended.new.action c.run-ended.new.frames c.in_ok-flow.flow in
-    let next : Doing = doing c.run-ended.new.world.run c.run-ended.new.self.left c.match-arm.action frames in
+    let old : Doing = doing (g.W.MakesSteps.run c.args.world.now) left c.args.action.now frames in
+    let d : Doing = doing (g.W.MakesSteps.run l.world) l.self.left l.action frames in
+    let r : Done = done (g.W.MakesSteps.run c.run-ended.new.world) c.run-ended.new.self.left c.run-ended.new.action c.run-ended.new.frames c.in_ok-flow.flow in
+    let next : Doing = doing (g.W.MakesSteps.run c.run-ended.new.world) c.run-ended.new.self.left c.match-arm.action frames in
     let popped_so = popped l.waiting.items names c.pop.result c.unwrap.result a c.pop.ensures.items c.unwrap.ensures c.new-child.ensures.name in
     let from : AreArmsFrom script left arms (reverse c.args.waiting.now.items) old (arm ∷ drop (l.arm-index + 1) arms) (a ∷ reverse names) d =
     subst (λ (x : List Arm). AreArmsFrom script left arms (reverse c.args.waiting.now.items) old x (a ∷ reverse names) d)
@@ -874,12 +874,12 @@ run_arms-returns-then-not-matches-clause-means g t c =
     (body_of arm) d acts c.in_ok-inside.ensures c.arm_body.ensures in
     let knows : next ≡ past_arm (kind_of arm) d r = elim c.match-arm.branch [
       | run_arms-in-Sub w ↦
-          ap (λ (x : OpenAction). doing c.run-ended.new.world.run c.run-ended.new.self.left x frames) w.action-is
+          ap (λ (x : OpenAction). doing (g.W.MakesSteps.run c.run-ended.new.world) c.run-ended.new.self.left x frames) w.action-is
           ∙ sub_past arm w.in-Sub.field-0 d r (acting w.take_in-taken.new.self) w.in-Sub.is
           (ok_so w.take_in-taken.result c.in_ok-taken.field-0 _ (sym w.taken-is ∙ c.in_ok-taken.was) w.take_in-taken.ensures.taken
           ∙ ap (λ b. taken_in (acting l.action) r.doing.acting b) (w.has_committed.ensures ∙ ap (λ x. has_committed x) c.in_ok-flow.was))
       | run_arms-in-Top w ↦
-          ap (λ (x : OpenAction). doing c.run-ended.new.world.run c.run-ended.new.self.left x frames) w.action-is
+          ap (λ (x : OpenAction). doing (g.W.MakesSteps.run c.run-ended.new.world) c.run-ended.new.self.left x frames) w.action-is
           ∙ top_past arm w.in-Top.field-0 d r w.in-Top.is
     ] in
     let stops : is_past c.in_ok-flow.flow ≡ false = elim c.match-matches.branch [
@@ -893,26 +893,26 @@ pub run_arms-returns-clause-means : goal.run_arms-returns-clause-means
 run_arms-returns-clause-means g t c =
     let l = c.loop-arm in
     arms_end c.args.self.now.script.now c.args.self.now.left c.args.arms.now (reverse c.args.waiting.now.items)
-    (doing c.args.world.now.run c.args.self.now.left c.args.action.now c.args.frames.now)
-    (doing l.world.run l.self.left l.action c.args.frames.now) (drop l.arm-index c.args.arms.now) (reverse l.waiting.items)
+    (doing (g.W.MakesSteps.run c.args.world.now) c.args.self.now.left c.args.action.now c.args.frames.now)
+    (doing (g.W.MakesSteps.run l.world) l.self.left l.action c.args.frames.now) (drop l.arm-index c.args.arms.now) (reverse l.waiting.items)
     (drop_of_length-le c.args.arms.now (omega (arith, c.loop-arm-test.false))) l.invariant.means
 
 pub statement-returns-in-Signalled-clause-means : goal.statement-returns-in-Signalled-clause-means
 statement-returns-in-Signalled-clause-means g t c =
     let script = c.args.self.now.script.now in
-    let d : Doing = (doing c.args.world.now.run c.args.self.now.left c.args.action.now c.args.frames.now) in
-    let came : (outcome.Signalled, c.perform.new.frames) ≡ outcome_of c.args.world.now.run c.args.frames.now c.in-Op.call.binding
+    let d : Doing = (doing (g.W.MakesSteps.run c.args.world.now) c.args.self.now.left c.args.action.now c.args.frames.now) in
+    let came : (outcome.Signalled, c.perform.new.frames) ≡ outcome_of (g.W.MakesSteps.run c.args.world.now) c.args.frames.now c.in-Op.call.binding
     (step_for c.args.action.now.name c.args.action.now.home c.args.frames.now c.in-Op.call) =
     ap (λ o. (o, c.perform.new.frames)) (sym c.in-Signalled.is) ∙ c.in_ok-perform-in-Op.ensures.outcome in
     if_ok_then c.run_signals.result c.run_signals.ensures.means
     (λ flow m most lt. m most lt
-    ∙ sym (op_comes script.handlers (body_done script.handlers most) c.in-Op.call c.in-Op.signals d c.args.statement.now c.perform.new.world.run
+    ∙ sym (op_comes script.handlers (body_done script.handlers most) c.in-Op.call c.in-Op.signals d c.args.statement.now (g.W.MakesSteps.run c.perform.new.world)
     c.perform.new.frames outcome.Signalled c.in-Op.is c.in_ok-perform-in-Op.ensures.made came))
 
 pub statement-returns-in-Call-clause-means : goal.statement-returns-in-Call-clause-means
 statement-returns-in-Call-clause-means g t c =
     let script = c.args.self.now.script.now in
-    let d : Doing = (doing c.args.world.now.run c.args.self.now.left c.args.action.now c.args.frames.now) in
+    let d : Doing = (doing (g.W.MakesSteps.run c.args.world.now) c.args.self.now.left c.args.action.now c.args.frames.now) in
     if_ok_then c.call.result c.call.ensures.means
     (λ flow m most lt. m most lt
     ∙ sym (call_goes script.handlers (body_done script.handlers most) d c.in-Call.call c.in-Call.signals c.args.statement.now c.in-Call.is))
@@ -921,11 +921,11 @@ pub top_action-returns-in-Aborted-clause-means : goal.top_action-returns-in-Abor
 top_action-returns-in-Aborted-clause-means g t c =
     let script = c.args.self.now.script.now in
     let left = c.args.self.now.left in
-    let old : Doing = doing c.args.world.now.run left c.args.action.now c.args.frames.now in
-    let d : Doing = doing c.begin_nested.new.world.run left c.args.action.now c.args.frames.now in
+    let old : Doing = doing (g.W.MakesSteps.run c.args.world.now) left c.args.action.now c.args.frames.now in
+    let d : Doing = doing (g.W.MakesSteps.run c.begin_nested.new.world) left c.args.action.now c.args.frames.now in
     let home = c.args.action.now.home in
     let a = c.in-Some.name in
-    let r : Done = done c.run.new.world.run c.run.new.self.left c.run.new.action c.run.new.frames c.in_ok-flow.flow in
+    let r : Done = done (g.W.MakesSteps.run c.run.new.world) c.run.new.self.left c.run.new.action c.run.new.frames c.in_ok-flow.flow in
     let acts : acting c.new-nested.result ≡ begun_at home a =
     acting_begun c.new-nested.result a home c.new-nested.ensures.name c.new-nested.ensures.home
     (ap (λ x. x.homes.keys) c.new-nested.ensures.reached ∙ c.in_ok-reached.ensures.homes)
@@ -936,13 +936,13 @@ top_action-returns-in-Aborted-clause-means g t c =
     c.args.body.now d acts c.in_ok-inside.ensures refl in
     let begun = sym c.in-Some.is ∙ c.in_ok-name.ensures.begun in
     let left_then = c.run.new.self.left in
-    let then : Doing = doing c.run.new.world.run left_then c.args.action.now c.args.frames.now in
+    let then : Doing = doing (g.W.MakesSteps.run c.run.new.world) left_then c.args.action.now c.args.frames.now in
     if_ok_then c.inner.result c.inner.ensures.means
     (λ flow m.
-    let this : Done = done c.inner.new.world.run c.inner.new.self.left c.inner.new.action c.inner.new.frames flow in
+    let this : Done = done (g.W.MakesSteps.run c.inner.new.world) c.inner.new.self.left c.inner.new.action c.inner.new.frames flow in
     let signalled : ComesSo script left_then this (λ go. inner go c.args.signals.now then) =
     of_script c.run.new.self.script.now script left_then this (λ x go. inner go c.args.signals.now then) c.run.ensures.script m in
-    nested_so script left old c.args.body.now c.args.signals.now c.begin_nested.new.world.run (Some a) this c.in_ok-name.ensures.made begun
+    nested_so script left old c.args.body.now c.args.signals.now (g.W.MakesSteps.run c.begin_nested.new.world) (Some a) this c.in_ok-name.ensures.made begun
     (nested_ran script left d c.args.body.now c.args.signals.now a r this ran
     (λ most lt. signalled most (le_trans c.run.ensures.left lt)
     ∙ sym (ap (by_nested_end (body_done script.handlers most) c.args.signals.now (beside d r.doing)) c.in-Aborted.is))))

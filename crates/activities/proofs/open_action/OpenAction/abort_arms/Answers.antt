@@ -18,28 +18,28 @@ returns-clause-own g c =
     let each =
     YieldsList-end (YieldsList-from_rev_slice c.args.arms.now start) c.loop-arm.yielded _ c.loop-arm.yielded_by _ _ c.in-None.is
     c.next.ensures.steps in
-    keeps_reversed c.args.arms.now (map (λ arm. arm.now) c.loop-arm.yielded) c.args.world.now.run c.loop-arm.world.run each.0
+    keeps_reversed c.args.arms.now (map (λ arm. arm.now) c.loop-arm.yielded) (g.W.MakesSteps.run c.args.world.now) (g.W.MakesSteps.run c.loop-arm.world) each.0
     c.loop-arm.invariant.own
 
 pub loop-arm-preserved : goal.loop-arm-preserved
 loop-arm-preserved g c = record {
   goes_on =
-      goes_through c.args.world.now.run c.loop-arm.world.run c.abort_at_home.new.world.run [] [] c.loop-arm.invariant.goes_on c.abort_at_home.ensures.goes_on;
+      goes_through (g.W.MakesSteps.run c.args.world.now) (g.W.MakesSteps.run c.loop-arm.world) (g.W.MakesSteps.run c.abort_at_home.new.world) [] [] c.loop-arm.invariant.goes_on c.abort_at_home.ensures.goes_on;
   own =
-      these_keep c.loop-arm.yielded c.in-Some.arm c.args.world.now.run c.loop-arm.world.run c.abort_at_home.new.world.run c.loop-arm.invariant.own
+      these_keep c.loop-arm.yielded c.in-Some.arm (g.W.MakesSteps.run c.args.world.now) (g.W.MakesSteps.run c.loop-arm.world) (g.W.MakesSteps.run c.abort_at_home.new.world) c.loop-arm.invariant.own
       c.abort_at_home.ensures.own;
   commits =
-      commits_through c.args.world.now.run c.loop-arm.world.run c.abort_at_home.new.world.run [] c.loop-arm.invariant.goes_on c.loop-arm.invariant.commits
+      commits_through (g.W.MakesSteps.run c.args.world.now) (g.W.MakesSteps.run c.loop-arm.world) (g.W.MakesSteps.run c.abort_at_home.new.world) [] c.loop-arm.invariant.goes_on c.loop-arm.invariant.commits
       c.abort_at_home.ensures.commits;
   ends =
-      ends_through c.args.world.now.run c.loop-arm.world.run c.abort_at_home.new.world.run [] c.abort_at_home.ensures.goes_on c.loop-arm.invariant.ends
+      ends_through (g.W.MakesSteps.run c.args.world.now) (g.W.MakesSteps.run c.loop-arm.world) (g.W.MakesSteps.run c.abort_at_home.new.world) [] c.abort_at_home.ensures.goes_on c.loop-arm.invariant.ends
       c.abort_at_home.ensures.ends;
   means =
-      subst (λ r. OnOk r (c.abort_at_home.new.world.run
-      ≡ arms_aborted c.args.self.now.home (map (λ arm. arm.now) (c.loop-arm.yielded ++ (c.in-Some.arm ∷ []))) c.args.world.now.run))
+      subst (λ r. OnOk r ((g.W.MakesSteps.run c.abort_at_home.new.world)
+      ≡ arms_aborted c.args.self.now.home (map (λ arm. arm.now) (c.loop-arm.yielded ++ (c.in-Some.arm ∷ []))) (g.W.MakesSteps.run c.args.world.now)))
       (sym c.and-fault.ensures)
       (both_ok c.loop-arm.fault c.abort_at_home.result c.loop-arm.invariant.means c.abort_at_home.ensures.means
-      (arm_aborts c.args.self.now.home c.loop-arm.yielded c.in-Some.arm c.args.world.now.run c.loop-arm.world.run c.abort_at_home.new.world.run));
+      (arm_aborts c.args.self.now.home c.loop-arm.yielded c.in-Some.arm (g.W.MakesSteps.run c.args.world.now) (g.W.MakesSteps.run c.loop-arm.world) (g.W.MakesSteps.run c.abort_at_home.new.world)));
 }
 
 pub returns-clause-means : goal.returns-clause-means
@@ -50,4 +50,4 @@ returns-clause-means g c =
     let each =
     YieldsList-end (YieldsList-from_rev_slice c.args.arms.now start) c.loop-arm.yielded _ c.loop-arm.yielded_by _ _ c.in-None.is
     c.next.ensures.steps in
-    ok_then c.loop-arm.fault c.loop-arm.invariant.means (λ e. e ∙ ap (λ names. arms_aborted c.args.self.now.home names c.args.world.now.run) each.0)
+    ok_then c.loop-arm.fault c.loop-arm.invariant.means (λ e. e ∙ ap (λ names. arms_aborted c.args.self.now.home names (g.W.MakesSteps.run c.args.world.now)) each.0)

@@ -6,9 +6,9 @@ use Rattle.activities.proofs.open_action.OpenAction.abort_arms.Given as goal
 
 abbrev pub invariant-loop-arm : goal.invariant-loop-arm
 invariant-loop-arm g l = record {
-  goes_on : GoesOn l.fn.world.run l.world.run [];
-  own : KeepsTo (map (λ arm. arm.now) l.yielded) l.fn.world.run l.world.run;
-  commits : CommitsNone l.fn.world.run l.world.run;
-  ends : EndsAll l.fn.world.run l.world.run;
-  means : OnOk l.fault (l.world.run ≡ arms_aborted l.self.home (map (λ arm. arm.now) l.yielded) l.fn.world.run);
+  goes_on : GoesOn (g.W.MakesSteps.run l.fn.world) (g.W.MakesSteps.run l.world) [];
+  own : KeepsTo (map (λ arm. arm.now) l.yielded) (g.W.MakesSteps.run l.fn.world) (g.W.MakesSteps.run l.world);
+  commits : CommitsNone (g.W.MakesSteps.run l.fn.world) (g.W.MakesSteps.run l.world);
+  ends : EndsAll (g.W.MakesSteps.run l.fn.world) (g.W.MakesSteps.run l.world);
+  means : OnOk l.fault ((g.W.MakesSteps.run l.world) ≡ arms_aborted l.self.home (map (λ arm. arm.now) l.yielded) (g.W.MakesSteps.run l.fn.world));
 }

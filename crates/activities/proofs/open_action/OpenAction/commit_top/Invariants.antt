@@ -8,9 +8,9 @@ use Rattle.activities.proofs.open_action.OpenAction.commit_top.Given as goal
 
 abbrev pub invariant-loop-guardian : goal.invariant-loop-guardian
 invariant-loop-guardian g l = record {
-  goes_on : GoesOn l.fn.world.run l.world.run [];
-  own : KeepsTo (l.self.name ∷ []) l.fn.world.run l.world.run;
-  commits : CommitsNone l.fn.world.run l.world.run;
-  ends : EndsAll l.fn.world.run l.world.run;
-  means : and_then (voted l.self.name l.guardian-iterator l.world.run) (tried (Decide l.self.name)) ≡ two_phases (acting l.self) l.fn.world.run;
+  goes_on : GoesOn (g.W.MakesSteps.run l.fn.world) (g.W.MakesSteps.run l.world) [];
+  own : KeepsTo (l.self.name ∷ []) (g.W.MakesSteps.run l.fn.world) (g.W.MakesSteps.run l.world);
+  commits : CommitsNone (g.W.MakesSteps.run l.fn.world) (g.W.MakesSteps.run l.world);
+  ends : EndsAll (g.W.MakesSteps.run l.fn.world) (g.W.MakesSteps.run l.world);
+  means : and_then (voted l.self.name l.guardian-iterator (g.W.MakesSteps.run l.world)) (tried (Decide l.self.name)) ≡ two_phases (acting l.self) (g.W.MakesSteps.run l.fn.world);
 }
