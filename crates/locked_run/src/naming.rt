@@ -1,9 +1,7 @@
-//! Which guardians a step names, of so many, and whether it takes the registry.
+//! Which guardians a step names, of so many.
 ghost use Rattle.std.specs.Prelude.{◌≡◌, ◌==◌, ◌&&◌, ◌||◌};
-ghost use Rattle.run_model.specs.LocalHistories.{takes_registry};
 ghost use Rattle.locked_run.specs.Acting.{is_at_most, is_out};
 
-use run_model::Step;
 use world_steps::NamedGuardians;
 
 /// Whether no guardian of so many has this number.
@@ -40,11 +38,4 @@ pub(crate) fn names_nobody(named: NamedGuardians, count: usize) -> bool
     ensures { result ≡ (is_out count named.first && is_out count named.second) }
 {
     is_out(count, named.first) && is_out(count, named.second)
-}
-
-/// Whether the step reads or changes the registry.
-pub(crate) fn takes_registry(step: &Step) -> bool
-    ensures { result ≡ takes_registry step.now }
-{
-    !matches!(step, Step::Op(..) | Step::Crash(_) | Step::Recover(_))
 }

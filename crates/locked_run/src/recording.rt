@@ -4,11 +4,11 @@ ghost use Rattle.std.specs.Prelude.{◌≡◌, ◌∷◌, OnErr, OnOk};
 ghost use Rattle.layer_contracts.specs.Guardians.{event_of};
 ghost use Rattle.locked_run.specs.Stored.{settled, settled_there, with_taken};
 
-use crate::naming::takes_registry;
 use crate::stored::StoredHistory;
 use layer_contracts::Fault;
 use run_model::{Answer, Step};
 use std::alloc::AllocError;
+use world_steps::takes_registry;
 
 /// The histories of a guardian and the registry, in which a step is recorded.
 #[derive(Drop)]
