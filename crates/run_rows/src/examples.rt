@@ -3,7 +3,7 @@ use crate::scripts::{
     check_text, keep_script, number_fault, print_place, remake_steps, run_kept_script, run_text,
 };
 use crate::serial::{count_events, print_base, print_event, probe_locks, run_clients};
-use crate::stepping::{
+use crate::step_rows::{
     engine_answers, explain_action, keep_setup, keep_steps, lengthen_steps, list_answers,
     make_step, name_fault, rewrite_step,
 };

@@ -115,8 +115,12 @@ impl<W: System> Section<W> {
     /// `step LINE`: makes the step in the world.
     fn make_step(&mut self, line: &str, answer: &mut String) -> Result<(), RowFault> {
         let step = read_step(self.alloc, line)?;
+        self.make(&step, answer)
+    }
+
+    fn make(&mut self, step: &Step, answer: &mut String) -> Result<(), RowFault> {
         match &mut self.world {
-            Some(world) => write_step(world, &step, answer),
+            Some(world) => write_step(world, step, answer),
             None => Err(RowFault::Unread),
         }
     }

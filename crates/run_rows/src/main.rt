@@ -11,7 +11,7 @@ mod pieces;
 mod repeating;
 mod scripts;
 mod serial;
-mod stepping;
+mod step_rows;
 mod stores;
 mod system;
 mod text;

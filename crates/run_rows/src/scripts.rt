@@ -5,7 +5,7 @@ ghost use Rattle.script_engine.specs.Running.{IsFit};
 
 use crate::examples::Examples;
 use crate::pieces::Writer;
-use crate::stepping::fault_of_step;
+use crate::step_rows::fault_of_step;
 use crate::text::unescaped_text;
 use activities::run_serial;
 use argus_engine::{Ended, Fault, check_script, read_script, steps};
@@ -14,6 +14,7 @@ use run_model::History;
 use script::{Checked, ScriptFault, check, read};
 use script_engine::{run_file, setup_of};
 use script_model::{FaultKind, Pointer};
+use stable_store::PlainStable;
 use std::alloc::{AllocError, Global};
 use world::World;
 
@@ -136,8 +137,21 @@ fn made(alloc: Global, script: &Checked) -> Result<Lines, RowFault>
     requires resolved { IsResolved script.now }
 {
     let mut world = World::in_memory(alloc, setup_of(alloc, script)?)?;
-    run_serial(alloc, &mut world, script).map_err(fault_of_step)?;
-    Ok(lines_of(alloc, &world.history().unpacked()?)?)
+    run_in(alloc, &mut world, script)?;
+    lines_in(alloc, &world)
+}
+
+fn run_in(alloc: Global, world: &mut World<PlainStable>, script: &Checked) -> Result<(), RowFault>
+    requires { IsResolved script.now }
+{
+    run_serial(alloc, world, script).map_err(fault_of_step)?;
+    Ok(())
+}
+
+/// What has happened in the world.
+fn lines_in(alloc: Global, world: &World<PlainStable>) -> Result<Lines, RowFault> {
+    let history = world.history().unpacked()?;
+    Ok(lines_of(alloc, &history)?)
 }
 
 fn lines_of(alloc: Global, history: &History) -> Result<Lines, AllocError> {

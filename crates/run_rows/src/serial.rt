@@ -1,10 +1,10 @@
 //! Rows of what `run_serial` makes and leaves.
 use crate::examples::Examples;
 use crate::scripts::script_of;
-use crate::stepping::{fault_of_step, made, world_of};
+use crate::step_rows::{answer_to, fault_of_step, made, world_of};
 use activities::{ClientEnd, run_serial};
 use rows::{Row, RowFault, Words};
-use run_model::{Answer, ObjectId, Step};
+use run_model::{Answer, Name, ObjectId, Step};
 use stable_store::{PlainStable, Stable};
 use std::alloc::{AllocError, Global};
 use world::World;
@@ -26,13 +26,24 @@ fn world_after(
     count: u64,
     answer: &mut String,
 ) -> Result<World<PlainStable>, RowFault> {
-    let script = script_of(examples.alloc, examples.script.as_str())?;
     let mut world = world_of(examples.alloc, examples.setup.as_str())?;
+    run_again(examples, count, &mut world, answer)?;
+    Ok(world)
+}
+
+/// Runs the section's script so many times in the world.
+fn run_again(
+    examples: &Examples,
+    count: u64,
+    world: &mut World<PlainStable>,
+    answer: &mut String,
+) -> Result<(), RowFault> {
+    let script = script_of(examples.alloc, examples.script.as_str())?;
     for _ in 0..count {
-        let ends = run_serial(examples.alloc, &mut world, &script).map_err(fault_of_step)?;
+        let ends = run_serial(examples.alloc, world, &script).map_err(fault_of_step)?;
         push_ends(ends.as_slice(), answer)?;
     }
-    Ok(world)
+    Ok(())
 }
 
 fn push_ends(ends: &[ClientEnd], answer: &mut String) -> Result<(), AllocError> {
@@ -105,14 +116,19 @@ pub(crate) fn probe_locks(
     row: &Row<'_>,
     answer: &mut String,
 ) -> Result<(), RowFault> {
-    let script = script_of(examples.alloc, examples.script.as_str())?;
     let mut world = world_of(examples.alloc, examples.setup.as_str())?;
-    let is_run = run_serial(examples.alloc, &mut world, &script).is_ok();
+    let is_run = is_run_in(examples, &mut world)?;
     push_probes(examples.alloc, &mut world, row.given, answer)?;
     if is_run || answer.as_str() != row.answer {
         return Ok(());
     }
     Err(RowFault::Memory)
+}
+
+/// Whether a run of the section's script in the world came to its end.
+fn is_run_in(examples: &Examples, world: &mut World<PlainStable>) -> Result<bool, RowFault> {
+    let script = script_of(examples.alloc, examples.script.as_str())?;
+    Ok(run_serial(examples.alloc, world, &script).is_ok())
 }
 
 fn push_probes<S: Stable>(
@@ -151,12 +167,21 @@ fn operation_line<S: Stable>(
     guardian: u32,
     operation: &str,
 ) -> Result<String, RowFault> {
-    let begun = world.step(&Step::Top(guardian)).map_err(fault_of_step)?;
-    let Answer::Began(names) = begun else {
-        return Err(RowFault::Unread);
-    };
+    let begun = answer_to(world, &Step::Top(guardian))?;
+    line_by(alloc, &begun, operation)
+}
+
+/// The line of an operation by the action that the answer began.
+fn line_by(alloc: Global, begun: &Answer, operation: &str) -> Result<String, RowFault> {
+    match begun {
+        Answer::Began(names) => Ok(line_of(alloc, names.as_slice(), operation)?),
+        _ => Err(RowFault::Unread),
+    }
+}
+
+fn line_of(alloc: Global, names: &[Name], operation: &str) -> Result<String, AllocError> {
     let mut line = String::from_str(alloc, "op")?;
-    for name in names.as_slice() {
+    for name in names {
         line.push(' ')?;
         name.write_to(&mut line)?;
     }

@@ -77,19 +77,33 @@ pub(crate) fn made<S: Stable>(
     line: &str,
 ) -> Result<Answer, RowFault> {
     match Step::read(alloc, line.as_bytes())? {
-        Some(step) => world.step(&step).map_err(fault_of_step),
+        Some(step) => answer_to(world, &step),
         None => Err(RowFault::Unread),
     }
 }
 
+/// The answer of the world to the step.
+pub(crate) fn answer_to<S: Stable>(world: &mut World<S>, step: &Step) -> Result<Answer, RowFault> {
+    world.step(step).map_err(fault_of_step)
+}
+
 /// `list`: what a new world answers to the section's steps as one list.
 pub(crate) fn list_answers(examples: &Examples, answer: &mut String) -> Result<(), RowFault> {
+    let mut answers: Vec<Answer> = Vec::new(examples.alloc);
+    run_kept_steps(examples, &mut answers)?;
+    write_answers(examples.alloc, answers.as_slice(), answer)
+}
+
+/// Makes the section's steps in a new world.
+fn run_kept_steps(examples: &Examples, answers: &mut Vec<Answer>) -> Result<(), RowFault> {
     let list = list_of(examples.alloc, examples.steps.as_slice())?;
     let mut world = world_of(examples.alloc, examples.setup.as_str())?;
-    let mut answers: Vec<Answer> = Vec::new(examples.alloc);
-    run_list(&mut world, list.as_slice(), &mut answers).map_err(fault_of_step)?;
-    for given in &answers {
-        let line = given.text(examples.alloc)?;
+    run_list(&mut world, list.as_slice(), answers).map_err(fault_of_step)
+}
+
+fn write_answers(alloc: Global, answers: &[Answer], answer: &mut String) -> Result<(), RowFault> {
+    for given in answers {
+        let line = given.text(alloc)?;
         escape(line.as_str(), answer)?;
         answer.push_str("\\n")?;
     }
@@ -132,14 +146,23 @@ pub(crate) fn engine_answers(
     row: &Row<'_>,
     answer: &mut String,
 ) -> Result<(), RowFault> {
+    let mut world = world_of(examples.alloc, examples.setup.as_str())?;
+    engine_answers_in(examples, &mut world, row, answer)?;
+    examples.world = world;
+    Ok(())
+}
+
+fn engine_answers_in(
+    examples: &Examples,
+    world: &mut World<PlainStable>,
+    row: &Row<'_>,
+    answer: &mut String,
+) -> Result<(), RowFault> {
     let mut words = row.words();
     let mut reader = Reader::of_word(words.word()?, examples.steps.as_slice())?;
     let mut writer = Writer::of_word(examples.alloc, words.word()?)?;
-    let mut world = world_of(examples.alloc, examples.setup.as_str())?;
-    let ended = steps(examples.alloc, &mut world, &mut reader, &mut writer);
-    writer.tell(examples.alloc, ended, row.answer, answer)?;
-    examples.world = world;
-    Ok(())
+    let ended = steps(examples.alloc, world, &mut reader, &mut writer);
+    writer.tell(examples.alloc, ended, row.answer, answer)
 }
 
 /// `explain WRITER ACTION`: what is written of the action after what happened in the section's world.
