@@ -249,6 +249,7 @@ impl<K: OfRun, R: Forest, G: Guardian, P: Gate> Runtime<K, R, G, P> {
             earlier,
             step,
         )?;
+        drop(registry);
         if is_accepted(&done) {
             one.wake();
             other.wake();
@@ -283,6 +284,7 @@ impl<K: OfRun, R: Forest, G: Guardian, P: Gate> Runtime<K, R, G, P> {
             earlier,
             step,
         )?;
+        drop(registry);
         if is_accepted(&done) {
             place.wake();
         }
@@ -361,8 +363,17 @@ impl<K: OfRun, R: Forest, G: Guardian, P: Gate> Runtime<K, R, G, P> {
 
     /// The guardians that the step names, as the registry knows it now.
     fn named<H: Wait>(&self, rt: &H, step: &Step) -> NamedGuardians {
-        let registry = self.registry.lock(rt);
-        registry.named(step)
+        match step {
+            // the step itself names its guardian
+            Step::Top(guardian) | Step::Tell(guardian, _) => NamedGuardians {
+                first: *guardian,
+                second: *guardian,
+            },
+            _ => {
+                let registry = self.registry.lock(rt);
+                registry.named(step)
+            }
+        }
     }
 
     fn at(&self, number: u32) -> Option<&Place<K, G>> {
