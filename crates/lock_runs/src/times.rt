@@ -10,7 +10,7 @@ ghost use Rattle.world.specs.Worlds.{seen_of};
 
 use crate::examples::make_all;
 use crate::runs::{Threaded, end, push, setup_of, started, world_answer, world_of};
-use crate::transfers::{ACCOUNT, GUARDIANS, Share, Steps, Work, Workers, all_work};
+use crate::transfers::{ACCOUNT, GUARDIANS, Share, Steps, Work, Workers, all_work, gather};
 use guardian::Guardian;
 use registry::Registry;
 use rows::RowFault;
@@ -163,12 +163,13 @@ fn workers_in<K: OfRun + Send + Sync, H: Threads + Wait + Sync + Clock>(
         K.opening [] guardians.items }
 {
     let runtime = Threaded::<K, OpenGate>::new(alloc, start, registry, guardians, OpenGate)?;
-    let mut receipts = Vec::new(alloc);
     let begun = Instant::now(rt);
-    let made = all_work(alloc, rt, &runtime, workers, &mut receipts);
+    let worked = all_work(alloc, rt, &runtime, workers);
     let taken = since(rt, begun);
+    let mut receipts = Vec::new(alloc);
+    let gathered = gather(worked, &mut receipts);
     end(runtime, receipts)?;
-    made?;
+    gathered?;
     taken
 }
 

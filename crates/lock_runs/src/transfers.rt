@@ -7,7 +7,7 @@ use action_names::Name;
 use rows::RowFault;
 use run_model::{Answer, ObjectId, Op, Step};
 use runtime::{OfRun, OpenGate, Receipt};
-use std::alloc::Global;
+use std::alloc::{AllocError, Global};
 use std::sync::Wait;
 use std::thread::{Threads, map_indices};
 
@@ -74,21 +74,30 @@ pub(crate) struct Workers {
     pub(crate) turns: u32,
 }
 
-/// What all threads do.
+/// What came of one thread's work: its receipts.
+pub(crate) type Worked<K> = Result<Vec<Receipt<K>>, RowFault>;
+
+/// The work of all threads.
 pub(crate) fn all_work<K: OfRun + Send + Sync, H: Threads + Wait + Sync>(
     alloc: Global,
     rt: &H,
     runtime: &Threaded<K, OpenGate>,
     workers: Workers,
-    receipts: &mut Vec<Receipt<K>>,
-) -> Result<(), RowFault> {
-    let worked = map_indices(
+) -> Result<Vec<Worked<K>>, AllocError> {
+    map_indices(
         rt,
         alloc,
         workers.threads as usize,
         &|index| { by_one(alloc, rt, runtime, workers, index as u32) },
-    )?;
-    for one in worked {
+    )
+}
+
+/// Keeps the receipts of all threads.
+pub(crate) fn gather<K: OfRun>(
+    worked: Result<Vec<Worked<K>>, AllocError>,
+    receipts: &mut Vec<Receipt<K>>,
+) -> Result<(), RowFault> {
+    for one in worked? {
         append(receipts, one?)?;
     }
     Ok(())
