@@ -1,5 +1,5 @@
 -- The texts of steps and answers, and the JSON document that a setup is.
-use Rattle.std.specs.Prelude.{ℕ, ℤ, ◌≤◌, List, [], ◌∷◌, ◌++◌, length, codes, decimal, IsUtf8, ◌≡◌, Some}
+use Rattle.std.specs.Prelude.{ℕ, ℤ, ◌<◌, ◌≤◌, ◌^◌, List, [], ◌∷◌, ◌++◌, length, codes, decimal, IsUtf8, ◌≡◌, Some}
 use Rattle.std.specs.Fmt.{signed_decimal}
 use Rattle.std.specs.List.{AllByRecursion}
 use Rattle.limits.specs.Limits.{max_guardians, max_objects}
@@ -8,7 +8,7 @@ use Rattle.serde_json.specs.Read.{read}
 use Rattle.action_names.specs.Names.{Name, IsName, IsComponent, name_text}
 use Rattle.values.specs.declared.content.Content.{Content}
 use Rattle.values.specs.declared.value.Value.{Value}
-use Rattle.values.specs.Values.{value_text}
+use Rattle.values.specs.Values.{IsValue, value_text}
 use Rattle.values.specs.Contents.{IsContent, content_data}
 use Rattle.atomic_types.specs.Operations as op
 use Rattle.atomic_types.specs.declared.operation.Arguments.{Arguments}
@@ -158,6 +158,36 @@ answer_text VoteYes = codes "vote yes"
 answer_text VoteNo = codes "vote no"
 answer_text (Done count) = codes "done " ++ decimal count
 answer_text (Refused why) = codes "refused " ++ decimal (refusal_number why)
+
+-- one name at least, each within the limits
+abbrev pub AreNames : List Name → Type 0
+AreNames names = (1 ≤ length names) × AllByRecursion IsName names
+
+-- the value of a reply is within the limits
+abbrev pub IsReply : Reply → Type 0
+IsReply (Gives v) = IsValue v
+IsReply (Truth b) = Unit {0}
+IsReply reply.Done = Unit {0}
+IsReply (Signals s) = Unit {0}
+
+-- a count of unsigned 64 bits
+abbrev pub IsCount : ℕ → Type 0
+IsCount n = n < 2 ^ 64
+
+-- an answer that a line can spell: its names, value and count are within the limits
+abbrev pub IsAnswer : Answer → Type 0
+IsAnswer (Began names) = AreNames names
+IsAnswer (Granted r) = IsReply r
+IsAnswer (Waits names) = AreNames names
+IsAnswer VoteYes = Unit {0}
+IsAnswer VoteNo = Unit {0}
+IsAnswer (Done count) = IsCount count
+IsAnswer (Refused why) = Unit {0}
+
+-- the line spells the answer
+pub record SpellsAnswer (line : List ℕ) (answer : Answer) : Type 0 where
+  pub fits : IsAnswer answer
+  pub text : line ≡ answer_text answer
 
 -- the objects of one guardian: at most 1,024
 abbrev pub AreObjects : List Content → Type 0
