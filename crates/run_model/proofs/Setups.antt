@@ -13,11 +13,11 @@ use Rattle.values.specs.declared.words.ValueFault.TheVariants as faults
 use Rattle.run_model.specs.declared.setup.SetupFault.{SetupFault}
 use Rattle.run_model.specs.declared.setup.SetupFault.TheVariants.{Bad}
 use Rattle.values.specs.declared.content.Content.{Content}
-use Rattle.values.specs.Contents.{IsContent, content_data}
+use Rattle.values.specs.Contents.{content_data}
 use Rattle.values.proofs.Members.{object_from_members}
 use Rattle.values.proofs.Contents.{content_from_data}
 use Rattle.run_model.specs.Openings.{Setup}
-use Rattle.run_model.specs.Texts.{AreObjects, IsSetup, IsSetupText, contents_items, guardians_items, setup_data}
+use Rattle.run_model.specs.Texts.{AreObjectsOf, IsSetupOf, IsTextOf, contents_items, guardians_items, setup_data}
 use Rattle.limits.specs.Limits.{max_guardians, max_objects}
 use Rattle.run_model.specs.Documents.{guardian_data, setup_fault}
 
@@ -155,17 +155,17 @@ objects_of vs = object (member (codes "objects") (array (items_view vs)) no_memb
 same_objects : (vs : List Json) (contents : List Content) → objects_of vs ≡ guardian_data contents → items_view vs ≡ items_data content_data contents
 same_objects vs contents e = let items : items_view vs ≡ contents_items contents = cc in items ∙ contents_are contents
 
-pub objects_read : (d : Data) (vs : List Json) (contents : List Content) → d ≡ objects_of vs → length vs ≤ max_objects → ReadsItems content_data IsContent vs contents → AreObjects contents × (d ≡ guardian_data contents)
-objects_read d vs contents is few r =
+pub objects_read : (P : Content → Type 0) (d : Data) (vs : List Json) (contents : List Content) → d ≡ objects_of vs → length vs ≤ max_objects → ReadsItems content_data P vs contents → AreObjectsOf P contents × (d ≡ guardian_data contents)
+objects_read P d vs contents is few r =
     ((omega (arith, items_length content_data vs contents r.read), r.each), is ∙ ap (λ x. object (member (codes "objects") (array x) no_members)) (r.read ∙ sym (contents_are contents)))
 
-pub too_many_objects : (d : Data) (vs : List Json) → d ≡ objects_of vs → max_objects < length vs → (contents : List Content) → AreObjects contents → d ≢ guardian_data contents
-too_many_objects d vs is many contents fits e = omega (arith, items_length content_data vs contents (same_objects vs contents (sym is ∙ e)), fits.0)
+pub too_many_objects : (P : Content → Type 0) (d : Data) (vs : List Json) → d ≡ objects_of vs → max_objects < length vs → (contents : List Content) → AreObjectsOf P contents → d ≢ guardian_data contents
+too_many_objects P d vs is many contents fits e = omega (arith, items_length content_data vs contents (same_objects vs contents (sym is ∙ e)), fits.0)
 
-pub object_refused : (d : Data) (vs : List Json) (i : ℕ) (v : Json) → d ≡ objects_of vs → i < length vs → v ≡ get_or vs i v → ((c : Content) → IsContent c → view v ≢ content_data c)
-    → (contents : List Content) → AreObjects contents → d ≢ guardian_data contents
-object_refused d vs i v is lt at none contents fits e =
-    let x = items_at content_data IsContent vs contents i v (same_objects vs contents (sym is ∙ e)) fits.1 lt at in none x.0 x.1 x.2
+pub object_refused : (P : Content → Type 0) (d : Data) (vs : List Json) (i : ℕ) (v : Json) → d ≡ objects_of vs → i < length vs → v ≡ get_or vs i v → ((c : Content) → P c → view v ≢ content_data c)
+    → (contents : List Content) → AreObjectsOf P contents → d ≢ guardian_data contents
+object_refused P d vs i v is lt at none contents fits e =
+    let x = items_at content_data P vs contents i v (same_objects vs contents (sym is ∙ e)) fits.1 lt at in none x.0 x.1 x.2
 
 value_fault : (fault : ValueFault) → setup_fault fault ≡ Bad → fault ≡ faults.Unfit
 value_fault faults.Unfit e = refl
@@ -192,19 +192,19 @@ guardians_of vs = object (member (codes "guardians") (array (items_view vs)) no_
 same_guardians : (vs : List Json) (setup : Setup) → guardians_of vs ≡ setup_data setup → items_view vs ≡ items_data guardian_data setup
 same_guardians vs setup e = let items : items_view vs ≡ guardians_items setup = cc in items ∙ guardians_are setup
 
-pub guardians_read : (d : Data) (vs : List Json) (setup : Setup) → d ≡ guardians_of vs → 1 ≤ length vs → length vs ≤ max_guardians → ReadsItems guardian_data AreObjects vs setup → IsSetup setup × (d ≡ setup_data setup)
-guardians_read d vs setup is some few r =
+pub guardians_read : (P : Content → Type 0) (d : Data) (vs : List Json) (setup : Setup) → d ≡ guardians_of vs → 1 ≤ length vs → length vs ≤ max_guardians → ReadsItems guardian_data (AreObjectsOf P) vs setup → IsSetupOf P setup × (d ≡ setup_data setup)
+guardians_read P d vs setup is some few r =
     let n = items_length guardian_data vs setup r.read in
     (record { not_empty = omega arith; within_limit = omega arith; each = r.each }, is ∙ ap (λ x. object (member (codes "guardians") (array x) no_members)) (r.read ∙ sym (guardians_are setup)))
 
-pub wrong_count : (d : Data) (vs : List Json) → d ≡ guardians_of vs → (1 ≤ length vs → length vs ≤ max_guardians → ⊥) → (setup : Setup) → IsSetup setup → d ≢ setup_data setup
-wrong_count d vs is wrong setup fits e =
+pub wrong_count : (P : Content → Type 0) (d : Data) (vs : List Json) → d ≡ guardians_of vs → (1 ≤ length vs → length vs ≤ max_guardians → ⊥) → (setup : Setup) → IsSetupOf P setup → d ≢ setup_data setup
+wrong_count P d vs is wrong setup fits e =
     let n = items_length guardian_data vs setup (same_guardians vs setup (sym is ∙ e)) in wrong (omega (arith, fits.not_empty)) (omega (arith, fits.within_limit))
 
-pub guardian_refused : (d : Data) (vs : List Json) (i : ℕ) (v : Json) → d ≡ guardians_of vs → i < length vs → v ≡ get_or vs i v → ((contents : List Content) → AreObjects contents → view v ≢ guardian_data contents)
-    → (setup : Setup) → IsSetup setup → d ≢ setup_data setup
-guardian_refused d vs i v is lt at none setup fits e =
-    let x = items_at guardian_data AreObjects vs setup i v (same_guardians vs setup (sym is ∙ e)) fits.each lt at in none x.0 x.1 x.2
+pub guardian_refused : (P : Content → Type 0) (d : Data) (vs : List Json) (i : ℕ) (v : Json) → d ≡ guardians_of vs → i < length vs → v ≡ get_or vs i v → ((contents : List Content) → AreObjectsOf P contents → view v ≢ guardian_data contents)
+    → (setup : Setup) → IsSetupOf P setup → d ≢ setup_data setup
+guardian_refused P d vs i v is lt at none setup fits e =
+    let x = items_at guardian_data (AreObjectsOf P) vs setup i v (same_guardians vs setup (sym is ∙ e)) fits.each lt at in none x.0 x.1 x.2
 
 -- ---- a text is one setup at most
 
@@ -216,5 +216,5 @@ same_setup : (s t : Setup) → setup_data s ≡ setup_data t → s ≡ t
 same_setup s t e =
     let items : guardians_items s ≡ guardians_items t = cc in same_items guardian_data same_contents s t (sym (guardians_are s) ∙ items ∙ guardians_are t)
 
-pub one_setup : (bytes : List ℕ) (s t : Setup) → IsSetupText bytes s → IsSetupText bytes t → s ≡ t
-one_setup bytes s t f g = same_setup s t (same_found (setup_data s) (setup_data t) (sym f.document ∙ g.document))
+pub one_setup : (P : Content → Type 0) (bytes : List ℕ) (s t : Setup) → IsTextOf P bytes s → IsTextOf P bytes t → s ≡ t
+one_setup P bytes s t f g = same_setup s t (same_found (setup_data s) (setup_data t) (sym f.document ∙ g.document))

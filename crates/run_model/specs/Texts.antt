@@ -9,7 +9,7 @@ use Rattle.action_names.specs.Names.{Name, IsName, IsComponent, name_text}
 use Rattle.values.specs.declared.content.Content.{Content}
 use Rattle.values.specs.declared.value.Value.{Value}
 use Rattle.values.specs.Values.{IsValue, value_text}
-use Rattle.values.specs.Contents.{IsContent, content_data}
+use Rattle.values.specs.Contents.{IsContent, IsStoredContent, content_data}
 use Rattle.atomic_types.specs.Operations as op
 use Rattle.atomic_types.specs.declared.operation.Arguments.{Arguments}
 use Rattle.atomic_types.specs.declared.operation.Arguments.TheVariants as with
@@ -189,15 +189,23 @@ pub record SpellsAnswer (line : List ℕ) (answer : Answer) : Type 0 where
   pub fits : IsAnswer answer
   pub text : line ≡ answer_text answer
 
--- the objects of one guardian: at most 1,024
-abbrev pub AreObjects : List Content → Type 0
-AreObjects contents = (length contents ≤ max_objects) × AllByRecursion IsContent contents
+-- the objects of one guardian, each with such a content: at most 1,024
+abbrev pub AreObjectsOf : (Content → Type 0) → List Content → Type 0
+AreObjectsOf fits contents = (length contents ≤ max_objects) × AllByRecursion fits contents
 
--- 1 to 1,024 guardians
-pub record IsSetup (setup : Setup) : Type 0 where
+-- 1 to 1,024 guardians with such contents
+pub record IsSetupOf (fits : Content → Type 0) (setup : Setup) : Type 0 where
   pub not_empty : 1 ≤ length setup
   pub within_limit : length setup ≤ max_guardians
-  pub each : AllByRecursion AreObjects setup
+  pub each : AllByRecursion (AreObjectsOf fits) setup
+
+-- what a setup's file may hold
+abbrev pub IsSetup : Setup → Type 0
+IsSetup setup = IsSetupOf IsContent setup
+
+-- what the setup line of a trace may hold: also an array that was emptied at the greatest index
+abbrev pub IsOpeningSetup : Setup → Type 0
+IsOpeningSetup setup = IsSetupOf IsStoredContent setup
 
 abbrev pub contents_items : List Content → Items
 contents_items [] = no_items
@@ -212,9 +220,15 @@ guardians_items (contents ∷ setup) =
 abbrev pub setup_data : Setup → Data
 setup_data setup = object (member (codes "guardians") (array (guardians_items setup)) no_members)
 
--- the bytes are a text of the setup's document: its white space and the order of its members are free, and of members of one name
--- the last counts
-pub record IsSetupText (bytes : List ℕ) (setup : Setup) : Type 0 where
-  pub fits : IsSetup setup
+-- the bytes are a text of the document of a setup with such contents: its white space and the order of its members are free, and of
+-- members of one name the last counts
+pub record IsTextOf (contents : Content → Type 0) (bytes : List ℕ) (setup : Setup) : Type 0 where
+  pub fits : IsSetupOf contents setup
   pub utf8 : IsUtf8 bytes
   pub document : read bytes ≡ Some (setup_data setup)
+
+abbrev pub IsSetupText : List ℕ → Setup → Type 0
+IsSetupText bytes setup = IsTextOf IsContent bytes setup
+
+abbrev pub IsOpeningText : List ℕ → Setup → Type 0
+IsOpeningText bytes setup = IsTextOf IsStoredContent bytes setup

@@ -3,10 +3,11 @@ ghost use Rattle.std.specs.List.{AllByRecursion};
 ghost use Rattle.serde_json.specs.Data.{Data, Items, array, object, no_members, member};
 ghost use Rattle.serde_json.specs.View.{view, items_view};
 ghost use Rattle.values.specs.declared.content.Content.{Content};
+ghost use Rattle.values.specs.Contents.{content_data};
 ghost use Rattle.run_model.specs.Openings.{objects_at};
-ghost use Rattle.run_model.specs.Texts.{IsSetup, IsSetupText, AreObjects, setup_data};
+ghost use Rattle.run_model.specs.Texts.{AreObjectsOf, IsOpeningText, IsSetupOf, IsSetupText, IsTextOf, setup_data};
 ghost use Rattle.limits.specs.Limits.{max_guardians, max_objects};
-ghost use Rattle.run_model.specs.Documents.{guardian_data};
+ghost use Rattle.run_model.specs.Documents.{IsWithin, guardian_data};
 
 use limits::{MAX_GUARDIANS, MAX_OBJECTS};
 use serde_json::Value as Json;
@@ -18,6 +19,15 @@ use values::{Content, ValueFault};
 const GUARDIANS: &str = "guardians";
 
 const OBJECTS: &str = "objects";
+
+/// Which contents a document may have.
+#[derive(Clone, Copy)]
+enum Limits {
+    /// Those of a setup's file.
+    OfFiles,
+    /// All that a store may hold: also an array that was emptied at the greatest index.
+    OfStores,
+}
 
 /// The opening contents of one guardian's objects.
 #[derive(Drop)]
@@ -109,17 +119,35 @@ impl Setup {
         ensures refused { IsErrOf result SetupFault.Bad
             → (setup : List (List Content)) → IsSetupText bytes.now setup → ⊥ }
     {
+        Setup::from_document(alloc, bytes, Limits::OfFiles)
+    }
+
+    /// As `read`, for the setup line of a trace: the low index of an empty array may also be one above the greatest index, where it is
+    /// after an array's last item was removed at the low end. `Bad` comes exactly where no such setup is this document.
+    pub fn read_opening(alloc: Global, bytes: &[u8]) -> Result<Setup, SetupFault>
+        ensures found { IfOk result (λ setup. IsOpeningText bytes.now setup) }
+        ensures refused { IsErrOf result SetupFault.Bad
+            → (setup : List (List Content)) → IsOpeningText bytes.now setup → ⊥ }
+    {
+        Setup::from_document(alloc, bytes, Limits::OfStores)
+    }
+
+    fn from_document(alloc: Global, bytes: &[u8], limits: Limits) -> Result<Setup, SetupFault>
+        ensures found { IfOk result (λ setup. IsTextOf (IsWithin limits) bytes.now setup) }
+        ensures refused { IsErrOf result SetupFault.Bad
+            → (setup : List (List Content)) → IsTextOf (IsWithin limits) bytes.now setup → ⊥ }
+    {
         match Json::from_slice(alloc, bytes) {
-            Ok(json) => Setup::from_json(alloc, &json),
+            Ok(json) => Setup::from_json(alloc, &json, limits),
             Err(error) if error.is_memory() => Err(SetupFault::Memory),
             Err(_) => Err(SetupFault::Bad),
         }
     }
 
-    fn from_json(alloc: Global, json: &Json) -> Result<Setup, SetupFault>
-        ensures found { IfOk result (λ setup. IsSetup setup × (view json.now ≡ setup_data setup)) }
+    fn from_json(alloc: Global, json: &Json, limits: Limits) -> Result<Setup, SetupFault>
+        ensures found { IfOk result (λ setup. IsSetupOf (IsWithin limits) setup × (view json.now ≡ setup_data setup)) }
         ensures refused { IsErrOf result SetupFault.Bad
-            → (setup : List (List Content)) → IsSetup setup → view json.now ≢ setup_data setup }
+            → (setup : List (List Content)) → IsSetupOf (IsWithin limits) setup → view json.now ≢ setup_data setup }
     {
         let Some(items) = only_array(json, GUARDIANS) else {
             return Err(SetupFault::Bad);
@@ -129,7 +157,7 @@ impl Setup {
         }
         let mut guardians = Vec::with_capacity(alloc, items.len())?;
         for item in items {
-            guardians.push(Objects::from_json(alloc, item)?)?;
+            guardians.push(Objects::from_json(alloc, item, limits)?)?;
         }
         Ok(Setup { guardians })
     }
@@ -194,10 +222,10 @@ impl Setup {
 }
 
 impl Objects {
-    fn from_json(alloc: Global, json: &Json) -> Result<Objects, SetupFault>
-        ensures found { IfOk result (λ contents. AreObjects contents × (view json.now ≡ guardian_data contents)) }
+    fn from_json(alloc: Global, json: &Json, limits: Limits) -> Result<Objects, SetupFault>
+        ensures found { IfOk result (λ contents. AreObjectsOf (IsWithin limits) contents × (view json.now ≡ guardian_data contents)) }
         ensures refused { IsErrOf result SetupFault.Bad
-            → (contents : List Content) → AreObjects contents → view json.now ≢ guardian_data contents }
+            → (contents : List Content) → AreObjectsOf (IsWithin limits) contents → view json.now ≢ guardian_data contents }
     {
         let Some(items) = only_array(json, OBJECTS) else {
             return Err(SetupFault::Bad);
@@ -207,7 +235,7 @@ impl Objects {
         }
         let mut contents = Vec::with_capacity(alloc, items.len())?;
         for item in items {
-            contents.push(Content::from_json(alloc, item)?)?;
+            contents.push(content(alloc, item, limits)?)?;
         }
         Ok(Objects { contents })
     }
@@ -220,6 +248,16 @@ impl Objects {
             contents.push(content.copy()?)?;
         }
         Ok(Objects { contents })
+    }
+}
+
+fn content(alloc: Global, json: &Json, limits: Limits) -> Result<Content, ValueFault>
+    ensures found { IfOk result (λ c. IsWithin limits c × (view json.now ≡ content_data c)) }
+    ensures refused { IsErrOf result ValueFault.Unfit → (c : Content) → IsWithin limits c → view json.now ≢ content_data c }
+{
+    match limits {
+        Limits::OfFiles => Content::from_json(alloc, json),
+        Limits::OfStores => Content::from_stored_json(alloc, json),
     }
 }
 
@@ -238,5 +276,6 @@ fn only_array<'a>(json: &'a Json, name: &str) -> Option<&'a [Json]>
 
 /// A text is one setup at most.
 pub fn one_setup()
-    ensures { (bytes : List ℕ) (s t : List (List Content)) → IsSetupText bytes s → IsSetupText bytes t → s ≡ t }
+    ensures files { (bytes : List ℕ) (s t : List (List Content)) → IsSetupText bytes s → IsSetupText bytes t → s ≡ t }
+    ensures openings { (bytes : List ℕ) (s t : List (List Content)) → IsOpeningText bytes s → IsOpeningText bytes t → s ≡ t }
 {}
