@@ -20,6 +20,16 @@ fn write_lines(alloc: Global, said: &Answer, answer: &mut String) -> Result<(), 
     Ok(())
 }
 
+/// `answer_line LINE`: the line of the answer that the line spells, or `none`.
+pub(crate) fn line(alloc: Global, line: &str, answer: &mut String) -> Result<(), RowFault> {
+    let line = reading::bytes(alloc, line)?;
+    match Answer::read(alloc, line.as_slice())? {
+        Some(said) => said.write_to(answer)?,
+        None => answer.push_str("none")?,
+    }
+    Ok(())
+}
+
 /// The text `1 ` with the answer's line behind it. If memory is refused, the text must be as it was, or the row is not
 /// read. Then the line is appended once more.
 fn appended(alloc: Global, said: &Answer) -> Result<String, RowFault> {

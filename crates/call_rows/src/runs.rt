@@ -40,6 +40,7 @@ fn answer_alone(alloc: Global, row: &Row<'_>, answer: &mut String) -> Result<(),
         "long_arms" => steps::long_arms(alloc, row.words(), answer),
         "long_text" => steps::long_text(alloc, row.words(), answer),
         "answer" => answers::copy(alloc, row.given, answer),
+        "answer_line" => answers::line(alloc, row.given, answer),
         _ => Err(RowFault::Unread),
     }
 }

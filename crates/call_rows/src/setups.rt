@@ -15,6 +15,7 @@ pub(crate) fn answer(
 ) -> Result<(), RowFault> {
     match words.word()? {
         "read" => read(alloc, setup, words.rest(), answer),
+        "read_opening" => read_opening(alloc, setup, words.rest(), answer),
         "copy" => copy(setup, answer),
         "add" => add(setup, contents(alloc, words.rest())?, answer),
         "add_arrays" => add(setup, arrays(alloc, words.number()?)?, answer),
@@ -41,7 +42,28 @@ fn read(
 ) -> Result<(), RowFault> {
     answer.reserve(4)?;
     let bytes = reading::bytes(alloc, document)?;
-    match Setup::read(alloc, bytes.as_slice()) {
+    put(setup, Setup::read(alloc, bytes.as_slice()), answer)
+}
+
+/// `read_opening DOCUMENT`: the same of the setup of a trace.
+fn read_opening(
+    alloc: Global,
+    setup: &mut Setup,
+    document: &str,
+    answer: &mut String,
+) -> Result<(), RowFault> {
+    answer.reserve(4)?;
+    let bytes = reading::bytes(alloc, document)?;
+    put(setup, Setup::read_opening(alloc, bytes.as_slice()), answer)
+}
+
+/// Puts the setup that was found in the place of the one that is there, if one was found.
+fn put(
+    setup: &mut Setup,
+    found: Result<Setup, SetupFault>,
+    answer: &mut String,
+) -> Result<(), RowFault> {
+    match found {
         Ok(found) => *setup = found,
         Err(SetupFault::Memory) => return Err(RowFault::Memory),
         Err(SetupFault::Bad) => return Ok(answer.push_str("bad")?),

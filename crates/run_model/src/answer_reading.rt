@@ -1,4 +1,5 @@
-//! Reading a line as an answer: its first word says which, and a function for each kind of argument reads the rest.
+//! Reading a line as an answer: its first word says which, and a function for each kind of argument
+//! reads the rest.
 
 ghost use Rattle.std.specs.Prelude.{◌≡◌, ◌≢◌, List, ℕ, decimal, IfOk, IfSome, IsNone, MatchOption};
 ghost use Rattle.atomic_types.specs.declared.op.Signal.{Signal};
@@ -17,8 +18,8 @@ use std::str;
 use values::Value;
 
 impl Answer {
-    /// The answer that the line spells, without its line feed. `None` comes exactly where no answer is spelled so: each
-    /// answer has one spelling. It fails only if memory runs out.
+    /// The answer that the line spells, without its line feed. `None` comes exactly if no answer is
+    /// spelled so: each answer has one spelling. It fails only if memory runs out.
     pub fn read(alloc: Global, line: &[u8]) -> Result<Option<Answer>, AllocError>
         ensures found { IfOk result (λ r. IfSome r (λ a. SpellsAnswer line.now a)) }
         ensures none { IfOk result (λ r. IsNone r → (a : Answer) → SpellsAnswer line.now a → ⊥) }
@@ -32,7 +33,8 @@ pub fn one_answer()
     ensures { (line : List ℕ) (a b : Answer) → SpellsAnswer line a → SpellsAnswer line b → a ≡ b }
 {}
 
-/// The answer that the line spells. The first words are tried in turn, those that come most often first.
+/// The answer that the line spells. The first words are tried in turn, those that come most often
+/// first.
 fn answer(alloc: Global, line: &[u8]) -> Result<Option<Answer>, AllocError>
     ensures { IfOk result (Reads IsAnswer answer_text line.now) }
 {
@@ -87,7 +89,9 @@ fn reply(alloc: Global, text: &[u8]) -> Result<Option<Reply>, AllocError>
 }
 
 fn signal(word: &[u8]) -> Option<Signal>
-    ensures { MatchOption result ((s : Signal) → word.now ≢ signal_text s) (λ s. word.now ≡ signal_text s) }
+    ensures { MatchOption result
+        ((s : Signal) → word.now ≢ signal_text s)
+        (λ s. word.now ≡ signal_text s) }
 {
     if is(word, b"bounds") {
         Some(Signal::Bounds)
@@ -160,7 +164,9 @@ fn refusal(text: &[u8]) -> Option<Refusal>
 impl Refusal {
     /// The refusal of this number in answers.
     fn from_number(number: u32) -> Option<Refusal>
-        ensures { MatchOption result ((why : Refusal) → number ≢ refusal_number why) (λ why. number ≡ refusal_number why) }
+        ensures { MatchOption result
+            ((why : Refusal) → number ≢ refusal_number why)
+            (λ why. number ≡ refusal_number why) }
     {
         let why = match number {
             1 => Refusal::NoGuardian,

@@ -122,8 +122,9 @@ impl Setup {
         Setup::from_document(alloc, bytes, Limits::OfFiles)
     }
 
-    /// As `read`, for the setup line of a trace: the low index of an empty array may also be one above the greatest index, where it is
-    /// after an array's last item was removed at the low end. `Bad` comes exactly where no such setup is this document.
+    /// As `read`, for the setup line of a trace. There the low index of an empty array may also be
+    /// one above the greatest index, where `reml` of the last item leaves it. `Bad` comes exactly
+    /// if no such setup is this document, `Memory` only if memory runs out.
     pub fn read_opening(alloc: Global, bytes: &[u8]) -> Result<Setup, SetupFault>
         ensures found { IfOk result (λ setup. IsOpeningText bytes.now setup) }
         ensures refused { IsErrOf result SetupFault.Bad
@@ -145,9 +146,11 @@ impl Setup {
     }
 
     fn from_json(alloc: Global, json: &Json, limits: Limits) -> Result<Setup, SetupFault>
-        ensures found { IfOk result (λ setup. IsSetupOf (IsWithin limits) setup × (view json.now ≡ setup_data setup)) }
+        ensures found { IfOk result (λ setup. IsSetupOf (IsWithin limits) setup
+            × (view json.now ≡ setup_data setup)) }
         ensures refused { IsErrOf result SetupFault.Bad
-            → (setup : List (List Content)) → IsSetupOf (IsWithin limits) setup → view json.now ≢ setup_data setup }
+            → (setup : List (List Content)) → IsSetupOf (IsWithin limits) setup
+            → view json.now ≢ setup_data setup }
     {
         let Some(items) = only_array(json, GUARDIANS) else {
             return Err(SetupFault::Bad);
@@ -223,9 +226,11 @@ impl Setup {
 
 impl Objects {
     fn from_json(alloc: Global, json: &Json, limits: Limits) -> Result<Objects, SetupFault>
-        ensures found { IfOk result (λ contents. AreObjectsOf (IsWithin limits) contents × (view json.now ≡ guardian_data contents)) }
+        ensures found { IfOk result (λ contents. AreObjectsOf (IsWithin limits) contents
+            × (view json.now ≡ guardian_data contents)) }
         ensures refused { IsErrOf result SetupFault.Bad
-            → (contents : List Content) → AreObjectsOf (IsWithin limits) contents → view json.now ≢ guardian_data contents }
+            → (contents : List Content) → AreObjectsOf (IsWithin limits) contents
+            → view json.now ≢ guardian_data contents }
     {
         let Some(items) = only_array(json, OBJECTS) else {
             return Err(SetupFault::Bad);
@@ -253,7 +258,8 @@ impl Objects {
 
 fn content(alloc: Global, json: &Json, limits: Limits) -> Result<Content, ValueFault>
     ensures found { IfOk result (λ c. IsWithin limits c × (view json.now ≡ content_data c)) }
-    ensures refused { IsErrOf result ValueFault.Unfit → (c : Content) → IsWithin limits c → view json.now ≢ content_data c }
+    ensures refused { IsErrOf result ValueFault.Unfit
+        → (c : Content) → IsWithin limits c → view json.now ≢ content_data c }
 {
     match limits {
         Limits::OfFiles => Content::from_json(alloc, json),
@@ -276,6 +282,8 @@ fn only_array<'a>(json: &'a Json, name: &str) -> Option<&'a [Json]>
 
 /// A text is one setup at most.
 pub fn one_setup()
-    ensures files { (bytes : List ℕ) (s t : List (List Content)) → IsSetupText bytes s → IsSetupText bytes t → s ≡ t }
-    ensures openings { (bytes : List ℕ) (s t : List (List Content)) → IsOpeningText bytes s → IsOpeningText bytes t → s ≡ t }
+    ensures files { (bytes : List ℕ) (s t : List (List Content))
+        → IsSetupText bytes s → IsSetupText bytes t → s ≡ t }
+    ensures openings { (bytes : List ℕ) (s t : List (List Content))
+        → IsOpeningText bytes s → IsOpeningText bytes t → s ≡ t }
 {}
