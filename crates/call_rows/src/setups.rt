@@ -16,6 +16,7 @@ pub(crate) fn answer(
     match words.word()? {
         "read" => read(alloc, setup, words.rest(), answer),
         "read_opening" => read_opening(alloc, setup, words.rest(), answer),
+        "text" => Ok(answer.push_str(setup.text(alloc)?.as_str())?),
         "copy" => copy(setup, answer),
         "add" => add(setup, contents(alloc, words.rest())?, answer),
         "add_arrays" => add(setup, arrays(alloc, words.number()?)?, answer),

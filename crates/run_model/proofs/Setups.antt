@@ -81,15 +81,15 @@ an_array d es name v vs slice is one here some same =
 -- ---- lists of documents
 
 -- the documents of a list
-abbrev items_data : {X : Type 0} → (X → Data) → List X → Items
+abbrev pub items_data : {X : Type 0} → (X → Data) → List X → Items
 items_data f [] = no_items
 items_data f (x ∷ xs) = item (f x) (items_data f xs)
 
-contents_are : (contents : List Content) → contents_items contents ≡ items_data content_data contents
+pub contents_are : (contents : List Content) → contents_items contents ≡ items_data content_data contents
 contents_are [] = refl
 contents_are (c ∷ contents) = ap (item (content_data c)) (contents_are contents)
 
-guardians_are : (setup : Setup) → guardians_items setup ≡ items_data guardian_data setup
+pub guardians_are : (setup : Setup) → guardians_items setup ≡ items_data guardian_data setup
 guardians_are [] = refl
 guardians_are (contents ∷ setup) = ap (item (guardian_data contents)) (guardians_are setup)
 

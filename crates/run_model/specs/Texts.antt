@@ -5,6 +5,7 @@ use Rattle.std.specs.List.{AllByRecursion}
 use Rattle.limits.specs.Limits.{max_guardians, max_objects}
 use Rattle.serde_json.specs.Data.{Data, array, object, Items, no_items, item, no_members, member}
 use Rattle.serde_json.specs.Read.{read}
+use Rattle.serde_json.specs.Written.{compact_text}
 use Rattle.action_names.specs.Names.{Name, IsName, IsComponent, name_text}
 use Rattle.values.specs.declared.content.Content.{Content}
 use Rattle.values.specs.declared.value.Value.{Value}
@@ -219,6 +220,10 @@ guardians_items (contents ∷ setup) =
 -- the JSON document that a setup is
 abbrev pub setup_data : Setup → Data
 setup_data setup = object (member (codes "guardians") (array (guardians_items setup)) no_members)
+
+-- the one spelling in which a setup is written: no white space
+abbrev pub setup_text : Setup → List ℕ
+setup_text setup = compact_text (setup_data setup)
 
 -- the bytes are a text of the document of a setup with such contents: its white space and the order of its members are free, and of
 -- members of one name the last counts

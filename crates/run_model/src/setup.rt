@@ -1,14 +1,18 @@
-ghost use Rattle.std.specs.Prelude.{◌≡◌, ◌≢◌, ◌⊎◌, List, ℕ, [], ◌∷◌, ◌++◌, length, ◌<◌, ◌≤◌, IfOk, IsErrOf, MatchOption, OnErr, OnOk};
+ghost use Rattle.std.specs.Prelude.{string_bytes, IsUtf8, ◌≡◌, ◌≢◌, ◌⊎◌, List, ℕ, [], ◌∷◌, ◌++◌, length, ◌<◌, ◌≤◌, IfOk, IsErrOf, MatchOption, OnErr, OnOk};
 ghost use Rattle.std.specs.List.{AllByRecursion};
+ghost use Rattle.json.specs.Print.{print};
+ghost use Rattle.json.specs.Tree.{json_tokens};
 ghost use Rattle.serde_json.specs.Data.{Data, Items, array, object, no_members, member};
 ghost use Rattle.serde_json.specs.View.{view, items_view};
+ghost use Rattle.serde_json.specs.Written.{outline};
 ghost use Rattle.values.specs.declared.content.Content.{Content};
 ghost use Rattle.values.specs.Contents.{content_data};
 ghost use Rattle.run_model.specs.Openings.{objects_at};
-ghost use Rattle.run_model.specs.Texts.{AreObjectsOf, IsOpeningText, IsSetupOf, IsSetupText, IsTextOf, setup_data};
+ghost use Rattle.run_model.specs.Texts.{AreObjectsOf, IsOpeningSetup, IsOpeningText, IsSetupOf, IsSetupText, IsTextOf, contents_items, guardians_items, setup_data, setup_text};
 ghost use Rattle.limits.specs.Limits.{max_guardians, max_objects};
 ghost use Rattle.run_model.specs.Documents.{IsWithin, guardian_data};
 
+use json::Writer;
 use limits::{MAX_GUARDIANS, MAX_OBJECTS};
 use serde_json::Value as Json;
 use std::alloc::{AllocError, AllocFailed, Global};
@@ -212,6 +216,27 @@ impl Setup {
         }
     }
 
+    /// The document of the setup in its one spelling, with each content as `Content::text` writes it. `read_opening` reads it
+    /// as this setup, if there is a guardian. It fails only if memory runs out.
+    pub fn text(&self, alloc: Global) -> Result<String, AllocError>
+        ensures text { IfOk result (λ text. string_bytes text ≡ setup_text self.now) }
+        ensures read_back { IfOk result (λ text. IsOpeningSetup self.now → IsOpeningText (string_bytes text) self.now) }
+    {
+        let mut out = Writer::new(Vec::new(alloc));
+        self.write_tokens(&mut out)?;
+        Ok(finished(out))
+    }
+
+    fn write_tokens(&self, out: &mut Writer) -> Result<(), AllocError>
+        ensures ok { OnOk result (out.new.tokens ≡ out.old.tokens ++ json_tokens (outline (setup_data self.now))) }
+        ensures before { out.new.before ≡ out.old.before }
+    {
+        out.begin_object()?;
+        out.key(GUARDIANS)?;
+        write_guardians(&self.guardians, out)?;
+        out.end_object()
+    }
+
     /// An equal setup.
     pub fn copy(&self) -> Result<Setup, AllocError>
         ensures { IfOk result (λ copy. copy ≡ self.now) }
@@ -245,6 +270,16 @@ impl Objects {
         Ok(Objects { contents })
     }
 
+    fn write_tokens(&self, out: &mut Writer) -> Result<(), AllocError>
+        ensures ok { OnOk result (out.new.tokens ≡ out.old.tokens ++ json_tokens (outline (guardian_data self.now))) }
+        ensures before { out.new.before ≡ out.old.before }
+    {
+        out.begin_object()?;
+        out.key(OBJECTS)?;
+        write_contents(&self.contents, out)?;
+        out.end_object()
+    }
+
     fn copy(&self) -> Result<Objects, AllocError>
         ensures { IfOk result (λ copy. copy ≡ self.now) }
     {
@@ -254,6 +289,37 @@ impl Objects {
         }
         Ok(Objects { contents })
     }
+}
+
+fn write_guardians(guardians: &[Objects], out: &mut Writer) -> Result<(), AllocError>
+    ensures ok { OnOk result (out.new.tokens ≡ out.old.tokens ++ json_tokens (outline (array (guardians_items guardians.now)))) }
+    ensures before { out.new.before ≡ out.old.before }
+{
+    out.begin_array()?;
+    for objects in guardians {
+        objects.write_tokens(out)?;
+    }
+    out.end_array()
+}
+
+fn write_contents(contents: &[Content], out: &mut Writer) -> Result<(), AllocError>
+    ensures ok { OnOk result (out.new.tokens ≡ out.old.tokens ++ json_tokens (outline (array (contents_items contents.now)))) }
+    ensures before { out.new.before ≡ out.old.before }
+{
+    out.begin_array()?;
+    for content in contents {
+        content.write_tokens(out)?;
+    }
+    out.end_array()
+}
+
+/// What was written, where nothing stood before it.
+fn finished(out: Writer) -> String
+    requires { out.before ≡ [] }
+    ensures text { string_bytes result ≡ print out.tokens }
+    ensures utf8 { IsUtf8 (string_bytes result) }
+{
+    String::from_utf8(out.into_inner()).unwrap()
 }
 
 fn content(alloc: Global, json: &Json, limits: Limits) -> Result<Content, ValueFault>
