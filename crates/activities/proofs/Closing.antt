@@ -5,13 +5,13 @@ use Rattle.action_names.specs.Names.{Name, has_name, is_top, same_name}
 use Rattle.run_model.specs.declared.step.Step.TheVariants.{Abort, Close, Commit, Decide, Prepare, Tell}
 use Rattle.run_model.specs.Actions.{is_begun, is_committed, is_ended}
 use Rattle.run_model.specs.Runs.{World}
+use Rattle.run_model.specs.Votes.{is_yes}
 use Rattle.run_laws.proofs.Names.{same_name_self}
 use Rattle.activities.specs.declared.flow.Flow.{Flow}
 use Rattle.activities.specs.declared.flow.Flow.TheVariants.{Aborted, Ended, Outwards, Returned}
 use Rattle.activities.specs.declared.flow.Reach.TheVariants as reach
 use Rattle.activities.specs.Continuing.{IsOpen}
 use Rattle.activities.specs.Ends.{commits}
-use Rattle.activities.specs.Reaching.{is_yes}
 use Rattle.activities.specs.Serial.{Acting, Tried, aborted, after, and_then, asked, by_try, commit_tried, committed, end_tried, ended, once_told, or_aborted, outwards, tried, two_phases, voted}
 use Rattle.activities.proofs.Going.{open_among, still_begun, still_ended}
 use Rattle.activities.proofs.Leaving.{CameToEnd, IsRunning, WentOn, one_came, went_by, went_nowhere, went_quietly, went_through}

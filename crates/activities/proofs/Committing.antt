@@ -7,7 +7,8 @@ use Rattle.action_names.specs.Names.{Name}
 use Rattle.run_model.specs.declared.step.Step.{Step}
 use Rattle.run_model.specs.declared.step.Step.TheVariants.{Abort, Close, Decide, Prepare, Tell}
 use Rattle.run_model.specs.Runs.{World}
-use Rattle.activities.specs.Reaching.{is_made, is_yes}
+use Rattle.run_model.specs.Votes.{is_yes}
+use Rattle.activities.specs.Reaching.{is_made}
 use Rattle.activities.specs.Serial.{Acting, Tried, after, and_then, arms_aborted, asked, joined, once_told, tried, two_phases, voted}
 
 -- ---- tries

@@ -16,6 +16,7 @@ use Rattle.run_model.specs.declared.step.Step.TheVariants.{Abort, Arms, Call, Cl
 use Rattle.run_model.specs.Answers.{answer_of}
 use Rattle.run_model.specs.Openings.{opening_in}
 use Rattle.run_model.specs.Runs.{World, world_after}
+use Rattle.run_model.specs.Votes.{is_yes}
 use Rattle.script_model.specs.declared.checked.Checked.{Checked}
 use Rattle.script_model.specs.declared.checked.Client.{Client}
 use Rattle.script_model.specs.declared.checked.Handler.{Handler}
@@ -41,7 +42,7 @@ use Rattle.activities.specs.declared.operations.Outcome.TheVariants as outcome
 use Rattle.activities.specs.Bodies.{body_of, kind_of, kinds}
 use Rattle.activities.specs.Ends.{commits, end_of}
 use Rattle.activities.specs.Performing.{outcome_of, step_for}
-use Rattle.activities.specs.Reaching.{is_made, is_yes}
+use Rattle.activities.specs.Reaching.{is_made}
 
 -- ---- steps
 

@@ -5,9 +5,10 @@ ghost use Rattle.run_model.specs.declared.step.Step.TheVariants.{Abort, Call, Ne
 ghost use Rattle.run_model.specs.Actions.{maker_in, names_begun};
 ghost use Rattle.run_model.specs.Answers.{answer_of};
 ghost use Rattle.run_model.specs.Runs.{IsRun, world_after};
+ghost use Rattle.run_model.specs.Votes.{is_yes};
 ghost use Rattle.activities.specs.Continuing.{GoesOn, CommitsAmong, CommitsBy, CommitsNone, EndsAll, HaveBegun, IsAfter};
 ghost use Rattle.activities.specs.OwnSteps.{IsOfAction, KeepsTo, about};
-ghost use Rattle.activities.specs.Reaching.{is_made, is_yes};
+ghost use Rattle.activities.specs.Reaching.{is_made};
 ghost use Rattle.activities.specs.Ends.{called, commits, named_by};
 ghost use Rattle.activities.specs.Performing.{op_step};
 ghost use Rattle.activities.specs.Serial.{aborted, after, arms_aborted, asked, begun_by, called_by, commit_tried, committed, end_tried, ended, joined, or_aborted, outwards, taken_in, once_told, two_phases};
@@ -385,13 +386,7 @@ fn prepare<W: MakesSteps>(world: &mut W, guardian: u32, top: &Name) -> Result<bo
     ensures ends { EndsAll (W.run world.old) (W.run world.new) }
 {
     let vote = make(world, Step::Prepare(guardian, top.copy()?))?;
-    Ok(is_yes(vote))
-}
-
-fn is_yes(answer: Answer) -> bool
-    ensures { result ≡ is_yes answer }
-{
-    matches!(answer, Answer::VoteYes)
+    Ok(vote.is_yes())
 }
 
 /// Makes a step; whether it was done.

@@ -1,7 +1,7 @@
 //! The history of a section, kept compactly.
 use packed_history::PackedHistory;
 use rows::{RowFault, again};
-use run_model::{Event, History};
+use run_model::{Event, EventRef, History};
 use std::alloc::{AllocError, Global};
 
 /// `packed`: how many events a packed history of these has, and the lines of each. The newest is recorded twice and taken back once.
@@ -34,7 +34,11 @@ fn packed(alloc: Global, history: &History) -> Result<PackedHistory, AllocError>
 
 /// Records the event; once more if memory is refused.
 fn push(packed: &mut PackedHistory, event: &Event) -> Result<(), AllocError> {
-    again!(packed.push(&event.step, &event.answer))
+    let event = EventRef {
+        step: &event.step,
+        answer: &event.answer,
+    };
+    again!(packed.push(&event))
 }
 
 /// Each event by its place, until there is none.

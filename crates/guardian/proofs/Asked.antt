@@ -19,7 +19,7 @@ use Rattle.layer_contracts.specs.Guardians.{News, stamped}
 use Rattle.layer_contracts.specs.Messages.{is_operation}
 use Rattle.object_laws.specs.EventLaws.{is_crash}
 use Rattle.guardian_laws.specs.Stored.{after_event, asks_store}
-use Rattle.guardian_laws.specs.Outcomes.{is_yes}
+use Rattle.run_model.specs.Votes.{is_yes}
 
 pub stamp_alike : (opening : Opening) (g n : ℕ) (news : News) (here : List LocalEvent) (s : Stored)
     → after_event opening g (stamped n news) here s ≡ after_event opening g (stamped 0 news) here s

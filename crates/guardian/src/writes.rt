@@ -9,7 +9,7 @@ ghost use Rattle.layer_contracts.specs.Guardians.{GuardianState, News, stamped};
 ghost use Rattle.volatile_state.specs.Memories.{IsSound};
 ghost use Rattle.volatile_state.specs.Plans.{IsPlanOf};
 ghost use Rattle.guardian.specs.Guardians.{IsPlannedHere, WhereverPlanned};
-ghost use Rattle.guardian_laws.specs.Outcomes.{is_yes};
+ghost use Rattle.run_model.specs.Votes.{is_yes};
 ghost use Rattle.guardian.specs.Writes.{is_nothing, told_stored, written};
 
 use crate::records::recorded_in;

@@ -3,8 +3,6 @@ use Rattle.std.specs.Prelude.{◌≡◌, ◌≤◌, ℕ, Bool, true, false, List
 use Rattle.std.specs.List.{list_all}
 use Rattle.std.specs.List.Sorted.{IsStrictlySortedBy}
 use Rattle.action_names.specs.Names.{Name, is_proper_ancestor, is_top, name_cmp, same_name}
-use Rattle.run_model.specs.declared.answer.Answer.{Answer}
-use Rattle.run_model.specs.declared.answer.Answer.TheVariants.{VoteYes}
 use Rattle.run_model.specs.declared.step.Step.{Step}
 use Rattle.run_model.specs.declared.step.Step.TheVariants.{Op, Prepare, Tell}
 use Rattle.run_model.specs.LocalReadings.{LocalEvent, brings, says_aborted, told_committed_here}
@@ -32,11 +30,6 @@ pub record AgreesOnOutcomes (c : LocalEvent) (here : List LocalEvent) : Type 0 w
   pub once : IsStrictlySortedBy name_cmp (map (λ (x : Name × Bool). x.0) c.carried.outcomes)
   pub aborts : (b : Name) → IsTrue (says_aborted (brings c b)) → IsFalse (told_committed_here b here)
   pub operation : IsFalse (is_by_told c.event.step here)
-
--- the answer is a yes vote
-abbrev pub is_yes : Answer → Bool
-is_yes VoteYes = true
-is_yes _ = false
 
 -- what the store asks of a yes vote: it is on a top action, and a guardian sent the question
 pub record AgreesOnVotes (g : ℕ) (c : LocalEvent) : Type 0 where

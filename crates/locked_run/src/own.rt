@@ -244,7 +244,11 @@ fn finish_own<K: OfRun, G: Guardian>(
     if !answer.is_accepted() {
         return (part, Ok(Some(Answered::without_event(answer))));
     }
-    if history.push(step, &answer, 0).is_err() {
+    let event = EventRef {
+        step,
+        answer: &answer,
+    };
+    if history.push(&event, 0).is_err() {
         return (part, Err(Fault::Memory));
     }
     let (part, kept) = keep_own::<K, Brand, G>(

@@ -1,12 +1,11 @@
 //! A step is recorded in the history of each lock that it names: first the event, so that there is
 //! room, and its stamp once it was kept.
 ghost use Rattle.std.specs.Prelude.{◌≡◌, ◌∷◌, OnErr, OnOk};
-ghost use Rattle.layer_contracts.specs.Guardians.{event_of};
 ghost use Rattle.locked_run.specs.Stored.{settled, settled_there, with_taken};
 
 use crate::stored::StoredHistory;
 use layer_contracts::Fault;
-use run_model::{Answer, Step};
+use run_model::{EventRef, Step};
 use std::alloc::AllocError;
 use world_steps::takes_registry;
 
@@ -20,17 +19,17 @@ pub(crate) struct RecordsOfOne<'a> {
 impl RecordsOfOne<'_> {
     /// Records a step, with the stamp 0, in each history that keeps it. Without memory all stay as
     /// they were.
-    pub(crate) fn push(&mut self, step: &Step, answer: &Answer) -> Result<(), AllocError>
+    pub(crate) fn push(&mut self, event: &EventRef<'_>) -> Result<(), AllocError>
         ensures lent { (self.new.guardian.ghost_name ≡ self.old.guardian.ghost_name)
             × (self.new.registry.ghost_name ≡ self.old.registry.ghost_name) }
         ensures ok { OnOk result (
-            (self.new.guardian.now ≡ (0, event_of step.now answer.now) ∷ self.old.guardian.now)
+            (self.new.guardian.now ≡ (0, event.now) ∷ self.old.guardian.now)
             × (self.new.registry.now
-            ≡ with_taken step.now (0, event_of step.now answer.now) self.old.registry.now)) }
+            ≡ with_taken event.now.step (0, event.now) self.old.registry.now)) }
         ensures err { OnErr result ((self.new.guardian.now ≡ self.old.guardian.now)
             × (self.new.registry.now ≡ self.old.registry.now)) }
     {
-        push_both(self.guardian, self.registry, step, answer)
+        push_both(self.guardian, self.registry, event)
     }
 
     /// Settles the step that was recorded, once it was kept or was not.
@@ -56,21 +55,21 @@ pub(crate) struct RecordsOfTwo<'a> {
 
 impl RecordsOfTwo<'_> {
     /// Records a step, as `RecordsOfOne::push`.
-    pub(crate) fn push(&mut self, step: &Step, answer: &Answer) -> Result<(), AllocError>
+    pub(crate) fn push(&mut self, event: &EventRef<'_>) -> Result<(), AllocError>
         ensures lent { (self.new.one.ghost_name ≡ self.old.one.ghost_name)
             × (self.new.other.ghost_name ≡ self.old.other.ghost_name)
             × (self.new.registry.ghost_name ≡ self.old.registry.ghost_name) }
         ensures ok { OnOk result (
-            (self.new.one.now ≡ (0, event_of step.now answer.now) ∷ self.old.one.now)
-            × (self.new.other.now ≡ (0, event_of step.now answer.now) ∷ self.old.other.now)
+            (self.new.one.now ≡ (0, event.now) ∷ self.old.one.now)
+            × (self.new.other.now ≡ (0, event.now) ∷ self.old.other.now)
             × (self.new.registry.now
-            ≡ with_taken step.now (0, event_of step.now answer.now) self.old.registry.now)) }
+            ≡ with_taken event.now.step (0, event.now) self.old.registry.now)) }
         ensures err { OnErr result ((self.new.one.now ≡ self.old.one.now)
             × (self.new.other.now ≡ self.old.other.now)
             × (self.new.registry.now ≡ self.old.registry.now)) }
     {
-        self.one.push(step, answer, 0)?;
-        let done = push_both(self.other, self.registry, step, answer);
+        self.one.push(event, 0)?;
+        let done = push_both(self.other, self.registry, event);
         if done.is_err() {
             self.one.pop();
         }
@@ -97,18 +96,17 @@ impl RecordsOfTwo<'_> {
 fn push_both(
     guardian: &mut StoredHistory,
     registry: &mut StoredHistory,
-    step: &Step,
-    answer: &Answer,
+    event: &EventRef<'_>,
 ) -> Result<(), AllocError>
-    ensures ok { OnOk result ((guardian.new ≡ (0, event_of step.now answer.now) ∷ guardian.old)
-        × (registry.new ≡ with_taken step.now (0, event_of step.now answer.now) registry.old)) }
+    ensures ok { OnOk result ((guardian.new ≡ (0, event.now) ∷ guardian.old)
+        × (registry.new ≡ with_taken event.now.step (0, event.now) registry.old)) }
     ensures err { OnErr result ((guardian.new ≡ guardian.old) × (registry.new ≡ registry.old)) }
 {
-    guardian.push(step, answer, 0)?;
-    if !takes_registry(step) {
+    guardian.push(event, 0)?;
+    if !takes_registry(event.step) {
         return Ok(());
     }
-    let done = registry.push(step, answer, 0);
+    let done = registry.push(event, 0);
     if done.is_err() {
         guardian.pop();
     }

@@ -17,7 +17,7 @@ use crate::recording::{RecordsOfOne, RecordsOfTwo};
 use crate::shared::{Answered, OfRun, Receipt, Shared};
 use layer_contracts::{Fault, Forest, Guardian};
 use one_run::Part;
-use run_model::{Answer, Event, Step};
+use run_model::{Answer, Event, EventRef, Step};
 use std::alloc::{AllocError, Global};
 use std::marker::Brand;
 use world_steps::{NamedGuardians, answer_alone, answer_two, named};
@@ -125,7 +125,11 @@ fn finish_two<K: OfRun, R: Forest, G: Guardian>(
     if !answer.is_accepted() {
         return (part, Ok(Some(Answered::without_event(answer))));
     }
-    if records.push(step, &answer).is_err() {
+    let event = EventRef {
+        step,
+        answer: &answer,
+    };
+    if records.push(&event).is_err() {
         return (part, Err(Fault::Memory));
     }
     let (part, kept) = keep_at_two::<K, Brand, R, G>(
@@ -230,7 +234,11 @@ fn finish_one<K: OfRun, R: Forest, G: Guardian>(
     if !answer.is_accepted() {
         return (part, Ok(Some(Answered::without_event(answer))));
     }
-    if records.push(step, &answer).is_err() {
+    let event = EventRef {
+        step,
+        answer: &answer,
+    };
+    if records.push(&event).is_err() {
         return (part, Err(Fault::Memory));
     }
     let (part, kept) = keep_at_one::<K, Brand, R, G>(

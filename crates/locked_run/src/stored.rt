@@ -4,7 +4,7 @@ ghost use Rattle.locked_run.specs.Stored.{restamped, settled};
 
 use layer_contracts::Fault;
 use packed_history::PackedHistory;
-use run_model::{Answer, Event, Step};
+use run_model::{Event, EventRef};
 use std::alloc::{AllocError, Global};
 use std::marker::Model;
 
@@ -65,18 +65,12 @@ impl StoredHistory {
     }
 
     /// Records an event with this stamp. Without memory the history stays as it was.
-    pub(crate) fn push(
-        &mut self,
-        step: &Step,
-        answer: &Answer,
-        stamp: u64,
-    ) -> Result<(), AllocError>
-        ensures ok { OnOk result
-            (self.new ≡ (stamp, record { step = step.now; answer = answer.now }) ∷ self.old) }
+    pub(crate) fn push(&mut self, event: &EventRef<'_>, stamp: u64) -> Result<(), AllocError>
+        ensures ok { OnOk result (self.new ≡ (stamp, event.now) ∷ self.old) }
         ensures err { OnErr result (self.new ≡ self.old) }
     {
         self.stamps.reserve(1)?;
-        self.events.push(step, answer)?;
+        self.events.push(event)?;
         self.stamps.push_reserved(stamp);
         Ok(())
     }

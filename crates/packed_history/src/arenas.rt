@@ -5,7 +5,7 @@ ghost use Rattle.packed_history.specs.Arenas.{HasRow, IsKept, event_in, no_parts
 
 use crate::answers::{Answers, ShortAnswer};
 use crate::steps::{ShortStep, Steps};
-use run_model::{Answer, Event, Step};
+use run_model::{Event, EventRef, Step};
 use std::alloc::{AllocError, Global};
 use std::marker::Model;
 
@@ -55,40 +55,40 @@ impl Arenas {
     }
 
     /// Keeps the parts of an event, and says where they lie. Without memory nothing is changed.
-    pub(crate) fn keep(&mut self, step: &Step, answer: &Answer) -> Result<Row, AllocError>
-        ensures ok { IfOk result (λ row. IsKept self.old self.new row (record { step = step.now; answer = answer.now })) }
+    pub(crate) fn keep(&mut self, event: &EventRef<'_>) -> Result<Row, AllocError>
+        ensures ok { IfOk result (λ row. IsKept self.old self.new row event.now) }
         ensures err { OnErr result (self.new ≡ self.old) }
     {
-        match self.keep_short(step, answer)? {
+        match self.keep_short(event)? {
             Some(row) => Ok(row),
-            None => self.keep_whole(step, answer),
+            None => self.keep_whole(event),
         }
     }
 
-    fn keep_whole(&mut self, step: &Step, answer: &Answer) -> Result<Row, AllocError>
-        ensures ok { IfOk result (λ row. IsKept self.old self.new row (record { step = step.now; answer = answer.now })) }
+    fn keep_whole(&mut self, event: &EventRef<'_>) -> Result<Row, AllocError>
+        ensures ok { IfOk result (λ row. IsKept self.old self.new row event.now) }
         ensures err { OnErr result (self.new ≡ self.old) }
     {
         let place = self.whole.len();
-        self.whole.push(Event::of(step, answer)?)?;
+        self.whole.push(Event::of(event)?)?;
         Ok(Row::Whole(place))
     }
 
     // Keeps the event in its short form, if it has one.
-    fn keep_short(&mut self, step: &Step, answer: &Answer) -> Result<Option<Row>, AllocError>
+    fn keep_short(&mut self, event: &EventRef<'_>) -> Result<Option<Row>, AllocError>
         ensures ok { IfOk result (λ row. MatchOption row (self.new ≡ self.old)
-            (λ r. IsKept self.old self.new r (record { step = step.now; answer = answer.now }))) }
+            (λ r. IsKept self.old self.new r event.now)) }
         ensures err { OnErr result (self.new ≡ self.old) }
     {
         let Ok(start) = u32::try_from(self.numbers.len()) else {
             return Ok(None);
         };
-        let action = action_of(step);
+        let action = action_of(event.step);
         self.numbers.reserve(action.len())?;
-        let Some(step) = self.steps.keep(step)? else {
+        let Some(step) = self.steps.keep(event.step)? else {
             return Ok(None);
         };
-        match self.answers.keep(action, answer) {
+        match self.answers.keep(action, event.answer) {
             Ok(Some(answer)) => {
                 self.numbers.extend_from_slice(action).unwrap();
                 Ok(Some(Row::Short {

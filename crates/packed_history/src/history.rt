@@ -2,7 +2,7 @@
 ghost use Rattle.std.specs.Prelude.{◌≡◌, ◌==◌, [], ◌∷◌, drop, length, reverse, slice_get, suc, IfOk, OnErr, OnOk};
 
 use crate::arenas::{Arenas, Row};
-use run_model::{Answer, Event, History, Step};
+use run_model::{Event, EventRef, History};
 use std::alloc::{AllocError, Global};
 use std::marker::Model;
 
@@ -58,13 +58,13 @@ impl PackedHistory {
         self.rows.len() as u64 + 1
     }
 
-    /// Records a step with its answer at the end. Where memory runs out, the history stays as it was.
-    pub fn push(&mut self, step: &Step, answer: &Answer) -> Result<(), AllocError>
-        ensures ok { OnOk result (self.new ≡ record { step = step.now; answer = answer.now } ∷ self.old) }
+    /// Records an event at the end. Where memory runs out, the history stays as it was.
+    pub fn push(&mut self, event: &EventRef<'_>) -> Result<(), AllocError>
+        ensures ok { OnOk result (self.new ≡ event.now ∷ self.old) }
         ensures err { OnErr result (self.new ≡ self.old) }
     {
         self.rows.reserve(1)?;
-        let row = self.arenas.keep(step, answer)?;
+        let row = self.arenas.keep(event)?;
         self.rows.push_reserved(row);
         Ok(())
     }

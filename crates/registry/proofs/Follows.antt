@@ -10,7 +10,7 @@ use Rattle.run_model.specs.declared.step.Step.TheVariants.{Abort, Arms, Call, Cl
 use Rattle.run_model.specs.Actions.{home_in, home_of, maker_in, names_begun}
 use Rattle.run_model.specs.LocalHistories.{RegistryEvent, events_there}
 use Rattle.run_model.specs.Openings.{Opening}
-use Rattle.run_model.specs.Votes.{step_votes}
+use Rattle.run_model.specs.Votes.{is_yes, step_votes}
 use Rattle.layer_contracts.specs.Forests.{begun_at}
 use Rattle.action_forest.proofs.Still.{unmoved}
 use Rattle.action_forest.specs.Events.{IsUnended, beginning, done, is_still}
@@ -21,7 +21,7 @@ use Rattle.action_forest.specs.declared.forest.Begun.{Begun}
 use Rattle.action_forest.specs.declared.forest.Commitment.{Commitment}
 use Rattle.two_phase.specs.Ballots.{vote}
 use Rattle.two_phase.specs.declared.ballot.Ballot.{Ballot}
-use Rattle.registry.specs.Following.{AreActions, AreBegun, IsEntered, MayEnd, event_after, is_ending, is_yes_vote, takes_room}
+use Rattle.registry.specs.Following.{AreActions, AreBegun, IsEntered, MayEnd, event_after, is_ending, takes_room}
 use Rattle.registry.specs.Polls.{AreBallots, AreNoted, IsVoteOn, ballot_in, is_yes_in, top_in, voter_in}
 use Rattle.registry.specs.declared.actions.Actions.{Actions}
 use Rattle.registry.specs.declared.ballots.Vote.{Vote}
@@ -50,7 +50,7 @@ vote_begins_none : (v : Bool) → names_begun (cond v VoteYes VoteNo) ≡ []
 vote_begins_none true = refl
 vote_begins_none false = refl
 
-vote_says : (v : Bool) → is_yes_vote (cond v VoteYes VoteNo) ≡ v
+vote_says : (v : Bool) → is_yes (cond v VoteYes VoteNo) ≡ v
 vote_says true = refl
 vote_says false = refl
 
@@ -161,7 +161,7 @@ module _ (opening : Opening) (registry : List RegistryEvent) where
         }
 
     -- a guardian votes
-    pub vote_follows : (new : Actions) (v : Vote) → (g : ℕ) × (t : Name) × (e.step ≡ Prepare g t) × IsVoteOn g t (is_yes_vote e.answer) v
+    pub vote_follows : (new : Actions) (v : Vote) → (g : ℕ) × (t : Name) × (e.step ≡ Prepare g t) × IsVoteOn g t (is_yes e.answer) v
         → trees new.forest ≡ trees actions.forest
         → ((past : List Event) → AreBallots past actions.ballots → AreBallots (vote (voter_in v) (top_in v) (is_yes_in v) ∷ past) new.ballots)
         → AreActions opening after new
@@ -171,7 +171,7 @@ module _ (opening : Opening) (registry : List RegistryEvent) where
         let own = subst (λ s. Asked opening registry s e.answer) fits.2 has in
         let yes_vote = own.0 in
         let top : top_in v ≡ t = ap (λ n. n ∷ []) fits.3.top ∙ sym (top_is t own.2) in
-        let says : is_yes_in v ≡ yes_vote = fits.3.vote.1 ∙ ap is_yes_vote own.1 ∙ vote_says yes_vote in
+        let says : is_yes_in v ≡ yes_vote = fits.3.vote.1 ∙ ap is_yes own.1 ∙ vote_says yes_vote in
         let same : vote (voter_in v) (top_in v) (is_yes_in v) ≡ e =
         event_is (Prepare (voter_in v) (top_in v)) e.step (cond (is_yes_in v) VoteYes VoteNo) e.answer
         ((λ i. Prepare (fits.3.vote.0 i) (top i)) ∙ sym fits.2) (ap (λ b. cond b VoteYes VoteNo) says ∙ sym own.1) in

@@ -1,8 +1,7 @@
 -- When actions and votes are those of a history, and what an event changes there.
 use Rattle.std.specs.Prelude.{◌≡◌, ◌||◌, ℕ, Bool, true, false, List, [], IsFalse, IsTrue, is_none}
 use Rattle.action_names.specs.Names.{Name}
-use Rattle.run_model.specs.declared.answer.Answer.{Answer}
-use Rattle.run_model.specs.declared.answer.Answer.TheVariants.{Began, VoteYes}
+use Rattle.run_model.specs.declared.answer.Answer.TheVariants.{Began}
 use Rattle.run_model.specs.declared.history.Event.{Event}
 use Rattle.run_model.specs.declared.step.Step.{Step}
 use Rattle.run_model.specs.declared.step.Step.TheVariants as step
@@ -11,6 +10,7 @@ use Rattle.run_model.specs.LocalHistories.{RegistryEvent, dependency_there, even
 use Rattle.run_model.specs.Openings.{Opening}
 use Rattle.run_model.specs.Runs.{is_accepted}
 use Rattle.run_model.specs.Visibility.{has_prepared}
+use Rattle.run_model.specs.Votes.{is_yes}
 use Rattle.layer_contracts.specs.Forests.{begun_at, entered, stamped_there}
 use Rattle.action_forest.specs.Events.{IsUnended}
 use Rattle.action_forest.specs.Forests.{IsCommitmentOf, IsForest}
@@ -69,10 +69,6 @@ takes_room (step.Commit a) = true
 takes_room (step.Prepare g t) = true
 takes_room _ = false
 
-abbrev pub is_yes_vote : Answer → Bool
-is_yes_vote VoteYes = true
-is_yes_vote _ = false
-
 -- these are the actions that the step begins under these names, at its home in this life of it
 pub record AreBegun (opening : Opening) (registry : List RegistryEvent) (step : Step) (names : List Name) (home life : ℕ) (actions : Actions) (begun : Begun) : Type 0 where
   pub at_home : home ≡ home_in step (λ a. home_of a (events_there registry))
@@ -89,7 +85,7 @@ FitsChange opening registry e home life actions (change.Begin begun) =
 FitsChange opening registry e home life actions (change.Commit commitment) =
     (a : Name) × (e.step ≡ step.Commit a) × IsCommitmentOf (trees actions.forest) a commitment
 FitsChange opening registry e home life actions (change.Vote v) =
-    (g : ℕ) × (t : Name) × (e.step ≡ step.Prepare g t) × IsVoteOn g t (is_yes_vote e.answer) v
+    (g : ℕ) × (t : Name) × (e.step ≡ step.Prepare g t) × IsVoteOn g t (is_yes e.answer) v
 FitsChange opening registry e home life actions change.Other = IsFalse (takes_room e.step) × (names_begun e.answer ≡ [])
 
 -- there is room for the change

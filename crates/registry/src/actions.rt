@@ -10,7 +10,7 @@ ghost use Rattle.run_model.specs.Openings.{opening_in};
 ghost use Rattle.action_forest.specs.Events.{done};
 ghost use Rattle.action_forest.specs.Forests.{AtEach, IsForest};
 ghost use Rattle.action_forest.specs.Trees.{trees};
-ghost use Rattle.registry.specs.Following.{event_after, is_yes_vote};
+ghost use Rattle.registry.specs.Following.{event_after};
 
 use crate::ballots::Ballots;
 use crate::change::Change;
@@ -68,7 +68,7 @@ impl Actions {
         match event.step {
             Step::Commit(action) => Ok(Change::Commit(self.forest.plan_commit(action)?)),
             Step::Prepare(guardian, top) => {
-                let yes = is_yes(event.answer);
+                let yes = event.answer.is_yes();
                 let vote = self.ballots.plan_vote(*guardian, top, yes)?;
                 Ok(Change::Vote(vote))
             }
@@ -137,13 +137,6 @@ impl Actions {
             _ => {}
         }
     }
-}
-
-// Whether the answer is a vote to commit.
-fn is_yes(answer: &Answer) -> bool
-    ensures { result ≡ is_yes_vote answer.now }
-{
-    matches!(answer, Answer::VoteYes)
 }
 
 // Who makes what the step begins.

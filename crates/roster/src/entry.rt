@@ -2,10 +2,9 @@
 ghost use Rattle.std.specs.Prelude.{◌≡◌, ℕ, IfOk, None, Some};
 ghost use Rattle.std.specs.FinMap as map;
 ghost use Rattle.std.specs.Option.{option_map};
-ghost use Rattle.run_model.specs.Actions.{names_begun};
 ghost use Rattle.run_model.specs.LocalReadings.{least_of};
 
-use run_model::{Answer, Deps, Name, Step};
+use run_model::{Deps, Name, Step};
 use std::alloc::{AllocError, Global};
 
 /// What is kept of an action that began here. Others are named by the places of their rows.
@@ -88,16 +87,6 @@ pub(crate) fn turn_in(step: &Step) -> Turn
         Step::Crash(_) => Turn::Crashes,
         Step::Recover(_) => Turn::Recovers,
         _ => Turn::Stays,
-    }
-}
-
-/// The names that the answer begins.
-pub(crate) fn names_in(answer: &Answer) -> &[Name]
-    ensures { result.now ≡ names_begun answer.now }
-{
-    match answer {
-        Answer::Began(names) => names.as_slice(),
-        _ => &[],
     }
 }
 

@@ -6,16 +6,16 @@ ghost use Rattle.std.specs.Option.{option_and_then, option_map};
 ghost use Rattle.action_names.specs.Deps.{lesser};
 ghost use Rattle.action_names.specs.Names.{Name, has_name};
 ghost use Rattle.holders.specs.Held.{names_of, value_at};
-ghost use Rattle.run_model.specs.Actions.{crashes, home_in, is_begun, is_busy, is_done, is_down, is_gone, maker_in, names_begun};
+ghost use Rattle.run_model.specs.Actions.{crashes, home_in, is_begun, is_busy, is_done, is_down, is_gone, maker_in};
 ghost use Rattle.run_model.specs.LocalReadings.{LocalEvent, dependency_here, events_here, is_at_home, least_of};
 ghost use Rattle.run_model.specs.Openings.{Held};
 ghost use Rattle.run_model.specs.Reopening.{life_before};
 ghost use Rattle.run_model.specs.StableContent.{Prepared};
 ghost use Rattle.guardian_laws.specs.Actions.{AgreesOnActions};
 
-use crate::entry::{Entry, Places, Row, Turn, depends_in, names_in, turn_in};
+use crate::entry::{Entry, Places, Row, Turn, depends_in, turn_in};
 use holders::Index;
-use run_model::{Answer, Deps, Name, Step};
+use run_model::{Deps, EventRef, Name, Step};
 use std::alloc::{AllocError, Global};
 
 /// Which actions are at home at one guardian, and what the guardian's own history says of them and of itself.
@@ -139,29 +139,29 @@ impl Roster {
     /// Whether or not there is memory for it, the roster is that of the same history.
     pub fn plan(
         &mut self,
-        step: &Step,
-        answer: &Answer,
+        event: &EventRef<'_>,
         dependencies: &[(Name, Deps)],
         entry: &mut Entry,
     ) -> Result<(), AllocError>
         ensures same { (g : ℕ) (here : List LocalEvent) → IsRoster g here (table self.old) → IsRoster g here (table self.new) }
         ensures crashes { crashes_of self.new ≡ crashes_of self.old }
         ensures fits { OnOk result (FitsEntry self.new entry.new) }
-        ensures planned { OnOk result (IsEntry (table self.new) (record { step = step.now; answer = answer.now }) (sent_of dependencies.now) entry.new) }
+        ensures planned { OnOk result
+            (IsEntry (table self.new) event.now (sent_of dependencies.now) entry.new) }
     {
         let Places {
             ended,
             closed,
             maker,
-        } = self.places_in(step);
+        } = self.places_in(event.step);
         entry.ended = ended;
         entry.closed = closed;
         entry.maker = maker;
-        entry.turn = turn_in(step);
-        entry.merged = self.plan_merge(step, dependencies)?;
-        self.plan_begun(step, answer, dependencies, maker, &mut entry.begun)?;
+        entry.turn = turn_in(event.step);
+        entry.merged = self.plan_merge(event.step, dependencies)?;
+        self.plan_begun(event, dependencies, maker, &mut entry.begun)?;
         self.plan_count(maker, entry.begun.len())?;
-        self.plan_above(names_in(answer), &mut entry.above)?;
+        self.plan_above(event.answer.names_begun(), &mut entry.above)?;
         Ok(())
     }
 
@@ -334,23 +334,23 @@ impl Roster {
     // The rows of what the event begins, whose maker has its row at the place, and room for them.
     fn plan_begun(
         &mut self,
-        step: &Step,
-        answer: &Answer,
+        event: &EventRef<'_>,
         dependencies: &[(Name, Deps)],
         maker: Option<usize>,
         begun: &mut Vec<(Name, Row)>,
     ) -> Result<(), AllocError>
-        requires { maker ≡ placed (table self.old) (maker_in step.now) }
+        requires { maker ≡ placed (table self.old) (maker_in event.now.step) }
         ensures same { table self.new ≡ table self.old }
         ensures fits { OnOk result (FitsBegun self.new begun.new.items (vec_len begun.new)) }
-        ensures born { OnOk result (AreBorn (table self.old) (record { step = step.now; answer = answer.now }) (sent_of dependencies.now) begun.new.items) }
+        ensures born { OnOk result
+            (AreBorn (table self.old) event.now (sent_of dependencies.now) begun.new.items) }
     {
-        let names = names_in(answer);
+        let names = event.answer.names_begun();
         begun.clear();
         self.rows.reserve(names.len())?;
         for name in names {
             self.places.make_room(name)?;
-            let row = self.born(step, name, dependencies, maker)?;
+            let row = self.born(event.step, name, dependencies, maker)?;
             begun.push((name.copy()?, row))?;
         }
         Ok(())

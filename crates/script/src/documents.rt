@@ -112,6 +112,7 @@ impl<'a, 'j> Site<'a, 'j> {
         name: &str,
         json: &'j Json,
     ) -> Result<Handler, ScriptFault>
+        requires { IsIdentifier name.now }
         ensures { Answers (spec.handler (site_of self.entry) number name.now (view json.now) (pointer place.now)) result }
     {
         let (params, gives, body) = three_members(

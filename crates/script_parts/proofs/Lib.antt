@@ -7,6 +7,7 @@ pub mod Items
 pub mod Listed
 pub mod Looked
 pub mod Members
+pub mod Named
 pub mod OpParts
 pub mod OpSteps
 pub mod Pairs

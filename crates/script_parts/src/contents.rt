@@ -1,9 +1,12 @@
 //! Contents of objects. A call fails with the first fault in what it reads, or out of memory.
-ghost use Rattle.std.specs.Prelude.{◌&&◌, nat_le, ◌≡◌, ◌<◌, ◌^◌, IfOk, IfErr};
+ghost use Rattle.std.specs.Prelude.{◌&&◌, nat_le, ◌≡◌, ◌<◌, ◌^◌, IfOk, IfErr, true};
+ghost use Rattle.std.specs.List.{AllByRecursion};
 ghost use Rattle.serde_json.specs.View.{view, members_view, items_view};
 ghost use Rattle.serde_json.specs.Events.{members_len};
 ghost use Rattle.values.specs.Fields.{HasRisingNames};
 ghost use Rattle.values.specs.Tags.{HasTagsForm, tag_kind};
+ghost use Rattle.values.specs.Words.{IsIdentifier};
+ghost use Rattle.script_model.specs.Shapes.{are_named};
 ghost use Rattle.script_model.specs.Reading.{Answers};
 ghost use Rattle.script_model.specs.ContentReading as spec;
 ghost use Rattle.script_parts.specs.Places.{pointer, AnswersBy};
@@ -21,14 +24,16 @@ use values::{
     MAX_ITEMS, MAX_TAGS, Record, Tag, Value, ValueFault, Variant,
 };
 
-/// The identifier of these characters, which were asked to be one: so only memory can be wanting.
+/// The identifier of these characters, which are one. Fails only if memory runs out.
 pub fn identifier(alloc: Global, text: &str) -> Result<Identifier, ScriptFault>
+    requires { IsIdentifier text.now }
     ensures read { IfOk result (λ name. name ≡ text.now) }
     ensures refused { IfErr result (λ e. e ≡ ScriptFault.Memory) }
 {
     match Identifier::parse(alloc, text) {
         Ok(identifier) => Ok(identifier),
-        Err(_) => Err(ScriptFault::Memory),
+        Err(ValueFault::Memory) => Err(ScriptFault::Memory),
+        Err(ValueFault::Unfit) => unreachable!(),
     }
 }
 
@@ -101,6 +106,7 @@ fn fields_in<'x>(
     place: &'x Place<'x>,
     members: &'x Map<String, Json>,
 ) -> Result<Vec<Field>, ScriptFault>
+    requires { are_named (members_view members.now.entries) ≡ true }
     ensures read { AnswersBy (λ v. v.items) (spec.fields_in (members_view members.now.entries) (pointer place.now)) result }
     ensures rising { IfOk result (λ v. HasRisingNames v.items) }
 {
@@ -179,6 +185,7 @@ fn array_in(alloc: Global, place: &Place<'_>, json: &Json) -> Result<Content, Sc
 fn tags_in<'x>(alloc: Global, place: &'x Place<'x>, json: &'x Json) -> Result<Vec<Tag>, ScriptFault>
     ensures read { AnswersBy (λ v. v.items) (spec.tag_list (view json.now) (pointer place.now)) result }
     ensures form { IfOk result (λ v. HasTagsForm v.items) }
+    ensures named { IfOk result (λ v. AllByRecursion (λ t. IsIdentifier t.name) v.items) }
 {
     let members = object(alloc, place, json)?;
     ask_names(alloc, place, MAX_TAGS, members)?;

@@ -58,16 +58,16 @@ fn records_belong(setup: &Setup, objects: &[Content], records: &BTreeMap<u32, Pr
 {
     records
         .values()
-        .all(|record| record_belongs(setup, objects, record))
+        .all(|prepared| record_belongs(setup, objects, prepared))
 }
 
 // Whether the record's home is a guardian, and its parts suit these objects.
-fn record_belongs(setup: &Setup, objects: &[Content], record: &Prepared) -> bool
-    ensures { result ≡ record_belongs setup.now objects.now (record_of record.now) }
+fn record_belongs(setup: &Setup, objects: &[Content], prepared: &Prepared) -> bool
+    ensures { result ≡ record_belongs setup.now objects.now (record_of prepared.now) }
 {
-    record.home >= 1
-        && record.home as usize <= setup.guardians()
-        && all_suit(objects, &record.parts)
+    prepared.home >= 1
+        && prepared.home as usize <= setup.guardians()
+        && all_suit(objects, &prepared.parts)
 }
 
 // Whether each part suits its object.

@@ -10,7 +10,7 @@ ghost use Rattle.tracer.specs.Losses.{IsStanding, is_seen_loss};
 
 use crate::actions::{ancestors, begins, is_aborted};
 use crate::endings::Endings;
-use crate::steps::{crashes, is_path, names_begun};
+use crate::steps::{crashes, is_path};
 use run_model::{Answer, Event, History, Name, Step};
 use std::alloc::{AllocError, Global};
 
@@ -28,7 +28,7 @@ pub(crate) fn is_orphan(
     }
     let mut events = history.events();
     while let Some((event, past)) = events.split_last() {
-        if shows_loss(alloc, history, endings, names_begun(&event.answer), action)? {
+        if shows_loss(alloc, history, endings, event.answer.names_begun(), action)? {
             return Ok(true);
         }
         events = past;

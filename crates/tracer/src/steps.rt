@@ -5,16 +5,6 @@ ghost use Rattle.run_model.specs.Actions.{names_begun, step_aborts, step_crashes
 
 use run_model::{Answer, Name, Step};
 
-/// The actions that an answer begins.
-pub fn names_begun(answer: &Answer) -> &[Name]
-    ensures { result.now ≡ names_begun answer.now }
-{
-    match answer {
-        Answer::Began(names) => names.as_slice(),
-        _ => &[],
-    }
-}
-
 /// Whether the name is this path.
 pub fn is_path(name: &Name, path: &[u32]) -> bool
     ensures { result ≡ same_name name.now path.now }
@@ -26,7 +16,7 @@ pub fn is_path(name: &Name, path: &[u32]) -> bool
 pub(crate) fn begins(answer: &Answer, path: &[u32]) -> bool
     ensures { result ≡ has_name (names_begun answer.now) path.now }
 {
-    names_begun(answer).iter().any(|name| is_path(name, path))
+    answer.names_begun().iter().any(|name| is_path(name, path))
 }
 
 /// Whether the step aborts the action.

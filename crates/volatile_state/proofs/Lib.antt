@@ -3,6 +3,5 @@ pub mod Operated
 pub mod Held
 pub mod Sound
 pub mod Untouched
-pub mod Planned
 pub mod Readings
 pub mod Kept

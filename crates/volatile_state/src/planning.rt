@@ -50,8 +50,7 @@ impl Memory {
         self.objects.plan(outcomes, &self.told, &mut plan.planned)?;
         self.told.plan(outcomes, &mut plan.heard)?;
         self.lists.plan_lesson(self.alloc, news, &mut plan.lesson)?;
-        self.roster
-            .plan(event.step, event.answer, dependencies, &mut plan.entry)?;
+        self.roster.plan(event, dependencies, &mut plan.entry)?;
         plan.sender = message.sender;
         plan.outcomes = message.outcomes;
         Ok(())

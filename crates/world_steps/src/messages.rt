@@ -11,7 +11,7 @@ ghost use Rattle.world_steps.specs.Lending.{IsOneOf, Lends, dependencies_two, ne
 ghost use Rattle.world_steps.specs.Naming.{AreNamed};
 
 use crate::lent::Lent;
-use crate::names::{NamedGuardians, home_of_new, names_begun};
+use crate::names::{NamedGuardians, home_of_new};
 use action_names::{Deps, Name, Names};
 use layer_contracts::{EventRef, Forest, Guardian, Message};
 use run_model::Step;
@@ -158,7 +158,7 @@ impl<'a, R: Forest, G: Guardian> Lent<'a, R, G> {
         if home != at {
             return Ok(Vec::new(self.alloc));
         }
-        self.dependencies_of_new(names_begun(event.answer), home, life)
+        self.dependencies_of_new(event.answer.names_begun(), home, life)
     }
 
     fn dependencies_of_new(

@@ -1,6 +1,5 @@
 //! Which guardians a step names, and what follows of the forest alone.
 ghost use Rattle.std.specs.Prelude.{◌≡◌, ◌||◌, ◌==◌};
-ghost use Rattle.run_model.specs.Actions.{names_begun};
 ghost use Rattle.action_names.specs.Names.{parent_of};
 ghost use Rattle.run_model.specs.declared.step.Step.TheVariants.{Abort};
 ghost use Rattle.run_model.specs.LocalHistories.{events_there, home_lent, takes_registry};
@@ -10,7 +9,7 @@ ghost use Rattle.world_steps.specs.Naming.{AreNamed, first_named, second_named};
 
 use action_names::Name;
 use layer_contracts::Forest;
-use run_model::{Answer, Step};
+use run_model::Step;
 
 /// The guardians that a step names: two, or one twice. Which they are, the forest is asked once for a step.
 #[derive(Clone, Copy)]
@@ -94,16 +93,6 @@ pub fn takes_registry(step: &Step) -> bool
     ensures { result ≡ takes_registry step.now }
 {
     !matches!(step, Step::Op(..) | Step::Crash(_) | Step::Recover(_))
-}
-
-/// The actions that an answer begins.
-pub fn names_begun(answer: &Answer) -> &[Name]
-    ensures { result.now ≡ names_begun answer.now }
-{
-    match answer {
-        Answer::Began(names) => names.as_slice(),
-        _ => &[],
-    }
 }
 
 /// The home of what a step begins that names these, and 0 where it begins nothing.

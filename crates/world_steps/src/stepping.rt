@@ -125,7 +125,7 @@ fn keep<R: Forest, G: Guardian>(
     ensures cause { IsErrOf result Stable → HasFailed G.stored guardians.old guardians.new }
 {
     let number = history.next_stamp();
-    history.push(event.step, event.answer)?;
+    history.push(event)?;
     let kept = keep_at(alloc, forest, guardians, named, low, high, event, number);
     ask_number(guardians, low);
     ask_number(guardians, high);

@@ -1,5 +1,5 @@
 use Rattle.std.proofs.Common.{sym, ◌∙◌}
-use Rattle.layer_contracts.proofs.Events.{step_is}
+use Rattle.run_model.proofs.Events.{step_is}
 use Rattle.guardian.proofs.Whole.{crash_of, down_of, record_is, up_of}
 use Rattle.guardian.proofs.carrying.keep.Goals as goal
 

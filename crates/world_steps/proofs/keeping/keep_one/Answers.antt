@@ -4,7 +4,7 @@ use Rattle.stable_store.specs.Calls.{View}
 use Rattle.layer_contracts.specs.Guardians.{GuardianState, lent_two}
 use Rattle.layer_contracts.specs.Forests.{ForestState}
 use Rattle.layer_contracts.specs.Messages.{is_operation}
-use Rattle.layer_contracts.proofs.Events.{step_is}
+use Rattle.run_model.proofs.Events.{step_is}
 use Rattle.layer_contracts.proofs.Stores.{stays_same}
 use Rattle.world_steps.specs.Keeping.{Brings, Plans, StoreLeft}
 use Rattle.world_steps.proofs.Left.{brought_rising, first_lent, first_one, left_at, left_there, planned_here, planned_there}

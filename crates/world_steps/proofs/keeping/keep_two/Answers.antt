@@ -5,7 +5,7 @@ use Rattle.stable_store.specs.Calls.{View}
 use Rattle.layer_contracts.specs.Guardians.{GuardianState, lent_two}
 use Rattle.layer_contracts.specs.Forests.{ForestState}
 use Rattle.layer_contracts.specs.Messages.{is_operation}
-use Rattle.layer_contracts.proofs.Events.{step_is}
+use Rattle.run_model.proofs.Events.{step_is}
 use Rattle.layer_contracts.proofs.Stores.{stays_same, stays_then}
 use Rattle.world_steps.specs.Keeping.{Brings, IsLentAt, Plans, StoreLeft}
 use Rattle.world_steps.proofs.Left.{brought_rising, differ_as, first_lent, first_one, left_at, left_there, planned_here, planned_there, quiet_here, second_lent, second_one}

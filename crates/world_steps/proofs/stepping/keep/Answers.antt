@@ -138,7 +138,7 @@ returns-in-Ok-clause-world g c =
     let prepared : IsReady g.G.Guardian.stands (g.R.Forest.stands c.args.forest.now) f states c.args.low c.args.high e gs =
     ready g.G.Guardian.stands c.args.history.now g.opening gs e c.args.low c.args.high c.requires.1.1.0 c.requires.1.1.1.1.0 c.requires.1.1.1.1.1.1 low.0 high.0 in
     subst (λ h. IsWorld g.G.Guardian.stands g.G.Guardian.stored stands g.opening h gs')
-    (sym (c.in_ok-push.ensures.ok ∙ ap (λ k. k ∷ c.args.history.now) c.event.view_is))
+    (sym c.in_ok-push.ensures.ok)
     (more g.G.Guardian.stands stands c.args.history.now g.opening gs gs' e c.args.low c.args.high
     c.requires.1.1.0 c.requires.1.1.1.1.0 c.requires.1.1.1.1.1.1 low.0 high.0 low.1 high.1 len
     (subst (λ n. IsKeptAt g.G.Guardian.stands stands f states c.args.low c.args.high n e gs gs') number

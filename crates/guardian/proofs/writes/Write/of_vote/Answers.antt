@@ -1,6 +1,6 @@
 use Rattle.std.proofs.Common.{ap, not, sym, ◌∙◌}
 use Rattle.run_model.specs.LocalReadings.{or_zero}
-use Rattle.guardian_laws.specs.Outcomes.{is_yes}
+use Rattle.run_model.specs.Votes.{is_yes}
 use Rattle.guardian.proofs.Asked.{home_is, vote_is, vote_written}
 use Rattle.guardian.proofs.writes.Write.of_vote.Goals as goal
 

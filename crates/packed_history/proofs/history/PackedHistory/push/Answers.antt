@@ -1,5 +1,4 @@
 use Rattle.std.proofs.Common.{[], ap, ◌++◌, ◌∙◌, ◌∷◌}
-use Rattle.run_model.specs.declared.history.Event.{Event}
 use Rattle.packed_history.proofs.Laid.{pushed_events}
 use Rattle.packed_history.proofs.history.PackedHistory.push.Goals as goal
 
@@ -7,7 +6,6 @@ pub returns-clause-ok : goal.returns-clause-ok
 returns-clause-ok c =
     let inside = c.self.inside in
     let row = c.in_ok-row.row in
-    let event : Event = record { step = c.args.step.now; answer = c.args.answer.now } in
-    pushed_events inside.arenas c.keep.new.self inside.rows.items c.push_reserved.new.self.items row event c.in_ok-row.ensures.ok
+    pushed_events inside.arenas c.keep.new.self inside.rows.items c.push_reserved.new.self.items row c.args.event.now c.in_ok-row.ensures.ok
     (c.push_reserved.ensures.items ∙ ap (λ rs. rs ++ row ∷ []) c.in_ok-reserve.ensures.items) c.self.invariant
-    ∙ ap (λ es. event ∷ es) c.self.view_is
+    ∙ ap (λ es. c.args.event.now ∷ es) c.self.view_is

@@ -1,7 +1,7 @@
 use Rattle.std.proofs.Common.{ap, rules, subst, sym, ◌∙◌}
 use Rattle.run_model.specs.LocalHistories.{events_there}
-use Rattle.layer_contracts.proofs.Events.{answer_is, step_is}
-use Rattle.registry.specs.Following.{is_yes_vote}
+use Rattle.run_model.proofs.Events.{answer_is, step_is}
+use Rattle.run_model.specs.Votes.{is_yes}
 use Rattle.registry.specs.Polls.{IsVoteOn}
 use Rattle.registry.proofs.actions.Actions.plan.Goals as goal
 
@@ -20,6 +20,6 @@ returns-in_ok-vote-in-Prepare c = record {
     c.in-Prepare.guardian,
     c.in-Prepare.top,
     step_is c.event.view_is ∙ c.in-Prepare.is,
-    subst (λ b. IsVoteOn c.in-Prepare.guardian c.in-Prepare.top b c.in_ok-vote-in-Prepare.vote) (c.is_yes-yes.ensures ∙ ap is_yes_vote (sym (answer_is c.event.view_is))) c.in_ok-vote-in-Prepare.ensures.vote,
+    subst (λ b. IsVoteOn c.in-Prepare.guardian c.in-Prepare.top b c.in_ok-vote-in-Prepare.vote) (c.is_yes-yes.ensures ∙ ap is_yes (sym (answer_is c.event.view_is))) c.in_ok-vote-in-Prepare.ensures.vote,
   );
 }

@@ -1,5 +1,5 @@
 use Rattle.std.proofs.Common.{ap, subst, sym, ◌∙◌, ◌∷◌}
-use Rattle.layer_contracts.proofs.Events.{step_is}
+use Rattle.run_model.proofs.Events.{step_is}
 use Rattle.layer_contracts.specs.Forests.{ForestState, RegistryNews, stamped_there}
 use Rattle.registry.specs.Following.{AreActions, HasRoomFor}
 use Rattle.registry.specs.Registries.{FitsRegistry, InRegistry}

@@ -7,7 +7,8 @@ use Rattle.roster.proofs.Planning.{HavePlaces, all_last, places_more, same_held}
 use Rattle.guardian_laws.specs.Sent.{sent_of}
 use Rattle.roster.specs.Entries.{IsBorn}
 use Rattle.roster.specs.Tables.{placed, table}
-use Rattle.run_model.specs.Actions.{maker_in}
+use Rattle.run_model.specs.Actions.{maker_in, names_begun}
+use Rattle.run_model.proofs.Events.{answer_is, step_is}
 use Rattle.roster.specs.declared.entry.Row.{Row}
 use Rattle.roster.proofs.roster.Roster.plan_begun.Goals as goal
 
@@ -22,7 +23,7 @@ loop-name-init c = record {
   places = subst (HavePlaces c.args.self.now.places.room) (sym c.clear.ensures.items) tt;
   named = ap names_of c.clear.ensures.items;
   are_names = subst (AllByRecursion (λ (x : Name × Row). IsName x.0)) (sym c.clear.ensures.items) tt;
-  born = subst (AllByRecursion (λ (x : Name × Row). IsBorn (table c.args.self.now) c.args.step.now (sent_of c.args.dependencies.now) x.0 x.1))
+  born = subst (AllByRecursion (λ (x : Name × Row). IsBorn (table c.args.self.now) c.args.event.now.step (sent_of c.args.dependencies.now) x.0 x.1))
       (sym c.clear.ensures.items) tt;
 }
 
@@ -32,9 +33,9 @@ returns-in_err-make_room-clause-same c =
 
 pub born-requires : goal.born-requires
 born-requires c =
-    subst (λ t. c.args.maker ≡ placed t (maker_in c.args.step.now))
+    subst (λ t. c.args.maker ≡ placed t (maker_in c.event.inside.step.now))
     (sym (same_held (table c.loop-name.self) (table c.args.self.now) c.make_room.new.self.held c.make_room.ensures.held c.loop-name.invariant.same))
-    c.requires
+    (c.requires ∙ ap (λ step. placed (table c.args.self.now) (maker_in step)) (step_is c.event.view_is))
 
 pub returns-in_err-row-clause-same : goal.returns-in_err-row-clause-same
 returns-in_err-row-clause-same c =
@@ -51,9 +52,9 @@ returns-in_err-push-clause-same c =
 pub loop-name-preserved : goal.loop-name-preserved
 loop-name-preserved c =
     let before = table c.args.self.now in
-    let step = c.args.step.now in
+    let step = c.args.event.now.step in
     let came = sent_of c.args.dependencies.now in
-    let names = c.names_in-names.result.now in
+    let names = c.names_begun-names.result.now in
     let i = c.loop-name.name-index in
     let name = c.name-item.result in
     let begun = c.loop-name.begun.items in
@@ -81,7 +82,9 @@ loop-name-preserved c =
       born = subst (AllByRecursion (λ (x : Name × Row). IsBorn before step came x.0 x.1)) (sym pushed)
           (all_last (λ (x : Name × Row). IsBorn before step came x.0 x.1) begun (copy, row) c.loop-name.invariant.born
           (subst (λ n. IsBorn before step came n row) (sym same_name)
-          (subst (λ t. IsBorn t step came name row) held c.in_ok-row.ensures)));
+          (subst (λ t. IsBorn t step came name row) held
+          (subst (λ s. IsBorn (record (table c.loop-name.self) { places = c.make_room.new.self.held }) s came name row)
+          (sym (step_is c.event.view_is)) c.in_ok-row.ensures))));
     }
 
 pub returns-clause-fits : goal.returns-clause-fits
@@ -94,8 +97,9 @@ pub returns-clause-born : goal.returns-clause-born
 returns-clause-born c = record {
   names =
       c.loop-name.invariant.named
-      ∙ take_all c.loop-name.name-index c.names_in-names.result.now (omega (arith, c.loop-name-test.false))
-      ∙ c.names_in-names.ensures;
+      ∙ take_all c.loop-name.name-index c.names_begun-names.result.now (omega (arith, c.loop-name-test.false))
+      ∙ c.names_begun-names.ensures
+      ∙ ap names_begun (sym (answer_is c.event.view_is));
   named = c.loop-name.invariant.are_names;
   rows = c.loop-name.invariant.born;
 }

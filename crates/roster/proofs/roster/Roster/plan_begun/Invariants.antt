@@ -18,5 +18,5 @@ invariant-loop-name l = record {
   places : HavePlaces l.self.places.room l.begun.items;
   named : names_of l.begun.items ≡ take l.name-index l.names;
   are_names : AllByRecursion (λ (x : Name × Row). IsName x.0) l.begun.items;
-  born : AllByRecursion (λ (x : Name × Row). IsBorn (table l.fn.self) l.step (sent_of l.dependencies) x.0 x.1) l.begun.items;
+  born : AllByRecursion (λ (x : Name × Row). IsBorn (table l.fn.self) l.event.step (sent_of l.dependencies) x.0 x.1) l.begun.items;
 }

@@ -1,4 +1,4 @@
-use Rattle.std.proofs.Common.{◌≡◌, [], ◌∷◌, ◌++◌, length, length-append, Ok, Err, suc, string_bytes, append_assoc, sym, ap, ap₂, ◌∙◌, arith, rules}
+use Rattle.std.proofs.Common.{◌≡◌, [], ◌∷◌, ◌++◌, length, length-append, Ok, Err, suc, string_bytes, append_assoc, subst, sym, ap, ap₂, ◌∙◌, arith, rules}
 use Rattle.std.proofs.lemmas.Result.{err_from_is_err_and}
 use Rattle.serde_json.specs.View.{view, members_view}
 use Rattle.serde_json.proofs.Views.{Entry}
@@ -7,6 +7,8 @@ use Rattle.script_model.specs.declared.checked.Handler.{Handler}
 use Rattle.script_model.specs.Reading.{and_then, ask, step}
 use Rattle.script_model.specs.ScriptReading.{handler, handlers_from}
 use Rattle.script_parts.specs.Places.{pointer}
+use Rattle.script_parts.proofs.Named.{first_named}
+use Rattle.values.specs.Words.{IsIdentifier}
 use Rattle.script.specs.Sites.{site_of}
 use Rattle.script.proofs.Listed.{handlers_more, handlers_stop, handlers_at}
 use Rattle.script.proofs.documents.Site.add_handlers.Goals as goal
@@ -36,6 +38,12 @@ returns-in_err-handler c =
     ∙ ap (λ ds. and_then (handlers_from site n (members_view ds) place) (λ xs. Ok (l.invariant.0 ++ xs))) c.in-Some.ensures.steps
     ∙ handlers_stop site n e c.next.new.self place l.invariant.0 x read)
 
+pub handler-requires : goal.handler-requires
+handler-requires c =
+    let e : Entry = (c.in-Some.name.now, c.in-Some.document.now) in
+    subst (λ s. IsIdentifier s) (sym c.as_str-name.ensures.value)
+    (first_named e c.next.new.self _ c.in-Some.ensures.steps c.loop-name.invariant.3).0
+
 pub loop-name-preserved : goal.loop-name-preserved
 loop-name-preserved c =
     let place = pointer c.args.place.now in
@@ -57,4 +65,5 @@ loop-name-preserved c =
       l.invariant.2
           ∙ ap (λ ds. and_then (handlers_from site n (members_view ds) place) (λ xs. Ok (done ++ xs))) c.in-Some.ensures.steps
           ∙ handlers_more site n _ e c.next.new.self place done h read count,
+      (first_named e c.next.new.self _ c.in-Some.ensures.steps l.invariant.3).1,
     )

@@ -1,6 +1,6 @@
 use Rattle.std.proofs.Common.{ap, refl, sym, ◌∙◌}
 use Rattle.guardian_objects.proofs.Operated.{on_err}
-use Rattle.layer_contracts.proofs.Events.{step_is}
+use Rattle.run_model.proofs.Events.{step_is}
 use Rattle.layer_contracts.specs.Messages.{is_operation}
 use Rattle.volatile_state.proofs.Kept.{may_operate, next_within, operated_follows, operated_within}
 use Rattle.volatile_state.proofs.Operated.{no_operation}

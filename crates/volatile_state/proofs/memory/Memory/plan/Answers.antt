@@ -1,9 +1,10 @@
 use Rattle.std.proofs.Common.{refl, subst, sym, ◌∙◌}
 use Rattle.tellings.specs.Hearing.{IsHeard}
 use Rattle.orphans.specs.Knowing.{IsLesson}
+use Rattle.guardian_laws.specs.Sent.{sent_of}
+use Rattle.roster.specs.Entries.{IsEntry}
 use Rattle.roster.specs.Tables.{table}
 use Rattle.atomic_object.specs.Staying.{OutcomesRise}
-use Rattle.volatile_state.proofs.Planned.{entry_of}
 use Rattle.volatile_state.proofs.Sound.{inside, sound_same}
 use Rattle.volatile_state.proofs.memory.Memory.plan.Goals as goal
 
@@ -57,8 +58,8 @@ returns-clause-planned c = λ s at owed agrees.
           (subst (λ l. IsLesson c.args.message.sender c.args.message.life c.args.message.aborts c.as_slice-counts.result.now l c.plan_lesson.new.lesson)
           c.as_slice-outcomes.ensures.value c.in_ok-plan_lesson.ensures.news);
       entry =
-          entry_of (table c.plan-3.new.self) c.args.message.dependencies.items c.as_slice-dependencies.result.now
-          c.plan-3.new.entry c.event.view_is c.as_slice-dependencies.ensures.value c.in_ok-plan-3.ensures.planned;
+          subst (λ l. IsEntry (table c.plan-3.new.self) c.args.event.now (sent_of l) c.plan-3.new.entry)
+          c.as_slice-dependencies.ensures.value c.in_ok-plan-3.ensures.planned;
       outcomes = c.in_ok-plan.ensures.outcomes ∙ c.as_slice-outcomes.ensures.value;
       planned = c.in_ok-plan.ensures.planned s.number s.past here.tellings;
     }

@@ -3,7 +3,7 @@ use Rattle.action_names.specs.Names.{Name}
 use Rattle.run_model.specs.declared.history.Event.{Event}
 use Rattle.run_model.specs.LocalReadings.{Carried, LocalEvent}
 use Rattle.run_model.specs.LocalHistories.{aborts_from, carried_lent, counts_of_sender, events_there, outcomes_carried, sender_lent, sender_life}
-use Rattle.layer_contracts.proofs.Events.{step_is}
+use Rattle.run_model.proofs.Events.{step_is}
 use Rattle.layer_contracts.specs.Guardians.{GuardianState, lent_two}
 use Rattle.layer_contracts.specs.Forests.{ForestState}
 use Rattle.guardian_laws.specs.Sent.{sent_of}

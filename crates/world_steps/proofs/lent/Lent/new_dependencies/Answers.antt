@@ -3,7 +3,7 @@ use Rattle.std.proofs.lemmas.Bool.{ne_eqb}
 use Rattle.action_names.specs.Names.{Name}
 use Rattle.run_model.specs.Actions.{names_begun}
 use Rattle.guardian_laws.specs.Sent.{sent_of}
-use Rattle.layer_contracts.proofs.Events.{answer_is, step_is}
+use Rattle.run_model.proofs.Events.{answer_is, step_is}
 use Rattle.world_steps.specs.Lending.{new_from}
 use Rattle.world_steps.proofs.Naming.{home_of_same}
 use Rattle.world_steps.proofs.New.{new_elsewhere, new_here}
