@@ -15,12 +15,12 @@ use Rattle.run_model.specs.declared.step.ObjectId.{ObjectId}
 use Rattle.run_model.specs.declared.step.Step.{Step}
 use Rattle.run_model.specs.declared.step.Step.TheVariants.{Abort, Arms, Call, Close, Commit, Crash, Decide, NestedTop, Op, Prepare, Recover, Tell, Top}
 use Rattle.run_model.specs.Actions.{step_recovers}
-use Rattle.run_model.specs.LocalReadings.{Carried, LocalEvent, brings, decided_here, events_here, or_zero, outcome_in, prepared_here, says_committed, stable_base_here, standing_here}
+use Rattle.run_model.specs.LocalReadings.{Carried, LocalEvent, events_here, or_zero, outcome_in, prepared_here, says_committed, stable_base_here, standing_here}
 use Rattle.run_model.specs.Openings.{Opening, first_content, objects_at, part_at}
-use Rattle.run_model.specs.StableContent.{Prepared, installed_over, part_in, parts_by, stable_count, stable_next_top, step_decides, step_told}
+use Rattle.run_model.specs.StableContent.{Prepared, installed_over, part_in, parts_by, stable_next_top, step_decides, step_told}
 use Rattle.run_model.specs.Versions.{part_held}
 use Rattle.run_model.specs.Visibility.{votes_yes}
-use Rattle.stable_store.specs.Stored.{Record, Stored, after_bump, after_decide, after_discard, after_install, after_prepare, installed, laid}
+use Rattle.stable_store.specs.Stored.{Stored, after_bump, after_discard, after_install, after_prepare, installed}
 use Rattle.run_laws.proofs.Names.{same_name_self, same_name_true}
 use Rattle.local_laws.specs.Reopened.{AreRising}
 use Rattle.guardian_laws.specs.Outcomes.{AgreesOnVotes}

@@ -16,7 +16,7 @@ use Rattle.run_model.specs.Answers.{answer_by, answer_of, outcome_by, refused_or
 use Rattle.run_model.specs.Lists.{down_from, guardians_of}
 use Rattle.run_model.specs.LocalHistories.{RegistryEvent, Stamped, answer_lent, events_of, events_there, facts_lent, local_history, registry_history, results_lent}
 use Rattle.run_model.specs.LocalReadings.{LocalEvent, count_here, is_orphan_here}
-use Rattle.run_model.specs.Refusals.{Check, Facts, arm_names, bad_operation, checks_by, facts_of, first_refusal, has_sub, is_past_arms_by, is_used_up, limit, no_guardian, no_object, not_sub, not_top, too_deep}
+use Rattle.run_model.specs.Refusals.{Check, Facts, arm_names, checks_by, facts_of, first_refusal, no_guardian}
 use Rattle.run_model.specs.Openings.{Opening, first_content}
 use Rattle.run_model.specs.Runs.{IsRun}
 use Rattle.run_model.specs.Votes.{all_prepared, is_number, may_prepare}

@@ -1,5 +1,5 @@
 -- The answer of a step asks of no guardian but of those that it names.
-use Rattle.std.proofs.Common.{Bool, List, [], ap, cond, eqb-true, false, inl, inr, not, refl, sym, true, ℕ, ◌==◌, ◌∙◌, ◌∷◌, ◌≡◌}
+use Rattle.std.proofs.Common.{Bool, List, [], ap, cond, eqb-true, false, not, refl, sym, true, ℕ, ◌==◌, ◌∙◌, ◌∷◌, ◌≡◌}
 use Rattle.std.proofs.lemmas.Bool.{or_left, or_right}
 use Rattle.action_names.specs.Names.{child_of}
 use Rattle.run_model.specs.declared.answer.Answer.{Answer}
@@ -12,7 +12,7 @@ use Rattle.run_model.specs.Actions.{crashes, home_of, is_committed, is_down, is_
 use Rattle.run_model.specs.Answers.{operated_by, refused_or}
 use Rattle.run_model.specs.LocalHistories.{answer_lent, dependency_there, events_there, facts_lent, names_guardian}
 use Rattle.run_model.specs.LocalReadings.{LocalEvent, count_here, events_here, is_orphan_here, standing_here, told_here}
-use Rattle.run_model.specs.Refusals.{Check, Facts, arm_names, bad_operation, checks_by, first_refusal, has_sub, is_past_arms_by, is_used_up, limit, no_action, no_guardian, no_object, not_sub, not_top, too_deep}
+use Rattle.run_model.specs.Refusals.{Check, Facts, arm_names, checks_by, first_refusal}
 use Rattle.run_model.specs.Openings.{first_content}
 use Rattle.run_model.specs.Votes.{is_number}
 use Rattle.run_laws.proofs.Names.{eqb_self}

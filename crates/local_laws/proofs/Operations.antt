@@ -1,6 +1,6 @@
 -- A guardian answers the operations of actions at home there as it should, and votes and counts so.
-use Rattle.std.proofs.Common.{Bool, List, Some, [], ap, ap₂, cond, eqb-true, false, inl, inr, not, refl, sym, true, ℕ, ◌==◌, ◌∙◌, ◌∷◌, ◌≡◌, ◌||◌, ◌⊎◌}
-use Rattle.std.proofs.lemmas.Bool.{or_left, or_right, true≢false, and_from}
+use Rattle.std.proofs.Common.{Bool, List, [], ap, ap₂, cond, eqb-true, false, not, refl, sym, true, ℕ, ◌==◌, ◌∙◌, ◌∷◌, ◌≡◌, ◌||◌}
+use Rattle.std.proofs.lemmas.Bool.{or_left, or_right, and_from}
 use Rattle.std.specs.List.{list_any}
 use Rattle.action_names.specs.Names.{ancestors}
 use Rattle.run_model.specs.declared.answer.Answer.{Answer}
@@ -12,7 +12,7 @@ use Rattle.run_model.specs.Keeping.{standing_of}
 use Rattle.run_model.specs.Lists.{guardians_of, is_below, is_known_orphan}
 use Rattle.run_model.specs.LocalHistories.{events_of, local_history, with_dependencies}
 use Rattle.run_model.specs.LocalReadings.{LocalEvent, facts_here, least_of, standing_here, is_at_home}
-use Rattle.run_model.specs.Refusals.{Check, checks, checks_by, first_refusal}
+use Rattle.run_model.specs.Refusals.{checks, checks_by, first_refusal}
 use Rattle.run_model.specs.Openings.{first_content}
 use Rattle.run_model.specs.Votes.{is_number}
 use Rattle.run_laws.proofs.Names.{eqb_self, same_name_self}

@@ -10,8 +10,8 @@ use Rattle.run_model.specs.declared.step.Step.TheVariants.{Prepare, Tell, Decide
 use Rattle.run_model.specs.Actions.{home_of, is_committed, is_begun, step_commits}
 use Rattle.run_model.specs.Lists.{carried_from}
 use Rattle.run_model.specs.LocalHistories.{Stamped, events_of, local_history, names_guardian, outcomes_carried}
-use Rattle.run_model.specs.LocalReadings.{LocalEvent, or_zero, outcome_in, prepared_here, says_committed, stable_base_here, standing_here, decided_here}
-use Rattle.run_model.specs.StableContent.{Prepared, installed_by, installed_over, stable_base, stable_prepared, step_told, part_in, parts_by, parts_held, is_stably_decided, step_decides}
+use Rattle.run_model.specs.LocalReadings.{LocalEvent, or_zero, outcome_in, prepared_here, says_committed, stable_base_here, standing_here}
+use Rattle.run_model.specs.StableContent.{Prepared, installed_by, installed_over, stable_base, stable_prepared, step_told, part_in, parts_by, parts_held, step_decides}
 use Rattle.run_model.specs.Visibility.{votes_yes}
 use Rattle.run_model.specs.Openings.{Opening}
 use Rattle.run_model.specs.Runs.{IsRun}

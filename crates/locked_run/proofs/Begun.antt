@@ -1,5 +1,5 @@
 -- The beginning of a run: each guardian with the part of its number.
-use Rattle.std.proofs.Common.{List, Some, [], ap, ap₂, arith, length, refl, slice_get, subst, suc, sym, zero, ℕ, ◌++◌, ◌+◌, ◌-◌, ◌<◌, ◌≤◌, ◌∙◌, ◌∷◌, ◌≡◌}
+use Rattle.std.proofs.Common.{List, Some, [], ap, ap₂, arith, length, refl, suc, zero, ℕ, ◌++◌, ◌+◌, ◌-◌, ◌<◌, ◌≤◌, ◌∙◌, ◌∷◌, ◌≡◌}
 use Rattle.atomic_table.specs.Seated.{TableId}
 use Rattle.one_run.specs.declared.piece.Piece.{Piece}
 use Rattle.one_run.specs.declared.run.Part.{Part}
@@ -11,7 +11,7 @@ use Rattle.run_model.specs.Openings.{Opening}
 use Rattle.layer_contracts.specs.Guardians.{GuardianState}
 use Rattle.world_steps.specs.Standings.{standing}
 use Rattle.locked_run.specs.Beginning.{held_first, held_from, stamps}
-use Rattle.locked_run.specs.Parts.{InHeld, IsHeld, guardian_part, number_of, registry_part}
+use Rattle.locked_run.specs.Parts.{IsHeld, guardian_part, number_of, registry_part}
 
 -- the first place, and the others
 cut : (p n : ℕ) → 0 < n → places_from {E = Event} p n ≡ record { place = Some p; left = stamps; seen = [] } ∷ places_from (suc p) (n - 1)

@@ -10,9 +10,9 @@ use Rattle.one_run.proofs.Parts.{goes_anywhere}
 use Rattle.run_model.specs.declared.answer.Answer.{Answer}
 use Rattle.run_model.specs.declared.history.Event.{Event}
 use Rattle.run_model.specs.declared.step.Step.{Step}
-use Rattle.run_model.specs.LocalHistories.{Stamped, local_history, numbered, registry_history}
+use Rattle.run_model.specs.LocalHistories.{Stamped}
 use Rattle.run_model.specs.Openings.{Opening}
-use Rattle.run_model.specs.Runs.{IsRun, history_after, is_accepted}
+use Rattle.run_model.specs.Runs.{IsRun, is_accepted}
 use Rattle.layer_contracts.specs.Forests.{ForestState}
 use Rattle.layer_contracts.specs.Guardians.{GuardianState}
 use Rattle.layer_contracts.specs.declared.guardian.Fault.{Fault}

@@ -1,16 +1,13 @@
 -- What is known when all have given up their parts.
-use Rattle.std.proofs.Common.{List, None, Option, Some, [], ap, arith, cond, length, map, refl, slice_get, subst, sym, suc, zero, ℕ, ◌+◌, ◌-◌, ◌<◌, ◌≤◌, ◌==◌, ◌++◌, ◌∙◌, ◌∷◌, ◌≡◌, get_or}
-use Rattle.std.specs.List.{AllByRecursion, AllZip}
+use Rattle.std.proofs.Common.{List, None, Option, Some, [], ap, arith, cond, length, map, refl, slice_get, subst, sym, suc, zero, ℕ, ◌+◌, ◌-◌, ◌<◌, ◌≤◌, ◌==◌, ◌∙◌, ◌∷◌, ◌≡◌}
+use Rattle.std.specs.List.{AllZip}
 use Rattle.std.specs.List.Sorted.{IsNonDecreasingBy, IsPermutation}
 use Rattle.std.proofs.lemmas.List.Sorted.{IsPermutation-sym, IsPermutation-trans}
-use Rattle.std.proofs.lemmas.Option.{slice_get-get_or}
 use Rattle.one_run.specs.declared.piece.Piece.{Piece}
-use Rattle.one_run.specs.Pieces.{AllFit, GoesOn, count, is_place, with_seen}
+use Rattle.one_run.specs.Pieces.{AllFit, GoesOn, count, is_place}
 use Rattle.one_run.specs.Rules.{Counts}
 use Rattle.one_run.proofs.Parts.{seen_count}
 use Rattle.run_model.specs.declared.history.Event.{Event}
-use Rattle.run_model.specs.LocalHistories.{local_history, numbered, registry_history}
-use Rattle.run_model.specs.LocalReadings.{LocalEvent}
 use Rattle.run_model.specs.Openings.{Opening}
 use Rattle.run_model.specs.Runs.{IsRun}
 use Rattle.run_laws.proofs.Serving.{runs_are_served}
@@ -18,17 +15,16 @@ use Rattle.layer_contracts.specs.Forests.{ForestState}
 use Rattle.layer_contracts.specs.Guardians.{GuardianState}
 use Rattle.layer_contracts.specs.Stores.{IsStoreOf}
 use Rattle.stable_store.specs.Calls.{View}
-use Rattle.world_steps.specs.Standings.{IsWorld, forest_of, standing}
+use Rattle.world_steps.specs.Standings.{standing}
 use Rattle.shared_run.specs.Places.{touches}
 use Rattle.shared_run.proofs.Histories.{fits_at, history_stays, registry_stays}
 use Rattle.shared_run.proofs.Touching.{whole_seen}
 use Rattle.locked_run.specs.declared.closing.Ended.{Ended}
 use Rattle.locked_run.specs.declared.closing.Ends.{Ends}
 use Rattle.locked_run.specs.Closing.{AreEnds, AreMissing, IsClosed, beginnings}
-use Rattle.locked_run.specs.Parts.{InHeld, guardian_part, registry_part}
+use Rattle.locked_run.specs.Parts.{InHeld, registry_part}
 use Rattle.locked_run.specs.Settling.{AreNumbered, AreOfRun, HaveJoined, IsPartOf, IsSettled, IsSettledThere}
-use Rattle.locked_run.specs.Stored.{guardian_events, registry_events}
-use Rattle.locked_run.proofs.Rising.{Counting, From, Under, counted_at, counting, rising, times}
+use Rattle.locked_run.proofs.Rising.{From, Under, counted_at, counting, rising, times}
 use Rattle.locked_run.proofs.Whole.{all_are_numbered, numbered_are_all}
 
 some_same : {X : Type 0} (a b : X) → Some a ≡ Some b → a ≡ b

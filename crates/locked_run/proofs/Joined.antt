@@ -1,5 +1,5 @@
 -- Parts that are joined, one after another.
-use Rattle.std.proofs.Common.{List, None, Option, Some, [], ap, map, refl, slice_get, subst, sym, suc, zero, ℕ, ◌++◌, ◌∙◌, ◌∷◌, ◌≡◌, append_assoc}
+use Rattle.std.proofs.Common.{List, None, Some, [], ap, map, slice_get, subst, suc, zero, ℕ, ◌++◌, ◌∙◌, ◌∷◌, ◌≡◌, append_assoc}
 use Rattle.std.specs.List.{AllZip}
 use Rattle.one_run.specs.declared.piece.Piece.{Piece}
 use Rattle.one_run.specs.Pieces.{AllFit, witness}

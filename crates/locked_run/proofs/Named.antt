@@ -1,6 +1,6 @@
 -- Whom a step names, by the two that it names.
-use Rattle.std.proofs.Common.{Bool, List, None, Option, Some, ap, ap₂, cond, eqb-true, false, inl, inr, length, nat_lt, refl, subst, sym, true, ℕ, ◌<◌, ◌==◌, ◌∙◌, ◌∷◌, ◌≡◌, ◌&&◌, ◌||◌, ◌⊎◌, arith}
-use Rattle.std.proofs.lemmas.Bool.{and_parts, or_cases, or_left, or_right, false≢true, ltb-true}
+use Rattle.std.proofs.Common.{Bool, List, None, Option, Some, ap, ap₂, eqb-true, false, inl, inr, length, refl, subst, sym, true, ℕ, ◌==◌, ◌∙◌, ◌∷◌, ◌≡◌, ◌&&◌, ◌||◌, ◌⊎◌, arith}
+use Rattle.std.proofs.lemmas.Bool.{and_parts, or_cases, or_left, or_right, ltb-true}
 use Rattle.run_model.specs.declared.history.Event.{Event}
 use Rattle.action_names.specs.Names.{Name, parent_of}
 use Rattle.values.specs.declared.content.Content.{Content}

@@ -2,7 +2,7 @@
 use Rattle.std.proofs.Common.{List, Option, [], ap, arith, eqb-true, inl, inr, length, refl, subst, sym, true, suc, ℕ, ◌<◌, ◌++◌, ◌==◌, ◌∙◌, ◌∷◌, ◌≡◌, ◌||◌, ◌⊎◌}
 use Rattle.std.proofs.lemmas.Bool.{or_cases}
 use Rattle.one_run.specs.declared.piece.Piece.{Piece}
-use Rattle.one_run.specs.Pieces.{AllFit, GoesOn, count, first_left, seen_of, witness, with_event, with_less, with_seen}
+use Rattle.one_run.specs.Pieces.{AllFit, GoesOn, count, seen_of, witness, with_less, with_seen}
 use Rattle.one_run.specs.Rules.{Adds, Looks, MayAdd, others_of}
 use Rattle.one_run.proofs.Parts.{seen_count}
 use Rattle.run_model.specs.declared.history.Event.{Event}

@@ -1,20 +1,19 @@
 -- Receipts that are numbered from 1 on, of one run, are those of all its events.
-use Rattle.std.proofs.Common.{◌≡◌, ◌==◌, ◌+◌, ◌-◌, ◌<◌, ◌≤◌, ℕ, zero, suc, Bool, true, false, List, [], ◌∷◌, ◌++◌, Option, Some, None, cond, length, get_or, drop, refl, ap, ◌∙◌, sym, subst, arith, slice_get, eqb-true}
+use Rattle.std.proofs.Common.{◌≡◌, ◌==◌, ◌+◌, ◌-◌, ◌<◌, ◌≤◌, ℕ, zero, suc, Bool, true, false, List, [], ◌∷◌, Option, Some, None, cond, length, get_or, drop, refl, ap, ◌∙◌, sym, subst, arith, slice_get, eqb-true}
 use Rattle.std.specs.Prelude.{reverse}
-use Rattle.std.proofs.lemmas.Bool.{eqb-false}
 use Rattle.std.proofs.lemmas.Bool.Decides.{nat_tests}
 use Rattle.std.proofs.lemmas.List.{get_or-reverse, length-reverse}
 use Rattle.std.proofs.lemmas.List.Elements.{All-from_recursion, recursion_from_All}
 use Rattle.std.proofs.lemmas.List.Sorted.{All-permutation, IsPermutation-reverse, IsPermutation-sym, length_permutation, sum_by-IsPermutation}
 use Rattle.std.proofs.lemmas.List.Sums.{sum_by-cons}
-use Rattle.std.proofs.lemmas.Option.{get_or_from_slice_get, slice_get-get_or, slice_get_past}
-use Rattle.std.specs.List.{All, AllByRecursion, sum_by}
+use Rattle.std.proofs.lemmas.Option.{slice_get-get_or}
+use Rattle.std.specs.List.{AllByRecursion, sum_by}
 use Rattle.std.specs.List.Sorted.{IsNonDecreasingBy, IsPermutation}
 use Rattle.one_run.specs.Pieces.{GoesOn, total}
 use Rattle.one_run.specs.Pieces.GoesOn.{longer, stays}
 use Rattle.run_model.specs.declared.history.Event.{Event}
 use Rattle.locked_run.specs.Closing.{beginnings}
-use Rattle.locked_run.proofs.Rising.{Counting, From, Rising, Under, counted_at, counting, rising, times}
+use Rattle.locked_run.proofs.Rising.{From, Under, counted_at, counting, rising, times}
 
 total_is : {X : Type 0} (f : X → ℕ) (xs : List X) → total f xs ≡ sum_by f xs
 total_is f [] = refl

@@ -1,5 +1,5 @@
 -- What guardians and the registry give up when a run ends.
-use Rattle.std.specs.Prelude.{◌≡◌, ◌+◌, ◌≤◌, ◌++◌, ℕ, List, Some, length, map, slice_get}
+use Rattle.std.specs.Prelude.{◌≡◌, ◌+◌, ◌≤◌, ◌++◌, ℕ, List, Some, length, slice_get}
 use Rattle.std.specs.List.{AllZip}
 use Rattle.one_run.specs.declared.piece.Piece.{Piece}
 use Rattle.one_run.specs.Pieces.{AllFit}
@@ -13,7 +13,7 @@ use Rattle.stable_store.specs.Calls.{View}
 use Rattle.shared_run.specs.Places.{touches}
 use Rattle.world_steps.specs.Standings.{forest_of, standing}
 use Rattle.locked_run.specs.Behind.{IsBehind}
-use Rattle.locked_run.specs.Parts.{InHeld, guardian_part, registry_part}
+use Rattle.locked_run.specs.Parts.{InHeld, guardian_part}
 use Rattle.locked_run.specs.Stored.{guardian_events, registry_events}
 use Rattle.locked_run.specs.declared.closing.Ended.{Ended}
 

@@ -1,5 +1,5 @@
 -- What adds leave of a content, by the deltas of their holders.
-use Rattle.std.proofs.Common.{Bool, List, None, Option, Some, [], ap, ap₂, cond, false, filter, inl, inr, refl, sym, true, ℤ, ◌&&◌, ◌∙◌, ◌∷◌, ◌≡◌, ◌||◌}
+use Rattle.std.proofs.Common.{Bool, List, None, Option, Some, [], ap, cond, false, filter, inl, inr, refl, sym, true, ℤ, ◌&&◌, ◌∙◌, ◌∷◌, ◌≡◌, ◌||◌}
 use Rattle.std.specs.Prelude.{is_some, pos, ◌+ℤ◌}
 use Rattle.std.specs.Int.{int_wrap, w64}
 use Rattle.std.proofs.lemmas.Bool.{and_from, and_left, and_parts, false_from_ne_true, false≢true, or_cases, or_left, or_right, true≢false}
@@ -20,7 +20,7 @@ use Rattle.atomic_types.specs.Operations.{class_of, is_add_class, is_read_class,
 use Rattle.atomic_types.specs.Parts.{laid}
 use Rattle.run_model.specs.Actions.{is_exactly}
 use Rattle.run_model.specs.Versions.{with_add}
-use Rattle.run_laws.proofs.Each.{Each, each_both, each_map}
+use Rattle.run_laws.proofs.Each.{Each, each_map}
 use Rattle.run_laws.proofs.Names.{clash, same_name_self, same_name_true}
 use Rattle.local_laws.specs.Tops.{adds_text}
 use Rattle.local_laws.proofs.Acts.{Act, after_act, after_acts, deed_of}

@@ -1,6 +1,6 @@
 -- Whether a telling of an outcome concerns what is held of an object: its locks say it.
-use Rattle.std.proofs.Common.{Bool, List, None, Option, Some, [], ap, ap₂, false, inl, inr, map, not, refl, sym, true, ◌&&◌, ◌++◌, ◌∙◌, ◌∷◌, ◌≡◌, ◌||◌}
-use Rattle.std.proofs.lemmas.Bool.{and_parts, false≢true, or_cases, or_left, or_right}
+use Rattle.std.proofs.Common.{Bool, List, Option, [], ap, ap₂, false, inl, inr, map, not, refl, sym, true, ◌&&◌, ◌∙◌, ◌∷◌, ◌≡◌, ◌||◌}
+use Rattle.std.proofs.lemmas.Bool.{false≢true, or_cases, or_left, or_right}
 use Rattle.std.specs.List.{list_any}
 use Rattle.action_names.specs.Names.{Name, has_name, is_ancestor, same_name}
 use Rattle.atomic_types.specs.declared.op.Class.{Class}
@@ -11,13 +11,13 @@ use Rattle.atomic_types.specs.Operations.{is_add_class, is_read_class, is_write_
 use Rattle.run_model.specs.Actions.{is_exactly}
 use Rattle.run_model.specs.Keeping.{Performed, Standing}
 use Rattle.run_model.specs.Telling.{holder_by}
-use Rattle.run_laws.proofs.Names.{ancestor_trans, any_name, same_name_true}
+use Rattle.run_laws.proofs.Names.{ancestor_trans, any_name}
 use Rattle.local_laws.proofs.Acts.{Act, acts_by, deed_of}
 use Rattle.local_laws.proofs.Orderly.{holder_is}
 use Rattle.object_model.specs.Locks.{Locks, has_below}
 use Rattle.object_laws.specs.Laws.{ConcernedShown}
 use Rattle.object_laws.proofs.Choosing.{above_holder, exactly, exactly_self}
-use Rattle.object_laws.proofs.Held.{ShowsActs, any_append, held, holds, or_turned, to_acts}
+use Rattle.object_laws.proofs.Held.{any_append, held, holds, or_turned, to_acts}
 
 -- ---- over acts
 

@@ -1,25 +1,22 @@
 -- What each event makes of the way in which an object stands.
-use Rattle.std.proofs.Common.{Bool, List, None, [], ap, ap₂, cond, false, filter, length, not, refl, subst, suc, sym, true, ℕ, ◌&&◌, ◌++◌, ◌==◌, ◌∙◌, ◌∷◌, ◌≡◌, ◌||◌, eqb-true}
+use Rattle.std.proofs.Common.{Bool, List, [], ap, ap₂, cond, false, filter, length, not, refl, subst, suc, sym, true, ℕ, ◌&&◌, ◌++◌, ◌==◌, ◌∙◌, ◌∷◌, ◌≡◌, ◌||◌, eqb-true}
 use Rattle.std.proofs.lemmas.Bool.{and_parts, false≢true}
 use Rattle.std.specs.List.{list_any}
 use Rattle.action_names.specs.Names.{Name, ancestors}
-use Rattle.atomic_types.specs.declared.op.Reply.{Reply}
 use Rattle.atomic_types.specs.declared.part.Part.{Part}
 use Rattle.atomic_types.specs.Operations as op
 use Rattle.run_model.specs.declared.answer.Answer.{Answer}
 use Rattle.run_model.specs.declared.answer.Answer.TheVariants.{Began, Done, Granted, Refused, VoteNo, VoteYes, Waits}
-use Rattle.run_model.specs.declared.history.Event.{Event}
 use Rattle.run_model.specs.declared.step.ObjectId.{ObjectId}
 use Rattle.run_model.specs.declared.step.Step.{Step}
 use Rattle.run_model.specs.declared.step.Step.TheVariants.{Abort, Arms, Call, Close, Commit, Crash, Decide, NestedTop, Op, Prepare, Recover, Tell, Top}
 use Rattle.run_model.specs.Actions.{step_crashes}
-use Rattle.run_model.specs.Keeping.{Performed, Standing, outlives_crash, performed_by, same_object, undoes_by}
-use Rattle.run_model.specs.LocalReadings.{Carried, LocalEvent, brings, events_here, given_back, kept_here, outcome_in, restored_here, says_aborted, says_committed, standing_here, told_committed_here}
-use Rattle.run_laws.proofs.Each.{Each, each_filter, each_filtered}
+use Rattle.run_model.specs.Keeping.{Performed, outlives_crash, performed_by, same_object, undoes_by}
+use Rattle.run_model.specs.LocalReadings.{Carried, LocalEvent, brings, events_here, given_back, kept_here, restored_here, says_aborted, standing_here, told_committed_here}
+use Rattle.run_laws.proofs.Each.{Each, each_filter}
 use Rattle.run_laws.proofs.Names.{eqb_self}
 use Rattle.local_laws.proofs.Kept.{filter_same}
 use Rattle.object_laws.specs.Changes.{crashed, with_operation}
-use Rattle.object_laws.specs.Heard.{heard}
 use Rattle.object_laws.specs.EventLaws.{CrashLeaves, OperationIsKept, OutcomesAreHeard, is_crash, is_granted_on}
 use Rattle.object_laws.proofs.Filters.{all_pass, none_any, same_test}
 

@@ -1,5 +1,5 @@
 -- Tests of lists that agree.
-use Rattle.std.proofs.Common.{Bool, List, [], ap, ap₂, cond, false, filter, not, refl, sym, true, ◌&&◌, ◌++◌, ◌∙◌, ◌∷◌, ◌≡◌, ◌||◌}
+use Rattle.std.proofs.Common.{Bool, List, [], ap, ap₂, cond, false, filter, refl, sym, true, ◌&&◌, ◌∙◌, ◌∷◌, ◌≡◌, ◌||◌}
 use Rattle.std.specs.List.{list_any}
 
 -- a test that all pass leaves the list

@@ -13,9 +13,9 @@ use Rattle.atomic_types.specs.declared.op.Class.TheVariants.{Read, Write}
 use Rattle.atomic_types.specs.declared.op.Class.TheVariants as class
 use Rattle.atomic_types.specs.declared.part.Part.{Part}
 use Rattle.atomic_types.specs.declared.part.Part.TheVariants.{Delta, Value}
-use Rattle.atomic_types.specs.Operations.{class_of, is_add_class, is_read, is_read_class, is_write_class}
+use Rattle.atomic_types.specs.Operations.{is_add_class, is_read, is_read_class, is_write_class}
 use Rattle.run_model.specs.Actions.{is_exactly}
-use Rattle.run_model.specs.Keeping.{Performed, Standing, part_class}
+use Rattle.run_model.specs.Keeping.{Performed, Standing}
 use Rattle.run_model.specs.LocalReadings.{outcome_in, says_aborted, says_committed}
 use Rattle.run_model.specs.Telling.{holder_by}
 use Rattle.run_model.specs.Versions.{adders_by, delta_by, is_held_above, owners_by, part_held, version_by}
@@ -25,9 +25,8 @@ use Rattle.local_laws.specs.Orderly.{AreOrderly}
 use Rattle.local_laws.proofs.Acts.{Act, acts_by, acts_of, after_acts, belonging_goes_up, belongs_to, deed_of, orderly_acts, others_last}
 use Rattle.local_laws.proofs.Orderly.{holder_is}
 use Rattle.local_laws.proofs.Rising.{Rising}
-use Rattle.object_model.specs.Deltas.{delta_at, delta_sum}
 use Rattle.object_model.specs.Objects.{Seen, with_sum}
-use Rattle.object_model.specs.Stacks.{RiseByAncestry, RisesByAncestry, owners_of, version_at}
+use Rattle.object_model.specs.Stacks.{RiseByAncestry, owners_of, version_at}
 use Rattle.object_laws.specs.Laws.{is_left}
 use Rattle.object_laws.specs.OnceTold.{AreOutcomesBelow, HoldsItsTree, PartsOnceTold, aborts_in, commits_in, deltas_left, is_left_below, last_in_front, part_over, part_to_hold, sum_part, told_of}
 use Rattle.object_laws.specs.Shown.{Shows, only_if}

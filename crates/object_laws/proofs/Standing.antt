@@ -11,7 +11,7 @@ use Rattle.atomic_types.specs.declared.op.Class.TheVariants.{Read, Write}
 use Rattle.atomic_types.specs.declared.op.Class.TheVariants as class
 use Rattle.atomic_types.specs.Objects.{knows}
 use Rattle.atomic_types.specs.Operations as op
-use Rattle.atomic_types.specs.Operations.{class_of, classes_conflict, is_add, is_add_class, is_read, is_read_class, is_write_class}
+use Rattle.atomic_types.specs.Operations.{class_of, classes_conflict, is_write_class}
 use Rattle.run_model.specs.Actions.{is_exactly}
 use Rattle.run_model.specs.Keeping.{Standing, blockers_by, conflicting_holders}
 use Rattle.run_model.specs.Telling.{holder_by}

@@ -12,7 +12,7 @@ use Rattle.values.specs.declared.value.Value.TheVariants.{Int, Text}
 use Rattle.atomic_types.specs.Counters.{sum_of}
 use Rattle.atomic_types.specs.Objects.{knows}
 use Rattle.atomic_types.specs.Operations as op
-use Rattle.atomic_types.specs.Operations.{class_of, is_add_class, is_read_class, is_write_class}
+use Rattle.atomic_types.specs.Operations.{class_of, is_add_class}
 use Rattle.atomic_types.specs.declared.operation.Operation.TheVariants.{Add}
 use Rattle.atomic_types.specs.declared.part.Part.TheVariants.{Delta, Value}
 use Rattle.run_model.specs.Versions.{with_add}

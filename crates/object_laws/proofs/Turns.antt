@@ -1,12 +1,12 @@
 -- Outcomes heard at once, and one after another.
 use Rattle.std.proofs.lemmas.Bool.{false≢true}
-use Rattle.std.proofs.Common.{Bool, List, None, Option, Some, [], ap, ap₂, cond, false, filter, if◌then◌else◌, not, refl, subst, sym, true, ◌&&◌, ◌∙◌, ◌∷◌, ◌≡◌, ◌||◌}
+use Rattle.std.proofs.Common.{Bool, List, None, Option, Some, [], ap, cond, false, filter, not, refl, sym, true, ◌&&◌, ◌∙◌, ◌∷◌, ◌≡◌, ◌||◌}
 use Rattle.std.specs.List.{list_any}
 use Rattle.action_names.specs.Names.{Name, ancestors, same_name}
 use Rattle.run_model.specs.Keeping.{Standing}
 use Rattle.run_model.specs.LocalReadings.{outcome_in, says_aborted, says_committed}
 use Rattle.run_laws.proofs.Names.{same_name_self, same_name_true}
-use Rattle.object_laws.specs.Heard.{AreOfTheirOwn, heard, heard_in_turn, heard_one}
+use Rattle.object_laws.specs.Heard.{heard, heard_one}
 use Rattle.object_laws.specs.EventLaws.{HeardInTurn}
 use Rattle.object_laws.proofs.Filters.{all_pass, any_of_two, none_any, one_after_another, same_any, same_test}
 

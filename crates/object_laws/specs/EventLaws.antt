@@ -1,5 +1,5 @@
 -- How each event of a guardian's own history changes the way in which an object stands. No store gives anything back but before an opening.
-use Rattle.std.specs.Prelude.{◌≡◌, ℕ, suc, Bool, true, false, ◌&&◌, IsFalse, List, [], ◌∷◌, length}
+use Rattle.std.specs.Prelude.{◌≡◌, suc, Bool, true, false, IsFalse, List, [], ◌∷◌, length}
 use Rattle.action_names.specs.Names.{Name}
 use Rattle.atomic_types.specs.Operations as op
 use Rattle.atomic_types.specs.declared.op.Reply.{Reply}

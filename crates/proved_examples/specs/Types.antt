@@ -11,7 +11,6 @@ use Rattle.atomic_types.specs.declared.operation.Operation.TheVariants.{Low, Hig
 use Rattle.atomic_types.specs.declared.op.Signal.{Signal}
 use Rattle.atomic_types.specs.declared.op.Signal.TheVariants.{Bounds, Limit, WrongTag}
 use Rattle.atomic_types.specs.declared.op.Reply.TheVariants as reply
-use Rattle.run_model.specs.declared.step.ObjectId.{ObjectId}
 use Rattle.run_model.specs.declared.step.Step.{Step}
 use Rattle.run_model.specs.declared.step.Step.TheVariants.{Top, Op}
 use Rattle.run_model.specs.declared.answer.Answer.{Answer}

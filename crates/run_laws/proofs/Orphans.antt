@@ -1,5 +1,5 @@
 -- Who is known as an orphan is one, so who is refused as an orphan is one.
-use Rattle.std.proofs.Common.{Bool, List, None, Option, Some, [], ap, cond, false, inl, inr, lt_irrefl, lt_of_lt_of_le, not, refl, subst, sym, true, ℕ, ◌&&◌, ◌||◌, ◌<◌, ◌==◌, ◌∙◌, ◌∷◌, ◌≡◌, ◌⊎◌}
+use Rattle.std.proofs.Common.{Bool, List, None, Option, Some, [], ap, cond, false, inl, inr, lt_irrefl, lt_of_lt_of_le, not, refl, subst, sym, true, ℕ, ◌&&◌, ◌||◌, ◌<◌, ◌==◌, ◌∙◌, ◌∷◌, ◌≡◌}
 use Rattle.std.proofs.lemmas.Bool.{and_from, false≢true, ltb-true, not-false, or_cases, or_left, or_parts, or_right}
 use Rattle.std.specs.List.{list_any}
 use Rattle.action_names.specs.Names.{Name, is_ancestor, same_name, top_of}

@@ -1,5 +1,5 @@
 -- Each event of a run touches a place, so whoever has all places has seen the whole run.
-use Rattle.std.proofs.Common.{Bool, List, None, Option, Some, [], ap, arith, cond, false, inl, inr, length, refl, subst, sym, true, zero, suc, ℕ, ◌<◌, ◌≤◌, ◌==◌, ◌∙◌, ◌∷◌, ◌≡◌, ◌⊎◌, ◌||◌}
+use Rattle.std.proofs.Common.{List, Option, Some, ap, arith, false, inl, inr, length, refl, subst, sym, true, suc, ℕ, ◌≤◌, ◌==◌, ◌∙◌, ◌∷◌, ◌≡◌, ◌⊎◌, ◌||◌}
 use Rattle.std.proofs.lemmas.Bool.{eqb-false, false≢true, ltb-false, not-false, or_parts}
 use Rattle.std.proofs.lemmas.Bool.Decides.{nat_tests}
 use Rattle.std.specs.Prelude.{nat_lt}

@@ -1,5 +1,5 @@
 -- What the statements that put rows in make of the tables.
-use Rattle.std.proofs.Common.{◌≡◌, ℕ, zero, suc, ◌<◌, ◌*◌, ◌/◌, ℤ, pos, codes, List, [], ◌∷◌, map, length, drop, ◌++◌, append-nil}
+use Rattle.std.proofs.Common.{◌≡◌, ℕ, zero, suc, ◌<◌, ◌*◌, ◌/◌, ℤ, pos, List, [], ◌∷◌, map, length, drop, ◌++◌, append-nil}
 use Rattle.std.proofs.Common.{Bool, true, false, cond, Option, None, Ok, refl, sym, ap, subst, subst₂, ◌∙◌, arith}
 use Rattle.sqlite.specs.declared.types.Value.{Value}
 use Rattle.sqlite.specs.declared.types.Value.TheVariants.{Null, Int, Text}

@@ -1,5 +1,5 @@
 -- What rows that were read stand for.
-use Rattle.std.proofs.Common.{Vec, Global, ◌≡◌, ◌⊎◌, inl, inr, ℕ, ◌+◌, List, [], ◌∷◌, codes, Bool, true, false, cond, ◌||◌, Option, Some, None, option_map, is_some, IsSome, Result, Ok, Err, OnOk, IfSome, refl, sym, ap, subst, ◌∙◌, nat_cmp, Less, length, get_or, arith, true≢false}
+use Rattle.std.proofs.Common.{Vec, Global, ◌≡◌, inl, inr, ℕ, List, [], ◌∷◌, codes, true, false, cond, ◌||◌, Option, Some, None, option_map, is_some, IsSome, Result, Ok, Err, OnOk, IfSome, refl, sym, ap, subst, ◌∙◌, nat_cmp, Less, length, get_or, arith, true≢false}
 use Rattle.std.proofs.Math.Path.{transport}
 use Rattle.std.specs.Ordering.{eq_by_cmp}
 use Rattle.std.specs.Cmp.{nat_cmp_total}
@@ -18,19 +18,19 @@ use Rattle.sqlite_rules.specs.Lists.{Has}
 use Rattle.atomic_types.specs.declared.part.Part.{Part}
 use Rattle.atomic_types.specs.declared.part.Part.TheVariants.{Value, Delta}
 use Rattle.stable_store.specs.Stored.{Stored, Record}
-use Rattle.stable_store.specs.Held.{parts_in, record_of, records_of}
+use Rattle.stable_store.specs.Held.{record_of, records_of}
 use Rattle.stable_store.specs.declared.kept.Prepared.{Prepared}
 use Rattle.stable_store.specs.declared.fault.StoreFault.{StoreFault}
 use Rattle.stable_store.proofs.Maps.{get_is, given, given_seen, lookup-seen}
 use Rattle.store_tables.specs.declared.columns.Spelling.{Spelling}
 use Rattle.store_tables.specs.Listed.{Lists}
-use Rattle.store_tables.specs.Shown.{IsNumber, IsValueText, IsAddedBy, IsValue, IsDelta, ShowsPart, ShowsHome, ShowsRecord, ShowsTop, ShowsNumber}
+use Rattle.store_tables.specs.Shown.{IsNumber, IsValueText, IsAddedBy, IsValue, IsDelta, ShowsHome, ShowsRecord, ShowsNumber}
 use Rattle.store_tables.specs.Parts.{Base, Records, HasBase, HasHome, HasPart, IsDecided, HaveNoParts, AreRising, part_in}
-use Rattle.store_tables.specs.Grown.{Adds, AddsShown, ListsMore, KeepsRecords, HaveSameHomes, TakesOne}
+use Rattle.store_tables.specs.Grown.{Adds, AddsShown, ListsMore, KeepsRecords, TakesOne}
 use Rattle.store_tables.specs.Holds.{Holds, numbers}
 use Rattle.store_tables.specs.Answered.{answered, rows_of}
 use Rattle.store_tables.specs.Spellings.{Spells}
-use Rattle.store_tables.proofs.Numbers.{itself, tied, same_or_not, not_some, put_here, put_other, put_cases}
+use Rattle.store_tables.proofs.Numbers.{itself, tied, not_some, put_here, put_other, put_cases}
 use Rattle.store_tables.proofs.Records.{home_adds, part_adds, part_was, homes_same, still_rising}
 
 pub none_if : {X : Type 0} (o : Option X) → false ≡ is_some o → o ≡ None

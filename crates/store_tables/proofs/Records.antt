@@ -1,5 +1,5 @@
 -- What records have, after one change.
-use Rattle.std.proofs.Common.{◌≡◌, ◌≢◌, ◌⊎◌, inl, inr, ℕ, ℤ, pos, List, [], ◌∷◌, Bool, true, false, cond, Option, Some, None, option_map, IfSome, refl, sym, ap, subst, ◌∙◌, nat_cmp, true≢false, Equal}
+use Rattle.std.proofs.Common.{◌≡◌, ◌≢◌, inl, inr, ℕ, pos, [], true, false, cond, Option, Some, None, option_map, IfSome, refl, sym, ap, subst, ◌∙◌, nat_cmp, true≢false, Equal}
 use Rattle.std.specs.Ordering.{is_eq, eq_by_cmp}
 use Rattle.std.proofs.lemmas.Bool.{false_from_ne_true}
 use Rattle.std.proofs.lemmas.Cmp.{tied_itself}
@@ -23,7 +23,7 @@ use Rattle.store_tables.specs.Listed.{Lists}
 use Rattle.store_tables.specs.Shown.{ShowsHome, ShowsRecord}
 use Rattle.store_tables.specs.Parts.{Records, HasHome, HasPart, part_in, AreRising}
 use Rattle.store_tables.specs.Grown.{Adds, HaveSameHomes}
-use Rattle.store_tables.proofs.Numbers.{itself, tied, untied, apart, same_or_not, not_some, same_some, taken_here, taken_other}
+use Rattle.store_tables.proofs.Numbers.{itself, tied, apart, same_or_not, not_some, same_some, taken_here, taken_other}
 use Rattle.store_tables.proofs.Listed.{Stays, taken}
 use Rattle.store_tables.proofs.Tables.{other_stays}
 

@@ -1,5 +1,5 @@
 -- Tables hold one content.
-use Rattle.std.proofs.Common.{◌≡◌, ◌⊎◌, inl, inr, ℕ, ℤ, pos, List, [], ◌∷◌, codes, Bool, true, false, Option, Some, None, option_map, IfSome, refl, sym, ap, subst, ◌∙◌, nat_cmp, true≢false, arith}
+use Rattle.std.proofs.Common.{◌≡◌, inl, inr, ℕ, ℤ, pos, List, codes, Bool, true, false, Option, Some, None, option_map, IfSome, refl, sym, ap, subst, ◌∙◌, nat_cmp, true≢false, arith}
 use lib.Dec.{T}
 use Rattle.std.specs.Cmp.{nat_cmp_total}
 use Rattle.std.specs.FinMap as map
@@ -7,7 +7,6 @@ use Rattle.std.specs.FinSet as set
 use Rattle.sqlite.specs.declared.types.Value.{Value as Column}
 use Rattle.sqlite.specs.declared.types.Value.TheVariants.{Int, Text}
 use Rattle.sqlite.specs.Order.{Row, column}
-use Rattle.sqlite.specs.Tree.{Trees}
 use Rattle.sqlite_rules.specs.Lists.{Has}
 use Rattle.atomic_types.specs.declared.part.Part.{Part}
 use Rattle.atomic_types.specs.declared.part.Part.TheVariants.{Value, Delta}
@@ -15,8 +14,8 @@ use Rattle.store_tables.specs.PartTexts.{IsStoredPart, part_text}
 use Rattle.stable_store.specs.Stored.{Stored, Record}
 use Rattle.store_tables.specs.Listed.{Lists}
 use Rattle.store_tables.specs.Shown.{IsNumber, IsText, IsValueText, IsAddedBy, IsValue, IsDelta, ShowsPart, ShowsHome, ShowsRecord, ShowsTop, ShowsNumber}
-use Rattle.store_tables.specs.Parts.{Base, Records, HasBase, HasHome, HasPart, part_in, IsDecided, AreRising}
-use Rattle.store_tables.specs.Holds.{Tables, tables_of, Holds, IsStore, numbers}
+use Rattle.store_tables.specs.Parts.{HasBase, HasHome, HasPart, part_in, IsDecided}
+use Rattle.store_tables.specs.Holds.{Tables, Holds, numbers}
 use Rattle.store_tables.proofs.Numbers.{not_some, same_some}
 
 -- ---- a row shows one thing

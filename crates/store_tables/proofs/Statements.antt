@@ -1,5 +1,5 @@
 -- What the tables hold after each statement.
-use Rattle.std.proofs.Common.{◌≡◌, ◌≢◌, ◌⊎◌, inl, inr, ℕ, ◌≤◌, ℤ, pos, List, [], ◌∷◌, ◌++◌, codes, Bool, true, false, cond, None, Some, Option, refl, sym, ap, subst, ◌∙◌, nat_cmp, true≢false, arith, Ordering, Less, Equal, Greater}
+use Rattle.std.proofs.Common.{◌≡◌, ◌≢◌, ℕ, ◌≤◌, ℤ, pos, List, [], ◌∷◌, ◌++◌, codes, Bool, true, false, cond, None, Some, Option, refl, sym, ap, subst, ◌∙◌, nat_cmp, true≢false, arith, Ordering, Less, Equal, Greater}
 use Rattle.std.specs.Ordering.{is_eq, is_lt, eq_by_cmp, ordering_reverse}
 use Rattle.std.specs.Cmp.{nat_cmp_total}
 use Rattle.std.specs.FinMap as map
@@ -9,7 +9,6 @@ use Rattle.std.specs.List.{AllByRecursion}
 use Rattle.std.proofs.Common.{map as each, append_assoc, append-nil}
 use Rattle.std.proofs.lemmas.Bool.{and_parts, and_from}
 use Rattle.sqlite.specs.declared.types.Value.TheVariants.{Null, Int, Text}
-use Rattle.sqlite.specs.Order.{Row, column}
 use Rattle.sqlite.specs.Tree.{Trees}
 use Rattle.sqlite.specs.Edit.{id_in}
 use Rattle.sqlite_trees.specs.Tree.{rowid}
@@ -20,23 +19,23 @@ use Rattle.values.specs.Totals.{IsCounter}
 use Rattle.atomic_types.specs.declared.part.Part.{Part}
 use Rattle.atomic_types.specs.declared.part.Part.TheVariants.{Value, Delta}
 use Rattle.store_tables.specs.PartTexts.{IsStoredPart, part_text}
-use Rattle.stable_store.specs.Stored.{Stored, Record, after_decide, after_discard, after_prepare}
+use Rattle.stable_store.specs.Stored.{Stored, Record, after_decide, after_discard}
 use Rattle.store_tables.specs.Tables.{stable_schema, meta}
-use Rattle.store_tables.specs.Rows.{HasRowids, HaveRowids}
+use Rattle.store_tables.specs.Rows.{HasRowids}
 use Rattle.store_tables.proofs.Keys.{tied_id}
 use Rattle.store_tables.proofs.PartRows.{ReplacesRow, PutsRow, InTurn, made_of}
-use Rattle.store_tables.proofs.Decides.{decided_table, base_table, pair_row, number_row, home_row, value_row, delta_row, ReplacesPart, PutsValue}
+use Rattle.store_tables.proofs.Decides.{decided_table, pair_row, number_row, home_row, value_row, delta_row, ReplacesPart, PutsValue}
 use Rattle.store_tables.proofs.Placed.{placed_put, placed_left, ints}
 use Rattle.store_tables.proofs.Discards.{Discards}
 use Rattle.store_tables.proofs.Forgets.{Forgets}
 use Rattle.store_tables.specs.Listed.{Lists}
 use Rattle.store_tables.specs.Shown.{ShowsPart, ShowsHome, ShowsRecord, ShowsTop, ShowsNumber, IsValueText, IsAddedBy, IsValue, IsDelta}
-use Rattle.store_tables.specs.Parts.{HasBase, HasHome, HasPart, IsDecided, AreRising}
+use Rattle.store_tables.specs.Parts.{HasBase, HasHome, HasPart, IsDecided}
 use Rattle.store_tables.specs.Holds.{IsStore, IsLaidOut, Holds, tables_of, numbers, greatest_next}
 use Rattle.store_tables.specs.Grown.{Adds, HaveSameHomes}
 use Rattle.store_tables.specs.Changes.{with_count, with_next, with_part, with_base, all_put, with_record, with_none_decided}
-use Rattle.store_tables.proofs.Numbers.{itself, not_some}
-use Rattle.store_tables.proofs.Listed.{Stays, same, renamed, grown, taken, left_was, left_stays}
+use Rattle.store_tables.proofs.Numbers.{itself}
+use Rattle.store_tables.proofs.Listed.{same, renamed, grown, taken}
 use Rattle.store_tables.proofs.Tables.{Others, same_numbers, same_base, same_homes, same_values, same_decided, same_deltas, placed_after, InRange, number_of, decided_put, base_put, count_put, next_put}
 use Rattle.store_tables.proofs.Records.{home_adds, part_stays, part_was, part_adds, homes_same, still_rising, homes_to, homes_back, kind_adds, kind_stays, kind_was, home_taken, parts_taken, rising_left}
 

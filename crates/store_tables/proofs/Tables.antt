@@ -1,13 +1,11 @@
 -- The rows of one table, after a statement on it.
-use Rattle.std.proofs.Common.{◌≡◌, ◌≢◌, ◌⊎◌, inl, inr, ℕ, ◌≤◌, ℤ, pos, List, [], ◌∷◌, codes, Bool, true, false, cond, ◌||◌, ◌&&◌, None, Some, refl, sym, ap, subst, ◌∙◌, nat_cmp, true≢false, arith}
+use Rattle.std.proofs.Common.{◌≡◌, ◌≢◌, ◌⊎◌, inl, inr, ℕ, ◌≤◌, ℤ, pos, List, [], ◌∷◌, codes, true, false, ◌||◌, ◌&&◌, None, refl, sym, ap, subst, ◌∙◌, nat_cmp, true≢false, arith}
 use Rattle.std.specs.Ordering.{is_eq, eq_by_cmp}
 use Rattle.std.specs.Cmp.{nat_cmp_total}
 use Rattle.std.specs.List.{AllByRecursion}
 use Rattle.std.proofs.lemmas.Bool.{or_cases, or_left, or_right, and_parts}
-use Rattle.std.proofs.lemmas.Cmp.{tied_itself}
 use Rattle.std.specs.FinMap as map
 use Rattle.std.specs.FinSet as set
-use Rattle.sqlite.specs.declared.types.Value.{Value as Column}
 use Rattle.sqlite.specs.declared.types.Value.TheVariants.{Null, Int, Text}
 use Rattle.sqlite.specs.Order.{Row, column}
 use Rattle.sqlite_value.specs.Order.{value_cmp}
@@ -17,10 +15,8 @@ use Rattle.sqlite.specs.Table.{Table}
 use Rattle.sqlite.specs.Tree.{Trees}
 use Rattle.sqlite_value.specs.Keys.{first_key}
 use Rattle.sqlite.specs.Edit.{id_in}
-use Rattle.sqlite_value.proofs.OrderLemmas.{value_cmp_total}
-use Rattle.sqlite_trees.specs.Tree.{rowid, has_rowid, put_row}
+use Rattle.sqlite_trees.specs.Tree.{rowid, has_rowid}
 use Rattle.sqlite_schema.specs.Rules.{equal}
-use Rattle.sqlite_rules.specs.Edit.{without_all, is_taken}
 use Rattle.sqlite_rules.specs.Keys.{conflicts}
 use Rattle.sqlite_rules.specs.Lists.{Has}
 use Rattle.sqlite_rules.proofs.ListLemmas.{all_has, all_from}
@@ -29,14 +25,14 @@ use Rattle.store_tables.specs.PartTexts.{IsStoredPart, part_text}
 use Rattle.store_tables.specs.Tables.{stable_schema, meta}
 use Rattle.store_tables.specs.Rows.{HasRowids, HaveRowids}
 use Rattle.store_tables.proofs.Keys.{key_is, equal_number, equal_word, int_key, plainly}
-use Rattle.store_tables.proofs.PartRows.{ReplacesRow, AreInTheWay, PutsRow}
+use Rattle.store_tables.proofs.PartRows.{ReplacesRow, AreInTheWay}
 use Rattle.store_tables.proofs.Decides.{decided_table, base_table, pair_row, number_row}
 use Rattle.store_tables.proofs.Placed.{ints}
 use Rattle.store_tables.specs.Listed.{Lists}
-use Rattle.store_tables.specs.Shown.{IsNumber, IsText, ShowsPart, ShowsTop, ShowsNumber, greatest_number}
+use Rattle.store_tables.specs.Shown.{IsNumber, ShowsPart, ShowsTop, ShowsNumber, greatest_number}
 use Rattle.store_tables.specs.Parts.{Base, HasBase, IsDecided}
 use Rattle.store_tables.specs.Holds.{numbers}
-use Rattle.store_tables.proofs.Numbers.{itself, tied, untied, apart, same_or_not, put_here, put_other, put_cases}
+use Rattle.store_tables.proofs.Numbers.{itself, tied, apart, same_or_not, put_here, put_other, put_cases}
 use Rattle.store_tables.proofs.Listed.{Stays, replaced}
 
 -- ---- the tables that stay

@@ -1,5 +1,4 @@
 -- What answers stand for, their tables hold.
-use Rattle.std.proofs.Common.{◌≡◌, List, [], ◌∷◌}
 use Rattle.sqlite.specs.Tree.{Trees}
 use Rattle.stable_store.specs.Stored.{Stored}
 use Rattle.store_tables.specs.Shown.{ShowsPart, ShowsHome, ShowsRecord, ShowsTop, ShowsNumber, IsValueText, IsAddedBy}

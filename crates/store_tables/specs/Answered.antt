@@ -1,5 +1,5 @@
 -- What queries showed of the tables of a store.
-use Rattle.std.specs.Prelude.{Vec, ℕ, ◌+◌, List, [], ◌∷◌, codes, slice_index_or, map}
+use Rattle.std.specs.Prelude.{Vec, ℕ, List, [], ◌∷◌, codes, slice_index_or, map}
 use Rattle.std.specs.declared.alloc.Global.{Global}
 use Rattle.sqlite.specs.Order.{Row}
 use Rattle.store_tables.specs.Holds.{Tables}

@@ -1,5 +1,5 @@
 -- What statements that write parts make of a store, within a transaction.
-use Rattle.std.proofs.Common.{◌≡◌, ℕ, ◌<◌, pos, List, [], ◌∷◌, ◌++◌, length, true, false, Err, Result, IsTrue, refl, ap, subst, ◌∙◌, nat_cmp}
+use Rattle.std.proofs.Common.{◌≡◌, ℕ, ◌<◌, pos, List, ◌∷◌, ◌++◌, length, true, false, Err, Result, IsTrue, refl, ap, subst, ◌∙◌, nat_cmp}
 use Rattle.std.specs.List.{AllByRecursion}
 use Rattle.std.specs.FinMap as map
 use Rattle.sqlite.specs.declared.types.Value.TheVariants.{Int}

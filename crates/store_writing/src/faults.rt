@@ -11,8 +11,8 @@ use stable_store::StoreFault;
 /// The error of a call where another transaction is under way.
 pub(crate) const BUSY: Error = Error::SqliteFailure(ErrorCode::TransactionState);
 
-/// Want of memory.
-pub(crate) const WANT: Error = Error::SqliteFailure(ErrorCode::OutOfMemory);
+/// The error of a call for which memory ran out.
+pub(crate) const OUT_OF_MEMORY: Error = Error::SqliteFailure(ErrorCode::OutOfMemory);
 
 /// The fault of a statement that the database refused: `Memory` if memory ran out, and else
 /// `Failed`.

@@ -9,7 +9,7 @@ ghost use Rattle.store_tables.specs.Changes.{with_base, with_part, all_put};
 ghost use Rattle.store_writing.specs.Steps.{While, Sees, Stays, Steps};
 ghost use Rattle.store_writing.specs.Waiting.{IsTextOf, AreTextsOf, Waits, Takes, IsAny};
 
-use crate::faults::WANT;
+use crate::faults::OUT_OF_MEMORY;
 use crate::parameters::{number, words};
 use crate::waiting::{PartText, RUN, base_parameters, wait};
 use atomic_types::Part;
@@ -62,7 +62,7 @@ fn take_installed<A: Alter>(
         (all ++ (object, part.now) ∷ []) (λ es. with_base (all_put es c.base) c) result }
 {
     let Ok(()) = wait(alloc, waiting, object, part) else {
-        return Err(WANT);
+        return Err(OUT_OF_MEMORY);
     };
     if waiting.len() < RUN {
         return Ok(());
@@ -90,7 +90,7 @@ fn install_run<A: Alter>(
         → Steps (state A.Store tx.old.conn.now) (state A.Store tx.new.conn.now) (with_base (all_put es c.base) c) result }
 {
     let Ok(parameters) = base_parameters(alloc, parts) else {
-        return Err(WANT);
+        return Err(OUT_OF_MEMORY);
     };
     match tx.execute(BASE_RUN, &parameters) {
         Ok(_) => Ok(()),

@@ -14,7 +14,7 @@ ghost use Rattle.store_tables.specs.Changes.{with_record};
 ghost use Rattle.store_writing.specs.Steps.{Sees, Stays, Steps};
 ghost use Rattle.store_writing.specs.Waiting.{IsTextOf, AreTextsOf, Waits, Takes};
 
-use crate::faults::WANT;
+use crate::faults::OUT_OF_MEMORY;
 use crate::parameters::{amount, number, words};
 use crate::waiting::{PartText, RUN, record_parameters, wait};
 use atomic_types::Part;
@@ -101,7 +101,7 @@ fn take_value<A: Alter>(
         (all ++ (object, part.now) ∷ []) (λ es. with_record top home es c) result }
 {
     let Ok(()) = wait(alloc, waiting, object, part) else {
-        return Err(WANT);
+        return Err(OUT_OF_MEMORY);
     };
     if waiting.len() < RUN {
         return Ok(());
@@ -159,7 +159,7 @@ fn put_run<A: Alter>(
         → Steps (state A.Store tx.old.conn.now) (state A.Store tx.new.conn.now) (with_record top home (before ++ es) c) result }
 {
     let Ok(parameters) = record_parameters(alloc, top, values) else {
-        return Err(WANT);
+        return Err(OUT_OF_MEMORY);
     };
     match tx.execute(VALUE_RUN, &parameters) {
         Ok(_) => Ok(()),

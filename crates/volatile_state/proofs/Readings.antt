@@ -1,5 +1,5 @@
 -- What is read in a memory whose parts are those of its history.
-use Rattle.std.proofs.Common.{Bool, List, None, Option, Some, ap, false, length, sym, true, ℕ, ◌&&◌, ◌==◌, ◌∙◌, ◌≡◌}
+use Rattle.std.proofs.Common.{Bool, List, None, Option, Some, ap, false, length, sym, true, ℕ, ◌==◌, ◌∙◌, ◌≡◌}
 use Rattle.std.specs.Prelude.{IfSome}
 use Rattle.std.proofs.lemmas.Bool.{and_parts}
 use Rattle.action_names.specs.Names.{Name, has_name}

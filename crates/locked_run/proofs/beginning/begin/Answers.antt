@@ -1,4 +1,4 @@
-use Rattle.std.proofs.Common.{ap, length, sym, [], ◌+◌, ◌∙◌, ◌≡◌}
+use Rattle.std.proofs.Common.{ap, length, sym, [], ◌+◌, ◌∙◌}
 use Rattle.one_run.specs.Pieces.{places_from, seen_of}
 use Rattle.one_run.specs.Rules.{first_of, others_of}
 use Rattle.locked_run.specs.Beginning.{stamps}

@@ -1,10 +1,9 @@
-use Rattle.std.proofs.Common.{ap, ap₂, arith, length, rules, slice_get, sym, Some, [], ◌++◌, ◌+◌, ◌-◌, ◌<◌, ◌∙◌, ◌∷◌, ◌≡◌}
+use Rattle.std.proofs.Common.{ap, ap₂, arith, length, rules, slice_get, sym, Some, [], ◌++◌, ◌+◌, ◌-◌, ◌∙◌, ◌∷◌, ◌≡◌}
 use Rattle.std.proofs.lemmas.Iterator.Adapters.{YieldsList-from_vec}
-use Rattle.std.proofs.lemmas.Iterator.Consumers.{YieldsList-end, YieldsList-turn}
+use Rattle.std.proofs.lemmas.Iterator.Consumers.{YieldsList-turn}
 use Rattle.std.proofs.lemmas.List.{length-append}
 use Rattle.std.proofs.lemmas.Option.{slice_get-get_or}
-use Rattle.world_steps.specs.Standings.{standing}
-use Rattle.locked_run.specs.Beginning.{held_first, held_from}
+use Rattle.locked_run.specs.Beginning.{held_first}
 use Rattle.locked_run.proofs.Begun.{first_place, held_at, held_more, other_places, seen_first}
 use Rattle.locked_run.proofs.beginning.hold.Goals as goal
 

@@ -1,4 +1,4 @@
-use Rattle.std.proofs.Common.{arith, codes, subst, sym, [], ◌∷◌}
+use Rattle.std.proofs.Common.{arith, codes, subst, sym}
 use Rattle.sqlite_rules.specs.Lists.{Has}
 use Rattle.store_tables.specs.Listed.{Lists}
 use Rattle.store_tables.specs.Shown.{ShowsNumber}

@@ -1,10 +1,5 @@
 use Rattle.store_tables.proofs.Texts.{decide_plain, count_plain, next_plain, base_plain, base_run_plain, discard_plain, record_plain, value_plain, value_run_plain}
 use Rattle.store_tables.proofs.Texts.{delta_plain, forget_plain}
-use Rattle.store_tables.proofs.Queries.{meta_query}
-use Rattle.store_tables.proofs.Decides.{puts_number, puts_delta}
-use Rattle.store_tables.proofs.Means.{row_put}
-use Rattle.store_tables.proofs.Discards.{discards}
-use Rattle.store_tables.proofs.Forgets.{forgets}
 use Rattle.store_tables.proofs.meaning.statements_stand_alone.Goals as goal
 
 pub returns-clause-decide : goal.returns-clause-decide

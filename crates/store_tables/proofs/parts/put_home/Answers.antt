@@ -1,4 +1,3 @@
-use Rattle.std.proofs.Common.{refl}
 use Rattle.store_tables.proofs.Read.{none_if, new_home, no_parts_yet}
 use Rattle.store_tables.proofs.parts.put_home.Goals as goal
 

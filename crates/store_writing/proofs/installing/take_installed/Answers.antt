@@ -1,4 +1,4 @@
-use Rattle.std.proofs.Common.{◌≡◌, ℕ, List, ◌++◌, [], ◌∷◌, false, sym, ap, subst, ◌∙◌, arith}
+use Rattle.std.proofs.Common.{◌≡◌, ℕ, List, false, sym, ap, subst, ◌∙◌}
 use Rattle.atomic_types.specs.declared.part.Part.{Part}
 use Rattle.sqlite.specs.Held.{state}
 use Rattle.stable_store.specs.Numbers.{has_zero}

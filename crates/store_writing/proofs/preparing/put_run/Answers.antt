@@ -1,4 +1,4 @@
-use Rattle.std.proofs.Common.{◌≡◌, ◌++◌, IsTrue, ap, subst, ◌∙◌, arith}
+use Rattle.std.proofs.Common.{◌++◌, ap, subst, ◌∙◌, arith}
 use Rattle.sqlite.specs.Values.{bound}
 use Rattle.sqlite.specs.Held.{state}
 use Rattle.store_tables.specs.Changes.{with_record}

@@ -1,4 +1,4 @@
-use Rattle.std.proofs.Common.{◌≡◌, ◌++◌, [], ◌∷◌, IsTrue, refl, subst, arith}
+use Rattle.std.proofs.Common.{◌++◌, [], ◌∷◌, refl, subst, arith}
 use Rattle.sqlite_value.specs.Value.{owned}
 use Rattle.sqlite.specs.Order.{Row}
 use Rattle.sqlite.specs.Values.{bound_value}

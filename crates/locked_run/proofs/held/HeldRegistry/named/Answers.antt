@@ -1,4 +1,4 @@
-use Rattle.std.proofs.Common.{ap, ◌∙◌, ◌≡◌}
+use Rattle.std.proofs.Common.{ap, ◌∙◌}
 use Rattle.world_steps.specs.Naming.{first_named, second_named}
 use Rattle.one_run.specs.Pieces.{seen_of}
 use Rattle.locked_run.proofs.Named.{first_is, second_is}
