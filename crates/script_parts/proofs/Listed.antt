@@ -6,7 +6,6 @@ use Rattle.values.specs.declared.value.Value.{Value}
 use Rattle.values.specs.declared.value.Kind.{Kind}
 use Rattle.values.specs.declared.record.Field.{Field}
 use Rattle.values.specs.declared.variant.Tag.{Tag}
-use Rattle.script_model.specs.declared.fault.FaultKind.TheVariants as is
 use Rattle.script_model.specs.Reading.{and_then, step}
 use Rattle.script_model.specs.Shapes.{kind_in}
 use Rattle.script_model.specs.ContentReading.{fields_in, tags_in, value_in}
