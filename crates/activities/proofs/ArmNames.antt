@@ -14,14 +14,14 @@ use Rattle.run_model.specs.declared.step.Step.TheVariants.{Arms}
 use Rattle.run_model.specs.Actions.{names_begun, next_number}
 use Rattle.run_model.specs.Answers.{answer_of, outcome, refused_or}
 use Rattle.run_model.specs.Refusals.{arm_names, checks, first_refusal}
-use Rattle.run_model.specs.Openings.{Opening, opening_in}
+use Rattle.run_model.specs.Openings.{Opening}
 use Rattle.run_model.specs.Runs.{IsRun, World, world_after}
 use Rattle.run_laws.proofs.Accepted.{makes_facts}
 use Rattle.run_laws.proofs.Begun.{nameless}
 use Rattle.run_laws.proofs.Names.{has_name_append, last_child, parent_child, same_name_self, same_name_true}
 use Rattle.script_model.specs.declared.statement.Arm.{Arm}
 use Rattle.activities.specs.Bodies.{kind_of, kinds}
-use Rattle.activities.specs.Continuing.{HaveBegun}
+use Rattle.activities.specs.Making.{Begins}
 use Rattle.activities.specs.Serial.{waiting_by}
 
 -- ---- the names of arms differ
@@ -84,22 +84,16 @@ has_reverse (b ∷ names) a =
     turned false true = refl
     turned false false = refl
 
-pub begun_reverse : (names : List Name) (old new : World) → HaveBegun names old new → HaveBegun (reverse names) old new
-begun_reverse names old new b = record {
-  are_open = λ a h. b.are_open a (sym (has_reverse names a) ∙ h);
-  before = λ a h. b.before a (sym (has_reverse names a) ∙ h);
-  only = λ a h k. has_reverse names a ∙ b.only a h k;
-}
-
 -- ---- the step that begins arms
 
 -- a step of which the outcome begins actions: where it begins none it was refused, and the world is as it was
-pub unless_begun : (w : World) (step : Step) (answer : Answer) (all : List Name) → outcome (opening_in w.lists) step w.past ≡ Began all
-    → answer ≡ answer_of (opening_in w.lists) step w.past → ((names : List Name) → answer ≢ Began names) → world_after w step answer ≡ w
+pub unless_begun : (w : World) (opening : Opening) (past : List Event) (step : Step) (answer : Answer) (all : List Name)
+    → outcome opening step past ≡ Began all → answer ≡ answer_of opening step past → ((names : List Name) → answer ≢ Began names)
+    → world_after w step answer ≡ w
 unfolding answer_of
-unless_begun w step answer all o h refused = go (first_refusal (checks (opening_in w.lists) step w.past)) h
+unless_begun w opening past step answer all o h refused = go (first_refusal (checks opening step past)) h
   where
-    go : (r : Option Refusal) → answer ≡ refused_or r (outcome (opening_in w.lists) step w.past) → world_after w step answer ≡ w
+    go : (r : Option Refusal) → answer ≡ refused_or r (outcome opening step past) → world_after w step answer ≡ w
     go None e = absurd (refused all (e ∙ o))
     go (Some why) e = ap (λ b. world_after w step b) e
 
@@ -162,16 +156,25 @@ where_waiting None items answer so e f = tt
 where_waiting (Some x) items answer so e f =
     subst so (reverse-reverse (items x)) (f (reverse (items x)) (waiting_began answer (reverse (items x)) e))
 
-pub waiting_each : {X : Type 0} (found : Option X) (items : X → List Name) (w : World) (a : Name) (ks : List ArmKind) (arms : List Arm) (answer : Answer)
-    → option_map (λ x. reverse (items x)) found ≡ waiting_by answer → answer ≡ answer_of (opening_in w.lists) (Arms a ks) w.past
-    → ks ≡ kinds arms → IfSome found (λ x. length (items x) ≡ length arms)
-waiting_each found items w a ks arms answer e h k =
+pub waiting_each : {X : Type 0} (found : Option X) (items : X → List Name) (opening : Opening) (past : List Event) (a : Name) (ks : List ArmKind)
+    (arms : List Arm) (answer : Answer) → option_map (λ x. reverse (items x)) found ≡ waiting_by answer
+    → answer ≡ answer_of opening (Arms a ks) past → ks ≡ kinds arms → IfSome found (λ x. length (items x) ≡ length arms)
+waiting_each found items opening past a ks arms answer e h k =
     where_waiting found items answer (λ names. length names ≡ length arms) e
-    (λ names b. length-reverse names ∙ arms_begin_each (opening_in w.lists) a ks w.past names (sym b ∙ h) ∙ ap length k ∙ length-map arms kind_of)
+    (λ names b. length-reverse names ∙ arms_begin_each opening a ks past names (sym b ∙ h) ∙ ap length k ∙ length-map arms kind_of)
 
-pub waiting_begun : {X : Type 0} (found : Option X) (items : X → List Name) (old new : World) (answer : Answer)
-    → option_map (λ x. reverse (items x)) found ≡ waiting_by answer → HaveBegun (names_begun answer) old new
-    → IfSome found (λ x. HaveBegun (items x) old new)
-waiting_begun found items old new answer e begun =
-    where_waiting found items answer (λ names. HaveBegun names old new) e
-    (λ names b. begun_reverse names old new (subst (λ x. HaveBegun (names_begun x) old new) b begun))
+-- the same of the names turned round
+begins_reverse : (actors committing names : List Name) (old new : World) → Begins actors committing names old new
+    → Begins actors committing (reverse names) old new
+begins_reverse actors committing names old new b = record {
+  makes = b.makes;
+  begun = λ a h. b.begun a (sym (has_reverse names a) ∙ h);
+}
+
+pub waiting_begun : {X : Type 0} (found : Option X) (items : X → List Name) (a b : Name) (old new : World) (answer : Answer) → b ≡ a
+    → option_map (λ x. reverse (items x)) found ≡ waiting_by answer → Begins (b ∷ []) [] (names_begun answer) old new
+    → IfSome found (λ x. Begins (a ∷ []) [] (items x) old new)
+waiting_begun found items a b old new answer same e begun =
+    where_waiting found items answer (λ names. Begins (a ∷ []) [] names old new) e
+    (λ names h. begins_reverse (a ∷ []) [] names old new
+    (subst (λ n. Begins (n ∷ []) [] names old new) same (subst (λ x. Begins (b ∷ []) [] (names_begun x) old new) h begun)))

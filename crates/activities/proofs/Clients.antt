@@ -10,9 +10,10 @@ use Rattle.run_model.specs.Actions.{next_number}
 use Rattle.run_model.specs.Answers.{answer_of, refused_or}
 use Rattle.run_model.specs.Refusals.{checks, first_refusal}
 use Rattle.run_model.specs.Openings.{Opening, opening_in}
-use Rattle.run_model.specs.Runs.{IsRun, World, world_after}
+use Rattle.run_model.specs.Runs.{IsRun, World, history_after, world_after}
 use Rattle.run_model.specs.declared.history.Event.{Event}
 use Rattle.run_laws.proofs.Names.{clash, same_name_self}
+use Rattle.run_laws.proofs.Runs.{run_more}
 use Rattle.script_model.specs.declared.checked.Checked.{Checked}
 use Rattle.script_model.specs.declared.checked.Client.{Client}
 use Rattle.script_model.specs.declared.names.Gives.TheVariants as gives
@@ -20,14 +21,11 @@ use Rattle.script_model.specs.declared.statement.Statement.{Statement}
 use Rattle.script_model.specs.Resolved as resolved
 use Rattle.frames.specs.Bound.{Bound, nothing_bound}
 use Rattle.activities.specs.Bodies.{IsBody, sizes}
-use Rattle.activities.specs.Continuing.{CommitsAmong, CommitsNone, GoesOn, HaveBegun, IsOpen}
-use Rattle.activities.specs.OwnSteps.{KeepsTo}
 use Rattle.activities.specs.Ends.{IsTopAt, named_by}
+use Rattle.activities.specs.Making.{once_begun}
 use Rattle.activities.specs.Serial.{after, asked, begun_by}
 use Rattle.activities.proofs.ArmNames.{unless_begun}
-use Rattle.activities.proofs.Going.{commits_nowhere, fresh_commits, goes_nowhere, goes_through, one_step}
-use Rattle.activities.proofs.OwnSteps.{child_keeps, keeps_nowhere, step_keeps_to}
-use Rattle.activities.proofs.Steps.{step_begins}
+use Rattle.activities.proofs.Steps.{HaveBegun, IsOpen, begins_names}
 
 -- ---- a client's body
 
@@ -58,10 +56,9 @@ body_given script same client f body h e n b =
 -- the `top` step was made, and nothing else
 pub record TopMade (home : ℕ) (old new : World) (found : Option Name) : Type 0 where
   pub top : IsTopAt home old found
-  pub goes_on : GoesOn old new (named_by found)
-  pub commits : CommitsNone old new
+  pub is_run : IsRun (opening_in new.lists) new.past
+  pub left : new ≡ once_begun home found old
   pub began : HaveBegun (named_by found) old new
-  pub own : KeepsTo [] old new
 
 -- a `top` step begins one action
 pub top_begins_one : (opening : Opening) (g : ℕ) (past : List Event) (names : List Name) → Began names ≡ answer_of opening (Top g) past
@@ -88,17 +85,16 @@ top_refused w g given h none = go (first_refusal (checks (opening_in w.lists) (T
 pub top_not_made : (old new : World) (g : ℕ) (given : Answer) → IsRun (opening_in old.lists) old.past → given ≡ answer_of (opening_in old.lists) (Top g) old.past
     → new ≡ world_after old (Top g) given → ((names : List Name) → given ≢ Began names) → TopMade g old new None
 top_not_made old new g given r h w none =
-    let same : new ≡ old = w ∙ unless_begun old (Top g) given ((next_number (opening_in old.lists) [] old.past ∷ []) ∷ []) refl h none in
+    let same : new ≡ old = w ∙ unless_begun old (opening_in old.lists) old.past (Top g) given ((next_number (opening_in old.lists) [] old.past ∷ []) ∷ []) refl h none in
     subst (λ v. TopMade g old v None) (sym same) (record {
       top = top_refused old g given h none;
-      goes_on = goes_nowhere old r;
-      commits = commits_nowhere old;
+      is_run = r;
+      left = refl;
       began = record {
         are_open = λ a h. absurd (false≢true h);
         before = λ a h. absurd (false≢true h);
         only = λ a h k. absurd (clash h k);
       };
-      own = keeps_nowhere [] old;
     })
 
 -- the top action has begun, and nothing else
@@ -110,11 +106,44 @@ top_made old new g given names a r h w b n =
     let told : Began (a ∷ []) ≡ answer_of (opening_in old.lists) (Top g) old.past = sym (b ∙ ap Began n) ∙ h in
     subst (λ v. TopMade g old v (Some a)) (sym left) (record {
       top = sym told;
-      goes_on = one_step old (Top g) (Began (a ∷ [])) r told;
-      commits = λ b k. refl;
-      began = step_begins old (Top g) (Began (a ∷ [])) r told;
-      own = step_keeps_to [] old (Top g) (Began (a ∷ [])) tt;
+      is_run = subst (λ b. IsRun (opening_in old.lists) (history_after (Top g) b old.past)) (sym told) (run_more (opening_in old.lists) (Top g) old.past r);
+      left = refl;
+      began = begins_names old (Top g) (Began (a ∷ [])) r told;
     })
+
+-- the world that a `top` step leaves, by what it began, at whatever run it is answered
+pub top_leaves : (old new : World) (g : ℕ) (opening : Opening) (past : List Event) (answer : Answer) → answer ≡ answer_of opening (Top g) past
+    → new ≡ world_after old (Top g) answer → new ≡ once_begun g (begun_by answer) old
+top_leaves old new g opening past answer h w = w ∙ go answer h
+  where
+    none : (a : Answer) → a ≡ answer_of opening (Top g) past → ((names : List Name) → a ≢ Began names) → world_after old (Top g) a ≡ old
+    none a h n = unless_begun old opening past (Top g) a ((next_number opening [] past ∷ []) ∷ []) refl h n
+
+    go : (a : Answer) → a ≡ answer_of opening (Top g) past → world_after old (Top g) a ≡ once_begun g (begun_by a) old
+    go (Began (a ∷ [])) h = refl
+    go (Began []) h = let n = top_begins_one opening g past [] h in absurd (omega arith)
+    go (Began (a ∷ b ∷ names)) h = let n = top_begins_one opening g past (a ∷ b ∷ names) h in absurd (omega arith)
+    go (Granted reply) h = none (Granted reply) h (λ names e. cc)
+    go (Waits names) h = refl
+    go VoteYes h = none VoteYes h (λ names e. cc)
+    go VoteNo h = none VoteNo h (λ names e. cc)
+    go (Done n) h = none (Done n) h (λ names e. cc)
+    go (Refused why) h = refl
+
+-- what it began is what it was answered, or it was refused
+pub top_at : (w : World) (g : ℕ) (answer : Answer) → answer ≡ asked (Top g) w → IsTopAt g w (begun_by answer)
+top_at w g answer h = go answer h
+  where
+    go : (a : Answer) → a ≡ asked (Top g) w → IsTopAt g w (begun_by a)
+    go (Began (a ∷ [])) h = sym h
+    go (Began []) h = let n = top_begins_one (opening_in w.lists) g w.past [] h in absurd (omega arith)
+    go (Began (a ∷ b ∷ names)) h = let n = top_begins_one (opening_in w.lists) g w.past (a ∷ b ∷ names) h in absurd (omega arith)
+    go (Granted reply) h = top_refused w g (Granted reply) h (λ names e. cc)
+    go (Waits names) h = top_refused w g (Waits names) h (λ more e. cc)
+    go VoteYes h = top_refused w g VoteYes h (λ names e. cc)
+    go VoteNo h = top_refused w g VoteNo h (λ names e. cc)
+    go (Done n) h = top_refused w g (Done n) h (λ names e. cc)
+    go (Refused why) h = top_refused w g (Refused why) h (λ names e. cc)
 
 -- what a `top` step leaves, whatever it is answered
 pub top_found : (w : World) (g : ℕ) → IsRun (opening_in w.lists) w.past → TopMade g w (after (Top g) w) (begun_by (asked (Top g) w))
@@ -134,22 +163,5 @@ top_found w g r = go (asked (Top g) w) refl
     go (Done n) h = none (Done n) h (λ names e. cc)
     go (Refused why) h = none (Refused why) h (λ names e. cc)
 
--- the same where the world that it left, and what was begun, are known by other names
-pub top_named : (home : ℕ) (old new : World) (found : Option Name) (b a : Name) → IsRun (opening_in old.lists) old.past → new ≡ after (Top home) old
-    → found ≡ begun_by (asked (Top home) old) → found ≡ Some b → a ≡ b → TopMade home old new (Some a)
-top_named home old new found b a r n f s e =
-    subst (λ o. TopMade home old new o) (sym f ∙ s ∙ ap Some (sym e)) (subst (λ w. TopMade home old w (begun_by (asked (Top home) old))) (sym n) (top_found old home r))
-
 pub top_is_open : (home : ℕ) (old new : World) (a : Name) → TopMade home old new (Some a) → IsOpen a new
 top_is_open home old new a m = m.began.are_open a (or_left _ _ (same_name_self a))
-
--- what goes on from there
-pub top_goes : (home : ℕ) (old mid new : World) (a : Name) → TopMade home old mid (Some a) → GoesOn mid new [] → GoesOn old new (a ∷ [])
-top_goes home old mid new a m g = goes_through old mid new (a ∷ []) [] m.goes_on g
-
-pub top_commits : (home : ℕ) (old mid new : World) (a : Name) → TopMade home old mid (Some a) → GoesOn mid new []
-    → CommitsAmong (a ∷ []) mid new → CommitsNone old new
-top_commits home old mid new a m g c = fresh_commits (a ∷ []) old mid new (a ∷ []) m.began m.goes_on m.commits c
-
-pub top_keeps : (home : ℕ) (old mid new : World) (a : Name) → TopMade home old mid (Some a) → KeepsTo (a ∷ []) mid new → KeepsTo [] old new
-top_keeps home old mid new a m k = child_keeps a [] old mid new m.began m.own k

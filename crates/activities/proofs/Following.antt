@@ -17,7 +17,7 @@ use Rattle.activities.specs.declared.open_action.Called.{Called}
 use Rattle.activities.specs.declared.open_action.Called.TheVariants.{Began}
 use Rattle.activities.specs.Bodies.{IsBody, WhereEnded, Within, sizes}
 use Rattle.activities.specs.Ends.{called}
-use Rattle.activities.specs.Continuing.{HaveBegun}
+use Rattle.activities.specs.Making.{Begins}
 use Rattle.activities.proofs.Resolving.{cut_sizes, handed, rest_of, statement_grows, within_through}
 
 -- where nothing was bound, however it ended
@@ -64,8 +64,10 @@ pub ok_so : {A E : Type 0} (r : Result A E) (x : A) (P : Type 0) → r ≡ Ok x 
 ok_so r x P e h = subst (λ p. OnOk p P) e h
 
 -- a call that began its action
-pub called_began : (k : Called) (a n : Name) (x y : World) → k ≡ Began a → n ≡ a → HaveBegun (called k) x y → HaveBegun (n ∷ []) x y
-called_began k a n x y e m h = subst (λ b. HaveBegun (b ∷ []) x y) (sym m) (subst (λ o. HaveBegun (called o) x y) e h)
+pub called_began : (k : Called) (a n : Name) (actors : List Name) (x y : World) → k ≡ Began a → n ≡ a → Begins actors [] (called k) x y
+    → Begins actors [] (n ∷ []) x y
+called_began k a n actors x y e m h =
+    subst (λ b. Begins actors [] (b ∷ []) x y) (sym m) (subst (λ o. Begins actors [] (called o) x y) e h)
 
 -- the last of the names was taken
 pub popped : (names rest : List Name) (o : Option Name) (b a : Name) → names ≡ rest ++ option_to_list o → o ≡ Some b → a ≡ b → names ≡ rest ++ (a ∷ [])

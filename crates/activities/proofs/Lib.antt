@@ -1,5 +1,7 @@
+pub mod Alone
 pub mod ArmNames
 pub mod Clients
+pub mod ClientSteps
 pub mod Closing
 pub mod Committing
 pub mod Earlier
@@ -7,8 +9,8 @@ pub mod Ending
 pub mod Following
 pub mod Going
 pub mod Leaving
+pub mod Making
 pub mod Meaning
-pub mod OwnSteps
 pub mod Performing
 pub mod Resolving
 pub mod Runs
@@ -16,4 +18,3 @@ pub mod Staying
 pub mod Steps
 pub mod Trying
 pub mod Waiting
-pub mod Ways

@@ -31,16 +31,15 @@ use Rattle.activities.specs.declared.open_action.Called.TheVariants as called
 use Rattle.activities.specs.declared.operations.Outcome.{Outcome}
 use Rattle.activities.specs.declared.operations.Outcome.TheVariants as outcome
 use Rattle.activities.specs.Bodies.{body_of, kind_of, kinds}
-use Rattle.activities.specs.Continuing.{HaveBegun, IsOpen}
 use Rattle.activities.specs.Ends as ends
 use Rattle.activities.specs.Performing.{op_step, outcome_of, step_for}
 use Rattle.activities.specs.Serial.{Acting, aborted, Doing, Done, Left, Through, ended, after, after_any, arms_aborted, arms_run, asked, begun_at, begun_by, beside, body_done, budgeted, by_arms, by_budget, by_called, by_end, by_flow, by_nested, by_nested_end, by_outcome, by_truth, by_value, call_done, called_by, coenter_done, inner, is_past, nested_done, on_signal, op_done, opened_done, past_arm, repeated, run, statement_done, taking_in, waiting_by, where_ended, with_world}
 use Rattle.activities.proofs.ArmNames.{Differ, begun_differ, one_more}
 use Rattle.activities.proofs.Closing.{HasRun, aborted_came, ended_so, open_quietly}
-use Rattle.activities.proofs.Going.{alone, open_among, still_begun}
-use Rattle.activities.proofs.Leaving.{CameToEnd, IsRunning, Made, WentOn, fresh_came, made, made_nothing, one_then, went_by, went_nowhere, went_quietly, went_through}
+use Rattle.activities.proofs.Going.{alone, still_begun}
+use Rattle.activities.proofs.Leaving.{CameToEnd, IsRunning, Made, WentOn, fresh_came, made, made_nothing, one_then, open_among, went_by, went_nowhere, went_quietly, went_through}
 use Rattle.activities.proofs.Waiting.{begun_names, called_names}
-use Rattle.activities.proofs.Steps.{call_begins_one, nested_begins_one}
+use Rattle.activities.proofs.Steps.{HaveBegun, IsOpen, call_begins_one, nested_begins_one}
 
 -- the action went on, committed nothing that was begun before, and is the same
 abbrev Stays : Doing → Doing → Type 0
@@ -61,7 +60,7 @@ stays_through x y z s t = (
 
 -- where it stays, and then something else that stays is done
 then_stays : (x y : Doing) (next : Doing → Done) → Stays x y → ((d : Doing) → IsRunning d.world → Stays d (next d).doing) → Stays x (next y).doing
-then_stays x y next s f = stays_through x y (next y).doing s (f y s.0.goes_on.is_run)
+then_stays x y next s f = stays_through x y (next y).doing s (f y s.0.is_run)
 
 -- what comes next where something ended well
 where_ended_stays : (d : Doing) (r : Done) (next : Doing → Done) → Stays d r.doing → ((e : Doing) → IsRunning e.world → Stays e (next e).doing)
@@ -99,7 +98,7 @@ pub run_ends : (go : Through) → AllStay go → (a : Acting) (b : Bound) (body 
 run_ends go all a b body d r o =
     body_and_end a.name d.world came.doing.world end.world end.flow stays.0
     (subst (λ n. HasRun n came.doing.world end.world end.flow) stays.1
-    (ended_so came.doing.acting came.flow came.doing.world stays.0.goes_on.is_run
+    (ended_so came.doing.acting came.flow came.doing.world stays.0.is_run
     (subst (λ n. IsOpen n came.doing.world) (sym stays.1) (open_quietly a.name a.name d.world came.doing.world stays.0 o))))
   where
     came : Done
@@ -127,7 +126,7 @@ module _ (go : Through) (all : AllStay go) where
   outcome_stays signals d outcome.Waits r = stays_here d r
 
   op_stays : (call : ObjectCall) (signals : Option (List Statement)) (d : Doing) → IsRunning d.world → Stays d (op_done go call signals d).doing
-  op_stays call signals d r = stays_through d left (op_done go call signals d).doing made_it (outcome_stays signals left came.0 made_it.0.goes_on.is_run)
+  op_stays call signals d r = stays_through d left (op_done go call signals d).doing made_it (outcome_stays signals left came.0 made_it.0.is_run)
     where
       step : Option Step
       step = step_for d.acting.name d.acting.home d.bound call
@@ -145,7 +144,7 @@ module _ (go : Through) (all : AllStay go) where
               → WentOn (d.acting.name ∷ []) [] d.world (after_any (option_map (op_step d.acting.name d.acting.home call.object) wanted) d.world)
           of None = went_nowhere (d.acting.name ∷ []) [] d.world r
           of (Some wanted) =
-              went_by d.acting.name d.world r (op_step d.acting.name d.acting.home call.object wanted) tt refl [] (λ c k. refl) refl
+              went_by d.acting.name d.world r (op_step d.acting.name d.acting.home call.object wanted) tt refl [] refl refl
 
   -- ---- calls
 
@@ -164,10 +163,10 @@ module _ (go : Through) (all : AllStay go) where
   called_stays h inside binding signals d mid called.Refused m = (made_nothing d.acting.name d.world mid m, refl)
   called_stays h inside binding signals d mid (called.Began a) m =
       let r : Done = run go (begun_at h.guardian a) inside h.body (with_world d mid) in
-      let ran = run_ends go all (begun_at h.guardian a) inside h.body (with_world d mid) m.goes_on.is_run (only_open a d.world mid m.began) in
+      let ran = run_ends go all (begun_at h.guardian a) inside h.body (with_world d mid) m.is_run (only_open a d.world mid m.began) in
       let child : Stays d (taking_in (with_world d mid) r) = (fresh_came d.acting.name (a ∷ []) d.world mid r.doing.world m ran.came, refl) in
       stays_through d (taking_in (with_world d mid) r) (by_end go binding signals (taking_in (with_world d mid) r) r.flow).doing child
-      (handler_end_stays (taking_in (with_world d mid) r) binding signals r.flow child.0.goes_on.is_run)
+      (handler_end_stays (taking_in (with_world d mid) r) binding signals r.flow child.0.is_run)
 
   call_stays : (h : Option Handler) (call : HandlerCall) (signals : Option (List Statement)) (inside : Option Bound) (d : Doing) → IsRunning d.world
       → Stays d (call_done go h call signals inside d).doing
@@ -178,7 +177,7 @@ module _ (go : Through) (all : AllStay go) where
       called_stays h inside call.binding signals d (after step d.world) (called_by (asked step d.world))
       (subst (λ names. Made d.acting.name names d.world (after step d.world))
       (sym (called_names (asked step d.world) (λ names e. call_begins_one (opening_in d.world.lists) d.acting.name h.guardian d.world.past names (sym e))))
-      (made d.acting.name d.world r step tt refl (λ c. refl)))
+      (made d.acting.name d.world r step tt refl refl))
 
   -- ---- nested top actions
 
@@ -193,10 +192,10 @@ module _ (go : Through) (all : AllStay go) where
   begun_stays body signals d mid None m = (made_nothing d.acting.name d.world mid m, refl)
   begun_stays body signals d mid (Some a) m =
       let r : Done = run go (begun_at d.acting.home a) d.bound body (with_world d mid) in
-      let ran = run_ends go all (begun_at d.acting.home a) d.bound body (with_world d mid) m.goes_on.is_run (only_open a d.world mid m.began) in
+      let ran = run_ends go all (begun_at d.acting.home a) d.bound body (with_world d mid) m.is_run (only_open a d.world mid m.began) in
       let child : Stays d (beside (with_world d mid) r.doing) = (fresh_came d.acting.name (a ∷ []) d.world mid r.doing.world m ran.came, refl) in
       stays_through d (beside (with_world d mid) r.doing) (by_nested_end go signals (beside (with_world d mid) r.doing) r.flow).doing child
-      (nested_end_stays signals (beside (with_world d mid) r.doing) r.flow child.0.goes_on.is_run)
+      (nested_end_stays signals (beside (with_world d mid) r.doing) r.flow child.0.is_run)
 
   nested_stays : (body signals : List Statement) (d : Doing) → IsRunning d.world → Stays d (nested_done go body signals d).doing
   nested_stays body signals d r =
@@ -204,7 +203,7 @@ module _ (go : Through) (all : AllStay go) where
       begun_stays body signals d (after step d.world) (begun_by (asked step d.world))
       (subst (λ names. Made d.acting.name names d.world (after step d.world))
       (sym (begun_names (asked step d.world) (λ names e. nested_begins_one (opening_in d.world.lists) d.acting.name d.world.past names (sym e))))
-      (made d.acting.name d.world r step tt refl (λ c. refl)))
+      (made d.acting.name d.world r step tt refl refl))
 
   -- ---- arms
 
@@ -217,7 +216,7 @@ module _ (go : Through) (all : AllStay go) where
   others_wait : (a : Name) (names : List Name) (x y : World) → Waiting (a ∷ names) x → CameToEnd (a ∷ []) x y → Waiting names y
   others_wait a names x y w c = record {
     differ = (parts w.differ).1;
-    are_open = λ b h. open_among (a ∷ []) x y [] b (w.are_open b (or_right (same_name a b) _ h)) c.went.goes_on c.went.commits (another b h);
+    are_open = λ b h. open_among (a ∷ []) (a ∷ []) x y b (w.are_open b (or_right (same_name a b) _ h)) c.went (another b h);
   }
     where
       parts : Differ (a ∷ names) → (has_name names a ≡ false) × Differ names
@@ -232,8 +231,8 @@ module _ (go : Through) (all : AllStay go) where
   abort_each home (a ∷ names) w r b =
       let first : CameToEnd (a ∷ []) w (aborted (begun_at home a) w) = aborted_came (begun_at home a) w r (b a (or_left _ _ (same_name_self a))) in
       one_then a names w (aborted (begun_at home a) w) (arms_aborted home (a ∷ names) w) first
-      (abort_each home names (aborted (begun_at home a) w) first.went.goes_on.is_run
-      (λ c h. still_begun w (aborted (begun_at home a) w) [] c first.went.goes_on (b c (or_right (same_name a c) _ h))))
+      (abort_each home names (aborted (begun_at home a) w) first.went.is_run
+      (λ c h. still_begun w (aborted (begun_at home a) w) c first.went.makes (b c (or_right (same_name a c) _ h))))
 
   -- the world once those that have not run are aborted
   abbrev finished : ℕ → Done × List Name → World
@@ -261,14 +260,14 @@ module _ (go : Through) (all : AllStay go) where
       more : (e : Doing) → CameToEnd (a ∷ []) d.world e.world → Waiting names e.world → e.acting.name ≡ d.acting.name
           → ArmsStay (a ∷ names) d home (arms_run go arms names e)
       more e c wait same =
-          let s = rest e c.went.goes_on.is_run wait in
+          let s = rest e c.went.is_run wait in
           (one_then a names d.world e.world (finished home (arms_run go arms names e)) c s.0, s.1 ∙ same)
 
       no_more : (e : Doing) → CameToEnd (a ∷ []) d.world e.world → Waiting names e.world → e.acting.name ≡ d.acting.name
           → ArmsStay (a ∷ names) d home (record { doing = e; flow = came.flow }, names)
       no_more e c wait same = (
         one_then a names d.world e.world (arms_aborted home names e.world) c
-            (abort_each home names e.world c.went.goes_on.is_run (λ b h. (wait.are_open b h).begun)),
+            (abort_each home names e.world c.went.is_run (λ b h. (wait.are_open b h).begun)),
         same,
       )
 
@@ -289,7 +288,7 @@ module _ (go : Through) (all : AllStay go) where
   arms_named : (a : Answer) (mid : World) (arms : List Arm) (d : Doing) → Made d.acting.name (names_begun a) d.world mid
       → Differ (names_begun a) → Stays d (by_arms go arms (with_world d mid) (waiting_by a)).doing
   arms_named (answer.Began names) mid arms d m f =
-      let s = arms_stay arms names (with_world d mid) d.acting.home m.goes_on.is_run (record { differ = f; are_open = m.began.are_open }) in
+      let s = arms_stay arms names (with_world d mid) d.acting.home m.is_run (record { differ = f; are_open = m.began.are_open }) in
       (fresh_came d.acting.name names d.world mid (finished d.acting.home (arms_run go arms names (with_world d mid))) m s.0, s.1)
   arms_named (answer.Granted reply) mid arms d m f = (made_nothing d.acting.name d.world mid m, refl)
   arms_named (answer.Waits names) mid arms d m f = (made_nothing d.acting.name d.world mid m, refl)
@@ -301,7 +300,7 @@ module _ (go : Through) (all : AllStay go) where
   coenter_stays : (arms : List Arm) (d : Doing) → IsRunning d.world → Stays d (coenter_done go arms d).doing
   coenter_stays arms d r =
       let step : Step = Arms d.acting.name (kinds arms) in
-      arms_named (asked step d.world) (after step d.world) arms d (made d.acting.name d.world r step tt refl (λ c. refl))
+      arms_named (asked step d.world) (after step d.world) arms d (made d.acting.name d.world r step tt refl refl)
       (begun_differ (opening_in d.world.lists) d.acting.name (kinds arms) d.world.past r)
 
   -- ---- the other statements

@@ -1,5 +1,5 @@
 -- What single steps leave of a world: what they begin, what they end, and what they commit.
-use Rattle.std.proofs.Common.{ℕ, ◌⊎◌, Bool, Err, IfOk, IsTrue, List, None, Ok, OnErr, Option, Result, Some, [], ap, cond, false, inl, inr, length, not, refl, subst, sym, true, ◌++◌, ◌∙◌, ◌∷◌, ◌≡◌}
+use Rattle.std.proofs.Common.{ℕ, ◌⊎◌, Bool, IsTrue, List, None, Option, Some, [], ap, cond, false, inl, inr, length, not, refl, subst, sym, true, ◌++◌, ◌∙◌, ◌∷◌, ◌≡◌}
 use Rattle.std.proofs.lemmas.Bool.{false_from_ne_true, false≢true, or_cases, or_left, or_right}
 use Rattle.action_names.specs.Names.{Name, has_name}
 use Rattle.atomic_types.specs.Operations as op
@@ -22,9 +22,21 @@ use Rattle.run_laws.proofs.Begun.{begun_cases, begun_once}
 use Rattle.run_laws.proofs.Ended.{commits_begun, committed_begun}
 use Rattle.run_laws.proofs.Names.{clash, has_name_append, same_name_self}
 use Rattle.run_laws.proofs.Runs.{run_more}
-use Rattle.activities.specs.Continuing.{EndsAll, HaveBegun}
+use Rattle.activities.specs.Continuing.{EndsAll}
+use Rattle.activities.specs.Serial.{after, asked}
 use Rattle.activities.specs.OwnSteps.{IsOfAction}
 use Rattle.activities.specs.Reaching.{is_made}
+
+-- the action may go on: it was begun and has not been committed
+pub record IsOpen (a : Name) (w : World) : Type 0 where
+  pub begun : IsTrue (is_begun a w.past)
+  pub uncommitted : is_committed a w.past ≡ false
+
+-- these actions have just begun, and no others
+pub record HaveBegun (names : List Name) (old new : World) : Type 0 where
+  pub are_open : (a : Name) → IsTrue (has_name names a) → IsOpen a new
+  pub before : (a : Name) → IsTrue (has_name names a) → is_begun a old.past ≡ false
+  pub only : (a : Name) → IsTrue (is_begun a new.past) → is_begun a old.past ≡ false → IsTrue (has_name names a)
 
 -- ---- what a step begins
 
@@ -63,13 +75,9 @@ none_begun old step answer n a h k = absurd (clash (go (is_accepted answer) h) k
     go true b = subst (λ names. has_name (names ++ begun old.past) a ≡ true) n b
     go false b = b
 
--- the same of such a step, also where memory ran out
-pub step_ends : {E : Type 0} (old new : World) (step : Step) (result : Result Answer E) → IsOfAction step
-    → IfOk result (λ answer. answer ≡ answer_of (opening_in old.lists) step old.past) → IfOk result (λ answer. new ≡ world_after old step answer)
-    → OnErr result (new ≡ old) → maker_in step ≡ None → EndsAll old new
-step_ends old new step (Ok answer) n a w e m =
-    subst (λ v. EndsAll old v) (sym w) (none_begun old step answer (ap names_begun a ∙ nothing_made (opening_in old.lists) step old.past n m))
-step_ends old new step (Err fault) n a w e m = subst (λ v. EndsAll old v) (sym e) (λ b h k. absurd (clash h k))
+-- the same of such a step
+pub ends_nothing : (w : World) (step : Step) → IsOfAction step → maker_in step ≡ None → EndsAll w (after step w)
+ends_nothing w step n m = none_begun w step (asked step w) (nothing_made (opening_in w.lists) step w.past n m)
 
 -- what begins nothing
 begun_none : (names : List Name) (old : World) → names ≡ [] → HaveBegun names old old
@@ -98,9 +106,9 @@ just_begun lists e past r = record {
     new a h = false_from_ne_true _ (λ b. clash h (begun_once (opening_in lists) e past a r b))
 
 -- what a step answers that it began has just begun
-pub step_begins : (old : World) (step : Step) (answer : Answer) → IsRun (opening_in old.lists) old.past → answer ≡ answer_of (opening_in old.lists) step old.past
+pub begins_names : (old : World) (step : Step) (answer : Answer) → IsRun (opening_in old.lists) old.past → answer ≡ answer_of (opening_in old.lists) step old.past
     → HaveBegun (names_begun answer) old (world_after old step answer)
-step_begins old step answer r a = go answer run
+begins_names old step answer r a = go answer run
   where
     run : IsRun (opening_in old.lists) (history_after step answer old.past)
     run = subst (λ b. IsRun (opening_in old.lists) (history_after step b old.past)) (sym a) (run_more (opening_in old.lists) step old.past r)
@@ -113,13 +121,6 @@ step_begins old step answer r a = go answer run
     go VoteYes r = just_begun old.lists (record { step = step; answer = VoteYes }) old.past r
     go VoteNo r = just_begun old.lists (record { step = step; answer = VoteNo }) old.past r
     go (Done n) r = just_begun old.lists (record { step = step; answer = Done n }) old.past r
-
--- the same where memory may have run out
-pub result_begins : {E : Type 0} (old new : World) (step : Step) (result : Result Answer E) → IsRun (opening_in old.lists) old.past
-    → IfOk result (λ answer. answer ≡ answer_of (opening_in old.lists) step old.past) → IfOk result (λ answer. new ≡ world_after old step answer)
-    → IfOk result (λ answer. HaveBegun (names_begun answer) old new)
-result_begins old new step (Ok answer) r a w = subst (λ v. HaveBegun (names_begun answer) old v) (sym w) (step_begins old step answer r a)
-result_begins old new step (Err fault) r a w = tt
 
 -- a call and a nested `top` begin one action
 one_of : (o : Option Refusal) (a : Name) (names : List Name) → Began names ≡ refused_or o (Began (a ∷ [])) → length names ≡ 1
@@ -153,7 +154,7 @@ abort_ends old a b = go (is_begun a old.past) (is_ended a old.past) b refl
 -- ---- what a step commits
 
 -- a step that commits is answered `Done` or refused
-commit_answers : (opening : Opening) (step : Step) (past : List Event) (a : Name) → step_commits step a ≡ true
+pub commit_answers : (opening : Opening) (step : Step) (past : List Event) (a : Name) → step_commits step a ≡ true
     → ((answer_of opening step past) ≡ Done 0) ⊎ (is_accepted (answer_of opening step past) ≡ false)
 unfolding answer_of
 commit_answers opening step past a h = go (first_refusal (checks opening step past))

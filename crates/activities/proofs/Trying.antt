@@ -1,50 +1,25 @@
 -- Clients that are tried one after another: each runs to its end, or until a fault ends it.
-use Rattle.std.proofs.Common.{Err, IfOk, List, None, Ok, OnErr, Result, Some, [], ap, drop, get_or, inl, inr, length, refl, subst, sym, take, ℕ, ◌+◌, ◌<◌, ◌++◌, ◌∙◌, ◌∷◌, ◌≡◌}
+use Rattle.std.proofs.Common.{Err, IfOk, List, Ok, OnErr, Option, Result, [], ap, drop, get_or, inl, inr, length, refl, subst, sym, take, ℕ, ◌+◌, ◌<◌, ◌++◌, ◌∙◌, ◌∷◌, ◌≡◌}
 use Rattle.std.proofs.lemmas.List.{take-append-drop, take_more}
+use Rattle.std.specs.Result.{result_and}
 use Rattle.action_names.specs.Names.{Name}
-use Rattle.run_model.specs.Openings.{opening_in}
-use Rattle.run_model.specs.Runs.{IsRun, World}
+use Rattle.run_model.specs.Runs.{World}
 use Rattle.script_model.specs.declared.checked.Client.{Client}
-use Rattle.script_model.specs.declared.checked.Handler.{Handler}
 use Rattle.activities.specs.declared.client.ClientEnd.{ClientEnd}
-use Rattle.activities.specs.Continuing.{CommitsAmong, GoesOn}
-use Rattle.activities.specs.OwnSteps.{KeepsTo}
-use Rattle.activities.specs.Ends.{AreTried, ClientCut, ClientTried, TriedInTurn, named_by, top_of}
-use Rattle.activities.proofs.Clients.{TopMade, top_commits, top_goes, top_keeps}
-use Rattle.activities.proofs.Going.{commits_nowhere, goes_nowhere, goes_through}
-use Rattle.activities.specs.Serial.{client_ran}
-use Rattle.activities.proofs.OwnSteps.{keeps_nowhere, keeps_through}
-use Rattle.activities.proofs.Runs.{client_was_run}
+use Rattle.activities.specs.Ends.{AreTried, ClientCut, ClientMade, ClientTried, IsTopAt, IsTopOrNothing, TriedInTurn, named_by, top_of}
+use Rattle.activities.specs.Making.{ClientMakes, ClientsMake}
+use Rattle.activities.proofs.ClientSteps.{client_makes, clients_nowhere, clients_through}
 
--- ---- a client that a fault ended
-
--- before its top action was begun
-pub cut_before : (home : ℕ) (old : World) → IsRun (opening_in old.lists) old.past → ClientCut home old old
-cut_before home old r = record { top = None; began = refl; goes_on = goes_nowhere old r; own = keeps_nowhere [] old; commits = commits_nowhere old }
-
--- the same where the world that it left is known by another name
-pub cut_nowhere : (home : ℕ) (old new : World) → IsRun (opening_in old.lists) old.past → new ≡ old → ClientCut home old new
-cut_nowhere home old new r e = subst (λ w. ClientCut home old w) (sym e) (cut_before home old r)
-
--- after that
-pub cut_after : (home : ℕ) (old mid new : World) (a : Name) → TopMade home old mid (Some a) → GoesOn mid new [] → CommitsAmong (a ∷ []) mid new
-    → KeepsTo (a ∷ []) mid new → ClientCut home old new
-cut_after home old mid new a m g c k = record {
-  top = Some a;
-  began = m.top;
-  goes_on = top_goes home old mid new a m g;
-  own = top_keeps home old mid new a m k;
-  commits = top_commits home old mid new a m g c;
-}
+-- what a fault leaves of a client, of which more is known under a premise
+pub cut_of : (home : ℕ) (top : Option Name) (alone : Type 0) (old new : World) → ClientMakes home top old new
+    → (alone → IsTopOrNothing home old top)
+    → (top : Option Name) × ClientMakes home top old new × (alone → IsTopOrNothing home old top)
+cut_of home top alone old new m b = (top, m, b)
 
 -- what is so where an error came
 pub on_err : {X E : Type 0} {P : Type 0} (result : Result X E) → P → OnErr result P
 on_err (Ok x) p = tt
 on_err (Err e) p = p
-
--- nothing more is said of what came to an error
-pub if_err : {X E : Type 0} (result : Result X E) (fault : E) (P : X → Type 0) → result ≡ Err fault → IfOk result P
-if_err result fault P e = subst (λ r. IfOk r P) (sym e) tt
 
 -- ---- clients that were tried
 
@@ -58,35 +33,32 @@ tried_push (first ∷ clients) client old mid new t c =
 pub record TriedSoFar (clients : List Client) (i : ℕ) (old new : World) : Type 0 where
   pub in_turn : TriedInTurn (take i clients) old new
   pub tops : List Name
-  pub goes_on : GoesOn old new tops
-  pub own : KeepsTo [] old new
+  pub makes : ClientsMake tops old new
 
-pub none_tried : (clients : List Client) (w : World) → IsRun (opening_in w.lists) w.past → TriedSoFar clients 0 w w
-none_tried clients w r = record { in_turn = refl; tops = []; goes_on = goes_nowhere w r; own = keeps_nowhere [] w }
+pub none_tried : (clients : List Client) (w : World) → TriedSoFar clients 0 w w
+none_tried clients w = record { in_turn = refl; tops = []; makes = clients_nowhere w }
 
 -- one client more
-one_more_tried : (clients : List Client) (i : ℕ) (client : Client) (old mid new : World) (tops : List Name) → i < length clients
-    → client ≡ get_or clients i client → TriedSoFar clients i old mid → ClientTried client.home mid new → GoesOn mid new tops
-    → KeepsTo [] mid new → TriedSoFar clients (i + 1) old new
-one_more_tried clients i client old mid new tops l g t c h k = record {
+one_more_tried : (clients : List Client) (i : ℕ) (client : Client) (old mid new : World) (top : Option Name) → i < length clients
+    → client ≡ get_or clients i client → TriedSoFar clients i old mid → ClientTried client.home mid new → ClientMakes client.home top mid new
+    → TriedSoFar clients (i + 1) old new
+one_more_tried clients i client old mid new top l g t c m = record {
   in_turn =
       subst (λ x. TriedInTurn x old new) (ap (λ x. take i clients ++ (x ∷ [])) g ∙ sym (take_more clients i client l))
       (tried_push (take i clients) client old mid new t.in_turn c);
-  tops = t.tops ++ tops;
-  goes_on = goes_through old mid new t.tops tops t.goes_on h;
-  own = keeps_through [] old mid new t.own k;
+  tops = t.tops ++ named_by top;
+  makes = clients_through old mid new t.tops (named_by top) t.makes (client_makes client.home top mid new m);
 }
 
-pub ran_is_tried : (handlers : List Handler) (clients : List Client) (i : ℕ) (client : Client) (old mid new : World) (end : ClientEnd) → i < length clients
-    → client ≡ get_or clients i client → TriedSoFar clients i old mid → (new, end) ≡ client_ran handlers client mid → TriedSoFar clients (i + 1) old new
-ran_is_tried handlers clients i client old mid new end l g t e =
-    let c = client_was_run handlers client mid new end t.goes_on.is_run e in
-    one_more_tried clients i client old mid new (named_by (top_of end)) l g t (inl (end, c)) c.goes_on c.own
+pub ran_is_tried : (clients : List Client) (i : ℕ) (client : Client) (old mid new : World) (end : ClientEnd) → i < length clients
+    → client ≡ get_or clients i client → TriedSoFar clients i old mid → ClientMade client.home end mid new → IsTopAt client.home mid (top_of end)
+    → TriedSoFar clients (i + 1) old new
+ran_is_tried clients i client old mid new end l g t m a =
+    one_more_tried clients i client old mid new (top_of end) l g t (inl (end, a, m)) m.makes
 
 pub cut_is_tried : (clients : List Client) (i : ℕ) (client : Client) (old mid new : World) → i < length clients
     → client ≡ get_or clients i client → TriedSoFar clients i old mid → ClientCut client.home mid new → TriedSoFar clients (i + 1) old new
-cut_is_tried clients i client old mid new l g t c =
-    one_more_tried clients i client old mid new (named_by c.top) l g t (inr c) c.goes_on c.own
+cut_is_tried clients i client old mid new l g t c = one_more_tried clients i client old mid new c.top l g t (inr c) c.makes
 
 -- where it stops there
 pub some_tried : (clients all : List Client) (i : ℕ) (old new : World) → clients ≡ all → TriedSoFar clients i old new → AreTried all old new
@@ -97,6 +69,10 @@ some_tried clients all i old new e t =
       parts = sym (take-append-drop i clients);
       in_turn = t.in_turn;
       tops = t.tops;
-      goes_on = t.goes_on;
-      own = t.own;
+      makes = t.makes;
     })
+
+-- once a fault came there is no success
+pub fault_kept : {E : Type 0} (P : Unit {0} → Type 0) (r first : Result (Unit {0}) E) (fault : E) → r ≡ result_and first (Err fault) → IfOk r P
+fault_kept P r (Ok u) fault e = subst (λ s. IfOk s P) (sym e) tt
+fault_kept P r (Err f) fault e = subst (λ s. IfOk s P) (sym e) tt

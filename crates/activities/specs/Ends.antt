@@ -8,7 +8,7 @@ use Rattle.run_model.specs.declared.history.Event.{Event}
 use Rattle.run_model.specs.declared.step.Step.TheVariants.{Top}
 use Rattle.run_model.specs.Actions.{is_committed}
 use Rattle.run_model.specs.Answers.{answer_of}
-use Rattle.run_model.specs.Runs.{World}
+use Rattle.run_model.specs.Runs.{IsRun, World}
 use Rattle.script_model.specs.declared.checked.Client.{Client}
 use Rattle.activities.specs.declared.client.ClientEnd.{ClientEnd}
 use Rattle.activities.specs.declared.client.ClientEnd.TheVariants.{Aborted, Committed}
@@ -17,8 +17,8 @@ use Rattle.activities.specs.declared.flow.Flow.TheVariants.{Ended, Returned}
 use Rattle.activities.specs.declared.open_action.Called.{Called}
 use Rattle.activities.specs.declared.open_action.Called.TheVariants.{Began}
 use Rattle.run_model.specs.Openings.{opening_in}
-use Rattle.activities.specs.Continuing.{CommitsNone, GoesOn, EndsAll}
-use Rattle.activities.specs.OwnSteps.{KeepsTo}
+use Rattle.activities.specs.Continuing.{EndsAll}
+use Rattle.activities.specs.Making.{ClientMakes, ClientsMake, Makes, with_top}
 
 -- the top action that an end names
 abbrev pub top_of : ClientEnd → Option Name
@@ -66,13 +66,12 @@ abbrev pub IsTopAt : ℕ → World → Option Name → Type 0
 IsTopAt home w None = (why : Refusal) × (answer_of (opening_in w.lists) (Top home) w.past ≡ answer.Refused why)
 IsTopAt home w (Some a) = answer_of (opening_in w.lists) (Top home) w.past ≡ answer.Began (a ∷ [])
 
--- a client of this home was run: its end names exactly the action that a `top` step began, and each step was of its own actions
+-- a client of this home was run: a `top` step began the action that its end names, and each step was of its own actions
 pub record ClientRan (home : ℕ) (old new : World) (end : ClientEnd) : Type 0 where
   pub began : IsTopAt home old (top_of end)
-  pub goes_on : GoesOn old new (named_by (top_of end))
+  pub makes : ClientMakes home (top_of end) old new
   pub is_end : IsEnd new.past end
   pub ended : EndsAll old new
-  pub own : KeepsTo [] old new
 
 -- clients were run one after another, each from where the one before it had ended
 abbrev pub RanInTurn : List Client → World → World → List ClientEnd → Type 0
@@ -84,27 +83,37 @@ RanInTurn (client ∷ clients) old new (end ∷ ends) =
 -- these clients were run: their ends name, in order, exactly the actions that `top` steps began, and each step was of their own actions
 pub record AreRun (clients : List Client) (old new : World) (ends : List ClientEnd) : Type 0 where
   pub in_turn : RanInTurn clients old new ends
-  pub goes_on : GoesOn old new (named ends)
+  pub is_run : IsRun (opening_in new.lists) new.past
+  pub makes : ClientsMake (named ends) old new
   pub told : AllByRecursion (IsEnd new.past) ends
   pub ended : EndsAll old new
-  pub own : KeepsTo [] old new
 
--- the `top` step at this guardian began the action; where none was begun nothing has happened
-abbrev pub IsTopOrNothing : ℕ → World → World → Option Name → Type 0
-IsTopOrNothing home old new None = new ≡ old
-IsTopOrNothing home old new (Some a) = IsTopAt home old (Some a)
+-- what a client's end says is so of what it made: its top action has committed, or nothing but what began under it
+abbrev pub EndTells : ℕ → ClientEnd → World → World → Type 0
+EndTells home (Committed a value) old new = IsTrue (is_committed a new.past)
+EndTells home (Aborted (Some a)) old new = Makes (a ∷ []) [] (with_top home a old) new
+EndTells home (Aborted None) old new = Unit {0}
 
--- a client of this home was begun, if at all, and then a fault ended it: each step was of its own actions, and nothing from before was committed
+-- a client of this home came to this end, by steps of its own actions
+pub record ClientMade (home : ℕ) (end : ClientEnd) (old new : World) : Type 0 where
+  pub makes : ClientMakes home (top_of end) old new
+  pub told : EndTells home end old new
+
+-- the `top` step at this guardian began the action, if one is named
+abbrev pub IsTopOrNothing : ℕ → World → Option Name → Type 0
+IsTopOrNothing home old None = Unit {0}
+IsTopOrNothing home old (Some a) = IsTopAt home old (Some a)
+
+-- a client of this home was begun, if at all, and then a fault ended it: each step was of its own actions
 pub record ClientCut (home : ℕ) (old new : World) : Type 0 where
   pub top : Option Name
-  pub began : IsTopOrNothing home old new top
-  pub goes_on : GoesOn old new (named_by top)
-  pub own : KeepsTo [] old new
-  pub commits : CommitsNone old new
+  pub began : IsTopOrNothing home old top
+  pub makes : ClientMakes home top old new
 
 -- a client of this home was run to its end, or until a fault ended it
 abbrev pub ClientTried : ℕ → World → World → Type 0
-ClientTried home old new = ((end : ClientEnd) × ClientRan home old new end) ⊎ ClientCut home old new
+ClientTried home old new =
+    ((end : ClientEnd) × IsTopAt home old (top_of end) × ClientMade home end old new) ⊎ ClientCut home old new
 
 -- clients were tried one after another, each from where the one before it had ended
 abbrev pub TriedInTurn : List Client → World → World → Type 0
@@ -118,5 +127,4 @@ pub record AreTried (clients : List Client) (old new : World) : Type 0 where
   pub parts : clients ≡ tried ++ rest
   pub in_turn : TriedInTurn tried old new
   pub tops : List Name
-  pub goes_on : GoesOn old new tops
-  pub own : KeepsTo [] old new
+  pub makes : ClientsMake tops old new

@@ -1,5 +1,6 @@
 pub mod Continuing
 pub mod OwnSteps
+pub mod Making
 pub mod Ends
 pub mod Bodies
 pub mod Reaching

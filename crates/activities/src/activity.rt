@@ -1,18 +1,16 @@
 ghost use Rattle.std.specs.Prelude.{◌≡◌, ◌+◌, ◌≤◌, [], ◌∷◌, false, length, reverse, slice_get, IsTrue, IfOk, None};
 ghost use Rattle.action_names.specs.Names.{Name, has_name};
 ghost use Rattle.script_model.specs.Resolved.{IsResolved, asked, binding_is_bound, frames_after};
-ghost use Rattle.run_model.specs.Runs.{IsRun};
 ghost use Rattle.activities.specs.Bodies.{AreArms, IsBody, IsCall, IsStatement, SignalsFollow, SignalsHold, WhereEnded, Within, sizes};
-ghost use Rattle.activities.specs.Continuing.{CommitsAmong, CommitsNone, GoesOn};
-ghost use Rattle.activities.specs.OwnSteps.{KeepsTo};
+ghost use Rattle.activities.specs.Making.{IsAlone, Makes, Tells};
 ghost use Rattle.activities.specs.Ends.{commits, has_committed};
 ghost use Rattle.activities.specs.Serial.{arms_run, budget, call_done, coenter_done, given_back, inner, nested_done, on_signal, repeated, run, statement_done};
 ghost use Rattle.activities.specs.Acting.{ComesSo, acting, doing, done};
 ghost use Rattle.frames.specs.Operating.{given};
 ghost use Rattle.activities.specs.declared.flow.Flow.TheVariants.{Aborted, Outwards};
 ghost use Rattle.activities.specs.declared.flow.Reach.TheVariants.{TopAction};
-ghost use Rattle.run_model.specs.Openings.{opening_in};
 
+use crate::activity_steps::ActivitySteps;
 use crate::arms::{arm_body, begin_arms};
 use crate::flow::{Flow, Reach};
 use crate::open_action::{Called, OpenAction, Reached};
@@ -23,7 +21,7 @@ use frames::Frames;
 use script_model::{Arm, Binding, Checked, HandlerCall, Statement};
 use sqlite_items::Items;
 use std::alloc::{AllocError, Global};
-use stepping::{Fault, MakesSteps};
+use stepping::Fault;
 use values::Value;
 
 /// How many statements and turns of `repeat` an activity may begin.
@@ -67,8 +65,8 @@ impl<'s> Activity<'s> {
     /// Runs a body as the action and ends the action. After an error the action has ended, or its abort
     /// failed too.
     #[cycle(activity)]
-    #[tactic(auto, using(crate::proofs::Ways::steps))]
-    pub(crate) fn run<W: MakesSteps>(
+    #[tactic(auto, using(crate::proofs::Making::steps))]
+    pub(crate) fn run<W: ActivitySteps>(
         &mut self,
         world: &mut W,
         action: &mut OpenAction,
@@ -77,15 +75,13 @@ impl<'s> Activity<'s> {
     ) -> Result<Flow, Fault>
         requires script { IsResolved self.old.script.now }
         requires body { IsBody self.old.script.now (sizes frames.old) body.now }
-        requires run { IsRun (opening_in (W.run world.old).lists) (W.run world.old).past }
-        ensures goes_on { GoesOn (W.run world.old) (W.run world.new) [] }
-        ensures own { KeepsTo (action.old.name ∷ []) (W.run world.old) (W.run world.new) }
-        ensures others { CommitsAmong (action.old.name ∷ []) (W.run world.old) (W.run world.new) }
+        ensures makes { Makes (action.old.name ∷ []) (action.old.name ∷ []) (W.run world.old) (W.run world.new) }
+        ensures told { IfOk result (λ flow. Tells (commits flow) action.old.name (W.run world.old) (W.run world.new)) }
         ensures left { self.new.left ≤ self.old.left }
         ensures script { self.new.script.now ≡ self.old.script.now }
         ensures name { action.new.name ≡ action.old.name }
         ensures home { action.new.home ≡ action.old.home }
-        ensures means { IfOk result (λ flow. ComesSo self.old.script.now self.old.left
+        ensures means { IfOk result (λ flow. IsAlone W.may_be W.run → ComesSo self.old.script.now self.old.left
             (done (W.run world.new) self.new.left action.new frames.new flow)
             (λ go. run go (acting action.old) frames.old body.now
             (doing (W.run world.old) self.old.left action.old frames.old))) }
@@ -100,8 +96,8 @@ impl<'s> Activity<'s> {
     }
 
     #[cycle(activity)]
-    #[tactic(auto, using(crate::proofs::Ways::turns))]
-    fn body<W: MakesSteps>(
+    #[tactic(auto, using(crate::proofs::Making::turns))]
+    fn body<W: ActivitySteps>(
         &mut self,
         world: &mut W,
         action: &mut OpenAction,
@@ -110,16 +106,13 @@ impl<'s> Activity<'s> {
     ) -> Result<Flow, Fault>
         requires script { IsResolved self.old.script.now }
         requires body { IsBody self.old.script.now (sizes frames.old) body.now }
-        requires run { IsRun (opening_in (W.run world.old).lists) (W.run world.old).past }
-        ensures goes_on { GoesOn (W.run world.old) (W.run world.new) [] }
-        ensures own { KeepsTo (action.old.name ∷ []) (W.run world.old) (W.run world.new) }
-        ensures commits { CommitsNone (W.run world.old) (W.run world.new) }
+        ensures makes { Makes (action.old.name ∷ []) [] (W.run world.old) (W.run world.new) }
         ensures frames { IfOk result (λ flow. WhereEnded flow (Within (sizes frames.old) (sizes frames.new))) }
         ensures left { self.new.left ≤ self.old.left }
         ensures script { self.new.script.now ≡ self.old.script.now }
         ensures name { action.new.name ≡ action.old.name }
         ensures home { action.new.home ≡ action.old.home }
-        ensures means { IfOk result (λ flow. ComesSo self.old.script.now self.old.left
+        ensures means { IfOk result (λ flow. IsAlone W.may_be W.run → ComesSo self.old.script.now self.old.left
             (done (W.run world.new) self.new.left action.new frames.new flow)
             (λ go. go body.now (doing (W.run world.old) self.old.left action.old frames.old))) }
     {
@@ -137,8 +130,8 @@ impl<'s> Activity<'s> {
 
     /// A body within another: what it binds newly is forgotten at its end.
     #[cycle(activity)]
-    #[tactic(auto, using(crate::proofs::Ways::steps, crate::proofs::Following::cut_where_ended))]
-    fn inner<W: MakesSteps>(
+    #[tactic(auto, using(crate::proofs::Making::steps, crate::proofs::Following::cut_where_ended))]
+    fn inner<W: ActivitySteps>(
         &mut self,
         world: &mut W,
         action: &mut OpenAction,
@@ -147,16 +140,13 @@ impl<'s> Activity<'s> {
     ) -> Result<Flow, Fault>
         requires script { IsResolved self.old.script.now }
         requires body { IsBody self.old.script.now (sizes frames.old) body.now }
-        requires run { IsRun (opening_in (W.run world.old).lists) (W.run world.old).past }
-        ensures goes_on { GoesOn (W.run world.old) (W.run world.new) [] }
-        ensures own { KeepsTo (action.old.name ∷ []) (W.run world.old) (W.run world.new) }
-        ensures commits { CommitsNone (W.run world.old) (W.run world.new) }
+        ensures makes { Makes (action.old.name ∷ []) [] (W.run world.old) (W.run world.new) }
         ensures frames { IfOk result (λ flow. WhereEnded flow (sizes frames.new ≡ sizes frames.old)) }
         ensures left { self.new.left ≤ self.old.left }
         ensures script { self.new.script.now ≡ self.old.script.now }
         ensures name { action.new.name ≡ action.old.name }
         ensures home { action.new.home ≡ action.old.home }
-        ensures means { IfOk result (λ flow. ComesSo self.old.script.now self.old.left
+        ensures means { IfOk result (λ flow. IsAlone W.may_be W.run → ComesSo self.old.script.now self.old.left
             (done (W.run world.new) self.new.left action.new frames.new flow)
             (λ go. inner go body.now
             (doing (W.run world.old) self.old.left action.old frames.old))) }
@@ -168,8 +158,8 @@ impl<'s> Activity<'s> {
     }
 
     #[cycle(activity)]
-    #[tactic(auto, using(crate::proofs::Ways::steps, crate::proofs::Resolving::statements))]
-    fn statement<W: MakesSteps>(
+    #[tactic(auto, using(crate::proofs::Making::steps, crate::proofs::Resolving::statements))]
+    fn statement<W: ActivitySteps>(
         &mut self,
         world: &mut W,
         action: &mut OpenAction,
@@ -178,16 +168,13 @@ impl<'s> Activity<'s> {
     ) -> Result<Flow, Fault>
         requires script { IsResolved self.old.script.now }
         requires statement { IsStatement self.old.script.now (sizes frames.old) statement.now }
-        requires run { IsRun (opening_in (W.run world.old).lists) (W.run world.old).past }
-        ensures goes_on { GoesOn (W.run world.old) (W.run world.new) [] }
-        ensures own { KeepsTo (action.old.name ∷ []) (W.run world.old) (W.run world.new) }
-        ensures commits { CommitsNone (W.run world.old) (W.run world.new) }
+        ensures makes { Makes (action.old.name ∷ []) [] (W.run world.old) (W.run world.new) }
         ensures frames { IfOk result (λ flow. WhereEnded flow (sizes frames.new ≡ (asked statement.now).after (sizes frames.old))) }
         ensures left { self.new.left ≤ self.old.left }
         ensures script { self.new.script.now ≡ self.old.script.now }
         ensures name { action.new.name ≡ action.old.name }
         ensures home { action.new.home ≡ action.old.home }
-        ensures means { IfOk result (λ flow. ComesSo self.old.script.now self.old.left
+        ensures means { IfOk result (λ flow. IsAlone W.may_be W.run → ComesSo self.old.script.now self.old.left
             (done (W.run world.new) self.new.left action.new frames.new flow)
             (λ go. statement_done self.old.script.now.handlers go statement.now
             (doing (W.run world.old) self.old.left action.old frames.old))) }
@@ -223,8 +210,8 @@ impl<'s> Activity<'s> {
 
     /// What a statement does where it signals: its body for that, without which the innermost action aborts.
     #[cycle(activity)]
-    #[tactic(auto, using(crate::proofs::Ways::turns))]
-    fn run_signals<W: MakesSteps>(
+    #[tactic(auto, using(crate::proofs::Making::turns))]
+    fn run_signals<W: ActivitySteps>(
         &mut self,
         world: &mut W,
         action: &mut OpenAction,
@@ -233,17 +220,14 @@ impl<'s> Activity<'s> {
     ) -> Result<Flow, Fault>
         requires script { IsResolved self.old.script.now }
         requires signals { SignalsHold self.old.script.now (sizes frames.old) signals.now }
-        requires run { IsRun (opening_in (W.run world.old).lists) (W.run world.old).past }
-        ensures goes_on { GoesOn (W.run world.old) (W.run world.new) [] }
-        ensures own { KeepsTo (action.old.name ∷ []) (W.run world.old) (W.run world.new) }
-        ensures commits { CommitsNone (W.run world.old) (W.run world.new) }
+        ensures makes { Makes (action.old.name ∷ []) [] (W.run world.old) (W.run world.new) }
         ensures frames { IfOk result (λ flow. WhereEnded flow (sizes frames.new ≡ sizes frames.old)) }
         ensures unheard { signals.now ≡ None → IfOk result (λ flow. flow ≡ Aborted) }
         ensures left { self.new.left ≤ self.old.left }
         ensures script { self.new.script.now ≡ self.old.script.now }
         ensures name { action.new.name ≡ action.old.name }
         ensures home { action.new.home ≡ action.old.home }
-        ensures means { IfOk result (λ flow. ComesSo self.old.script.now self.old.left
+        ensures means { IfOk result (λ flow. IsAlone W.may_be W.run → ComesSo self.old.script.now self.old.left
             (done (W.run world.new) self.new.left action.new frames.new flow)
             (λ go. on_signal go signals.now
             (doing (W.run world.old) self.old.left action.old frames.old))) }
@@ -255,8 +239,8 @@ impl<'s> Activity<'s> {
     }
 
     #[cycle(activity)]
-    #[tactic(auto, using(crate::proofs::Ways::turns))]
-    fn repeat<W: MakesSteps>(
+    #[tactic(auto, using(crate::proofs::Making::turns))]
+    fn repeat<W: ActivitySteps>(
         &mut self,
         world: &mut W,
         action: &mut OpenAction,
@@ -266,16 +250,13 @@ impl<'s> Activity<'s> {
     ) -> Result<Flow, Fault>
         requires script { IsResolved self.old.script.now }
         requires body { IsBody self.old.script.now (sizes frames.old) body.now }
-        requires run { IsRun (opening_in (W.run world.old).lists) (W.run world.old).past }
-        ensures goes_on { GoesOn (W.run world.old) (W.run world.new) [] }
-        ensures own { KeepsTo (action.old.name ∷ []) (W.run world.old) (W.run world.new) }
-        ensures commits { CommitsNone (W.run world.old) (W.run world.new) }
+        ensures makes { Makes (action.old.name ∷ []) [] (W.run world.old) (W.run world.new) }
         ensures frames { IfOk result (λ flow. WhereEnded flow (sizes frames.new ≡ sizes frames.old)) }
         ensures left { self.new.left ≤ self.old.left }
         ensures script { self.new.script.now ≡ self.old.script.now }
         ensures name { action.new.name ≡ action.old.name }
         ensures home { action.new.home ≡ action.old.home }
-        ensures means { IfOk result (λ flow. ComesSo self.old.script.now self.old.left
+        ensures means { IfOk result (λ flow. IsAlone W.may_be W.run → ComesSo self.old.script.now self.old.left
             (done (W.run world.new) self.new.left action.new frames.new flow)
             (λ go. repeated go turns body.now
             (doing (W.run world.old) self.old.left action.old frames.old))) }
@@ -294,8 +275,8 @@ impl<'s> Activity<'s> {
 
     /// A handler call: the handler's body as a subaction at its guardian.
     #[cycle(activity)]
-    #[tactic(auto, using(crate::proofs::Ways::children))]
-    fn call<W: MakesSteps>(
+    #[tactic(auto, using(crate::proofs::Making::children))]
+    fn call<W: ActivitySteps>(
         &mut self,
         world: &mut W,
         action: &mut OpenAction,
@@ -306,16 +287,13 @@ impl<'s> Activity<'s> {
         requires script { IsResolved self.old.script.now }
         requires call { IsCall self.old.script.now (sizes frames.old) call.now }
         requires signals { SignalsFollow self.old.script.now (sizes frames.old) call.now.binding signals.now }
-        requires run { IsRun (opening_in (W.run world.old).lists) (W.run world.old).past }
-        ensures goes_on { GoesOn (W.run world.old) (W.run world.new) [] }
-        ensures own { KeepsTo (action.old.name ∷ []) (W.run world.old) (W.run world.new) }
-        ensures commits { CommitsNone (W.run world.old) (W.run world.new) }
+        ensures makes { Makes (action.old.name ∷ []) [] (W.run world.old) (W.run world.new) }
         ensures frames { IfOk result (λ flow. WhereEnded flow (sizes frames.new ≡ frames_after (sizes frames.old) call.now.binding)) }
         ensures left { self.new.left ≤ self.old.left }
         ensures script { self.new.script.now ≡ self.old.script.now }
         ensures name { action.new.name ≡ action.old.name }
         ensures home { action.new.home ≡ action.old.home }
-        ensures means { IfOk result (λ flow. ComesSo self.old.script.now self.old.left
+        ensures means { IfOk result (λ flow. IsAlone W.may_be W.run → ComesSo self.old.script.now self.old.left
             (done (W.run world.new) self.new.left action.new frames.new flow)
             (λ go. call_done go (slice_get self.old.script.now.handlers call.now.handler) call.now signals.now
             (given frames.old call.now)
@@ -347,8 +325,8 @@ impl<'s> Activity<'s> {
 
     /// A nested top action, over a copy of the variables; where it aborts, the statement's body for that runs.
     #[cycle(activity)]
-    #[tactic(auto, using(crate::proofs::Ways::children))]
-    fn top_action<W: MakesSteps>(
+    #[tactic(auto, using(crate::proofs::Making::children))]
+    fn top_action<W: ActivitySteps>(
         &mut self,
         world: &mut W,
         action: &mut OpenAction,
@@ -359,16 +337,13 @@ impl<'s> Activity<'s> {
         requires script { IsResolved self.old.script.now }
         requires body { IsBody self.old.script.now (sizes frames.old) body.now }
         requires signals { IsBody self.old.script.now (sizes frames.old) signals.now }
-        requires run { IsRun (opening_in (W.run world.old).lists) (W.run world.old).past }
-        ensures goes_on { GoesOn (W.run world.old) (W.run world.new) [] }
-        ensures own { KeepsTo (action.old.name ∷ []) (W.run world.old) (W.run world.new) }
-        ensures commits { CommitsNone (W.run world.old) (W.run world.new) }
+        ensures makes { Makes (action.old.name ∷ []) [] (W.run world.old) (W.run world.new) }
         ensures frames { IfOk result (λ flow. WhereEnded flow (sizes frames.new ≡ sizes frames.old)) }
         ensures left { self.new.left ≤ self.old.left }
         ensures script { self.new.script.now ≡ self.old.script.now }
         ensures name { action.new.name ≡ action.old.name }
         ensures home { action.new.home ≡ action.old.home }
-        ensures means { IfOk result (λ flow. ComesSo self.old.script.now self.old.left
+        ensures means { IfOk result (λ flow. IsAlone W.may_be W.run → ComesSo self.old.script.now self.old.left
             (done (W.run world.new) self.new.left action.new frames.new flow)
             (λ go. nested_done go body.now signals.now
             (doing (W.run world.old) self.old.left action.old frames.old))) }
@@ -387,8 +362,8 @@ impl<'s> Activity<'s> {
 
     /// Arms are begun together; where one returns or is left, those that have not run are aborted.
     #[cycle(activity)]
-    #[tactic(auto, using(crate::proofs::Ways::together))]
-    fn coenter<W: MakesSteps>(
+    #[tactic(auto, using(crate::proofs::Making::together))]
+    fn coenter<W: ActivitySteps>(
         &mut self,
         world: &mut W,
         action: &mut OpenAction,
@@ -397,16 +372,13 @@ impl<'s> Activity<'s> {
     ) -> Result<Flow, Fault>
         requires script { IsResolved self.old.script.now }
         requires arms { AreArms self.old.script.now (sizes frames.old) arms.now }
-        requires run { IsRun (opening_in (W.run world.old).lists) (W.run world.old).past }
-        ensures goes_on { GoesOn (W.run world.old) (W.run world.new) [] }
-        ensures own { KeepsTo (action.old.name ∷ []) (W.run world.old) (W.run world.new) }
-        ensures commits { CommitsNone (W.run world.old) (W.run world.new) }
+        ensures makes { Makes (action.old.name ∷ []) [] (W.run world.old) (W.run world.new) }
         ensures frames { IfOk result (λ flow. WhereEnded flow (sizes frames.new ≡ sizes frames.old)) }
         ensures left { self.new.left ≤ self.old.left }
         ensures script { self.new.script.now ≡ self.old.script.now }
         ensures name { action.new.name ≡ action.old.name }
         ensures home { action.new.home ≡ action.old.home }
-        ensures means { IfOk result (λ flow. ComesSo self.old.script.now self.old.left
+        ensures means { IfOk result (λ flow. IsAlone W.may_be W.run → ComesSo self.old.script.now self.old.left
             (done (W.run world.new) self.new.left action.new frames.new flow)
             (λ go. coenter_done go arms.now
             (doing (W.run world.old) self.old.left action.old frames.old))) }
@@ -424,8 +396,8 @@ impl<'s> Activity<'s> {
     /// Runs the arms in order, to the first that returns or is left. Each is over a copy of the variables. Of the names that are waiting
     /// the last is that of the next arm.
     #[cycle(activity)]
-    #[tactic(auto, using(crate::proofs::Ways::arms))]
-    fn run_arms<W: MakesSteps>(
+    #[tactic(auto, using(crate::proofs::Making::turns))]
+    fn run_arms<W: ActivitySteps>(
         &mut self,
         world: &mut W,
         action: &mut OpenAction,
@@ -436,17 +408,14 @@ impl<'s> Activity<'s> {
         requires script { IsResolved self.old.script.now }
         requires arms { AreArms self.old.script.now (sizes frames.old) arms.now }
         requires each { length waiting.old.items ≡ length arms.now }
-        requires run { IsRun (opening_in (W.run world.old).lists) (W.run world.old).past }
-        ensures goes_on { GoesOn (W.run world.old) (W.run world.new) [] }
-        ensures own { KeepsTo waiting.old.items (W.run world.old) (W.run world.new) }
-        ensures others { CommitsAmong waiting.old.items (W.run world.old) (W.run world.new) }
+        ensures makes { Makes waiting.old.items waiting.old.items (W.run world.old) (W.run world.new) }
         ensures rest { (a : Name) → IsTrue (has_name waiting.new.items a) → IsTrue (has_name waiting.old.items a) }
         ensures frames { sizes frames.new ≡ sizes frames.old }
         ensures left { self.new.left ≤ self.old.left }
         ensures script { self.new.script.now ≡ self.old.script.now }
         ensures name { action.new.name ≡ action.old.name }
         ensures home { action.new.home ≡ action.old.home }
-        ensures means { IfOk result (λ flow. ComesSo self.old.script.now self.old.left
+        ensures means { IfOk result (λ flow. IsAlone W.may_be W.run → ComesSo self.old.script.now self.old.left
             (done (W.run world.new) self.new.left action.new frames.new flow, reverse waiting.new.items)
             (λ go. arms_run go arms.now (reverse waiting.old.items)
             (doing (W.run world.old) self.old.left action.old frames.old))) }

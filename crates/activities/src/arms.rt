@@ -1,36 +1,31 @@
-ghost use Rattle.std.specs.Prelude.{◌≡◌, [], ◌∷◌, length, option_map, reverse, IfOk, IfSome, None};
+ghost use Rattle.std.specs.Prelude.{◌≡◌, [], ◌∷◌, length, option_map, reverse, IfOk, IfSome, OnOk};
 ghost use Rattle.run_model.specs.declared.step.Step.TheVariants.{Arms};
-ghost use Rattle.run_model.specs.Runs.{IsRun};
 ghost use Rattle.activities.specs.Bodies.{body_of, kind_of, kinds};
-ghost use Rattle.activities.specs.Continuing.{CommitsNone, GoesOn, HaveBegun, IsAfter};
-ghost use Rattle.activities.specs.OwnSteps.{KeepsTo};
-ghost use Rattle.activities.specs.Serial.{asked, waiting_by};
-ghost use Rattle.run_model.specs.Openings.{opening_in};
+ghost use Rattle.activities.specs.Making.{Begins, IsAlone, Makes};
+ghost use Rattle.activities.specs.Serial.{after, asked, waiting_by};
 
+use crate::activity_steps::ActivitySteps;
 use crate::open_action::{OpenAction, make};
 use action_names::Name;
 use run_model::{Answer, ArmKind, ArmKinds, Step};
 use script_model::{Arm, Statement};
 use std::alloc::{AllocError, Global};
-use stepping::{Fault, MakesSteps};
+use stepping::Fault;
 
 /// Begins the arms together, and gives their names, that of the first arm last; none where that is refused.
-pub(crate) fn begin_arms<W: MakesSteps>(
+pub(crate) fn begin_arms<W: ActivitySteps>(
     alloc: Global,
     world: &mut W,
     action: &OpenAction,
     arms: &[Arm],
 ) -> Result<Option<Vec<Name>>, Fault>
-    requires { IsRun (opening_in (W.run world.old).lists) (W.run world.old).past }
-    ensures goes_on { GoesOn (W.run world.old) (W.run world.new) [] }
-    ensures own { KeepsTo (action.now.name ∷ []) (W.run world.old) (W.run world.new) }
-    ensures commits { CommitsNone (W.run world.old) (W.run world.new) }
-    ensures together { IfOk result (λ found.
-        IsAfter (Arms action.now.name (kinds arms.now)) (W.run world.old) (W.run world.new)) }
+    ensures makes { Makes (action.now.name ∷ []) [] (W.run world.old) (W.run world.new) }
+    ensures together { OnOk result (IsAlone W.may_be W.run
+        → W.run world.new ≡ after (Arms action.now.name (kinds arms.now)) (W.run world.old)) }
     ensures each { IfOk result (λ found. IfSome found (λ names. length names.items ≡ length arms.now)) }
     ensures began { IfOk result (λ found. IfSome found
-        (λ names. HaveBegun names.items (W.run world.old) (W.run world.new))) }
-    ensures waiting { IfOk result (λ found. option_map (λ names. reverse names.items) found
+        (λ names. Begins (action.now.name ∷ []) [] names.items (W.run world.old) (W.run world.new))) }
+    ensures waiting { IfOk result (λ found. IsAlone W.may_be W.run → option_map (λ names. reverse names.items) found
         ≡ waiting_by (asked (Arms action.now.name (kinds arms.now)) (W.run world.old))) }
 {
     let kinds = arm_kinds(alloc, arms)?;

@@ -1,4 +1,4 @@
-ghost use Rattle.activities.specs.OwnSteps.{EarlierIsLeftAlone};
+ghost use Rattle.activities.specs.Making.{EarlierIsLeftAlone};
 ghost use Rattle.activities.specs.Runs.{SerialRunsAreRun};
 
 /// Of the actions that were begun before clients ran, none has been committed, aborted or closed since, and no guardian went down or came

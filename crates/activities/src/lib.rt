@@ -5,6 +5,7 @@
 #![tactic(auto)]
 
 mod activity;
+mod activity_steps;
 mod arms;
 mod client;
 mod flow;
@@ -13,6 +14,7 @@ mod open_action;
 mod operations;
 mod serial;
 
+pub use activity_steps::ActivitySteps;
 pub use client::ClientEnd;
 pub use laws::{earlier_is_left_alone, serial_runs_are_run};
 pub use script_model::Checked;

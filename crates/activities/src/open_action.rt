@@ -1,27 +1,28 @@
-ghost use Rattle.std.specs.Prelude.{◌≡◌, [], ◌∷◌, List, false, length, reverse, IfOk, None, OnOk, OnErr};
+ghost use Rattle.std.specs.Prelude.{◌≡◌, [], ◌∷◌, List, IsTrue, length, reverse, IfOk, OnOk, OnErr};
 ghost use Rattle.action_names.specs.Names.{Name, is_top};
 ghost use Rattle.run_model.specs.declared.answer.Answer.TheVariants.{Began};
 ghost use Rattle.run_model.specs.declared.step.Step.TheVariants.{Abort, Call, NestedTop, Prepare, Tell};
-ghost use Rattle.run_model.specs.Actions.{maker_in, names_begun};
-ghost use Rattle.run_model.specs.Answers.{answer_of};
-ghost use Rattle.run_model.specs.Runs.{IsRun, world_after};
+ghost use Rattle.run_model.specs.Actions.{names_begun};
+ghost use Rattle.run_model.specs.Runs.{world_after};
 ghost use Rattle.run_model.specs.Votes.{is_yes};
-ghost use Rattle.activities.specs.Continuing.{GoesOn, CommitsAmong, CommitsBy, CommitsNone, EndsAll, HaveBegun, IsAfter};
-ghost use Rattle.activities.specs.OwnSteps.{IsOfAction, KeepsTo, about};
+ghost use Rattle.activities.specs.Making.{Begins, IsAlone, IsAnswered, Makes, Tells, commits_of};
+ghost use Rattle.activities.specs.OwnSteps.{IsOfAction, about};
 ghost use Rattle.activities.specs.Reaching.{is_made};
 ghost use Rattle.activities.specs.Ends.{called, commits, named_by};
 ghost use Rattle.activities.specs.Performing.{op_step};
-ghost use Rattle.activities.specs.Serial.{aborted, after, arms_aborted, asked, begun_by, called_by, commit_tried, committed, end_tried, ended, joined, or_aborted, outwards, taken_in, once_told, two_phases};
+ghost use Rattle.activities.specs.Serial.{aborted, after, arms_aborted, asked, begun_by, called_by, commit_tried};
+ghost use Rattle.activities.specs.Serial.{committed, end_tried, ended, joined, once_told, or_aborted, outwards};
+ghost use Rattle.activities.specs.Serial.{taken_in, two_phases};
 ghost use Rattle.activities.specs.Acting.{acting};
-ghost use Rattle.run_model.specs.Openings.{opening_in};
 
+use crate::activity_steps::ActivitySteps;
 use crate::flow::{Flow, Reach};
 use action_names::{Name, Names};
 use atomic_types::Op;
 use run_model::{Answer, ObjectId, Refusal, Step};
 use std::alloc::{AllocError, Global};
 use std::collections::BTreeSet;
-use stepping::{Fault, MakesSteps};
+use stepping::Fault;
 
 /// Guardians that an action has to do with, in rising number.
 #[derive(Drop)]
@@ -80,61 +81,51 @@ impl OpenAction {
     }
 
     /// Begins a subaction of it at a guardian.
-    pub(crate) fn begin_call<W: MakesSteps>(
+    pub(crate) fn begin_call<W: ActivitySteps>(
         &self,
         world: &mut W,
         guardian: u32,
     ) -> Result<Called, Fault>
-        requires { IsRun (opening_in (W.run world.old).lists) (W.run world.old).past }
-        ensures goes_on { GoesOn (W.run world.old) (W.run world.new) [] }
-        ensures own { KeepsTo (self.now.name ∷ []) (W.run world.old) (W.run world.new) }
-        ensures commits { CommitsNone (W.run world.old) (W.run world.new) }
-        ensures began { IfOk result (λ c. HaveBegun (called c)
-            (W.run world.old) (W.run world.new)) }
-        ensures made { OnOk result (W.run world.new
-            ≡ after (Call self.now.name guardian) (W.run world.old)) }
-        ensures called { IfOk result (λ c. c
-            ≡ called_by (asked (Call self.now.name guardian) (W.run world.old))) }
+        ensures makes { Makes (self.now.name ∷ []) [] (W.run world.old) (W.run world.new) }
+        ensures began { IfOk result (λ c. Begins (self.now.name ∷ []) [] (called c) (W.run world.old) (W.run world.new)) }
+        ensures made { OnOk result (IsAlone W.may_be W.run
+            → W.run world.new ≡ after (Call self.now.name guardian) (W.run world.old)) }
+        ensures called { IfOk result (λ c. IsAlone W.may_be W.run
+            → c ≡ called_by (asked (Call self.now.name guardian) (W.run world.old))) }
     {
         let answer = make(world, Step::Call(self.name.copy()?, guardian))?;
         Ok(what_came(answer))
     }
 
     /// Begins a nested top action that it starts; none where that is refused.
-    pub(crate) fn begin_nested<W: MakesSteps>(&self, world: &mut W) -> Result<Option<Name>, Fault>
-        requires { IsRun (opening_in (W.run world.old).lists) (W.run world.old).past }
-        ensures goes_on { GoesOn (W.run world.old) (W.run world.new) [] }
-        ensures own { KeepsTo (self.now.name ∷ []) (W.run world.old) (W.run world.new) }
-        ensures commits { CommitsNone (W.run world.old) (W.run world.new) }
-        ensures began { IfOk result (λ found. HaveBegun (named_by found)
-            (W.run world.old) (W.run world.new)) }
-        ensures made { OnOk result (W.run world.new
-            ≡ after (NestedTop self.now.name) (W.run world.old)) }
-        ensures begun { IfOk result (λ found. found
-            ≡ begun_by (asked (NestedTop self.now.name) (W.run world.old))) }
+    pub(crate) fn begin_nested<W: ActivitySteps>(
+        &self,
+        world: &mut W,
+    ) -> Result<Option<Name>, Fault>
+        ensures makes { Makes (self.now.name ∷ []) [] (W.run world.old) (W.run world.new) }
+        ensures began { IfOk result (λ found. Begins (self.now.name ∷ []) [] (named_by found) (W.run world.old)
+            (W.run world.new)) }
+        ensures made { OnOk result (IsAlone W.may_be W.run
+            → W.run world.new ≡ after (NestedTop self.now.name) (W.run world.old)) }
+        ensures begun { IfOk result (λ found. IsAlone W.may_be W.run
+            → found ≡ begun_by (asked (NestedTop self.now.name) (W.run world.old))) }
     {
         let answer = make(world, Step::NestedTop(self.name.copy()?))?;
         Ok(begun_by(answer))
     }
 
     /// Makes an operation on an object of its home. After an error the world is as it was.
-    #[tactic(auto, using(crate::proofs::Performing::after_made, crate::proofs::Performing::answer_made))]
-    pub(crate) fn perform<W: MakesSteps>(
+    pub(crate) fn perform<W: ActivitySteps>(
         &self,
         world: &mut W,
         object: u32,
         operation: Op,
     ) -> Result<Answer, Fault>
-        requires { IsRun (opening_in (W.run world.old).lists) (W.run world.old).past }
-        ensures goes_on { GoesOn (W.run world.old) (W.run world.new) [] }
-        ensures own { KeepsTo (self.now.name ∷ []) (W.run world.old) (W.run world.new) }
-        ensures commits { CommitsNone (W.run world.old) (W.run world.new) }
-        ensures ends { EndsAll (W.run world.old) (W.run world.new) }
-        ensures made { OnOk result (IsAfter
-            (op_step self.now.name self.now.home object operation) (W.run world.old) (W.run world.new)) }
-        ensures answer { IfOk result (λ answer. answer
-            ≡ answer_of (opening_in (W.run world.old).lists)
-            (op_step self.now.name self.now.home object operation) (W.run world.old).past) }
+        ensures makes { Makes (self.now.name ∷ []) [] (W.run world.old) (W.run world.new) }
+        ensures after { OnOk result (IsAlone W.may_be W.run
+            → W.run world.new ≡ after (op_step self.now.name self.now.home object operation) (W.run world.old)) }
+        ensures answer { IfOk result (λ answer. IsAlone W.may_be W.run
+            → answer ≡ asked (op_step self.now.name self.now.home object operation) (W.run world.old)) }
         ensures err { OnErr result (W.run world.new ≡ W.run world.old) }
     {
         let object = ObjectId {
@@ -159,13 +150,10 @@ impl OpenAction {
 
     /// Ends it as its body ended, and says how: where it cannot commit it aborts. After an error it has ended, or its abort
     /// failed too.
-    pub(crate) fn end<W: MakesSteps>(&self, world: &mut W, flow: Flow) -> Result<Flow, Fault>
-        requires { IsRun (opening_in (W.run world.old).lists) (W.run world.old).past }
-        ensures goes_on { GoesOn (W.run world.old) (W.run world.new) [] }
-        ensures own { KeepsTo (self.now.name ∷ []) (W.run world.old) (W.run world.new) }
-        ensures others { CommitsAmong (self.now.name ∷ []) (W.run world.old) (W.run world.new) }
-        ensures ends { EndsAll (W.run world.old) (W.run world.new) }
-        ensures means { IfOk result (λ end. record { world = W.run world.new; flow = end }
+    pub(crate) fn end<W: ActivitySteps>(&self, world: &mut W, flow: Flow) -> Result<Flow, Fault>
+        ensures makes { Makes (self.now.name ∷ []) (self.now.name ∷ []) (W.run world.old) (W.run world.new) }
+        ensures told { IfOk result (λ end. Tells (commits end) self.now.name (W.run world.old) (W.run world.new)) }
+        ensures means { IfOk result (λ end. IsAlone W.may_be W.run → record { world = W.run world.new; flow = end }
             ≡ ended (acting self.now) flow (W.run world.old)) }
     {
         match self.try_end(world, wants_commit(&flow)) {
@@ -179,13 +167,11 @@ impl OpenAction {
     }
 
     /// Commits it where that is wanted; where it cannot, and else, aborts it. Whether it has committed.
-    fn try_end<W: MakesSteps>(&self, world: &mut W, wanted: bool) -> Result<bool, Fault>
-        requires { IsRun (opening_in (W.run world.old).lists) (W.run world.old).past }
-        ensures goes_on { GoesOn (W.run world.old) (W.run world.new) [] }
-        ensures own { KeepsTo (self.now.name ∷ []) (W.run world.old) (W.run world.new) }
-        ensures others { CommitsAmong (self.now.name ∷ []) (W.run world.old) (W.run world.new) }
-        ensures ends { EndsAll (W.run world.old) (W.run world.new) }
-        ensures means { IfOk result (λ done. record { world = W.run world.new; done = done }
+    fn try_end<W: ActivitySteps>(&self, world: &mut W, wanted: bool) -> Result<bool, Fault>
+        ensures makes { Makes (self.now.name ∷ []) (self.now.name ∷ []) (W.run world.old) (W.run world.new) }
+        ensures told { IfOk result (λ done. Tells done self.now.name (W.run world.old) (W.run world.new)) }
+        ensures wanted { IfOk result (λ done. IsTrue done → IsTrue wanted) }
+        ensures means { IfOk result (λ done. IsAlone W.may_be W.run → record { world = W.run world.new; done = done }
             ≡ end_tried (acting self.now) wanted (W.run world.old)) }
     {
         if wanted {
@@ -196,13 +182,10 @@ impl OpenAction {
         }
     }
 
-    fn commit_or_abort<W: MakesSteps>(&self, world: &mut W) -> Result<bool, Fault>
-        requires { IsRun (opening_in (W.run world.old).lists) (W.run world.old).past }
-        ensures goes_on { GoesOn (W.run world.old) (W.run world.new) [] }
-        ensures own { KeepsTo (self.now.name ∷ []) (W.run world.old) (W.run world.new) }
-        ensures others { CommitsAmong (self.now.name ∷ []) (W.run world.old) (W.run world.new) }
-        ensures ends { EndsAll (W.run world.old) (W.run world.new) }
-        ensures means { IfOk result (λ done. record { world = W.run world.new; done = done }
+    fn commit_or_abort<W: ActivitySteps>(&self, world: &mut W) -> Result<bool, Fault>
+        ensures makes { Makes (self.now.name ∷ []) (self.now.name ∷ []) (W.run world.old) (W.run world.new) }
+        ensures told { IfOk result (λ done. Tells done self.now.name (W.run world.old) (W.run world.new)) }
+        ensures means { IfOk result (λ done. IsAlone W.may_be W.run → record { world = W.run world.new; done = done }
             ≡ or_aborted (acting self.now) (committed (acting self.now) (W.run world.old))) }
     {
         if self.commit(world)? {
@@ -227,13 +210,10 @@ impl OpenAction {
     }
 
     /// Commits it, and tells so; whether that succeeded.
-    fn commit<W: MakesSteps>(&self, world: &mut W) -> Result<bool, Fault>
-        requires { IsRun (opening_in (W.run world.old).lists) (W.run world.old).past }
-        ensures goes_on { GoesOn (W.run world.old) (W.run world.new) [] }
-        ensures own { KeepsTo (self.now.name ∷ []) (W.run world.old) (W.run world.new) }
-        ensures others { CommitsAmong (self.now.name ∷ []) (W.run world.old) (W.run world.new) }
-        ensures ends { EndsAll (W.run world.old) (W.run world.new) }
-        ensures means { IfOk result (λ done. record { world = W.run world.new; done = done }
+    fn commit<W: ActivitySteps>(&self, world: &mut W) -> Result<bool, Fault>
+        ensures makes { Makes (self.now.name ∷ []) (self.now.name ∷ []) (W.run world.old) (W.run world.new) }
+        ensures told { IfOk result (λ done. Tells done self.now.name (W.run world.old) (W.run world.new)) }
+        ensures means { IfOk result (λ done. IsAlone W.may_be W.run → record { world = W.run world.new; done = done }
             ≡ committed (acting self.now) (W.run world.old)) }
     {
         if !self.try_commit(world)? {
@@ -244,13 +224,10 @@ impl OpenAction {
     }
 
     /// Commits it; whether that succeeded.
-    fn try_commit<W: MakesSteps>(&self, world: &mut W) -> Result<bool, Fault>
-        requires { IsRun (opening_in (W.run world.old).lists) (W.run world.old).past }
-        ensures goes_on { GoesOn (W.run world.old) (W.run world.new) [] }
-        ensures own { KeepsTo (self.now.name ∷ []) (W.run world.old) (W.run world.new) }
-        ensures others { CommitsAmong (self.now.name ∷ []) (W.run world.old) (W.run world.new) }
-        ensures ends { EndsAll (W.run world.old) (W.run world.new) }
-        ensures means { IfOk result (λ done. record { world = W.run world.new; done = done }
+    fn try_commit<W: ActivitySteps>(&self, world: &mut W) -> Result<bool, Fault>
+        ensures makes { Makes (self.now.name ∷ []) (self.now.name ∷ []) (W.run world.old) (W.run world.new) }
+        ensures told { IfOk result (λ done. Tells done self.now.name (W.run world.old) (W.run world.new)) }
+        ensures means { IfOk result (λ done. IsAlone W.may_be W.run → record { world = W.run world.new; done = done }
             ≡ commit_tried (acting self.now) (W.run world.old)) }
     {
         if self.name.is_top() {
@@ -261,13 +238,10 @@ impl OpenAction {
     }
 
     /// Commits it by two phases; false at the first participant that does not vote yes.
-    fn commit_top<W: MakesSteps>(&self, world: &mut W) -> Result<bool, Fault>
-        requires { IsRun (opening_in (W.run world.old).lists) (W.run world.old).past }
-        ensures goes_on { GoesOn (W.run world.old) (W.run world.new) [] }
-        ensures own { KeepsTo (self.now.name ∷ []) (W.run world.old) (W.run world.new) }
-        ensures others { CommitsAmong (self.now.name ∷ []) (W.run world.old) (W.run world.new) }
-        ensures ends { EndsAll (W.run world.old) (W.run world.new) }
-        ensures means { IfOk result (λ done. record { world = W.run world.new; done = done }
+    fn commit_top<W: ActivitySteps>(&self, world: &mut W) -> Result<bool, Fault>
+        ensures makes { Makes (self.now.name ∷ []) (self.now.name ∷ []) (W.run world.old) (W.run world.new) }
+        ensures told { IfOk result (λ done. Tells done self.now.name (W.run world.old) (W.run world.new)) }
+        ensures means { IfOk result (λ done. IsAlone W.may_be W.run → record { world = W.run world.new; done = done }
             ≡ two_phases (acting self.now) (W.run world.old)) }
     {
         if !try_step(world, Step::Close(self.name.copy()?))? {
@@ -282,13 +256,9 @@ impl OpenAction {
     }
 
     /// Aborts it, and tells so.
-    pub(crate) fn abort<W: MakesSteps>(&self, world: &mut W) -> Result<(), Fault>
-        requires { IsRun (opening_in (W.run world.old).lists) (W.run world.old).past }
-        ensures goes_on { GoesOn (W.run world.old) (W.run world.new) [] }
-        ensures own { KeepsTo (self.now.name ∷ []) (W.run world.old) (W.run world.new) }
-        ensures commits { CommitsNone (W.run world.old) (W.run world.new) }
-        ensures ends { EndsAll (W.run world.old) (W.run world.new) }
-        ensures means { OnOk result (W.run world.new
+    pub(crate) fn abort<W: ActivitySteps>(&self, world: &mut W) -> Result<(), Fault>
+        ensures makes { Makes (self.now.name ∷ []) [] (W.run world.old) (W.run world.new) }
+        ensures means { OnOk result (IsAlone W.may_be W.run → W.run world.new
             ≡ aborted (acting self.now) (W.run world.old)) }
     {
         try_step(world, Step::Abort(self.name.copy()?))?;
@@ -297,17 +267,13 @@ impl OpenAction {
 
     /// Aborts arms of it that have not run, of which the last is the first to be aborted, and tells so. Also after an error the others are
     /// aborted.
-    pub(crate) fn abort_arms<W: MakesSteps>(
+    pub(crate) fn abort_arms<W: ActivitySteps>(
         &self,
         world: &mut W,
         arms: &[Name],
     ) -> Result<(), Fault>
-        requires { IsRun (opening_in (W.run world.old).lists) (W.run world.old).past }
-        ensures goes_on { GoesOn (W.run world.old) (W.run world.new) [] }
-        ensures own { KeepsTo arms.now (W.run world.old) (W.run world.new) }
-        ensures commits { CommitsNone (W.run world.old) (W.run world.new) }
-        ensures ends { EndsAll (W.run world.old) (W.run world.new) }
-        ensures means { OnOk result (W.run world.new
+        ensures makes { Makes arms.now [] (W.run world.old) (W.run world.new) }
+        ensures means { OnOk result (IsAlone W.may_be W.run → W.run world.new
             ≡ arms_aborted self.now.home (reverse arms.now) (W.run world.old)) }
     {
         let mut fault = Ok(());
@@ -319,13 +285,9 @@ impl OpenAction {
 }
 
 /// Aborts an action that has done nothing yet, and tells its home.
-fn abort_at_home<W: MakesSteps>(world: &mut W, action: &Name, home: u32) -> Result<(), Fault>
-    requires { IsRun (opening_in (W.run world.old).lists) (W.run world.old).past }
-    ensures goes_on { GoesOn (W.run world.old) (W.run world.new) [] }
-    ensures own { KeepsTo (action.now ∷ []) (W.run world.old) (W.run world.new) }
-    ensures commits { CommitsNone (W.run world.old) (W.run world.new) }
-    ensures ends { EndsAll (W.run world.old) (W.run world.new) }
-    ensures means { OnOk result (W.run world.new
+fn abort_at_home<W: ActivitySteps>(world: &mut W, action: &Name, home: u32) -> Result<(), Fault>
+    ensures makes { Makes (action.now ∷ []) [] (W.run world.old) (W.run world.new) }
+    ensures means { OnOk result (IsAlone W.may_be W.run → W.run world.new
         ≡ after (Tell home action.now) (after (Abort action.now) (W.run world.old))) }
 {
     try_step(world, Step::Abort(action.copy()?))?;
@@ -334,13 +296,13 @@ fn abort_at_home<W: MakesSteps>(world: &mut W, action: &Name, home: u32) -> Resu
 }
 
 /// Tells the outcome of an action to guardians, in rising number. Those that are down refuse it.
-fn tell<W: MakesSteps>(world: &mut W, action: &Name, guardians: &BTreeSet<u32>) -> Result<(), Fault>
-    requires { IsRun (opening_in (W.run world.old).lists) (W.run world.old).past }
-    ensures goes_on { GoesOn (W.run world.old) (W.run world.new) [] }
-    ensures own { KeepsTo (action.now ∷ []) (W.run world.old) (W.run world.new) }
-    ensures commits { CommitsNone (W.run world.old) (W.run world.new) }
-    ensures ends { EndsAll (W.run world.old) (W.run world.new) }
-    ensures means { OnOk result (W.run world.new
+fn tell<W: ActivitySteps>(
+    world: &mut W,
+    action: &Name,
+    guardians: &BTreeSet<u32>,
+) -> Result<(), Fault>
+    ensures makes { Makes (action.now ∷ []) [] (W.run world.old) (W.run world.new) }
+    ensures means { OnOk result (IsAlone W.may_be W.run → W.run world.new
         ≡ once_told action.now guardians.now.keys (W.run world.old)) }
 {
     for guardian in guardians {
@@ -362,7 +324,7 @@ fn what_came(answer: Answer) -> Called
 }
 
 /// The action that an answer began, of which there is one at most.
-fn begun_by(answer: Answer) -> Option<Name>
+pub(crate) fn begun_by(answer: Answer) -> Option<Name>
     requires { (names : List Name) → answer ≡ Began names → length names ≡ 1 }
     ensures { result ≡ begun_by answer }
 {
@@ -373,33 +335,25 @@ fn begun_by(answer: Answer) -> Option<Name>
 }
 
 /// Asks a guardian for its vote on a top action; whether that is yes.
-fn prepare<W: MakesSteps>(world: &mut W, guardian: u32, top: &Name) -> Result<bool, Fault>
-    requires { IsRun (opening_in (W.run world.old).lists) (W.run world.old).past }
-    ensures goes_on { GoesOn (W.run world.old) (W.run world.new) [] }
-    ensures own { KeepsTo (top.now ∷ []) (W.run world.old) (W.run world.new) }
-    ensures commits { CommitsNone (W.run world.old) (W.run world.new) }
-    ensures after { OnOk result (IsAfter (Prepare guardian top.now)
-        (W.run world.old) (W.run world.new)) }
-    ensures yes { IfOk result (λ yes. yes
-        ≡ is_yes (answer_of (opening_in
-        (W.run world.old).lists) (Prepare guardian top.now) (W.run world.old).past)) }
-    ensures ends { EndsAll (W.run world.old) (W.run world.new) }
+fn prepare<W: ActivitySteps>(world: &mut W, guardian: u32, top: &Name) -> Result<bool, Fault>
+    ensures makes { Makes (top.now ∷ []) [] (W.run world.old) (W.run world.new) }
+    ensures after { OnOk result (IsAlone W.may_be W.run
+        → W.run world.new ≡ after (Prepare guardian top.now) (W.run world.old)) }
+    ensures yes { IfOk result (λ yes. IsAlone W.may_be W.run
+        → yes ≡ is_yes (asked (Prepare guardian top.now) (W.run world.old))) }
 {
     let vote = make(world, Step::Prepare(guardian, top.copy()?))?;
     Ok(vote.is_yes())
 }
 
 /// Makes a step; whether it was done.
-fn try_step<W: MakesSteps>(world: &mut W, step: Step) -> Result<bool, Fault>
-    requires run { IsRun (opening_in (W.run world.old).lists) (W.run world.old).past }
+fn try_step<W: ActivitySteps>(world: &mut W, step: Step) -> Result<bool, Fault>
     requires step { IsOfAction step }
-    ensures goes_on { GoesOn (W.run world.old) (W.run world.new) [] }
-    ensures own { KeepsTo (about step) (W.run world.old) (W.run world.new) }
-    ensures commits { CommitsBy step (W.run world.old) (W.run world.new) }
-    ensures after { OnOk result (IsAfter step (W.run world.old) (W.run world.new)) }
-    ensures done { IfOk result (λ done. done
-        ≡ is_made (answer_of (opening_in (W.run world.old).lists) step (W.run world.old).past)) }
-    ensures ends { maker_in step ≡ None → EndsAll (W.run world.old) (W.run world.new) }
+    ensures makes { Makes (about step) (commits_of step) (W.run world.old) (W.run world.new) }
+    ensures told { IfOk result (λ done. (a : Name) → about step ≡ a ∷ [] → commits_of step ≡ a ∷ []
+        → Tells done a (W.run world.old) (W.run world.new)) }
+    ensures after { OnOk result (IsAlone W.may_be W.run → W.run world.new ≡ after step (W.run world.old)) }
+    ensures done { IfOk result (λ done. IsAlone W.may_be W.run → done ≡ is_made (asked step (W.run world.old))) }
 {
     let answer = make(world, step)?;
     Ok(is_done(answer))
@@ -429,7 +383,7 @@ fn add_all(to: &mut BTreeSet<u32>, guardians: &BTreeSet<u32>) -> Result<(), Allo
 }
 
 /// The name, of which there is one.
-pub(crate) fn only(names: Names) -> Name
+fn only(names: Names) -> Name
     requires { length names ≡ 1 }
     ensures { names ≡ result ∷ [] }
 {
@@ -437,20 +391,15 @@ pub(crate) fn only(names: Names) -> Name
 }
 
 /// Makes a step that is about an action.
-pub(crate) fn make<W: MakesSteps>(world: &mut W, step: Step) -> Result<Answer, Fault>
-    requires run { IsRun (opening_in (W.run world.old).lists) (W.run world.old).past }
+pub(crate) fn make<W: ActivitySteps>(world: &mut W, step: Step) -> Result<Answer, Fault>
     requires step { IsOfAction step }
-    ensures goes_on { GoesOn (W.run world.old) (W.run world.new) [] }
-    ensures own { KeepsTo (about step) (W.run world.old) (W.run world.new) }
-    ensures commits { CommitsBy step (W.run world.old) (W.run world.new) }
-    ensures answer { IfOk result (λ answer. answer
-        ≡ answer_of (opening_in (W.run world.old).lists) step (W.run world.old).past) }
-    ensures after { IfOk result (λ answer. W.run world.new
-        ≡ world_after (W.run world.old) step answer) }
-    ensures err { OnErr result (W.run world.new ≡ W.run world.old) }
-    ensures began { IfOk result (λ answer. HaveBegun (names_begun answer)
+    ensures makes { Makes (about step) (commits_of step) (W.run world.old) (W.run world.new) }
+    ensures began { IfOk result (λ answer. Begins (about step) (commits_of step) (names_begun answer)
         (W.run world.old) (W.run world.new)) }
-    ensures ends { maker_in step ≡ None → EndsAll (W.run world.old) (W.run world.new) }
+    ensures answered { IfOk result (IsAnswered (W.may_be world.old) (W.run world.old).lists step) }
+    ensures after { IfOk result (λ answer. W.run world.new ≡ world_after (W.run world.old) step answer) }
+    ensures alone { IfOk result (λ answer. IsAlone W.may_be W.run → answer ≡ asked step (W.run world.old)) }
+    ensures err { OnErr result (W.run world.new ≡ W.run world.old) }
 {
-    world.step(&step)
+    world.make_step(&step)
 }

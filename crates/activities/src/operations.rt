@@ -1,19 +1,17 @@
 ghost use Rattle.std.specs.Prelude.{◌≡◌, ◌⊎◌, [], ◌∷◌, IsTrue, IfOk, OnErr, OnOk};
 ghost use Rattle.script_model.specs.Resolved.{binding_is_bound};
-ghost use Rattle.run_model.specs.Runs.{IsRun};
 ghost use Rattle.activities.specs.Bodies.{IsOp, IsOutcome, sizes};
-ghost use Rattle.activities.specs.Continuing.{CommitsNone, EndsAll, GoesOn};
-ghost use Rattle.activities.specs.OwnSteps.{KeepsTo};
+ghost use Rattle.activities.specs.Making.{IsAlone, Makes};
 ghost use Rattle.activities.specs.Performing.{IsAfterAny, by_reply, outcome_of, step_for};
-ghost use Rattle.run_model.specs.Openings.{opening_in};
 
+use crate::activity_steps::ActivitySteps;
 use crate::open_action::OpenAction;
 use atomic_types::Reply;
 use frames::Frames;
 use run_model::Answer;
 use script_model::{Binding, ObjectCall};
 use std::alloc::AllocError;
-use stepping::{Fault, MakesSteps};
+use stepping::Fault;
 
 /// What came of an operation.
 #[derive(Drop)]
@@ -27,28 +25,23 @@ pub(crate) enum Outcome {
 /// Makes an operation, and binds what it replies. After an error the variables are as they were, and the world too, unless memory was
 /// wanting for a variable: then the step was made.
 #[tactic(auto, using(crate::proofs::Performing::comings))]
-pub(crate) fn perform<W: MakesSteps>(
+pub(crate) fn perform<W: ActivitySteps>(
     world: &mut W,
     action: &OpenAction,
     frames: &mut Frames,
     call: &ObjectCall,
 ) -> Result<Outcome, Fault>
-    requires run { IsRun (opening_in (W.run world.old).lists) (W.run world.old).past }
     requires call { IsOp (sizes frames.old) call.now }
-    ensures goes_on { GoesOn (W.run world.old) (W.run world.new) [] }
-    ensures own { KeepsTo (action.now.name ∷ []) (W.run world.old) (W.run world.new) }
-    ensures commits { CommitsNone (W.run world.old) (W.run world.new) }
-    ensures ends { EndsAll (W.run world.old) (W.run world.new) }
+    ensures makes { Makes (action.now.name ∷ []) [] (W.run world.old) (W.run world.new) }
     ensures frames { IfOk result (λ done. IsOutcome done call.now.binding (sizes frames.old) (sizes frames.new)) }
-    ensures made { OnOk result (IsAfterAny
+    ensures made { OnOk result (IsAlone W.may_be W.run → IsAfterAny
         (step_for action.now.name action.now.home frames.old call.now) (W.run world.old) (W.run world.new)) }
-    ensures outcome { IfOk result (λ done. (done, frames.new)
+    ensures outcome { IfOk result (λ done. IsAlone W.may_be W.run → (done, frames.new)
         ≡ outcome_of (W.run world.old) frames.old call.now.binding
         (step_for action.now.name action.now.home frames.old call.now)) }
     ensures unbound { OnErr result (frames.new ≡ frames.old) }
-    ensures err { OnErr result ((W.run world.new ≡ W.run world.old)
-        ⊎ IsAfterAny
-        (step_for action.now.name action.now.home frames.old call.now) (W.run world.old) (W.run world.new)) }
+    ensures err { OnErr result (IsAlone W.may_be W.run → (W.run world.new ≡ W.run world.old)
+        ⊎ IsAfterAny (step_for action.now.name action.now.home frames.old call.now) (W.run world.old) (W.run world.new)) }
 {
     let Some(operation) = frames.operation(&call.operation)? else {
         return Ok(Outcome::Refused);

@@ -1,27 +1,28 @@
-ghost use Rattle.std.specs.Prelude.{◌≡◌, IfOk, IsTrue, OnErr, OnOk};
+ghost use Rattle.std.specs.Prelude.{◌≡◌, IfOk, IsTrue, OnErr, OnOk, Option};
+ghost use Rattle.action_names.specs.Names.{Name};
 ghost use Rattle.script_model.specs.Resolved.{IsResolved, is_resolved_client};
-ghost use Rattle.run_model.specs.Runs.{IsRun};
-ghost use Rattle.activities.specs.Ends.{AreTried, ClientCut, end_of};
+ghost use Rattle.activities.specs.Ends.{AreTried, ClientMade, IsTopAt, IsTopOrNothing, end_of, top_of};
+ghost use Rattle.activities.specs.Making.{ClientMakes, IsAlone, once_begun};
 ghost use Rattle.activities.specs.Serial.{after, asked, begun_by, client_ran, serial_run};
 ghost use Rattle.run_model.specs.declared.step.Step.TheVariants.{Top};
-ghost use Rattle.run_model.specs.Openings.{opening_in};
 
 use crate::activity::Activity;
+use crate::activity_steps::ActivitySteps;
 use crate::client::ClientEnd;
 use crate::flow::Flow;
-use crate::open_action::{OpenAction, Reached, only};
+use crate::open_action::{OpenAction, Reached, begun_by};
 use action_names::Name;
 use frames::Frames;
-use run_model::{Answer, Step};
+use run_model::Step;
 use script_model::{Checked, Client};
 use std::alloc::Global;
 use stepping::{Fault, MakesSteps};
 
-/// Runs the clients of a script one after another, each to its end, and gives how they ended, in their order. The arms of a `coenter` are
-/// begun together and run in order. An operation that would wait aborts the enclosing top action.
+/// Runs the clients of a script one after another, each to its end, and gives how they ended, in their order. The arms of a
+/// `coenter` are begun together and run in order. An operation that would wait aborts the enclosing top action.
 ///
-/// `Err` comes if memory runs out, or where the store of a guardian failed. A client to which that happens aborts its open actions,
-/// outwards, as far as that succeeds, and the others are run all the same; the last such fault is answered.
+/// `Err` comes if memory runs out, or if the store of a guardian fails. A client to which that happens aborts its open actions,
+/// outwards, as far as that succeeds, and the others are run all the same; the lowest such client's fault is answered.
 pub fn run_serial<W: MakesSteps>(
     alloc: Global,
     world: &mut W,
@@ -32,8 +33,6 @@ pub fn run_serial<W: MakesSteps>(
         ≡ serial_run script.now (W.run world.old)) }
     ensures err { OnErr result (AreTried script.now.clients (W.run world.old) (W.run world.new)) }
 {
-    // so that what happened before is known to be a run
-    let _ = world.opening();
     let clients = script.clients.as_slice();
     let mut ends = Vec::with_capacity(alloc, clients.len())?;
     let mut fault = Ok(());
@@ -43,14 +42,15 @@ pub fn run_serial<W: MakesSteps>(
                 ends.reserve(1)?;
                 ends.push_reserved(end);
             }
-            Err(error) => fault = Err(error),
+            Err(error) => fault = fault.and(Err(error)),
         }
     }
     fault?;
     Ok(ends)
 }
 
-fn run_client<W: MakesSteps>(
+/// Runs one client, and says how it ended. After an error its open actions have aborted as far as that succeeded.
+fn run_client<W: ActivitySteps>(
     alloc: Global,
     world: &mut W,
     script: &Checked,
@@ -58,10 +58,12 @@ fn run_client<W: MakesSteps>(
 ) -> Result<ClientEnd, Fault>
     requires script { IsResolved script.now }
     requires client { IsTrue (is_resolved_client script.now client.now) }
-    requires run { IsRun (opening_in (W.run world.old).lists) (W.run world.old).past }
-    ensures ok { IfOk result (λ end. (W.run world.new, end)
-        ≡ client_ran script.now.handlers client.now (W.run world.old)) }
-    ensures err { OnErr result (ClientCut client.now.home (W.run world.old) (W.run world.new)) }
+    ensures made { IfOk result (λ end. ClientMade client.now.home end (W.run world.old) (W.run world.new)) }
+    ensures top { IfOk result (λ end. IsAlone W.may_be W.run → IsTopAt client.now.home (W.run world.old) (top_of end)) }
+    ensures ok { IfOk result (λ end. IsAlone W.may_be W.run
+        → (W.run world.new, end) ≡ client_ran script.now.handlers client.now (W.run world.old)) }
+    ensures cut { OnErr result ((top : Option Name) × ClientMakes client.now.home top (W.run world.old) (W.run world.new)
+        × (IsAlone W.may_be W.run → IsTopOrNothing client.now.home (W.run world.old) top)) }
 {
     let reached = Reached::new(alloc, client.home)?;
     let Some(name) = begin_top(world, client.home)? else {
@@ -74,17 +76,16 @@ fn run_client<W: MakesSteps>(
     Ok(end_of(top.name, flow))
 }
 
-/// Begins a top action at a guardian; none where that is refused.
-fn begin_top<W: MakesSteps>(world: &mut W, home: u32) -> Result<Option<Name>, Fault>
-    requires { IsRun (opening_in (W.run world.old).lists) (W.run world.old).past }
-    ensures after { OnOk result (W.run world.new ≡ after (Top home) (W.run world.old)) }
-    ensures begun { IfOk result (λ found. found ≡ begun_by (asked (Top home) (W.run world.old))) }
+/// Begins a top action at a guardian; none if that is refused.
+fn begin_top<W: ActivitySteps>(world: &mut W, home: u32) -> Result<Option<Name>, Fault>
+    ensures left { IfOk result (λ found. W.run world.new ≡ once_begun home found (W.run world.old)) }
+    ensures top { IfOk result (λ found. IsAlone W.may_be W.run → IsTopAt home (W.run world.old) found) }
+    ensures after { OnOk result (IsAlone W.may_be W.run → W.run world.new ≡ after (Top home) (W.run world.old)) }
+    ensures begun { IfOk result (λ found. IsAlone W.may_be W.run → found ≡ begun_by (asked (Top home) (W.run world.old))) }
     ensures err { OnErr result (W.run world.new ≡ W.run world.old) }
 {
-    match world.step(&Step::Top(home))? {
-        Answer::Began(names) => Ok(Some(only(names))),
-        _ => Ok(None),
-    }
+    let answer = world.make_step(&Step::Top(home))?;
+    Ok(begun_by(answer))
 }
 
 /// How a client ended of which the top action came to this end.

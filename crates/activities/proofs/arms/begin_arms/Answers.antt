@@ -1,12 +1,24 @@
+use Rattle.std.proofs.Common.{[]}
+use Rattle.run_model.specs.Openings.{opening_in}
 use Rattle.activities.proofs.ArmNames.{waiting_begun, waiting_each}
+use Rattle.activities.proofs.Making.{makes_named}
 use Rattle.activities.proofs.arms.begin_arms.Goals as goal
+
+pub returns-in_err-answer-clause-makes : goal.returns-in_err-answer-clause-makes
+returns-in_err-answer-clause-makes g c =
+    makes_named c.args.action.now.name c.in_ok-copy.field-0 [] (g.W.ActivitySteps.run c.args.world.now) (g.W.ActivitySteps.run c.make.new.world) c.in_ok-copy.ensures.ok.1 c.make.ensures.makes
+
+pub returns-clause-makes : goal.returns-clause-makes
+returns-clause-makes g c =
+    makes_named c.args.action.now.name c.in_ok-copy.field-0 [] (g.W.ActivitySteps.run c.args.world.now) (g.W.ActivitySteps.run c.make.new.world) c.in_ok-copy.ensures.ok.1 c.make.ensures.makes
 
 pub returns-clause-each : goal.returns-clause-each
 returns-clause-each g c =
-    waiting_each c.waiting_by.result (λ names. names.items) (g.W.MakesSteps.run c.args.world.now) c.in_ok-copy.field-0 c.in_ok-kinds.kinds c.args.arms.now
-    c.in_ok-answer.answer c.waiting_by.ensures c.in_ok-answer.ensures.answer c.in_ok-kinds.ensures
+    waiting_each c.waiting_by.result (λ names. names.items) (opening_in (g.W.ActivitySteps.run c.args.world.now).lists) c.in_ok-answer.ensures.answered.past
+    c.in_ok-copy.field-0 c.in_ok-kinds.kinds c.args.arms.now c.in_ok-answer.answer c.waiting_by.ensures
+    c.in_ok-answer.ensures.answered.answered c.in_ok-kinds.ensures
 
 pub returns-clause-began : goal.returns-clause-began
 returns-clause-began g c =
-    waiting_begun c.waiting_by.result (λ names. names.items) (g.W.MakesSteps.run c.args.world.now) (g.W.MakesSteps.run c.make.new.world) c.in_ok-answer.answer c.waiting_by.ensures
-    c.in_ok-answer.ensures.began
+    waiting_begun c.waiting_by.result (λ names. names.items) c.args.action.now.name c.in_ok-copy.field-0 (g.W.ActivitySteps.run c.args.world.now) (g.W.ActivitySteps.run c.make.new.world) c.in_ok-answer.answer
+    c.in_ok-copy.ensures.ok.1 c.waiting_by.ensures c.in_ok-answer.ensures.began

@@ -2,18 +2,18 @@ use Rattle.std.proofs.Common.{IfOk, [], ap, arith, subst, sym, take, ◌++◌, �
 use Rattle.std.proofs.lemmas.List.{take_all, take_more}
 use Rattle.activities.specs.Serial.{clients_ran}
 use Rattle.activities.proofs.Meaning.{if_ok_at, if_ok_then, one_more_ran}
-use Rattle.activities.proofs.Trying.{cut_is_tried, if_err, none_tried, on_err, ran_is_tried, some_tried}
+use Rattle.activities.proofs.Trying.{cut_is_tried, fault_kept, none_tried, on_err, ran_is_tried, some_tried}
 use Rattle.activities.proofs.serial.run_serial.Goals as goal
 use Rattle.activities.proofs.serial.run_serial.Goals.{in-Err, in-Ok+in_ok-reserve-in-Ok}
 
 pub returns-in_err-ends-clause-err : goal.returns-in_err-ends-clause-err
 returns-in_err-ends-clause-err g c =
     on_err _ (some_tried c.as_slice-clients.result.now c.args.script.now.clients 0 (g.W.MakesSteps.run c.args.world.now) (g.W.MakesSteps.run c.args.world.now) c.as_slice-clients.ensures
-    (none_tried c.as_slice-clients.result.now (g.W.MakesSteps.run c.args.world.now) c.opening.ensures.is_run))
+    (none_tried c.as_slice-clients.result.now (g.W.MakesSteps.run c.args.world.now)))
 
 pub loop-client-init : goal.loop-client-init
 loop-client-init g c = record {
-  tried = none_tried c.as_slice-clients.result.now (g.W.MakesSteps.run c.args.world.now) c.opening.ensures.is_run;
+  tried = none_tried c.as_slice-clients.result.now (g.W.MakesSteps.run c.args.world.now);
   ran = ap (λ l. record { world = (g.W.MakesSteps.run c.args.world.now); ends = l }) c.in_ok-ends.ensures.items;
 }
 
@@ -21,15 +21,17 @@ pub returns-in_err-reserve-in-Ok-clause-err : goal.returns-in_err-reserve-in-Ok-
 returns-in_err-reserve-in-Ok-clause-err g c =
     on_err _ (some_tried c.as_slice-clients.result.now c.args.script.now.clients (c.loop-client.client-index + 1) (g.W.MakesSteps.run c.args.world.now)
     (g.W.MakesSteps.run c.run_client.new.world) c.as_slice-clients.ensures
-    (ran_is_tried c.args.script.now.handlers c.as_slice-clients.result.now c.loop-client.client-index c.client-item.result (g.W.MakesSteps.run c.args.world.now) (g.W.MakesSteps.run c.loop-client.world)
-    (g.W.MakesSteps.run c.run_client.new.world) c.in-Ok.end (omega arith) c.client-item.is c.loop-client.invariant.tried c.in-Ok.ensures.ok))
+    (ran_is_tried c.as_slice-clients.result.now c.loop-client.client-index c.client-item.result (g.W.MakesSteps.run c.args.world.now) (g.W.MakesSteps.run c.loop-client.world)
+    (g.W.MakesSteps.run c.run_client.new.world) c.in-Ok.end (omega arith) c.client-item.is c.loop-client.invariant.tried c.in-Ok.ensures.made
+    (c.in-Ok.ensures.top (λ w past same. same))))
 
 pub loop-client-preserved : goal.loop-client-preserved
 loop-client-preserved g c = elim c.match-run_client.branch [
   | in-Ok+in_ok-reserve-in-Ok w ↦ record {
     tried =
-        ran_is_tried c.args.script.now.handlers c.as_slice-clients.result.now c.loop-client.client-index c.client-item.result (g.W.MakesSteps.run c.args.world.now) (g.W.MakesSteps.run c.loop-client.world)
-        (g.W.MakesSteps.run c.run_client.new.world) w.in-Ok.end (omega arith) c.client-item.is c.loop-client.invariant.tried w.in-Ok.ensures.ok;
+        ran_is_tried c.as_slice-clients.result.now c.loop-client.client-index c.client-item.result (g.W.MakesSteps.run c.args.world.now) (g.W.MakesSteps.run c.loop-client.world)
+        (g.W.MakesSteps.run c.run_client.new.world) w.in-Ok.end (omega arith) c.client-item.is c.loop-client.invariant.tried w.in-Ok.ensures.made
+        (w.in-Ok.ensures.top (λ v past same. same));
     ran =
         subst (λ f. IfOk f (λ u. record { world = (g.W.MakesSteps.run c.run_client.new.world); ends = c.match-run_client.ends.items }
         ≡ clients_ran c.args.script.now.handlers (take (c.loop-client.client-index + 1) c.as_slice-clients.result.now) (g.W.MakesSteps.run c.args.world.now))) (sym w.fault-is)
@@ -37,7 +39,7 @@ loop-client-preserved g c = elim c.match-run_client.branch [
         (λ u e. ap (λ l. record { world = (g.W.MakesSteps.run c.run_client.new.world); ends = l })
         (ap (λ v. v.items) w.ends-is ∙ w.push_reserved.ensures.items ∙ ap (λ l. l ++ w.in-Ok.end ∷ []) w.reserve.ensures.items)
         ∙ one_more_ran c.args.script.now.handlers (take c.loop-client.client-index c.as_slice-clients.result.now) c.client-item.result (g.W.MakesSteps.run c.args.world.now)
-        (g.W.MakesSteps.run c.loop-client.world) (g.W.MakesSteps.run c.run_client.new.world) c.loop-client.ends.items w.in-Ok.end e w.in-Ok.ensures.ok
+        (g.W.MakesSteps.run c.loop-client.world) (g.W.MakesSteps.run c.run_client.new.world) c.loop-client.ends.items w.in-Ok.end e (w.in-Ok.ensures.ok (λ v past same. same))
         ∙ ap (λ l. clients_ran c.args.script.now.handlers l (g.W.MakesSteps.run c.args.world.now))
         (ap (λ x. take c.loop-client.client-index c.as_slice-clients.result.now ++ (x ∷ [])) c.client-item.is
         ∙ sym (take_more c.as_slice-clients.result.now c.loop-client.client-index c.client-item.result (omega arith)))));
@@ -45,8 +47,13 @@ loop-client-preserved g c = elim c.match-run_client.branch [
   | in-Err w ↦ record {
     tried =
         cut_is_tried c.as_slice-clients.result.now c.loop-client.client-index c.client-item.result (g.W.MakesSteps.run c.args.world.now) (g.W.MakesSteps.run c.loop-client.world)
-        (g.W.MakesSteps.run c.run_client.new.world) (omega arith) c.client-item.is c.loop-client.invariant.tried w.in-Err.ensures.err;
-    ran = if_err c.match-run_client.fault _ _ w.fault-is;
+        (g.W.MakesSteps.run c.run_client.new.world) (omega arith) c.client-item.is c.loop-client.invariant.tried
+        (record {
+          top = w.in-Err.ensures.cut.0;
+          began = w.in-Err.ensures.cut.2 (λ v past same. same);
+          makes = w.in-Err.ensures.cut.1;
+        });
+    ran = fault_kept _ c.match-run_client.fault c.loop-client.fault w.in-Err.error (w.fault-is ∙ w.and-fault.ensures);
   }
 ]
 

@@ -1,6 +1,6 @@
-use Rattle.std.proofs.Common.{IfOk, List, Ok, Option, Some, ap, arith, drop, drop_of_length-le, false, inl, inr, le_trans, length, refl, reverse, rules, slice_get, subst, sym, true, [], ◌+◌, ◌-◌, ◌<◌, ◌∙◌, ◌∷◌, ◌≡◌, ◌≤◌}
+use Rattle.std.proofs.Common.{IfOk, IfSome, IsTrue, List, Ok, Option, Some, ap, arith, drop, drop_of_length-le, false, inl, inr, le_trans, length, refl, reverse, rules, slice_get, subst, sym, true, [], ◌+◌, ◌-◌, ◌<◌, ◌∙◌, ◌∷◌, ◌≡◌, ◌≤◌}
 use Rattle.std.proofs.lemmas.Option.{slice_get_read}
-use Rattle.action_names.specs.Names.{Name}
+use Rattle.action_names.specs.Names.{Name, has_name}
 use Rattle.run_laws.proofs.Names.{clash}
 use Rattle.script_model.specs.declared.statement.Arm.{Arm}
 use Rattle.frames.specs.Operating.{given}
@@ -17,46 +17,84 @@ use Rattle.script_model.specs.declared.statement.Statement.{Statement}
 use Rattle.script_model.specs.Resolved.{IsResolved, asked}
 use Rattle.run_model.specs.Runs.{World}
 use Rattle.activities.specs.Bodies.{AreArms, IsBody, IsOutcome, IsStatement, SignalsHold, WhereEnded, body_of, kind_of, sizes}
-use Rattle.activities.specs.Continuing.{GoesOn, HaveBegun}
+use Rattle.activities.specs.Making.{Begins}
 use Rattle.activities.specs.Ends.{commits, has_committed, named_by}
 use Rattle.activities.proofs.Following.{called_began, handed_sizes, next_rest, next_within, nothing_bound, ok_so, popped, popped_length, same_body}
-use Rattle.activities.proofs.Going.{commits_nowhere, goes_nowhere}
 use Rattle.activities.proofs.Meaning.{AreArmsFrom, IsBodyFrom, aborted_back, acting_begun, arm_goes, arm_stops, arms_end, body_ends, body_goes, body_lacks, body_stops, call_goes, call_so, called_so, ended_back, if_ok_at, if_ok_then, last_first, nested_past, nested_ran, nested_so, next_list, not_past, of_script, op_comes, outwards_back, returned_back, run_ends, run_named, sub_past, top_past, turn_goes, turn_lacks, turn_stops, turns_end}
-use Rattle.activities.proofs.OwnSteps.{keeps_nowhere, child_keeps, keeps_then, one_keeps, then_keeps}
 use Rattle.activities.proofs.Resolving.{arm_of, call_of, call_signals, called_body, called_within, op_after, op_of, op_signals, signalled_after, signals_hold_there}
-use Rattle.activities.proofs.Ways.{among_then, child_commits, earlier_waits, last_waits, others_commit, then_commits, then_goes}
+use Rattle.activities.proofs.Making.{arms_make, child_makes, earlier_waits, if_ok_at_all, if_ok_each, if_ok_with, last_waits, makes_nowhere, makes_through, one_makes, then_makes, then_tells}
 use Rattle.activities.proofs.activity.Activity.+activity.Goals.{body-in-Ended, body-in_default, repeat-in-Ended, repeat-in_default, run_arms-in-Ended, run_arms-in-Sub, run_arms-in-Top, run_arms-in_default}
 use Rattle.activities.proofs.activity.Activity.+activity.Goals as goal
 
-pub run-returns-in-Ok-clause-others : goal.run-returns-in-Ok-clause-others
-run-returns-in-Ok-clause-others g t c =
-    among_then c.args.action.now.name c.body.new.action.name (g.W.MakesSteps.run c.args.world.now) (g.W.MakesSteps.run c.body.new.world) (g.W.MakesSteps.run c.end.new.world) c.body.ensures.goes_on
-    c.body.ensures.commits c.body.ensures.name c.end.ensures.others
+-- what a nested top action began
+began_named : (found : Option Name) (a n : Name) (actors : List Name) (x y : World) → found ≡ Some a → n ≡ a
+    → Begins actors [] (named_by found) x y → Begins actors [] (n ∷ []) x y
+began_named found a n actors x y e k h =
+    subst (λ m. Begins actors [] (m ∷ []) x y) (sym k) (subst (λ o. Begins actors [] (named_by o) x y) e h)
 
-pub run-returns-in-Ok-clause-own : goal.run-returns-in-Ok-clause-own
-run-returns-in-Ok-clause-own g t c =
-    keeps_then c.args.action.now.name c.body.new.action.name (g.W.MakesSteps.run c.args.world.now) (g.W.MakesSteps.run c.body.new.world) (g.W.MakesSteps.run c.end.new.world) c.body.ensures.name
-    c.body.ensures.own c.end.ensures.own
+pub run-returns-in-Ok-clause-told : goal.run-returns-in-Ok-clause-told
+run-returns-in-Ok-clause-told g t c =
+    if_ok_each c.end.result c.end.ensures.told
+    (λ flow told. then_tells (commits flow) c.args.action.now.name c.body.new.action.name (g.W.ActivitySteps.run c.args.world.now) (g.W.ActivitySteps.run c.body.new.world)
+    (g.W.ActivitySteps.run c.end.new.world) c.body.ensures.name c.body.ensures.makes told)
 
-pub body-returns-in_err-flow-clause-own : goal.body-returns-in_err-flow-clause-own
-body-returns-in_err-flow-clause-own g t c =
-    keeps_then c.args.action.now.name c.loop-statement.action.name (g.W.MakesSteps.run c.args.world.now) (g.W.MakesSteps.run c.loop-statement.world) (g.W.MakesSteps.run c.statement.new.world)
-    c.loop-statement.invariant.name c.loop-statement.invariant.own c.statement.ensures.own
+pub top_action-returns-in-Aborted-clause-makes : goal.top_action-returns-in-Aborted-clause-makes
+top_action-returns-in-Aborted-clause-makes g t c =
+    let x = (g.W.ActivitySteps.run c.args.world.now) in
+    let y = (g.W.ActivitySteps.run c.begin_nested.new.world) in
+    let z = (g.W.ActivitySteps.run c.run.new.world) in
+    let n = c.new-nested.result.name in
+    let began = began_named c.in_ok-name.field-0 c.in-Some.name n (c.args.action.now.name ∷ []) x y c.in-Some.is c.new-nested.ensures.name c.in_ok-name.ensures.began in
+    makes_through (c.args.action.now.name ∷ []) [] x z (g.W.ActivitySteps.run c.inner.new.world) (child_makes n (c.args.action.now.name ∷ []) x y z began c.run.ensures.makes)
+    c.inner.ensures.makes
 
-pub body-returns-then-not-matches-clause-own : goal.body-returns-then-not-matches-clause-own
-body-returns-then-not-matches-clause-own g t c =
-    keeps_then c.args.action.now.name c.loop-statement.action.name (g.W.MakesSteps.run c.args.world.now) (g.W.MakesSteps.run c.loop-statement.world) (g.W.MakesSteps.run c.statement.new.world)
-    c.loop-statement.invariant.name c.loop-statement.invariant.own c.statement.ensures.own
+pub call-returns-in-Aborted-clause-makes : goal.call-returns-in-Aborted-clause-makes
+call-returns-in-Aborted-clause-makes g t c =
+    let x = (g.W.ActivitySteps.run c.args.world.now) in
+    let y = (g.W.ActivitySteps.run c.begin_call.new.world) in
+    let z = (g.W.ActivitySteps.run c.run-ended.new.world) in
+    let n = c.new-child.result.name in
+    let began = called_began c.in_ok-name.field-0 c.in-Began.name n (c.args.action.now.name ∷ []) x y c.in-Began.is c.new-child.ensures.name c.in_ok-name.ensures.began in
+    then_makes c.args.action.now.name c.take_in-taken.new.self.name x z (g.W.ActivitySteps.run c.run_signals-in-Aborted.new.world) c.take_in-taken.ensures.name
+    (child_makes n (c.args.action.now.name ∷ []) x y z began c.run-ended.ensures.makes) c.run_signals-in-Aborted.ensures.makes
 
-pub body-returns-in_err-flow-clause-commits : goal.body-returns-in_err-flow-clause-commits
-body-returns-in_err-flow-clause-commits g t c =
-    then_commits (g.W.MakesSteps.run c.args.world.now) (g.W.MakesSteps.run c.loop-statement.world) (g.W.MakesSteps.run c.statement.new.world) c.loop-statement.invariant.goes_on
-    c.loop-statement.invariant.commits c.statement.ensures.commits
+pub run_arms-returns-in_err-flow-clause-makes : goal.run_arms-returns-in_err-flow-clause-makes
+run_arms-returns-in_err-flow-clause-makes g t c =
+    let l = c.loop-arm in
+    let rest = c.pop.new.self.items in
+    let a = c.new-child.result.name in
+    let is = popped l.waiting.items rest c.pop.result c.unwrap.result a c.pop.ensures.items c.unwrap.ensures c.new-child.ensures.name in
+    one_makes a c.args.waiting.now.items (g.W.ActivitySteps.run c.args.world.now) (g.W.ActivitySteps.run l.world) (g.W.ActivitySteps.run c.run-ended.new.world)
+    (l.invariant.among a (last_waits l.waiting.items rest a is)) l.invariant.makes c.run-ended.ensures.makes
 
-pub body-returns-then-not-matches-clause-commits : goal.body-returns-then-not-matches-clause-commits
-body-returns-then-not-matches-clause-commits g t c =
-    then_commits (g.W.MakesSteps.run c.args.world.now) (g.W.MakesSteps.run c.loop-statement.world) (g.W.MakesSteps.run c.statement.new.world) c.loop-statement.invariant.goes_on
-    c.loop-statement.invariant.commits c.statement.ensures.commits
+pub run_arms-returns-in_err-taken-clause-makes : goal.run_arms-returns-in_err-taken-clause-makes
+run_arms-returns-in_err-taken-clause-makes g t c =
+    let l = c.loop-arm in
+    let rest = c.pop.new.self.items in
+    let a = c.new-child.result.name in
+    let is = popped l.waiting.items rest c.pop.result c.unwrap.result a c.pop.ensures.items c.unwrap.ensures c.new-child.ensures.name in
+    one_makes a c.args.waiting.now.items (g.W.ActivitySteps.run c.args.world.now) (g.W.ActivitySteps.run l.world) (g.W.ActivitySteps.run c.run-ended.new.world)
+    (l.invariant.among a (last_waits l.waiting.items rest a is)) l.invariant.makes c.run-ended.ensures.makes
+
+pub run_arms-returns-then-not-matches-clause-makes : goal.run_arms-returns-then-not-matches-clause-makes
+run_arms-returns-then-not-matches-clause-makes g t c =
+    let l = c.loop-arm in
+    let rest = c.pop.new.self.items in
+    let a = c.new-child.result.name in
+    let is = popped l.waiting.items rest c.pop.result c.unwrap.result a c.pop.ensures.items c.unwrap.ensures c.new-child.ensures.name in
+    one_makes a c.args.waiting.now.items (g.W.ActivitySteps.run c.args.world.now) (g.W.ActivitySteps.run l.world) (g.W.ActivitySteps.run c.run-ended.new.world)
+    (l.invariant.among a (last_waits l.waiting.items rest a is)) l.invariant.makes c.run-ended.ensures.makes
+
+pub coenter-returns-in_err-aborted-clause-makes : goal.coenter-returns-in_err-aborted-clause-makes
+coenter-returns-in_err-aborted-clause-makes g t c =
+    let x = (g.W.ActivitySteps.run c.args.world.now) in
+    let y = (g.W.ActivitySteps.run c.begin_arms.new.world) in
+    let names = c.in-Some.waiting.items in
+    arms_make names c.as_slice.result.now (c.args.action.now.name ∷ []) x y (g.W.ActivitySteps.run c.run_arms-ran.new.world) (g.W.ActivitySteps.run c.abort_arms-aborted.new.world)
+    (subst (λ o. IfSome o (λ v. Begins (c.args.action.now.name ∷ []) [] v.items x y)) c.in-Some.is c.in_ok-waiting.ensures.began)
+    c.run_arms-ran.ensures.makes
+    (subst (λ (l : List Name). (a : Name) → IsTrue (has_name l a) → IsTrue (has_name names a)) (sym c.as_slice.ensures.value) c.run_arms-ran.ensures.rest)
+    c.abort_arms-aborted.ensures.makes
 
 pub body-loop-statement-preserved : goal.body-loop-statement-preserved
 body-loop-statement-preserved g t c =
@@ -65,30 +103,21 @@ body-loop-statement-preserved g t c =
     let script = c.args.self.now.script.now in
     let left = c.args.self.now.left in
     let body = c.args.body.now in
-    let old : Doing = doing (g.W.MakesSteps.run c.args.world.now) left c.args.action.now c.args.frames.now in
-    let d : Doing = doing (g.W.MakesSteps.run l.world) l.self.left l.action l.frames in
+    let old : Doing = doing (g.W.ActivitySteps.run c.args.world.now) left c.args.action.now c.args.frames.now in
+    let d : Doing = doing (g.W.ActivitySteps.run l.world) l.self.left l.action l.frames in
     let rest = drop (l.statement-index + 1) body in
-    let from : IsBodyFrom script left body old (s ∷ rest) d =
-    subst (λ (x : List Statement). IsBodyFrom script left body old x d) (next_list body l.statement-index s (omega arith) c.statement-item.is)
-    l.invariant.means in
     let less = c.begin.new.self.left in
     let budget : l.self.left ≡ less + 1 = c.if-not-begin.ensures.left refl in
-    let r : Done = done (g.W.MakesSteps.run c.statement.new.world) c.statement.new.self.left c.statement.new.action c.statement.new.frames c.in_ok-flow.flow in
-    let came : ComesSo script less r (λ go. statement_done script.handlers go s (doing (g.W.MakesSteps.run l.world) less l.action l.frames)) =
-    of_script c.begin.new.self.script.now script less r (λ x go. statement_done x.handlers go s (doing (g.W.MakesSteps.run l.world) less l.action l.frames))
-    (c.begin.ensures.script ∙ l.invariant.script) c.in_ok-flow.ensures.means in
+    let r : Done = done (g.W.ActivitySteps.run c.statement.new.world) c.statement.new.self.left c.statement.new.action c.statement.new.frames c.in_ok-flow.flow in
     let ended : c.in_ok-flow.flow ≡ Ended = elim c.match-matches.branch [
       | body-in-Ended w ↦ w.in-Ended.is
       | body-in_default w ↦ absurd (clash c.if-not-matches.false w.matches-is)
     ] in
-    let body_means = body_goes script left body old d s rest less r from budget came ended c.statement.ensures.left in
     let bound : sizes c.statement.new.frames ≡ (asked s).after (sizes l.frames) = search rules in
     let same : c.statement.new.self.script.now ≡ l.self.script.now = cc in
     record {
-      goes_on = then_goes (g.W.MakesSteps.run c.args.world.now) (g.W.MakesSteps.run l.world) (g.W.MakesSteps.run c.statement.new.world) l.invariant.goes_on c.statement.ensures.goes_on;
-      own = keeps_then c.args.action.now.name l.action.name (g.W.MakesSteps.run c.args.world.now) (g.W.MakesSteps.run l.world) (g.W.MakesSteps.run c.statement.new.world) l.invariant.name l.invariant.own
-          c.statement.ensures.own;
-      commits = then_commits (g.W.MakesSteps.run c.args.world.now) (g.W.MakesSteps.run l.world) (g.W.MakesSteps.run c.statement.new.world) l.invariant.goes_on l.invariant.commits c.statement.ensures.commits;
+      makes = then_makes c.args.action.now.name l.action.name (g.W.ActivitySteps.run c.args.world.now) (g.W.ActivitySteps.run l.world)
+          (g.W.ActivitySteps.run c.statement.new.world) l.invariant.name l.invariant.makes c.statement.ensures.makes;
       resolved = subst IsResolved (sym same) l.invariant.resolved;
       rest = next_rest l.self.script.now c.statement.new.self.script.now (sizes l.frames) (sizes c.statement.new.frames) c.args.body.now
           l.statement-index s (omega arith) c.statement-item.is same bound l.invariant.rest;
@@ -97,28 +126,16 @@ body-loop-statement-preserved g t c =
       script = cc;
       name = cc;
       home = cc;
-      means = body_means;
+      means = λ alone.
+          let from : IsBodyFrom script left body old (s ∷ rest) d =
+          subst (λ (x : List Statement). IsBodyFrom script left body old x d) (next_list body l.statement-index s (omega arith) c.statement-item.is)
+          (l.invariant.means alone) in
+          let came : ComesSo script less r (λ go. statement_done script.handlers go s (doing (g.W.ActivitySteps.run l.world) less l.action l.frames)) =
+          of_script c.begin.new.self.script.now script less r (λ x go. statement_done x.handlers go s (doing (g.W.ActivitySteps.run l.world) less l.action l.frames))
+          (c.begin.ensures.script ∙ l.invariant.script) (c.in_ok-flow.ensures.means alone) in
+          let body_means = body_goes script left body old d s rest less r from budget came ended c.statement.ensures.left in
+          body_means;
     }
-
-pub repeat-returns-in_err-flow-clause-own : goal.repeat-returns-in_err-flow-clause-own
-repeat-returns-in_err-flow-clause-own g t c =
-    keeps_then c.args.action.now.name c.loop.action.name (g.W.MakesSteps.run c.args.world.now) (g.W.MakesSteps.run c.loop.world) (g.W.MakesSteps.run c.inner.new.world) c.loop.invariant.name
-    c.loop.invariant.own c.inner.ensures.own
-
-pub repeat-returns-then-not-matches-clause-own : goal.repeat-returns-then-not-matches-clause-own
-repeat-returns-then-not-matches-clause-own g t c =
-    keeps_then c.args.action.now.name c.loop.action.name (g.W.MakesSteps.run c.args.world.now) (g.W.MakesSteps.run c.loop.world) (g.W.MakesSteps.run c.inner.new.world) c.loop.invariant.name
-    c.loop.invariant.own c.inner.ensures.own
-
-pub repeat-returns-in_err-flow-clause-commits : goal.repeat-returns-in_err-flow-clause-commits
-repeat-returns-in_err-flow-clause-commits g t c =
-    then_commits (g.W.MakesSteps.run c.args.world.now) (g.W.MakesSteps.run c.loop.world) (g.W.MakesSteps.run c.inner.new.world) c.loop.invariant.goes_on
-    c.loop.invariant.commits c.inner.ensures.commits
-
-pub repeat-returns-then-not-matches-clause-commits : goal.repeat-returns-then-not-matches-clause-commits
-repeat-returns-then-not-matches-clause-commits g t c =
-    then_commits (g.W.MakesSteps.run c.args.world.now) (g.W.MakesSteps.run c.loop.world) (g.W.MakesSteps.run c.inner.new.world) c.loop.invariant.goes_on
-    c.loop.invariant.commits c.inner.ensures.commits
 
 pub repeat-loop-preserved : goal.repeat-loop-preserved
 repeat-loop-preserved g t c =
@@ -127,18 +144,15 @@ repeat-loop-preserved g t c =
     let left = c.args.self.now.left in
     let body = c.args.body.now in
     let turns = c.args.turns in
-    let old : Doing = doing (g.W.MakesSteps.run c.args.world.now) left c.args.action.now c.args.frames.now in
-    let d : Doing = doing (g.W.MakesSteps.run l.world) l.self.left l.action l.frames in
+    let old : Doing = doing (g.W.ActivitySteps.run c.args.world.now) left c.args.action.now c.args.frames.now in
+    let d : Doing = doing (g.W.ActivitySteps.run l.world) l.self.left l.action l.frames in
     let n = turns - l.counter in
     let m = turns - (l.counter + 1) in
     let one : n ≡ m + 1 = omega (arith, c.loop-test.true) in
     let less = c.begin.new.self.left in
     let budget : l.self.left ≡ less + 1 = c.if-not-begin.ensures.left refl in
     let fewer : less ≤ left = omega (arith, budget, l.invariant.left) in
-    let r : Done = done (g.W.MakesSteps.run c.inner.new.world) c.inner.new.self.left c.inner.new.action c.inner.new.frames c.in_ok-flow.flow in
-    let came : ComesSo script less r (λ go. inner go body (doing (g.W.MakesSteps.run l.world) less l.action l.frames)) =
-    of_script c.begin.new.self.script.now script less r (λ x go. inner go body (doing (g.W.MakesSteps.run l.world) less l.action l.frames))
-    (c.begin.ensures.script ∙ l.invariant.script) c.in_ok-flow.ensures.means in
+    let r : Done = done (g.W.ActivitySteps.run c.inner.new.world) c.inner.new.self.left c.inner.new.action c.inner.new.frames c.in_ok-flow.flow in
     let ended : c.in_ok-flow.flow ≡ Ended = elim c.match-matches.branch [
       | repeat-in-Ended w ↦ w.in-Ended.is
       | repeat-in_default w ↦ absurd (clash c.if-not-matches.false w.matches-is)
@@ -146,10 +160,8 @@ repeat-loop-preserved g t c =
     let bound : sizes c.inner.new.frames ≡ sizes l.frames = search rules in
     let same : c.inner.new.self.script.now ≡ l.self.script.now = cc in
     record {
-      goes_on = then_goes (g.W.MakesSteps.run c.args.world.now) (g.W.MakesSteps.run l.world) (g.W.MakesSteps.run c.inner.new.world) l.invariant.goes_on c.inner.ensures.goes_on;
-      own = keeps_then c.args.action.now.name l.action.name (g.W.MakesSteps.run c.args.world.now) (g.W.MakesSteps.run l.world) (g.W.MakesSteps.run c.inner.new.world) l.invariant.name l.invariant.own
-          c.inner.ensures.own;
-      commits = then_commits (g.W.MakesSteps.run c.args.world.now) (g.W.MakesSteps.run l.world) (g.W.MakesSteps.run c.inner.new.world) l.invariant.goes_on l.invariant.commits c.inner.ensures.commits;
+      makes = then_makes c.args.action.now.name l.action.name (g.W.ActivitySteps.run c.args.world.now) (g.W.ActivitySteps.run l.world)
+          (g.W.ActivitySteps.run c.inner.new.world) l.invariant.name l.invariant.makes c.inner.ensures.makes;
       resolved = subst IsResolved (sym same) l.invariant.resolved;
       body = same_body l.self.script.now c.inner.new.self.script.now (sizes l.frames) (sizes c.inner.new.frames) c.args.body.now same bound
           l.invariant.body;
@@ -158,78 +170,49 @@ repeat-loop-preserved g t c =
       script = cc;
       name = cc;
       home = cc;
-      means = turn_goes script left turns body old d n m less r l.invariant.means one budget fewer came ended;
+      means = λ alone.
+          let came : ComesSo script less r (λ go. inner go body (doing (g.W.ActivitySteps.run l.world) less l.action l.frames)) =
+          of_script c.begin.new.self.script.now script less r (λ x go. inner go body (doing (g.W.ActivitySteps.run l.world) less l.action l.frames))
+          (c.begin.ensures.script ∙ l.invariant.script) (c.in_ok-flow.ensures.means alone) in
+          turn_goes script left turns body old d n m less r (l.invariant.means alone) one budget fewer came ended;
     }
-
--- what a nested top action leaves
-nested_goes : {x y z : World} → GoesOn x y [] → GoesOn y z [] → GoesOn x z []
-nested_goes {x = x} {y = y} {z = z} = then_goes x y z
-
-began_named : (found : Option Name) (a n : Name) (x y : World) → found ≡ Some a → n ≡ a → HaveBegun (named_by found) x y → HaveBegun (n ∷ []) x y
-began_named found a n x y e k h = subst (λ m. HaveBegun (m ∷ []) x y) (sym k) (subst (λ o. HaveBegun (named_by o) x y) e h)
 
 pub top_action-returns : goal.top_action-returns
 top_action-returns g t c =
     let script = c.args.self.now.script.now in
     let left = c.args.self.now.left in
-    let old : Doing = doing (g.W.MakesSteps.run c.args.world.now) left c.args.action.now c.args.frames.now in
-    let d : Doing = doing (g.W.MakesSteps.run c.begin_nested.new.world) left c.args.action.now c.args.frames.now in
+    let old : Doing = doing (g.W.ActivitySteps.run c.args.world.now) left c.args.action.now c.args.frames.now in
+    let d : Doing = doing (g.W.ActivitySteps.run c.begin_nested.new.world) left c.args.action.now c.args.frames.now in
     let home = c.args.action.now.home in
     let a = c.in-Some.name in
-    let r : Done = done (g.W.MakesSteps.run c.run.new.world) c.run.new.self.left c.run.new.action c.run.new.frames c.in_ok-flow.flow in
+    let r : Done = done (g.W.ActivitySteps.run c.run.new.world) c.run.new.self.left c.run.new.action c.run.new.frames c.in_ok-flow.flow in
     let acts : acting c.new-nested.result ≡ begun_at home a =
     acting_begun c.new-nested.result a home c.new-nested.ensures.name c.new-nested.ensures.home
     (ap (λ x. x.homes.keys) c.new-nested.ensures.reached ∙ c.in_ok-reached.ensures.homes)
     (ap (λ x. x.participants.keys) c.new-nested.ensures.reached ∙ c.in_ok-reached.ensures.participants) in
-    let ran : ComesSo script left r (λ go. run go (begun_at home a) c.args.frames.now c.args.body.now d) =
-    λ most h. c.in_ok-flow.ensures.means most h
-    ∙ run_named (body_done script.handlers most) (acting c.new-nested.result) (begun_at home a) c.in_ok-inside.inside c.args.frames.now c.args.body.now
-    c.args.body.now d acts c.in_ok-inside.ensures refl in
-    let begun = sym c.in-Some.is ∙ c.in_ok-name.ensures.begun in
-    let this : Done = done (g.W.MakesSteps.run c.run.new.world) c.run.new.self.left c.args.action.now c.args.frames.now c.in_ok-flow.flow in
-    let x = (g.W.MakesSteps.run c.args.world.now) in
-    let y = (g.W.MakesSteps.run c.begin_nested.new.world) in
-    let z = (g.W.MakesSteps.run c.run.new.world) in
+    let this : Done = done (g.W.ActivitySteps.run c.run.new.world) c.run.new.self.left c.args.action.now c.args.frames.now c.in_ok-flow.flow in
+    let x = (g.W.ActivitySteps.run c.args.world.now) in
+    let y = (g.W.ActivitySteps.run c.begin_nested.new.world) in
+    let z = (g.W.ActivitySteps.run c.run.new.world) in
     let n = c.new-nested.result.name in
-    let began = began_named c.in_ok-name.field-0 c.in-Some.name n x y c.in-Some.is c.new-nested.ensures.name c.in_ok-name.ensures.began in
+    let began = began_named c.in_ok-name.field-0 c.in-Some.name n (c.args.action.now.name ∷ []) x y c.in-Some.is c.new-nested.ensures.name c.in_ok-name.ensures.began in
     record {
-      goes_on = then_goes x y z c.begin_nested.ensures.goes_on c.run.ensures.goes_on;
-      own = child_keeps n (c.args.action.now.name ∷ []) x y z began c.begin_nested.ensures.own c.run.ensures.own;
-      commits = child_commits n x y z began c.begin_nested.ensures.goes_on c.begin_nested.ensures.commits c.run.ensures.others;
+      makes = child_makes n (c.args.action.now.name ∷ []) x y z began c.run.ensures.makes;
       frames = nothing_bound c.in_ok-flow.flow (sizes c.args.frames.now);
       left = c.run.ensures.left;
       script = c.run.ensures.script;
       name = refl;
       home = refl;
-      means =
-          nested_so script left old c.args.body.now c.args.signals.now y (Some a) this c.in_ok-name.ensures.made begun
+      means = λ alone.
+          let ran : ComesSo script left r (λ go. run go (begun_at home a) c.args.frames.now c.args.body.now d) =
+          λ most h. (c.in_ok-flow.ensures.means alone) most h
+          ∙ run_named (body_done script.handlers most) (acting c.new-nested.result) (begun_at home a) c.in_ok-inside.inside c.args.frames.now c.args.body.now
+          c.args.body.now d acts c.in_ok-inside.ensures refl in
+          let begun = sym c.in-Some.is ∙ (c.in_ok-name.ensures.begun alone) in
+          nested_so script left old c.args.body.now c.args.signals.now y (Some a) this (c.in_ok-name.ensures.made alone) begun
           (nested_ran script left d c.args.body.now c.args.signals.now a r this ran
           (λ most h. nested_past (body_done script.handlers most) c.args.signals.now (beside d r.doing) c.in_ok-flow.flow (λ e. c.in_default-2.not-Aborted e)));
     }
-
-pub top_action-returns-in-Aborted-clause-goes_on : goal.top_action-returns-in-Aborted-clause-goes_on
-top_action-returns-in-Aborted-clause-goes_on g t c =
-    nested_goes (nested_goes c.begin_nested.ensures.goes_on c.run.ensures.goes_on) c.inner.ensures.goes_on
-
-pub top_action-returns-in-Aborted-clause-own : goal.top_action-returns-in-Aborted-clause-own
-top_action-returns-in-Aborted-clause-own g t c =
-    let x = (g.W.MakesSteps.run c.args.world.now) in
-    let y = (g.W.MakesSteps.run c.begin_nested.new.world) in
-    let z = (g.W.MakesSteps.run c.run.new.world) in
-    let n = c.new-nested.result.name in
-    let began = began_named c.in_ok-name.field-0 c.in-Some.name n x y c.in-Some.is c.new-nested.ensures.name c.in_ok-name.ensures.began in
-    then_keeps c.args.action.now.name x z (g.W.MakesSteps.run c.inner.new.world)
-    (child_keeps n (c.args.action.now.name ∷ []) x y z began c.begin_nested.ensures.own c.run.ensures.own) c.inner.ensures.own
-
-pub top_action-returns-in-Aborted-clause-commits : goal.top_action-returns-in-Aborted-clause-commits
-top_action-returns-in-Aborted-clause-commits g t c =
-    let x = (g.W.MakesSteps.run c.args.world.now) in
-    let y = (g.W.MakesSteps.run c.begin_nested.new.world) in
-    let z = (g.W.MakesSteps.run c.run.new.world) in
-    let n = c.new-nested.result.name in
-    let began = began_named c.in_ok-name.field-0 c.in-Some.name n x y c.in-Some.is c.new-nested.ensures.name c.in_ok-name.ensures.began in
-    then_commits x z (g.W.MakesSteps.run c.inner.new.world) (then_goes x y z c.begin_nested.ensures.goes_on c.run.ensures.goes_on)
-    (child_commits n x y z began c.begin_nested.ensures.goes_on c.begin_nested.ensures.commits c.run.ensures.others) c.inner.ensures.commits
 
 pub call-run-ended-requires : goal.call-run-ended-requires
 call-run-ended-requires g t c κs within =
@@ -244,32 +227,7 @@ call-run-ended-requires g t c κs within =
     let begins = handed_sizes c.in_ok-inside.field-0 c.in-Some.inside c.args.frames.now call c.in-Some.is c.in_ok-inside.ensures in
     let body = subst (λ (l : List Statement). IsBody script (sizes c.in-Some.inside) l) (sym c.as_slice-2.ensures)
     (subst (λ f. IsBody script f h.body) (sym begins) (called_body script frames call h c.requires.script c.requires.call there)) in
-    (omega arith, (within, (c.requires.script, (body, c.begin_call.ensures.goes_on.is_run))))
-
-pub call-returns-in-Aborted-clause-goes_on : goal.call-returns-in-Aborted-clause-goes_on
-call-returns-in-Aborted-clause-goes_on g t c =
-    nested_goes (nested_goes c.begin_call.ensures.goes_on c.run-ended.ensures.goes_on) c.run_signals-in-Aborted.ensures.goes_on
-
-pub call-returns-in-Aborted-clause-own : goal.call-returns-in-Aborted-clause-own
-call-returns-in-Aborted-clause-own g t c =
-    let x = (g.W.MakesSteps.run c.args.world.now) in
-    let y = (g.W.MakesSteps.run c.begin_call.new.world) in
-    let z = (g.W.MakesSteps.run c.run-ended.new.world) in
-    let n = c.new-child.result.name in
-    let began = called_began c.in_ok-name.field-0 c.in-Began.name n x y c.in-Began.is c.new-child.ensures.name c.in_ok-name.ensures.began in
-    keeps_then c.args.action.now.name c.take_in-taken.new.self.name x z (g.W.MakesSteps.run c.run_signals-in-Aborted.new.world) c.take_in-taken.ensures.name
-    (child_keeps n (c.args.action.now.name ∷ []) x y z began c.begin_call.ensures.own c.run-ended.ensures.own) c.run_signals-in-Aborted.ensures.own
-
-pub call-returns-in-Aborted-clause-commits : goal.call-returns-in-Aborted-clause-commits
-call-returns-in-Aborted-clause-commits g t c =
-    let x = (g.W.MakesSteps.run c.args.world.now) in
-    let y = (g.W.MakesSteps.run c.begin_call.new.world) in
-    let z = (g.W.MakesSteps.run c.run-ended.new.world) in
-    let n = c.new-child.result.name in
-    let began = called_began c.in_ok-name.field-0 c.in-Began.name n x y c.in-Began.is c.new-child.ensures.name c.in_ok-name.ensures.began in
-    then_commits x z (g.W.MakesSteps.run c.run_signals-in-Aborted.new.world) (then_goes x y z c.begin_call.ensures.goes_on c.run-ended.ensures.goes_on)
-    (child_commits n x y z began c.begin_call.ensures.goes_on c.begin_call.ensures.commits c.run-ended.ensures.others)
-    c.run_signals-in-Aborted.ensures.commits
+    (omega arith, (within, (c.requires.script, body)))
 
 pub run_arms-run-ended-requires : goal.run_arms-run-ended-requires
 run_arms-run-ended-requires g t c κs within =
@@ -282,7 +240,7 @@ run_arms-run-ended-requires g t c κs within =
     let body = subst (λ (b : List Statement). IsBody script (sizes c.in_ok-inside.inside) b) (sym c.arm_body.ensures)
     (subst (λ f. IsBody script f (body_of arm)) (sym copied)
     (arm_of script (sizes c.args.frames.now) arms l.arm-index arm l.invariant.arms there)) in
-    (omega arith, (within, (l.invariant.resolved, (body, l.invariant.goes_on.is_run))))
+    (omega arith, (within, (l.invariant.resolved, body)))
 
 pub run_arms-loop-arm-preserved : goal.run_arms-loop-arm-preserved
 run_arms-loop-arm-preserved g t c =
@@ -294,53 +252,38 @@ run_arms-loop-arm-preserved g t c =
     let arm = c.arm-item.result in
     let a = c.new-child.result.name in
     let names = c.pop.new.self.items in
-    let old : Doing = doing (g.W.MakesSteps.run c.args.world.now) left c.args.action.now frames in
-    let d : Doing = doing (g.W.MakesSteps.run l.world) l.self.left l.action frames in
-    let r : Done = done (g.W.MakesSteps.run c.run-ended.new.world) c.run-ended.new.self.left c.run-ended.new.action c.run-ended.new.frames c.in_ok-flow.flow in
-    let next : Doing = doing (g.W.MakesSteps.run c.run-ended.new.world) c.run-ended.new.self.left c.match-arm.action frames in
+    let old : Doing = doing (g.W.ActivitySteps.run c.args.world.now) left c.args.action.now frames in
+    let d : Doing = doing (g.W.ActivitySteps.run l.world) l.self.left l.action frames in
+    let r : Done = done (g.W.ActivitySteps.run c.run-ended.new.world) c.run-ended.new.self.left c.run-ended.new.action c.run-ended.new.frames c.in_ok-flow.flow in
+    let next : Doing = doing (g.W.ActivitySteps.run c.run-ended.new.world) c.run-ended.new.self.left c.match-arm.action frames in
     let popped_so = popped l.waiting.items names c.pop.result c.unwrap.result a c.pop.ensures.items c.unwrap.ensures c.new-child.ensures.name in
-    let from : AreArmsFrom script left arms (reverse c.args.waiting.now.items) old (arm ∷ drop (l.arm-index + 1) arms) (a ∷ reverse names) d =
-    subst (λ (x : List Arm). AreArmsFrom script left arms (reverse c.args.waiting.now.items) old x (a ∷ reverse names) d)
-    (next_list arms l.arm-index arm (omega arith) c.arm-item.is)
-    (subst (λ (x : List Name). AreArmsFrom script left arms (reverse c.args.waiting.now.items) old (drop l.arm-index arms) x d)
-    (last_first l.waiting.items names a popped_so) l.invariant.means) in
     let acts : acting c.new-child.result ≡ begun_at l.action.home a =
     acting_begun c.new-child.result a l.action.home refl c.new-child.ensures.home
     (ap (λ x. x.homes.keys) c.new-child.ensures.reached ∙ c.in_ok-reached.ensures.homes)
     (ap (λ x. x.participants.keys) c.new-child.ensures.reached ∙ c.in_ok-reached.ensures.participants) in
-    let own : ComesSo script l.self.left r (λ go. run go (acting c.new-child.result) c.in_ok-inside.inside c.arm_body.result.now d) =
-    of_script l.self.script.now script l.self.left r (λ x go. run go (acting c.new-child.result) c.in_ok-inside.inside c.arm_body.result.now d)
-    l.invariant.script c.in_ok-flow.ensures.means in
-    let came : ComesSo script l.self.left r (λ go. run go (begun_at l.action.home a) frames (body_of arm) d) =
-    λ most h. own most h
-    ∙ run_named (body_done script.handlers most) (acting c.new-child.result) (begun_at l.action.home a) c.in_ok-inside.inside frames c.arm_body.result.now
-    (body_of arm) d acts c.in_ok-inside.ensures c.arm_body.ensures in
     let knows : next ≡ past_arm (kind_of arm) d r = elim c.match-arm.branch [
       | run_arms-in-Sub w ↦
-          ap (λ (x : OpenAction). doing (g.W.MakesSteps.run c.run-ended.new.world) c.run-ended.new.self.left x frames) w.action-is
+          ap (λ (x : OpenAction). doing (g.W.ActivitySteps.run c.run-ended.new.world) c.run-ended.new.self.left x frames) w.action-is
           ∙ sub_past arm w.in-Sub.field-0 d r (acting w.take_in-taken.new.self) w.in-Sub.is
           (ok_so w.take_in-taken.result c.in_ok-taken.field-0 _ (sym w.taken-is ∙ c.in_ok-taken.was) w.take_in-taken.ensures.taken
           ∙ ap (λ b. taken_in (acting l.action) r.doing.acting b) (w.has_committed.ensures ∙ ap (λ x. has_committed x) c.in_ok-flow.was))
       | run_arms-in-Top w ↦
-          ap (λ (x : OpenAction). doing (g.W.MakesSteps.run c.run-ended.new.world) c.run-ended.new.self.left x frames) w.action-is
+          ap (λ (x : OpenAction). doing (g.W.ActivitySteps.run c.run-ended.new.world) c.run-ended.new.self.left x frames) w.action-is
           ∙ top_past arm w.in-Top.field-0 d r w.in-Top.is
     ] in
     let past : is_past c.in_ok-flow.flow ≡ true = elim c.match-matches.branch [
       | run_arms-in-Ended w ↦ elim w.in-Ended.is [ inl e ↦ ap is_past e | inr e ↦ ap is_past e ]
       | run_arms-in_default w ↦ absurd (clash c.if-not-matches.false w.matches-is)
     ] in
-    let arms_mean = arm_goes script left arms (reverse c.args.waiting.now.items) old d arm a (drop (l.arm-index + 1) arms) (reverse names) r next from
-    l.invariant.left came past knows in
-    let x = (g.W.MakesSteps.run c.args.world.now) in
-    let z = (g.W.MakesSteps.run c.run-ended.new.world) in
+    let x = (g.W.ActivitySteps.run c.args.world.now) in
+    let z = (g.W.ActivitySteps.run c.run-ended.new.world) in
     let all = c.args.waiting.now.items in
     let waits = l.waiting.items in
     let rest = c.pop.new.self.items in
     let is = popped waits rest c.pop.result c.unwrap.result a c.pop.ensures.items c.unwrap.ensures c.new-child.ensures.name in
     record {
-      goes_on = then_goes x (g.W.MakesSteps.run l.world) z l.invariant.goes_on c.run-ended.ensures.goes_on;
-      own = one_keeps a all x (g.W.MakesSteps.run l.world) z (l.invariant.among a (last_waits waits rest a is)) l.invariant.own c.run-ended.ensures.own;
-      others = others_commit waits rest a is all x (g.W.MakesSteps.run l.world) z l.invariant.goes_on l.invariant.others l.invariant.among c.run-ended.ensures.others;
+      makes = one_makes a all x (g.W.ActivitySteps.run l.world) z (l.invariant.among a (last_waits waits rest a is)) l.invariant.makes
+          c.run-ended.ensures.makes;
       among = λ b h. l.invariant.among b (earlier_waits waits rest a is b h);
       each = omega (arith, popped_length waits rest a is, l.invariant.each);
       resolved = subst IsResolved (sym c.run-ended.ensures.script) l.invariant.resolved;
@@ -350,44 +293,23 @@ run_arms-loop-arm-preserved g t c =
       script = cc;
       name = elim c.match-arm.branch [ run_arms-in-Sub w ↦ (cc) | run_arms-in-Top w ↦ (cc) ];
       home = elim c.match-arm.branch [ run_arms-in-Sub w ↦ (cc) | run_arms-in-Top w ↦ (cc) ];
-      means = arms_mean;
+      means = λ alone.
+          let from : AreArmsFrom script left arms (reverse c.args.waiting.now.items) old (arm ∷ drop (l.arm-index + 1) arms) (a ∷ reverse names) d =
+          subst (λ (x : List Arm). AreArmsFrom script left arms (reverse c.args.waiting.now.items) old x (a ∷ reverse names) d)
+          (next_list arms l.arm-index arm (omega arith) c.arm-item.is)
+          (subst (λ (x : List Name). AreArmsFrom script left arms (reverse c.args.waiting.now.items) old (drop l.arm-index arms) x d)
+          (last_first l.waiting.items names a popped_so) (l.invariant.means alone)) in
+          let own : ComesSo script l.self.left r (λ go. run go (acting c.new-child.result) c.in_ok-inside.inside c.arm_body.result.now d) =
+          of_script l.self.script.now script l.self.left r (λ x go. run go (acting c.new-child.result) c.in_ok-inside.inside c.arm_body.result.now d)
+          l.invariant.script (c.in_ok-flow.ensures.means alone) in
+          let came : ComesSo script l.self.left r (λ go. run go (begun_at l.action.home a) frames (body_of arm) d) =
+          λ most h. own most h
+          ∙ run_named (body_done script.handlers most) (acting c.new-child.result) (begun_at l.action.home a) c.in_ok-inside.inside frames c.arm_body.result.now
+          (body_of arm) d acts c.in_ok-inside.ensures c.arm_body.ensures in
+          let arms_mean = arm_goes script left arms (reverse c.args.waiting.now.items) old d arm a (drop (l.arm-index + 1) arms) (reverse names) r next from
+          l.invariant.left came past knows in
+          arms_mean;
     }
-
-pub run_arms-returns-in_err-flow-clause-others : goal.run_arms-returns-in_err-flow-clause-others
-run_arms-returns-in_err-flow-clause-others g t c =
-    let l = c.loop-arm in
-    let rest = c.pop.new.self.items in
-    let a = c.new-child.result.name in
-    let is = popped l.waiting.items rest c.pop.result c.unwrap.result a c.pop.ensures.items c.unwrap.ensures c.new-child.ensures.name in
-    others_commit l.waiting.items rest a is c.args.waiting.now.items (g.W.MakesSteps.run c.args.world.now) (g.W.MakesSteps.run l.world) (g.W.MakesSteps.run c.run-ended.new.world) l.invariant.goes_on
-    l.invariant.others l.invariant.among c.run-ended.ensures.others
-
-pub run_arms-returns-in_err-taken-clause-others : goal.run_arms-returns-in_err-taken-clause-others
-run_arms-returns-in_err-taken-clause-others g t c =
-    let l = c.loop-arm in
-    let rest = c.pop.new.self.items in
-    let a = c.new-child.result.name in
-    let is = popped l.waiting.items rest c.pop.result c.unwrap.result a c.pop.ensures.items c.unwrap.ensures c.new-child.ensures.name in
-    others_commit l.waiting.items rest a is c.args.waiting.now.items (g.W.MakesSteps.run c.args.world.now) (g.W.MakesSteps.run l.world) (g.W.MakesSteps.run c.run-ended.new.world) l.invariant.goes_on
-    l.invariant.others l.invariant.among c.run-ended.ensures.others
-
-pub run_arms-returns-then-not-matches-clause-others : goal.run_arms-returns-then-not-matches-clause-others
-run_arms-returns-then-not-matches-clause-others g t c =
-    let l = c.loop-arm in
-    let rest = c.pop.new.self.items in
-    let a = c.new-child.result.name in
-    let is = popped l.waiting.items rest c.pop.result c.unwrap.result a c.pop.ensures.items c.unwrap.ensures c.new-child.ensures.name in
-    others_commit l.waiting.items rest a is c.args.waiting.now.items (g.W.MakesSteps.run c.args.world.now) (g.W.MakesSteps.run l.world) (g.W.MakesSteps.run c.run-ended.new.world) l.invariant.goes_on
-    l.invariant.others l.invariant.among c.run-ended.ensures.others
-
-pub run_arms-returns-in_err-flow-clause-own : goal.run_arms-returns-in_err-flow-clause-own
-run_arms-returns-in_err-flow-clause-own g t c =
-    let l = c.loop-arm in
-    let rest = c.pop.new.self.items in
-    let a = c.new-child.result.name in
-    let is = popped l.waiting.items rest c.pop.result c.unwrap.result a c.pop.ensures.items c.unwrap.ensures c.new-child.ensures.name in
-    one_keeps a c.args.waiting.now.items (g.W.MakesSteps.run c.args.world.now) (g.W.MakesSteps.run l.world) (g.W.MakesSteps.run c.run-ended.new.world)
-    (l.invariant.among a (last_waits l.waiting.items rest a is)) l.invariant.own c.run-ended.ensures.own
 
 pub run_arms-returns-in_err-flow-clause-rest : goal.run_arms-returns-in_err-flow-clause-rest
 run_arms-returns-in_err-flow-clause-rest g t c =
@@ -397,15 +319,6 @@ run_arms-returns-in_err-flow-clause-rest g t c =
     let is = popped l.waiting.items rest c.pop.result c.unwrap.result a c.pop.ensures.items c.unwrap.ensures c.new-child.ensures.name in
     λ b h. l.invariant.among b (earlier_waits l.waiting.items rest a is b h)
 
-pub run_arms-returns-in_err-taken-clause-own : goal.run_arms-returns-in_err-taken-clause-own
-run_arms-returns-in_err-taken-clause-own g t c =
-    let l = c.loop-arm in
-    let rest = c.pop.new.self.items in
-    let a = c.new-child.result.name in
-    let is = popped l.waiting.items rest c.pop.result c.unwrap.result a c.pop.ensures.items c.unwrap.ensures c.new-child.ensures.name in
-    one_keeps a c.args.waiting.now.items (g.W.MakesSteps.run c.args.world.now) (g.W.MakesSteps.run l.world) (g.W.MakesSteps.run c.run-ended.new.world)
-    (l.invariant.among a (last_waits l.waiting.items rest a is)) l.invariant.own c.run-ended.ensures.own
-
 pub run_arms-returns-in_err-taken-clause-rest : goal.run_arms-returns-in_err-taken-clause-rest
 run_arms-returns-in_err-taken-clause-rest g t c =
     let l = c.loop-arm in
@@ -413,15 +326,6 @@ run_arms-returns-in_err-taken-clause-rest g t c =
     let a = c.new-child.result.name in
     let is = popped l.waiting.items rest c.pop.result c.unwrap.result a c.pop.ensures.items c.unwrap.ensures c.new-child.ensures.name in
     λ b h. l.invariant.among b (earlier_waits l.waiting.items rest a is b h)
-
-pub run_arms-returns-then-not-matches-clause-own : goal.run_arms-returns-then-not-matches-clause-own
-run_arms-returns-then-not-matches-clause-own g t c =
-    let l = c.loop-arm in
-    let rest = c.pop.new.self.items in
-    let a = c.new-child.result.name in
-    let is = popped l.waiting.items rest c.pop.result c.unwrap.result a c.pop.ensures.items c.unwrap.ensures c.new-child.ensures.name in
-    one_keeps a c.args.waiting.now.items (g.W.MakesSteps.run c.args.world.now) (g.W.MakesSteps.run l.world) (g.W.MakesSteps.run c.run-ended.new.world)
-    (l.invariant.among a (last_waits l.waiting.items rest a is)) l.invariant.own c.run-ended.ensures.own
 
 pub run_arms-returns-then-not-matches-clause-rest : goal.run_arms-returns-then-not-matches-clause-rest
 run_arms-returns-then-not-matches-clause-rest g t c =
@@ -431,11 +335,13 @@ run_arms-returns-then-not-matches-clause-rest g t c =
     let is = popped l.waiting.items rest c.pop.result c.unwrap.result a c.pop.ensures.items c.unwrap.ensures c.new-child.ensures.name in
     λ b h. l.invariant.among b (earlier_waits l.waiting.items rest a is b h)
 
-pub statement-perform-requires-clause-call : goal.statement-perform-requires-clause-call
-statement-perform-requires-clause-call g t c =
+pub statement-perform-requires : goal.statement-perform-requires
+statement-perform-requires g t c =
     let frames = sizes c.args.frames.now in
-    op_of c.args.self.now.script.now frames c.in-Op.call c.in-Op.signals
-    (subst (λ (s : Statement). IsStatement c.args.self.now.script.now frames s) c.in-Op.is c.requires.statement)
+    record {
+      call = op_of c.args.self.now.script.now frames c.in-Op.call c.in-Op.signals
+          (subst (λ (s : Statement). IsStatement c.args.self.now.script.now frames s) c.in-Op.is c.requires.statement);
+    }
 
 pub statement-call-requires : goal.statement-call-requires
 statement-call-requires g t c κs within =
@@ -445,7 +351,7 @@ statement-call-requires g t c κs within =
     let asks = subst (λ (s : Statement). IsStatement script frames s) c.in-Call.is c.requires.statement in
     let resolved = call_of script frames call c.in-Call.signals asks in
     let signals = call_signals script frames call c.in-Call.signals asks in
-    (omega arith, (within, (c.requires.script, (resolved, (signals, c.requires.run)))))
+    (omega arith, (within, (c.requires.script, (resolved, signals))))
 
 pub statement-run_signals-requires : goal.statement-run_signals-requires
 statement-run_signals-requires g t c κs within =
@@ -456,7 +362,7 @@ statement-run_signals-requires g t c κs within =
     let same = subst (λ p. IsOutcome p binding frames (sizes c.perform.new.frames)) c.in-Signalled.is c.in_ok-perform-in-Op.ensures.frames in
     let signals = subst (λ f. SignalsHold script f c.in-Op.signals) (sym same)
     (signals_hold_there script frames binding c.in-Op.signals (op_signals script frames c.in-Op.call c.in-Op.signals asks)) in
-    (omega arith, (within, (c.requires.script, (signals, c.perform.ensures.goes_on.is_run))))
+    (omega arith, (within, (c.requires.script, signals)))
 
 pub statement-returns-in-Signalled-clause-frames : goal.statement-returns-in-Signalled-clause-frames
 statement-returns-in-Signalled-clause-frames g t c =
@@ -476,17 +382,16 @@ statement-returns-in-Signalled-clause-frames g t c =
 
 pub run-returns-in-Ok-clause-means : goal.run-returns-in-Ok-clause-means
 run-returns-in-Ok-clause-means g t c =
-    let r : Done = done (g.W.MakesSteps.run c.body.new.world) c.body.new.self.left c.body.new.action c.body.new.frames c.in-Ok.flow in
-    if_ok_then c.end.result c.end.ensures.means
+    if_ok_with _ c.end.result (λ alone.
+    let r : Done = done (g.W.ActivitySteps.run c.body.new.world) c.body.new.self.left c.body.new.action c.body.new.frames c.in-Ok.flow in
+    if_ok_then c.end.result (if_ok_at_all _ c.end.result c.end.ensures.means alone)
     (λ end e. run_ends c.args.self.now.script.now c.args.self.now.left (acting c.args.action.now) c.args.frames.now c.args.body.now
-    (doing (g.W.MakesSteps.run c.args.world.now) c.args.self.now.left c.args.action.now c.args.frames.now) r
-    (record { world = (g.W.MakesSteps.run c.end.new.world); flow = end }) c.in-Ok.ensures.means e)
+    (doing (g.W.ActivitySteps.run c.args.world.now) c.args.self.now.left c.args.action.now c.args.frames.now) r
+    (record { world = (g.W.ActivitySteps.run c.end.new.world); flow = end }) (c.in-Ok.ensures.means alone) e))
 
 pub body-loop-statement-init : goal.body-loop-statement-init
 body-loop-statement-init g t c = record {
-  goes_on = goes_nowhere (g.W.MakesSteps.run c.args.world.now) c.requires.run;
-  own = keeps_nowhere (c.args.action.now.name ∷ []) (g.W.MakesSteps.run c.args.world.now);
-  commits = commits_nowhere (g.W.MakesSteps.run c.args.world.now);
+  makes = makes_nowhere (c.args.action.now.name ∷ []) [] (g.W.ActivitySteps.run c.args.world.now);
   resolved = c.requires.script;
   rest = c.requires.body;
   frames = record { ints = omega arith; texts = omega arith; truths = omega arith };
@@ -494,62 +399,60 @@ body-loop-statement-init g t c = record {
   script = refl;
   name = refl;
   home = refl;
-  means = λ most h. (most, h, refl);
+  means = λ alone most h. (most, h, refl);
 }
 
 pub body-returns-then-not-begin-clause-means : goal.body-returns-then-not-begin-clause-means
-body-returns-then-not-begin-clause-means g t c =
+body-returns-then-not-begin-clause-means g t c = λ alone.
     let l = c.loop-statement in
     let s = c.statement-item.result in
     let script = c.args.self.now.script.now in
     let left = c.args.self.now.left in
     let body = c.args.body.now in
-    let old : Doing = doing (g.W.MakesSteps.run c.args.world.now) left c.args.action.now c.args.frames.now in
-    let d : Doing = doing (g.W.MakesSteps.run l.world) l.self.left l.action l.frames in
+    let old : Doing = doing (g.W.ActivitySteps.run c.args.world.now) left c.args.action.now c.args.frames.now in
+    let d : Doing = doing (g.W.ActivitySteps.run l.world) l.self.left l.action l.frames in
     let rest = drop (l.statement-index + 1) body in
     let from : IsBodyFrom script left body old (s ∷ rest) d =
     subst (λ (x : List Statement). IsBodyFrom script left body old x d) (next_list body l.statement-index s (omega arith) c.statement-item.is)
-    l.invariant.means in
-    subst (λ n. ComesSo script left (done (g.W.MakesSteps.run l.world) n l.action l.frames (Outwards reach.Client)) (λ go. go body old))
+    (l.invariant.means alone) in
+    subst (λ n. ComesSo script left (done (g.W.ActivitySteps.run l.world) n l.action l.frames (Outwards reach.Client)) (λ go. go body old))
     ((c.if-not-begin.ensures.none refl).0 ∙ sym (c.if-not-begin.ensures.none refl).1) (body_lacks script left body old d s rest from (c.if-not-begin.ensures.none refl).0)
 
 pub body-returns-then-not-matches-clause-means : goal.body-returns-then-not-matches-clause-means
-body-returns-then-not-matches-clause-means g t c =
+body-returns-then-not-matches-clause-means g t c = λ alone.
     let l = c.loop-statement in
     let s = c.statement-item.result in
     let script = c.args.self.now.script.now in
     let left = c.args.self.now.left in
     let body = c.args.body.now in
-    let old : Doing = doing (g.W.MakesSteps.run c.args.world.now) left c.args.action.now c.args.frames.now in
-    let d : Doing = doing (g.W.MakesSteps.run l.world) l.self.left l.action l.frames in
+    let old : Doing = doing (g.W.ActivitySteps.run c.args.world.now) left c.args.action.now c.args.frames.now in
+    let d : Doing = doing (g.W.ActivitySteps.run l.world) l.self.left l.action l.frames in
     let rest = drop (l.statement-index + 1) body in
     let from : IsBodyFrom script left body old (s ∷ rest) d =
     subst (λ (x : List Statement). IsBodyFrom script left body old x d) (next_list body l.statement-index s (omega arith) c.statement-item.is)
-    l.invariant.means in
+    (l.invariant.means alone) in
     let less = c.begin.new.self.left in
     let budget : l.self.left ≡ less + 1 = c.if-not-begin.ensures.left refl in
-    let r : Done = done (g.W.MakesSteps.run c.statement.new.world) c.statement.new.self.left c.statement.new.action c.statement.new.frames c.in_ok-flow.flow in
-    let came : ComesSo script less r (λ go. statement_done script.handlers go s (doing (g.W.MakesSteps.run l.world) less l.action l.frames)) =
-    of_script c.begin.new.self.script.now script less r (λ x go. statement_done x.handlers go s (doing (g.W.MakesSteps.run l.world) less l.action l.frames))
-    (c.begin.ensures.script ∙ l.invariant.script) c.in_ok-flow.ensures.means in
+    let r : Done = done (g.W.ActivitySteps.run c.statement.new.world) c.statement.new.self.left c.statement.new.action c.statement.new.frames c.in_ok-flow.flow in
+    let came : ComesSo script less r (λ go. statement_done script.handlers go s (doing (g.W.ActivitySteps.run l.world) less l.action l.frames)) =
+    of_script c.begin.new.self.script.now script less r (λ x go. statement_done x.handlers go s (doing (g.W.ActivitySteps.run l.world) less l.action l.frames))
+    (c.begin.ensures.script ∙ l.invariant.script) (c.in_ok-flow.ensures.means alone) in
     body_stops script left body old d s rest less r from budget came (λ e. elim c.match-matches.branch [
       | body-in-Ended w ↦ clash w.matches-is c.if-not-matches.true
       | body-in_default w ↦ w.in_default.not-Ended e
     ])
 
 pub body-returns-clause-means : goal.body-returns-clause-means
-body-returns-clause-means g t c =
+body-returns-clause-means g t c = λ alone.
     let l = c.loop-statement in
     body_ends c.args.self.now.script.now c.args.self.now.left c.args.body.now
-    (doing (g.W.MakesSteps.run c.args.world.now) c.args.self.now.left c.args.action.now c.args.frames.now)
-    (doing (g.W.MakesSteps.run l.world) l.self.left l.action l.frames) (drop l.statement-index c.args.body.now)
-    (drop_of_length-le c.args.body.now (omega (arith, c.loop-statement-test.false))) l.invariant.means
+    (doing (g.W.ActivitySteps.run c.args.world.now) c.args.self.now.left c.args.action.now c.args.frames.now)
+    (doing (g.W.ActivitySteps.run l.world) l.self.left l.action l.frames) (drop l.statement-index c.args.body.now)
+    (drop_of_length-le c.args.body.now (omega (arith, c.loop-statement-test.false))) (l.invariant.means alone)
 
 pub repeat-loop-init : goal.repeat-loop-init
 repeat-loop-init g t c = record {
-  goes_on = goes_nowhere (g.W.MakesSteps.run c.args.world.now) c.requires.run;
-  own = keeps_nowhere (c.args.action.now.name ∷ []) (g.W.MakesSteps.run c.args.world.now);
-  commits = commits_nowhere (g.W.MakesSteps.run c.args.world.now);
+  makes = makes_nowhere (c.args.action.now.name ∷ []) [] (g.W.ActivitySteps.run c.args.world.now);
   resolved = c.requires.script;
   body = c.requires.body;
   frames = refl;
@@ -557,58 +460,59 @@ repeat-loop-init g t c = record {
   script = refl;
   name = refl;
   home = refl;
-  means = λ most h. ap (λ n. repeated (body_done c.args.self.now.script.now.handlers most) n c.args.body.now (doing (g.W.MakesSteps.run c.args.world.now) c.args.self.now.left c.args.action.now c.args.frames.now)) (omega arith);
+  means = λ alone most h. ap (λ n. repeated (body_done c.args.self.now.script.now.handlers most) n c.args.body.now (doing (g.W.ActivitySteps.run c.args.world.now) c.args.self.now.left c.args.action.now c.args.frames.now)) (omega arith);
 }
 
 pub repeat-returns-then-not-begin-clause-means : goal.repeat-returns-then-not-begin-clause-means
-repeat-returns-then-not-begin-clause-means g t c =
+repeat-returns-then-not-begin-clause-means g t c = λ alone.
     let l = c.loop in
     let script = c.args.self.now.script.now in
     let left = c.args.self.now.left in
     let body = c.args.body.now in
     let turns = c.args.turns in
-    let old : Doing = doing (g.W.MakesSteps.run c.args.world.now) left c.args.action.now c.args.frames.now in
-    let d : Doing = doing (g.W.MakesSteps.run l.world) l.self.left l.action l.frames in
+    let old : Doing = doing (g.W.ActivitySteps.run c.args.world.now) left c.args.action.now c.args.frames.now in
+    let d : Doing = doing (g.W.ActivitySteps.run l.world) l.self.left l.action l.frames in
     let n = turns - l.counter in
     let m = turns - (l.counter + 1) in
     let one : n ≡ m + 1 = omega (arith, c.loop-test.true) in
-    subst (λ k. ComesSo script left (done (g.W.MakesSteps.run l.world) k l.action l.frames (Outwards reach.Client)) (λ go. repeated go turns body old))
+    subst (λ k. ComesSo script left (done (g.W.ActivitySteps.run l.world) k l.action l.frames (Outwards reach.Client)) (λ go. repeated go turns body old))
     ((c.if-not-begin.ensures.none refl).0 ∙ sym (c.if-not-begin.ensures.none refl).1)
-    (turn_lacks script left turns body old d n m l.invariant.means one (c.if-not-begin.ensures.none refl).0)
+    (turn_lacks script left turns body old d n m (l.invariant.means alone) one (c.if-not-begin.ensures.none refl).0)
 
 pub repeat-returns-then-not-matches-clause-means : goal.repeat-returns-then-not-matches-clause-means
-repeat-returns-then-not-matches-clause-means g t c =
+repeat-returns-then-not-matches-clause-means g t c = λ alone.
     let l = c.loop in
     let script = c.args.self.now.script.now in
     let left = c.args.self.now.left in
     let body = c.args.body.now in
     let turns = c.args.turns in
-    let old : Doing = doing (g.W.MakesSteps.run c.args.world.now) left c.args.action.now c.args.frames.now in
-    let d : Doing = doing (g.W.MakesSteps.run l.world) l.self.left l.action l.frames in
+    let old : Doing = doing (g.W.ActivitySteps.run c.args.world.now) left c.args.action.now c.args.frames.now in
+    let d : Doing = doing (g.W.ActivitySteps.run l.world) l.self.left l.action l.frames in
     let n = turns - l.counter in
     let m = turns - (l.counter + 1) in
     let one : n ≡ m + 1 = omega (arith, c.loop-test.true) in
     let less = c.begin.new.self.left in
     let budget : l.self.left ≡ less + 1 = c.if-not-begin.ensures.left refl in
     let fewer : less ≤ left = omega (arith, budget, l.invariant.left) in
-    let r : Done = done (g.W.MakesSteps.run c.inner.new.world) c.inner.new.self.left c.inner.new.action c.inner.new.frames c.in_ok-flow.flow in
-    let came : ComesSo script less r (λ go. inner go body (doing (g.W.MakesSteps.run l.world) less l.action l.frames)) =
-    of_script c.begin.new.self.script.now script less r (λ x go. inner go body (doing (g.W.MakesSteps.run l.world) less l.action l.frames))
-    (c.begin.ensures.script ∙ l.invariant.script) c.in_ok-flow.ensures.means in
-    turn_stops script left turns body old d n m less r l.invariant.means one budget fewer came (λ e. elim c.match-matches.branch [
+    let r : Done = done (g.W.ActivitySteps.run c.inner.new.world) c.inner.new.self.left c.inner.new.action c.inner.new.frames c.in_ok-flow.flow in
+    let came : ComesSo script less r (λ go. inner go body (doing (g.W.ActivitySteps.run l.world) less l.action l.frames)) =
+    of_script c.begin.new.self.script.now script less r (λ x go. inner go body (doing (g.W.ActivitySteps.run l.world) less l.action l.frames))
+    (c.begin.ensures.script ∙ l.invariant.script) (c.in_ok-flow.ensures.means alone) in
+    turn_stops script left turns body old d n m less r (l.invariant.means alone) one budget fewer came (λ e. elim c.match-matches.branch [
       | repeat-in-Ended w ↦ clash w.matches-is c.if-not-matches.true
       | repeat-in_default w ↦ w.in_default.not-Ended e
     ])
 
 pub repeat-returns-clause-means : goal.repeat-returns-clause-means
-repeat-returns-clause-means g t c =
+repeat-returns-clause-means g t c = λ alone.
     let l = c.loop in
     turns_end c.args.self.now.script.now c.args.self.now.left c.args.turns c.args.body.now
-    (doing (g.W.MakesSteps.run c.args.world.now) c.args.self.now.left c.args.action.now c.args.frames.now)
-    (doing (g.W.MakesSteps.run l.world) l.self.left l.action l.frames) (c.args.turns - l.counter) (omega (arith, c.loop-test.false)) l.invariant.means
+    (doing (g.W.ActivitySteps.run c.args.world.now) c.args.self.now.left c.args.action.now c.args.frames.now)
+    (doing (g.W.ActivitySteps.run l.world) l.self.left l.action l.frames) (c.args.turns - l.counter) (omega (arith, c.loop-test.false)) (l.invariant.means alone)
 
 pub call-returns-in-Signalled-clause-means : goal.call-returns-in-Signalled-clause-means
 call-returns-in-Signalled-clause-means g t c =
+    if_ok_with _ c.run_signals.result (λ alone.
     let script = c.args.self.now.script.now in
     let left = c.args.self.now.left in
     let call = c.args.call.now in
@@ -616,22 +520,22 @@ call-returns-in-Signalled-clause-means g t c =
     let action = c.args.action.now in
     let frames = c.args.frames.now in
     let h = c.index-as_slice-call.result in
-    let y = (g.W.MakesSteps.run c.begin_call.new.world) in
+    let y = (g.W.ActivitySteps.run c.begin_call.new.world) in
     let found : slice_get script.handlers call.handler ≡ Some h =
     subst (λ (l : List Handler). slice_get l call.handler ≡ Some h) c.as_slice.ensures
     (slice_get_read c.as_slice.result.now (length c.as_slice.result.now) call.handler h refl
     (subst (λ (l : List Handler). call.handler < length l) (sym c.as_slice.ensures) (called_within script (sizes frames) call c.requires.call))
     c.index-as_slice-call.is) in
     let handed : given frames call ≡ Some c.in-Some.inside = sym c.in_ok-inside.ensures ∙ c.in-Some.is in
-    let old : Doing = doing (g.W.MakesSteps.run c.args.world.now) left action frames in
+    let old : Doing = doing (g.W.ActivitySteps.run c.args.world.now) left action frames in
     let d : Doing = doing y left action frames in
-    if_ok_then c.run_signals.result c.run_signals.ensures.means
+    if_ok_then c.run_signals.result (if_ok_at_all _ c.run_signals.result c.run_signals.ensures.means alone)
     (λ flow m. call_so script left old (slice_get script.handlers call.handler) h call signals (given frames call) c.in-Some.inside y called.Signalled
-    (done (g.W.MakesSteps.run c.run_signals.new.world) c.run_signals.new.self.left c.run_signals.new.action c.run_signals.new.frames flow) found handed
-    c.in_ok-name.ensures.made (sym c.in-Signalled.is ∙ c.in_ok-name.ensures.called) m)
+    (done (g.W.ActivitySteps.run c.run_signals.new.world) c.run_signals.new.self.left c.run_signals.new.action c.run_signals.new.frames flow) found handed
+    (c.in_ok-name.ensures.made alone) (sym c.in-Signalled.is ∙ (c.in_ok-name.ensures.called alone)) m))
 
 pub call-returns-in-Refused-clause-means : goal.call-returns-in-Refused-clause-means
-call-returns-in-Refused-clause-means g t c =
+call-returns-in-Refused-clause-means g t c = λ alone.
     let script = c.args.self.now.script.now in
     let left = c.args.self.now.left in
     let call = c.args.call.now in
@@ -639,20 +543,21 @@ call-returns-in-Refused-clause-means g t c =
     let action = c.args.action.now in
     let frames = c.args.frames.now in
     let h = c.index-as_slice-call.result in
-    let y = (g.W.MakesSteps.run c.begin_call.new.world) in
+    let y = (g.W.ActivitySteps.run c.begin_call.new.world) in
     let found : slice_get script.handlers call.handler ≡ Some h =
     subst (λ (l : List Handler). slice_get l call.handler ≡ Some h) c.as_slice.ensures
     (slice_get_read c.as_slice.result.now (length c.as_slice.result.now) call.handler h refl
     (subst (λ (l : List Handler). call.handler < length l) (sym c.as_slice.ensures) (called_within script (sizes frames) call c.requires.call))
     c.index-as_slice-call.is) in
     let handed : given frames call ≡ Some c.in-Some.inside = sym c.in_ok-inside.ensures ∙ c.in-Some.is in
-    let old : Doing = doing (g.W.MakesSteps.run c.args.world.now) left action frames in
+    let old : Doing = doing (g.W.ActivitySteps.run c.args.world.now) left action frames in
     let d : Doing = doing y left action frames in
     call_so script left old (slice_get script.handlers call.handler) h call signals (given frames call) c.in-Some.inside y called.Refused
-    (done y left action frames Aborted) found handed c.in_ok-name.ensures.made (sym c.in-Refused.is ∙ c.in_ok-name.ensures.called) (λ most lt. refl)
+    (done y left action frames Aborted) found handed (c.in_ok-name.ensures.made alone) (sym c.in-Refused.is ∙ (c.in_ok-name.ensures.called alone)) (λ most lt. refl)
 
 pub call-returns-in-Aborted-clause-means : goal.call-returns-in-Aborted-clause-means
 call-returns-in-Aborted-clause-means g t c =
+    if_ok_with _ c.run_signals-in-Aborted.result (λ alone.
     let script = c.args.self.now.script.now in
     let left = c.args.self.now.left in
     let call = c.args.call.now in
@@ -660,25 +565,25 @@ call-returns-in-Aborted-clause-means g t c =
     let action = c.args.action.now in
     let frames = c.args.frames.now in
     let h = c.index-as_slice-call.result in
-    let y = (g.W.MakesSteps.run c.begin_call.new.world) in
+    let y = (g.W.ActivitySteps.run c.begin_call.new.world) in
     let found : slice_get script.handlers call.handler ≡ Some h =
     subst (λ (l : List Handler). slice_get l call.handler ≡ Some h) c.as_slice.ensures
     (slice_get_read c.as_slice.result.now (length c.as_slice.result.now) call.handler h refl
     (subst (λ (l : List Handler). call.handler < length l) (sym c.as_slice.ensures) (called_within script (sizes frames) call c.requires.call))
     c.index-as_slice-call.is) in
     let handed : given frames call ≡ Some c.in-Some.inside = sym c.in_ok-inside.ensures ∙ c.in-Some.is in
-    let old : Doing = doing (g.W.MakesSteps.run c.args.world.now) left action frames in
+    let old : Doing = doing (g.W.ActivitySteps.run c.args.world.now) left action frames in
     let d : Doing = doing y left action frames in
     let n = c.in-Began.name in
-    let r : Done = done (g.W.MakesSteps.run c.run-ended.new.world) c.run-ended.new.self.left c.run-ended.new.action c.run-ended.new.frames c.in_ok-flow.flow in
+    let r : Done = done (g.W.ActivitySteps.run c.run-ended.new.world) c.run-ended.new.self.left c.run-ended.new.action c.run-ended.new.frames c.in_ok-flow.flow in
     let was : c.run-ended.result ≡ Ok c.in_ok-flow.flow = search rules in
     let acts : acting c.new-child.result ≡ begun_at h.guardian n =
     acting_begun c.new-child.result n h.guardian c.new-child.ensures.name c.new-child.ensures.home
     (ap (λ x. x.homes.keys) c.new-child.ensures.reached ∙ c.in_ok-reached.ensures.homes)
     (ap (λ x. x.participants.keys) c.new-child.ensures.reached ∙ c.in_ok-reached.ensures.participants) in
     let own : ComesSo script left r (λ go. run go (acting c.new-child.result) c.in-Some.inside c.as_slice-2.result.now d) =
-    if_ok_at (λ flow. ComesSo script left (done (g.W.MakesSteps.run c.run-ended.new.world) c.run-ended.new.self.left c.run-ended.new.action c.run-ended.new.frames flow)
-    (λ go. run go (acting c.new-child.result) c.in-Some.inside c.as_slice-2.result.now d)) c.run-ended.result c.in_ok-flow.flow was c.run-ended.ensures.means in
+    if_ok_at (λ flow. ComesSo script left (done (g.W.ActivitySteps.run c.run-ended.new.world) c.run-ended.new.self.left c.run-ended.new.action c.run-ended.new.frames flow)
+    (λ go. run go (acting c.new-child.result) c.in-Some.inside c.as_slice-2.result.now d)) c.run-ended.result c.in_ok-flow.flow was (if_ok_at_all _ c.run-ended.result c.run-ended.ensures.means alone) in
     let ran : ComesSo script left r (λ go. run go (begun_at h.guardian n) c.in-Some.inside h.body d) =
     λ most lt. own most lt
     ∙ run_named (body_done script.handlers most) (acting c.new-child.result) (begun_at h.guardian n) c.in-Some.inside c.in-Some.inside c.as_slice-2.result.now
@@ -686,23 +591,23 @@ call-returns-in-Aborted-clause-means g t c =
     let taken : acting c.take_in-taken.new.self ≡ taken_in (acting action) r.doing.acting (commits c.in_ok-flow.flow) =
     c.in_ok-taken.ensures.taken
     ∙ ap (λ b. taken_in (acting action) r.doing.acting b) (c.has_committed.ensures ∙ ap (λ x. has_committed x) was) in
-    let came = sym c.in-Began.is ∙ c.in_ok-name.ensures.called in
+    let came = sym c.in-Began.is ∙ (c.in_ok-name.ensures.called alone) in
     let e = c.run_signals-in-Aborted in
-    if_ok_then e.result e.ensures.means
+    if_ok_then e.result (if_ok_at_all _ e.result e.ensures.means alone)
     (λ flow m.
-    let this : Done = done (g.W.MakesSteps.run e.new.world) e.new.self.left e.new.action e.new.frames flow in
+    let this : Done = done (g.W.ActivitySteps.run e.new.world) e.new.self.left e.new.action e.new.frames flow in
     let signalled : ComesSo script c.run-ended.new.self.left this
-    (λ go. on_signal go signals (doing (g.W.MakesSteps.run c.run-ended.new.world) c.run-ended.new.self.left c.take_in-taken.new.self frames)) =
+    (λ go. on_signal go signals (doing (g.W.ActivitySteps.run c.run-ended.new.world) c.run-ended.new.self.left c.take_in-taken.new.self frames)) =
     of_script c.run-ended.new.self.script.now script c.run-ended.new.self.left this
-    (λ x go. on_signal go signals (doing (g.W.MakesSteps.run c.run-ended.new.world) c.run-ended.new.self.left c.take_in-taken.new.self frames)) c.run-ended.ensures.script m in
+    (λ x go. on_signal go signals (doing (g.W.ActivitySteps.run c.run-ended.new.world) c.run-ended.new.self.left c.take_in-taken.new.self frames)) c.run-ended.ensures.script m in
     call_so script left old (slice_get script.handlers call.handler) h call signals (given frames call) c.in-Some.inside y (called.Began n) this found handed
-    c.in_ok-name.ensures.made came
+    (c.in_ok-name.ensures.made alone) came
     (called_so script left d h c.in-Some.inside call.binding signals n r this ran
     (λ most lt. aborted_back (body_done script.handlers most) call.binding signals d r (acting c.take_in-taken.new.self) taken this c.in-Aborted.is
-    (signalled most (le_trans c.run-ended.ensures.left lt)))))
+    (signalled most (le_trans c.run-ended.ensures.left lt))))))
 
 pub call-returns-in-Ended-clause-means : goal.call-returns-in-Ended-clause-means
-call-returns-in-Ended-clause-means g t c =
+call-returns-in-Ended-clause-means g t c = λ alone.
     let script = c.args.self.now.script.now in
     let left = c.args.self.now.left in
     let call = c.args.call.now in
@@ -710,25 +615,25 @@ call-returns-in-Ended-clause-means g t c =
     let action = c.args.action.now in
     let frames = c.args.frames.now in
     let h = c.index-as_slice-call.result in
-    let y = (g.W.MakesSteps.run c.begin_call.new.world) in
+    let y = (g.W.ActivitySteps.run c.begin_call.new.world) in
     let found : slice_get script.handlers call.handler ≡ Some h =
     subst (λ (l : List Handler). slice_get l call.handler ≡ Some h) c.as_slice.ensures
     (slice_get_read c.as_slice.result.now (length c.as_slice.result.now) call.handler h refl
     (subst (λ (l : List Handler). call.handler < length l) (sym c.as_slice.ensures) (called_within script (sizes frames) call c.requires.call))
     c.index-as_slice-call.is) in
     let handed : given frames call ≡ Some c.in-Some.inside = sym c.in_ok-inside.ensures ∙ c.in-Some.is in
-    let old : Doing = doing (g.W.MakesSteps.run c.args.world.now) left action frames in
+    let old : Doing = doing (g.W.ActivitySteps.run c.args.world.now) left action frames in
     let d : Doing = doing y left action frames in
     let n = c.in-Began.name in
-    let r : Done = done (g.W.MakesSteps.run c.run-ended.new.world) c.run-ended.new.self.left c.run-ended.new.action c.run-ended.new.frames c.in_ok-flow.flow in
+    let r : Done = done (g.W.ActivitySteps.run c.run-ended.new.world) c.run-ended.new.self.left c.run-ended.new.action c.run-ended.new.frames c.in_ok-flow.flow in
     let was : c.run-ended.result ≡ Ok c.in_ok-flow.flow = search rules in
     let acts : acting c.new-child.result ≡ begun_at h.guardian n =
     acting_begun c.new-child.result n h.guardian c.new-child.ensures.name c.new-child.ensures.home
     (ap (λ x. x.homes.keys) c.new-child.ensures.reached ∙ c.in_ok-reached.ensures.homes)
     (ap (λ x. x.participants.keys) c.new-child.ensures.reached ∙ c.in_ok-reached.ensures.participants) in
     let own : ComesSo script left r (λ go. run go (acting c.new-child.result) c.in-Some.inside c.as_slice-2.result.now d) =
-    if_ok_at (λ flow. ComesSo script left (done (g.W.MakesSteps.run c.run-ended.new.world) c.run-ended.new.self.left c.run-ended.new.action c.run-ended.new.frames flow)
-    (λ go. run go (acting c.new-child.result) c.in-Some.inside c.as_slice-2.result.now d)) c.run-ended.result c.in_ok-flow.flow was c.run-ended.ensures.means in
+    if_ok_at (λ flow. ComesSo script left (done (g.W.ActivitySteps.run c.run-ended.new.world) c.run-ended.new.self.left c.run-ended.new.action c.run-ended.new.frames flow)
+    (λ go. run go (acting c.new-child.result) c.in-Some.inside c.as_slice-2.result.now d)) c.run-ended.result c.in_ok-flow.flow was (if_ok_at_all _ c.run-ended.result c.run-ended.ensures.means alone) in
     let ran : ComesSo script left r (λ go. run go (begun_at h.guardian n) c.in-Some.inside h.body d) =
     λ most lt. own most lt
     ∙ run_named (body_done script.handlers most) (acting c.new-child.result) (begun_at h.guardian n) c.in-Some.inside c.in-Some.inside c.as_slice-2.result.now
@@ -736,14 +641,14 @@ call-returns-in-Ended-clause-means g t c =
     let taken : acting c.take_in-taken.new.self ≡ taken_in (acting action) r.doing.acting (commits c.in_ok-flow.flow) =
     c.in_ok-taken.ensures.taken
     ∙ ap (λ b. taken_in (acting action) r.doing.acting b) (c.has_committed.ensures ∙ ap (λ x. has_committed x) was) in
-    let came = sym c.in-Began.is ∙ c.in_ok-name.ensures.called in
-    let this : Done = done (g.W.MakesSteps.run c.run-ended.new.world) c.run-ended.new.self.left c.take_in-taken.new.self c.bind_value.new.frames c.in_ok-bind_value-in-Ended.field-0 in
+    let came = sym c.in-Began.is ∙ (c.in_ok-name.ensures.called alone) in
+    let this : Done = done (g.W.ActivitySteps.run c.run-ended.new.world) c.run-ended.new.self.left c.take_in-taken.new.self c.bind_value.new.frames c.in_ok-bind_value-in-Ended.field-0 in
     call_so script left old (slice_get script.handlers call.handler) h call signals (given frames call) c.in-Some.inside y (called.Began n) this found handed
-    c.in_ok-name.ensures.made came
+    (c.in_ok-name.ensures.made alone) came
     (called_so script left d h c.in-Some.inside call.binding signals n r this ran (λ most lt. ended_back (body_done script.handlers most) call.binding signals d r (acting c.take_in-taken.new.self) taken c.bind_value.new.frames c.in_ok-bind_value-in-Ended.field-0 c.in-Ended.is c.in_ok-bind_value-in-Ended.ensures.means))
 
 pub call-returns-in-Returned-clause-means : goal.call-returns-in-Returned-clause-means
-call-returns-in-Returned-clause-means g t c =
+call-returns-in-Returned-clause-means g t c = λ alone.
     let script = c.args.self.now.script.now in
     let left = c.args.self.now.left in
     let call = c.args.call.now in
@@ -751,25 +656,25 @@ call-returns-in-Returned-clause-means g t c =
     let action = c.args.action.now in
     let frames = c.args.frames.now in
     let h = c.index-as_slice-call.result in
-    let y = (g.W.MakesSteps.run c.begin_call.new.world) in
+    let y = (g.W.ActivitySteps.run c.begin_call.new.world) in
     let found : slice_get script.handlers call.handler ≡ Some h =
     subst (λ (l : List Handler). slice_get l call.handler ≡ Some h) c.as_slice.ensures
     (slice_get_read c.as_slice.result.now (length c.as_slice.result.now) call.handler h refl
     (subst (λ (l : List Handler). call.handler < length l) (sym c.as_slice.ensures) (called_within script (sizes frames) call c.requires.call))
     c.index-as_slice-call.is) in
     let handed : given frames call ≡ Some c.in-Some.inside = sym c.in_ok-inside.ensures ∙ c.in-Some.is in
-    let old : Doing = doing (g.W.MakesSteps.run c.args.world.now) left action frames in
+    let old : Doing = doing (g.W.ActivitySteps.run c.args.world.now) left action frames in
     let d : Doing = doing y left action frames in
     let n = c.in-Began.name in
-    let r : Done = done (g.W.MakesSteps.run c.run-ended.new.world) c.run-ended.new.self.left c.run-ended.new.action c.run-ended.new.frames c.in_ok-flow.flow in
+    let r : Done = done (g.W.ActivitySteps.run c.run-ended.new.world) c.run-ended.new.self.left c.run-ended.new.action c.run-ended.new.frames c.in_ok-flow.flow in
     let was : c.run-ended.result ≡ Ok c.in_ok-flow.flow = search rules in
     let acts : acting c.new-child.result ≡ begun_at h.guardian n =
     acting_begun c.new-child.result n h.guardian c.new-child.ensures.name c.new-child.ensures.home
     (ap (λ x. x.homes.keys) c.new-child.ensures.reached ∙ c.in_ok-reached.ensures.homes)
     (ap (λ x. x.participants.keys) c.new-child.ensures.reached ∙ c.in_ok-reached.ensures.participants) in
     let own : ComesSo script left r (λ go. run go (acting c.new-child.result) c.in-Some.inside c.as_slice-2.result.now d) =
-    if_ok_at (λ flow. ComesSo script left (done (g.W.MakesSteps.run c.run-ended.new.world) c.run-ended.new.self.left c.run-ended.new.action c.run-ended.new.frames flow)
-    (λ go. run go (acting c.new-child.result) c.in-Some.inside c.as_slice-2.result.now d)) c.run-ended.result c.in_ok-flow.flow was c.run-ended.ensures.means in
+    if_ok_at (λ flow. ComesSo script left (done (g.W.ActivitySteps.run c.run-ended.new.world) c.run-ended.new.self.left c.run-ended.new.action c.run-ended.new.frames flow)
+    (λ go. run go (acting c.new-child.result) c.in-Some.inside c.as_slice-2.result.now d)) c.run-ended.result c.in_ok-flow.flow was (if_ok_at_all _ c.run-ended.result c.run-ended.ensures.means alone) in
     let ran : ComesSo script left r (λ go. run go (begun_at h.guardian n) c.in-Some.inside h.body d) =
     λ most lt. own most lt
     ∙ run_named (body_done script.handlers most) (acting c.new-child.result) (begun_at h.guardian n) c.in-Some.inside c.in-Some.inside c.as_slice-2.result.now
@@ -777,14 +682,14 @@ call-returns-in-Returned-clause-means g t c =
     let taken : acting c.take_in-taken.new.self ≡ taken_in (acting action) r.doing.acting (commits c.in_ok-flow.flow) =
     c.in_ok-taken.ensures.taken
     ∙ ap (λ b. taken_in (acting action) r.doing.acting b) (c.has_committed.ensures ∙ ap (λ x. has_committed x) was) in
-    let came = sym c.in-Began.is ∙ c.in_ok-name.ensures.called in
-    let this : Done = done (g.W.MakesSteps.run c.run-ended.new.world) c.run-ended.new.self.left c.take_in-taken.new.self c.bind_value-in-Returned.new.frames c.in_ok-bind_value-in-Returned.field-0 in
+    let came = sym c.in-Began.is ∙ (c.in_ok-name.ensures.called alone) in
+    let this : Done = done (g.W.ActivitySteps.run c.run-ended.new.world) c.run-ended.new.self.left c.take_in-taken.new.self c.bind_value-in-Returned.new.frames c.in_ok-bind_value-in-Returned.field-0 in
     call_so script left old (slice_get script.handlers call.handler) h call signals (given frames call) c.in-Some.inside y (called.Began n) this found handed
-    c.in_ok-name.ensures.made came
+    (c.in_ok-name.ensures.made alone) came
     (called_so script left d h c.in-Some.inside call.binding signals n r this ran (λ most lt. returned_back (body_done script.handlers most) call.binding signals d r (acting c.take_in-taken.new.self) taken c.in-Returned.value c.bind_value-in-Returned.new.frames c.in_ok-bind_value-in-Returned.field-0 c.in-Returned.is c.in_ok-bind_value-in-Returned.ensures.means))
 
 pub call-returns-clause-means : goal.call-returns-clause-means
-call-returns-clause-means g t c =
+call-returns-clause-means g t c = λ alone.
     let script = c.args.self.now.script.now in
     let left = c.args.self.now.left in
     let call = c.args.call.now in
@@ -792,25 +697,25 @@ call-returns-clause-means g t c =
     let action = c.args.action.now in
     let frames = c.args.frames.now in
     let h = c.index-as_slice-call.result in
-    let y = (g.W.MakesSteps.run c.begin_call.new.world) in
+    let y = (g.W.ActivitySteps.run c.begin_call.new.world) in
     let found : slice_get script.handlers call.handler ≡ Some h =
     subst (λ (l : List Handler). slice_get l call.handler ≡ Some h) c.as_slice.ensures
     (slice_get_read c.as_slice.result.now (length c.as_slice.result.now) call.handler h refl
     (subst (λ (l : List Handler). call.handler < length l) (sym c.as_slice.ensures) (called_within script (sizes frames) call c.requires.call))
     c.index-as_slice-call.is) in
     let handed : given frames call ≡ Some c.in-Some.inside = sym c.in_ok-inside.ensures ∙ c.in-Some.is in
-    let old : Doing = doing (g.W.MakesSteps.run c.args.world.now) left action frames in
+    let old : Doing = doing (g.W.ActivitySteps.run c.args.world.now) left action frames in
     let d : Doing = doing y left action frames in
     let n = c.in-Began.name in
-    let r : Done = done (g.W.MakesSteps.run c.run-ended.new.world) c.run-ended.new.self.left c.run-ended.new.action c.run-ended.new.frames c.in_ok-flow.flow in
+    let r : Done = done (g.W.ActivitySteps.run c.run-ended.new.world) c.run-ended.new.self.left c.run-ended.new.action c.run-ended.new.frames c.in_ok-flow.flow in
     let was : c.run-ended.result ≡ Ok c.in_ok-flow.flow = search rules in
     let acts : acting c.new-child.result ≡ begun_at h.guardian n =
     acting_begun c.new-child.result n h.guardian c.new-child.ensures.name c.new-child.ensures.home
     (ap (λ x. x.homes.keys) c.new-child.ensures.reached ∙ c.in_ok-reached.ensures.homes)
     (ap (λ x. x.participants.keys) c.new-child.ensures.reached ∙ c.in_ok-reached.ensures.participants) in
     let own : ComesSo script left r (λ go. run go (acting c.new-child.result) c.in-Some.inside c.as_slice-2.result.now d) =
-    if_ok_at (λ flow. ComesSo script left (done (g.W.MakesSteps.run c.run-ended.new.world) c.run-ended.new.self.left c.run-ended.new.action c.run-ended.new.frames flow)
-    (λ go. run go (acting c.new-child.result) c.in-Some.inside c.as_slice-2.result.now d)) c.run-ended.result c.in_ok-flow.flow was c.run-ended.ensures.means in
+    if_ok_at (λ flow. ComesSo script left (done (g.W.ActivitySteps.run c.run-ended.new.world) c.run-ended.new.self.left c.run-ended.new.action c.run-ended.new.frames flow)
+    (λ go. run go (acting c.new-child.result) c.in-Some.inside c.as_slice-2.result.now d)) c.run-ended.result c.in_ok-flow.flow was (if_ok_at_all _ c.run-ended.result c.run-ended.ensures.means alone) in
     let ran : ComesSo script left r (λ go. run go (begun_at h.guardian n) c.in-Some.inside h.body d) =
     λ most lt. own most lt
     ∙ run_named (body_done script.handlers most) (acting c.new-child.result) (begun_at h.guardian n) c.in-Some.inside c.in-Some.inside c.as_slice-2.result.now
@@ -818,17 +723,15 @@ call-returns-clause-means g t c =
     let taken : acting c.take_in-taken.new.self ≡ taken_in (acting action) r.doing.acting (commits c.in_ok-flow.flow) =
     c.in_ok-taken.ensures.taken
     ∙ ap (λ b. taken_in (acting action) r.doing.acting b) (c.has_committed.ensures ∙ ap (λ x. has_committed x) was) in
-    let came = sym c.in-Began.is ∙ c.in_ok-name.ensures.called in
-    let this : Done = done (g.W.MakesSteps.run c.run-ended.new.world) c.run-ended.new.self.left c.take_in-taken.new.self frames (Outwards c.in-Outwards.reach) in
+    let came = sym c.in-Began.is ∙ (c.in_ok-name.ensures.called alone) in
+    let this : Done = done (g.W.ActivitySteps.run c.run-ended.new.world) c.run-ended.new.self.left c.take_in-taken.new.self frames (Outwards c.in-Outwards.reach) in
     call_so script left old (slice_get script.handlers call.handler) h call signals (given frames call) c.in-Some.inside y (called.Began n) this found handed
-    c.in_ok-name.ensures.made came
+    (c.in_ok-name.ensures.made alone) came
     (called_so script left d h c.in-Some.inside call.binding signals n r this ran (λ most lt. outwards_back (body_done script.handlers most) call.binding signals d r (acting c.take_in-taken.new.self) taken c.in-Outwards.reach c.in-Outwards.is))
 
 pub run_arms-loop-arm-init : goal.run_arms-loop-arm-init
 run_arms-loop-arm-init g t c = record {
-  goes_on = goes_nowhere (g.W.MakesSteps.run c.args.world.now) c.requires.run;
-  own = keeps_nowhere c.args.waiting.now.items (g.W.MakesSteps.run c.args.world.now);
-  others = λ a h k. refl;
+  makes = makes_nowhere c.args.waiting.now.items c.args.waiting.now.items (g.W.ActivitySteps.run c.args.world.now);
   among = λ a h. h;
   each = omega (arith, c.requires.each);
   resolved = c.requires.script;
@@ -838,11 +741,11 @@ run_arms-loop-arm-init g t c = record {
   script = refl;
   name = refl;
   home = refl;
-  means = λ most h. refl;
+  means = λ alone most h. refl;
 }
 
 pub run_arms-returns-then-not-matches-clause-means : goal.run_arms-returns-then-not-matches-clause-means
-run_arms-returns-then-not-matches-clause-means g t c =
+run_arms-returns-then-not-matches-clause-means g t c = λ alone.
     let l = c.loop-arm in
     let script = c.args.self.now.script.now in
     let left = c.args.self.now.left in
@@ -851,35 +754,35 @@ run_arms-returns-then-not-matches-clause-means g t c =
     let arm = c.arm-item.result in
     let a = c.new-child.result.name in
     let names = c.pop.new.self.items in
-    let old : Doing = doing (g.W.MakesSteps.run c.args.world.now) left c.args.action.now frames in
-    let d : Doing = doing (g.W.MakesSteps.run l.world) l.self.left l.action frames in
-    let r : Done = done (g.W.MakesSteps.run c.run-ended.new.world) c.run-ended.new.self.left c.run-ended.new.action c.run-ended.new.frames c.in_ok-flow.flow in
-    let next : Doing = doing (g.W.MakesSteps.run c.run-ended.new.world) c.run-ended.new.self.left c.match-arm.action frames in
+    let old : Doing = doing (g.W.ActivitySteps.run c.args.world.now) left c.args.action.now frames in
+    let d : Doing = doing (g.W.ActivitySteps.run l.world) l.self.left l.action frames in
+    let r : Done = done (g.W.ActivitySteps.run c.run-ended.new.world) c.run-ended.new.self.left c.run-ended.new.action c.run-ended.new.frames c.in_ok-flow.flow in
+    let next : Doing = doing (g.W.ActivitySteps.run c.run-ended.new.world) c.run-ended.new.self.left c.match-arm.action frames in
     let popped_so = popped l.waiting.items names c.pop.result c.unwrap.result a c.pop.ensures.items c.unwrap.ensures c.new-child.ensures.name in
     let from : AreArmsFrom script left arms (reverse c.args.waiting.now.items) old (arm ∷ drop (l.arm-index + 1) arms) (a ∷ reverse names) d =
     subst (λ (x : List Arm). AreArmsFrom script left arms (reverse c.args.waiting.now.items) old x (a ∷ reverse names) d)
     (next_list arms l.arm-index arm (omega arith) c.arm-item.is)
     (subst (λ (x : List Name). AreArmsFrom script left arms (reverse c.args.waiting.now.items) old (drop l.arm-index arms) x d)
-    (last_first l.waiting.items names a popped_so) l.invariant.means) in
+    (last_first l.waiting.items names a popped_so) (l.invariant.means alone)) in
     let acts : acting c.new-child.result ≡ begun_at l.action.home a =
     acting_begun c.new-child.result a l.action.home refl c.new-child.ensures.home
     (ap (λ x. x.homes.keys) c.new-child.ensures.reached ∙ c.in_ok-reached.ensures.homes)
     (ap (λ x. x.participants.keys) c.new-child.ensures.reached ∙ c.in_ok-reached.ensures.participants) in
     let own : ComesSo script l.self.left r (λ go. run go (acting c.new-child.result) c.in_ok-inside.inside c.arm_body.result.now d) =
     of_script l.self.script.now script l.self.left r (λ x go. run go (acting c.new-child.result) c.in_ok-inside.inside c.arm_body.result.now d)
-    l.invariant.script c.in_ok-flow.ensures.means in
+    l.invariant.script (c.in_ok-flow.ensures.means alone) in
     let came : ComesSo script l.self.left r (λ go. run go (begun_at l.action.home a) frames (body_of arm) d) =
     λ most h. own most h
     ∙ run_named (body_done script.handlers most) (acting c.new-child.result) (begun_at l.action.home a) c.in_ok-inside.inside frames c.arm_body.result.now
     (body_of arm) d acts c.in_ok-inside.ensures c.arm_body.ensures in
     let knows : next ≡ past_arm (kind_of arm) d r = elim c.match-arm.branch [
       | run_arms-in-Sub w ↦
-          ap (λ (x : OpenAction). doing (g.W.MakesSteps.run c.run-ended.new.world) c.run-ended.new.self.left x frames) w.action-is
+          ap (λ (x : OpenAction). doing (g.W.ActivitySteps.run c.run-ended.new.world) c.run-ended.new.self.left x frames) w.action-is
           ∙ sub_past arm w.in-Sub.field-0 d r (acting w.take_in-taken.new.self) w.in-Sub.is
           (ok_so w.take_in-taken.result c.in_ok-taken.field-0 _ (sym w.taken-is ∙ c.in_ok-taken.was) w.take_in-taken.ensures.taken
           ∙ ap (λ b. taken_in (acting l.action) r.doing.acting b) (w.has_committed.ensures ∙ ap (λ x. has_committed x) c.in_ok-flow.was))
       | run_arms-in-Top w ↦
-          ap (λ (x : OpenAction). doing (g.W.MakesSteps.run c.run-ended.new.world) c.run-ended.new.self.left x frames) w.action-is
+          ap (λ (x : OpenAction). doing (g.W.ActivitySteps.run c.run-ended.new.world) c.run-ended.new.self.left x frames) w.action-is
           ∙ top_past arm w.in-Top.field-0 d r w.in-Top.is
     ] in
     let stops : is_past c.in_ok-flow.flow ≡ false = elim c.match-matches.branch [
@@ -890,63 +793,76 @@ run_arms-returns-then-not-matches-clause-means g t c =
     stops knows
 
 pub run_arms-returns-clause-means : goal.run_arms-returns-clause-means
-run_arms-returns-clause-means g t c =
+run_arms-returns-clause-means g t c = λ alone.
     let l = c.loop-arm in
     arms_end c.args.self.now.script.now c.args.self.now.left c.args.arms.now (reverse c.args.waiting.now.items)
-    (doing (g.W.MakesSteps.run c.args.world.now) c.args.self.now.left c.args.action.now c.args.frames.now)
-    (doing (g.W.MakesSteps.run l.world) l.self.left l.action c.args.frames.now) (drop l.arm-index c.args.arms.now) (reverse l.waiting.items)
-    (drop_of_length-le c.args.arms.now (omega (arith, c.loop-arm-test.false))) l.invariant.means
+    (doing (g.W.ActivitySteps.run c.args.world.now) c.args.self.now.left c.args.action.now c.args.frames.now)
+    (doing (g.W.ActivitySteps.run l.world) l.self.left l.action c.args.frames.now) (drop l.arm-index c.args.arms.now) (reverse l.waiting.items)
+    (drop_of_length-le c.args.arms.now (omega (arith, c.loop-arm-test.false))) (l.invariant.means alone)
 
 pub statement-returns-in-Signalled-clause-means : goal.statement-returns-in-Signalled-clause-means
 statement-returns-in-Signalled-clause-means g t c =
+    if_ok_with _ c.run_signals.result (λ alone.
     let script = c.args.self.now.script.now in
-    let d : Doing = (doing (g.W.MakesSteps.run c.args.world.now) c.args.self.now.left c.args.action.now c.args.frames.now) in
-    let came : (outcome.Signalled, c.perform.new.frames) ≡ outcome_of (g.W.MakesSteps.run c.args.world.now) c.args.frames.now c.in-Op.call.binding
+    let d : Doing = (doing (g.W.ActivitySteps.run c.args.world.now) c.args.self.now.left c.args.action.now c.args.frames.now) in
+    let came : (outcome.Signalled, c.perform.new.frames) ≡ outcome_of (g.W.ActivitySteps.run c.args.world.now) c.args.frames.now c.in-Op.call.binding
     (step_for c.args.action.now.name c.args.action.now.home c.args.frames.now c.in-Op.call) =
-    ap (λ o. (o, c.perform.new.frames)) (sym c.in-Signalled.is) ∙ c.in_ok-perform-in-Op.ensures.outcome in
-    if_ok_then c.run_signals.result c.run_signals.ensures.means
+    ap (λ o. (o, c.perform.new.frames)) (sym c.in-Signalled.is) ∙ (c.in_ok-perform-in-Op.ensures.outcome alone) in
+    if_ok_then c.run_signals.result (if_ok_at_all _ c.run_signals.result c.run_signals.ensures.means alone)
     (λ flow m most lt. m most lt
-    ∙ sym (op_comes script.handlers (body_done script.handlers most) c.in-Op.call c.in-Op.signals d c.args.statement.now (g.W.MakesSteps.run c.perform.new.world)
-    c.perform.new.frames outcome.Signalled c.in-Op.is c.in_ok-perform-in-Op.ensures.made came))
+    ∙ sym (op_comes script.handlers (body_done script.handlers most) c.in-Op.call c.in-Op.signals d c.args.statement.now (g.W.ActivitySteps.run c.perform.new.world)
+    c.perform.new.frames outcome.Signalled c.in-Op.is (c.in_ok-perform-in-Op.ensures.made alone) came)))
 
 pub statement-returns-in-Call-clause-means : goal.statement-returns-in-Call-clause-means
 statement-returns-in-Call-clause-means g t c =
+    if_ok_with _ c.call.result (λ alone.
     let script = c.args.self.now.script.now in
-    let d : Doing = (doing (g.W.MakesSteps.run c.args.world.now) c.args.self.now.left c.args.action.now c.args.frames.now) in
-    if_ok_then c.call.result c.call.ensures.means
+    let d : Doing = (doing (g.W.ActivitySteps.run c.args.world.now) c.args.self.now.left c.args.action.now c.args.frames.now) in
+    if_ok_then c.call.result (if_ok_at_all _ c.call.result c.call.ensures.means alone)
     (λ flow m most lt. m most lt
-    ∙ sym (call_goes script.handlers (body_done script.handlers most) d c.in-Call.call c.in-Call.signals c.args.statement.now c.in-Call.is))
+    ∙ sym (call_goes script.handlers (body_done script.handlers most) d c.in-Call.call c.in-Call.signals c.args.statement.now c.in-Call.is)))
 
 pub top_action-returns-in-Aborted-clause-means : goal.top_action-returns-in-Aborted-clause-means
 top_action-returns-in-Aborted-clause-means g t c =
+    if_ok_with _ c.inner.result (λ alone.
     let script = c.args.self.now.script.now in
     let left = c.args.self.now.left in
-    let old : Doing = doing (g.W.MakesSteps.run c.args.world.now) left c.args.action.now c.args.frames.now in
-    let d : Doing = doing (g.W.MakesSteps.run c.begin_nested.new.world) left c.args.action.now c.args.frames.now in
+    let old : Doing = doing (g.W.ActivitySteps.run c.args.world.now) left c.args.action.now c.args.frames.now in
+    let d : Doing = doing (g.W.ActivitySteps.run c.begin_nested.new.world) left c.args.action.now c.args.frames.now in
     let home = c.args.action.now.home in
     let a = c.in-Some.name in
-    let r : Done = done (g.W.MakesSteps.run c.run.new.world) c.run.new.self.left c.run.new.action c.run.new.frames c.in_ok-flow.flow in
+    let r : Done = done (g.W.ActivitySteps.run c.run.new.world) c.run.new.self.left c.run.new.action c.run.new.frames c.in_ok-flow.flow in
     let acts : acting c.new-nested.result ≡ begun_at home a =
     acting_begun c.new-nested.result a home c.new-nested.ensures.name c.new-nested.ensures.home
     (ap (λ x. x.homes.keys) c.new-nested.ensures.reached ∙ c.in_ok-reached.ensures.homes)
     (ap (λ x. x.participants.keys) c.new-nested.ensures.reached ∙ c.in_ok-reached.ensures.participants) in
     let ran : ComesSo script left r (λ go. run go (begun_at home a) c.args.frames.now c.args.body.now d) =
-    λ most h. c.in_ok-flow.ensures.means most h
+    λ most h. (c.in_ok-flow.ensures.means alone) most h
     ∙ run_named (body_done script.handlers most) (acting c.new-nested.result) (begun_at home a) c.in_ok-inside.inside c.args.frames.now c.args.body.now
     c.args.body.now d acts c.in_ok-inside.ensures refl in
-    let begun = sym c.in-Some.is ∙ c.in_ok-name.ensures.begun in
+    let begun = sym c.in-Some.is ∙ (c.in_ok-name.ensures.begun alone) in
     let left_then = c.run.new.self.left in
-    let then : Doing = doing (g.W.MakesSteps.run c.run.new.world) left_then c.args.action.now c.args.frames.now in
-    if_ok_then c.inner.result c.inner.ensures.means
+    let then : Doing = doing (g.W.ActivitySteps.run c.run.new.world) left_then c.args.action.now c.args.frames.now in
+    if_ok_then c.inner.result (if_ok_at_all _ c.inner.result c.inner.ensures.means alone)
     (λ flow m.
-    let this : Done = done (g.W.MakesSteps.run c.inner.new.world) c.inner.new.self.left c.inner.new.action c.inner.new.frames flow in
+    let this : Done = done (g.W.ActivitySteps.run c.inner.new.world) c.inner.new.self.left c.inner.new.action c.inner.new.frames flow in
     let signalled : ComesSo script left_then this (λ go. inner go c.args.signals.now then) =
     of_script c.run.new.self.script.now script left_then this (λ x go. inner go c.args.signals.now then) c.run.ensures.script m in
-    nested_so script left old c.args.body.now c.args.signals.now (g.W.MakesSteps.run c.begin_nested.new.world) (Some a) this c.in_ok-name.ensures.made begun
+    nested_so script left old c.args.body.now c.args.signals.now (g.W.ActivitySteps.run c.begin_nested.new.world) (Some a) this (c.in_ok-name.ensures.made alone) begun
     (nested_ran script left d c.args.body.now c.args.signals.now a r this ran
     (λ most lt. signalled most (le_trans c.run.ensures.left lt)
-    ∙ sym (ap (by_nested_end (body_done script.handlers most) c.args.signals.now (beside d r.doing)) c.in-Aborted.is))))
+    ∙ sym (ap (by_nested_end (body_done script.handlers most) c.args.signals.now (beside d r.doing)) c.in-Aborted.is)))))
 
-pub coenter-returns-in_err-aborted-clause-goes_on : goal.coenter-returns-in_err-aborted-clause-goes_on
-coenter-returns-in_err-aborted-clause-goes_on g t c =
-    nested_goes c.begin_arms.ensures.goes_on (nested_goes c.run_arms-ran.ensures.goes_on c.abort_arms-aborted.ensures.goes_on)
+pub call-run_signals-requires-in-Aborted : goal.call-run_signals-requires-in-Aborted
+call-run_signals-requires-in-Aborted g t c κs within =
+    let follows = signals_hold_there c.args.self.now.script.now (sizes c.args.frames.now) c.args.call.now.binding c.args.signals.now c.requires.signals in
+    let same = sym c.run-ended.ensures.script in (
+      omega (arith, c.run-ended.ensures.left),
+      (
+        within,
+        (
+          subst IsResolved same c.requires.script,
+          subst (λ script. SignalsHold script (sizes c.args.frames.now) c.args.signals.now) same follows,
+        ),
+      ),
+    )

@@ -2,8 +2,7 @@ use Rattle.std.proofs.Common.{[], ◌∷◌, drop, length, reverse, IsTrue, ◌*
 use Rattle.action_names.specs.Names.{Name, has_name}
 use Rattle.script_model.specs.Resolved.{IsResolved}
 use Rattle.activities.specs.Bodies.{AreArms, IsBody, Within, sizes}
-use Rattle.activities.specs.Continuing.{CommitsAmong, CommitsNone, GoesOn}
-use Rattle.activities.specs.OwnSteps.{KeepsTo}
+use Rattle.activities.specs.Making.{IsAlone, Makes}
 use Rattle.activities.specs.Acting.{doing}
 use Rattle.activities.proofs.Meaning.{AreArmsFrom, AreTurnsFrom, IsBodyFrom}
 use Rattle.activities.proofs.activity.Activity.+activity.Given as goal
@@ -42,9 +41,7 @@ decreases-statement g l = 6 * l.self.now.left + 5
 -- the statements that are left are resolved with what those before them bound
 abbrev pub invariant-body-loop-statement : goal.invariant-body-loop-statement
 invariant-body-loop-statement g l = record {
-  goes_on : GoesOn (g.W.MakesSteps.run l.fn.world) (g.W.MakesSteps.run l.world) [];
-  own : KeepsTo (l.fn.action.name ∷ []) (g.W.MakesSteps.run l.fn.world) (g.W.MakesSteps.run l.world);
-  commits : CommitsNone (g.W.MakesSteps.run l.fn.world) (g.W.MakesSteps.run l.world);
+  makes : Makes (l.fn.action.name ∷ []) [] (g.W.ActivitySteps.run l.fn.world) (g.W.ActivitySteps.run l.world);
   resolved : IsResolved l.self.script.now;
   rest : IsBody l.self.script.now (sizes l.frames) (drop l.statement-index l.body);
   frames : Within (sizes l.fn.frames) (sizes l.frames);
@@ -52,16 +49,15 @@ invariant-body-loop-statement g l = record {
   script : l.self.script.now ≡ l.fn.self.script.now;
   name : l.action.name ≡ l.fn.action.name;
   home : l.action.home ≡ l.fn.action.home;
-  means : IsBodyFrom l.fn.self.script.now l.fn.self.left l.body (doing (g.W.MakesSteps.run l.fn.world) l.fn.self.left l.fn.action l.fn.frames) (drop l.statement-index l.body)
-      (doing (g.W.MakesSteps.run l.world) l.self.left l.action l.frames);
+  means : IsAlone g.W.ActivitySteps.may_be g.W.ActivitySteps.run
+      → IsBodyFrom l.fn.self.script.now l.fn.self.left l.body (doing (g.W.ActivitySteps.run l.fn.world) l.fn.self.left l.fn.action l.fn.frames) (drop l.statement-index l.body)
+      (doing (g.W.ActivitySteps.run l.world) l.self.left l.action l.frames);
 }
 
 -- each turn finds as many variables bound as the first
 abbrev pub invariant-repeat-loop : goal.invariant-repeat-loop
 invariant-repeat-loop g l = record {
-  goes_on : GoesOn (g.W.MakesSteps.run l.fn.world) (g.W.MakesSteps.run l.world) [];
-  own : KeepsTo (l.fn.action.name ∷ []) (g.W.MakesSteps.run l.fn.world) (g.W.MakesSteps.run l.world);
-  commits : CommitsNone (g.W.MakesSteps.run l.fn.world) (g.W.MakesSteps.run l.world);
+  makes : Makes (l.fn.action.name ∷ []) [] (g.W.ActivitySteps.run l.fn.world) (g.W.ActivitySteps.run l.world);
   resolved : IsResolved l.self.script.now;
   body : IsBody l.self.script.now (sizes l.frames) l.body;
   frames : sizes l.frames ≡ sizes l.fn.frames;
@@ -69,16 +65,15 @@ invariant-repeat-loop g l = record {
   script : l.self.script.now ≡ l.fn.self.script.now;
   name : l.action.name ≡ l.fn.action.name;
   home : l.action.home ≡ l.fn.action.home;
-  means : AreTurnsFrom l.fn.self.script.now l.fn.self.left l.turns l.body (doing (g.W.MakesSteps.run l.fn.world) l.fn.self.left l.fn.action l.fn.frames)
-      (l.turns - l.counter) (doing (g.W.MakesSteps.run l.world) l.self.left l.action l.frames);
+  means : IsAlone g.W.ActivitySteps.may_be g.W.ActivitySteps.run
+      → AreTurnsFrom l.fn.self.script.now l.fn.self.left l.turns l.body (doing (g.W.ActivitySteps.run l.fn.world) l.fn.self.left l.fn.action l.fn.frames)
+      (l.turns - l.counter) (doing (g.W.ActivitySteps.run l.world) l.self.left l.action l.frames);
 }
 
 -- the arms that have not run wait
 abbrev pub invariant-run_arms-loop-arm : goal.invariant-run_arms-loop-arm
 invariant-run_arms-loop-arm g l = record {
-  goes_on : GoesOn (g.W.MakesSteps.run l.fn.world) (g.W.MakesSteps.run l.world) [];
-  own : KeepsTo l.fn.waiting.items (g.W.MakesSteps.run l.fn.world) (g.W.MakesSteps.run l.world);
-  others : CommitsAmong l.fn.waiting.items (g.W.MakesSteps.run l.fn.world) (g.W.MakesSteps.run l.world);
+  makes : Makes l.fn.waiting.items l.fn.waiting.items (g.W.ActivitySteps.run l.fn.world) (g.W.ActivitySteps.run l.world);
   among : (a : Name) → IsTrue (has_name l.waiting.items a) → IsTrue (has_name l.fn.waiting.items a);
   each : length l.waiting.items + l.arm-index ≡ length l.arms;
   resolved : IsResolved l.self.script.now;
@@ -88,7 +83,8 @@ invariant-run_arms-loop-arm g l = record {
   script : l.self.script.now ≡ l.fn.self.script.now;
   name : l.action.name ≡ l.fn.action.name;
   home : l.action.home ≡ l.fn.action.home;
-  means : AreArmsFrom l.fn.self.script.now l.fn.self.left l.arms (reverse l.fn.waiting.items)
-      (doing (g.W.MakesSteps.run l.fn.world) l.fn.self.left l.fn.action l.fn.frames) (drop l.arm-index l.arms) (reverse l.waiting.items)
-      (doing (g.W.MakesSteps.run l.world) l.self.left l.action l.frames);
+  means : IsAlone g.W.ActivitySteps.may_be g.W.ActivitySteps.run
+      → AreArmsFrom l.fn.self.script.now l.fn.self.left l.arms (reverse l.fn.waiting.items)
+      (doing (g.W.ActivitySteps.run l.fn.world) l.fn.self.left l.fn.action l.fn.frames) (drop l.arm-index l.arms) (reverse l.waiting.items)
+      (doing (g.W.ActivitySteps.run l.world) l.self.left l.action l.frames);
 }

@@ -1,40 +1,17 @@
-use Rattle.std.proofs.Common.{[], ◌∷◌}
-use Rattle.activities.proofs.Going.{among_then, ends_through, goes_through}
-use Rattle.activities.proofs.OwnSteps.{then_keeps}
+use Rattle.std.proofs.Common.{false, subst}
+use Rattle.activities.specs.Making.{Tells}
+use Rattle.activities.proofs.Making.{ends_then, tells_then}
 use Rattle.activities.proofs.open_action.OpenAction.commit_or_abort.Goals as goal
 
-pub returns-in_err-abort-clause-goes_on : goal.returns-in_err-abort-clause-goes_on
-returns-in_err-abort-clause-goes_on g c =
-    goes_through (g.W.MakesSteps.run c.args.world.now) (g.W.MakesSteps.run c.commit.new.world) (g.W.MakesSteps.run c.abort.new.world) [] [] c.commit.ensures.goes_on c.abort.ensures.goes_on
+pub returns-in_err-abort-clause-makes : goal.returns-in_err-abort-clause-makes
+returns-in_err-abort-clause-makes g c =
+    ends_then c.args.self.now.name (g.W.ActivitySteps.run c.args.world.now) (g.W.ActivitySteps.run c.commit.new.world) (g.W.ActivitySteps.run c.abort.new.world) c.commit.ensures.makes c.abort.ensures.makes
 
-pub returns-in_err-abort-clause-others : goal.returns-in_err-abort-clause-others
-returns-in_err-abort-clause-others g c =
-    among_then (c.args.self.now.name ∷ []) (g.W.MakesSteps.run c.args.world.now) (g.W.MakesSteps.run c.commit.new.world) (g.W.MakesSteps.run c.abort.new.world) [] c.commit.ensures.goes_on
-    c.commit.ensures.others c.abort.ensures.commits
+pub returns-clause-makes : goal.returns-clause-makes
+returns-clause-makes g c =
+    ends_then c.args.self.now.name (g.W.ActivitySteps.run c.args.world.now) (g.W.ActivitySteps.run c.commit.new.world) (g.W.ActivitySteps.run c.abort.new.world) c.commit.ensures.makes c.abort.ensures.makes
 
-pub returns-in_err-abort-clause-ends : goal.returns-in_err-abort-clause-ends
-returns-in_err-abort-clause-ends g c =
-    ends_through (g.W.MakesSteps.run c.args.world.now) (g.W.MakesSteps.run c.commit.new.world) (g.W.MakesSteps.run c.abort.new.world) [] c.abort.ensures.goes_on c.commit.ensures.ends c.abort.ensures.ends
-
-pub returns-clause-goes_on : goal.returns-clause-goes_on
-returns-clause-goes_on g c =
-    goes_through (g.W.MakesSteps.run c.args.world.now) (g.W.MakesSteps.run c.commit.new.world) (g.W.MakesSteps.run c.abort.new.world) [] [] c.commit.ensures.goes_on c.abort.ensures.goes_on
-
-pub returns-clause-others : goal.returns-clause-others
-returns-clause-others g c =
-    among_then (c.args.self.now.name ∷ []) (g.W.MakesSteps.run c.args.world.now) (g.W.MakesSteps.run c.commit.new.world) (g.W.MakesSteps.run c.abort.new.world) [] c.commit.ensures.goes_on
-    c.commit.ensures.others c.abort.ensures.commits
-
-pub returns-clause-ends : goal.returns-clause-ends
-returns-clause-ends g c =
-    ends_through (g.W.MakesSteps.run c.args.world.now) (g.W.MakesSteps.run c.commit.new.world) (g.W.MakesSteps.run c.abort.new.world) [] c.abort.ensures.goes_on c.commit.ensures.ends c.abort.ensures.ends
-
-pub returns-in_err-abort-clause-own : goal.returns-in_err-abort-clause-own
-returns-in_err-abort-clause-own g c =
-    then_keeps c.args.self.now.name (g.W.MakesSteps.run c.args.world.now) (g.W.MakesSteps.run c.commit.new.world) (g.W.MakesSteps.run c.abort.new.world) c.commit.ensures.own
-    c.abort.ensures.own
-
-pub returns-clause-own : goal.returns-clause-own
-returns-clause-own g c =
-    then_keeps c.args.self.now.name (g.W.MakesSteps.run c.args.world.now) (g.W.MakesSteps.run c.commit.new.world) (g.W.MakesSteps.run c.abort.new.world) c.commit.ensures.own
-    c.abort.ensures.own
+pub returns-clause-told : goal.returns-clause-told
+returns-clause-told g c =
+    tells_then false c.args.self.now.name (g.W.ActivitySteps.run c.args.world.now) (g.W.ActivitySteps.run c.commit.new.world) (g.W.ActivitySteps.run c.abort.new.world)
+    (subst (λ b. Tells b c.args.self.now.name (g.W.ActivitySteps.run c.args.world.now) (g.W.ActivitySteps.run c.commit.new.world)) c.if-branch.false c.in_ok-commit.ensures.told) c.abort.ensures.makes
