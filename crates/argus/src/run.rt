@@ -10,6 +10,7 @@ use argus_engine::{
 use command_line::request::{Check, Run, Steps};
 use run_model::{Setup, SetupFault};
 use script_engine::{run_file, run_stored};
+use script_runs::Serially;
 use stable_store::Stable;
 use std::alloc::Global;
 use std::fs;
@@ -97,7 +98,12 @@ pub fn check(rt: &HostRuntime, given: &Check<'_>) -> Result<ExitCode, Fault> {
 pub fn run<O: Opens>(rt: &HostRuntime, files: &O, given: &Run<'_>) -> Result<ExitCode, Fault> {
     let bytes = read_file(rt, given.script)?;
     let ended = match given.store {
-        None => run_file(rt.alloc(), bytes.as_slice(), &mut io::writer(rt))?,
+        None => run_file(
+            rt.alloc(),
+            &mut Serially,
+            bytes.as_slice(),
+            &mut io::writer(rt),
+        )?,
         Some(folder) => run_over(rt, files, bytes.as_slice(), folder)?,
     };
     Ok(status_of(ended))
@@ -118,7 +124,13 @@ fn run_over<O: Opens>(
         finish(writer, "error store\n")?;
         return Ok(Ended::Stopped);
     };
-    run_stored(rt.alloc(), &script, stores.as_mut_slice(), writer)
+    run_stored(
+        rt.alloc(),
+        &mut Serially,
+        &script,
+        stores.as_mut_slice(),
+        writer,
+    )
 }
 
 /// The exit status of a command that ended so.

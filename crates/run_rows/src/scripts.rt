@@ -14,6 +14,7 @@ use run_model::History;
 use script::{Checked, ScriptFault, check, read};
 use script_engine::{run_file, setup_of};
 use script_model::{FaultKind, Pointer};
+use script_runs::Serially;
 use stable_store::PlainStable;
 use std::alloc::{AllocError, Global};
 use world::World;
@@ -103,7 +104,12 @@ pub(crate) fn run_kept_script(
     answer: &mut String,
 ) -> Result<(), RowFault> {
     let mut writer = Writer::of_word(examples.alloc, row.given)?;
-    let ended = run_file(examples.alloc, examples.script.as_bytes(), &mut writer);
+    let ended = run_file(
+        examples.alloc,
+        &mut Serially,
+        examples.script.as_bytes(),
+        &mut writer,
+    );
     writer.tell(examples.alloc, ended, row.answer, answer)
 }
 
@@ -112,7 +118,7 @@ pub(crate) fn run_text(alloc: Global, row: &Row<'_>, answer: &mut String) -> Res
     let mut words = row.words();
     let mut writer = Writer::of_word(alloc, words.word()?)?;
     let text = unescaped_text(alloc, words.rest())?;
-    let ended = run_file(alloc, text.as_bytes(), &mut writer);
+    let ended = run_file(alloc, &mut Serially, text.as_bytes(), &mut writer);
     writer.tell(alloc, ended, row.answer, answer)
 }
 

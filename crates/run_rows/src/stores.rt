@@ -9,6 +9,7 @@ use crate::scripts::script_of;
 use rows::{RowFault, Words};
 use script::Checked;
 use script_engine::{can_open, run_stored};
+use script_runs::Serially;
 use sql_store::SqlStable;
 use sqlite::{Connection, Error, ErrorCode, MemStore};
 use sqlite_resolve::CompileError;
@@ -208,7 +209,7 @@ fn run<S: Stable>(
     requires count { length stores.old ≡ length script.now.guardians }
 {
     let mut writer = Writer::of_word(alloc, word)?;
-    let ended = run_stored(alloc, script, stores, &mut writer);
+    let ended = run_stored(alloc, &mut Serially, script, stores, &mut writer);
     part(answer)?;
     writer.push_end(ended, answer)
 }

@@ -14,7 +14,7 @@ use Rattle.script_model.specs.ScriptReading.{script}
 use Rattle.argus_engine.specs.declared.engine.Ended.TheVariants.{Done, Stopped}
 use Rattle.argus_engine.specs.Judging.{BeginsFault, HasFirstFault, IsJudged, IsRead, IsScriptIn, fault_line}
 use Rattle.argus_engine.specs.Serving.{Writes}
-use Rattle.script_engine.specs.Running.{BeginsRun, IsFit, text_of_run}
+use Rattle.script_engine.specs.Running.{BeginsRun, Comes, IsDetermined, IsFit, TellsRun, run_text}
 use Rattle.script_engine.specs.Files.{BeginsFile, OneFile, OneScript, TellsFile}
 
 -- ---- one document, and what it is
@@ -99,13 +99,20 @@ no_fault bytes c why place x (inr y) = of_document (subst (λ d. Fits d c) (one_
 
 -- ---- what is said
 
-pub one_file : OneFile
-one_file bytes Done Done text said x y = (refl, x.2 ∙ ap (λ (c : Checked). text_of_run c c.guardians) (one_script bytes x.0 y.0 x.1 y.1) ∙ sym y.2)
-one_file bytes Done Stopped text said x y = absurd (no_fault bytes x.0 y.0 y.1 x.1 y.2)
-one_file bytes Stopped Done text said x y = absurd (no_fault bytes y.0 x.0 x.1 y.1 x.2)
-one_file bytes Stopped Stopped text said x y =
-    let same = one_fault bytes x.0 y.0 x.1 y.1 x.2 y.2 in
-    (refl, x.3 ∙ (λ k. fault_line (same.0 k) (same.1 k)) ∙ sym y.3)
+module _ (comes : Comes) (one : IsDetermined comes) where
+  pub one_file : OneFile comes
+  one_file bytes Done Done text said x y =
+      let told = x.2 in
+      let again = y.2 in
+      let same = one_script bytes x.0 y.0 x.1 y.1 in
+      let came =
+      one y.0 y.0.guardians told.0 again.0 told.1 again.1 (subst (λ (c : Checked). comes c c.guardians told.0 told.1) same told.2) again.2 in
+      (refl, told.3 ∙ (λ k. run_text (came.0 k) (came.1 k)) ∙ sym again.3)
+  one_file bytes Done Stopped text said x y = absurd (no_fault bytes x.0 y.0 y.1 x.1 y.2)
+  one_file bytes Stopped Done text said x y = absurd (no_fault bytes y.0 x.0 x.1 y.1 x.2)
+  one_file bytes Stopped Stopped text said x y =
+      let same = one_fault bytes x.0 y.0 x.1 y.1 x.2 y.2 in
+      (refl, x.3 ∙ (λ k. fault_line (same.0 k) (same.1 k)) ∙ sym y.3)
 
 -- ---- what is written
 
@@ -124,18 +131,19 @@ pub read_as : (bytes : List ℕ) (before after : Option (List ℕ)) (found : Opt
     → IsScriptIn bytes c × Keeps before after
 read_as bytes before after found c is read = subst (IsRead bytes before after) is read
 
-module _ (bytes : List ℕ) (before after : Option (List ℕ)) where
-  pub fault_begun : Writes before after (BeginsFault bytes) → Writes before after (BeginsFile bytes)
+module _ (comes : Comes) (bytes : List ℕ) (before after : Option (List ℕ)) where
+  pub fault_begun : Writes before after (BeginsFault bytes) → Writes before after (BeginsFile comes bytes)
   fault_begun (written, wrote, inl none) = (written, wrote, inl none)
   fault_begun (written, wrote, inr begun) = (written, wrote, inr (Stopped, begun.0, begun.1, begun.2))
 
-  pub file_refused : Writes before after (IsJudged bytes Stopped) → Writes before after (BeginsFile bytes)
+  pub file_refused : Writes before after (IsJudged bytes Stopped) → Writes before after (BeginsFile comes bytes)
   file_refused (line, wrote, judged) = (line, wrote, inr (Stopped, line, judged, ([], sym (append-nil line))))
 
   module _ (mid : Option (List ℕ)) (c : Checked) (is : IsScriptIn bytes c) (kept : Keeps before mid) where
-    pub file_ran : Appends mid after (text_of_run c c.guardians) → Writes before after (TellsFile bytes Done)
-    file_ran wrote = (text_of_run c c.guardians, written_on before mid after (text_of_run c c.guardians) kept wrote, (c, is, refl))
+    pub file_ran : Writes mid after (TellsRun comes c c.guardians) → Writes before after (TellsFile comes bytes Done)
+    file_ran (text, wrote, told) = (text, written_on before mid after text kept wrote, (c, is, told))
 
-    pub file_begun : Writes mid after (BeginsRun c c.guardians) → Writes before after (BeginsFile bytes)
-    file_begun (written, wrote, begins) =
-        (written, written_on before mid after written kept wrote, inr (Done, text_of_run c c.guardians, (c, is, refl), begins))
+    pub file_begun : Writes mid after (BeginsRun comes c c.guardians) → Writes before after (BeginsFile comes bytes)
+    file_begun (written, wrote, inl none) = (written, written_on before mid after written kept wrote, inl none)
+    file_begun (written, wrote, inr (text, told, begins)) =
+        (written, written_on before mid after written kept wrote, inr (Done, text, (c, is, told), begins))

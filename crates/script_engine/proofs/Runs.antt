@@ -1,6 +1,6 @@
--- What is said of a run is written, or a beginning of it; and as many bases are left as there are stores.
-use Rattle.std.proofs.Common.{◌≢◌, IfErr, IsErrAnd, Result, Ok, Err, List, None, Some, map, [], Option, ap, append-nil, drop, inl, inr, length, suc, sym, take, take-append-drop, zero, ℕ, ◌+◌, ◌∙◌, ◌≡◌, arith, refl, subst}
-use Rattle.std.proofs.lemmas.List.{length-map, length_push, take_all}
+-- What is said of a run is written, or a beginning of it; and the bases that it leaves are saved, or the first of them.
+use Rattle.std.proofs.Common.{◌≢◌, IfErr, IsErrAnd, OnOk, Result, Ok, Err, List, None, Some, map, [], Option, ap, append-nil, drop, inl, inr, length, subst, sym, take, take-append-drop, ℕ, ◌∙◌, ◌≡◌, arith, refl}
+use Rattle.std.proofs.lemmas.List.{take_all}
 use Rattle.std.specs.BTreeMap.{BTreeMap}
 use Rattle.std.specs.Io.KnownBytes.{Appends, Keeps}
 use Rattle.argus_engine.specs.declared.engine.Fault.{Fault}
@@ -8,88 +8,97 @@ use Rattle.argus_engine.specs.declared.engine.Fault.TheVariants.{Memory, Output,
 use Rattle.stable_store.specs.Stored.{Stored}
 use Rattle.values.specs.declared.content.Content.{Content}
 use Rattle.script_model.specs.declared.checked.Checked.{Checked}
-use Rattle.run_model.specs.Openings.{OpeningLists, Setup}
-use Rattle.run_model.specs.Runs.{World, new_world}
+use Rattle.run_model.specs.Openings.{Setup}
 use Rattle.activities.specs.declared.client.ClientEnd.{ClientEnd}
 use Rattle.argus_engine.specs.declared.engine.Ended.{Ended}
 use Rattle.argus_engine.specs.declared.engine.Ended.TheVariants.{Done, Stopped}
 use Rattle.argus_engine.specs.Serving.{Writes, TakesFront}
-use Rattle.activities.specs.Serial.{serial_run}
-use Rattle.activities.proofs.Runs.{serial_runs_are_run}
-use Rattle.script_engine.specs.Running.{BeginsRun, bases_of_first, bases_of_run, run_text, text_of_run}
+use Rattle.script_engine.specs.Running.{Bases, BeginsRun, Comes, TellsRun, run_text}
 use Rattle.script_engine.specs.Storing.{AreOpenedBy, ArePartlySaved, BeginsStoredRun, IsOfStore, IsOpened, TellsStoredRun, refusal_line, saved}
 use Rattle.script_engine.proofs.Opening.{none_in, some_in}
 
-pub front_told : (before after : Option (List ℕ)) (script : Checked) (setup : Setup) (text : List ℕ) → text ≡ text_of_run script setup
-    → TakesFront before after text → Writes before after (BeginsRun script setup)
-front_told before after script setup text is took = (take took.0 text, took.2, (drop took.0 text, sym is ∙ sym (take-append-drop took.0 text)))
+abbrev Maps : Type 0
+Maps = List (BTreeMap ℕ Content)
 
-module _ (before after : Option (List ℕ)) (script : Checked) (found : List (Option Stored)) (ended : Ended)
-    (bases : List (List (ℕ × Content))) (text : List ℕ) (told : TellsStoredRun script found ended bases text) where
-  pub front_stored : TakesFront before after text → Writes before after (BeginsStoredRun script found)
-  front_stored took = (take took.0 text, took.2, inr (ended, bases, text, told, (drop took.0 text, sym (take-append-drop took.0 text))))
+-- the bases in maps
+abbrev pub entries_of : List (BTreeMap ℕ Content) → Bases
+entries_of bases = map (λ (b : BTreeMap ℕ Content). b.entries) bases
 
-  pub whole_stored : Appends before after text → Writes before after (BeginsStoredRun script found)
-  whole_stored wrote = (text, wrote, inr (ended, bases, text, told, ([], sym (append-nil text))))
+module _ (comes : Comes) (script : Checked) where
+  -- the text of what came of a run in a setup that is the script's own
+  pub run_told : (setup own : Setup) (ends given_ends : List ClientEnd) (bases given_bases : Maps) (text made : List ℕ)
+      → setup ≡ own → comes script setup ends (entries_of bases) → text ≡ made
+      → made ≡ run_text given_ends (entries_of given_bases) → given_ends ≡ ends → given_bases ≡ bases → TellsRun comes script own text
+  run_told setup own ends given_ends bases given_bases text made is came same_text says same_ends same_bases =
+      subst (λ s. TellsRun comes script s text) is (
+        ends,
+        entries_of bases,
+        came,
+        same_text ∙ says ∙ (λ k. run_text (same_ends k) (entries_of (same_bases k))),
+      )
 
--- as many as guardians
-pub count_of_first : (w : World) (n : ℕ) → length (bases_of_first w n) ≡ n
-count_of_first w zero = refl
-count_of_first w (suc n) =
-    let next : n + 1 ≡ suc n = omega arith in length_push (bases_of_first w n) _ ∙ ap (λ m. m + 1) (count_of_first w n) ∙ next
+  module _ (before after : Option (List ℕ)) (setup : Setup) (text : List ℕ) (told : TellsRun comes script setup text) where
+    pub front_told : TakesFront before after text → Writes before after (BeginsRun comes script setup)
+    front_told took = (take took.0 text, took.2, inr (text, told, (drop took.0 text, sym (take-append-drop took.0 text))))
 
-pub count_left : (script : Checked) (setup : Setup) → length (bases_of_run script setup) ≡ length setup
-count_left script setup =
-    let ran = serial_run script (new_world setup) in
-    count_of_first ran.world (length ran.world.lists.setup)
-    ∙ ap (λ (l : OpeningLists). length l.setup) (serial_runs_are_run script (new_world setup) tt).goes_on.same_opening
+    pub ok_told : {A E : Type 0} (result : Result A E) → OnOk result (Appends before after text)
+        → OnOk result (Writes before after (TellsRun comes script setup))
+    ok_told (Ok a) wrote = (text, wrote, told)
+    ok_told (Err e) wrote = tt
 
--- ---- over stores
+module _ (comes : Comes) (script : Checked) (found : List (Option Stored)) where
+  module _ (before after : Option (List ℕ)) (ended : Ended) (bases : Bases) (text : List ℕ)
+      (told : TellsStoredRun comes script found ended bases text) where
+    pub front_stored : TakesFront before after text → Writes before after (BeginsStoredRun comes script found)
+    front_stored took = (take took.0 text, took.2, inr (ended, bases, text, told, (drop took.0 text, sym (take-append-drop took.0 text))))
 
-module _ (script : Checked) (found : List (Option Stored)) where
+    pub whole_stored : Appends before after text → Writes before after (BeginsStoredRun comes script found)
+    whole_stored wrote = (text, wrote, inr (ended, bases, text, told, ([], sym (append-nil text))))
+
+  -- ---- over stores
+
   pub none_told : (o : Option Setup) → o ≡ None
       → IsOpened found script.guardians o
-      → TellsStoredRun script found Stopped [] refusal_line
+      → TellsStoredRun comes script found Stopped [] refusal_line
   none_told o none match = (none_in (AreOpenedBy found script.guardians) o none match, refl, refl)
 
-  pub done_told : (o : Option Setup) (setup : Setup) (ends given_ends : List ClientEnd) (bases given_bases : List (BTreeMap ℕ Content)) (text : List ℕ)
-      → o ≡ Some setup → IsOpened found script.guardians o
-      → ends ≡ (serial_run script (new_world setup)).ends → map (λ b. b.entries) bases ≡ bases_of_run script setup
-      → text ≡ run_text given_ends (map (λ b. b.entries) given_bases) → given_ends ≡ ends → given_bases ≡ bases
-      → TellsStoredRun script found Done (map (λ b. b.entries) bases) text
-  done_told o setup ends given_ends bases given_bases text some match ended left says same_ends same_bases = (
+  pub done_told : (o : Option Setup) (setup : Setup) (ends given_ends : List ClientEnd) (bases given_bases : Maps) (text made : List ℕ)
+      → o ≡ Some setup → IsOpened found script.guardians o → comes script setup ends (entries_of bases) → text ≡ made
+      → made ≡ run_text given_ends (entries_of given_bases) → given_ends ≡ ends → given_bases ≡ bases
+      → TellsStoredRun comes script found Done (entries_of bases) text
+  done_told o setup ends given_ends bases given_bases text made some match came same_text says same_ends same_bases = (
     setup,
+    ends,
     some_in _ (AreOpenedBy found script.guardians) o setup some match,
-    left,
-    says ∙ (λ k. run_text (same_ends k) (map (λ (b : BTreeMap ℕ Content). b.entries) (same_bases k))) ∙ (λ k. run_text (ended k) (left k)),
+    came,
+    same_text ∙ says ∙ (λ k. run_text (same_ends k) (entries_of (same_bases k))),
   )
-
-  pub count_run : (o : Option Setup) (setup : Setup) (bases given_bases : List (BTreeMap ℕ Content)) (count : ℕ)
-      → o ≡ Some setup → IsOpened found script.guardians o → map (λ b. b.entries) bases ≡ bases_of_run script setup
-      → given_bases ≡ bases → count ≡ length script.guardians → count ≡ length given_bases
-  count_run o setup bases given_bases count some match left same counted =
-      counted ∙ sym (some_in _ (AreOpenedBy found script.guardians) o setup some match).count ∙ sym (ap length left ∙ count_left script setup)
-      ∙ length-map bases (λ (b : BTreeMap ℕ Content). b.entries) ∙ sym (ap length same)
 
   -- the first so many bases were saved
-  pub partly_saved : (o : Option Setup) (setup : Setup) (bases given_bases : List (BTreeMap ℕ Content)) (old new : List Stored)
-      → o ≡ Some setup → IsOpened found script.guardians o → map (λ b. b.entries) bases ≡ bases_of_run script setup → given_bases ≡ bases
-      → (count : ℕ) × (new ≡ saved (take count (map (λ b. b.entries) given_bases)) old) → ArePartlySaved script found old new
-  partly_saved o setup bases given_bases old new some match left same counted = inr (
-    map (λ (b : BTreeMap ℕ Content). b.entries) bases,
-    text_of_run script setup,
-    (setup, some_in _ (AreOpenedBy found script.guardians) o setup some match, left, refl),
+  pub partly_saved : (o : Option Setup) (setup : Setup) (ends : List ClientEnd) (bases given_bases : Maps) (old new : List Stored)
+      → o ≡ Some setup → IsOpened found script.guardians o → comes script setup ends (entries_of bases) → given_bases ≡ bases
+      → (count : ℕ) × (new ≡ saved (take count (entries_of given_bases)) old) → ArePartlySaved comes script found old new
+  partly_saved o setup ends bases given_bases old new some match came same counted = inr (
+    entries_of bases,
+    run_text ends (entries_of bases),
+    (setup, ends, some_in _ (AreOpenedBy found script.guardians) o setup some match, came, refl),
     counted.0,
-    counted.1 ∙ ap (λ bs. saved (take counted.0 (map (λ (b : BTreeMap ℕ Content). b.entries) bs)) old) same,
+    counted.1 ∙ ap (λ bs. saved (take counted.0 (entries_of bs)) old) same,
   )
 
+-- as many bases as stores
+pub count_run : (found : List (Option Stored)) (own : List (List Content)) (o : Option Setup) (setup : Setup) (bases given_bases : Maps) (count : ℕ)
+    → o ≡ Some setup → IsOpened found own o → length bases ≡ length setup → given_bases ≡ bases → count ≡ length own
+    → count ≡ length given_bases
+count_run found own o setup bases given_bases count some match left same counted =
+    counted ∙ sym (some_in _ (AreOpenedBy found own) o setup some match).count ∙ sym left ∙ sym (ap length same)
+
 -- all bases are saved
-pub all_saved : (old : List Stored) (bases given_bases : List (BTreeMap ℕ Content)) (new : List Stored) → given_bases ≡ bases
-    → new ≡ saved (map (λ b. b.entries) given_bases) old → (count : ℕ) × (new ≡ saved (take count (map (λ b. b.entries) bases)) old)
+pub all_saved : (old : List Stored) (bases given_bases : Maps) (new : List Stored) → given_bases ≡ bases
+    → new ≡ saved (entries_of given_bases) old → (count : ℕ) × (new ≡ saved (take count (entries_of bases)) old)
 all_saved old bases given_bases new same is = (
-  length (map (λ (b : BTreeMap ℕ Content). b.entries) bases),
-  is ∙ ap (λ bs. saved (map (λ (b : BTreeMap ℕ Content). b.entries) bs) old) same
-      ∙ ap (λ bs. saved bs old) (sym (take_all (length (map (λ (b : BTreeMap ℕ Content). b.entries) bases)) (map (λ (b : BTreeMap ℕ Content). b.entries) bases) (omega arith))),
+  length (entries_of bases),
+  is ∙ ap (λ bs. saved (entries_of bs) old) same ∙ ap (λ bs. saved bs old) (sym (take_all (length (entries_of bases)) (entries_of bases) (omega arith))),
 )
 
 -- ---- nothing written
@@ -133,6 +142,6 @@ never_output So (Err fault) (inr store) = λ output. absurd (no_store (sym store
     no_store e = cc
 
 -- the bases that are saved are those that were left
-pub whole_saved : (old : List Stored) (bases given_bases : List (BTreeMap ℕ Content)) (new : List Stored) → given_bases ≡ bases
-    → new ≡ saved (map (λ b. b.entries) given_bases) old → new ≡ saved (map (λ b. b.entries) bases) old
-whole_saved old bases given_bases new same is = is ∙ ap (λ bs. saved (map (λ (b : BTreeMap ℕ Content). b.entries) bs) old) same
+pub whole_saved : (old : List Stored) (bases given_bases : Maps) (new : List Stored) → given_bases ≡ bases
+    → new ≡ saved (entries_of given_bases) old → new ≡ saved (entries_of bases) old
+whole_saved old bases given_bases new same is = is ∙ ap (λ bs. saved (entries_of bs) old) same

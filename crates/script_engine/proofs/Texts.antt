@@ -1,11 +1,11 @@
 -- What is said of a run over stores is determined by the script and by what the stores held.
-use Rattle.std.proofs.Common.{List, None, Option, Some, [], ap, arith, get_or, length, refl, suc, sym, zero, ℕ, ◌<◌, ◌∙◌, ◌∷◌, ◌≡◌}
+use Rattle.std.proofs.Common.{List, None, Option, Some, [], arith, get_or, length, refl, subst, suc, sym, zero, ℕ, ◌<◌, ◌∙◌, ◌∷◌, ◌≡◌}
 use Rattle.std.proofs.lemmas.List.{same_lists}
 use Rattle.stable_store.specs.Stored.{Stored}
 use Rattle.values.specs.declared.content.Content.{Content}
 use Rattle.run_model.specs.Openings.{Setup}
 use Rattle.argus_engine.specs.declared.engine.Ended.TheVariants.{Done, Stopped}
-use Rattle.script_engine.specs.Running.{bases_of_run, text_of_run}
+use Rattle.script_engine.specs.Running.{Comes, IsDetermined, run_text}
 use Rattle.script_engine.specs.Storing.{AreOpenedBy, OneStoredRun, Opens}
 
 -- within a list the default does not matter
@@ -29,10 +29,12 @@ one_setup found own a b x y =
     ∙ one_opened (get_or found k None) (get_or own k []) (get_or a k []) (get_or b k []) (x.each k (omega (arith, l, x.count))) (y.each k (omega (arith, l, x.count)))
     ∙ within b k [] d (omega (arith, l, x.count, y.count)))
 
-pub one_stored_run : OneStoredRun
-one_stored_run script found Done Done bases more text said told again =
-    let same = one_setup found script.guardians told.0 again.0 told.1 again.1 in
-    (refl, told.2 ∙ ap (bases_of_run script) same ∙ sym again.2, told.3 ∙ ap (text_of_run script) same ∙ sym again.3)
-one_stored_run script found Done Stopped bases more text said told again = absurd (again.0 told.0 told.1)
-one_stored_run script found Stopped Done bases more text said told again = absurd (told.0 again.0 again.1)
-one_stored_run script found Stopped Stopped bases more text said told again = (refl, told.2 ∙ sym again.2, told.1 ∙ sym again.1)
+module _ (comes : Comes) (one : IsDetermined comes) where
+  pub one_stored_run : OneStoredRun comes
+  one_stored_run script found Done Done bases more text said told again =
+      let same = one_setup found script.guardians told.0 again.0 told.2 again.2 in
+      let came = one script again.0 told.1 again.1 bases more (subst (λ s. comes script s told.1 bases) same told.3) again.3 in
+      (refl, came.1, told.4 ∙ (λ k. run_text (came.0 k) (came.1 k)) ∙ sym again.4)
+  one_stored_run script found Done Stopped bases more text said told again = absurd (again.0 told.0 told.2)
+  one_stored_run script found Stopped Done bases more text said told again = absurd (told.0 again.0 again.2)
+  one_stored_run script found Stopped Stopped bases more text said told again = (refl, told.2 ∙ sym again.2, told.1 ∙ sym again.1)

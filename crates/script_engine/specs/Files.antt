@@ -5,22 +5,24 @@ use Rattle.argus_engine.specs.declared.engine.Ended.{Ended}
 use Rattle.argus_engine.specs.declared.engine.Ended.TheVariants.{Done, Stopped}
 use Rattle.argus_engine.specs.Judging.{IsJudged, IsScriptIn}
 use Rattle.argus_engine.specs.Serving.{Begins}
-use Rattle.script_engine.specs.Running.{text_of_run}
-
--- Of a script, what is said of its run in a new world of its own objects; of all else its first fault.
-abbrev pub TellsFile : List ℕ → Ended → List ℕ → Type 0
-TellsFile bytes Done text = (script : Checked) × IsScriptIn bytes script × (text ≡ text_of_run script script.guardians)
-TellsFile bytes Stopped text = IsJudged bytes Stopped text
-
--- nothing was said, or a beginning of what is to be said
-abbrev pub BeginsFile : List ℕ → List ℕ → Type 0
-BeginsFile bytes written = (written ≡ []) ⊎ ((ended : Ended) × (text : List ℕ) × TellsFile bytes ended text × Begins written text)
+use Rattle.script_engine.specs.Running.{Comes, TellsRun}
 
 -- Bytes are one script at most.
 abbrev pub OneScript : Type 0
 OneScript = (bytes : List ℕ) (script other : Checked) → IsScriptIn bytes script → IsScriptIn bytes other → script ≡ other
 
--- What is said of the bytes, and how that ends, are determined by the bytes.
-abbrev pub OneFile : Type 0
-OneFile = (bytes : List ℕ) (ended other : Ended) (text said : List ℕ) → TellsFile bytes ended text → TellsFile bytes other said
-    → (ended ≡ other) × (text ≡ said)
+module _ (comes : Comes) where
+  -- Of a script, what is said of a run in a new system of its own objects; of all else its first fault.
+  abbrev pub TellsFile : List ℕ → Ended → List ℕ → Type 0
+  TellsFile bytes Done text = (script : Checked) × IsScriptIn bytes script × TellsRun comes script script.guardians text
+  TellsFile bytes Stopped text = IsJudged bytes Stopped text
+
+  -- nothing was said, or a beginning of what is to be said
+  abbrev pub BeginsFile : List ℕ → List ℕ → Type 0
+  BeginsFile bytes written =
+      (written ≡ []) ⊎ ((ended : Ended) × (text : List ℕ) × TellsFile bytes ended text × Begins written text)
+
+  -- What is said of the bytes, and how that ends, are determined by the bytes.
+  abbrev pub OneFile : Type 0
+  OneFile = (bytes : List ℕ) (ended other : Ended) (text said : List ℕ)
+      → TellsFile bytes ended text → TellsFile bytes other said → (ended ≡ other) × (text ≡ said)

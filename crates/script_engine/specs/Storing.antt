@@ -11,12 +11,13 @@ use Rattle.stable_store.specs.Calls.{View, found}
 use Rattle.script_model.specs.declared.checked.Checked.{Checked}
 use Rattle.run_model.specs.Openings.{Setup}
 use Rattle.run_model.specs.Transcripts.{line_feed}
+use Rattle.activities.specs.declared.client.ClientEnd.{ClientEnd}
 use Rattle.argus_engine.specs.declared.engine.Ended.{Ended}
 use Rattle.argus_engine.specs.declared.engine.Ended.TheVariants.{Done, Stopped}
 use Rattle.argus_engine.specs.declared.engine.Fault.{Fault}
 use Rattle.argus_engine.specs.declared.engine.Fault.TheVariants.{Memory, Store}
 use Rattle.argus_engine.specs.Serving.{Begins}
-use Rattle.script_engine.specs.Running.{bases_of_run, text_of_run}
+use Rattle.script_engine.specs.Running.{Bases, Comes, IsOfRun, run_text}
 
 -- a store by what is seen of it
 module _ {S : Type 0} (seen : S → View) where
@@ -70,7 +71,7 @@ abbrev pub IsOpened : List (Option Stored) → List (List Content) → Option Se
 IsOpened found own opened = MatchOption opened ((setup : Setup) → AreOpenedBy found own setup → ⊥) (AreOpenedBy found own)
 
 -- the stores once these bases were saved, each at its guardian; where there are fewer bases, the stores behind them as they were
-abbrev pub saved : List (List (ℕ × Content)) → List Stored → List Stored
+abbrev pub saved : Bases → List Stored → List Stored
 saved [] stores = stores
 saved (base ∷ bases) [] = []
 saved (base ∷ bases) (s ∷ stores) = after_save base s ∷ saved bases stores
@@ -78,39 +79,46 @@ saved (base ∷ bases) (s ∷ stores) = after_save base s ∷ saved bases stores
 abbrev pub refusal_line : List ℕ
 refusal_line = codes "error store" ++ line_feed ∷ []
 
--- What is to be said, and the bases that are to be saved: those of the script's run in a new world of what the stores opened; or that they open none.
-abbrev pub TellsStoredRun : Checked → List (Option Stored) → Ended → List (List (ℕ × Content)) → List ℕ → Type 0
-TellsStoredRun script found Done bases text =
-    (setup : Setup) × AreOpenedBy found script.guardians setup × (bases ≡ bases_of_run script setup) × (text ≡ text_of_run script setup)
-TellsStoredRun script found Stopped bases text =
-    ((setup : Setup) → AreOpenedBy found script.guardians setup → ⊥) × (text ≡ refusal_line) × (bases ≡ [])
+module _ (comes : Comes) where
+  -- What is to be said, and the bases that are to be saved: those of an outcome that may come in a new system of what the stores opened; or
+  -- that they open none.
+  abbrev pub TellsStoredRun : Checked → List (Option Stored) → Ended → Bases → List ℕ → Type 0
+  TellsStoredRun script found Done bases text = (setup : Setup) × (ends : List ClientEnd)
+      × AreOpenedBy found script.guardians setup × comes script setup ends bases × (text ≡ run_text ends bases)
+  TellsStoredRun script found Stopped bases text =
+      ((setup : Setup) → AreOpenedBy found script.guardians setup → ⊥) × (text ≡ refusal_line) × (bases ≡ [])
 
--- that was said, and the bases were saved
-abbrev pub IsStoredRun : Checked → List (Option Stored) → List Stored → List Stored → Ended → List ℕ → Type 0
-IsStoredRun script found old new ended text =
-    (bases : List (List (ℕ × Content))) × TellsStoredRun script found ended bases text × (new ≡ saved bases old)
+  -- that was said, and the bases were saved
+  abbrev pub IsStoredRun : Checked → List (Option Stored) → List Stored → List Stored → Ended → List ℕ → Type 0
+  IsStoredRun script found old new ended text =
+      (bases : Bases) × TellsStoredRun script found ended bases text × (new ≡ saved bases old)
 
--- the stores are left as by a run of which less was said
-abbrev pub LeavesStoredRun : Checked → List (Option Stored) → List Stored → List Stored → Type 0
-LeavesStoredRun script found old new = (ended : Ended) × (text : List ℕ) × IsStoredRun script found old new ended text
+  -- the stores are left as by a run of which less was said
+  abbrev pub LeavesStoredRun : Checked → List (Option Stored) → List Stored → List Stored → Type 0
+  LeavesStoredRun script found old new = (ended : Ended) × (text : List ℕ) × IsStoredRun script found old new ended text
 
--- nothing was said, or a beginning of what is to be said
-abbrev pub BeginsStoredRun : Checked → List (Option Stored) → List ℕ → Type 0
-BeginsStoredRun script found written =
-    (written ≡ []) ⊎ ((ended : Ended) × (bases : List (List (ℕ × Content))) × (text : List ℕ)
-    × TellsStoredRun script found ended bases text × Begins written text)
+  -- nothing was said, or a beginning of what is to be said
+  abbrev pub BeginsStoredRun : Checked → List (Option Stored) → List ℕ → Type 0
+  BeginsStoredRun script found written =
+      (written ≡ []) ⊎ ((ended : Ended) × (bases : Bases) × (text : List ℕ)
+      × TellsStoredRun script found ended bases text × Begins written text)
 
--- the stores are as they were, or the first so many bases were saved
-abbrev pub ArePartlySaved : Checked → List (Option Stored) → List Stored → List Stored → Type 0
-ArePartlySaved script found old new =
-    (new ≡ old) ⊎ ((bases : List (List (ℕ × Content))) × (text : List ℕ) × TellsStoredRun script found Done bases text
-    × (count : ℕ) × (new ≡ saved (take count bases) old))
+  -- the stores are as they were, or the first so many bases were saved
+  abbrev pub ArePartlySaved : Checked → List (Option Stored) → List Stored → List Stored → Type 0
+  ArePartlySaved script found old new =
+      (new ≡ old) ⊎ ((bases : Bases) × (text : List ℕ) × TellsStoredRun script found Done bases text
+      × (count : ℕ) × (new ≡ saved (take count bases) old))
+
+  -- What is said of a run over stores, how it ends, and the bases that are saved, are determined by the script and by what was found at the stores.
+  abbrev pub OneStoredRun : Type 0
+  OneStoredRun = (script : Checked) (found : List (Option Stored)) (ended other : Ended) (bases more : Bases) (text said : List ℕ)
+      → TellsStoredRun script found ended bases text → TellsStoredRun script found other more said
+      → (ended ≡ other) × (bases ≡ more) × (text ≡ said)
 
 -- a fault of a store, or out of memory
 abbrev pub IsOfStore : Fault → Type 0
 IsOfStore fault = (fault ≡ Memory) ⊎ (fault ≡ Store)
 
--- What is said of a run over stores, how it ends, and the bases that are saved, are determined by the script and by what was found at the stores.
-abbrev pub OneStoredRun : Type 0
-OneStoredRun = (script : Checked) (found : List (Option Stored)) (ended other : Ended) (bases more : List (List (ℕ × Content))) (text said : List ℕ)
-    → TellsStoredRun script found ended bases text → TellsStoredRun script found other more said → (ended ≡ other) × (bases ≡ more) × (text ≡ said)
+-- a fault of the clients' run, of the writer or of a store, or out of memory
+abbrev pub IsOfStoredRun : (Fault → Type 0) → Fault → Type 0
+IsOfStoredRun faults fault = IsOfRun faults fault ⊎ IsOfStore fault

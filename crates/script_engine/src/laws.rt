@@ -1,17 +1,22 @@
 ghost use Rattle.script_engine.specs.Files.{OneFile, OneScript};
+ghost use Rattle.script_engine.specs.Running.{IsDetermined};
 ghost use Rattle.script_engine.specs.Storing.{OneStoredRun};
+
+use crate::clients::RunsClients;
 
 /// Bytes are one script at most.
 pub fn one_script()
     ensures { OneScript }
 {}
 
-/// What is said of the bytes of a file that is to be run is determined by the bytes, and so is how that ends.
-pub fn one_file()
-    ensures { OneFile }
+/// If a script and a setup have one outcome at most, the bytes of a file that is to be run determine what is said of
+/// them, and how that ends.
+pub fn one_file<R: RunsClients>()
+    ensures { IsDetermined R.comes → OneFile R.comes }
 {}
 
-/// Over stores too: what is said, how it ends, and the bases that are saved are determined by the script and by what the stores held.
-pub fn one_stored_run()
-    ensures { OneStoredRun }
+/// Over stores too: the script and what the stores held then determine what is said, how it ends, and the bases that
+/// are saved.
+pub fn one_stored_run<R: RunsClients>()
+    ensures { IsDetermined R.comes → OneStoredRun R.comes }
 {}

@@ -1,12 +1,14 @@
-//! The engine of scripts: it runs a checked script in a world of its objects, or of what stores hold of them, and writes how its clients
-//! ended and which bases they left.
+//! The engine of scripts: it runs a checked script in a new system of its objects, or of what stores hold of them, and
+//! writes how its clients ended and which bases they left. `RunsClients` is how the clients are run.
 #![tactic(auto)]
 
+mod clients;
 mod files;
 mod laws;
 mod running;
 mod storing;
 
+pub use clients::{Outcome, RunsClients};
 pub use files::run_file;
 pub use laws::{one_file, one_script, one_stored_run};
 pub use running::{run_script, setup_of};

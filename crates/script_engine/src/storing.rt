@@ -1,18 +1,24 @@
 //! Running a script over stores, in which its objects are kept.
 
-ghost use Rattle.std.specs.Prelude.{◌≡◌, ◌≢◌, option_copied, ◌≤◌, ◌<◌, ◌⊎◌, ℕ, IfErr, IfOk, List, MatchBool, MatchOption, OnErr, OnOk, Some, get_or, length, map, take};
+ghost use Rattle.std.specs.Prelude.{◌≡◌, ◌≢◌, ◌≤◌, ◌<◌, ◌⊎◌, ℕ, List, Some};
+ghost use Rattle.std.specs.Prelude.{get_or, length, map, option_copied, take};
+ghost use Rattle.std.specs.Prelude.{IfErr, IfOk, MatchBool, MatchOption, OnErr, OnOk};
 ghost use Rattle.std.specs.FinMap.{get};
+ghost use Rattle.std.specs.Io.KnownBytes.{Keeps};
+ghost use Rattle.values.specs.declared.content.Content.{Content};
 ghost use Rattle.atomic_types.specs.Parts.{laid_where};
 ghost use Rattle.stable_store.specs.Held.{held, parts_in};
 ghost use Rattle.script_model.specs.Laws.{HasFewObjects};
-ghost use Rattle.values.specs.declared.content.Content.{Content};
-ghost use Rattle.std.specs.Io.KnownBytes.{Keeps};
-ghost use Rattle.argus_engine.specs.declared.engine.Fault.TheVariants.{Input, Output};
-ghost use Rattle.script_engine.specs.Running.{IsFit};
-ghost use Rattle.script_engine.specs.Storing.{ArePartlySaved, BeginsStoredRun, CanOpen, HasOnly, IsOfStore, IsOpened, IsOpening, IsStoredRun, LeavesStoredRun, Opens, all_found, all_held, found_in, saved};
+ghost use Rattle.argus_engine.specs.declared.engine.Fault.TheVariants.{Output};
 ghost use Rattle.argus_engine.specs.Serving.{Writes};
+ghost use Rattle.script_engine.specs.Running.{IsFit};
+ghost use Rattle.script_engine.specs.Storing.{CanOpen, HasOnly, IsOpened, IsOpening, Opens};
+ghost use Rattle.script_engine.specs.Storing.{all_found, all_held, found_in, saved};
+ghost use Rattle.script_engine.specs.Storing.{ArePartlySaved, BeginsStoredRun, IsOfStore, IsOfStoredRun, IsStoredRun};
+ghost use Rattle.script_engine.specs.Storing.{LeavesStoredRun};
 
-use crate::running::{add_guardian, run_clients, run_text};
+use crate::clients::RunsClients;
+use crate::running::{add_guardian, run_text};
 use argus_engine::{Ended, Fault, finish};
 use atomic_types::Part;
 use run_model::Setup;
@@ -23,16 +29,18 @@ use std::collections::BTreeMap;
 use std::io::Write;
 use values::Content;
 
-/// Runs a script as `run_script` does, in a new world of the contents that the stores have, one store for each guardian in order; an object
-/// of which a store has nothing has the script's content, and one of which it has a delta has that added to the script's. Then it saves the
-/// base of each object, a call for each store in order, and writes the lines.
+/// Runs a script as `run_script` does, in a new system of the contents that the stores have, one store for each
+/// guardian in order; an object of which a store has nothing has the script's content, and one of which it has a delta
+/// has that added to the script's. Then it saves the base of each object, a call for each store in order, and writes
+/// the lines.
 ///
-/// Where a store holds no content, or a top action is prepared there, or it has an object that the script lacks, `error store` is written,
-/// `Stopped` comes, and the stores are as they were. After a fault the first stores may have been saved, and the others are as they were.
-/// Where the writer failed all that was to be saved is, and a beginning of what was to be written was written; after another fault nothing
-/// was.
-pub fn run_stored<S: Stable, W: Write>(
+/// Where a store holds no content, or a top action is prepared there, or it has an object that the script lacks, `error
+/// store` is written, `Stopped` comes, and the stores are as they were. After a fault the first stores may have been
+/// saved, and the others are as they were. Where the writer failed all that was to be saved is, and a beginning of what
+/// was to be written was written; after another fault nothing was.
+pub fn run_stored<R: RunsClients, S: Stable, W: Write>(
     alloc: Global,
+    runner: &mut R,
     script: &Checked,
     stores: &mut [S],
     writer: &mut W,
@@ -40,22 +48,27 @@ pub fn run_stored<S: Stable, W: Write>(
     requires script { IsFit script.now }
     requires count { length stores.old ≡ length script.now.guardians }
     ensures ok { IfOk result (λ ended. Writes (W.contents writer.old) (W.contents writer.new)
-        (IsStoredRun script.now (all_found S.seen stores.old) (all_held S.seen stores.old) (all_held S.seen stores.new) ended)) }
+        (IsStoredRun R.comes script.now (all_found S.seen stores.old)
+        (all_held S.seen stores.old) (all_held S.seen stores.new) ended)) }
     // also after a fault
-    ensures begun { Writes (W.contents writer.old) (W.contents writer.new) (BeginsStoredRun script.now (all_found S.seen stores.old)) }
-    ensures err { OnErr result (ArePartlySaved script.now (all_found S.seen stores.old)
+    ensures begun { Writes (W.contents writer.old) (W.contents writer.new)
+        (BeginsStoredRun R.comes script.now (all_found S.seen stores.old)) }
+    ensures err { OnErr result (ArePartlySaved R.comes script.now (all_found S.seen stores.old)
         (all_held S.seen stores.old) (all_held S.seen stores.new)) }
     // so no line is written before all is saved
-    ensures silent { IfErr result (λ fault. fault ≢ Output → Keeps (W.contents writer.old) (W.contents writer.new)) }
-    ensures untold { IfErr result (λ fault. fault ≡ Output → LeavesStoredRun script.now (all_found S.seen stores.old)
+    ensures silent { IfErr result (λ fault. fault ≢ Output
+        → Keeps (W.contents writer.old) (W.contents writer.new)) }
+    // if the fault is none of the clients' run
+    ensures untold { IfErr result (λ fault. fault ≡ Output → ¬ R.faults Output
+        → LeavesStoredRun R.comes script.now (all_found S.seen stores.old)
         (all_held S.seen stores.old) (all_held S.seen stores.new)) }
-    ensures fault { IfErr result (λ fault. fault ≢ Input) }
+    ensures fault { IfErr result (IsOfStoredRun R.faults) }
 {
     let Some(setup) = open_setup(alloc, script, stores)? else {
         finish(writer, "error store\n")?;
         return Ok(Ended::Stopped);
     };
-    let outcome = run_clients(alloc, setup, script)?;
+    let outcome = runner.run_clients(alloc, setup, script)?;
     let text = run_text(alloc, outcome.ends.as_slice(), outcome.bases.as_slice())?;
     save_all(alloc, stores, outcome.bases.as_slice())?;
     finish(writer, text.as_str())?;
@@ -85,10 +98,11 @@ fn open_setup<S: Stable>(
     Ok(Some(setup))
 }
 
-/// Whether a store can open a guardian that has so many objects: it holds a content, no top action is prepared there, and it has no object
-/// but those from number 1 to the last.
+/// Whether a store can open a guardian that has so many objects: it holds a content, no top action is prepared there,
+/// and it has no object but those from number 1 to the last.
 pub fn can_open<S: Stable>(store: &S, objects: usize) -> bool
-    ensures { MatchBool result (CanOpen (found_in S.seen store.now) objects) (CanOpen (found_in S.seen store.now) objects → ⊥) }
+    ensures { MatchBool result (CanOpen (found_in S.seen store.now) objects)
+        (CanOpen (found_in S.seen store.now) objects → ⊥) }
 {
     match store.kept() {
         Some(kept) => is_opening(kept, objects),
@@ -98,7 +112,8 @@ pub fn can_open<S: Stable>(store: &S, objects: usize) -> bool
 
 /// Whether nothing is prepared, and there are no objects but those from number 1 to this one.
 fn is_opening(kept: &Kept, last: usize) -> bool
-    ensures { MatchBool result (IsOpening (held kept.now) last) (IsOpening (held kept.now) last → ⊥) }
+    ensures { MatchBool result (IsOpening (held kept.now) last)
+        (IsOpening (held kept.now) last → ⊥) }
 {
     kept.prepared.is_empty() && is_within(&kept.base, last)
 }
@@ -137,7 +152,8 @@ fn content_under(part: Option<&Part>, own: &Content) -> Result<Content, AllocErr
 
 /// Whether there are only objects from number 1 to this one.
 fn is_within(base: &BTreeMap<u32, Part>, last: usize) -> bool
-    ensures { MatchBool result (HasOnly (parts_in base.now) last) (HasOnly (parts_in base.now) last → ⊥) }
+    ensures { MatchBool result (HasOnly (parts_in base.now) last)
+        (HasOnly (parts_in base.now) last → ⊥) }
 {
     for (&object, _) in base {
         if object == 0 || object as usize > last {

@@ -2,4 +2,4 @@ use Rattle.script_engine.proofs.Bytes as bytes
 use Rattle.script_engine.proofs.laws.one_file.Goals as goal
 
 pub returns : goal.returns
-returns c = bytes.one_file
+returns g c = bytes.one_file g.R.RunsClients.comes

@@ -2,4 +2,4 @@ use Rattle.script_engine.proofs.Texts as texts
 use Rattle.script_engine.proofs.laws.one_stored_run.Goals as goal
 
 pub returns : goal.returns
-returns c = texts.one_stored_run
+returns g c = texts.one_stored_run g.R.RunsClients.comes

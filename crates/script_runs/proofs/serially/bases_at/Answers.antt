@@ -1,5 +1,5 @@
-use Rattle.script_engine.proofs.Reporting.{one_more_base}
-use Rattle.script_engine.proofs.running.bases_at.Goals as goal
+use Rattle.script_runs.proofs.Bases.{one_more_base}
+use Rattle.script_runs.proofs.serially.bases_at.Goals as goal
 
 pub loop-index-preserved : goal.loop-index-preserved
 loop-index-preserved g c =

@@ -1,6 +1,6 @@
 use Rattle.std.proofs.Common.{◌≡◌}
-use Rattle.script_engine.specs.Running.{first_bases}
-use Rattle.script_engine.proofs.running.bases_at.Given as goal
+use Rattle.script_runs.specs.SerialRuns.{first_bases}
+use Rattle.script_runs.proofs.serially.bases_at.Given as goal
 
 -- those of the first objects
 abbrev pub invariant-loop-index : goal.invariant-loop-index

@@ -1,6 +1,6 @@
 use Rattle.std.proofs.Common.{◌≡◌, map}
-use Rattle.script_engine.specs.Running.{bases_of_first}
-use Rattle.script_engine.proofs.running.bases.Given as goal
+use Rattle.script_runs.specs.SerialRuns.{bases_of_first}
+use Rattle.script_runs.proofs.serially.bases.Given as goal
 
 -- those of the first guardians
 abbrev pub invariant-loop-index : goal.invariant-loop-index
