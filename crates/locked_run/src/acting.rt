@@ -2,7 +2,9 @@
 ghost use Rattle.std.specs.Prelude.{◌≡◌, ◌⊎◌, false, length, if◌then◌else◌, IfErr, IfOk, IsErrOf, MatchOption, None};
 ghost use Rattle.layer_contracts.specs.Stores.{CountsFailure};
 ghost use Rattle.layer_contracts.specs.declared.guardian.Fault.TheVariants.{Memory, Stable};
-ghost use Rattle.locked_run.specs.Acting.{IsAnswered, IsElsewhere, IsLeft, IsLeftThere, has_added, is_own, left_after, names_nobody, names_one, names_two, outcome_of};
+ghost use Rattle.locked_run.specs.Acting.{IsAnswered, IsElsewhere, IsLeft, IsLeftThere, has_added};
+ghost use Rattle.locked_run.specs.Acting.{is_own, left_after, names_nobody, names_one, names_two};
+ghost use Rattle.locked_run.specs.Acting.{outcome_of};
 
 use crate::gathering::{gather_three, gather_two, look_alone, scatter_three, scatter_two};
 use crate::held::{Held, HeldRegistry};

@@ -7,7 +7,7 @@ ghost use Rattle.one_run.specs.Rules.{Adds, others_of};
 ghost use Rattle.run_model.specs.Answers.{answer_of};
 ghost use Rattle.run_model.specs.LocalReadings.{nothing_carried};
 ghost use Rattle.run_model.specs.Runs.{IsRun, is_accepted};
-ghost use Rattle.layer_contracts.specs.Guardians.{GuardianState, IsNext, by_itself, event_of, kept, stamped};
+ghost use Rattle.layer_contracts.specs.Guardians.{GuardianState, IsNext, by_itself, kept, stamped};
 ghost use Rattle.layer_contracts.specs.Messages.{carried_of, is_operation};
 ghost use Rattle.layer_contracts.specs.Stores.{CountsFailure, LeavesStore, fault_in};
 ghost use Rattle.layer_contracts.specs.declared.guardian.Fault.TheVariants.{Stable};
@@ -97,34 +97,28 @@ fn is_operation(step: &Step) -> bool
 fn keep_by_itself<G: Guardian, D: Draw>(
     alloc: Global,
     guardian: &mut G,
-    step: &Step,
-    answer: &Answer,
+    event: &EventRef<'_>,
     stamp: &mut D,
 ) -> Result<u64, Fault>
     requires stamp { D.may_draw stamp.old }
-    requires next { (s : GuardianState) × G.stands guardian.old s
-        × IsNext s (by_itself (event_of step.now answer.now)) }
+    requires next { (s : GuardianState) × G.stands guardian.old s × IsNext s (by_itself event.now) }
     ensures drawn { IfOk result (λ n. D.draws stamp.old n stamp.new) }
     ensures undrawn { OnErr result (stamp.new ≡ stamp.old) }
     ensures kept { IfOk result (λ n. (s : GuardianState) → G.stands guardian.old s
-        → IsNext s (by_itself (event_of step.now answer.now))
-        → G.stands guardian.new (kept s (stamped n (by_itself (event_of step.now answer.now))))) }
+        → IsNext s (by_itself event.now) → G.stands guardian.new (kept s (stamped n (by_itself event.now)))) }
     ensures same { OnErr result (StandsStill (G.stands guardian.old) (G.stands guardian.new)) }
-    ensures store { (s : GuardianState) → G.stands guardian.old s
-        → IsNext s (by_itself (event_of step.now answer.now))
-        → LeavesStore s (by_itself (event_of step.now answer.now)) (G.stored guardian.old)
-        (G.stored guardian.new) (fault_in result) }
+    ensures store { (s : GuardianState) → G.stands guardian.old s → IsNext s (by_itself event.now)
+        → LeavesStore s (by_itself event.now) (G.stored guardian.old) (G.stored guardian.new) (fault_in result) }
     ensures cause { IsErrOf result Stable → CountsFailure (G.stored guardian.old)
         (G.stored guardian.new) }
 {
     // Its store is that of its history.
     guardian.number();
-    let event = EventRef { step, answer };
-    if is_operation(step) {
-        return Ok(guardian.operate(&event, stamp)?);
+    if is_operation(event.step) {
+        return Ok(guardian.operate(event, stamp)?);
     }
-    guardian.plan(&event, no_message(alloc))?;
-    guardian.carry_out(&event, stamp)
+    guardian.plan(event, no_message(alloc))?;
+    guardian.carry_out(event, stamp)
 }
 
 /// Keeps an event of a guardian by itself, which has this number, and adds it to the run. After an error
@@ -135,24 +129,23 @@ fn keep_own<K: OfRun, T: Deed, G: Guardian>(
     guardian: &mut G,
     number: u32,
     part: Part<Event>,
-    step: &Step,
-    answer: &Answer,
+    event: &EventRef<'_>,
 ) -> (Part<Event>, Result<u64, Fault>)
     requires table { part.token.table_id ≡ K.table }
     requires left { 0 < first_left part.token.me.0 }
-    requires deed { T.event ≡ event_of step.now answer.now }
-    requires own { is_own number step.now (seen_of part.token.me.0) ≡ true }
+    requires deed { T.event ≡ event.now }
+    requires own { is_own number event.now.step (seen_of part.token.me.0) ≡ true }
     requires here { HasGuardian K.opening (G.stands guardian.old) number part.token.me.0 }
-    requires answered { answer.now ≡ answer_of K.opening step.now (seen_of part.token.me.0) }
-    requires accepted { IsTrue (is_accepted answer.now) }
+    requires answered { event.now.answer ≡ answer_of K.opening event.now.step (seen_of part.token.me.0) }
+    requires accepted { IsTrue (is_accepted event.now.answer) }
     ensures table { result.0.token.table_id ≡ K.table }
-    ensures added { IfOk result.1 (λ stamp. Adds (IsRun K.opening) touches (event_of step.now answer.now)
+    ensures added { IfOk result.1 (λ stamp. Adds (IsRun K.opening) touches event.now
         part.token.me.0 stamp result.0.token.me.0) }
     ensures here { IfOk result.1 (λ stamp. HasGuardian K.opening (G.stands guardian.new) number
         (others_of result.0.token.me.0)) }
     ensures same { OnErr result.1 (result.0.token.me.0 ≡ part.token.me.0) }
     ensures err { OnErr result.1 (HasGuardian K.opening (G.stands guardian.new) number part.token.me.0) }
-    ensures store { StoreAfter K.opening step.now (kept_outcome result.1) (seen_of result.0.token.me.0)
+    ensures store { StoreAfter K.opening event.now.step (kept_outcome result.1) (seen_of result.0.token.me.0)
         number (G.stored guardian.old) (G.stored guardian.new) }
     ensures cause { IsErrOf result.1 Stable → CountsFailure (G.stored guardian.old)
         (G.stored guardian.new) }
@@ -162,7 +155,7 @@ fn keep_own<K: OfRun, T: Deed, G: Guardian>(
         part,
         of: PhantomData,
     };
-    let kept = keep_by_itself(alloc, guardian, step, answer, &mut drawing);
+    let kept = keep_by_itself(alloc, guardian, event, &mut drawing);
     let Drawing {
         shared: _,
         part,
@@ -251,9 +244,7 @@ fn finish_own<K: OfRun, G: Guardian>(
     if history.push(&event, 0).is_err() {
         return (part, Err(Fault::Memory));
     }
-    let (part, kept) = keep_own::<K, Brand, G>(
-        alloc, shared, guardian, number, part, step, &answer,
-    );
+    let (part, kept) = keep_own::<K, Brand, G>(alloc, shared, guardian, number, part, &event);
     history.settle(&kept);
     match kept {
         Err(fault) => (part, Err(fault)),

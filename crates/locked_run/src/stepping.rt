@@ -1,5 +1,6 @@
 //! Steps of what is locked, whose parts have seen one run.
-ghost use Rattle.std.specs.Prelude.{◌≡◌, ◌==◌, ◌<◌, ◌⊎◌, ◌∷◌, [], false, length, IfOk, IsErrOf, IsTrue, MatchOption, None, Some};
+ghost use Rattle.std.specs.Prelude.{◌≡◌, ◌==◌, ◌<◌, ◌⊎◌, ◌∷◌, [], false, length, IfOk, IsErrOf};
+ghost use Rattle.std.specs.Prelude.{IsTrue, MatchOption, None, Some};
 ghost use Rattle.one_run.specs.Pieces.{first_left, seen_of, witness};
 ghost use Rattle.one_run.specs.Rules.{first_of, others_of};
 ghost use Rattle.run_model.specs.Answers.{answer_of};
@@ -8,7 +9,8 @@ ghost use Rattle.layer_contracts.specs.Stores.{CountsFailure};
 ghost use Rattle.layer_contracts.specs.declared.guardian.Fault.TheVariants.{Stable};
 ghost use Rattle.world_steps.specs.Naming.{AreNamed};
 ghost use Rattle.world_steps.specs.Standings.{Names, forest_of};
-ghost use Rattle.locked_run.specs.Acting.{HasMoved, IsAnswered, StoreAfter, names_nobody, names_one, names_two, outcome_of};
+ghost use Rattle.locked_run.specs.Acting.{HasMoved, IsAnswered, StoreAfter, names_nobody};
+ghost use Rattle.locked_run.specs.Acting.{names_one, names_two, outcome_of};
 ghost use Rattle.locked_run.specs.Parts.{AreKept, AreLocked, HasRegistry, HasStore};
 
 use crate::keeping::{keep_at_one, keep_at_two};
@@ -133,7 +135,7 @@ fn finish_two<K: OfRun, R: Forest, G: Guardian>(
         return (part, Err(Fault::Memory));
     }
     let (part, kept) = keep_at_two::<K, Brand, R, G>(
-        alloc, shared, registry, one, other, low, high, part, named, step, &answer,
+        alloc, shared, registry, one, other, low, high, part, named, &event,
     );
     records.settle(step, &kept);
     match kept {
@@ -242,7 +244,7 @@ fn finish_one<K: OfRun, R: Forest, G: Guardian>(
         return (part, Err(Fault::Memory));
     }
     let (part, kept) = keep_at_one::<K, Brand, R, G>(
-        alloc, shared, registry, guardian, number, part, named, step, &answer,
+        alloc, shared, registry, guardian, number, part, named, &event,
     );
     records.settle(step, &kept);
     match kept {

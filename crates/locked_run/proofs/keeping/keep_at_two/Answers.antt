@@ -3,7 +3,6 @@ use Rattle.one_run.specs.Pieces.{seen_of}
 use Rattle.one_run.specs.Rules.{Adds, MayAdd}
 use Rattle.run_model.specs.declared.history.Event.{Event}
 use Rattle.run_model.specs.Runs.{IsRun}
-use Rattle.layer_contracts.specs.Guardians.{event_of}
 use Rattle.world_steps.specs.Standings.{forest_of, standing}
 use Rattle.shared_run.specs.Places.{touches}
 use Rattle.locked_run.specs.Acting.{StoreAfter}
@@ -16,7 +15,7 @@ pub keep_two-kept-requires-clause-stamp : goal.keep_two-kept-requires-clause-sta
 keep_two-kept-requires-clause-stamp g c =
     let o = g.K.OfRun.opening in
     let v = c.args.part.token.me.0 in
-    let e : Event = event_of c.args.step.now c.args.answer.now in
+    let e : Event = c.args.event.now in
     let a = c.requires.locked in
     let r : IsRun o (e ∷ seen_of v) = (c.requires.answered, c.requires.accepted, a.registry.run) in (
       c.requires.left,
@@ -27,7 +26,7 @@ pub keep_two-kept-requires-clause-answered : goal.keep_two-kept-requires-clause-
 keep_two-kept-requires-clause-answered g c =
     let o = g.K.OfRun.opening in
     let past = seen_of c.args.part.token.me.0 in
-    let e : Event = event_of c.args.step.now c.args.answer.now in
+    let e : Event = c.args.event.now in
     let a = c.requires.locked in
     let r : IsRun o (e ∷ past) = (c.requires.answered, c.requires.accepted, a.registry.run) in (
       forest_of o past,
@@ -43,7 +42,7 @@ returns-in-Ok-clause-locked g c =
     let v = c.args.part.token.me.0 in
     let w = c.keep_two-kept.new.stamp.part.token.me.0 in
     let past = seen_of v in
-    let e : Event = event_of c.args.step.now c.args.answer.now in
+    let e : Event = c.args.event.now in
     let a = c.requires.locked in
     let r : IsRun o (e ∷ past) = (c.requires.answered, c.requires.accepted, a.registry.run) in
     let adds : Adds (IsRun o) touches e v c.in-Ok.number w = subst (λ d. Adds (IsRun o) touches d v c.in-Ok.number w) c.requires.deed c.in-Ok.ensures.drawn in
@@ -56,11 +55,11 @@ returns-in-Ok-clause-first_store g c =
     let v = c.args.part.token.me.0 in
     let w = c.keep_two-kept.new.stamp.part.token.me.0 in
     let past = seen_of v in
-    let e : Event = event_of c.args.step.now c.args.answer.now in
+    let e : Event = c.args.event.now in
     let a = c.requires.locked in
     let r : IsRun o (e ∷ past) = (c.requires.answered, c.requires.accepted, a.registry.run) in
     let adds : Adds (IsRun o) touches e v c.in-Ok.number w = subst (λ d. Adds (IsRun o) touches d v c.in-Ok.number w) c.requires.deed c.in-Ok.ensures.drawn in
-    first_stored a c.args.step.now c.args.answer.now r c.requires.names adds _ _
+    first_stored a c.args.event.now.step c.args.event.now.answer r c.requires.names adds _ _
     (c.in-Ok.ensures.first_store (forest_of o past) (standing o past c.args.low) (standing o past c.args.high) (answered a e r c.requires.names))
 
 pub returns-in-Ok-clause-second_store : goal.returns-in-Ok-clause-second_store
@@ -69,11 +68,11 @@ returns-in-Ok-clause-second_store g c =
     let v = c.args.part.token.me.0 in
     let w = c.keep_two-kept.new.stamp.part.token.me.0 in
     let past = seen_of v in
-    let e : Event = event_of c.args.step.now c.args.answer.now in
+    let e : Event = c.args.event.now in
     let a = c.requires.locked in
     let r : IsRun o (e ∷ past) = (c.requires.answered, c.requires.accepted, a.registry.run) in
     let adds : Adds (IsRun o) touches e v c.in-Ok.number w = subst (λ d. Adds (IsRun o) touches d v c.in-Ok.number w) c.requires.deed c.in-Ok.ensures.drawn in
-    second_stored a c.args.step.now c.args.answer.now r c.requires.names adds _ _
+    second_stored a c.args.event.now.step c.args.event.now.answer r c.requires.names adds _ _
     (c.in-Ok.ensures.second_store (forest_of o past) (standing o past c.args.low) (standing o past c.args.high) (answered a e r c.requires.names))
 
 pub returns-in-Err-clause-first_store : goal.returns-in-Err-clause-first_store
@@ -81,12 +80,12 @@ returns-in-Err-clause-first_store g c =
     let o = g.K.OfRun.opening in
     let v = c.args.part.token.me.0 in
     let past = seen_of v in
-    let e : Event = event_of c.args.step.now c.args.answer.now in
+    let e : Event = c.args.event.now in
     let a = c.requires.locked in
     let r : IsRun o (e ∷ past) = (c.requires.answered, c.requires.accepted, a.registry.run) in
-    subst (λ l. StoreAfter o c.args.step.now (failed c.in-Err.fault) l c.args.low (g.G.Guardian.stored c.args.one.now) (g.G.Guardian.stored c.keep_two-kept.new.first))
+    subst (λ l. StoreAfter o c.args.event.now.step (failed c.in-Err.fault) l c.args.low (g.G.Guardian.stored c.args.one.now) (g.G.Guardian.stored c.keep_two-kept.new.first))
     (ap (λ s. seen_of s.part.token.me.0) (sym c.in-Err.ensures.undrawn))
-    (first_failed a c.args.step.now c.args.answer.now r c.requires.names _ _ c.in-Err.fault
+    (first_failed a c.args.event.now.step c.args.event.now.answer r c.requires.names _ _ c.in-Err.fault
     (c.in-Err.ensures.first_store (forest_of o past) (standing o past c.args.low) (standing o past c.args.high) (answered a e r c.requires.names)))
 
 pub returns-in-Err-clause-second_store : goal.returns-in-Err-clause-second_store
@@ -94,10 +93,10 @@ returns-in-Err-clause-second_store g c =
     let o = g.K.OfRun.opening in
     let v = c.args.part.token.me.0 in
     let past = seen_of v in
-    let e : Event = event_of c.args.step.now c.args.answer.now in
+    let e : Event = c.args.event.now in
     let a = c.requires.locked in
     let r : IsRun o (e ∷ past) = (c.requires.answered, c.requires.accepted, a.registry.run) in
-    subst (λ l. StoreAfter o c.args.step.now (failed c.in-Err.fault) l c.args.high (g.G.Guardian.stored c.args.other.now) (g.G.Guardian.stored c.keep_two-kept.new.second))
+    subst (λ l. StoreAfter o c.args.event.now.step (failed c.in-Err.fault) l c.args.high (g.G.Guardian.stored c.args.other.now) (g.G.Guardian.stored c.keep_two-kept.new.second))
     (ap (λ s. seen_of s.part.token.me.0) (sym c.in-Err.ensures.undrawn))
-    (second_failed a c.args.step.now c.args.answer.now r c.requires.names _ _ c.in-Err.fault
+    (second_failed a c.args.event.now.step c.args.event.now.answer r c.requires.names _ _ c.in-Err.fault
     (c.in-Err.ensures.second_store (forest_of o past) (standing o past c.args.low) (standing o past c.args.high) (answered a e r c.requires.names)))

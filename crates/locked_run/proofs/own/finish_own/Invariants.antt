@@ -1,5 +1,4 @@
-use Rattle.layer_contracts.specs.Guardians.{event_of}
 use Rattle.locked_run.proofs.own.finish_own.Given as goal
 
 abbrev pub ghosts-keep_own : goal.ghosts-keep_own
-ghosts-keep_own g a = record { event = event_of a.step.now a.answer.now }
+ghosts-keep_own g a = record { event = a.event.now }

@@ -3,7 +3,7 @@ use Rattle.run_model.specs.LocalReadings.{Carried}
 use Rattle.guardian_laws.specs.Stored.{after_event, asks_store}
 use Rattle.local_laws.specs.Owed.{IsOwed}
 use Rattle.guardian_laws.specs.Laws.{Agrees}
-use Rattle.layer_contracts.specs.Guardians.{by_itself, event_of, stamped}
+use Rattle.layer_contracts.specs.Guardians.{by_itself, stamped}
 use Rattle.layer_contracts.specs.Stores.{Leaves, LeavesStore, fault_in}
 use Rattle.layer_contracts.specs.declared.guardian.Fault.TheVariants.{Memory}
 use Rattle.layer_contracts.proofs.Stores.{refused_before}
@@ -13,7 +13,7 @@ use Rattle.locked_run.proofs.own.keep_by_itself.Goals as goal
 -- out of memory before its store was called
 pub returns-in_err-plan-clause-store : goal.returns-in_err-plan-clause-store
 returns-in_err-plan-clause-store g c = λ s here next.
-    let news = by_itself (event_of c.args.step.now c.args.answer.now) in
+    let news = by_itself c.args.event.now in
     let old = g.G.Guardian.stored c.args.guardian.now in
     let new = g.G.Guardian.stored c.plan.new.self in
     let whole = c.number.ensures.whole s here in
@@ -22,13 +22,13 @@ returns-in_err-plan-clause-store g c = λ s here next.
 
 pub returns-clause-store : goal.returns-clause-store
 returns-clause-store g c = λ s here next.
-    let e = event_of c.args.step.now c.args.answer.now in
+    let e = c.args.event.now in
     let news = by_itself e in
     let old = g.G.Guardian.stored c.args.guardian.now in
     let mid = g.G.Guardian.stored c.plan.new.self in
     let new = g.G.Guardian.stored c.carry_out.new.self in
     let nothing = c.no_message.ensures.carried in
-    let owed = subst (λ (m : Carried). IsOwed s.opening s.number (stamped 0 (record { event = e; carried = m })) s.past c.args.step.now) (sym nothing) next.owed in
+    let owed = subst (λ (m : Carried). IsOwed s.opening s.number (stamped 0 (record { event = e; carried = m })) s.past c.args.event.now.step) (sym nothing) next.owed in
     let agrees = subst (λ (m : Carried). Agrees s.opening s.number (stamped 0 (record { event = e; carried = m })) s.past) (sym nothing) next.agrees in
     let planned = subst (λ (m : Carried). g.G.Guardian.is_planned c.plan.new.self s (record { event = e; carried = m })) nothing (c.in_ok-plan.ensures.planned s here owed agrees) in
     let left = c.carry_out.ensures.store s news (c.plan.ensures.same s here) planned refl in
