@@ -1,5 +1,5 @@
-//! `argus`, the program: it reads its command line and runs the command. Answers go to standard output, faults to standard
-//! error.
+//! `argus`, the program: it reads its command line and runs the command. Answers go to standard output, faults to
+//! standard error.
 #![tactic(auto)]
 
 mod refusing;

@@ -12,18 +12,17 @@ use run_model::{Setup, SetupFault};
 use script_engine::{run_file, run_stored};
 use script_runs::Serially;
 use stable_store::Stable;
-use std::alloc::Global;
-use std::fs;
-use std::io::{self, Read, Write};
 use std::process::ExitCode;
+use std::{fs, io};
 use world::{Refused, World};
 
 /// The file that is standard input.
 const STANDARD_INPUT: &str = "-";
 
-/// Makes the steps of a file in a world of the setup, and writes their answers to standard output, and after them what is to be
-/// explained. The world is a new one, in memory or over new stores in a folder, or one that goes on from the stores there. The status is 1 where
-/// the setup is none, where the stores cannot be used, or a line is no step; then nothing is explained.
+/// Makes the steps of a file in a world of the setup, and writes their answers to standard output, and after them what
+/// is to be explained. The world is a new one, in memory or over new stores in a folder, or one that goes on from the
+/// stores there. The status is 1 where the setup is none, where the stores cannot be used, or a line is no step; then
+/// nothing is explained.
 pub fn steps<O: Opens>(rt: &HostRuntime, files: &O, given: &Steps<'_>) -> Result<ExitCode, Fault> {
     let Some(setup) = read_setup(rt, given.setup)? else {
         return refuse(rt, "error setup");
@@ -148,22 +147,12 @@ fn answer_file<S: Stable>(
     file: &str,
 ) -> Result<Ended, Fault> {
     if file == STANDARD_INPUT {
-        return answer_all(rt.alloc(), world, &mut rt.reader(), &mut io::writer(rt));
+        return answer_steps(rt.alloc(), world, &mut rt.reader(), &mut io::writer(rt));
     }
     match fs::open(rt, file) {
-        Ok(mut input) => answer_all(rt.alloc(), world, &mut input, &mut io::writer(rt)),
+        Ok(mut input) => answer_steps(rt.alloc(), world, &mut input, &mut io::writer(rt)),
         Err(error) => Err(read_fault(&error)),
     }
-}
-
-/// Makes the steps that the reader gives in the world, and writes their answers.
-fn answer_all<S: Stable, R: Read, W: Write>(
-    alloc: Global,
-    world: &mut World<S>,
-    input: &mut R,
-    writer: &mut W,
-) -> Result<Ended, Fault> {
-    answer_steps(alloc, world, input, writer)
 }
 
 /// The setup in a file; `None` where the file holds none.

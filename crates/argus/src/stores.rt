@@ -33,12 +33,14 @@ impl Opens for Files<'_> {
     type Store = FileStable;
 
     fn open(&self, folder: &str, number: usize) -> Result<Option<FileStable>, Fault> {
-        open_numbered(self.rt, folder, number)
+        let path = path_of(self.rt, folder, number)?;
+        open_store(self.rt, path.as_str())
     }
 }
 
-/// The stores of a script's guardians, in order; a file that is not there is made, and tables of version 1 are migrated.
-/// `None` where one of them is no store, or can not open its guardian; the files behind it are then not looked at.
+/// The stores of a script's guardians, in order; a file that is not there is made, and tables of version 1 are
+/// migrated. `None` where one of them is no store, or can not open its guardian; the files behind it are then not
+/// looked at.
 pub fn open_stores<O: Opens>(
     alloc: Global,
     files: &O,
@@ -60,8 +62,9 @@ pub fn open_stores<O: Opens>(
     Ok(Some(stores))
 }
 
-/// The stores of so many guardians, in order, in files of the folder: new ones, or where they are to be opened again those that are there. `None`
-/// where a file is there that is to be made, or is not there and is to be opened again, and where a file holds no store.
+/// The stores of so many guardians, in order, in files of the folder: new ones, or where they are to be opened again
+/// those that are there. `None` where a file is there that is to be made, or is not there and is to be opened again,
+/// and where a file holds no store.
 pub fn stores_in<O: Opens>(
     rt: &HostRuntime,
     files: &O,
@@ -112,16 +115,6 @@ fn is_there(rt: &HostRuntime, folder: &str, number: usize) -> Result<bool, Fault
         Err(error) if error.kind() == ErrorKind::OutOfMemory => Err(Fault::Memory),
         Err(_) => Err(Fault::Store),
     }
-}
-
-/// The store of the guardian of this number; `None` where its file has none.
-fn open_numbered(
-    rt: &HostRuntime,
-    folder: &str,
-    number: usize,
-) -> Result<Option<FileStable>, Fault> {
-    let path = path_of(rt, folder, number)?;
-    open_store(rt, path.as_str())
 }
 
 /// The store in a file; `None` where the file has none.
