@@ -1,8 +1,8 @@
 //! Steps of a runtime: the worked examples, lists at random that a world answers alike, and threads at once. What the
 //! threads did is replayed by one world, and the receipts of each section have to close its run.
 //!
-//! `lock_runs steps` reads a setup, a line, and steps, and times them by a world and by a runtime. `lock_runs threads N`
-//! times the work of threads, each of which does its share of N.
+//! `lock_runs steps` reads a setup, a line, and steps, and times them by a world and by a runtime. `lock_runs threads
+//! N` times the work of threads, each of which does its share of N.
 #![tactic(auto)]
 
 mod examples;

@@ -7,7 +7,7 @@ ghost use Rattle.registry.specs.Registries.{StandsIn};
 ghost use Rattle.world_steps.specs.Standings.{IsWorld};
 ghost use Rattle.world.specs.Worlds.{seen_of};
 
-use crate::runs::{Threaded, answered, end, first_begun, kept, make, push, setup_of, started};
+use crate::runs::{Threaded, answered, end, first_begun, kept, made, push, setup_of, started};
 use action_names::Name;
 use guardian::Guardian;
 use registry::Registry;
@@ -122,7 +122,7 @@ fn begun<K: OfRun, P: Gate, H: Wait>(
     let mut operations = Vec::new(alloc);
     for place in 1..=SIZE {
         let guardian = place.saturating_mul(every);
-        let answer = make(runtime, rt, Step::Top(guardian), receipts)?;
+        let answer = made(runtime, rt, &Step::Top(guardian), receipts)?;
         push(&mut operations, operation_of(alloc, &answer, guardian)?)?;
     }
     Ok(operations)

@@ -152,16 +152,6 @@ pub(crate) fn answered<K: OfRun>(
     }
 }
 
-/// Makes a step that somebody else does not need, and keeps its receipt.
-pub(crate) fn make<K: OfRun, P: Gate, H: Wait>(
-    runtime: &Threaded<K, P>,
-    rt: &H,
-    step: Step,
-    receipts: &mut Vec<Receipt<K>>,
-) -> Result<Answer, RowFault> {
-    made(runtime, rt, &step, receipts)
-}
-
 /// Makes a step, and keeps its receipt.
 pub(crate) fn made<K: OfRun, P: Gate, H: Wait>(
     runtime: &Threaded<K, P>,

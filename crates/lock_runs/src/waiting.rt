@@ -1,4 +1,5 @@
-//! Two threads at one object: each writes it in one top action after another, and the other's operations wait for these.
+//! Two threads at one object: each writes it in one top action after another, and the other's operations wait for
+//! these.
 ghost use Rattle.std.specs.Prelude.{◌≡◌, []};
 ghost use Rattle.run_model.specs.Openings.{opening_in};
 ghost use Rattle.stable_store.specs.Plain.{plain_view};
@@ -8,7 +9,7 @@ ghost use Rattle.world_steps.specs.Standings.{IsWorld};
 ghost use Rattle.world.specs.Worlds.{seen_of};
 
 use crate::runs::{
-    Threaded, answered, append, end, first_begun, kept, make, operation, setup_of, started,
+    Threaded, answered, append, end, first_begun, kept, made, operation, setup_of, started,
 };
 use action_names::Name;
 use guardian::Guardian;
@@ -112,7 +113,7 @@ fn begun<K: OfRun, H: Wait>(
     runtime: &Threaded<K, OpenGate>,
     receipts: &mut Vec<Receipt<K>>,
 ) -> Result<Name, RowFault> {
-    first_begun(&make(runtime, rt, Step::Top(1), receipts)?)
+    first_begun(&made(runtime, rt, &Step::Top(1), receipts)?)
 }
 
 fn aborted<K: OfRun, H: Wait>(
@@ -121,7 +122,7 @@ fn aborted<K: OfRun, H: Wait>(
     top: &Name,
     receipts: &mut Vec<Receipt<K>>,
 ) -> Result<(), RowFault> {
-    make(runtime, rt, Step::Abort(top.copy()?), receipts)?;
+    made(runtime, rt, &Step::Abort(top.copy()?), receipts)?;
     Ok(())
 }
 
@@ -131,7 +132,7 @@ fn told<K: OfRun, H: Wait>(
     top: Name,
     receipts: &mut Vec<Receipt<K>>,
 ) -> Result<(), RowFault> {
-    make(runtime, rt, Step::Tell(1, top), receipts)?;
+    made(runtime, rt, &Step::Tell(1, top), receipts)?;
     Ok(())
 }
 
