@@ -92,8 +92,8 @@ impl<W: System> Section<W> {
         Ok(())
     }
 
-    /// `open`, `open GUARDIAN CALL`: a world over stores that hold what is left. This call of the guardian's store fails. If the opening is
-    /// refused twice, the stores come back, and what they hold is left.
+    /// `open`, `open GUARDIAN CALL`: a world over stores that hold what is left. This call of the guardian's store
+    /// fails. If the opening is refused twice, the stores come back, and what they hold is left.
     fn open(&mut self, words: Words<'_>, answer: &mut String) -> Result<(), RowFault> {
         let failing = read_failing(words)?;
         let left = self.left.as_slice();

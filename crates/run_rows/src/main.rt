@@ -1,7 +1,8 @@
 //! Tests of the examples, which `scripts/example-runs` writes to `stdin`, and of the rows of `rows/`, as rows of data.
 //!
-//! A section has a setup, steps, a script and databases, which rows give it, and a world. The sections `failing/..` have a world over stores
-//! in memory that fail at one call. What takes several lines stands in one row, with `\n` for each line feed.
+//! A section has a setup, steps, a script and databases, which rows give it, and a world. The sections `failing/..`
+//! have a world over stores in memory that fail at one call. What takes several lines stands in one row, with `\n` for
+//! each line feed.
 #![tactic(auto)]
 
 mod contents;

@@ -82,8 +82,8 @@ impl Writer {
         }
     }
 
-    /// Writes how a call that wrote here has ended, and what it wrote. If it wanted memory, what it wrote must be a beginning of what is
-    /// wanted.
+    /// Writes how a call that wrote here has ended, and what it wrote. If it wanted memory, what it wrote must be a
+    /// beginning of what is wanted.
     pub(crate) fn tell(
         &self,
         alloc: Global,

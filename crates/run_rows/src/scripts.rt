@@ -66,8 +66,8 @@ fn framed(alloc: Global, frame: &str, text: &str) -> Result<String, AllocError> 
     format!(in alloc; "{before}{text}{after}")
 }
 
-/// `script TEXT`: how many guardians, handlers and clients the script has, which the section then has. Nothing was written
-/// then. Of a text that is no script, its fault was.
+/// `script TEXT`: how many guardians, handlers and clients the script has, which the section then has. Nothing was
+/// written then. Of a text that is no script, its fault was.
 pub(crate) fn keep_script(
     examples: &mut Examples,
     row: &Row<'_>,
@@ -122,7 +122,8 @@ pub(crate) fn run_text(alloc: Global, row: &Row<'_>, answer: &mut String) -> Res
     writer.tell(alloc, ended, row.answer, answer)
 }
 
-/// `remake`: whether the engine gives the same answers to the steps of a run of the section's script, as lines, in a new world.
+/// `remake`: whether the engine gives the same answers to the steps of a run of the section's script, as lines, in a
+/// new world.
 pub(crate) fn remake_steps(examples: &Examples, answer: &mut String) -> Result<(), RowFault> {
     let script = script_of(examples.alloc, examples.script.as_str())?;
     let made = made(examples.alloc, &script)?;

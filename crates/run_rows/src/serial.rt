@@ -9,7 +9,8 @@ use stable_store::{PlainStable, Stable};
 use std::alloc::{AllocError, Global};
 use world::World;
 
-/// `serial COUNT`: how the clients of the section's script end in so many runs in one new world, which the section then has.
+/// `serial COUNT`: how the clients of the section's script end in so many runs in one new world, which the section then
+/// has.
 pub(crate) fn run_clients(
     examples: &mut Examples,
     mut words: Words<'_>,

@@ -123,8 +123,8 @@ fn list_of(alloc: Global, lines: &[u8]) -> Result<Vec<Step>, RowFault> {
     Ok(list)
 }
 
-/// Makes the steps one after another, and appends their answers. If memory was refused, the steps that have an answer are
-/// made, and only the others are asked again.
+/// Makes the steps one after another, and appends their answers. If memory was refused, the steps that have an answer
+/// are made, and only the others are asked again.
 fn run_list<S: Stable>(
     world: &mut World<S>,
     list: &[Step],

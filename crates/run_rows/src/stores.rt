@@ -77,8 +77,8 @@ pub(crate) fn keep_database(examples: &mut Examples, mut words: Words<'_>) -> Re
     Ok(examples.databases.push(database).map_err(AllocError::from)?)
 }
 
-/// `stored OBJECTS WRITER ..`: what comes of runs of the section's script one after another, with these writers. After each
-/// run come the stores, which are then opened again, and these at the end. Each guardian has so many objects.
+/// `stored OBJECTS WRITER ..`: what comes of runs of the section's script one after another, with these writers. After
+/// each run come the stores, which are then opened again, and these at the end. Each guardian has so many objects.
 pub(crate) fn run_over_stores(
     examples: &Examples,
     mut words: Words<'_>,
@@ -99,8 +99,8 @@ pub(crate) fn run_over_stores(
     Ok(push_stores(alloc, stores.as_slice(), objects, answer)?)
 }
 
-/// `in_memory OBJECTS CALL WRITER ..`: the same over stores in memory. Each store fails at the call of this number, and none is
-/// opened again.
+/// `in_memory OBJECTS CALL WRITER ..`: the same over stores in memory. Each store fails at the call of this number, and
+/// none is opened again.
 pub(crate) fn run_in_memory(
     examples: &Examples,
     mut words: Words<'_>,

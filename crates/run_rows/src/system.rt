@@ -1,5 +1,5 @@
-//! What the rows of a section work on: guardians over stores that may fail at one call. What is done with them is proved for every type that
-//! has these calls, so that nothing of runs is looked at there.
+//! What the rows of a section work on: guardians over stores that may fail at one call. What is done with them is
+//! proved for every type that has these calls, so that nothing of runs is looked at there.
 use rows::RowFault;
 use run_model::{Answer, Content, ObjectId, Setup, Step};
 use stable_store::Kept;
@@ -8,8 +8,8 @@ use world::Fault;
 
 /// Guardians over their stores.
 pub(crate) trait System: Drop {
-    /// Opens the guardians of the setup over stores that hold this. If that is refused, it says why, and opens the stores that came back
-    /// once more.
+    /// Opens the guardians of the setup over stores that hold this. If that is refused, it says why, and opens the
+    /// stores that came back once more.
     fn open(
         alloc: Global,
         setup: &Setup,

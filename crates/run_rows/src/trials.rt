@@ -22,8 +22,8 @@ pub(crate) struct Trial<'a> {
 /// What came of the steps in a new world.
 #[derive(Drop)]
 struct Course {
-    /// The answers, and what the stores hold at the end. How many recoveries they have counted is left out: an opening that is made once more
-    /// may have counted one at some of them.
+    /// The answers, and what the stores hold at the end. How many recoveries they have counted is left out: an opening
+    /// that is made once more may have counted one at some of them.
     told: String,
     /// In which step a store failed; empty if none did.
     failed: String,
@@ -78,7 +78,8 @@ impl Course {
         Ok(self.told.push_str("; ")?)
     }
 
-    /// Notes the step in which a store failed. That something had happened then is no answer of a world in which none fails.
+    /// Notes the step in which a store failed. That something had happened then is no answer of a world in which none
+    /// fails.
     fn note_trouble(
         &mut self,
         alloc: Global,
@@ -122,7 +123,8 @@ impl Course {
     }
 }
 
-/// `failure GUARDIAN CALL`: in which step that call of the guardian's store is made and fails, and what is then otherwise.
+/// `failure GUARDIAN CALL`: in which step that call of the guardian's store is made and fails, and what is then
+/// otherwise.
 pub(crate) fn write_failure<W: System>(
     trial: &Trial<'_>,
     failing: Failing,
