@@ -1,6 +1,7 @@
 //! Tests of printed texts, of the limits of documents, and of public calls that no example reaches, as rows of data.
 //!
-//! The first word of a section's name is the crate that its rows call. A name with no crate stands for `run_model` and `packed_history`.
+//! The first word of a section's name is the crate that its rows call. A name with no crate stands for `run_model`, `packed_history` and
+//! `traces`.
 #![tactic(auto)]
 
 mod answers;
@@ -15,6 +16,7 @@ mod runs;
 mod setups;
 mod steps;
 mod texts;
+mod trace_files;
 
 use operations::Performing;
 use rows::{Row, RowFault, Subject};

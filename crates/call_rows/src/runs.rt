@@ -1,6 +1,6 @@
 //! Setups, histories, and the texts of steps and answers.
 use crate::past::Past;
-use crate::{answers, setups, steps};
+use crate::{answers, setups, steps, trace_files};
 use rows::{Row, RowFault};
 use run_model::Setup;
 use std::alloc::Global;
@@ -41,6 +41,7 @@ fn answer_alone(alloc: Global, row: &Row<'_>, answer: &mut String) -> Result<(),
         "long_text" => steps::long_text(alloc, row.words(), answer),
         "answer" => answers::copy(alloc, row.given, answer),
         "answer_line" => answers::line(alloc, row.given, answer),
+        "trace" => trace_files::read(alloc, row.given, answer),
         _ => Err(RowFault::Unread),
     }
 }

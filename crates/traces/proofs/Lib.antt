@@ -1,0 +1,9 @@
+pub mod LineFeeds
+pub mod OneEvent
+pub mod OneLine
+pub mod OneTrace
+pub mod Lines
+pub mod Kept
+pub mod Files
+pub mod SetupLines
+pub mod Written

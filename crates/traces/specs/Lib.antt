@@ -1,0 +1,3 @@
+pub mod Traces
+pub mod Reading
+pub mod Faults
