@@ -1,0 +1,4 @@
+pub mod AsBox
+pub mod Numbers
+pub mod Steps
+pub mod Telling

@@ -1,0 +1,5 @@
+pub mod Owning
+pub mod Codes
+pub mod Sessions
+pub mod Writing
+pub mod Calls
