@@ -1,4 +1,4 @@
--- What is said of bytes that may be a script.
+-- What the command writes about bytes that may be a script.
 use Rattle.std.specs.Prelude.{ℕ, ◌≡◌, List, [], ◌∷◌, ◌++◌, ◌⊎◌, Option, Some, None, codes, decimal}
 use Rattle.std.specs.Io.KnownBytes.{Keeps}
 use Rattle.serde_json.specs.Data.{Data}
@@ -40,7 +40,7 @@ ok_line = codes "ok" ++ line_feed ∷ []
 abbrev pub fault_line : FaultKind → List ℕ → List ℕ
 fault_line why place = codes "fault " ++ (decimal (fault_number why) ++ (codes " " ++ (printed place ++ line_feed ∷ [])))
 
--- `ok` is said of a script, and of all else its first fault
+-- `ok` for a script, and for all else its first fault
 abbrev pub IsJudged : List ℕ → Ended → List ℕ → Type 0
 IsJudged bytes Done line = IsScript bytes × (line ≡ ok_line)
 IsJudged bytes Stopped line = (why : FaultKind) × (place : List ℕ) × HasFirstFault bytes why place × (line ≡ fault_line why place)
@@ -49,7 +49,7 @@ IsJudged bytes Stopped line = (why : FaultKind) × (place : List ℕ) × HasFirs
 abbrev pub BeginsJudgement : List ℕ → List ℕ → Type 0
 BeginsJudgement bytes written = (written ≡ []) ⊎ ((ended : Ended) × (line : List ℕ) × IsJudged bytes ended line × Begins written line)
 
--- nothing was said, or a beginning of what is to be said of the first fault
+-- nothing was written, or a beginning of the line of the first fault
 abbrev pub BeginsFault : List ℕ → List ℕ → Type 0
 BeginsFault bytes written = (written ≡ []) ⊎ ((line : List ℕ) × IsJudged bytes Stopped line × Begins written line)
 

@@ -47,7 +47,7 @@ pub fn read_script<W: Write>(
     }
 }
 
-/// What is to be said of the bytes, and how that ends.
+/// What the command writes about the bytes, and how it ends.
 fn judgement(alloc: Global, bytes: &[u8]) -> Result<(Ended, String), AllocError>
     ensures { IfOk result (λ said. IsJudged bytes.now said.0 (string_bytes said.1)) }
 {

@@ -1,4 +1,4 @@
--- What is said of a script that is run: how its clients ended, and then the bases of its objects.
+-- The text of a run of a script: how its clients ended, and then the bases of its objects.
 use Rattle.std.specs.Prelude.{ℕ, suc, ◌≡◌, ◌⊎◌, List, [], ◌∷◌, ◌++◌, Some, None, codes, decimal}
 use Rattle.serde_json.specs.Data.{Data}
 use Rattle.values.specs.declared.content.Content.{Content}
@@ -40,7 +40,7 @@ abbrev pub base_lines : ℕ → List (ℕ × Content) → List ℕ
 base_lines g [] = []
 base_lines g (base ∷ bases) = base_line g base ++ base_lines g bases
 
--- what is said of each, by its number; the first has this one
+-- the text of each, by its number; the first has this one
 abbrev pub numbered : {X : Type 0} → (ℕ → X → List ℕ) → ℕ → List X → List ℕ
 numbered say n [] = []
 numbered say n (x ∷ xs) = say n x ++ numbered say (suc n) xs
@@ -61,12 +61,12 @@ module _ (comes : Comes) where
   IsDetermined = (script : Checked) (setup : Setup) (ends others : List ClientEnd) (bases more : Bases)
       → comes script setup ends bases → comes script setup others more → (ends ≡ others) × (bases ≡ more)
 
-  -- what is to be said: an outcome that may come
+  -- the text of an outcome that may come
   abbrev pub TellsRun : Checked → Setup → List ℕ → Type 0
   TellsRun script setup text =
       (ends : List ClientEnd) × (bases : Bases) × comes script setup ends bases × (text ≡ run_text ends bases)
 
-  -- nothing was said, or a beginning of what is to be said
+  -- nothing was written, or a beginning of that text
   abbrev pub BeginsRun : Checked → Setup → List ℕ → Type 0
   BeginsRun script setup written = (written ≡ []) ⊎ ((text : List ℕ) × TellsRun script setup text × Begins written text)
 

@@ -1,4 +1,4 @@
--- What is said of a script that is run over stores, one for each guardian: what they hold takes the place of the script's contents, and at
+-- The text of a script that is run over stores, one for each guardian: what they hold takes the place of the script's contents, and at
 -- the end the bases are saved.
 use Rattle.std.specs.Prelude.{ℕ, suc, ◌≡◌, ◌⊎◌, ◌≤◌, ◌<◌, List, [], ◌∷◌, ◌++◌, length, take, get_or, Option, Some, None, IsSome, MatchOption, map, codes}
 use Rattle.std.specs.Ordering.{nat_cmp}
@@ -80,7 +80,7 @@ abbrev pub refusal_line : List ℕ
 refusal_line = codes "error store" ++ line_feed ∷ []
 
 module _ (comes : Comes) where
-  -- What is to be said, and the bases that are to be saved: those of an outcome that may come in a new system of what the stores opened; or
+  -- The text, and the bases that are to be saved: those of an outcome that may come in a new system of what the stores opened; or
   -- that they open none.
   abbrev pub TellsStoredRun : Checked → List (Option Stored) → Ended → Bases → List ℕ → Type 0
   TellsStoredRun script found Done bases text = (setup : Setup) × (ends : List ClientEnd)
@@ -88,16 +88,16 @@ module _ (comes : Comes) where
   TellsStoredRun script found Stopped bases text =
       ((setup : Setup) → AreOpenedBy found script.guardians setup → ⊥) × (text ≡ refusal_line) × (bases ≡ [])
 
-  -- that was said, and the bases were saved
+  -- that text was written, and the bases were saved
   abbrev pub IsStoredRun : Checked → List (Option Stored) → List Stored → List Stored → Ended → List ℕ → Type 0
   IsStoredRun script found old new ended text =
       (bases : Bases) × TellsStoredRun script found ended bases text × (new ≡ saved bases old)
 
-  -- the stores are left as by a run of which less was said
+  -- the stores are left as by a run of which less was written
   abbrev pub LeavesStoredRun : Checked → List (Option Stored) → List Stored → List Stored → Type 0
   LeavesStoredRun script found old new = (ended : Ended) × (text : List ℕ) × IsStoredRun script found old new ended text
 
-  -- nothing was said, or a beginning of what is to be said
+  -- nothing was written, or a beginning of what is to be written
   abbrev pub BeginsStoredRun : Checked → List (Option Stored) → List ℕ → Type 0
   BeginsStoredRun script found written =
       (written ≡ []) ⊎ ((ended : Ended) × (bases : Bases) × (text : List ℕ)
@@ -109,7 +109,7 @@ module _ (comes : Comes) where
       (new ≡ old) ⊎ ((bases : Bases) × (text : List ℕ) × TellsStoredRun script found Done bases text
       × (count : ℕ) × (new ≡ saved (take count bases) old))
 
-  -- What is said of a run over stores, how it ends, and the bases that are saved, are determined by the script and by what was found at the stores.
+  -- The script, and what was found at the stores, determine the text of a run, how it ends, and the bases that are saved.
   abbrev pub OneStoredRun : Type 0
   OneStoredRun = (script : Checked) (found : List (Option Stored)) (ended other : Ended) (bases more : Bases) (text said : List ℕ)
       → TellsStoredRun script found ended bases text → TellsStoredRun script found other more said

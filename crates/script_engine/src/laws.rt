@@ -9,13 +9,13 @@ pub fn one_script()
     ensures { OneScript }
 {}
 
-/// If a script and a setup have one outcome at most, the bytes of a file that is to be run determine what is said of
-/// them, and how that ends.
+/// If a script and a setup have one outcome at most, the bytes of a file that is to be run determine what is
+/// written, and how that ends.
 pub fn one_file<R: RunsClients>()
     ensures { IsDetermined R.comes → OneFile R.comes }
 {}
 
-/// Over stores too: the script and what the stores held then determine what is said, how it ends, and the bases that
+/// Over stores too: the script and what the stores held then determine what is written, how it ends, and the bases that
 /// are saved.
 pub fn one_stored_run<R: RunsClients>()
     ensures { IsDetermined R.comes → OneStoredRun R.comes }

@@ -76,7 +76,7 @@ pub(crate) fn add_guardian(setup: &mut Setup, contents: Vec<Content>) -> Result<
     }
 }
 
-/// What is to be said of a run.
+/// The text of a run.
 pub(crate) fn run_text(
     alloc: Global,
     ends: &[ClientEnd],

@@ -38,10 +38,10 @@ bases_of_run script setup = all_bases (serial_run script (new_world setup)).worl
 abbrev pub ComesSerially : Checked → Setup → List ClientEnd → Bases → Type 0
 ComesSerially script setup ends bases = (ends ≡ (serial_run script (new_world setup)).ends) × (bases ≡ bases_of_run script setup)
 
--- what is to be said of the serial run: how the clients ended, and these bases
+-- the text of the serial run: how the clients ended, and these bases
 abbrev pub text_of_run : Checked → Setup → List ℕ
 text_of_run script setup = run_text (serial_run script (new_world setup)).ends (bases_of_run script setup)
 
--- That is all that is to be said.
+-- No other text is written.
 abbrev pub OneText : Type 0
 OneText = (script : Checked) (setup : Setup) (text : List ℕ) → TellsRun ComesSerially script setup text ↔ (text ≡ text_of_run script setup)

@@ -8,17 +8,17 @@ pub fn one_outcome()
     ensures { IsDetermined ComesSerially }
 {}
 
-/// What is said of a script that runs serially is the text of its serial run.
+/// The command writes the text of the serial run of a script, and nothing else.
 pub fn serial_text()
     ensures { OneText }
 {}
 
-/// The bytes of a file that is to be run determine what is said of them, and how that ends.
+/// The bytes of a file that is to be run determine what is written, and how that ends.
 pub fn one_serial_file()
     ensures { OneFile ComesSerially }
 {}
 
-/// Over stores too: the script and what the stores held determine what is said, how it ends, and the bases that are
+/// Over stores too: the script and what the stores held determine what is written, how it ends, and the bases that are
 /// saved.
 pub fn one_serial_stored_run()
     ensures { OneStoredRun ComesSerially }
