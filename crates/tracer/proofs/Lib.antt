@@ -4,3 +4,12 @@ pub mod Lines
 pub mod Placing
 pub mod Standings
 pub mod Going
+pub mod Turns
+pub mod ByStamp
+pub mod Merged
+pub mod Copying
+pub mod Kept
+pub mod Apart
+pub mod Elsewhere
+pub mod Taken
+pub mod Gathers

@@ -2,6 +2,7 @@
 ghost use Rattle.std.specs.Prelude.{◌≡◌};
 ghost use Rattle.action_names.specs.Names.{same_name, has_name};
 ghost use Rattle.run_model.specs.Actions.{names_begun, step_aborts, step_crashes};
+ghost use Rattle.run_model.specs.LocalHistories.{takes_registry};
 
 use run_model::{Answer, Name, Step};
 
@@ -37,4 +38,11 @@ pub fn crashes(step: &Step, guardian: u32) -> bool
         Step::Crash(at) => *at == guardian,
         _ => false,
     }
+}
+
+/// Whether the step reads or changes the forest of actions.
+pub(crate) fn takes_registry(step: &Step) -> bool
+    ensures { result ≡ takes_registry step.now }
+{
+    !matches!(step, Step::Op(..) | Step::Crash(_) | Step::Recover(_))
 }
