@@ -5,3 +5,4 @@ pub mod Bytes
 pub mod Explanations
 pub mod Judgements
 pub mod Stepped
+pub mod Verdicts

@@ -2,3 +2,4 @@ pub mod Serving
 pub mod Reading
 pub mod Judging
 pub mod Stepping
+pub mod Tracing

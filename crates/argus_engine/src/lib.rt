@@ -9,9 +9,11 @@ mod checking;
 mod engine;
 mod explaining;
 mod reading;
+mod tracing;
 mod writing;
 
 pub use checking::{check_script, read_script};
 pub use engine::{Ended, Fault, steps};
 pub use explaining::explain_text;
+pub use tracing::{one_verdict, trace_file};
 pub use writing::finish;
