@@ -16,7 +16,8 @@ use Rattle.command_line.specs.declared.request.Command.{Command}
 use Rattle.command_line.specs.declared.request.Check.{Check}
 use Rattle.command_line.specs.declared.request.Run.{Run}
 use Rattle.command_line.specs.declared.request.Steps.{Steps}
-use Rattle.command_line.specs.Words.{argus_app, IsCheckGiven, IsCommand, IsFlag, IsFound, IsRunGiven, IsStepsGiven}
+use Rattle.command_line.specs.declared.request.Trace.{Trace}
+use Rattle.command_line.specs.Words.{argus_app, IsCheckGiven, IsCommand, IsFlag, IsFound, IsRunGiven, IsStepsGiven, IsTraceGiven}
 
 pub argus_is_simple : is_simple argus_app ≡ true
 unfolding clap_on_literals
@@ -55,6 +56,9 @@ no_script_to_check rows e given h = let p = h.script in absurd cc
 
 pub no_script_to_run : (rows : List Row) → first_of (codes "SCRIPT") rows ≡ None → (given : Run) → IsRunGiven rows given → ⊥
 no_script_to_run rows e given h = let p = h.script in absurd cc
+
+pub no_trace : (rows : List Row) → first_of (codes "FILE") rows ≡ None → (given : Trace) → IsTraceGiven rows given → ⊥
+no_trace rows e given h = let p = h.file in absurd cc
 
 -- what `get_one` gives of a text where it reads a `bool`
 abbrev ReadsBool : Type 0 → Text → Option Bool → Type 0

@@ -8,6 +8,7 @@ use Rattle.command_line.specs.declared.request.Command.TheVariants as command
 use Rattle.command_line.specs.declared.request.Check.{Check}
 use Rattle.command_line.specs.declared.request.Run.{Run}
 use Rattle.command_line.specs.declared.request.Steps.{Steps}
+use Rattle.command_line.specs.declared.request.Trace.{Trace}
 use Rattle.command_line.specs.declared.request.CommandFault.{CommandFault}
 use Rattle.command_line.specs.declared.request.CommandFault.TheVariants.{Said, Incomplete}
 
@@ -37,13 +38,17 @@ abbrev pub run_app : App
 run_app = with_rule (with_rule (with_rule (new_app (codes "run")) (needed (codes "SCRIPT"))) (flag (codes "serial")))
     (optional (codes "store"))
 
+-- `trace [--explain ACTION] FILE`
+abbrev pub trace_app : App
+trace_app = with_rule (with_rule (new_app (codes "trace")) (needed (codes "FILE"))) (optional (codes "explain"))
+
 -- `argus`, which has a version, whose words come without its own name, and which shows help where there are none
 abbrev pub bare_app : App
 bare_app =
     on_top (λ s. record s { has_version = true; no_binary_name = true; arg_required_else_help = true; subcommand_required = true }) (new_app (codes "argus"))
 
 abbrev pub argus_app : App
-argus_app = with_subcommand (with_subcommand (with_subcommand bare_app steps_app.top) check_app.top) run_app.top
+argus_app = with_subcommand (with_subcommand (with_subcommand (with_subcommand bare_app steps_app.top) check_app.top) run_app.top) trace_app.top
 
 -- the flag is set where its value is `true`
 abbrev pub IsFlag : Text → List Row → Bool → Type 0
@@ -65,11 +70,16 @@ pub record IsRunGiven (rows : List Row) (given : Run) : Type 0 where
   pub store : first_of (codes "store") rows ≡ option_map (λ word. word.now) given.store
   pub serial : IsFlag (codes "serial") rows given.serial
 
+pub record IsTraceGiven (rows : List Row) (given : Trace) : Type 0 where
+  pub file : first_of (codes "FILE") rows ≡ Some given.file.now
+  pub explain : first_of (codes "explain") rows ≡ option_map (λ word. word.now) given.explain
+
 -- the command is the subcommand that was found, with what it is given
 abbrev pub IsFound : Option (Text × List Row) → Command → Type 0
 IsFound found (command.Steps given) = (rows : List Row) × (found ≡ Some (codes "steps", rows)) × IsStepsGiven rows given
 IsFound found (command.Check given) = (rows : List Row) × (found ≡ Some (codes "check", rows)) × IsCheckGiven rows given
 IsFound found (command.Run given) = (rows : List Row) × (found ≡ Some (codes "run", rows)) × IsRunGiven rows given
+IsFound found (command.Trace given) = (rows : List Row) × (found ≡ Some (codes "trace", rows)) × IsTraceGiven rows given
 
 -- the words are this command
 abbrev pub IsCommand : List Text → Command → Type 0

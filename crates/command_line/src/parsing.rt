@@ -6,7 +6,8 @@ ghost use Rattle.command_line.specs.declared.request.Command.{Command};
 ghost use Rattle.command_line.specs.declared.request.Check.{Check};
 ghost use Rattle.command_line.specs.declared.request.Run.{Run};
 ghost use Rattle.command_line.specs.declared.request.Steps.{Steps};
-ghost use Rattle.command_line.specs.Words.{IsCheckGiven, IsCommand, IsFault, IsFlag, IsFound, IsRunGiven, IsStepsGiven, argus_app, check_app, flag, needed, optional, run_app, steps_app};
+ghost use Rattle.command_line.specs.declared.request.Trace.{Trace};
+ghost use Rattle.command_line.specs.Words.{IsCheckGiven, IsCommand, IsFault, IsFlag, IsFound, IsRunGiven, IsStepsGiven, IsTraceGiven, argus_app, check_app, flag, needed, optional, run_app, steps_app, trace_app};
 
 use crate::request::{self, CommandFault};
 use clap::{Arg, ArgAction, ArgMatches};
@@ -44,6 +45,7 @@ fn taken<'a>(matches: &ArgMatches<'a>) -> Option<request::Command<'a>>
         Some(("steps", found)) => Some(request::Command::Steps(steps_given(found)?)),
         Some(("check", found)) => Some(request::Command::Check(check_given(found)?)),
         Some(("run", found)) => Some(request::Command::Run(run_given(found)?)),
+        Some(("trace", found)) => Some(request::Command::Trace(trace_given(found)?)),
         _ => None,
     }
 }
@@ -84,6 +86,16 @@ fn run_given<'a>(found: &ArgMatches<'a>) -> Option<request::Run<'a>>
     })
 }
 
+#[tactic(auto, using(crate::proofs::Finding::word_is, crate::proofs::Finding::no_word, crate::proofs::Finding::no_trace))]
+fn trace_given<'a>(found: &ArgMatches<'a>) -> Option<request::Trace<'a>>
+    ensures found { IfSome result (IsTraceGiven (rows_of (found_of found.now))) }
+    ensures none { IsNone result → (given : Trace) → IsTraceGiven (rows_of (found_of found.now)) given → ⊥ }
+{
+    let file = found.get_str("FILE")?;
+    let explain = found.get_str("explain");
+    Some(request::Trace { file, explain })
+}
+
 /// Whether a flag is set, as `get_flag` gives it, whose contract says nothing of a value that is no `bool`.
 fn is_set(found: &ArgMatches<'_>, id: &str) -> bool
     ensures { IsFlag id.now (rows_of (found_of found.now)) result }
@@ -105,7 +117,8 @@ fn definition<'a>(alloc: Global) -> Result<clap::Command<'a>, AllocError>
     argus
         .subcommand(steps(alloc)?)?
         .subcommand(check(alloc)?)?
-        .subcommand(run(alloc)?)
+        .subcommand(run(alloc)?)?
+        .subcommand(trace(alloc)?)
 }
 
 fn steps<'a>(alloc: Global) -> Result<clap::Command<'a>, AllocError>
@@ -175,6 +188,27 @@ fn run<'a>(alloc: Global) -> Result<clap::Command<'a>, AllocError>
             "store",
             "DIR",
             "Keeps the objects of guardian N in DIR/gN.db: takes what is there in place of the script's contents, and saves the bases at the end",
+        ))
+}
+
+fn trace<'a>(alloc: Global) -> Result<clap::Command<'a>, AllocError>
+    ensures { IfOk result (λ trace. app_of trace ≡ trace_app) }
+{
+    clap::Command::new(alloc, "trace")
+        .about(
+            "Says whether the histories of a trace are one run, or at which stamp they fail first",
+        )
+        .after_help("Example: argus trace --explain 1 examples/traces/take/trace")
+        .arg(needed(
+            alloc,
+            "FILE",
+            "The trace: a setup line, and a line an event; - is standard input",
+        ))?
+        .arg(optional(
+            alloc,
+            "explain",
+            "ACTION",
+            "Writes, after a yes, what the action sees, by place in the serial order",
         ))
 }
 

@@ -9,6 +9,8 @@ pub enum Command<'a> {
     Check(Check<'a>),
     /// Runs the clients of a script.
     Run(Run<'a>),
+    /// Says whether the histories of a trace are one run.
+    Trace(Trace<'a>),
 }
 
 /// What the answering of steps is given.
@@ -42,6 +44,15 @@ pub struct Run<'a> {
     pub store: Option<&'a str>,
     /// Whether clients and arms run one after another; until there are threads, they do so without it too.
     pub serial: bool,
+}
+
+/// What the gathering of a trace is given.
+#[derive(Clone, Copy, Drop)]
+pub struct Trace<'a> {
+    /// The path of the trace; `-` is standard input.
+    pub file: &'a str,
+    /// The action to explain if the histories are one run.
+    pub explain: Option<&'a str>,
 }
 
 /// Why words are no command.

@@ -28,7 +28,9 @@ returns c =
     let steps = c.in_ok-steps.ensures in
     let check = c.in_ok-check.ensures in
     let run = c.in_ok-run.ensures in
+    let trace = c.in_ok-trace.ensures in
     let with_steps = c.in_ok-subcommand.ensures.shape (is_local _ _ steps refl) ∙ ap₂ with_subcommand top (ap (λ (a : App). a.top) steps) in
     let with_check = c.in_ok-subcommand-2.ensures.shape (is_local _ _ check refl) ∙ ap₂ with_subcommand with_steps (ap (λ (a : App). a.top) check) in
-    IfOk-weaker c.subcommand-3.result _ _
-    (λ new h. h.shape (is_local _ _ run refl) ∙ ap₂ with_subcommand with_check (ap (λ (a : App). a.top) run)) c.subcommand-3.ensures
+    let with_run = c.in_ok-subcommand-3.ensures.shape (is_local _ _ run refl) ∙ ap₂ with_subcommand with_check (ap (λ (a : App). a.top) run) in
+    IfOk-weaker c.subcommand-4.result _ _
+    (λ new h. h.shape (is_local _ _ trace refl) ∙ ap₂ with_subcommand with_run (ap (λ (a : App). a.top) trace)) c.subcommand-4.ensures
