@@ -41,6 +41,7 @@ fn obey(rt: &HostRuntime) -> Result<ExitCode, Fault> {
         Ok(Command::Steps(given)) => run::steps(rt, &Files { rt }, &given),
         Ok(Command::Check(given)) => run::check(rt, &given),
         Ok(Command::Run(given)) => run::run(rt, &Files { rt }, &given),
+        Ok(Command::Trace(given)) => run::trace(rt, &given),
         Err(fault) => refusing::explain(rt, &fault),
     }
 }

@@ -1,17 +1,20 @@
 //! Running a command on files.
 
-ghost use Rattle.std.specs.Prelude.{◌≡◌, length};
+ghost use Rattle.std.specs.Prelude.{◌≡◌, IfOk, length};
+ghost use Rattle.run_model.specs.Runs.{new_world};
 
 use crate::refusing::refuse;
 use crate::stores::{Opens, open_stores, stores_in};
 use argus_engine::{
     Ended, Fault, check_script, explain_text, finish, read_script, steps as answer_steps,
+    trace_file,
 };
-use command_line::request::{Check, Run, Steps};
+use command_line::request::{Check, Run, Steps, Trace};
 use run_model::{Setup, SetupFault};
 use script_engine::{run_file, run_stored};
 use script_runs::Serially;
-use stable_store::Stable;
+use stable_store::{PlainStable, Stable};
+use std::alloc::Global;
 use std::process::ExitCode;
 use std::{fs, io};
 use world::{Refused, World};
@@ -130,6 +133,36 @@ fn run_over<O: Opens>(
         stores.as_mut_slice(),
         writer,
     )
+}
+
+/// Writes whether the histories of a trace are one run, to standard output, and after a yes what is to be explained.
+/// The status is 1 if there is no yes.
+pub fn trace(rt: &HostRuntime, given: &Trace<'_>) -> Result<ExitCode, Fault> {
+    match (gather_file(rt, given.file)?, given.explain) {
+        (None, _) => Ok(ExitCode::FAILURE),
+        (Some(_), None) => Ok(ExitCode::SUCCESS),
+        (Some(world), Some(action)) => explain(rt, &world, action),
+    }
+}
+
+/// Writes whether the histories of a trace are one run. The world that made the run comes with a yes.
+fn gather_file(rt: &HostRuntime, file: &str) -> Result<Option<World<PlainStable>>, Fault> {
+    let alloc = rt.alloc();
+    let begin = |setup| in_memory(alloc, setup);
+    if file == STANDARD_INPUT {
+        return trace_file(alloc, begin, &mut rt.reader(), &mut io::writer(rt));
+    }
+    match fs::open(rt, file) {
+        Ok(mut input) => trace_file(alloc, begin, &mut input, &mut io::writer(rt)),
+        Err(error) => Err(read_fault(&error)),
+    }
+}
+
+/// A new world in memory.
+fn in_memory(alloc: Global, setup: Setup) -> Result<World<PlainStable>, Fault>
+    ensures { IfOk result (λ world. world.run ≡ new_world setup) }
+{
+    Ok(World::in_memory(alloc, setup)?)
 }
 
 /// The exit status of a command that ended so.

@@ -9,6 +9,7 @@ use crate::step_rows::{
 };
 use crate::stores::{Database, keep_database, run_in_memory, run_over_stores};
 use crate::text::unescaped_text;
+use crate::trace_rows::gather_trace;
 use rows::{Row, RowFault};
 use run_model::Setup;
 use stable_store::PlainStable;
@@ -58,6 +59,7 @@ impl Examples {
             "list" => list_answers(self, answer),
             "engine" => engine_answers(self, row, answer),
             "explain" => explain_action(self, row, answer),
+            "trace" => gather_trace(self, row, answer),
             "rewrite" => rewrite_step(self.alloc, row.given, answer),
             "fault" => name_fault(self.alloc, row.given, answer),
             _ => answer_of_script(self, row, answer),

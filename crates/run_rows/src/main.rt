@@ -16,6 +16,7 @@ mod step_rows;
 mod stores;
 mod system;
 mod text;
+mod trace_rows;
 mod trials;
 mod worlds;
 

@@ -1,0 +1,54 @@
+//! Rows of traces: what the engine says of them.
+ghost use Rattle.std.specs.Prelude.{◌≡◌, IfOk};
+ghost use Rattle.run_model.specs.Runs.{new_world};
+
+use crate::examples::Examples;
+use crate::pieces::{Reader, Writer};
+use argus_engine::{Ended, Fault, trace_file};
+use rows::{Row, RowFault};
+use run_model::Setup;
+use stable_store::PlainStable;
+use std::alloc::Global;
+use world::World;
+
+/// `trace READER WRITER`: what the engine writes of the section's steps as a trace. If they are one, and its histories
+/// are one run, the world that made it is the section's.
+pub(crate) fn gather_trace(
+    examples: &mut Examples,
+    row: &Row<'_>,
+    answer: &mut String,
+) -> Result<(), RowFault> {
+    if let Some(world) = gathered(examples, row, answer)? {
+        examples.world = world;
+    }
+    Ok(())
+}
+
+fn gathered(
+    examples: &Examples,
+    row: &Row<'_>,
+    answer: &mut String,
+) -> Result<Option<World<PlainStable>>, RowFault> {
+    let alloc = examples.alloc;
+    let mut words = row.words();
+    let mut reader = Reader::of_word(words.word()?, examples.steps.as_slice())?;
+    let mut writer = Writer::of_word(alloc, words.word()?)?;
+    let (ended, world) = match trace_file(
+        alloc,
+        |setup| begin(alloc, setup),
+        &mut reader,
+        &mut writer,
+    ) {
+        Ok(Some(world)) => (Ok(Ended::Done), Some(world)),
+        Ok(None) => (Ok(Ended::Stopped), None),
+        Err(fault) => (Err(fault), None),
+    };
+    writer.tell(alloc, ended, row.answer, answer)?;
+    Ok(world)
+}
+
+fn begin(alloc: Global, setup: Setup) -> Result<World<PlainStable>, Fault>
+    ensures { IfOk result (λ world. world.run ≡ new_world setup) }
+{
+    Ok(World::in_memory(alloc, setup)?)
+}
