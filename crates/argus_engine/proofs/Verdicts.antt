@@ -1,5 +1,5 @@
 -- What is said of a trace is written, or a beginning of it; and bytes have one verdict.
-use Rattle.std.proofs.Common.{◌≡◌, ℕ, List, [], Option, Some, None, take, drop, length, map, refl, sym, ap, ap₂, subst, ◌∙◌, take-append-drop, append-nil, inl, inr, ◌⊎◌}
+use Rattle.std.proofs.Common.{◌≡◌, ℕ, List, [], Option, Some, None, take, drop, length, map, refl, sym, ap, ap₂, subst, ◌∙◌, take-append-drop, append-nil, inl, inr}
 use Rattle.std.specs.Io.KnownBytes.{Appends}
 use Rattle.run_model.specs.declared.history.Event.{Event}
 use Rattle.run_model.specs.Gathering.{Histories, IsGathered, all_copies, by_stamp, least_failing}
@@ -8,10 +8,10 @@ use Rattle.run_model.specs.Openings.{OpeningLists, Setup, fresh, fresh_lists, op
 use Rattle.run_model.specs.Runs.{World, new_world}
 use Rattle.run_model.specs.Transcripts.{error_text}
 use Rattle.run_laws.specs.Serving.{IsServed}
-use Rattle.traces.specs.Traces.{HasBadLine, IsTrace, LacksSetup}
+use Rattle.traces.specs.Traces.{IsTrace}
 use Rattle.traces.proofs.OneTrace.{bad_line_behind_setup, no_bad_line, no_lack, one_bad_line, one_trace}
 use Rattle.argus_engine.specs.Serving.{Gives, TakesFront, Writes}
-use Rattle.argus_engine.specs.Tracing.{BeginsVerdict, FailsAt, IsDenied, IsGatheredFrom, IsVerdict, OneVerdict, TellsTrace, no_line, yes_line}
+use Rattle.argus_engine.specs.Tracing.{BeginsVerdict, FailsAt, IsDenied, IsGatheredFrom, IsVerdict, OneVerdict, no_line, yes_line}
 
 -- ---- writing
 

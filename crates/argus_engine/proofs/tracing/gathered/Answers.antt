@@ -1,4 +1,4 @@
-use Rattle.std.proofs.Common.{Ok, ap₂, sym, subst}
+use Rattle.std.proofs.Common.{Ok, ap₂, subst}
 use Rattle.run_model.specs.Openings.{opening_in}
 use Rattle.traces.specs.Traces.{histories_in}
 use Rattle.tracer.specs.declared.gathering.Gathered.{Gathered}
