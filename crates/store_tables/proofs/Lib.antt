@@ -1,3 +1,5 @@
+pub mod Counts
+pub mod Legible
 pub mod Texts
 pub mod Queries
 pub mod Keys
@@ -20,3 +22,6 @@ pub mod Viewed
 mod Same
 mod Read
 mod Rising
+mod Greatest
+mod Utf8
+pub mod Told

@@ -24,13 +24,14 @@ use Rattle.stable_store.specs.declared.fault.StoreFault.{StoreFault}
 use Rattle.stable_store.proofs.Maps.{get_is, given, given_seen, lookup-seen}
 use Rattle.store_tables.specs.declared.columns.Spelling.{Spelling}
 use Rattle.store_tables.specs.Listed.{Lists}
-use Rattle.store_tables.specs.Shown.{IsNumber, IsValueText, IsAddedBy, IsValue, IsDelta, ShowsHome, ShowsRecord, ShowsNumber}
+use Rattle.store_tables.specs.Shown.{IsNumber, IsText, IsValueText, IsAddedBy, IsValue, IsDelta, ShowsHome, ShowsRecord, ShowsNumber}
 use Rattle.store_tables.specs.Parts.{Base, Records, HasBase, HasHome, HasPart, IsDecided, HaveNoParts, AreRising, part_in}
 use Rattle.store_tables.specs.Grown.{Adds, AddsShown, ListsMore, KeepsRecords, TakesOne}
 use Rattle.store_tables.specs.Holds.{Holds, numbers}
 use Rattle.store_tables.specs.Answered.{answered, rows_of}
 use Rattle.store_tables.specs.Spellings.{Spells}
 use Rattle.store_tables.proofs.Numbers.{itself, tied, not_some, put_here, put_other, put_cases}
+use Rattle.store_tables.proofs.Listed.{listed}
 use Rattle.store_tables.proofs.Records.{home_adds, part_adds, part_was, homes_same, still_rising}
 
 pub none_if : {X : Type 0} (o : Option X) → false ≡ is_some o → o ≡ None
@@ -73,7 +74,7 @@ none_decided k h = true≢false (sym h ∙ set.contains-from_list nat_cmp_total 
 abbrev pub records : List (ℕ × Prepared) → Records
 records es = map.from_entries (records_of es)
 
-record_found : (es : List (ℕ × Prepared)) (k : ℕ) → map.get (records es) k ≡ option_map record_of (lookup (is_at (nat_cmp k)) es)
+pub record_found : (es : List (ℕ × Prepared)) (k : ℕ) → map.get (records es) k ≡ option_map record_of (lookup (is_at (nat_cmp k)) es)
 record_found es k = get_is (records_of es) k ∙ lookup-seen record_of (is_at (nat_cmp k)) es
 
 inserted : (m now : Records) (n : ℕ) (r : Record) → now ≡ map.insert m n r
@@ -207,6 +208,18 @@ module _ (homes values deltas : List Row) (first mid last : Records) (listed : L
       | inr f ↦ f
     ];
   }
+
+-- the homes, and then parts of any kind
+module _ (homes parts : List Row) (first last : Records) (here : Lists (ShowsHome 0) homes (HasHome first)) (none : HaveNoParts first)
+    (more : ListsMore (ShowsRecord IsText 0) parts (HasPart first) (HasPart last)) (keeps : KeepsRecords first last) where
+  pub homes_still : Lists (ShowsHome 0) homes (HasHome last)
+  homes_still = record {
+    each = λ r h. let e = here.each r h in (e.0, e.1, keeps.homes e.0.0 ∙ e.2);
+    from = λ e h. here.from e (sym (keeps.homes e.0) ∙ h);
+  }
+
+  pub parts_listed : Lists (ShowsRecord IsText 0) parts (HasPart last)
+  parts_listed = listed (ShowsRecord IsText 0) parts (HasPart first) (HasPart last) none more
 
 none_rise : (m : Records) → HaveNoParts m → AreRising m
 none_rise m none t = go (map.get m t) refl

@@ -177,11 +177,11 @@ module _ (m : Records) (n : ℕ) where
   ]
 
 -- a part is of a record that has a home
-some_home : (o : Option Record) (object : ℕ) (p : Part) → part_in o object ≡ Some p → (home : ℕ) × (option_map (λ (x : Record). x.home) o ≡ Some home)
+pub some_home : (o : Option Record) (object : ℕ) (p : Part) → part_in o object ≡ Some p → (home : ℕ) × (option_map (λ (x : Record). x.home) o ≡ Some home)
 some_home None object p h = absurd (not_some p h)
 some_home (Some r) object p h = (r.home, refl)
 
-number_ties : (v : Column) (n : ℕ) → v ≡ Int (pos n) → is_eq (value_cmp v (Int (pos n))) ≡ true
+pub number_ties : (v : Column) (n : ℕ) → v ≡ Int (pos n) → is_eq (value_cmp v (Int (pos n))) ≡ true
 number_ties v n is = ap (λ w. is_eq (value_cmp w (Int (pos n)))) is ∙ ap is_eq (tied_itself value_cmp_total (Int (pos n)))
 
 ties_number : (v : Column) (k n : ℕ) → v ≡ Int (pos k) → is_eq (value_cmp v (Int (pos n))) ≡ true → k ≡ n

@@ -12,3 +12,5 @@ pub mod Spellings
 pub mod Answered
 pub mod Rising
 pub mod Changes
+pub mod First
+pub mod Keyed

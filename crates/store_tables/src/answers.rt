@@ -1,16 +1,19 @@
 //! The content that answers stand for.
-ghost use Rattle.std.specs.Prelude.{◌≡◌, ℕ, pos, ◌≤◌, IfOk, OnOk};
+ghost use Rattle.std.specs.Prelude.{◌≡◌, ◌≢◌, ℕ, pos, ◌≤◌, length, IfOk, OnOk, IsErrOf};
 ghost use Rattle.sqlite.specs.declared.types.Value.TheVariants.{Int, Text};
 ghost use Rattle.sqlite.specs.Order.{column};
 ghost use Rattle.std.specs.FinMap.{from_entries};
 ghost use Rattle.sqlite_rules.specs.Lists.{Has};
+ghost use Rattle.sqlite_trees.specs.Tree.{IsTable};
 ghost use Rattle.stable_store.specs.Stored.{Stored};
+ghost use Rattle.stable_store.specs.declared.fault.StoreFault.TheVariants.{NotOurs};
 ghost use Rattle.stable_store.specs.Held.{held, records_of};
 ghost use Rattle.store_tables.specs.Listed.{Lists};
 ghost use Rattle.store_tables.specs.Shown.{ShowsHome, ShowsRecord, ShowsNumber, IsValueText, IsAddedBy, IsValue, IsDelta};
-ghost use Rattle.store_tables.specs.Parts.{HasHome, HasPart, AreRising};
+ghost use Rattle.store_tables.specs.Parts.{Records, HasHome, HasPart, AreRising};
 ghost use Rattle.store_tables.specs.Holds.{Holds, Tables, numbers as three_numbers, greatest_next};
 ghost use Rattle.store_tables.specs.Answered.{answered, rows_of};
+ghost use Rattle.store_tables.specs.Keyed.{KeysDiffer, PartsDiffer, AreKeyed};
 
 use crate::columns::{Spelling, unread};
 use crate::one_part_spelling;
@@ -45,7 +48,10 @@ struct Numbers {
 
 /// The content that answers to `QUERIES` stand for. `NotOurs` where they stand for none.
 pub fn content_of(alloc: Global, answers: &[Vec<Row>]) -> Result<Kept, StoreFault>
-    ensures { IfOk result (λ kept. Holds 0 (answered (rows_of answers.now)) (held kept)) }
+    ensures found { IfOk result (λ kept. Holds 0 (answered (rows_of answers.now)) (held kept)) }
+    ensures told { IsErrOf result NotOurs → length answers.now ≡ 6
+        → AreKeyed (answered (rows_of answers.now)) → (c : Stored)
+        → ¬ Holds 0 (answered (rows_of answers.now)) c }
 {
     let [numbers, base, homes, values, deltas, decided] = answers else {
         return Err(StoreFault::NotOurs);
@@ -72,7 +78,8 @@ pub fn one_content_is_held()
 
 /// The number of a row of `meta` that has this place and this name, or `NotOurs`.
 fn number_at(row: &Row, place: u32, name: &str) -> Result<u64, StoreFault>
-    ensures { IfOk result (λ n. ShowsNumber row.now (place, (name.now, n))) }
+    ensures number { IfOk result (λ n. ShowsNumber row.now (place, (name.now, n))) }
+    ensures told { IsErrOf result NotOurs → (n : ℕ) → ¬ ShowsNumber row.now (place, (name.now, n)) }
 {
     check_place(row, place)?;
     check_name(row, name)?;
@@ -84,7 +91,8 @@ fn number_at(row: &Row, place: u32, name: &str) -> Result<u64, StoreFault>
 
 /// `NotOurs` where a row of `meta` has another place.
 fn check_place(row: &Row, place: u32) -> Result<(), StoreFault>
-    ensures { OnOk result (column row.now 0 ≡ Int (pos place)) }
+    ensures is { OnOk result (column row.now 0 ≡ Int (pos place)) }
+    ensures told { IsErrOf result NotOurs → column row.now 0 ≢ Int (pos place) }
 {
     match row.get::<u32>(0) {
         Ok(n) if n == place => Ok(()),
@@ -95,7 +103,8 @@ fn check_place(row: &Row, place: u32) -> Result<(), StoreFault>
 
 /// `NotOurs` where a row of `meta` has another name.
 fn check_name(row: &Row, name: &str) -> Result<(), StoreFault>
-    ensures { OnOk result (column row.now 1 ≡ Text name.now) }
+    ensures is { OnOk result (column row.now 1 ≡ Text name.now) }
+    ensures told { IsErrOf result NotOurs → column row.now 1 ≢ Text name.now }
 {
     match row.get::<String>(1) {
         Ok(text) if text.as_str() == name => Ok(()),
@@ -110,6 +119,9 @@ fn numbers_of(rows: &[Row]) -> Result<Numbers, StoreFault>
     ensures listed { IfOk result (λ n. Lists ShowsNumber rows.now (Has (three_numbers n.count n.next_top))) }
     ensures low { IfOk result (λ n. 1 ≤ n.next_top) }
     ensures high { IfOk result (λ n. n.next_top ≤ greatest_next) }
+    ensures told { IsErrOf result NotOurs → IsTable rows.now → (count next_top : ℕ) → 1 ≤ next_top
+        → next_top ≤ greatest_next
+        → ¬ Lists ShowsNumber rows.now (Has (three_numbers count next_top)) }
 {
     let [version, count, next_top] = rows else {
         return Err(StoreFault::NotOurs);
@@ -138,6 +150,11 @@ fn prepared_of(
     ensures deltas { IfOk result (λ records. Lists (ShowsRecord IsAddedBy 0) deltas.now
         (λ e. HasPart (from_entries (records_of records.entries)) e × IsDelta e.1.1)) }
     ensures rising { IfOk result (λ records. AreRising (from_entries (records_of records.entries))) }
+    ensures told { IsErrOf result NotOurs → KeysDiffer homes.now → PartsDiffer values.now
+        → PartsDiffer deltas.now → (prepared : Records)
+        → Lists (ShowsHome 0) homes.now (HasHome prepared)
+        → Lists (ShowsRecord IsValueText 0) values.now (λ e. HasPart prepared e × IsValue e.1.1)
+        → ¬ Lists (ShowsRecord IsAddedBy 0) deltas.now (λ e. HasPart prepared e × IsDelta e.1.1) }
 {
     let mut records = homes_of(alloc, homes)?;
     put_record_parts(alloc, values, Spelling::ValueText, &mut records)?;

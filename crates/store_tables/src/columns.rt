@@ -1,7 +1,11 @@
 //! What a column of a row has.
-ghost use Rattle.std.specs.Prelude.{◌≡◌, IfOk};
+ghost use Rattle.std.specs.Prelude.{◌≡◌, ◌≢◌, ℕ, IfOk, IsErrOf};
 ghost use Rattle.sqlite.specs.Order.{column};
+ghost use Rattle.sqlite.specs.declared.error.Error.TheVariants.{SqliteFailure};
+ghost use Rattle.sqlite.specs.declared.error.ErrorCode.TheVariants.{OutOfMemory};
+ghost use Rattle.atomic_types.specs.declared.part.Part.{Part as Spec};
 ghost use Rattle.atomic_types.specs.declared.part.Part.TheVariants.{Delta};
+ghost use Rattle.stable_store.specs.declared.fault.StoreFault.TheVariants.{NotOurs};
 ghost use Rattle.store_tables.specs.Shown.{IsNumber, IsText, IsAddedBy};
 ghost use Rattle.store_tables.specs.Spellings.{Spells};
 
@@ -24,7 +28,9 @@ pub(crate) enum Spelling {
 }
 
 /// The fault where a column does not read as what it should be.
-pub(crate) fn unread(error: Error) -> StoreFault {
+pub(crate) fn unread(error: Error) -> StoreFault
+    ensures { result ≡ NotOurs → error ≢ SqliteFailure OutOfMemory }
+{
     match error {
         Error::SqliteFailure(ErrorCode::OutOfMemory) => StoreFault::Memory,
         _ => StoreFault::NotOurs,
@@ -33,7 +39,8 @@ pub(crate) fn unread(error: Error) -> StoreFault {
 
 /// The number of a top action, a guardian or an object in a column, or `NotOurs` where it is not from 1 to 4294967295.
 pub(crate) fn number_in(row: &Row, at: usize) -> Result<u32, StoreFault>
-    ensures { IfOk result (λ n. IsNumber (column row.now at) n) }
+    ensures number { IfOk result (λ n. IsNumber (column row.now at) n) }
+    ensures told { IsErrOf result NotOurs → (n : ℕ) → ¬ IsNumber (column row.now at) n }
 {
     match row.get::<u32>(at) {
         Ok(0) => Err(StoreFault::NotOurs),
@@ -44,7 +51,8 @@ pub(crate) fn number_in(row: &Row, at: usize) -> Result<u32, StoreFault>
 
 /// The part in a column, or `NotOurs` where its text is none in its one spelling.
 pub(crate) fn text_part(alloc: Global, row: &Row, at: usize) -> Result<Part, StoreFault>
-    ensures { IfOk result (λ part. IsText (column row.now at) part) }
+    ensures part { IfOk result (λ part. IsText (column row.now at) part) }
+    ensures told { IsErrOf result NotOurs → (part : Spec) → ¬ IsText (column row.now at) part }
 {
     let text = match row.get::<String>(at) {
         Ok(text) => text,
@@ -59,7 +67,8 @@ pub(crate) fn text_part(alloc: Global, row: &Row, at: usize) -> Result<Part, Sto
 
 /// The delta in a column, or `NotOurs` where it is no integer.
 fn added_part(row: &Row, at: usize) -> Result<Part, StoreFault>
-    ensures { IfOk result (λ part. IsAddedBy (column row.now at) part) }
+    ensures part { IfOk result (λ part. IsAddedBy (column row.now at) part) }
+    ensures told { IsErrOf result NotOurs → (part : Spec) → ¬ IsAddedBy (column row.now at) part }
 {
     match row.get::<i64>(at) {
         Ok(by) => Ok(Part::Delta(by)),
@@ -74,7 +83,9 @@ pub(crate) fn spelled_part(
     at: usize,
     spelling: Spelling,
 ) -> Result<Part, StoreFault>
-    ensures { IfOk result (λ part. Spells spelling (column row.now at) part) }
+    ensures part { IfOk result (λ part. Spells spelling (column row.now at) part) }
+    ensures told { IsErrOf result NotOurs → (part : Spec)
+        → ¬ Spells spelling (column row.now at) part }
 {
     match spelling {
         Spelling::Text => text_part(alloc, row, at),

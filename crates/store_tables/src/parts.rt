@@ -1,12 +1,17 @@
 //! What the rows of answers stand for, in maps.
-ghost use Rattle.std.specs.Prelude.{◌≡◌, OnOk, IfOk, ◌<◌};
-ghost use Rattle.std.specs.FinMap.{from_entries};
+ghost use Rattle.std.specs.Prelude.{ℕ, OnOk, IfOk, IsErrOf, IsSome};
+ghost use Rattle.std.specs.Ordering.{nat_cmp};
+ghost use Rattle.std.specs.FinMap.{from_entries, get, find};
 ghost use Rattle.std.specs.FinSet as set;
+ghost use Rattle.atomic_types.specs.declared.part.Part.{Part as Spec};
 ghost use Rattle.stable_store.specs.Held.{parts_in, records_of};
+ghost use Rattle.stable_store.specs.declared.fault.StoreFault.TheVariants.{NotOurs};
 ghost use Rattle.store_tables.specs.Listed.{Lists};
 ghost use Rattle.store_tables.specs.Shown.{ShowsPart, ShowsHome, ShowsRecord, ShowsTop};
 ghost use Rattle.store_tables.specs.Parts.{HasBase, HasHome, HasPart, IsDecided, HaveNoParts, AreRising};
 ghost use Rattle.store_tables.specs.Grown.{AddsShown, ListsMore, KeepsRecords, TakesOne};
+ghost use Rattle.store_tables.specs.First.{IsPrepared};
+ghost use Rattle.store_tables.specs.Keyed.{EachShows, KeysDiffer, PartsDiffer, AreNew, IsTaken};
 ghost use Rattle.store_tables.specs.Spellings.{Spells};
 
 use crate::columns::{Spelling, number_in, spelled_part, text_part};
@@ -18,7 +23,9 @@ use std::collections::{BTreeMap, BTreeSet};
 
 /// Adds what a row shows of an object. `NotOurs` where the object has something.
 fn put_part(alloc: Global, row: &Row, base: &mut BTreeMap<u32, Part>) -> Result<(), StoreFault>
-    ensures { OnOk result (AddsShown (ShowsPart 0) row.now (HasBase (parts_in base.old)) (HasBase (parts_in base.new))) }
+    ensures adds { OnOk result (AddsShown (ShowsPart 0) row.now (HasBase (parts_in base.old)) (HasBase (parts_in base.new))) }
+    ensures told { IsErrOf result NotOurs → (e : ℕ × Spec) → ShowsPart 0 row.now e
+        → IsSome (get (parts_in base.old) e.0) }
 {
     let object = number_in(row, 0)?;
     let part = text_part(alloc, row, 1)?;
@@ -31,7 +38,9 @@ fn put_part(alloc: Global, row: &Row, base: &mut BTreeMap<u32, Part>) -> Result<
 
 /// The parts of rows of an object and a text each.
 pub(crate) fn base_of(alloc: Global, rows: &[Row]) -> Result<BTreeMap<u32, Part>, StoreFault>
-    ensures { IfOk result (λ base. Lists (ShowsPart 0) rows.now (HasBase (parts_in base))) }
+    ensures listed { IfOk result (λ base. Lists (ShowsPart 0) rows.now (HasBase (parts_in base))) }
+    ensures told { IsErrOf result NotOurs → EachShows (ShowsPart 0) rows.now
+        → ¬ KeysDiffer rows.now }
 {
     let mut base = BTreeMap::new(alloc);
     for row in rows {
@@ -50,6 +59,8 @@ fn put_home(
         (HasHome (from_entries (records_of records.new.entries)))) }
     ensures empty { OnOk result (HaveNoParts (from_entries (records_of records.old.entries))
         → HaveNoParts (from_entries (records_of records.new.entries))) }
+    ensures told { IsErrOf result NotOurs → (e : ℕ × ℕ) → ShowsHome 0 row.now e
+        → IsPrepared (from_entries (records_of records.old.entries)) e.0 }
 {
     let top = number_in(row, 0)?;
     let record = Prepared {
@@ -67,6 +78,8 @@ fn put_home(
 pub(crate) fn homes_of(alloc: Global, rows: &[Row]) -> Result<BTreeMap<u32, Prepared>, StoreFault>
     ensures homes { IfOk result (λ records. Lists (ShowsHome 0) rows.now (HasHome (from_entries (records_of records.entries)))) }
     ensures empty { IfOk result (λ records. HaveNoParts (from_entries (records_of records.entries))) }
+    ensures told { IsErrOf result NotOurs → EachShows (ShowsHome 0) rows.now
+        → ¬ KeysDiffer rows.now }
 {
     let mut records = BTreeMap::new(alloc);
     for row in rows {
@@ -77,7 +90,8 @@ pub(crate) fn homes_of(alloc: Global, rows: &[Row]) -> Result<BTreeMap<u32, Prep
 
 /// Adds a part to those of a record, of an object that has none there; else `NotOurs`.
 fn put_into(parts: &mut BTreeMap<u32, Part>, object: u32, part: Part) -> Result<(), StoreFault>
-    ensures { OnOk result (TakesOne object part parts.old.entries parts.new.entries) }
+    ensures takes { OnOk result (TakesOne object part parts.old.entries parts.new.entries) }
+    ensures told { IsErrOf result NotOurs → IsSome (find nat_cmp object parts.old.entries) }
 {
     let replaced = parts.insert(object, part)?;
     if replaced.is_some() {
@@ -97,6 +111,10 @@ fn put_record_part(
         (records_of records.old.entries))) (HasPart (from_entries (records_of records.new.entries)))) }
     ensures keeps { OnOk result (KeepsRecords (from_entries (records_of records.old.entries)) (from_entries
         (records_of records.new.entries))) }
+    ensures told { IsErrOf result NotOurs → (e : ℕ × (ℕ × Spec))
+        → ShowsRecord (Spells spelling) 0 row.now e
+        → IsPrepared (from_entries (records_of records.old.entries)) e.0
+        → IsTaken (from_entries (records_of records.old.entries)) e.0 e.1.0 }
 {
     let top = number_in(row, 0)?;
     let object = number_in(row, 1)?;
@@ -118,6 +136,9 @@ pub(crate) fn put_record_parts(
         (records_of records.old.entries))) (HasPart (from_entries (records_of records.new.entries)))) }
     ensures keeps { OnOk result (KeepsRecords (from_entries (records_of records.old.entries)) (from_entries
         (records_of records.new.entries))) }
+    ensures told { IsErrOf result NotOurs
+        → AreNew (Spells spelling) rows.now (from_entries (records_of records.old.entries))
+        → ¬ PartsDiffer rows.now }
 {
     for row in rows {
         put_record_part(alloc, row, spelling, records)?;
@@ -127,7 +148,8 @@ pub(crate) fn put_record_parts(
 
 /// The top actions of rows of one each.
 pub(crate) fn tops_of(alloc: Global, rows: &[Row]) -> Result<BTreeSet<u32>, StoreFault>
-    ensures { IfOk result (λ tops. Lists ShowsTop rows.now (IsDecided (set.from_list tops.keys))) }
+    ensures listed { IfOk result (λ tops. Lists ShowsTop rows.now (IsDecided (set.from_list tops.keys))) }
+    ensures told { IsErrOf result NotOurs → ¬ EachShows ShowsTop rows.now }
 {
     let mut tops = BTreeSet::new(alloc);
     for row in rows {

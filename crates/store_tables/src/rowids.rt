@@ -1,5 +1,5 @@
 //! Rows with rising rowids.
-ghost use Rattle.std.specs.Prelude.{IfSome, IsTrue};
+ghost use Rattle.std.specs.Prelude.{◌≡◌, ℤ, IfSome, IsTrue, None};
 ghost use Rattle.sqlite_trees.specs.View.{IsShaped};
 ghost use Rattle.sqlite_trees.specs.declared.store.Shape.TheVariants.{Table};
 ghost use Rattle.std.specs.List.{AllByRecursion};
@@ -7,6 +7,7 @@ ghost use Rattle.store_tables.specs.Answered.{rows_of};
 ghost use Rattle.store_tables.specs.Rising.{ShowsAbove};
 
 use sqlite::Row;
+use sqlite::types::ValueRef;
 
 /// The queries of the rowids of each table, by their order.
 pub const ROWIDS: [&str; 6] = [
@@ -20,7 +21,8 @@ pub const ROWIDS: [&str; 6] = [
 
 /// Whether the rows of each answer have rising integers in their first columns.
 pub fn all_rise(answers: &[Vec<Row>]) -> bool
-    ensures { IsTrue result → AllByRecursion (IsShaped Table) (rows_of answers.now) }
+    ensures rises { IsTrue result → AllByRecursion (IsShaped Table) (rows_of answers.now) }
+    ensures found { AllByRecursion (IsShaped Table) (rows_of answers.now) → IsTrue result }
 {
     for rows in answers {
         if !are_rising(rows) {
@@ -32,7 +34,8 @@ pub fn all_rise(answers: &[Vec<Row>]) -> bool
 
 /// Whether the rows have rising integers in their first columns.
 fn are_rising(rows: &[Row]) -> bool
-    ensures { IsTrue result → IsShaped Table rows.now }
+    ensures rises { IsTrue result → IsShaped Table rows.now }
+    ensures found { IsShaped Table rows.now → IsTrue result }
 {
     let mut last = None;
     for row in rows {
@@ -46,9 +49,10 @@ fn are_rising(rows: &[Row]) -> bool
 
 /// The integer in the first column of a row, where it is above the last one.
 fn id_above(row: &Row, last: Option<i64>) -> Option<i64>
-    ensures { IfSome result (ShowsAbove last row.now) }
+    ensures rises { IfSome result (ShowsAbove last row.now) }
+    ensures found { result ≡ None → (id : ℤ) → ¬ ShowsAbove last row.now id }
 {
-    let Ok(id) = row.get::<i64>(0) else {
+    let Ok(ValueRef::Int(id)) = row.get_ref(0) else {
         return None;
     };
     match last {

@@ -28,7 +28,7 @@ returns-in-true-clause-looks g c quiet =
     then_reads old new (λ d (all : Vec (Vec Row Global) Global). AreAnswered d rowids_queries (rows_of all.items)) (λ d _. HaveRowids d.trees)
     c.in_ok-answers.field-0 (Ok tt) quiet (c.in_ok-answers.ensures.looks are_rowids_queries quiet)
     (λ q shown. all_keyed old.now (rows_of c.in_ok-answers.field-0.items) shown
-    (subst (λ xs. AllByRecursion (IsShaped Table) (rows_of xs)) same (c.all_rise.ensures c.in-true.is)))
+    (subst (λ xs. AllByRecursion (IsShaped Table) (rows_of xs)) same (c.all_rise.ensures.rises c.in-true.is)))
 
 pub returns-clause-looks : goal.returns-clause-looks
 returns-clause-looks g c quiet =

@@ -27,7 +27,7 @@ returns-clause-looks g c quiet =
     c.in_ok-answers.field-0 c.content_of.result quiet (c.in_ok-answers.ensures.looks are_queries quiet)
     (λ q shown. ok_leads c.content_of.result (λ k. Holds 0 (answered (rows_of c.in_ok-answers.field-0.items)) (held k)) (λ k. Holds 1 (tables_of old.now.trees) (held k))
     (λ k h. held_by (answered (rows_of c.in_ok-answers.field-0.items)) old.now.trees (held k) (views old.now (rows_of c.in_ok-answers.field-0.items) shown) h)
-    (subst (λ xs. IfOk c.content_of.result (λ k. Holds 0 (answered (rows_of xs)) (held k))) same c.content_of.ensures))
+    (subst (λ xs. IfOk c.content_of.result (λ k. Holds 0 (answered (rows_of xs)) (held k))) same c.content_of.ensures.found))
 
 pub returns-in_err-answers-clause-outside : goal.returns-in_err-answers-clause-outside
 returns-in_err-answers-clause-outside g c =

@@ -58,5 +58,5 @@ returns-clause-looks g c clean within =
     laid_seen a b d c.in_ok-answers.field-0 c.in_ok-answers-2.field-0 c.content_of.result within
     (c.in_ok-answers.ensures.looks (clean_before b d _ c.answers-2.ensures.survives clean) within are_rowids_queries)
     (λ w. c.in_ok-answers-2.ensures.looks clean w are_queries)
-    (subst (λ xs. AllByRecursion (IsShaped Table) (rows_of xs)) ids (c.all_rise.ensures c.if-not-all_rise.false))
-    (subst (λ xs. IfOk c.content_of.result (λ k. Holds 0 (answered (rows_of xs)) (held k))) rows c.content_of.ensures)
+    (subst (λ xs. AllByRecursion (IsShaped Table) (rows_of xs)) ids (c.all_rise.ensures.rises c.if-not-all_rise.false))
+    (subst (λ xs. IfOk c.content_of.result (λ k. Holds 0 (answered (rows_of xs)) (held k))) rows c.content_of.ensures.found)

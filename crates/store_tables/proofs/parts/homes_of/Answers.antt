@@ -7,6 +7,7 @@ use Rattle.store_tables.specs.Grown.{ListsMore}
 use Rattle.store_tables.proofs.Rising.{next_row}
 use Rattle.store_tables.proofs.Listed.{more_none, more_row, listed}
 use Rattle.store_tables.proofs.Read.{records, no_homes, no_parts}
+use Rattle.store_tables.proofs.Told.{told_by, home_twice}
 use Rattle.store_tables.proofs.parts.homes_of.Goals as goal
 
 pub loop-row-init : goal.loop-row-init
@@ -27,3 +28,8 @@ returns-clause-homes c =
 
 pub returns-clause-empty : goal.returns-clause-empty
 returns-clause-empty c = c.loop-row.invariant.1
+
+pub returns-in_err-put_home-clause-told : goal.returns-in_err-put_home-clause-told
+returns-in_err-put_home-clause-told c is shown differ =
+    home_twice _ _ c.row-item.result _ c.loop-row-test.true c.row-item.is (records c.loop-row.records.entries) c.loop-row.invariant.0
+    (c.in_err-put_home.ensures.told (told_by c.from_residual.result c.in_err-put_home.field-0.0 c.from_residual.ensures.1 is)) shown differ

@@ -7,6 +7,7 @@ use Rattle.store_tables.specs.Spellings.{Spells}
 use Rattle.store_tables.proofs.Rising.{next_row}
 use Rattle.store_tables.proofs.Listed.{more_none, more_row}
 use Rattle.store_tables.proofs.Read.{records, keeps_none, keeps_then}
+use Rattle.store_tables.proofs.Told.{told_by, part_twice}
 use Rattle.store_tables.proofs.parts.put_record_parts.Goals as goal
 
 pub loop-row-init : goal.loop-row-init
@@ -26,3 +27,9 @@ returns-clause-lists c =
 
 pub returns-clause-keeps : goal.returns-clause-keeps
 returns-clause-keeps c = c.loop-row.invariant.1
+
+pub returns-in_err-put_record_part-clause-told : goal.returns-in_err-put_record_part-clause-told
+returns-in_err-put_record_part-clause-told c is new differ =
+    part_twice _ _ c.row-item.result _ c.loop-row-test.true c.row-item.is (Spells c.args.spelling) (records c.args.records.now.entries) (records c.loop-row.records.entries)
+    c.loop-row.invariant.0 c.loop-row.invariant.1
+    (c.in_err-put_record_part.ensures.told (told_by c.from_residual.result c.in_err-put_record_part.field-0.0 c.from_residual.ensures.1 is)) new differ
