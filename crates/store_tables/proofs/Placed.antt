@@ -1,5 +1,5 @@
 -- Rows with rowids of their own, as rows are put in and taken out.
-use Rattle.std.proofs.Common.{◌≡◌, ◌≢◌, inl, inr, ℤ, List, [], ◌∷◌, true, false, sym, ap, ◌∙◌, true≢false, Equal}
+use Rattle.std.proofs.Common.{◌≡◌, ◌≢◌, inl, inr, ℤ, List, [], ◌∷◌, false, sym, ap, ◌∙◌, true≢false, Equal}
 use Rattle.std.specs.Ordering.{is_eq}
 use Rattle.std.proofs.lemmas.Cmp.{tied_back}
 use Rattle.sqlite.specs.declared.types.Value.TheVariants.{Int}

@@ -1,5 +1,5 @@
 -- What records have, after one change.
-use Rattle.std.proofs.Common.{◌≡◌, ◌≢◌, inl, inr, ℕ, pos, [], true, false, cond, Option, Some, None, option_map, IfSome, refl, sym, ap, subst, ◌∙◌, nat_cmp, true≢false, Equal}
+use Rattle.std.proofs.Common.{◌≡◌, ◌≢◌, inl, inr, ℕ, pos, [], true, cond, Option, Some, None, option_map, IfSome, refl, sym, ap, subst, ◌∙◌, nat_cmp, true≢false, Equal}
 use Rattle.std.specs.Ordering.{is_eq, eq_by_cmp}
 use Rattle.std.proofs.lemmas.Bool.{false_from_ne_true}
 use Rattle.std.proofs.lemmas.Cmp.{tied_itself}

@@ -1,5 +1,5 @@
 -- Rows whose rowids rise.
-use Rattle.std.proofs.Common.{◌≡◌, ◌⊎◌, inl, inr, List, [], ◌∷◌, ◌++◌, ℕ, zero, suc, ℤ, ◌<ℤ◌, arith, refl, ap₂, true, false, Option, None, Some, ◌+◌, ◌<◌, length, take, get_or}
+use Rattle.std.proofs.Common.{◌≡◌, ◌⊎◌, inl, inr, List, [], ◌∷◌, ◌++◌, ℕ, zero, suc, ℤ, ◌<ℤ◌, arith, refl, ap₂, true, Option, None, Some, ◌+◌, ◌<◌, length, take, get_or}
 use Rattle.std.proofs.Common.{IfSome, IsTrue, is_some, sym, ap, subst, ◌∙◌, true≢false, Less}
 use Rattle.std.specs.Cmp.{int_cmp_is}
 use Rattle.std.proofs.lemmas.Cmp.{int_ranked}

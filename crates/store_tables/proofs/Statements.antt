@@ -1,5 +1,5 @@
 -- What the tables hold after each statement.
-use Rattle.std.proofs.Common.{◌≡◌, ◌≢◌, ℕ, ◌≤◌, ℤ, pos, List, [], ◌∷◌, ◌++◌, codes, Bool, true, false, cond, None, Some, Option, refl, sym, ap, subst, ◌∙◌, nat_cmp, true≢false, arith, Ordering, Less, Equal, Greater}
+use Rattle.std.proofs.Common.{◌≡◌, ℕ, ◌≤◌, ℤ, pos, List, [], ◌∷◌, ◌++◌, codes, Bool, true, false, cond, None, Some, Option, refl, sym, ap, subst, ◌∙◌, nat_cmp, true≢false, arith, Ordering, Less, Equal, Greater}
 use Rattle.std.specs.Ordering.{is_eq, is_lt, eq_by_cmp, ordering_reverse}
 use Rattle.std.specs.Cmp.{nat_cmp_total}
 use Rattle.std.specs.FinMap as map

@@ -1,5 +1,5 @@
 -- Rows that a content has, and which are refused all the same.
-use Rattle.std.proofs.Common.{◌≡◌, ◌⊎◌, inl, inr, ℕ, ◌+◌, ◌<◌, ◌≤◌, pos, List, [], ◌∷◌, Bool, true, ◌&&◌, Option, Some, None, option_map, IsSome, is_some}
+use Rattle.std.proofs.Common.{◌≡◌, inl, inr, ℕ, ◌<◌, ◌≤◌, pos, List, [], ◌∷◌, true, Option, Some, None, option_map, IsSome, is_some}
 use Rattle.std.proofs.Common.{ℤ, Result, Ok, Err, IsErrAnd, take, length, get_or, refl, sym, ap, subst, ◌∙◌, arith, true≢false, Vec, Global, zero, suc, codes, nat_cmp, int_cmp, Less}
 use Rattle.std.specs.Prelude.{slice_index_or}
 use Rattle.std.proofs.lemmas.Cmp.{int_ranked}
@@ -7,7 +7,6 @@ use Rattle.std.proofs.lemmas.Int.{ints}
 use Rattle.std.specs.FinMap as map
 use Rattle.std.specs.Map.{lookup}
 use Rattle.std.specs.BTreeMap.{is_at}
-use Rattle.std.specs.List.{count_by, AllByRecursion}
 use Rattle.std.proofs.lemmas.Bool.{and_from}
 use Rattle.sqlite.specs.declared.types.Value.{Value as Column}
 use Rattle.sqlite.specs.declared.types.Value.TheVariants.{Int}

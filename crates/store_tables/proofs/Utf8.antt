@@ -1,17 +1,17 @@
 -- The spelling of a part that a store may hold is UTF-8.
-use Rattle.std.proofs.Common.{◌≡◌, ℕ, ◌≤◌, ℤ, pos, negsuc, suc, length, ◌+ℤ◌, ◌-ℤ◌, ◌≤ℤ◌, Bool, true, false, ◌&&◌, ◌||◌, nat_lt, nat_le, ◌==◌, List, [], ◌∷◌, ◌++◌, codes, IsUtf8, arith, refl}
+use Rattle.std.proofs.Common.{◌≡◌, ℕ, ℤ, pos, negsuc, suc, length, ◌+ℤ◌, ◌-ℤ◌, ◌≤ℤ◌, Bool, true, false, nat_lt, List, [], ◌∷◌, ◌++◌, codes, IsUtf8, arith, refl}
 use Rattle.std.proofs.lemmas.Bool.Decides.{nat_tests}
-use Rattle.std.specs.Fmt.{decimal, signed_decimal}
+use Rattle.std.specs.Fmt.{decimal}
 use Rattle.std.specs.List.{AllByRecursion, list_all}
 use Rattle.std.proofs.lemmas.Bool.{and_parts}
 use Rattle.std.proofs.lemmas.Fmt.{IsAscii-decimal}
 use Rattle.std.proofs.lemmas.Int.{ints}
 use Rattle.std.proofs.lemmas.Str.{IsUtf8-append, IsUtf8-nil, IsUtf8-from_ascii}
 use Rattle.json.proofs.Printed.Utf8.{are_ascii, IsUtf8-are_ascii, IsUtf8-quoted}
-use Rattle.serde_json.specs.Data.{Data, number, string, array, object, Items, no_items, item, Members, no_members, member}
+use Rattle.serde_json.specs.Data.{Data, number, string, array, object, Items, item, Members, no_members, member}
 use Rattle.serde_json.specs.Find.{of_integer}
-use Rattle.serde_json.specs.Written.{compact_text, items_text, members_text, comma_if, number_text}
-use Rattle.values.specs.Words.{is_letter, is_word_character, is_identifier, IsIdentifier}
+use Rattle.serde_json.specs.Written.{compact_text, items_text, members_text, comma_if}
+use Rattle.values.specs.Words.{is_letter, is_word_character, IsIdentifier}
 use Rattle.values.specs.declared.value.Value.{Value}
 use Rattle.values.specs.declared.value.Value.TheVariants.{Int, Text}
 use Rattle.values.specs.declared.value.Kind.{Kind}
@@ -28,7 +28,7 @@ use Rattle.values.specs.declared.content.Content.TheVariants as content
 use Rattle.values.specs.Contents.{IsStoredContent, content_data}
 use Rattle.atomic_types.specs.declared.part.Part.{Part}
 use Rattle.atomic_types.specs.declared.part.Part.TheVariants as part
-use Rattle.store_tables.specs.PartTexts.{IsStoredPart, part_data, part_text}
+use Rattle.store_tables.specs.PartTexts.{IsStoredPart, part_text}
 
 after : (head tail : List ℕ) → are_ascii head ≡ true → IsUtf8 tail → IsUtf8 (head ++ tail)
 after head tail plain u = IsUtf8-append head tail (IsUtf8-are_ascii head plain) u
