@@ -1,4 +1,4 @@
--- What is said of the bytes of a trace: whether its histories are those of one run.
+-- What the command writes about the bytes of a trace: whether its histories are those of one run.
 use Rattle.std.specs.Prelude.{ℕ, ◌≡◌, ◌⊎◌, List, [], ◌∷◌, ◌++◌, length, codes, decimal, Option, Some, None, Result, IfOk}
 use Rattle.run_model.specs.Gathering.{Histories, IsGathered, least_failing}
 use Rattle.run_model.specs.Openings.{Setup, fresh, fresh_lists}
@@ -41,25 +41,25 @@ pub record FailsAt (bytes : List ℕ) (stamp : ℕ) : Type 0 where
   pub is_trace : IsTrace bytes setup histories
   pub least : least_failing (fresh setup) histories ≡ Some stamp
 
--- what is said of bytes from which no run is gathered
+-- the line for bytes from which no run is gathered
 abbrev pub IsDenied : List ℕ → List ℕ → Type 0
 IsDenied bytes line =
     (LacksSetup bytes × (line ≡ setup_error))
     ⊎ (((number : ℕ) × HasBadLine bytes number × (line ≡ error_text number))
     ⊎ ((stamp : ℕ) × FailsAt bytes stamp × (line ≡ no_line stamp)))
 
--- What is said of bytes. A world comes where a run is gathered from them.
+-- The line for bytes. A world comes if a run is gathered from them.
 abbrev pub IsVerdict : List ℕ → Option World → List ℕ → Type 0
 IsVerdict bytes (Some world) line = IsGatheredFrom bytes world × (line ≡ yes_line (length world.past))
 IsVerdict bytes None line = IsDenied bytes line
 
 -- ---- a reader
 
--- what is said of all that the reader gives
+-- the line for all that the reader gives
 abbrev pub TellsTrace : Option (List ℕ) → Option World → List ℕ → Type 0
 TellsTrace input world line = (bytes : List ℕ) × Gives input bytes × IsVerdict bytes world line
 
--- nothing was said, or a beginning of what is to be said
+-- nothing was written, or a beginning of that line
 abbrev pub BeginsVerdict : Option (List ℕ) → List ℕ → Type 0
 BeginsVerdict input written = (written ≡ []) ⊎ ((world : Option World) × (line : List ℕ) × TellsTrace input world line × Begins written line)
 

@@ -1,4 +1,4 @@
-//! What the program says of a trace.
+//! What the program writes about a trace.
 
 ghost use Rattle.std.specs.Prelude.{◌≡◌, ℕ, List, Result, IfErr, IfOk, option_map, string_bytes};
 ghost use Rattle.traces.specs.Faults.{IsFaultOf};
@@ -61,7 +61,7 @@ fn read_fault(error: &io::Error) -> Fault {
     }
 }
 
-/// What is to be said of the bytes, and the world that made their run.
+/// The line for the bytes, and the world that made their run.
 fn verdict<M, B>(alloc: Global, begin: B, bytes: Vec<u8>) -> Result<(Option<M>, String), Fault>
 where
     M: MakesSteps + Drop,
@@ -78,7 +78,7 @@ where
     }
 }
 
-/// What is to be said of a trace, and the world that made its run.
+/// The line for a trace, and the world that made its run.
 fn gathered<M, B>(alloc: Global, begin: B, trace: Trace) -> Result<(Option<M>, String), Fault>
 where
     M: MakesSteps + Drop,
@@ -101,7 +101,7 @@ where
     }
 }
 
-/// What is to be said of bytes that are no trace.
+/// The line for bytes that are no trace.
 fn error_line(alloc: Global, fault: TraceFault) -> Result<String, AllocError>
     ensures { IfOk result (λ line.
         (bytes : List ℕ) → IsFaultOf bytes fault → IsDenied bytes (string_bytes line)) }
