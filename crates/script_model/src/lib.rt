@@ -5,6 +5,7 @@
 #![tactic(auto)]
 
 mod checked;
+mod copying;
 mod expression;
 mod fault;
 mod laws;
@@ -13,6 +14,7 @@ mod statement;
 
 pub use atomic_types::{Arguments, Form, OpName};
 pub use checked::{Checked, Client, Handler};
+pub use copying::body_copy;
 pub use expression::{Condition, Expr, IntExpr, TextExpr};
 pub use fault::{FaultKind, Pointer, ScriptFault};
 pub use laws::{reading_keeps_limits, reading_resolves};

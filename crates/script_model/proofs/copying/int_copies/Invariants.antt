@@ -1,0 +1,5 @@
+use Rattle.std.proofs.Common.{take, ◌≡◌}
+use Rattle.script_model.proofs.copying.int_copies.Given as goal
+
+abbrev pub invariant-loop-expr : goal.invariant-loop-expr
+invariant-loop-expr l = l.copies ≡ take l.expr-index l.exprs
