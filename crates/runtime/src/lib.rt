@@ -7,6 +7,7 @@
 mod behind;
 mod fault;
 mod gate;
+mod patience;
 mod place;
 mod runtime;
 mod waiting;
@@ -14,4 +15,5 @@ mod waiting;
 pub use fault::StepFault;
 pub use gate::{Gate, OpenGate};
 pub use locked_run::{Answered, CloseFault, Ended, Ends, OfRun, Receipt, Start, StoredHistory};
+pub use patience::{Endless, Patience};
 pub use runtime::Runtime;

@@ -1,5 +1,5 @@
 //! The runtime that all threads of a service share.
-ghost use Rattle.std.specs.Prelude.{◌≡◌, ◌≤◌, [], false, IfErr, IfOk, IfSome, length, vec_capacity, vec_len};
+ghost use Rattle.std.specs.Prelude.{◌≡◌, ◌⊎◌, ◌≤◌, [], false, IfErr, IfOk, IfSome, length, vec_capacity, vec_len};
 ghost use Rattle.run_model.specs.Openings.{opening_in};
 ghost use Rattle.run_model.specs.declared.step.Step.TheVariants.{Op};
 ghost use Rattle.world_steps.specs.Standings.{IsWorld};
@@ -11,6 +11,7 @@ ghost use Rattle.runtime.specs.Waiting.{sleeps};
 use crate::behind::{guardian_behind, one_behind, registry_behind, two_behind};
 use crate::fault::StepFault;
 use crate::gate::{Gate, action_of};
+use crate::patience::{Endless, Patience};
 use crate::place::Place;
 use crate::waiting::sleeps;
 use layer_contracts::{Forest, Guardian};
@@ -99,8 +100,35 @@ impl<K: OfRun, R: Forest, G: Guardian, P: Gate> Runtime<K, R, G, P> {
             a.answer a.receipt) }
         ensures waits { IfOk result (λ a. sleeps a.answer starters.now ≡ false) }
     {
+        self.op_wait_while(rt, action, object, operation, starters, &Endless)
+    }
+
+    /// Makes an operation of the action, as `op_wait`, but only until the patience is over: then it is answered that it waits.
+    /// Who ends the patience of an operation that sleeps has to `wake` the guardian that it names.
+    pub fn op_wait_while<H: Wait, U: Patience>(
+        &self,
+        rt: &H,
+        action: &Name,
+        object: ObjectId,
+        operation: &Op,
+        starters: &[Name],
+        patience: &U,
+    ) -> Result<Answered<K>, StepFault>
+        ensures answered { IfOk result (λ a. IsAnsweredOnce K.opening (Op action.now object operation.now)
+            a.answer a.receipt) }
+        ensures waits { IfOk result (λ a. (sleeps a.answer starters.now ≡ false) ⊎ U.over) }
+    {
         let step = Step::Op(action.copy()?, object, operation.copy()?);
-        self.until_answered(rt, &step, starters)
+        self.until_answered(rt, &step, starters, patience)
+    }
+
+    /// Has the operations that sleep at a guardian tried again, if there is one of this number.
+    pub fn wake<H: Wait>(&self, rt: &H, guardian: u32) {
+        if let Some(place) = self.at(guardian) {
+            // who is about to sleep does so before this has the lock
+            let _held = place.lock(rt);
+            place.wake();
+        }
     }
 
     /// Two receipts, of whatever threads, are of one run.
@@ -291,18 +319,19 @@ impl<K: OfRun, R: Forest, G: Guardian, P: Gate> Runtime<K, R, G, P> {
         Ok(done)
     }
 
-    /// Tries an operation until it is answered, and sleeps between two tries.
-    fn until_answered<H: Wait>(
+    /// Tries an operation until it is answered or the patience is over, and sleeps between two tries.
+    fn until_answered<H: Wait, U: Patience>(
         &self,
         rt: &H,
         step: &Step,
         starters: &[Name],
+        patience: &U,
     ) -> Result<Answered<K>, StepFault>
         ensures answered { IfOk result (λ a. IsAnsweredOnce K.opening step.now a.answer a.receipt) }
-        ensures waits { IfOk result (λ a. sleeps a.answer starters.now ≡ false) }
+        ensures waits { IfOk result (λ a. (sleeps a.answer starters.now ≡ false) ⊎ U.over) }
     {
         for _ in rt.forever() {
-            if let Some(answered) = self.try_op(rt, step, starters)? {
+            if let Some(answered) = self.try_op(rt, step, starters, patience)? {
                 return Ok(answered);
             }
         }
@@ -310,18 +339,19 @@ impl<K: OfRun, R: Forest, G: Guardian, P: Gate> Runtime<K, R, G, P> {
     }
 
     /// One try of an operation. `None` after it has slept.
-    fn try_op<H: Wait>(
+    fn try_op<H: Wait, U: Patience>(
         &self,
         rt: &H,
         step: &Step,
         starters: &[Name],
+        patience: &U,
     ) -> Result<Option<Answered<K>>, StepFault>
         ensures answered { IfOk result (λ r. IfSome r (λ a. IsAnsweredOnce K.opening step.now a.answer a.receipt)) }
-        ensures waits { IfOk result (λ r. IfSome r (λ a. sleeps a.answer starters.now ≡ false)) }
+        ensures waits { IfOk result (λ r. IfSome r (λ a. (sleeps a.answer starters.now ≡ false) ⊎ U.over)) }
     {
         let number = own_guardian(step);
         let Some(place) = self.at(number) else {
-            return self.unless_waiting(rt, step, starters);
+            return self.unless_waiting(rt, step, starters, patience);
         };
         let mut held = place.lock(rt);
         self.gate.pass(number, action_of(step));
@@ -329,9 +359,9 @@ impl<K: OfRun, R: Forest, G: Guardian, P: Gate> Runtime<K, R, G, P> {
         let done = guardian_behind(self.alloc, &self.shared, &mut held, &mut nobody, step)?;
         let Some(answered) = done else {
             drop(held);
-            return self.unless_waiting(rt, step, starters);
+            return self.unless_waiting(rt, step, starters, patience);
         };
-        if sleeps(&answered.answer, starters) {
+        if sleeps(&answered.answer, starters) && !patience.is_over() {
             place.sleep(rt, held);
             return Ok(None);
         }
@@ -342,20 +372,21 @@ impl<K: OfRun, R: Forest, G: Guardian, P: Gate> Runtime<K, R, G, P> {
     }
 
     /// One try of an operation at whatever guardians it names. `None` if it has to wait.
-    fn unless_waiting<H: Wait>(
+    fn unless_waiting<H: Wait, U: Patience>(
         &self,
         rt: &H,
         step: &Step,
         starters: &[Name],
+        patience: &U,
     ) -> Result<Option<Answered<K>>, StepFault>
         ensures answered { IfOk result (λ r. IfSome r (λ a. IsAnsweredOnce K.opening step.now a.answer a.receipt)) }
-        ensures waits { IfOk result (λ r. IfSome r (λ a. sleeps a.answer starters.now ≡ false)) }
+        ensures waits { IfOk result (λ r. IfSome r (λ a. (sleeps a.answer starters.now ≡ false) ⊎ U.over)) }
     {
         let mut nobody: Option<Receipt<K>> = None;
         let Some(answered) = self.try_step(rt, &mut nobody, step)? else {
             return Ok(None);
         };
-        if sleeps(&answered.answer, starters) {
+        if sleeps(&answered.answer, starters) && !patience.is_over() {
             return Ok(None);
         }
         Ok(Some(answered))
