@@ -1,17 +1,16 @@
--- What an activity makes of a world that nobody else steps.
-use Rattle.std.proofs.Common.{inl, inr, Bool, Err, IfOk, IsTrue, List, Ok, Result, [], ap, false, refl, subst, sym, true, ◌++◌, ◌∙◌, ◌∷◌, ◌≡◌}
+-- The steps of one activity in a world that nobody else steps.
+use Rattle.std.proofs.Common.{inl, inr, Bool, IsTrue, List, [], ap, false, refl, subst, sym, true, ◌++◌, ◌∙◌, ◌∷◌, ◌≡◌}
 use Rattle.std.proofs.lemmas.Bool.{false_from_ne_true, false≢true, or_cases}
 use Rattle.action_names.specs.Names.{Name, has_name}
 use Rattle.run_model.specs.declared.answer.Answer.{Answer}
 use Rattle.run_model.specs.declared.history.Event.{Event}
 use Rattle.run_model.specs.declared.step.Step.{Step}
 use Rattle.run_model.specs.Actions.{begun, is_begun, is_committed, names_begun}
-use Rattle.run_model.specs.Answers.{answer_of}
 use Rattle.run_model.specs.Openings.{Opening, opening_in}
 use Rattle.run_model.specs.Runs.{IsRun, World, world_after}
 use Rattle.run_laws.proofs.Begun.{begun_once}
 use Rattle.run_laws.proofs.Names.{clash, has_name_append}
-use Rattle.activities.specs.Making.{IsAlone, IsAnswered, Makes}
+use Rattle.activities.specs.Making.{Makes}
 use Rattle.activities.specs.Serial.{after, asked}
 use Rattle.activities.proofs.Making.{begun_older, committed_older, committed_parts}
 
@@ -41,17 +40,6 @@ kept_commit actors committing old new m r a b n = ap (is_committed a) m.past ∙
 
 -- ---- answers
 
--- the answer of who is alone is that of the step there
-pub alone_answer : {W : Type 0} (may_be : W → List Event → Type 0) (run : W → World) (w : W) (step : Step) (answer : Answer)
-    → IsAnswered (may_be w) (run w).lists step answer → IsAlone may_be run → answer ≡ asked step (run w)
-alone_answer may_be run w step answer h alone =
-    h.answered ∙ ap (λ past. answer_of (opening_in (run w).lists) step past) (alone w h.past h.may)
-
-pub alone_result : {W E : Type 0} (may_be : W → List Event → Type 0) (run : W → World) (w : W) (step : Step) (result : Result Answer E)
-    → IfOk result (IsAnswered (may_be w) (run w).lists step) → IfOk result (λ answer. IsAlone may_be run → answer ≡ asked step (run w))
-alone_result may_be run w step (Ok answer) h = alone_answer may_be run w step answer h
-alone_result may_be run w step (Err fault) h = tt
-
--- and it leaves the world that the step leaves
+-- who is alone leaves the world that the step leaves
 pub alone_after : (step : Step) (answer : Answer) (old new : World) → new ≡ world_after old step answer → answer ≡ asked step old → new ≡ after step old
 alone_after step answer old new w a = w ∙ ap (λ b. world_after old step b) a

@@ -1,4 +1,4 @@
--- The arms of a `coenter`: the names with which they begin, of which no two are one.
+-- The arms of a `coenter`: they begin with different names.
 use Rattle.std.proofs.Common.{Bool, IfSome, List, [], Option, None, Some, ap, arith, false, length, option_map, refl, reverse, subst, suc, sym, true, ℕ, ◌<◌, ◌||◌, ◌∙◌, ◌∷◌, ◌≡◌, ◌≢◌}
 use Rattle.std.proofs.lemmas.Bool.{false_from_ne_true, or_from}
 use Rattle.std.proofs.lemmas.List.{length-map, length-reverse, reverse-append, reverse-reverse}
@@ -86,7 +86,7 @@ has_reverse (b ∷ names) a =
 
 -- ---- the step that begins arms
 
--- a step of which the outcome begins actions: where it begins none it was refused, and the world is as it was
+-- a step whose outcome begins actions: if it begins none, it was refused, and the world is as it was
 pub unless_begun : (w : World) (opening : Opening) (past : List Event) (step : Step) (answer : Answer) (all : List Name)
     → outcome opening step past ≡ Began all → answer ≡ answer_of opening step past → ((names : List Name) → answer ≢ Began names)
     → world_after w step answer ≡ w

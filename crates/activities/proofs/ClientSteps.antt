@@ -1,4 +1,4 @@
--- What clients make of a world, one after another.
+-- The steps of clients, one after another.
 use Rattle.std.proofs.Common.{inl, inr, IsTrue, List, None, Option, Some, [], ap, append_assoc, refl, subst, sym, ℕ, ◌++◌, ◌∙◌, ◌∷◌, ◌≡◌}
 use Rattle.std.proofs.lemmas.Bool.{false≢true}
 use Rattle.action_names.specs.Names.{Name, has_name}

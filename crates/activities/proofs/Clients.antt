@@ -1,5 +1,5 @@
 -- Clients that run one after another: each as a top action of its own, which ends before the next begins.
-use Rattle.std.proofs.Common.{IsTrue, List, None, Option, Some, [], ap, arith, false, length, refl, subst, sym, true, ℕ, ◌∙◌, ◌∷◌, ◌≡◌, ◌≢◌}
+use Rattle.std.proofs.Common.{IsTrue, List, None, Option, Some, [], ap, arith, length, refl, subst, sym, ℕ, ◌∙◌, ◌∷◌, ◌≡◌, ◌≢◌}
 use Rattle.std.proofs.lemmas.Bool.{false≢true, or_left}
 use Rattle.action_names.specs.Names.{Name}
 use Rattle.run_model.specs.declared.answer.Answer.{Answer}
@@ -25,6 +25,7 @@ use Rattle.activities.specs.Ends.{IsTopAt, named_by}
 use Rattle.activities.specs.Making.{once_begun}
 use Rattle.activities.specs.Serial.{after, asked, begun_by}
 use Rattle.activities.proofs.ArmNames.{unless_begun}
+use Rattle.activities.proofs.Resolving.{resolved_at}
 use Rattle.activities.proofs.Steps.{HaveBegun, IsOpen, begins_names}
 
 -- ---- a client's body
@@ -32,17 +33,8 @@ use Rattle.activities.proofs.Steps.{HaveBegun, IsOpen, begins_names}
 -- its home has objects, so its body is one of the script
 pub client_body : (script : Checked) (client : Client) → IsTrue (resolved.is_resolved_client script client)
     → IsBody script (record { ints = 0; texts = 0; truths = 0 }) client.body
-client_body script client h = go (resolved.objects_at script client.home) h
-  where
-    go : (objects : Option _)
-        → resolved.is_resolved_at objects script gives.Anything (record { ints = 0; texts = 0; truths = 0 }) client.body ≡ true
-        → IsBody script (record { ints = 0; texts = 0; truths = 0 }) client.body
-    go None k = absurd (false≢true k)
-    go (Some objects) k = record {
-      at = record { objects = objects; handlers = script.handlers; gives = gives.Anything; in_top = false };
-      handlers = refl;
-      holds_there = k;
-    }
+client_body script client h =
+    resolved_at (resolved.objects_at script client.home) script gives.Anything (record { ints = 0; texts = 0; truths = 0 }) client.body h
 
 pub body_given : (script same : Checked) (client : Client) (f : Bound) (body : List Statement)
     → IsTrue (resolved.is_resolved_client script client) → same ≡ script → f ≡ nothing_bound → body ≡ client.body → IsBody same (sizes f) body

@@ -173,7 +173,7 @@ end_tried_ended : (a : Acting) (wanted : Bool) (w : World) → IsRunning w → I
 end_tried_ended a true w r o = or_aborted_ended a w (committed a w) (committed_tried a w r o) o.begun
 end_tried_ended a false w r o = aborted_ended a w (record { world = w; done = false }) (not_tried a.name w (record { world = w; done = false }) (went_nowhere (a.name ∷ []) [] w r) o refl) o.begun refl
 
--- ---- what is said of it
+-- ---- the end, and whether it committed
 
 -- an action came to this end
 pub record HasRun (a : Name) (old new : World) (flow : Flow) : Type 0 where

@@ -1,4 +1,5 @@
 pub mod Alone
+pub mod ArmsApart
 pub mod ArmNames
 pub mod Clients
 pub mod ClientSteps

@@ -1,4 +1,4 @@
--- What an activity makes of a world, step by step.
+-- The steps of one activity, and how they compose.
 use Rattle.std.proofs.Common.{inl, inr, Bool, Bor, Err, IfOk, IsTrue, List, Ok, OnErr, OnOk, Result, [], ap, append_assoc, false, map, refl, reverse, subst, sym, true, ◌++◌, ◌∙◌, ◌∷◌, ◌≡◌, ◌⊎◌}
 use Rattle.std.proofs.lemmas.Bool.{false≢true, or_cases, or_left, or_right}
 use Rattle.std.proofs.lemmas.List.{map-append}
@@ -255,10 +255,10 @@ step_tells a old step answer opening past c h = go answer (subst Answered (sym h
     go VoteYes r = elim r [ inl e ↦ cc | inr e ↦ cc ]
     go VoteNo r = elim r [ inl e ↦ cc | inr e ↦ cc ]
 
-pub result_tells : (a : Name) (old new : World) (step : Step) (done : Bool) (answer : Answer) (may_be : List Event → Type 0)
-    → commits_of step ≡ a ∷ [] → IsAnswered may_be old.lists step answer → new ≡ world_after old step answer → done ≡ is_made answer
+pub result_tells : (a : Name) (old new : World) (step : Step) (done : Bool) (answer : Answer)
+    → commits_of step ≡ a ∷ [] → IsAnswered old.lists step answer → new ≡ world_after old step answer → done ≡ is_made answer
     → Tells done a old new
-result_tells a old new step done answer may_be c h w d =
+result_tells a old new step done answer c h w d =
     subst (λ b. Tells b a old new) (sym d)
     (subst (λ v. Tells (is_made answer) a old v) (sym w)
     (step_tells a old step answer (opening_in old.lists) h.past c h.answered))
@@ -300,7 +300,7 @@ one_makes a names x y z h m n = makes_through names names x y z m (makes_more (a
     of : (c : Name) → IsTrue (has_name (a ∷ []) c) → IsTrue (has_name names c)
     of c t = subst (λ b. IsTrue (has_name names b)) (alone a c t) h
 
--- arms that were begun, of which some ran and the others were aborted
+-- arms that were begun: some ran, and the others were aborted
 pub arms_make : (names rest actors : List Name) (x y z w : World) → Begins actors [] names x y → Makes names names y z
     → ((a : Name) → IsTrue (has_name rest a) → IsTrue (has_name names a)) → Makes rest [] z w → Makes actors [] x w
 arms_make names rest actors x y z w b m f n =

@@ -168,7 +168,7 @@ if_ok_then (Ok x) h f = f x h
 if_ok_then (Err e) h f = tt
 
 module _ (script : Checked) where
-  -- a body of which some statements are done
+  -- a body whose first statements are done
   abbrev pub IsBodyFrom : ℕ → List Statement → Doing → List Statement → Doing → Type 0
   IsBodyFrom left body old rest d =
       (most : ℕ) → left ≤ most
@@ -207,7 +207,7 @@ module _ (script : Checked) where
     body_ends rest e b most h =
         let (j, lt, is) = b most h in sym (is ∙ ap (λ l. body_done script.handlers j l d) e)
 
-  -- turns of which some are done
+  -- turns, the first of them done
   abbrev pub AreTurnsFrom : ℕ → ℕ → List Statement → Doing → ℕ → Doing → Type 0
   AreTurnsFrom left turns body old n d =
       (most : ℕ) → left ≤ most → repeated (body_done script.handlers most) turns body old ≡ repeated (body_done script.handlers most) n body d
@@ -248,7 +248,7 @@ module _ (script : Checked) where
         → ComesSo script left (record { doing = d; flow = Ended }) (λ go. repeated go turns body old)
     turns_end n e t most h = sym (t most h ∙ ap (λ x. repeated (body_done script.handlers most) x body d) e)
 
-  -- arms of which some have run
+  -- arms, the first of them run
   abbrev pub AreArmsFrom : ℕ → List Arm → List Name → Doing → List Arm → List Name → Doing → Type 0
   AreArmsFrom left arms all old rest names d =
       (most : ℕ) → left ≤ most

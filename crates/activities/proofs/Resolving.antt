@@ -1,5 +1,7 @@
 -- What is known of a statement gives of its parts.
-use Rattle.std.proofs.Common.{Bool, IfOk, ap₂, IsTrue, List, None, Option, Result, Ok, Err, Some, [], ap, arith, cond, false, length, map, option_map, refl, slice_get, subst, suc, sym, true, zero, ℕ, ◌&&◌, ◌<◌, ◌≤◌, ◌==◌, ◌∙◌, ◌∷◌, ◌≡◌, eqb-true}
+use Rattle.std.proofs.Common.{Bool, IfOk, IfSome, ap₂, IsTrue, List, None, Option, Result, Ok, Err, Some, [], ap, arith, cond, drop, false, length, map, option_map, refl, slice_get, subst, suc, sym, true, zero, ℕ, ◌&&◌, ◌<◌, ◌≤◌, ◌==◌, ◌∙◌, ◌∷◌, ◌≡◌, eqb-true}
+use Rattle.std.proofs.Math.Logic.{∥∥₁_elim, ∥∥₁_map}
+use mathlib.Core.Bool.{Bool-set}
 use Rattle.std.proofs.lemmas.Bool.{and_parts, false≢true, not-true}
 use Rattle.std.proofs.lemmas.Option.{slice_get_within}
 use Rattle.std.specs.List.{list_all}
@@ -19,12 +21,12 @@ use Rattle.script_model.specs.declared.statement.Arm.TheOpen.{Statement-F, Arm-F
 use Rattle.script_model.specs.declared.statement.Arm.TheFolds.{fold-Arm, fold-roll-Arm, fold-roll-Statement, map-Statement}
 use Rattle.script_model.specs.declared.checked.Checked.{Checked}
 use Rattle.script_model.specs.declared.checked.Handler.{Handler}
-use Rattle.script_model.specs.Resolved.{Asked, Frames, IsResolved, Surroundings, all_hold, asked, asked_arm, asked_step, binds_newly, body_holds, call_is_resolved, condition_is_bound, expr_is_bound, frames_after, grown, handler_takes, in_top_surroundings, is_new, is_resolved_at, is_resolved_body, is_resolved_handler, objects_at, signals_hold, what_gives}
+use Rattle.script_model.specs.Resolved.{Asked, Frames, IsResolved, Surroundings, all_hold, asked, asked_arm, asked_step, binding_is_bound, binds_newly, body_holds, call_is_resolved, condition_is_bound, expr_is_bound, frames_after, grown, handler_takes, in_top_surroundings, int_is_bound, is_new, is_resolved_at, is_resolved_body, is_resolved_handler, objects_at, signals_hold, text_is_bound, what_gives}
 use Rattle.frames.specs.Bound.{Bound, cut_back, sizes}
 use Rattle.frames.proofs.Counting.{sizes_cut}
 use Rattle.activities.specs.declared.flow.Flow.{Flow}
 use Rattle.activities.specs.declared.flow.Flow.TheVariants.{Aborted}
-use Rattle.activities.specs.Bodies.{AreArms, IsBody, IsCall, IsOp, IsStatement, SignalsFollow, SignalsHold, Somewhere, WhereEnded, Within, body_of, opened_body}
+use Rattle.activities.specs.Bodies.{AreArms, IsBody, IsCall, IsOp, IsStatement, Place, SignalsFollow, SignalsHold, Somewhere, WhereEnded, Within, body_of, opened_body}
 
 -- ---- what is asked of a statement, by what is asked of its parts
 
@@ -64,14 +66,24 @@ body_asks (s ∷ ss) at frames = ap (λ b. (asked s).holds at frames && b) (body
 
 -- ---- what is resolved somewhere
 
+there_too : (script : Checked) (p q : Surroundings → Bool) → ((at : Surroundings) → p at ≡ true → q at ≡ true) → Place script p → Place script q
+there_too script p q f s = record { at = s.at; handlers = s.handlers; holds_there = f s.at s.holds_there }
+
 -- what a part of it needs is resolved there too
 part : (script : Checked) (p q : Surroundings → Bool) → ((at : Surroundings) → p at ≡ true → q at ≡ true) → Somewhere script p → Somewhere script q
-part script p q f s = record { at = s.at; handlers = s.handlers; holds_there = f s.at s.holds_there }
+part script p q f s = ∥∥₁_map s (there_too script p q f)
 
 -- also in a top action
 part_in_top : (script : Checked) (p q : Surroundings → Bool) → ((at : Surroundings) → p at ≡ true → q (in_top_surroundings at) ≡ true)
     → Somewhere script p → Somewhere script q
-part_in_top script p q f s = record { at = in_top_surroundings s.at; handlers = s.handlers; holds_there = f s.at s.holds_there }
+part_in_top script p q f s = ∥∥₁_map s inside
+  where
+    inside : Place script p → Place script q
+    inside s = record { at = in_top_surroundings s.at; handlers = s.handlers; holds_there = f s.at s.holds_there }
+
+-- what follows of any place
+so_there : (script : Checked) (p : Surroundings → Bool) (x y : Bool) → (Place script p → x ≡ y) → Somewhere script p → x ≡ y
+so_there script p x y f s = ∥∥₁_elim s (Bool-set x y) f
 
 -- what is asked of a statement, where it is known what that is
 asked_as : (script : Checked) (frames : Frames) (s : Statement) (x : Asked) → asked s ≡ x → IsStatement script frames s
@@ -95,6 +107,9 @@ binds_nothing frames (binding.Truth place) h = ap (λ n. record frames { truths 
 some_same : {A : Type 0} (x y : A) → Some x ≡ Some y → x ≡ y
 some_same x y e = cc
 
+last_of : (a b c d : Bool) → (a && (b && (c && d))) ≡ true → d ≡ true
+last_of a b c d h = (and_parts c d (and_parts b (c && d) (and_parts a (b && (c && d)) h).1).1).1
+
 all_hold_at : (arms : List Arm) (i : ℕ) (arm : Arm) (at : Surroundings) (frames : Frames) → all_hold (map arm_asked arms) at frames ≡ true
     → slice_get arms i ≡ Some arm → arm_asked arm at frames ≡ true
 all_hold_at [] i arm at frames h there = absurd (none_is there)
@@ -104,6 +119,13 @@ all_hold_at [] i arm at frames h there = absurd (none_is there)
 all_hold_at (a ∷ arms) zero arm at frames h there =
     subst (λ (b : Arm). arm_asked b at frames ≡ true) (some_same a arm there) (and_parts _ _ h).0
 all_hold_at (a ∷ arms) (suc i) arm at frames h there = all_hold_at arms i arm at frames (and_parts _ _ h).1 there
+
+all_hold_from : (n : ℕ) (arms : List Arm) (at : Surroundings) (frames : Frames) → all_hold (map arm_asked arms) at frames ≡ true
+    → all_hold (map arm_asked (drop n arms)) at frames ≡ true
+all_hold_from zero [] at frames h = h
+all_hold_from zero (a ∷ arms) at frames h = h
+all_hold_from (suc n) [] at frames h = h
+all_hold_from (suc n) (a ∷ arms) at frames h = all_hold_from n arms at frames (and_parts _ _ h).1
 
 module _ (script : Checked) (frames : Frames) where
   -- a body begins with a statement, and goes on after it
@@ -120,14 +142,14 @@ module _ (script : Checked) (frames : Frames) where
   signals_of b (Some ss) h = (
     part script (λ at. signals_hold b (Some (map asked ss)) at frames) (λ at. is_resolved_body at frames ss)
         (λ at k. sym (body_asks ss at frames) ∙ (and_parts _ _ k).1) h,
-    binds_nothing frames b (not-true _ (and_parts _ _ h.holds_there).0),
+    binds_nothing frames b (so_there script _ _ _ (λ w. not-true _ (and_parts _ _ w.holds_there).0) h),
   )
 
   -- an operation
   pub op_of : (o : ObjectCall) (s : Option (List Statement)) → IsStatement script frames (stat.Op o s) → IsOp frames o
   op_of o s h =
-      let w = asked_as script frames (stat.Op o s) _ (op_asks o s) h in
-      (and_parts _ _ (and_parts _ _ (and_parts _ _ w.holds_there).0).1).1
+      so_there script _ _ _ (λ w. (and_parts _ _ (and_parts _ _ (and_parts _ _ w.holds_there).0).1).1)
+      (asked_as script frames (stat.Op o s) _ (op_asks o s) h)
 
   pub op_signals : (o : ObjectCall) (s : Option (List Statement)) → IsStatement script frames (stat.Op o s)
       → SignalsFollow script frames o.binding s
@@ -142,6 +164,18 @@ module _ (script : Checked) (frames : Frames) where
   pub call_of : (c : HandlerCall) (s : Option (List Statement)) → IsStatement script frames (stat.Call c s) → IsCall script frames c
   call_of c s h =
       part script _ (λ at. call_is_resolved at frames c) (λ at k. (and_parts _ _ k).0) (asked_as script frames (stat.Call c s) _ (call_asks c s) h)
+
+  -- its arguments and its binding
+  pub call_ints : (c : HandlerCall) → IsCall script frames c → IsTrue (list_all (int_is_bound frames.ints) c.ints)
+  call_ints c h = so_there script _ _ _ (λ w. (and_parts _ _ (and_parts _ _ w.holds_there).1).0) h
+
+  pub call_texts : (c : HandlerCall) → IsCall script frames c → IsTrue (list_all (text_is_bound frames.texts) c.texts)
+  call_texts c h = so_there script _ _ _ (λ w. (and_parts _ _ (and_parts _ _ (and_parts _ _ w.holds_there).1).1).0) h
+
+  pub call_binding : (c : HandlerCall) → IsCall script frames c → IsTrue (binding_is_bound frames c.binding)
+  call_binding c h =
+      so_there script _ _ _ (λ w. last_of (handler_takes (slice_get w.at.handlers c.handler) c) (list_all (int_is_bound frames.ints) c.ints)
+      (list_all (text_is_bound frames.texts) c.texts) (binding_is_bound frames c.binding) w.holds_there) h
 
   pub call_signals : (c : HandlerCall) (s : Option (List Statement)) → IsStatement script frames (stat.Call c s)
       → SignalsFollow script frames c.binding s
@@ -170,7 +204,8 @@ module _ (script : Checked) (frames : Frames) where
   -- a choice
   pub if_condition : (c : Condition) (xs ys : List Statement) → IsStatement script frames (stat.If c xs ys)
       → IsTrue (condition_is_bound frames c)
-  if_condition c xs ys h = (and_parts _ _ (asked_as script frames (stat.If c xs ys) _ (if_asks c xs ys) h).holds_there).0
+  if_condition c xs ys h =
+      so_there script _ _ _ (λ w. (and_parts _ _ w.holds_there).0) (asked_as script frames (stat.If c xs ys) _ (if_asks c xs ys) h)
 
   pub if_first : (c : Condition) (xs ys : List Statement) → IsStatement script frames (stat.If c xs ys) → IsBody script frames xs
   if_first c xs ys h =
@@ -195,9 +230,11 @@ module _ (script : Checked) (frames : Frames) where
   repeat_after n b = after_as frames (stat.Repeat n b) _ (repeat_asks n b)
 
   -- a value that is returned
-  pub return_of : (e : Expr) → IsStatement script frames (stat.Return (Some e)) → IsTrue (expr_is_bound frames e)
-  return_of e h =
-      (and_parts _ _ (and_parts _ _ (asked_as script frames (stat.Return (Some e)) _ (return_asks (Some e)) h).holds_there).1).1
+  pub return_of : (e : Option Expr) → IsStatement script frames (stat.Return e) → IfSome e (λ x. IsTrue (expr_is_bound frames x))
+  return_of None h = tt
+  return_of (Some e) h =
+      so_there script _ _ _ (λ w. (and_parts _ _ (and_parts _ _ w.holds_there).1).1)
+      (asked_as script frames (stat.Return (Some e)) _ (return_asks (Some e)) h)
 
   -- arms
   pub coenter_after : (arms : List Arm) → (asked (stat.Coenter arms)).after frames ≡ frames
@@ -231,6 +268,12 @@ module _ (script : Checked) (frames : Frames) where
       (part script _ (λ at. arm_asked arm at frames) (λ at k. all_hold_at arms i arm at frames k there)
       (asked_as script frames (stat.Coenter arms) _ (coenter_asks arms) h)))
 
+  -- the arms behind the first so many
+  pub arms_from : (n : ℕ) (arms : List Arm) → AreArms script frames arms → AreArms script frames (drop n arms)
+  arms_from n arms h =
+      part script _ _ (λ at k. ap (λ (x : Asked). x.holds at frames) (coenter_asks (drop n arms)) ∙ all_hold_from n arms at frames k)
+      (asked_as script frames (stat.Coenter arms) _ (coenter_asks arms) h)
+
 -- ---- a handler that is called
 
 all_at : {A : Type 0} (p : A → Bool) (xs : List A) (i : ℕ) (x : A) → list_all p xs ≡ true → slice_get xs i ≡ Some x → p x ≡ true
@@ -250,7 +293,7 @@ called_takes : (script : Checked) (frames : Frames) (c : HandlerCall) → IsCall
     → (h : Handler) × (slice_get script.handlers c.handler ≡ Some h) × (length c.ints ≡ h.ints) × (length c.texts ≡ h.texts)
 called_takes script frames c k =
     takes_some (slice_get script.handlers c.handler) c
-    (sym (ap (λ hs. handler_takes (slice_get hs c.handler) c) k.handlers) ∙ (and_parts _ _ k.holds_there).0)
+    (so_there script _ _ _ (λ w. sym (ap (λ hs. handler_takes (slice_get hs c.handler) c) w.handlers) ∙ (and_parts _ _ w.holds_there).0) k)
 
 pub called_within : (script : Checked) (frames : Frames) (c : HandlerCall) → IsCall script frames c → c.handler < length script.handlers
 called_within script frames c k =
@@ -260,11 +303,14 @@ called_within script frames c k =
 abbrev pub handed : ℕ → ℕ → Frames
 handed ints texts = record { ints = ints; texts = texts; truths = 0 }
 
-resolved_at : (objects : Option (List Content)) (script : Checked) (g : Gives) (frames : Frames) (body : List Statement)
+-- a body that is resolved at these objects
+pub resolved_at : (objects : Option (List Content)) (script : Checked) (g : Gives) (frames : Frames) (body : List Statement)
     → is_resolved_at objects script g frames body ≡ true → IsBody script frames body
 resolved_at None script g frames body h = absurd (false≢true h)
-resolved_at (Some objects) script g frames body h =
-    record { at = record { objects = objects; handlers = script.handlers; gives = g; in_top = false }; handlers = refl; holds_there = h }
+resolved_at (Some objects) script g frames body h = ∣ here ∣₁
+  where
+    here : Place script (λ at. is_resolved_body at frames body)
+    here = record { at = record { objects = objects; handlers = script.handlers; gives = g; in_top = false }; handlers = refl; holds_there = h }
 
 pub called_body : (script : Checked) (frames : Frames) (c : HandlerCall) (h : Handler) → IsResolved script → IsCall script frames c
     → slice_get script.handlers c.handler ≡ Some h → IsBody script (handed (length c.ints) (length c.texts)) h.body

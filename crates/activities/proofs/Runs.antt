@@ -33,7 +33,7 @@ use Rattle.activities.proofs.Staying.{bodies_stay, run_ends}
 
 -- ---- a client
 
--- a client of which the top action could not be begun
+-- a client whose top action did not begin
 not_ran : (home : ℕ) (old new : World) → TopMade home old new None → ClientRan home old new (Aborted None)
 not_ran home old new m = record {
   began = m.top;
@@ -48,7 +48,7 @@ said_at_end past a Ended h = sym h
 said_at_end past a (Returned value) h = sym h
 said_at_end past a _ h = sym h
 
--- a client of which the top action has run
+-- a client whose top action has run
 top_ran : (home : ℕ) (old mid new : World) (a : Name) (flow : Flow) → TopMade home old mid (Some a) → HasRun a mid new flow
     → ClientRan home old new (end_of a flow)
 top_ran home old mid new a flow m h = record {

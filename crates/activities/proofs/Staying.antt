@@ -13,7 +13,6 @@ use Rattle.run_model.specs.Actions.{is_begun, names_begun}
 use Rattle.run_model.specs.Openings.{opening_in}
 use Rattle.run_model.specs.Runs.{World}
 use Rattle.run_laws.proofs.Names.{clash, same_name_self}
-use Rattle.values.specs.declared.value.Value.{Value}
 use Rattle.script_model.specs.declared.checked.Handler.{Handler}
 use Rattle.script_model.specs.declared.statement.Arm.{Arm}
 use Rattle.script_model.specs.declared.statement.Arm.TheOpen.{Statement-F}
@@ -22,7 +21,7 @@ use Rattle.script_model.specs.declared.statement.HandlerCall.{HandlerCall}
 use Rattle.script_model.specs.declared.statement.ObjectCall.{ObjectCall}
 use Rattle.script_model.specs.declared.statement.Statement.{Statement, out-Statement}
 use Rattle.frames.specs.Bound.{Bound}
-use Rattle.frames.specs.Evaluating.{truth_of, value_of}
+use Rattle.frames.specs.Evaluating.{truth_of}
 use Rattle.frames.specs.Operating.{given, op_of}
 use Rattle.activities.specs.declared.flow.Flow.{Flow}
 use Rattle.activities.specs.declared.flow.Flow.TheVariants.{Aborted, Ended, Outwards, Returned}
@@ -33,7 +32,7 @@ use Rattle.activities.specs.declared.operations.Outcome.TheVariants as outcome
 use Rattle.activities.specs.Bodies.{body_of, kind_of, kinds}
 use Rattle.activities.specs.Ends as ends
 use Rattle.activities.specs.Performing.{op_step, outcome_of, step_for}
-use Rattle.activities.specs.Serial.{Acting, aborted, Doing, Done, Left, Through, ended, after, after_any, arms_aborted, arms_run, asked, begun_at, begun_by, beside, body_done, budgeted, by_arms, by_budget, by_called, by_end, by_flow, by_nested, by_nested_end, by_outcome, by_truth, by_value, call_done, called_by, coenter_done, inner, is_past, nested_done, on_signal, op_done, opened_done, past_arm, repeated, run, statement_done, taking_in, waiting_by, where_ended, with_world}
+use Rattle.activities.specs.Serial.{Acting, aborted, Doing, Done, Left, Through, ended, after, after_any, arms_aborted, arms_run, asked, begun_at, begun_by, beside, body_done, budgeted, by_arms, by_budget, by_called, by_end, by_flow, by_nested, by_nested_end, by_outcome, by_truth, call_done, called_by, coenter_done, inner, is_past, nested_done, on_signal, op_done, opened_done, past_arm, repeated, run, statement_done, taking_in, waiting_by, where_ended, with_world}
 use Rattle.activities.proofs.ArmNames.{Differ, begun_differ, one_more}
 use Rattle.activities.proofs.Closing.{HasRun, aborted_came, ended_so, open_quietly}
 use Rattle.activities.proofs.Going.{alone, still_begun}
@@ -310,10 +309,6 @@ module _ (go : Through) (all : AllStay go) where
   truth_stays first second d (Some false) r = all second d r
   truth_stays first second d None r = stays_here d r
 
-  returned_stays : (d : Doing) (value : Option Value) → IsRunning d.world → Stays d (by_value d value).doing
-  returned_stays d None r = stays_here d r
-  returned_stays d (Some v) r = stays_here d r
-
   repeat_stays : (turns : ℕ) (body : List Statement) (d : Doing) → IsRunning d.world → Stays d (repeated go turns body d).doing
   repeat_stays zero body d r = stays_here d r
   repeat_stays (suc turns) body d r =
@@ -329,8 +324,7 @@ module _ (go : Through) (all : AllStay go) where
   opened_stays handlers (Statement-F.If test first second) d r = truth_stays first second d (truth_of d.bound test) r
   opened_stays handlers (Statement-F.Repeat turns body) d r = repeat_stays turns body d r
   opened_stays handlers Statement-F.Abort d r = stays_here d r
-  opened_stays handlers (Statement-F.Return None) d r = stays_here d r
-  opened_stays handlers (Statement-F.Return (Some e)) d r = returned_stays d (value_of d.bound e) r
+  opened_stays handlers (Statement-F.Return e) d r = stays_here d r
 
 -- by induction over how many statements may be begun
 pub bodies_stay : (handlers : List Handler) (most : ℕ) → AllStay (body_done handlers most)

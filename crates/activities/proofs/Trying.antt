@@ -10,7 +10,7 @@ use Rattle.activities.specs.Ends.{AreTried, ClientCut, ClientMade, ClientTried, 
 use Rattle.activities.specs.Making.{ClientMakes, ClientsMake}
 use Rattle.activities.proofs.ClientSteps.{client_makes, clients_nowhere, clients_through}
 
--- what a fault leaves of a client, of which more is known under a premise
+-- a client that a fault ended; under a premise its top action began as asked
 pub cut_of : (home : ℕ) (top : Option Name) (alone : Type 0) (old new : World) → ClientMakes home top old new
     → (alone → IsTopOrNothing home old top)
     → (top : Option Name) × ClientMakes home top old new × (alone → IsTopOrNothing home old top)

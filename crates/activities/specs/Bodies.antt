@@ -1,4 +1,4 @@
--- What is known of a body that an interpreter goes through, and what it leaves of the variables.
+-- A body that the interpreter goes through, and the variables that it leaves bound.
 use Rattle.std.specs.Prelude.{◌≡◌, ◌≤◌, Bool, ◌&&◌, IsTrue, List, map, Option, Some, None}
 use Rattle.run_model.specs.declared.step.ArmKind.{ArmKind}
 use Rattle.run_model.specs.declared.step.ArmKind.TheVariants as kind
@@ -11,6 +11,7 @@ use Rattle.script_model.specs.declared.statement.Statement.{Statement}
 use Rattle.script_model.specs.declared.statement.Statement.TheVariants.{Coenter}
 use Rattle.script_model.specs.declared.checked.Checked.{Checked}
 use Rattle.script_model.specs.Resolved as resolved
+use Rattle.script_model.specs.Resolved.{IsResolved}
 use Rattle.activities.specs.declared.operations.Outcome.{Outcome}
 use Rattle.activities.specs.declared.operations.Outcome.TheVariants.{Granted}
 use Rattle.activities.specs.declared.flow.Flow.{Flow}
@@ -18,10 +19,19 @@ use Rattle.activities.specs.declared.flow.Flow.TheVariants.{Ended}
 pub use Rattle.frames.specs.Bound.{sizes}
 
 -- where a body runs, in a script with these handlers, something is resolved
-pub record Somewhere (script : Checked) (holds : resolved.Surroundings → Bool) : Type 0 where
+pub record Place (script : Checked) (holds : resolved.Surroundings → Bool) : Type 0 where
   pub at : resolved.Surroundings
   pub handlers : at.handlers ≡ script.handlers
   pub holds_there : IsTrue (holds at)
+
+-- there is such a place
+abbrev pub Somewhere : Checked → (resolved.Surroundings → Bool) → Type 0
+Somewhere script holds = ∥ Place script holds ∥₁
+
+-- a resolved script, one of these
+pub record IsOf (scripts : Checked → Type 0) (script : Checked) : Type 0 where
+  pub resolved : IsResolved script
+  pub is_of : scripts script
 
 -- whatever a body names is there, where so many variables are bound
 abbrev pub IsBody : Checked → resolved.Frames → List Statement → Type 0

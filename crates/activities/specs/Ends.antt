@@ -40,7 +40,7 @@ commits Ended = true
 commits (Returned value) = true
 commits _ = false
 
--- how a client ended of which the top action came to this end
+-- how a client ended, if its top action ended so
 abbrev pub end_of : Name → Flow → ClientEnd
 end_of top Ended = Committed top None
 end_of top (Returned value) = Committed top value

@@ -8,3 +8,4 @@ pub mod Performing
 pub mod Serial
 pub mod Acting
 pub mod Runs
+pub mod Apart

@@ -1,4 +1,4 @@
--- What an activity makes of a world by steps of its own, perhaps beside the steps of others.
+-- The steps of one activity, perhaps beside the steps of others.
 use Rattle.std.specs.Prelude.{◌≡◌, ◌⊎◌, ℕ, Bool, true, false, IsTrue, List, [], ◌∷◌, ◌++◌, Option, None, Some}
 use Rattle.action_names.specs.Names.{Name, has_name}
 use Rattle.run_model.specs.declared.answer.Answer.{Answer}
@@ -15,15 +15,10 @@ use Rattle.activities.specs.OwnSteps.{IsOfAction, LeavesAlone, about}
 
 -- ---- answers
 
--- the answer is that of the step at a run that may be the one of all activities
-pub record IsAnswered (may_be : List Event → Type 0) (lists : OpeningLists) (step : Step) (answer : Answer) : Type 0 where
+-- the answer is that of the step at some history
+pub record IsAnswered (lists : OpeningLists) (step : Step) (answer : Answer) : Type 0 where
   pub past : List Event
-  pub may : may_be past
   pub answered : answer ≡ answer_of (opening_in lists) step past
-
--- nobody else makes steps: the run of all activities is this one's
-abbrev pub IsAlone : {W : Type 0} → (W → List Event → Type 0) → (W → World) → Type 0
-IsAlone {W} may_be run = (w : W) (past : List Event) → may_be w past → past ≡ (run w).past
 
 -- ---- an activity's own events, the newest first
 

@@ -20,6 +20,7 @@ use Rattle.run_model.specs.Votes.{is_yes}
 use Rattle.script_model.specs.declared.checked.Checked.{Checked}
 use Rattle.script_model.specs.declared.checked.Client.{Client}
 use Rattle.script_model.specs.declared.checked.Handler.{Handler}
+use Rattle.script_model.specs.declared.expression.Expr.{Expr}
 use Rattle.script_model.specs.declared.statement.Arm.{Arm}
 use Rattle.script_model.specs.declared.statement.Arm.TheOpen.{Statement-F}
 use Rattle.script_model.specs.declared.statement.Binding.{Binding}
@@ -332,9 +333,14 @@ abbrev pub repeated : Through → ℕ → List Statement → Doing → Done
 repeated go zero body d = record { doing = d; flow = Ended }
 repeated go (suc turns) body d = budgeted d (λ next. where_ended (inner go body next) (repeated go turns body))
 
-abbrev pub by_value : Doing → Option Value → Done
-by_value d None = record { doing = d; flow = Aborted }
-by_value d (Some v) = record { doing = d; flow = Returned (Some v) }
+-- how a body ends that returns: with the value, if one is named
+abbrev pub by_value : Option Value → Flow
+by_value None = Aborted
+by_value (Some v) = Returned (Some v)
+
+abbrev pub returned : Bound → Option Expr → Flow
+returned bound None = Returned None
+returned bound (Some e) = by_value (value_of bound e)
 
 abbrev pub opened_done : List Handler → Through → Statement-F Arm Statement → Doing → Done
 opened_done handlers go (Statement-F.Op call signals) d = op_done go call signals d
@@ -345,8 +351,7 @@ opened_done handlers go (Statement-F.TopAction body signals) d = nested_done go 
 opened_done handlers go (Statement-F.If test first second) d = by_truth go first second d (truth_of d.bound test)
 opened_done handlers go (Statement-F.Repeat turns body) d = repeated go turns body d
 opened_done handlers go Statement-F.Abort d = record { doing = d; flow = Aborted }
-opened_done handlers go (Statement-F.Return None) d = record { doing = d; flow = Returned None }
-opened_done handlers go (Statement-F.Return (Some e)) d = by_value d (value_of d.bound e)
+opened_done handlers go (Statement-F.Return e) d = record { doing = d; flow = returned d.bound e }
 
 abbrev pub statement_done : List Handler → Through → Statement → Doing → Done
 statement_done handlers go statement = opened_done handlers go (out-Statement statement)

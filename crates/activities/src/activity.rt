@@ -1,24 +1,25 @@
-ghost use Rattle.std.specs.Prelude.{◌≡◌, ◌+◌, ◌≤◌, [], ◌∷◌, false, length, reverse, slice_get, IsTrue, IfOk, None};
+ghost use Rattle.std.specs.Prelude.{◌≡◌, ◌+◌, ◌≤◌, [], ◌∷◌, false, length, reverse, slice_get, IsTrue, IfOk, IfSome, None};
 ghost use Rattle.action_names.specs.Names.{Name, has_name};
-ghost use Rattle.script_model.specs.Resolved.{IsResolved, asked, binding_is_bound, frames_after};
-ghost use Rattle.activities.specs.Bodies.{AreArms, IsBody, IsCall, IsStatement, SignalsFollow, SignalsHold, WhereEnded, Within, sizes};
-ghost use Rattle.activities.specs.Making.{IsAlone, Makes, Tells};
+ghost use Rattle.script_model.specs.Resolved.{asked, binding_is_bound, expr_is_bound, frames_after};
+ghost use Rattle.activities.specs.Bodies.{AreArms, IsBody, IsCall, IsOf, IsStatement, SignalsFollow, SignalsHold, WhereEnded, Within, body_of, sizes};
+ghost use Rattle.activities.specs.Making.{Makes, Tells};
 ghost use Rattle.activities.specs.Ends.{commits, has_committed};
-ghost use Rattle.activities.specs.Serial.{arms_run, budget, call_done, coenter_done, given_back, inner, nested_done, on_signal, repeated, run, statement_done};
+ghost use Rattle.activities.specs.Serial.{arms_run, budget, call_done, coenter_done, given_back, inner, nested_done, on_signal, repeated, returned, run, statement_done};
 ghost use Rattle.activities.specs.Acting.{ComesSo, acting, doing, done};
 ghost use Rattle.frames.specs.Operating.{given};
 ghost use Rattle.activities.specs.declared.flow.Flow.TheVariants.{Aborted, Outwards};
 ghost use Rattle.activities.specs.declared.flow.Reach.TheVariants.{TopAction};
 
 use crate::activity_steps::ActivitySteps;
+use crate::apart::{begun_arms, flow_of};
 use crate::arms::{arm_body, begin_arms};
 use crate::flow::{Flow, Reach};
-use crate::open_action::{Called, OpenAction, Reached};
+use crate::open_action::{Called, OpenAction};
 use crate::operations::{Outcome, perform};
 use action_names::Name;
 use atomic_types::Reply;
 use frames::Frames;
-use script_model::{Arm, Binding, Checked, HandlerCall, Statement};
+use script_model::{Arm, Binding, Checked, Expr, HandlerCall, Statement};
 use sqlite_items::Items;
 use std::alloc::{AllocError, Global};
 use stepping::Fault;
@@ -71,9 +72,9 @@ impl<'s> Activity<'s> {
         world: &mut W,
         action: &mut OpenAction,
         frames: &mut Frames,
-        body: &[Statement],
+        body: &'s [Statement],
     ) -> Result<Flow, Fault>
-        requires script { IsResolved self.old.script.now }
+        requires script { IsOf W.scripts self.old.script.now }
         requires body { IsBody self.old.script.now (sizes frames.old) body.now }
         ensures makes { Makes (action.old.name ∷ []) (action.old.name ∷ []) (W.run world.old) (W.run world.new) }
         ensures told { IfOk result (λ flow. Tells (commits flow) action.old.name (W.run world.old) (W.run world.new)) }
@@ -81,7 +82,7 @@ impl<'s> Activity<'s> {
         ensures script { self.new.script.now ≡ self.old.script.now }
         ensures name { action.new.name ≡ action.old.name }
         ensures home { action.new.home ≡ action.old.home }
-        ensures means { IfOk result (λ flow. IsAlone W.may_be W.run → ComesSo self.old.script.now self.old.left
+        ensures means { IfOk result (λ flow. W.alone → ComesSo self.old.script.now self.old.left
             (done (W.run world.new) self.new.left action.new frames.new flow)
             (λ go. run go (acting action.old) frames.old body.now
             (doing (W.run world.old) self.old.left action.old frames.old))) }
@@ -97,14 +98,14 @@ impl<'s> Activity<'s> {
 
     #[cycle(activity)]
     #[tactic(auto, using(crate::proofs::Making::turns))]
-    fn body<W: ActivitySteps>(
+    pub(crate) fn body<W: ActivitySteps>(
         &mut self,
         world: &mut W,
         action: &mut OpenAction,
         frames: &mut Frames,
-        body: &[Statement],
+        body: &'s [Statement],
     ) -> Result<Flow, Fault>
-        requires script { IsResolved self.old.script.now }
+        requires script { IsOf W.scripts self.old.script.now }
         requires body { IsBody self.old.script.now (sizes frames.old) body.now }
         ensures makes { Makes (action.old.name ∷ []) [] (W.run world.old) (W.run world.new) }
         ensures frames { IfOk result (λ flow. WhereEnded flow (Within (sizes frames.old) (sizes frames.new))) }
@@ -112,11 +113,14 @@ impl<'s> Activity<'s> {
         ensures script { self.new.script.now ≡ self.old.script.now }
         ensures name { action.new.name ≡ action.old.name }
         ensures home { action.new.home ≡ action.old.home }
-        ensures means { IfOk result (λ flow. IsAlone W.may_be W.run → ComesSo self.old.script.now self.old.left
+        ensures means { IfOk result (λ flow. W.alone → ComesSo self.old.script.now self.old.left
             (done (W.run world.new) self.new.left action.new frames.new flow)
             (λ go. go body.now (doing (W.run world.old) self.old.left action.old frames.old))) }
     {
         for statement in body {
+            if world.is_called_off() {
+                return Ok(Flow::Outwards(Reach::Client));
+            }
             if !self.begin() {
                 return Ok(Flow::Outwards(Reach::Client));
             }
@@ -136,9 +140,9 @@ impl<'s> Activity<'s> {
         world: &mut W,
         action: &mut OpenAction,
         frames: &mut Frames,
-        body: &[Statement],
+        body: &'s [Statement],
     ) -> Result<Flow, Fault>
-        requires script { IsResolved self.old.script.now }
+        requires script { IsOf W.scripts self.old.script.now }
         requires body { IsBody self.old.script.now (sizes frames.old) body.now }
         ensures makes { Makes (action.old.name ∷ []) [] (W.run world.old) (W.run world.new) }
         ensures frames { IfOk result (λ flow. WhereEnded flow (sizes frames.new ≡ sizes frames.old)) }
@@ -146,7 +150,7 @@ impl<'s> Activity<'s> {
         ensures script { self.new.script.now ≡ self.old.script.now }
         ensures name { action.new.name ≡ action.old.name }
         ensures home { action.new.home ≡ action.old.home }
-        ensures means { IfOk result (λ flow. IsAlone W.may_be W.run → ComesSo self.old.script.now self.old.left
+        ensures means { IfOk result (λ flow. W.alone → ComesSo self.old.script.now self.old.left
             (done (W.run world.new) self.new.left action.new frames.new flow)
             (λ go. inner go body.now
             (doing (W.run world.old) self.old.left action.old frames.old))) }
@@ -164,9 +168,9 @@ impl<'s> Activity<'s> {
         world: &mut W,
         action: &mut OpenAction,
         frames: &mut Frames,
-        statement: &Statement,
+        statement: &'s Statement,
     ) -> Result<Flow, Fault>
-        requires script { IsResolved self.old.script.now }
+        requires script { IsOf W.scripts self.old.script.now }
         requires statement { IsStatement self.old.script.now (sizes frames.old) statement.now }
         ensures makes { Makes (action.old.name ∷ []) [] (W.run world.old) (W.run world.new) }
         ensures frames { IfOk result (λ flow. WhereEnded flow (sizes frames.new ≡ (asked statement.now).after (sizes frames.old))) }
@@ -174,7 +178,7 @@ impl<'s> Activity<'s> {
         ensures script { self.new.script.now ≡ self.old.script.now }
         ensures name { action.new.name ≡ action.old.name }
         ensures home { action.new.home ≡ action.old.home }
-        ensures means { IfOk result (λ flow. IsAlone W.may_be W.run → ComesSo self.old.script.now self.old.left
+        ensures means { IfOk result (λ flow. W.alone → ComesSo self.old.script.now self.old.left
             (done (W.run world.new) self.new.left action.new frames.new flow)
             (λ go. statement_done self.old.script.now.handlers go statement.now
             (doing (W.run world.old) self.old.left action.old frames.old))) }
@@ -200,11 +204,7 @@ impl<'s> Activity<'s> {
                 self.repeat(world, action, frames, *turns, body.as_slice())
             }
             Statement::Abort => Ok(Flow::Aborted),
-            Statement::Return(None) => Ok(Flow::Returned(None)),
-            Statement::Return(Some(expr)) => match frames.value(expr)? {
-                Some(value) => Ok(Flow::Returned(Some(value))),
-                None => Ok(Flow::Aborted),
-            },
+            Statement::Return(expr) => Ok(returned(frames, expr)?),
         }
     }
 
@@ -216,9 +216,9 @@ impl<'s> Activity<'s> {
         world: &mut W,
         action: &mut OpenAction,
         frames: &mut Frames,
-        signals: &Option<Items<Statement>>,
+        signals: &'s Option<Items<Statement>>,
     ) -> Result<Flow, Fault>
-        requires script { IsResolved self.old.script.now }
+        requires script { IsOf W.scripts self.old.script.now }
         requires signals { SignalsHold self.old.script.now (sizes frames.old) signals.now }
         ensures makes { Makes (action.old.name ∷ []) [] (W.run world.old) (W.run world.new) }
         ensures frames { IfOk result (λ flow. WhereEnded flow (sizes frames.new ≡ sizes frames.old)) }
@@ -227,7 +227,7 @@ impl<'s> Activity<'s> {
         ensures script { self.new.script.now ≡ self.old.script.now }
         ensures name { action.new.name ≡ action.old.name }
         ensures home { action.new.home ≡ action.old.home }
-        ensures means { IfOk result (λ flow. IsAlone W.may_be W.run → ComesSo self.old.script.now self.old.left
+        ensures means { IfOk result (λ flow. W.alone → ComesSo self.old.script.now self.old.left
             (done (W.run world.new) self.new.left action.new frames.new flow)
             (λ go. on_signal go signals.now
             (doing (W.run world.old) self.old.left action.old frames.old))) }
@@ -246,9 +246,9 @@ impl<'s> Activity<'s> {
         action: &mut OpenAction,
         frames: &mut Frames,
         turns: u32,
-        body: &[Statement],
+        body: &'s [Statement],
     ) -> Result<Flow, Fault>
-        requires script { IsResolved self.old.script.now }
+        requires script { IsOf W.scripts self.old.script.now }
         requires body { IsBody self.old.script.now (sizes frames.old) body.now }
         ensures makes { Makes (action.old.name ∷ []) [] (W.run world.old) (W.run world.new) }
         ensures frames { IfOk result (λ flow. WhereEnded flow (sizes frames.new ≡ sizes frames.old)) }
@@ -256,7 +256,7 @@ impl<'s> Activity<'s> {
         ensures script { self.new.script.now ≡ self.old.script.now }
         ensures name { action.new.name ≡ action.old.name }
         ensures home { action.new.home ≡ action.old.home }
-        ensures means { IfOk result (λ flow. IsAlone W.may_be W.run → ComesSo self.old.script.now self.old.left
+        ensures means { IfOk result (λ flow. W.alone → ComesSo self.old.script.now self.old.left
             (done (W.run world.new) self.new.left action.new frames.new flow)
             (λ go. repeated go turns body.now
             (doing (W.run world.old) self.old.left action.old frames.old))) }
@@ -282,9 +282,9 @@ impl<'s> Activity<'s> {
         action: &mut OpenAction,
         frames: &mut Frames,
         call: &HandlerCall,
-        signals: &Option<Items<Statement>>,
+        signals: &'s Option<Items<Statement>>,
     ) -> Result<Flow, Fault>
-        requires script { IsResolved self.old.script.now }
+        requires script { IsOf W.scripts self.old.script.now }
         requires call { IsCall self.old.script.now (sizes frames.old) call.now }
         requires signals { SignalsFollow self.old.script.now (sizes frames.old) call.now.binding signals.now }
         ensures makes { Makes (action.old.name ∷ []) [] (W.run world.old) (W.run world.new) }
@@ -293,7 +293,7 @@ impl<'s> Activity<'s> {
         ensures script { self.new.script.now ≡ self.old.script.now }
         ensures name { action.new.name ≡ action.old.name }
         ensures home { action.new.home ≡ action.old.home }
-        ensures means { IfOk result (λ flow. IsAlone W.may_be W.run → ComesSo self.old.script.now self.old.left
+        ensures means { IfOk result (λ flow. W.alone → ComesSo self.old.script.now self.old.left
             (done (W.run world.new) self.new.left action.new frames.new flow)
             (λ go. call_done go (slice_get self.old.script.now.handlers call.now.handler) call.now signals.now
             (given frames.old call.now)
@@ -304,7 +304,7 @@ impl<'s> Activity<'s> {
         let Some(mut inside) = frames.arguments(self.alloc, call)? else {
             return Ok(Flow::Aborted);
         };
-        let reached = Reached::new(self.alloc, handler.guardian)?;
+        let reached = action.reached_by_call(self.alloc, handler.guardian)?;
         let name = match action.begin_call(world, handler.guardian)? {
             Called::Began(name) => name,
             Called::Signalled => return self.run_signals(world, action, frames, signals),
@@ -331,10 +331,10 @@ impl<'s> Activity<'s> {
         world: &mut W,
         action: &mut OpenAction,
         frames: &mut Frames,
-        body: &[Statement],
-        signals: &[Statement],
+        body: &'s [Statement],
+        signals: &'s [Statement],
     ) -> Result<Flow, Fault>
-        requires script { IsResolved self.old.script.now }
+        requires script { IsOf W.scripts self.old.script.now }
         requires body { IsBody self.old.script.now (sizes frames.old) body.now }
         requires signals { IsBody self.old.script.now (sizes frames.old) signals.now }
         ensures makes { Makes (action.old.name ∷ []) [] (W.run world.old) (W.run world.new) }
@@ -343,13 +343,13 @@ impl<'s> Activity<'s> {
         ensures script { self.new.script.now ≡ self.old.script.now }
         ensures name { action.new.name ≡ action.old.name }
         ensures home { action.new.home ≡ action.old.home }
-        ensures means { IfOk result (λ flow. IsAlone W.may_be W.run → ComesSo self.old.script.now self.old.left
+        ensures means { IfOk result (λ flow. W.alone → ComesSo self.old.script.now self.old.left
             (done (W.run world.new) self.new.left action.new frames.new flow)
             (λ go. nested_done go body.now signals.now
             (doing (W.run world.old) self.old.left action.old frames.old))) }
     {
         let mut inside = frames.copy()?;
-        let reached = Reached::new(self.alloc, action.home)?;
+        let reached = action.reached_by_nested(self.alloc)?;
         let Some(name) = action.begin_nested(world)? else {
             return Ok(Flow::Aborted);
         };
@@ -368,9 +368,9 @@ impl<'s> Activity<'s> {
         world: &mut W,
         action: &mut OpenAction,
         frames: &mut Frames,
-        arms: &[Arm],
+        arms: &'s [Arm],
     ) -> Result<Flow, Fault>
-        requires script { IsResolved self.old.script.now }
+        requires script { IsOf W.scripts self.old.script.now }
         requires arms { AreArms self.old.script.now (sizes frames.old) arms.now }
         ensures makes { Makes (action.old.name ∷ []) [] (W.run world.old) (W.run world.new) }
         ensures frames { IfOk result (λ flow. WhereEnded flow (sizes frames.new ≡ sizes frames.old)) }
@@ -378,7 +378,7 @@ impl<'s> Activity<'s> {
         ensures script { self.new.script.now ≡ self.old.script.now }
         ensures name { action.new.name ≡ action.old.name }
         ensures home { action.new.home ≡ action.old.home }
-        ensures means { IfOk result (λ flow. IsAlone W.may_be W.run → ComesSo self.old.script.now self.old.left
+        ensures means { IfOk result (λ flow. W.alone → ComesSo self.old.script.now self.old.left
             (done (W.run world.new) self.new.left action.new frames.new flow)
             (λ go. coenter_done go arms.now
             (doing (W.run world.old) self.old.left action.old frames.old))) }
@@ -386,11 +386,51 @@ impl<'s> Activity<'s> {
         let Some(mut waiting) = begin_arms(self.alloc, world, action, arms)? else {
             return Ok(Flow::Aborted);
         };
-        let ran = self.run_arms(world, action, frames, arms, &mut waiting);
+        let ran = self.arms(world, action, frames, arms, &mut waiting);
         let aborted = action.abort_arms(world, waiting.as_slice());
         let flow = ran?;
         aborted?;
         Ok(flow)
+    }
+
+    /// Runs the arms, apart where that is how arms run, and else in order.
+    #[cycle(activity)]
+    #[tactic(auto, using(crate::proofs::Making::turns))]
+    fn arms<W: ActivitySteps>(
+        &mut self,
+        world: &mut W,
+        action: &mut OpenAction,
+        frames: &mut Frames,
+        arms: &'s [Arm],
+        waiting: &mut Vec<Name>,
+    ) -> Result<Flow, Fault>
+        requires script { IsOf W.scripts self.old.script.now }
+        requires arms { AreArms self.old.script.now (sizes frames.old) arms.now }
+        requires each { length waiting.old.items ≡ length arms.now }
+        ensures makes { Makes waiting.old.items waiting.old.items (W.run world.old) (W.run world.new) }
+        ensures rest { (a : Name) → IsTrue (has_name waiting.new.items a) → IsTrue (has_name waiting.old.items a) }
+        ensures frames { sizes frames.new ≡ sizes frames.old }
+        ensures left { self.new.left ≤ self.old.left }
+        ensures script { self.new.script.now ≡ self.old.script.now }
+        ensures name { action.new.name ≡ action.old.name }
+        ensures home { action.new.home ≡ action.old.home }
+        ensures means { IfOk result (λ flow. W.alone → ComesSo self.old.script.now self.old.left
+            (done (W.run world.new) self.new.left action.new frames.new flow, reverse waiting.new.items)
+            (λ go. arms_run go arms.now (reverse waiting.old.items)
+            (doing (W.run world.old) self.old.left action.old frames.old))) }
+    {
+        if !world.has_arms_apart() {
+            return self.run_arms(world, action, frames, arms, waiting);
+        }
+        let begun = begun_arms(self.alloc, action, frames, arms, waiting)?;
+        let ended = world.run_arms(begun)?;
+        let count = ended.len();
+        waiting.truncate(waiting.len() - count);
+        let (_, rest) = arms.split_at(count);
+        match flow_of(action, ended)? {
+            Flow::Ended => self.run_arms(world, action, frames, rest, waiting),
+            flow => Ok(flow),
+        }
     }
 
     /// Runs the arms in order, to the first that returns or is left. Each is over a copy of the variables. Of the names that are waiting
@@ -402,10 +442,10 @@ impl<'s> Activity<'s> {
         world: &mut W,
         action: &mut OpenAction,
         frames: &mut Frames,
-        arms: &[Arm],
+        arms: &'s [Arm],
         waiting: &mut Vec<Name>,
     ) -> Result<Flow, Fault>
-        requires script { IsResolved self.old.script.now }
+        requires script { IsOf W.scripts self.old.script.now }
         requires arms { AreArms self.old.script.now (sizes frames.old) arms.now }
         requires each { length waiting.old.items ≡ length arms.now }
         ensures makes { Makes waiting.old.items waiting.old.items (W.run world.old) (W.run world.new) }
@@ -415,14 +455,14 @@ impl<'s> Activity<'s> {
         ensures script { self.new.script.now ≡ self.old.script.now }
         ensures name { action.new.name ≡ action.old.name }
         ensures home { action.new.home ≡ action.old.home }
-        ensures means { IfOk result (λ flow. IsAlone W.may_be W.run → ComesSo self.old.script.now self.old.left
+        ensures means { IfOk result (λ flow. W.alone → ComesSo self.old.script.now self.old.left
             (done (W.run world.new) self.new.left action.new frames.new flow, reverse waiting.new.items)
             (λ go. arms_run go arms.now (reverse waiting.old.items)
             (doing (W.run world.old) self.old.left action.old frames.old))) }
     {
         for arm in arms {
             let mut inside = frames.copy()?;
-            let reached = Reached::new(self.alloc, action.home)?;
+            let reached = action.reached_by_arm(self.alloc, arm)?;
             let mut child = OpenAction::new(waiting.pop().unwrap(), action.home, reached);
             let ended = self.run(world, &mut child, &mut inside, arm_body(arm));
             let taken = match arm {
@@ -444,6 +484,20 @@ fn wait() -> Flow
     ensures { result ≡ Outwards TopAction }
 {
     Flow::Outwards(Reach::TopAction)
+}
+
+/// How a body ends that returns: with the value, if the statement names one. A sum or a difference out of 64 bits aborts.
+fn returned(frames: &Frames, expr: &Option<Expr>) -> Result<Flow, AllocError>
+    requires { IfSome expr.now (λ expr. IsTrue (expr_is_bound (sizes frames.now) expr)) }
+    ensures { IfOk result (λ flow. flow ≡ returned frames.now expr.now) }
+{
+    let Some(expr) = expr else {
+        return Ok(Flow::Returned(None));
+    };
+    match frames.value(expr)? {
+        Some(value) => Ok(Flow::Returned(Some(value))),
+        None => Ok(Flow::Aborted),
+    }
 }
 
 /// Binds what a handler gave back, a value if it gave one. Where that does not fit the binding, the innermost action aborts.
@@ -469,7 +523,7 @@ fn bind_value(
 }
 
 /// Whether an action that came to this end committed.
-fn has_committed(ended: &Result<Flow, Fault>) -> bool
+pub(crate) fn has_committed(ended: &Result<Flow, Fault>) -> bool
     ensures { result ≡ has_committed ended.now }
 {
     matches!(ended, Ok(Flow::Ended) | Ok(Flow::Returned(_)))

@@ -1,7 +1,7 @@
 ghost use Rattle.std.specs.Prelude.{◌≡◌, [], ◌∷◌, length, option_map, reverse, IfOk, IfSome, OnOk};
 ghost use Rattle.run_model.specs.declared.step.Step.TheVariants.{Arms};
 ghost use Rattle.activities.specs.Bodies.{body_of, kind_of, kinds};
-ghost use Rattle.activities.specs.Making.{Begins, IsAlone, Makes};
+ghost use Rattle.activities.specs.Making.{Begins, Makes};
 ghost use Rattle.activities.specs.Serial.{after, asked, waiting_by};
 
 use crate::activity_steps::ActivitySteps;
@@ -20,12 +20,12 @@ pub(crate) fn begin_arms<W: ActivitySteps>(
     arms: &[Arm],
 ) -> Result<Option<Vec<Name>>, Fault>
     ensures makes { Makes (action.now.name ∷ []) [] (W.run world.old) (W.run world.new) }
-    ensures together { OnOk result (IsAlone W.may_be W.run
+    ensures together { OnOk result (W.alone
         → W.run world.new ≡ after (Arms action.now.name (kinds arms.now)) (W.run world.old)) }
     ensures each { IfOk result (λ found. IfSome found (λ names. length names.items ≡ length arms.now)) }
     ensures began { IfOk result (λ found. IfSome found
         (λ names. Begins (action.now.name ∷ []) [] names.items (W.run world.old) (W.run world.new))) }
-    ensures waiting { IfOk result (λ found. IsAlone W.may_be W.run → option_map (λ names. reverse names.items) found
+    ensures waiting { IfOk result (λ found. W.alone → option_map (λ names. reverse names.items) found
         ≡ waiting_by (asked (Arms action.now.name (kinds arms.now)) (W.run world.old))) }
 {
     let kinds = arm_kinds(alloc, arms)?;

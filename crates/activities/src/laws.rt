@@ -1,8 +1,7 @@
 ghost use Rattle.activities.specs.Making.{EarlierIsLeftAlone};
 ghost use Rattle.activities.specs.Runs.{SerialRunsAreRun};
 
-/// Of the actions that were begun before clients ran, none has been committed, aborted or closed since, and no guardian went down or came
-/// up.
+/// Clients commit, abort and close no action that began before them. No guardian goes down or comes up by their steps.
 pub fn earlier_is_left_alone()
     ensures { EarlierIsLeftAlone }
 {}

@@ -1,11 +1,11 @@
-ghost use Rattle.std.specs.Prelude.{◌≡◌, [], ◌∷◌, List, IsTrue, length, reverse, IfOk, OnOk, OnErr};
+ghost use Rattle.std.specs.Prelude.{◌≡◌, [], ◌∷◌, ◌++◌, List, IsTrue, length, reverse, IfOk, OnOk, OnErr};
 ghost use Rattle.action_names.specs.Names.{Name, is_top};
 ghost use Rattle.run_model.specs.declared.answer.Answer.TheVariants.{Began};
 ghost use Rattle.run_model.specs.declared.step.Step.TheVariants.{Abort, Call, NestedTop, Prepare, Tell};
 ghost use Rattle.run_model.specs.Actions.{names_begun};
 ghost use Rattle.run_model.specs.Runs.{world_after};
 ghost use Rattle.run_model.specs.Votes.{is_yes};
-ghost use Rattle.activities.specs.Making.{Begins, IsAlone, IsAnswered, Makes, Tells, commits_of};
+ghost use Rattle.activities.specs.Making.{Begins, IsAnswered, Makes, Tells, commits_of};
 ghost use Rattle.activities.specs.OwnSteps.{IsOfAction, about};
 ghost use Rattle.activities.specs.Reaching.{is_made};
 ghost use Rattle.activities.specs.Ends.{called, commits, named_by};
@@ -20,24 +20,28 @@ use crate::flow::{Flow, Reach};
 use action_names::{Name, Names};
 use atomic_types::Op;
 use run_model::{Answer, ObjectId, Refusal, Step};
+use script_model::Arm;
 use std::alloc::{AllocError, Global};
 use std::collections::BTreeSet;
 use stepping::Fault;
 
-/// Guardians that an action has to do with, in rising number.
+/// Guardians that an action has to do with, in rising number, and starters.
 #[derive(Drop)]
 pub(crate) struct Reached {
     /// Those that are home to it or a descendant.
     homes: BTreeSet<u32>,
     /// Its home and those of what was committed into it.
     participants: BTreeSet<u32>,
+    /// The starters of the nested top actions in which it runs, the outermost first.
+    starters: Names,
 }
 
 impl Reached {
     /// What an action has to do with when it begins at this home.
-    pub(crate) fn new(alloc: Global, home: u32) -> Result<Reached, AllocError>
+    pub(crate) fn new(alloc: Global, home: u32, starters: Names) -> Result<Reached, AllocError>
         ensures homes { IfOk result (λ reached. reached.homes.keys ≡ home ∷ []) }
         ensures participants { IfOk result (λ reached. reached.participants.keys ≡ home ∷ []) }
+        ensures starters { IfOk result (λ reached. reached.starters ≡ starters) }
     {
         let mut homes = BTreeSet::new(alloc);
         homes.insert(home)?;
@@ -46,6 +50,7 @@ impl Reached {
         Ok(Reached {
             homes,
             participants,
+            starters,
         })
     }
 }
@@ -80,6 +85,37 @@ impl OpenAction {
         }
     }
 
+    /// What a subaction at this home has to do with when it begins.
+    pub(crate) fn reached_by_call(&self, alloc: Global, home: u32) -> Result<Reached, AllocError>
+        ensures homes { IfOk result (λ reached. reached.homes.keys ≡ home ∷ []) }
+        ensures participants { IfOk result (λ reached. reached.participants.keys ≡ home ∷ []) }
+        ensures starters { IfOk result (λ reached. reached.starters ≡ self.now.reached.starters) }
+    {
+        Reached::new(alloc, home, self.reached.starters.copy()?)
+    }
+
+    /// What a nested top action that it starts has to do with when that begins.
+    pub(crate) fn reached_by_nested(&self, alloc: Global) -> Result<Reached, AllocError>
+        ensures homes { IfOk result (λ reached. reached.homes.keys ≡ self.now.home ∷ []) }
+        ensures participants { IfOk result (λ reached. reached.participants.keys ≡ self.now.home ∷ []) }
+        ensures starters { IfOk result (λ reached. reached.starters ≡ self.now.reached.starters ++ self.now.name ∷ []) }
+    {
+        let mut starters = self.reached.starters.copy()?;
+        starters.push(self.name.copy()?)?;
+        Reached::new(alloc, self.home, starters)
+    }
+
+    /// What an arm of it has to do with when it begins.
+    pub(crate) fn reached_by_arm(&self, alloc: Global, arm: &Arm) -> Result<Reached, AllocError>
+        ensures homes { IfOk result (λ reached. reached.homes.keys ≡ self.now.home ∷ []) }
+        ensures participants { IfOk result (λ reached. reached.participants.keys ≡ self.now.home ∷ []) }
+    {
+        match arm {
+            Arm::Sub(_) => self.reached_by_call(alloc, self.home),
+            Arm::Top(_) => self.reached_by_nested(alloc),
+        }
+    }
+
     /// Begins a subaction of it at a guardian.
     pub(crate) fn begin_call<W: ActivitySteps>(
         &self,
@@ -88,9 +124,9 @@ impl OpenAction {
     ) -> Result<Called, Fault>
         ensures makes { Makes (self.now.name ∷ []) [] (W.run world.old) (W.run world.new) }
         ensures began { IfOk result (λ c. Begins (self.now.name ∷ []) [] (called c) (W.run world.old) (W.run world.new)) }
-        ensures made { OnOk result (IsAlone W.may_be W.run
+        ensures made { OnOk result (W.alone
             → W.run world.new ≡ after (Call self.now.name guardian) (W.run world.old)) }
-        ensures called { IfOk result (λ c. IsAlone W.may_be W.run
+        ensures called { IfOk result (λ c. W.alone
             → c ≡ called_by (asked (Call self.now.name guardian) (W.run world.old))) }
     {
         let answer = make(world, Step::Call(self.name.copy()?, guardian))?;
@@ -105,9 +141,9 @@ impl OpenAction {
         ensures makes { Makes (self.now.name ∷ []) [] (W.run world.old) (W.run world.new) }
         ensures began { IfOk result (λ found. Begins (self.now.name ∷ []) [] (named_by found) (W.run world.old)
             (W.run world.new)) }
-        ensures made { OnOk result (IsAlone W.may_be W.run
+        ensures made { OnOk result (W.alone
             → W.run world.new ≡ after (NestedTop self.now.name) (W.run world.old)) }
-        ensures begun { IfOk result (λ found. IsAlone W.may_be W.run
+        ensures begun { IfOk result (λ found. W.alone
             → found ≡ begun_by (asked (NestedTop self.now.name) (W.run world.old))) }
     {
         let answer = make(world, Step::NestedTop(self.name.copy()?))?;
@@ -122,9 +158,9 @@ impl OpenAction {
         operation: Op,
     ) -> Result<Answer, Fault>
         ensures makes { Makes (self.now.name ∷ []) [] (W.run world.old) (W.run world.new) }
-        ensures after { OnOk result (IsAlone W.may_be W.run
+        ensures after { OnOk result (W.alone
             → W.run world.new ≡ after (op_step self.now.name self.now.home object operation) (W.run world.old)) }
-        ensures answer { IfOk result (λ answer. IsAlone W.may_be W.run
+        ensures answer { IfOk result (λ answer. W.alone
             → answer ≡ asked (op_step self.now.name self.now.home object operation) (W.run world.old)) }
         ensures err { OnErr result (W.run world.new ≡ W.run world.old) }
     {
@@ -132,7 +168,12 @@ impl OpenAction {
             guardian: self.home,
             number: object,
         };
-        make(world, Step::Op(self.name.copy()?, object, operation))
+        world.operate(
+            &self.name,
+            object,
+            operation,
+            self.reached.starters.as_slice(),
+        )
     }
 
     /// Learns where a subaction of it, which has ended, and the descendants of that had their homes, and where it committed from.
@@ -153,7 +194,7 @@ impl OpenAction {
     pub(crate) fn end<W: ActivitySteps>(&self, world: &mut W, flow: Flow) -> Result<Flow, Fault>
         ensures makes { Makes (self.now.name ∷ []) (self.now.name ∷ []) (W.run world.old) (W.run world.new) }
         ensures told { IfOk result (λ end. Tells (commits end) self.now.name (W.run world.old) (W.run world.new)) }
-        ensures means { IfOk result (λ end. IsAlone W.may_be W.run → record { world = W.run world.new; flow = end }
+        ensures means { IfOk result (λ end. W.alone → record { world = W.run world.new; flow = end }
             ≡ ended (acting self.now) flow (W.run world.old)) }
     {
         match self.try_end(world, wants_commit(&flow)) {
@@ -171,7 +212,7 @@ impl OpenAction {
         ensures makes { Makes (self.now.name ∷ []) (self.now.name ∷ []) (W.run world.old) (W.run world.new) }
         ensures told { IfOk result (λ done. Tells done self.now.name (W.run world.old) (W.run world.new)) }
         ensures wanted { IfOk result (λ done. IsTrue done → IsTrue wanted) }
-        ensures means { IfOk result (λ done. IsAlone W.may_be W.run → record { world = W.run world.new; done = done }
+        ensures means { IfOk result (λ done. W.alone → record { world = W.run world.new; done = done }
             ≡ end_tried (acting self.now) wanted (W.run world.old)) }
     {
         if wanted {
@@ -185,7 +226,7 @@ impl OpenAction {
     fn commit_or_abort<W: ActivitySteps>(&self, world: &mut W) -> Result<bool, Fault>
         ensures makes { Makes (self.now.name ∷ []) (self.now.name ∷ []) (W.run world.old) (W.run world.new) }
         ensures told { IfOk result (λ done. Tells done self.now.name (W.run world.old) (W.run world.new)) }
-        ensures means { IfOk result (λ done. IsAlone W.may_be W.run → record { world = W.run world.new; done = done }
+        ensures means { IfOk result (λ done. W.alone → record { world = W.run world.new; done = done }
             ≡ or_aborted (acting self.now) (committed (acting self.now) (W.run world.old))) }
     {
         if self.commit(world)? {
@@ -213,7 +254,7 @@ impl OpenAction {
     fn commit<W: ActivitySteps>(&self, world: &mut W) -> Result<bool, Fault>
         ensures makes { Makes (self.now.name ∷ []) (self.now.name ∷ []) (W.run world.old) (W.run world.new) }
         ensures told { IfOk result (λ done. Tells done self.now.name (W.run world.old) (W.run world.new)) }
-        ensures means { IfOk result (λ done. IsAlone W.may_be W.run → record { world = W.run world.new; done = done }
+        ensures means { IfOk result (λ done. W.alone → record { world = W.run world.new; done = done }
             ≡ committed (acting self.now) (W.run world.old)) }
     {
         if !self.try_commit(world)? {
@@ -227,7 +268,7 @@ impl OpenAction {
     fn try_commit<W: ActivitySteps>(&self, world: &mut W) -> Result<bool, Fault>
         ensures makes { Makes (self.now.name ∷ []) (self.now.name ∷ []) (W.run world.old) (W.run world.new) }
         ensures told { IfOk result (λ done. Tells done self.now.name (W.run world.old) (W.run world.new)) }
-        ensures means { IfOk result (λ done. IsAlone W.may_be W.run → record { world = W.run world.new; done = done }
+        ensures means { IfOk result (λ done. W.alone → record { world = W.run world.new; done = done }
             ≡ commit_tried (acting self.now) (W.run world.old)) }
     {
         if self.name.is_top() {
@@ -241,7 +282,7 @@ impl OpenAction {
     fn commit_top<W: ActivitySteps>(&self, world: &mut W) -> Result<bool, Fault>
         ensures makes { Makes (self.now.name ∷ []) (self.now.name ∷ []) (W.run world.old) (W.run world.new) }
         ensures told { IfOk result (λ done. Tells done self.now.name (W.run world.old) (W.run world.new)) }
-        ensures means { IfOk result (λ done. IsAlone W.may_be W.run → record { world = W.run world.new; done = done }
+        ensures means { IfOk result (λ done. W.alone → record { world = W.run world.new; done = done }
             ≡ two_phases (acting self.now) (W.run world.old)) }
     {
         if !try_step(world, Step::Close(self.name.copy()?))? {
@@ -258,22 +299,22 @@ impl OpenAction {
     /// Aborts it, and tells so.
     pub(crate) fn abort<W: ActivitySteps>(&self, world: &mut W) -> Result<(), Fault>
         ensures makes { Makes (self.now.name ∷ []) [] (W.run world.old) (W.run world.new) }
-        ensures means { OnOk result (IsAlone W.may_be W.run → W.run world.new
+        ensures means { OnOk result (W.alone → W.run world.new
             ≡ aborted (acting self.now) (W.run world.old)) }
     {
         try_step(world, Step::Abort(self.name.copy()?))?;
         tell(world, &self.name, &self.reached.homes)
     }
 
-    /// Aborts arms of it that have not run, of which the last is the first to be aborted, and tells so. Also after an error the others are
-    /// aborted.
+    /// Aborts its arms that have not run, the last one first, and tells so. After an error the other arms are aborted all the
+    /// same.
     pub(crate) fn abort_arms<W: ActivitySteps>(
         &self,
         world: &mut W,
         arms: &[Name],
     ) -> Result<(), Fault>
         ensures makes { Makes arms.now [] (W.run world.old) (W.run world.new) }
-        ensures means { OnOk result (IsAlone W.may_be W.run → W.run world.new
+        ensures means { OnOk result (W.alone → W.run world.new
             ≡ arms_aborted self.now.home (reverse arms.now) (W.run world.old)) }
     {
         let mut fault = Ok(());
@@ -287,7 +328,7 @@ impl OpenAction {
 /// Aborts an action that has done nothing yet, and tells its home.
 fn abort_at_home<W: ActivitySteps>(world: &mut W, action: &Name, home: u32) -> Result<(), Fault>
     ensures makes { Makes (action.now ∷ []) [] (W.run world.old) (W.run world.new) }
-    ensures means { OnOk result (IsAlone W.may_be W.run → W.run world.new
+    ensures means { OnOk result (W.alone → W.run world.new
         ≡ after (Tell home action.now) (after (Abort action.now) (W.run world.old))) }
 {
     try_step(world, Step::Abort(action.copy()?))?;
@@ -302,7 +343,7 @@ fn tell<W: ActivitySteps>(
     guardians: &BTreeSet<u32>,
 ) -> Result<(), Fault>
     ensures makes { Makes (action.now ∷ []) [] (W.run world.old) (W.run world.new) }
-    ensures means { OnOk result (IsAlone W.may_be W.run → W.run world.new
+    ensures means { OnOk result (W.alone → W.run world.new
         ≡ once_told action.now guardians.now.keys (W.run world.old)) }
 {
     for guardian in guardians {
@@ -323,7 +364,7 @@ fn what_came(answer: Answer) -> Called
     }
 }
 
-/// The action that an answer began, of which there is one at most.
+/// The action that an answer began: one at most.
 pub(crate) fn begun_by(answer: Answer) -> Option<Name>
     requires { (names : List Name) → answer ≡ Began names → length names ≡ 1 }
     ensures { result ≡ begun_by answer }
@@ -337,9 +378,9 @@ pub(crate) fn begun_by(answer: Answer) -> Option<Name>
 /// Asks a guardian for its vote on a top action; whether that is yes.
 fn prepare<W: ActivitySteps>(world: &mut W, guardian: u32, top: &Name) -> Result<bool, Fault>
     ensures makes { Makes (top.now ∷ []) [] (W.run world.old) (W.run world.new) }
-    ensures after { OnOk result (IsAlone W.may_be W.run
+    ensures after { OnOk result (W.alone
         → W.run world.new ≡ after (Prepare guardian top.now) (W.run world.old)) }
-    ensures yes { IfOk result (λ yes. IsAlone W.may_be W.run
+    ensures yes { IfOk result (λ yes. W.alone
         → yes ≡ is_yes (asked (Prepare guardian top.now) (W.run world.old))) }
 {
     let vote = make(world, Step::Prepare(guardian, top.copy()?))?;
@@ -352,8 +393,8 @@ fn try_step<W: ActivitySteps>(world: &mut W, step: Step) -> Result<bool, Fault>
     ensures makes { Makes (about step) (commits_of step) (W.run world.old) (W.run world.new) }
     ensures told { IfOk result (λ done. (a : Name) → about step ≡ a ∷ [] → commits_of step ≡ a ∷ []
         → Tells done a (W.run world.old) (W.run world.new)) }
-    ensures after { OnOk result (IsAlone W.may_be W.run → W.run world.new ≡ after step (W.run world.old)) }
-    ensures done { IfOk result (λ done. IsAlone W.may_be W.run → done ≡ is_made (asked step (W.run world.old))) }
+    ensures after { OnOk result (W.alone → W.run world.new ≡ after step (W.run world.old)) }
+    ensures done { IfOk result (λ done. W.alone → done ≡ is_made (asked step (W.run world.old))) }
 {
     let answer = make(world, step)?;
     Ok(is_done(answer))
@@ -382,7 +423,7 @@ fn add_all(to: &mut BTreeSet<u32>, guardians: &BTreeSet<u32>) -> Result<(), Allo
     Ok(())
 }
 
-/// The name, of which there is one.
+/// The one name.
 fn only(names: Names) -> Name
     requires { length names ≡ 1 }
     ensures { names ≡ result ∷ [] }
@@ -396,9 +437,9 @@ pub(crate) fn make<W: ActivitySteps>(world: &mut W, step: Step) -> Result<Answer
     ensures makes { Makes (about step) (commits_of step) (W.run world.old) (W.run world.new) }
     ensures began { IfOk result (λ answer. Begins (about step) (commits_of step) (names_begun answer)
         (W.run world.old) (W.run world.new)) }
-    ensures answered { IfOk result (IsAnswered (W.may_be world.old) (W.run world.old).lists step) }
+    ensures answered { IfOk result (IsAnswered (W.run world.old).lists step) }
     ensures after { IfOk result (λ answer. W.run world.new ≡ world_after (W.run world.old) step answer) }
-    ensures alone { IfOk result (λ answer. IsAlone W.may_be W.run → answer ≡ asked step (W.run world.old)) }
+    ensures alone { IfOk result (λ answer. W.alone → answer ≡ asked step (W.run world.old)) }
     ensures err { OnErr result (W.run world.new ≡ W.run world.old) }
 {
     world.make_step(&step)

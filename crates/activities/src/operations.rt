@@ -1,7 +1,7 @@
 ghost use Rattle.std.specs.Prelude.{◌≡◌, ◌⊎◌, [], ◌∷◌, IsTrue, IfOk, OnErr, OnOk};
 ghost use Rattle.script_model.specs.Resolved.{binding_is_bound};
 ghost use Rattle.activities.specs.Bodies.{IsOp, IsOutcome, sizes};
-ghost use Rattle.activities.specs.Making.{IsAlone, Makes};
+ghost use Rattle.activities.specs.Making.{Makes};
 ghost use Rattle.activities.specs.Performing.{IsAfterAny, by_reply, outcome_of, step_for};
 
 use crate::activity_steps::ActivitySteps;
@@ -22,8 +22,8 @@ pub(crate) enum Outcome {
     Waits,
 }
 
-/// Makes an operation, and binds what it replies. After an error the variables are as they were, and the world too, unless memory was
-/// wanting for a variable: then the step was made.
+/// Makes an operation, and binds what it replies. After an error the variables are as they were. The world is as it was too, unless
+/// memory ran out for a variable: then the step was made.
 #[tactic(auto, using(crate::proofs::Performing::comings))]
 pub(crate) fn perform<W: ActivitySteps>(
     world: &mut W,
@@ -34,13 +34,13 @@ pub(crate) fn perform<W: ActivitySteps>(
     requires call { IsOp (sizes frames.old) call.now }
     ensures makes { Makes (action.now.name ∷ []) [] (W.run world.old) (W.run world.new) }
     ensures frames { IfOk result (λ done. IsOutcome done call.now.binding (sizes frames.old) (sizes frames.new)) }
-    ensures made { OnOk result (IsAlone W.may_be W.run → IsAfterAny
+    ensures made { OnOk result (W.alone → IsAfterAny
         (step_for action.now.name action.now.home frames.old call.now) (W.run world.old) (W.run world.new)) }
-    ensures outcome { IfOk result (λ done. IsAlone W.may_be W.run → (done, frames.new)
+    ensures outcome { IfOk result (λ done. W.alone → (done, frames.new)
         ≡ outcome_of (W.run world.old) frames.old call.now.binding
         (step_for action.now.name action.now.home frames.old call.now)) }
     ensures unbound { OnErr result (frames.new ≡ frames.old) }
-    ensures err { OnErr result (IsAlone W.may_be W.run → (W.run world.new ≡ W.run world.old)
+    ensures err { OnErr result (W.alone → (W.run world.new ≡ W.run world.old)
         ⊎ IsAfterAny (step_for action.now.name action.now.home frames.old call.now) (W.run world.old) (W.run world.new)) }
 {
     let Some(operation) = frames.operation(&call.operation)? else {

@@ -1,8 +1,9 @@
 ghost use Rattle.std.specs.Prelude.{◌≡◌, IfOk, IsTrue, OnErr, OnOk, Option};
 ghost use Rattle.action_names.specs.Names.{Name};
 ghost use Rattle.script_model.specs.Resolved.{IsResolved, is_resolved_client};
+ghost use Rattle.activities.specs.Bodies.{IsOf};
 ghost use Rattle.activities.specs.Ends.{AreTried, ClientMade, IsTopAt, IsTopOrNothing, end_of, top_of};
-ghost use Rattle.activities.specs.Making.{ClientMakes, IsAlone, once_begun};
+ghost use Rattle.activities.specs.Making.{ClientMakes, once_begun};
 ghost use Rattle.activities.specs.Serial.{after, asked, begun_by, client_ran, serial_run};
 ghost use Rattle.run_model.specs.declared.step.Step.TheVariants.{Top};
 
@@ -11,7 +12,7 @@ use crate::activity_steps::ActivitySteps;
 use crate::client::ClientEnd;
 use crate::flow::Flow;
 use crate::open_action::{OpenAction, Reached, begun_by};
-use action_names::Name;
+use action_names::{Name, Names};
 use frames::Frames;
 use run_model::Step;
 use script_model::{Checked, Client};
@@ -50,22 +51,22 @@ pub fn run_serial<W: MakesSteps>(
 }
 
 /// Runs one client, and says how it ended. After an error its open actions have aborted as far as that succeeded.
-fn run_client<W: ActivitySteps>(
+pub fn run_client<W: ActivitySteps>(
     alloc: Global,
     world: &mut W,
     script: &Checked,
     client: &Client,
 ) -> Result<ClientEnd, Fault>
-    requires script { IsResolved script.now }
+    requires script { IsOf W.scripts script.now }
     requires client { IsTrue (is_resolved_client script.now client.now) }
     ensures made { IfOk result (λ end. ClientMade client.now.home end (W.run world.old) (W.run world.new)) }
-    ensures top { IfOk result (λ end. IsAlone W.may_be W.run → IsTopAt client.now.home (W.run world.old) (top_of end)) }
-    ensures ok { IfOk result (λ end. IsAlone W.may_be W.run
+    ensures top { IfOk result (λ end. W.alone → IsTopAt client.now.home (W.run world.old) (top_of end)) }
+    ensures ok { IfOk result (λ end. W.alone
         → (W.run world.new, end) ≡ client_ran script.now.handlers client.now (W.run world.old)) }
     ensures cut { OnErr result ((top : Option Name) × ClientMakes client.now.home top (W.run world.old) (W.run world.new)
-        × (IsAlone W.may_be W.run → IsTopOrNothing client.now.home (W.run world.old) top)) }
+        × (W.alone → IsTopOrNothing client.now.home (W.run world.old) top)) }
 {
-    let reached = Reached::new(alloc, client.home)?;
+    let reached = Reached::new(alloc, client.home, Names::new(alloc))?;
     let Some(name) = begin_top(world, client.home)? else {
         return Ok(ClientEnd::Aborted { top: None });
     };
@@ -79,16 +80,16 @@ fn run_client<W: ActivitySteps>(
 /// Begins a top action at a guardian; none if that is refused.
 fn begin_top<W: ActivitySteps>(world: &mut W, home: u32) -> Result<Option<Name>, Fault>
     ensures left { IfOk result (λ found. W.run world.new ≡ once_begun home found (W.run world.old)) }
-    ensures top { IfOk result (λ found. IsAlone W.may_be W.run → IsTopAt home (W.run world.old) found) }
-    ensures after { OnOk result (IsAlone W.may_be W.run → W.run world.new ≡ after (Top home) (W.run world.old)) }
-    ensures begun { IfOk result (λ found. IsAlone W.may_be W.run → found ≡ begun_by (asked (Top home) (W.run world.old))) }
+    ensures top { IfOk result (λ found. W.alone → IsTopAt home (W.run world.old) found) }
+    ensures after { OnOk result (W.alone → W.run world.new ≡ after (Top home) (W.run world.old)) }
+    ensures begun { IfOk result (λ found. W.alone → found ≡ begun_by (asked (Top home) (W.run world.old))) }
     ensures err { OnErr result (W.run world.new ≡ W.run world.old) }
 {
     let answer = world.make_step(&Step::Top(home))?;
     Ok(begun_by(answer))
 }
 
-/// How a client ended of which the top action came to this end.
+/// How a client ended, if its top action ended so.
 fn end_of(top: Name, flow: Flow) -> ClientEnd
     ensures { result ≡ end_of top flow }
 {

@@ -1,4 +1,3 @@
-use Rattle.activities.proofs.Alone.{alone_result}
 use Rattle.activities.proofs.Making.{result_begins, result_makes}
 use Rattle.activities.proofs.open_action.make.Goals as goal
 
@@ -11,8 +10,3 @@ pub returns-clause-began : goal.returns-clause-began
 returns-clause-began g c =
     result_begins (g.W.ActivitySteps.run c.args.world.now) (g.W.ActivitySteps.run c.make_step.new.self) c.args.step c.make_step.result
     c.requires.step c.make_step.ensures.after
-
-pub returns-clause-alone : goal.returns-clause-alone
-returns-clause-alone g c =
-    alone_result g.W.ActivitySteps.may_be g.W.ActivitySteps.run c.args.world.now c.args.step c.make_step.result
-    c.make_step.ensures.answered

@@ -3,7 +3,7 @@ use Rattle.run_model.specs.Openings.{opening_in}
 use Rattle.activities.specs.Ends.{IsTopAt}
 use Rattle.activities.specs.Making.{once_begun}
 use Rattle.activities.specs.Serial.{begun_by}
-use Rattle.activities.proofs.Alone.{alone_after, alone_answer}
+use Rattle.activities.proofs.Alone.{alone_after}
 use Rattle.activities.proofs.Clients.{top_at, top_begins_one, top_leaves}
 use Rattle.activities.proofs.serial.begin_top.Goals as goal
 
@@ -22,15 +22,14 @@ pub returns-clause-top : goal.returns-clause-top
 returns-clause-top g c = λ alone.
     subst (λ found. IsTopAt c.args.home (g.W.ActivitySteps.run c.args.world.now) found) (sym c.begun_by.ensures)
     (top_at (g.W.ActivitySteps.run c.args.world.now) c.args.home c.in_ok-answer.answer
-    (alone_answer g.W.ActivitySteps.may_be g.W.ActivitySteps.run c.args.world.now _ c.in_ok-answer.answer c.in_ok-answer.ensures.answered alone))
+    (c.in_ok-answer.ensures.alone alone))
 
 pub returns-clause-after : goal.returns-clause-after
 returns-clause-after g c = λ alone.
     alone_after _ c.in_ok-answer.answer (g.W.ActivitySteps.run c.args.world.now) (g.W.ActivitySteps.run c.make_step.new.self) c.in_ok-answer.ensures.after
-    (alone_answer g.W.ActivitySteps.may_be g.W.ActivitySteps.run c.args.world.now _ c.in_ok-answer.answer c.in_ok-answer.ensures.answered alone)
+    (c.in_ok-answer.ensures.alone alone)
 
 pub returns-clause-begun : goal.returns-clause-begun
 returns-clause-begun g c = λ alone.
     c.begun_by.ensures
-    ∙ ap begun_by (alone_answer g.W.ActivitySteps.may_be g.W.ActivitySteps.run c.args.world.now _ c.in_ok-answer.answer
-    c.in_ok-answer.ensures.answered alone)
+    ∙ ap begun_by (c.in_ok-answer.ensures.alone alone)

@@ -4,7 +4,7 @@ use Rattle.run_model.specs.Runs.{World}
 use Rattle.frames.specs.Bound.{nothing_bound}
 use Rattle.activities.specs.Acting.{ComesSo, acting, doing, done}
 use Rattle.activities.specs.Ends.{ClientMade, IsTopAt, end_of, top_of}
-use Rattle.activities.specs.Making.{IsAlone, Makes, once_begun, with_top}
+use Rattle.activities.specs.Making.{Makes, once_begun, with_top}
 use Rattle.activities.specs.Serial.{Done, begun_at, body_done, budget, run}
 use Rattle.activities.proofs.Meaning.{acting_begun, of_script, run_named, top_lacks, top_runs}
 use Rattle.activities.proofs.Clients.{body_given}
@@ -32,21 +32,21 @@ returns-in_default g c = record {
 
 pub returns-in_err-reached-clause-cut : goal.returns-in_err-reached-clause-cut
 returns-in_err-reached-clause-cut g c =
-    on_err _ (cut_of c.args.client.now.home None (IsAlone g.W.ActivitySteps.may_be g.W.ActivitySteps.run) (g.W.ActivitySteps.run c.args.world.now) (g.W.ActivitySteps.run c.args.world.now) refl (λ alone. tt))
+    on_err _ (cut_of c.args.client.now.home None (g.W.ActivitySteps.alone) (g.W.ActivitySteps.run c.args.world.now) (g.W.ActivitySteps.run c.args.world.now) refl (λ alone. tt))
 
 pub returns-in_err-name-clause-cut : goal.returns-in_err-name-clause-cut
 returns-in_err-name-clause-cut g c =
-    on_err _ (cut_of c.args.client.now.home None (IsAlone g.W.ActivitySteps.may_be g.W.ActivitySteps.run) (g.W.ActivitySteps.run c.args.world.now) (g.W.ActivitySteps.run c.begin_top.new.world) c.in_err-name.ensures.err (λ alone. tt))
+    on_err _ (cut_of c.args.client.now.home None (g.W.ActivitySteps.alone) (g.W.ActivitySteps.run c.args.world.now) (g.W.ActivitySteps.run c.begin_top.new.world) c.in_err-name.ensures.err (λ alone. tt))
 
 pub run-requires-clause-body : goal.run-requires-clause-body
 run-requires-clause-body g c =
-    body_given c.args.script.now _ c.args.client.now c.new-frames.result _ c.requires.client c.new-2.ensures.script c.new-frames.ensures
+    body_given c.args.script.now _ c.args.client.now c.new-frames.result _ c.requires.client c.new-3.ensures.script c.new-frames.ensures
     c.as_slice-body.ensures
 
 pub returns-in_err-flow-clause-cut : goal.returns-in_err-flow-clause-cut
 returns-in_err-flow-clause-cut g c =
     let home = c.args.client.now.home in
-    on_err _ (cut_of home (Some c.new-top.result.name) (IsAlone g.W.ActivitySteps.may_be g.W.ActivitySteps.run) (g.W.ActivitySteps.run c.args.world.now) (g.W.ActivitySteps.run c.run.new.world)
+    on_err _ (cut_of home (Some c.new-top.result.name) (g.W.ActivitySteps.alone) (g.W.ActivitySteps.run c.args.world.now) (g.W.ActivitySteps.run c.run.new.world)
     (subst (λ w. Makes (c.new-top.result.name ∷ []) (c.new-top.result.name ∷ []) w (g.W.ActivitySteps.run c.run.new.world))
     (begun_world c.args.client.now.home c.in_ok-name.field-0 c.in-Some.name c.new-top.result.name (g.W.ActivitySteps.run c.args.world.now) (g.W.ActivitySteps.run c.begin_top.new.world) c.in_ok-name.ensures.left
     c.in-Some.is c.new-top.ensures.name)
@@ -81,16 +81,16 @@ returns-clause-ok g c = λ alone.
     acting_begun c.new-top.result a home c.new-top.ensures.name c.new-top.ensures.home
     (ap (λ x. x.homes.keys) c.new-top.ensures.reached ∙ c.in_ok-reached.ensures.homes)
     (ap (λ x. x.participants.keys) c.new-top.ensures.reached ∙ c.in_ok-reached.ensures.participants) in
-    let own : ComesSo script c.new-2.result.left r
-    (λ go. run go (acting c.new-top.result) c.new-frames.result c.as_slice-body.result.now (doing y c.new-2.result.left c.new-top.result c.new-frames.result)) =
-    of_script c.new-2.result.script.now script c.new-2.result.left r
-    (λ x go. run go (acting c.new-top.result) c.new-frames.result c.as_slice-body.result.now (doing y c.new-2.result.left c.new-top.result c.new-frames.result))
-    c.new-2.ensures.script (c.in_ok-flow.ensures.means alone) in
+    let own : ComesSo script c.new-3.result.left r
+    (λ go. run go (acting c.new-top.result) c.new-frames.result c.as_slice-body.result.now (doing y c.new-3.result.left c.new-top.result c.new-frames.result)) =
+    of_script c.new-3.result.script.now script c.new-3.result.left r
+    (λ x go. run go (acting c.new-top.result) c.new-frames.result c.as_slice-body.result.now (doing y c.new-3.result.left c.new-top.result c.new-frames.result))
+    c.new-3.ensures.script (c.in_ok-flow.ensures.means alone) in
     let whole : ComesSo script budget r
     (λ go. run go (acting c.new-top.result) c.new-frames.result c.as_slice-body.result.now (doing y budget c.new-top.result c.new-frames.result)) =
     subst (λ n. ComesSo script n r
     (λ go. run go (acting c.new-top.result) c.new-frames.result c.as_slice-body.result.now (doing y n c.new-top.result c.new-frames.result)))
-    c.new-2.ensures.left own in
+    c.new-3.ensures.left own in
     top_runs script c.args.client.now (g.W.ActivitySteps.run c.args.world.now) y c.in_ok-name.field-0 a r c.end_of.result (c.in_ok-name.ensures.after alone) (c.in_ok-name.ensures.begun alone)
     c.in-Some.is
     (λ most h. whole most h

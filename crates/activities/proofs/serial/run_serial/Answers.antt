@@ -23,7 +23,7 @@ returns-in_err-reserve-in-Ok-clause-err g c =
     (g.W.MakesSteps.run c.run_client.new.world) c.as_slice-clients.ensures
     (ran_is_tried c.as_slice-clients.result.now c.loop-client.client-index c.client-item.result (g.W.MakesSteps.run c.args.world.now) (g.W.MakesSteps.run c.loop-client.world)
     (g.W.MakesSteps.run c.run_client.new.world) c.in-Ok.end (omega arith) c.client-item.is c.loop-client.invariant.tried c.in-Ok.ensures.made
-    (c.in-Ok.ensures.top (λ w past same. same))))
+    (c.in-Ok.ensures.top tt)))
 
 pub loop-client-preserved : goal.loop-client-preserved
 loop-client-preserved g c = elim c.match-run_client.branch [
@@ -31,7 +31,7 @@ loop-client-preserved g c = elim c.match-run_client.branch [
     tried =
         ran_is_tried c.as_slice-clients.result.now c.loop-client.client-index c.client-item.result (g.W.MakesSteps.run c.args.world.now) (g.W.MakesSteps.run c.loop-client.world)
         (g.W.MakesSteps.run c.run_client.new.world) w.in-Ok.end (omega arith) c.client-item.is c.loop-client.invariant.tried w.in-Ok.ensures.made
-        (w.in-Ok.ensures.top (λ v past same. same));
+        (w.in-Ok.ensures.top tt);
     ran =
         subst (λ f. IfOk f (λ u. record { world = (g.W.MakesSteps.run c.run_client.new.world); ends = c.match-run_client.ends.items }
         ≡ clients_ran c.args.script.now.handlers (take (c.loop-client.client-index + 1) c.as_slice-clients.result.now) (g.W.MakesSteps.run c.args.world.now))) (sym w.fault-is)
@@ -39,7 +39,7 @@ loop-client-preserved g c = elim c.match-run_client.branch [
         (λ u e. ap (λ l. record { world = (g.W.MakesSteps.run c.run_client.new.world); ends = l })
         (ap (λ v. v.items) w.ends-is ∙ w.push_reserved.ensures.items ∙ ap (λ l. l ++ w.in-Ok.end ∷ []) w.reserve.ensures.items)
         ∙ one_more_ran c.args.script.now.handlers (take c.loop-client.client-index c.as_slice-clients.result.now) c.client-item.result (g.W.MakesSteps.run c.args.world.now)
-        (g.W.MakesSteps.run c.loop-client.world) (g.W.MakesSteps.run c.run_client.new.world) c.loop-client.ends.items w.in-Ok.end e (w.in-Ok.ensures.ok (λ v past same. same))
+        (g.W.MakesSteps.run c.loop-client.world) (g.W.MakesSteps.run c.run_client.new.world) c.loop-client.ends.items w.in-Ok.end e (w.in-Ok.ensures.ok tt)
         ∙ ap (λ l. clients_ran c.args.script.now.handlers l (g.W.MakesSteps.run c.args.world.now))
         (ap (λ x. take c.loop-client.client-index c.as_slice-clients.result.now ++ (x ∷ [])) c.client-item.is
         ∙ sym (take_more c.as_slice-clients.result.now c.loop-client.client-index c.client-item.result (omega arith)))));
@@ -50,7 +50,7 @@ loop-client-preserved g c = elim c.match-run_client.branch [
         (g.W.MakesSteps.run c.run_client.new.world) (omega arith) c.client-item.is c.loop-client.invariant.tried
         (record {
           top = w.in-Err.ensures.cut.0;
-          began = w.in-Err.ensures.cut.2 (λ v past same. same);
+          began = w.in-Err.ensures.cut.2 tt;
           makes = w.in-Err.ensures.cut.1;
         });
     ran = fault_kept _ c.match-run_client.fault c.loop-client.fault w.in-Err.error (w.fault-is ∙ w.and-fault.ensures);

@@ -1,4 +1,6 @@
 use Rattle.std.proofs.Common.{IfOk, IfSome, IsTrue, List, Ok, Option, Some, ap, arith, drop, drop_of_length-le, false, inl, inr, le_trans, length, refl, reverse, rules, slice_get, subst, sym, true, [], ◌+◌, ◌-◌, ◌<◌, ◌∙◌, ◌∷◌, ◌≡◌, ◌≤◌}
+use Rattle.std.proofs.lemmas.Bool.{false≢true}
+use Rattle.std.proofs.lemmas.List.{length-take}
 use Rattle.std.proofs.lemmas.Option.{slice_get_read}
 use Rattle.action_names.specs.Names.{Name, has_name}
 use Rattle.run_laws.proofs.Names.{clash}
@@ -14,14 +16,16 @@ use Rattle.activities.specs.Performing.{outcome_of, step_for}
 use Rattle.activities.specs.Serial.{Doing, Done, begun_at, beside, body_done, by_nested_end, inner, is_past, on_signal, past_arm, repeated, run, statement_done, taken_in}
 use Rattle.script_model.specs.declared.checked.Handler.{Handler}
 use Rattle.script_model.specs.declared.statement.Statement.{Statement}
-use Rattle.script_model.specs.Resolved.{IsResolved, asked}
+use Rattle.script_model.specs.Resolved.{asked}
 use Rattle.run_model.specs.Runs.{World}
-use Rattle.activities.specs.Bodies.{AreArms, IsBody, IsOutcome, IsStatement, SignalsHold, WhereEnded, body_of, kind_of, sizes}
+use Rattle.activities.specs.Bodies.{AreArms, IsBody, IsOf, IsOutcome, IsStatement, SignalsHold, WhereEnded, body_of, kind_of, sizes}
+use Rattle.activities.specs.Apart.{begun_names}
 use Rattle.activities.specs.Making.{Begins}
 use Rattle.activities.specs.Ends.{commits, has_committed, named_by}
 use Rattle.activities.proofs.Following.{called_began, handed_sizes, next_rest, next_within, nothing_bound, ok_so, popped, popped_length, same_body}
 use Rattle.activities.proofs.Meaning.{AreArmsFrom, IsBodyFrom, aborted_back, acting_begun, arm_goes, arm_stops, arms_end, body_ends, body_goes, body_lacks, body_stops, call_goes, call_so, called_so, ended_back, if_ok_at, if_ok_then, last_first, nested_past, nested_ran, nested_so, next_list, not_past, of_script, op_comes, outwards_back, returned_back, run_ends, run_named, sub_past, top_past, turn_goes, turn_lacks, turn_stops, turns_end}
-use Rattle.activities.proofs.Resolving.{arm_of, call_of, call_signals, called_body, called_within, op_after, op_of, op_signals, signalled_after, signals_hold_there}
+use Rattle.activities.proofs.Resolving.{arm_of, arms_from, call_binding, call_ints, call_of, call_signals, call_texts, called_body, called_within, first_of, op_after, op_of, op_signals, return_of, signalled_after, signals_hold_there}
+use Rattle.activities.proofs.ArmsApart.{has_fewer, makes_within, then_within}
 use Rattle.activities.proofs.Making.{arms_make, child_makes, earlier_waits, if_ok_at_all, if_ok_each, if_ok_with, last_waits, makes_nowhere, makes_through, one_makes, then_makes, then_tells}
 use Rattle.activities.proofs.activity.Activity.+activity.Goals.{body-in-Ended, body-in_default, repeat-in-Ended, repeat-in_default, run_arms-in-Ended, run_arms-in-Sub, run_arms-in-Top, run_arms-in_default}
 use Rattle.activities.proofs.activity.Activity.+activity.Goals as goal
@@ -90,10 +94,10 @@ coenter-returns-in_err-aborted-clause-makes g t c =
     let x = (g.W.ActivitySteps.run c.args.world.now) in
     let y = (g.W.ActivitySteps.run c.begin_arms.new.world) in
     let names = c.in-Some.waiting.items in
-    arms_make names c.as_slice.result.now (c.args.action.now.name ∷ []) x y (g.W.ActivitySteps.run c.run_arms-ran.new.world) (g.W.ActivitySteps.run c.abort_arms-aborted.new.world)
+    arms_make names c.as_slice.result.now (c.args.action.now.name ∷ []) x y (g.W.ActivitySteps.run c.arms-ran.new.world) (g.W.ActivitySteps.run c.abort_arms-aborted.new.world)
     (subst (λ o. IfSome o (λ v. Begins (c.args.action.now.name ∷ []) [] v.items x y)) c.in-Some.is c.in_ok-waiting.ensures.began)
-    c.run_arms-ran.ensures.makes
-    (subst (λ (l : List Name). (a : Name) → IsTrue (has_name l a) → IsTrue (has_name names a)) (sym c.as_slice.ensures.value) c.run_arms-ran.ensures.rest)
+    c.arms-ran.ensures.makes
+    (subst (λ (l : List Name). (a : Name) → IsTrue (has_name l a) → IsTrue (has_name names a)) (sym c.as_slice.ensures.value) c.arms-ran.ensures.rest)
     c.abort_arms-aborted.ensures.makes
 
 pub body-loop-statement-preserved : goal.body-loop-statement-preserved
@@ -118,7 +122,7 @@ body-loop-statement-preserved g t c =
     record {
       makes = then_makes c.args.action.now.name l.action.name (g.W.ActivitySteps.run c.args.world.now) (g.W.ActivitySteps.run l.world)
           (g.W.ActivitySteps.run c.statement.new.world) l.invariant.name l.invariant.makes c.statement.ensures.makes;
-      resolved = subst IsResolved (sym same) l.invariant.resolved;
+      resolved = subst (IsOf g.W.ActivitySteps.scripts) (sym same) l.invariant.resolved;
       rest = next_rest l.self.script.now c.statement.new.self.script.now (sizes l.frames) (sizes c.statement.new.frames) c.args.body.now
           l.statement-index s (omega arith) c.statement-item.is same bound l.invariant.rest;
       frames = next_within (sizes c.args.frames.now) (sizes l.frames) (sizes c.statement.new.frames) s l.invariant.frames bound;
@@ -162,7 +166,7 @@ repeat-loop-preserved g t c =
     record {
       makes = then_makes c.args.action.now.name l.action.name (g.W.ActivitySteps.run c.args.world.now) (g.W.ActivitySteps.run l.world)
           (g.W.ActivitySteps.run c.inner.new.world) l.invariant.name l.invariant.makes c.inner.ensures.makes;
-      resolved = subst IsResolved (sym same) l.invariant.resolved;
+      resolved = subst (IsOf g.W.ActivitySteps.scripts) (sym same) l.invariant.resolved;
       body = same_body l.self.script.now c.inner.new.self.script.now (sizes l.frames) (sizes c.inner.new.frames) c.args.body.now same bound
           l.invariant.body;
       frames = bound ∙ l.invariant.frames;
@@ -214,6 +218,42 @@ top_action-returns g t c =
           (λ most h. nested_past (body_done script.handlers most) c.args.signals.now (beside d r.doing) c.in_ok-flow.flow (λ e. c.in_default-2.not-Aborted e)));
     }
 
+pub body-statement-requires : goal.body-statement-requires
+body-statement-requires g t c κs within =
+    let l = c.loop-statement in
+    let script = l.self.script.now in
+    let frames = sizes l.frames in
+    let s = c.statement-item.result in
+    let left = subst (λ (x : List Statement). IsBody script frames x) (next_list c.args.body.now l.statement-index s (omega arith) c.statement-item.is) l.invariant.rest in
+    let asks = first_of script frames s _ left in
+    let same = sym c.begin.ensures.script in
+    let budget = c.if-not-begin.ensures.left refl in
+    (omega (arith, budget, l.invariant.left), (within, (subst (IsOf g.W.ActivitySteps.scripts) same l.invariant.resolved, subst (λ x. IsStatement x frames s) same asks)))
+
+pub call-bounds-as_slice-call : goal.call-bounds-as_slice-call
+call-bounds-as_slice-call g t c =
+    let call = c.args.call.now in
+    subst (λ (l : List Handler). call.handler < length l) (sym c.as_slice.ensures)
+    (called_within c.args.self.now.script.now (sizes c.args.frames.now) call c.requires.call)
+
+pub call-arguments-requires-clause-ints : goal.call-arguments-requires-clause-ints
+call-arguments-requires-clause-ints g t c = call_ints c.args.self.now.script.now (sizes c.args.frames.now) c.args.call.now c.requires.call
+
+pub call-arguments-requires-clause-texts : goal.call-arguments-requires-clause-texts
+call-arguments-requires-clause-texts g t c = call_texts c.args.self.now.script.now (sizes c.args.frames.now) c.args.call.now c.requires.call
+
+pub call-bind_value-requires : goal.call-bind_value-requires
+call-bind_value-requires g t c = call_binding c.args.self.now.script.now (sizes c.args.frames.now) c.args.call.now c.requires.call
+
+pub call-bind_value-requires-in-Returned : goal.call-bind_value-requires-in-Returned
+call-bind_value-requires-in-Returned g t c = call_binding c.args.self.now.script.now (sizes c.args.frames.now) c.args.call.now c.requires.call
+
+pub statement-returned-requires : goal.statement-returned-requires
+statement-returned-requires g t c =
+    let script = c.args.self.now.script.now in
+    let frames = sizes c.args.frames.now in
+    return_of script frames c.in-Return.expr (subst (λ (s : Statement). IsStatement script frames s) c.in-Return.is c.requires.statement)
+
 pub call-run-ended-requires : goal.call-run-ended-requires
 call-run-ended-requires g t c κs within =
     let script = c.args.self.now.script.now in
@@ -226,7 +266,7 @@ call-run-ended-requires g t c κs within =
     (slice_get_read hs (length hs) call.handler h refl known c.index-as_slice-call.is) in
     let begins = handed_sizes c.in_ok-inside.field-0 c.in-Some.inside c.args.frames.now call c.in-Some.is c.in_ok-inside.ensures in
     let body = subst (λ (l : List Statement). IsBody script (sizes c.in-Some.inside) l) (sym c.as_slice-2.ensures)
-    (subst (λ f. IsBody script f h.body) (sym begins) (called_body script frames call h c.requires.script c.requires.call there)) in
+    (subst (λ f. IsBody script f h.body) (sym begins) (called_body script frames call h c.requires.script.resolved c.requires.call there)) in
     (omega arith, (within, (c.requires.script, body)))
 
 pub run_arms-run-ended-requires : goal.run_arms-run-ended-requires
@@ -286,7 +326,7 @@ run_arms-loop-arm-preserved g t c =
           c.run-ended.ensures.makes;
       among = λ b h. l.invariant.among b (earlier_waits waits rest a is b h);
       each = omega (arith, popped_length waits rest a is, l.invariant.each);
-      resolved = subst IsResolved (sym c.run-ended.ensures.script) l.invariant.resolved;
+      resolved = subst (IsOf g.W.ActivitySteps.scripts) (sym c.run-ended.ensures.script) l.invariant.resolved;
       arms = subst (λ s. AreArms s (sizes c.args.frames.now) c.args.arms.now) (sym c.run-ended.ensures.script) l.invariant.arms;
       frames = refl;
       left = search (rules, arith);
@@ -861,8 +901,72 @@ call-run_signals-requires-in-Aborted g t c κs within =
       (
         within,
         (
-          subst IsResolved same c.requires.script,
+          subst (IsOf g.W.ActivitySteps.scripts) same c.requires.script,
           subst (λ script. SignalsHold script (sizes c.args.frames.now) c.args.signals.now) same follows,
         ),
       ),
     )
+
+-- ---- arms that run apart
+
+pub arms-returns-in_err-ended-clause-makes : goal.arms-returns-in_err-ended-clause-makes
+arms-returns-in_err-ended-clause-makes g t c =
+    let names = begun_names c.in_ok-begun.begun.items in
+    makes_within names c.args.waiting.now.items (g.W.ActivitySteps.run c.args.world.now) (g.W.ActivitySteps.run c.run_arms-2.new.self)
+    (subst (λ (l : List Name). (a : Name) → IsTrue (has_name names a) → IsTrue (has_name l a)) c.deref.ensures.value c.in_ok-begun.ensures.among)
+    c.run_arms-2.ensures.makes
+
+pub arms-returns-in_err-flow-clause-makes : goal.arms-returns-in_err-flow-clause-makes
+arms-returns-in_err-flow-clause-makes g t c =
+    let names = begun_names c.in_ok-begun.begun.items in
+    makes_within names c.args.waiting.now.items (g.W.ActivitySteps.run c.args.world.now) (g.W.ActivitySteps.run c.run_arms-2.new.self)
+    (subst (λ (l : List Name). (a : Name) → IsTrue (has_name names a) → IsTrue (has_name l a)) c.deref.ensures.value c.in_ok-begun.ensures.among)
+    c.run_arms-2.ensures.makes
+
+pub arms-returns-in_err-flow-clause-rest : goal.arms-returns-in_err-flow-clause-rest
+arms-returns-in_err-flow-clause-rest g t c =
+    λ a h. has_fewer _ c.args.waiting.now.items a (subst (λ (l : List Name). IsTrue (has_name l a)) c.truncate.ensures.items h)
+
+pub arms-returns-in-Ended-clause-makes : goal.arms-returns-in-Ended-clause-makes
+arms-returns-in-Ended-clause-makes g t c =
+    let names = begun_names c.in_ok-begun.begun.items in
+    let all = c.args.waiting.now.items in
+    let x = g.W.ActivitySteps.run c.args.world.now in
+    let y = g.W.ActivitySteps.run c.run_arms-2.new.self in
+    then_within c.truncate.new.self.items all x y (g.W.ActivitySteps.run c.run_arms-in-Ended.new.world)
+    (λ a h. has_fewer _ all a (subst (λ (l : List Name). IsTrue (has_name l a)) c.truncate.ensures.items h))
+    (makes_within names all x y
+    (subst (λ (l : List Name). (a : Name) → IsTrue (has_name names a) → IsTrue (has_name l a)) c.deref.ensures.value c.in_ok-begun.ensures.among)
+    c.run_arms-2.ensures.makes)
+    c.run_arms-in-Ended.ensures.makes
+
+pub arms-returns-in-Ended-clause-rest : goal.arms-returns-in-Ended-clause-rest
+arms-returns-in-Ended-clause-rest g t c =
+    λ a h. has_fewer _ c.args.waiting.now.items a (subst (λ (l : List Name). IsTrue (has_name l a)) c.truncate.ensures.items (c.run_arms-in-Ended.ensures.rest a h))
+
+pub arms-returns-in_default : goal.arms-returns-in_default
+arms-returns-in_default g t c =
+    let names = begun_names c.in_ok-begun.begun.items in
+    record {
+      makes = makes_within names c.args.waiting.now.items (g.W.ActivitySteps.run c.args.world.now) (g.W.ActivitySteps.run c.run_arms-2.new.self)
+          (subst (λ (l : List Name). (a : Name) → IsTrue (has_name names a) → IsTrue (has_name l a)) c.deref.ensures.value c.in_ok-begun.ensures.among)
+          c.run_arms-2.ensures.makes;
+      rest = λ a h. has_fewer _ c.args.waiting.now.items a (subst (λ (l : List Name). IsTrue (has_name l a)) c.truncate.ensures.items h);
+      frames = refl;
+      left = omega arith;
+      script = refl;
+      name = c.flow_of.ensures.name;
+      home = c.flow_of.ensures.home;
+      means = λ alone. absurd (false≢true (sym (c.has_arms_apart.ensures alone) ∙ c.if-not-has_arms_apart.false));
+    }
+
+pub arms-run_arms-requires-in-Ended : goal.arms-run_arms-requires-in-Ended
+arms-run_arms-requires-in-Ended g t c κs within =
+    let script = c.args.self.now.script.now in
+    let arms = c.args.arms.now in
+    let frames = sizes c.args.frames.now in
+    let behind = subst (λ (l : List Arm). AreArms script frames l) (sym c.split_at.ensures.back) (arms_from script frames _ arms c.requires.arms) in
+    let names = ap length c.truncate.ensures.items in
+    let fewer = length-take (c.len.result - c.len-count.result) c.args.waiting.now.items in
+    let each : length c.truncate.new.self.items ≡ length c.split_at.result.1.now = omega (arith, names, fewer, c.split_at.ensures.back_len, c.requires.each) in
+    (omega arith, (within, (c.requires.script, (behind, each))))

@@ -3,7 +3,6 @@ use Rattle.std.proofs.lemmas.Iterator.Adapters.{YieldsList-from_rev_slice}
 use Rattle.std.proofs.lemmas.Iterator.Consumers.{YieldsList-end}
 use Rattle.std.specs.Iterator.Adapters.{rev_source}
 use Rattle.std.specs.Slice.Iter.{iter_rest}
-use Rattle.activities.specs.Making.{IsAlone}
 use Rattle.activities.specs.Serial.{arms_aborted}
 use Rattle.activities.proofs.Committing.{arm_aborts}
 use Rattle.activities.proofs.Ending.{both_ok, ok_then}
@@ -30,7 +29,7 @@ loop-arm-preserved g c = record {
       these_make c.loop-arm.yielded c.in-Some.arm (g.W.ActivitySteps.run c.args.world.now) (g.W.ActivitySteps.run c.loop-arm.world) (g.W.ActivitySteps.run c.abort_at_home.new.world) c.loop-arm.invariant.makes
       c.abort_at_home.ensures.makes;
   means =
-      subst (λ r. OnOk r (IsAlone g.W.ActivitySteps.may_be g.W.ActivitySteps.run → (g.W.ActivitySteps.run c.abort_at_home.new.world)
+      subst (λ r. OnOk r (g.W.ActivitySteps.alone → (g.W.ActivitySteps.run c.abort_at_home.new.world)
       ≡ arms_aborted c.args.self.now.home (map (λ arm. arm.now) (c.loop-arm.yielded ++ (c.in-Some.arm ∷ []))) (g.W.ActivitySteps.run c.args.world.now)))
       (sym c.and-fault.ensures)
       (both_ok c.loop-arm.fault c.abort_at_home.result c.loop-arm.invariant.means c.abort_at_home.ensures.means

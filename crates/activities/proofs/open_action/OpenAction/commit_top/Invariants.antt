@@ -1,6 +1,6 @@
 use Rattle.std.proofs.Common.{[], ◌∷◌, ◌≡◌}
 use Rattle.run_model.specs.declared.step.Step.TheVariants.{Decide}
-use Rattle.activities.specs.Making.{IsAlone, Makes}
+use Rattle.activities.specs.Making.{Makes}
 use Rattle.activities.specs.Serial.{and_then, tried, two_phases, voted}
 use Rattle.activities.specs.Acting.{acting}
 use Rattle.activities.proofs.open_action.OpenAction.commit_top.Given as goal
@@ -8,7 +8,7 @@ use Rattle.activities.proofs.open_action.OpenAction.commit_top.Given as goal
 abbrev pub invariant-loop-guardian : goal.invariant-loop-guardian
 invariant-loop-guardian g l = record {
   makes : Makes (l.self.name ∷ []) [] (g.W.ActivitySteps.run l.fn.world) (g.W.ActivitySteps.run l.world);
-  means : IsAlone g.W.ActivitySteps.may_be g.W.ActivitySteps.run
+  means : g.W.ActivitySteps.alone
       → and_then (voted l.self.name l.guardian-iterator (g.W.ActivitySteps.run l.world)) (tried (Decide l.self.name))
       ≡ two_phases (acting l.self) (g.W.ActivitySteps.run l.fn.world);
 }

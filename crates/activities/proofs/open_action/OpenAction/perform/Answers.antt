@@ -1,7 +1,8 @@
-use Rattle.std.proofs.Common.{[]}
-use Rattle.activities.proofs.Making.{makes_named}
+use Rattle.activities.specs.Performing.{op_step}
+use Rattle.activities.proofs.Making.{result_makes}
 use Rattle.activities.proofs.open_action.OpenAction.perform.Goals as goal
 
 pub returns-clause-makes : goal.returns-clause-makes
 returns-clause-makes g c =
-    makes_named c.args.self.now.name c.in_ok-copy.field-0 [] (g.W.ActivitySteps.run c.args.world.now) (g.W.ActivitySteps.run c.make.new.world) c.in_ok-copy.ensures.ok.1 c.make.ensures.makes
+    result_makes (g.W.ActivitySteps.run c.args.world.now) (g.W.ActivitySteps.run c.operate.new.self)
+    (op_step c.args.self.now.name c.args.self.now.home c.args.object c.args.operation) c.operate.result tt c.operate.ensures.after c.operate.ensures.err
