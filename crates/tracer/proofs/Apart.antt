@@ -1,5 +1,5 @@
 -- Answers that are told apart have different texts.
-use Rattle.std.proofs.Common.{◌≡◌, ◌≢◌, ℕ, ℤ, pos, negsuc, not, bytes_eq, eq-eqb, zero, suc, ◌+◌, ◌<◌, ◌≤◌, ◌/◌, ◌%◌, ◌^◌, Bool, true, false, cond, eqb, List, [], ◌∷◌, ◌++◌, length, get_or, take, drop, codes, decimal, Some, refl, sym, ap, subst, ◌∙◌, append_assoc, length-append, add-one, arith}
+use Rattle.std.proofs.Common.{◌≡◌, ◌≢◌, ℕ, ℤ, pos, negsuc, not, bytes_eq, eq-eqb, zero, suc, ◌+◌, ◌<◌, ◌≤◌, ◌/◌, ◌%◌, ◌^◌, Bool, true, false, cond, eqb, List, [], ◌∷◌, ◌++◌, length, get_or, take, drop, codes, decimal, Some, refl, sym, ap, subst, ◌∙◌, append_assoc, length-append, arith}
 use Rattle.std.specs.Prelude.{◌==◌, FitsSigned}
 use Rattle.std.specs.Int.{w64}
 use mir.Val.{of_z}
@@ -23,14 +23,12 @@ use Rattle.atomic_types.specs.declared.op.Reply.{Reply}
 use Rattle.atomic_types.specs.declared.op.Reply.TheVariants.{Gives, Truth, Signals}
 use Rattle.atomic_types.specs.declared.op.Reply.TheVariants as replies
 use Rattle.atomic_types.specs.declared.op.Signal.{Signal}
-use Rattle.atomic_types.specs.declared.op.Signal.TheVariants.{Bounds, WrongTag}
-use Rattle.atomic_types.specs.declared.op.Signal.TheVariants as signals
 use Rattle.run_model.specs.declared.answer.Answer.{Answer}
 use Rattle.run_model.specs.declared.answer.Answer.TheVariants.{Began, Done, Granted, Refused, Waits}
 use Rattle.run_model.specs.declared.answer.Refusal.{Refusal}
 use Rattle.run_model.specs.Gathering.{same_answer}
 use Rattle.run_model.specs.Spaces.{name_lacks_space}
-use Rattle.run_model.specs.Texts.{answer_text, names_text, refusal_number, reply_text, signal_text}
+use Rattle.run_model.specs.Texts.{answer_text, names_text, refusal_number, reply_text}
 use Rattle.run_model.proofs.OneAnswer.{names_head, refusal_small, same_refusal}
 use Rattle.run_model.proofs.OneSpelling.{same_front, same_name}
 

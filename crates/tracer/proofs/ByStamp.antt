@@ -1,5 +1,5 @@
 -- The events of all stamps, each once: which copy of a stamp stands for it, and what the copies of the least stamp add.
-use Rattle.std.proofs.Common.{◌≡◌, ◌≢◌, ℕ, suc, ◌<◌, ◌≤◌, Bool, true, false, cond, eqb, ltb, List, [], ◌∷◌, ◌++◌, filter, Option, Some, None, eq-eqb, refl, sym, ap, subst, ◌∙◌, append_assoc, arith, ◌⊎◌, inl, inr}
+use Rattle.std.proofs.Common.{◌≡◌, ℕ, ◌<◌, ◌≤◌, Bool, true, false, cond, List, [], ◌∷◌, ◌++◌, filter, Option, Some, None, eq-eqb, refl, sym, ap, subst, ◌∙◌, arith, ◌⊎◌, inl, inr}
 use Rattle.std.specs.Prelude.{◌==◌, find, nat_lt}
 use Rattle.std.specs.List.{AllByRecursion}
 use Rattle.std.proofs.lemmas.Bool.{cases_eq, cases_lt, eqb-true, ne_eqb}
@@ -42,7 +42,7 @@ by_stamp_all P (c ∷ cs) all = insert_all P c (by_stamp cs) all.0 (by_stamp_all
 
 -- ---- stamps fall
 
-abbrev AreFalling : List Stamped → Type 0
+abbrev pub AreFalling : List Stamped → Type 0
 AreFalling [] = Unit {0}
 AreFalling (c ∷ cs) = AreBelow c.0 cs × AreFalling cs
 
@@ -59,20 +59,20 @@ insert_falls c (d ∷ cs) falls = go (c.0 == d.0) (nat_lt d.0 c.0) refl refl (in
         let lt : c.0 < d.0 = grind (arith, nat_tests) in
         (insert_all (λ x. x.0 < d.0) c cs lt falls.0, rest)
 
-by_stamp_falls : (cs : List Stamped) → AreFalling (by_stamp cs)
+pub by_stamp_falls : (cs : List Stamped) → AreFalling (by_stamp cs)
 by_stamp_falls [] = tt
 by_stamp_falls (c ∷ cs) = insert_falls c (by_stamp cs) (by_stamp_falls cs)
 
 -- ---- what stands for a stamp
 
-abbrev at_stamp : ℕ → List Stamped → Option Stamped
+abbrev pub at_stamp : ℕ → List Stamped → Option Stamped
 at_stamp s cs = find (λ c. c.0 == s) cs
 
-abbrev or_else : Option Stamped → Option Stamped → Option Stamped
+abbrev pub or_else : Option Stamped → Option Stamped → Option Stamped
 or_else None o = o
 or_else (Some c) o = Some c
 
-none_below : (s t : ℕ) (cs : List Stamped) → t ≤ s → AreBelow t cs → at_stamp s cs ≡ None
+pub none_below : (s t : ℕ) (cs : List Stamped) → t ≤ s → AreBelow t cs → at_stamp s cs ≡ None
 none_below s t [] le all = refl
 none_below s t (c ∷ cs) le all =
     ap (λ (b : Bool). cond b (Some c) (at_stamp s cs)) (ne_eqb c.0 s (λ e. omega (arith, all.0))) ∙ none_below s t cs le all.1
@@ -112,11 +112,11 @@ at_insert s c (d ∷ cs) falls = go (c.0 == d.0) (nat_lt d.0 c.0) refl refl (at_
         by_test false = rest
 
 -- the last of some events
-abbrev last_of : List Stamped → Option Stamped
+abbrev pub last_of : List Stamped → Option Stamped
 last_of [] = None
 last_of (c ∷ cs) = or_else (last_of cs) (Some c)
 
-at_by_stamp : (s : ℕ) (cs : List Stamped) → at_stamp s (by_stamp cs) ≡ last_of (filter (λ c. c.0 == s) cs)
+pub at_by_stamp : (s : ℕ) (cs : List Stamped) → at_stamp s (by_stamp cs) ≡ last_of (filter (λ c. c.0 == s) cs)
 at_by_stamp s [] = refl
 at_by_stamp s (c ∷ cs) = at_insert s c (by_stamp cs) (by_stamp_falls cs) ∙ go (c.0 == s) (at_by_stamp s cs)
   where
@@ -131,7 +131,7 @@ at_by_stamp s (c ∷ cs) = at_insert s c (by_stamp cs) (by_stamp_falls cs) ∙ g
 
 -- ---- lists that fall and find the same are the same
 
-found_at_head : (c : Stamped) (cs : List Stamped) → at_stamp c.0 (c ∷ cs) ≡ Some c
+pub found_at_head : (c : Stamped) (cs : List Stamped) → at_stamp c.0 (c ∷ cs) ≡ Some c
 found_at_head c cs = ap (λ (b : Bool). cond b (Some c) (at_stamp c.0 cs)) (eq-eqb c.0 c.0 refl)
 
 -- the greatest stamp is no greater than the head's
@@ -141,7 +141,7 @@ no_greater c d ds below found = elim (cases_lt d.0 c.0) [
   | inr le ↦ le
 ]
 
-same_falling : (cs ds : List Stamped) → AreFalling cs → AreFalling ds → ((s : ℕ) → at_stamp s cs ≡ at_stamp s ds) → cs ≡ ds
+pub same_falling : (cs ds : List Stamped) → AreFalling cs → AreFalling ds → ((s : ℕ) → at_stamp s cs ≡ at_stamp s ds) → cs ≡ ds
 same_falling [] [] f g same = refl
 same_falling [] (d ∷ ds) f g same = let h = same d.0 ∙ found_at_head d ds in absurd cc
 same_falling (c ∷ cs) [] f g same = let h = sym (same c.0) ∙ found_at_head c cs in absurd cc

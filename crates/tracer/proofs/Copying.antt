@@ -1,5 +1,5 @@
 -- Taking the copies of histories, and sorting them by stamp.
-use Rattle.std.proofs.Common.{Vec, Global, ◌≡◌, ℕ, zero, suc, ◌+◌, ◌<◌, ◌≤◌, Bool, true, false, not, cond, ◌&&◌, ◌||◌, eqb, max, List, [], ◌∷◌, ◌++◌, length, get_or, take, drop, map, filter, Option, Some, None, refl, sym, ap, subst, ◌∙◌, append_assoc, append-nil, add-zero, length-take, arith}
+use Rattle.std.proofs.Common.{Vec, Global, ◌≡◌, ℕ, suc, ◌+◌, ◌<◌, ◌≤◌, Bool, true, false, not, cond, ◌&&◌, ◌||◌, max, List, [], ◌∷◌, ◌++◌, length, get_or, take, filter, Option, Some, None, refl, sym, ap, subst, ◌∙◌, append_assoc, append-nil, add-zero, length-take, arith}
 use Rattle.std.specs.Prelude.{◌==◌, nat_le}
 use Rattle.std.specs.Ordering.{is_lt, nat_cmp}
 use Rattle.std.specs.List.{list_any}
@@ -12,7 +12,7 @@ use Rattle.run_model.specs.declared.step.Step.TheVariants.{Top}
 use Rattle.run_model.specs.declared.answer.Answer.TheVariants.{VoteYes}
 use Rattle.run_model.specs.Gathering.{Histories}
 use Rattle.run_model.specs.LocalHistories.{Stamped}
-use Rattle.traces.specs.Traces.{histories_in, lists_of}
+use Rattle.traces.specs.Traces.{lists_of}
 use Rattle.tracer.specs.Copies.{AreByStamp, AreRisingFrom, Copied, copies_behind, copies_from, copies_in, of_stamp}
 use Rattle.tracer.specs.Late.{IsHighest, is_at_most}
 

@@ -1,6 +1,6 @@
 -- Copies that stand in other histories than those of the guardians that a step names.
-use Rattle.std.proofs.Common.{◌≡◌, ℕ, zero, suc, ◌+◌, ◌<◌, ◌≤◌, Bool, true, false, cond, not, ◌&&◌, ◌||◌, eqb, List, [], ◌∷◌, reverse, refl, sym, ap, subst, ◌∙◌, eq-eqb, arith}
-use Rattle.std.specs.Prelude.{◌==◌, nat_le}
+use Rattle.std.proofs.Common.{◌≡◌, ℕ, zero, suc, ◌≤◌, Bool, true, false, not, ◌&&◌, ◌||◌, eqb, List, [], ◌∷◌, reverse, refl, sym, ap, ◌∙◌, eq-eqb, arith}
+use Rattle.std.specs.Prelude.{◌==◌}
 use mathlib.Core.Bool.{beq}
 use Rattle.std.specs.List.{list_any}
 use Rattle.std.proofs.lemmas.Bool.{eqb-true, true≢false}
@@ -46,10 +46,10 @@ down_false p zero none = refl
 down_false p (suc n) none =
     ap (λ (s : Bool). s || list_any p (down_from n)) (none (suc n) (omega arith) (omega arith)) ∙ down_false p n (λ g some within. none g some (omega arith))
 
-up_true : (p : ℕ → Bool) (n g : ℕ) → 1 ≤ g → g ≤ n → p g ≡ true → list_any p (up_to n) ≡ true
+pub up_true : (p : ℕ → Bool) (n g : ℕ) → 1 ≤ g → g ≤ n → p g ≡ true → list_any p (up_to n) ≡ true
 up_true p n g some within holds = up_down p n ∙ down_true p n g some within holds
 
-up_false : (p : ℕ → Bool) (n : ℕ) → ((g : ℕ) → 1 ≤ g → g ≤ n → p g ≡ false) → list_any p (up_to n) ≡ false
+pub up_false : (p : ℕ → Bool) (n : ℕ) → ((g : ℕ) → 1 ≤ g → g ≤ n → p g ≡ false) → list_any p (up_to n) ≡ false
 up_false p n none = up_down p n ∙ down_false p n none
 
 -- ---- copies

@@ -1,5 +1,5 @@
 -- Going over copies that lie by stamp: what the first turn of those that are left is, and what is known after it.
-use Rattle.std.proofs.Common.{◌≡◌, ◌≢◌, ℕ, zero, suc, ◌+◌, ◌<◌, ◌≤◌, Bool, true, false, not, cond, eqb, max, List, [], ◌∷◌, ◌++◌, length, map, take, drop, Option, Some, None, eq-eqb, refl, sym, ap, ap₂, subst, ◌∙◌, length-drop, arith}
+use Rattle.std.proofs.Common.{◌≡◌, ◌≢◌, ℕ, suc, ◌+◌, ◌≤◌, Bool, true, false, not, cond, max, List, [], ◌∷◌, ◌++◌, length, take, drop, Some, None, eq-eqb, refl, sym, ap, ap₂, subst, ◌∙◌, length-drop, arith}
 use Rattle.std.specs.Prelude.{◌==◌, slice_get}
 use Rattle.std.specs.List.{AllByRecursion, prefix_len}
 use Rattle.std.proofs.lemmas.Bool.{eqb-true, true≢false}

@@ -1,5 +1,5 @@
 -- Keeping the homes and makers of actions: what one name more adds.
-use Rattle.std.proofs.Common.{◌≡◌, ℕ, ◌+◌, ◌<◌, ◌≤◌, Bool, true, false, cond, ◌||◌, List, [], ◌∷◌, ◌++◌, length, get_or, take, Option, Some, None, refl, sym, ap, subst, ◌∙◌, arith}
+use Rattle.std.proofs.Common.{◌≡◌, ℕ, ◌+◌, ◌<◌, ◌≤◌, Bool, true, false, cond, ◌||◌, List, [], ◌∷◌, ◌++◌, length, get_or, take, Option, Some, refl, sym, ap, subst, ◌∙◌, arith}
 use Rattle.std.specs.List.{AllByRecursion}
 use Rattle.std.specs.Ordering.{eq_by_cmp}
 use Rattle.std.specs.BTreeMap.{BTreeMap, get}
@@ -8,7 +8,7 @@ use Rattle.action_names.specs.Names.{Name, IsName, has_name, name_cmp, same_name
 use Rattle.run_model.specs.declared.answer.Answer.{Answer}
 use Rattle.run_model.specs.declared.history.Event.{Event}
 use Rattle.run_model.specs.declared.step.Step.{Step}
-use Rattle.run_model.specs.Actions.{home_in, home_of, maker_in, maker_of, names_begun}
+use Rattle.run_model.specs.Actions.{home_in, home_of, maker_in, names_begun}
 use Rattle.tracer.specs.declared.homes.Begun.{Begun}
 use Rattle.tracer.specs.declared.homes.Homes.{Homes}
 use Rattle.tracer.specs.Homes.{AreHomes, kept_home, kept_maker}

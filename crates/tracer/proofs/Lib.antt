@@ -13,3 +13,5 @@ pub mod Apart
 pub mod Elsewhere
 pub mod Taken
 pub mod Gathers
+pub mod Left
+pub mod Putting

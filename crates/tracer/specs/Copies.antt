@@ -1,5 +1,5 @@
 -- The copies of events in histories, and what makes histories fail at the stamp of some copies.
-use Rattle.std.specs.Prelude.{ℕ, suc, Bool, true, false, not, ◌&&◌, ◌||◌, ◌==◌, nat_le, ◌≡◌, ◌≤◌, List, [], ◌∷◌, ◌++◌, filter}
+use Rattle.std.specs.Prelude.{ℕ, suc, Bool, not, ◌&&◌, ◌||◌, ◌==◌, nat_le, ◌≡◌, ◌≤◌, List, [], ◌∷◌, ◌++◌, filter}
 use Rattle.std.specs.List.{list_any}
 use Rattle.run_model.specs.declared.history.Event.{Event}
 use Rattle.run_model.specs.Answers.{answer_of}

@@ -6,3 +6,4 @@ pub mod Copies
 pub mod Late
 pub mod Homes
 pub mod Gathered
+pub mod Leaving

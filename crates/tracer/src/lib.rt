@@ -13,6 +13,7 @@ mod explained;
 mod gathering;
 mod homes;
 mod laws;
+mod leaving;
 mod orphans;
 mod place;
 mod same;
@@ -21,5 +22,6 @@ mod text;
 
 pub use explained::{Explained, Performed, explain};
 pub use gathering::{Gathered, gather};
-pub use laws::gathered_runs_are_served;
+pub use laws::{gathered_runs_are_served, runs_are_gathered};
+pub use leaving::trace_of;
 pub use place::{ClosingStep, Place};

@@ -1,12 +1,12 @@
-use Rattle.std.proofs.Common.{◌≡◌, ℕ, Bool, not, List, ◌++◌, ◌∷◌, [], max, length, refl, sym, ap, ap₂, subst, ◌∙◌, arith}
+use Rattle.std.proofs.Common.{◌≡◌, List, ◌++◌, ◌∷◌, [], max, length, refl, sym, ap, ap₂, subst, ◌∙◌, arith}
 use Rattle.std.proofs.lemmas.List.{length-map}
 use Rattle.run_model.specs.Openings.{OpeningLists, opening_in}
 use Rattle.run_model.specs.Runs.{IsRun}
 use Rattle.run_laws.proofs.Serving.{runs_are_served}
 use Rattle.traces.specs.Traces.{histories_in}
-use Rattle.tracer.specs.Copies.{AreByStamp, Copied, turn_fails}
+use Rattle.tracer.specs.Copies.{AreByStamp, Copied}
 use Rattle.tracer.specs.Homes.{AreHomes}
-use Rattle.tracer.proofs.Gathers.{fails_here, front_len, goes_by, none_left, one_more, shorter, some}
+use Rattle.tracer.proofs.Gathers.{fails_here, goes_by, none_left, one_more, shorter}
 use Rattle.tracer.proofs.Merged.{Going, begins, gathered}
 use Rattle.tracer.proofs.gathering.gather.Goals as goal
 

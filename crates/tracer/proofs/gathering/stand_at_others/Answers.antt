@@ -1,4 +1,4 @@
-use Rattle.std.proofs.Common.{refl, sym, ◌∙◌}
+use Rattle.std.proofs.Common.{sym, ◌∙◌}
 use Rattle.std.proofs.lemmas.Bool.{true≢false}
 use Rattle.tracer.proofs.Elsewhere.{at_first, at_second, at_third}
 use Rattle.tracer.proofs.gathering.stand_at_others.Goals as goal

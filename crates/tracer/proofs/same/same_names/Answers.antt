@@ -1,4 +1,3 @@
-use Rattle.std.proofs.Common.{arith}
 use Rattle.std.proofs.lemmas.Bool.{eqb-false}
 use Rattle.tracer.proofs.Apart.{components_differ, components_same, longer_apart, name_apart, one_compared, shorter_apart}
 use Rattle.tracer.proofs.same.same_names.Goals as goal
