@@ -39,6 +39,15 @@ pub enum Fault {
     /// A write or the last flush failed.
     #[error("fault output")]
     Output,
+    /// A guardian has drawn its 4,294,967,296 stamps.
+    #[error("fault stamps")]
+    Stamps,
+    /// The receipts of threads are not those of all events.
+    #[error("fault receipts")]
+    Receipts,
+    /// The time that was given to a run was over before its clients had ended.
+    #[error("fault time")]
+    Time,
 }
 
 impl From<AllocError> for Fault {

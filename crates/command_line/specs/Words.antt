@@ -33,10 +33,10 @@ steps_app = with_rule (with_rule (with_rule (with_rule (with_rule (new_app (code
 abbrev pub check_app : App
 check_app = with_rule (new_app (codes "check")) (needed (codes "SCRIPT"))
 
--- `run [--serial] [--store DIR] SCRIPT`
+-- `run [--serial] [--store DIR] [--trace OUT] SCRIPT`
 abbrev pub run_app : App
-run_app = with_rule (with_rule (with_rule (new_app (codes "run")) (needed (codes "SCRIPT"))) (flag (codes "serial")))
-    (optional (codes "store"))
+run_app = with_rule (with_rule (with_rule (with_rule (new_app (codes "run")) (needed (codes "SCRIPT"))) (flag (codes "serial")))
+    (optional (codes "store"))) (optional (codes "trace"))
 
 -- `trace [--explain ACTION] FILE`
 abbrev pub trace_app : App
@@ -69,6 +69,7 @@ pub record IsRunGiven (rows : List Row) (given : Run) : Type 0 where
   pub script : first_of (codes "SCRIPT") rows ≡ Some given.script.now
   pub store : first_of (codes "store") rows ≡ option_map (λ word. word.now) given.store
   pub serial : IsFlag (codes "serial") rows given.serial
+  pub trace : first_of (codes "trace") rows ≡ option_map (λ word. word.now) given.trace
 
 pub record IsTraceGiven (rows : List Row) (given : Trace) : Type 0 where
   pub file : first_of (codes "FILE") rows ≡ Some given.file.now

@@ -83,6 +83,7 @@ fn run_given<'a>(found: &ArgMatches<'a>) -> Option<request::Run<'a>>
         script: found.get_str("SCRIPT")?,
         store: found.get_str("store"),
         serial: is_set(found, "serial"),
+        trace: found.get_str("trace"),
     })
 }
 
@@ -181,13 +182,19 @@ fn run<'a>(alloc: Global) -> Result<clap::Command<'a>, AllocError>
         .arg(flag(
             alloc,
             "serial",
-            "Runs clients and arms one after another; until there are threads, they run so without it too",
+            "Runs clients and arms one after another, in place of each in a thread of its own",
         ))?
         .arg(optional(
             alloc,
             "store",
             "DIR",
             "Keeps the objects of guardian N in DIR/gN.db: takes what is there in place of the script's contents, and saves the bases at the end",
+        ))?
+        .arg(optional(
+            alloc,
+            "trace",
+            "OUT",
+            "Writes the trace of the run to OUT, before the clients' ends",
         ))
 }
 

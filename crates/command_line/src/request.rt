@@ -42,8 +42,10 @@ pub struct Run<'a> {
     pub script: &'a str,
     /// The folder that keeps the guardians' objects between runs; with none they last as long as the run.
     pub store: Option<&'a str>,
-    /// Whether clients and arms run one after another; until there are threads, they do so without it too.
+    /// Whether clients and arms run one after another; else each runs in a thread of its own.
     pub serial: bool,
+    /// The file to which the trace of the run is written.
+    pub trace: Option<&'a str>,
 }
 
 /// What the gathering of a trace is given.

@@ -9,4 +9,5 @@ returns c =
     let named : app_of c.after_help.result ≡ new_app (codes "run") = ap app_of_fields c.after_help.ensures ∙ ap app_of_fields c.about.ensures ∙ c.new.ensures.app in
     let with_script = c.in_ok-arg.ensures.shape c.needed.ensures.local ∙ ap₂ with_rule named c.needed.ensures.rule in
     let with_serial = c.in_ok-arg-2.ensures.shape c.flag.ensures.local ∙ ap₂ with_rule with_script c.flag.ensures.rule in
-    IfOk-weaker c.arg-3.result _ _ (λ new h. h.shape c.optional.ensures.local ∙ ap₂ with_rule with_serial c.optional.ensures.rule) c.arg-3.ensures
+    let with_store = c.in_ok-arg-3.ensures.shape c.optional.ensures.local ∙ ap₂ with_rule with_serial c.optional.ensures.rule in
+    IfOk-weaker c.arg-4.result _ _ (λ new h. h.shape c.optional-2.ensures.local ∙ ap₂ with_rule with_store c.optional-2.ensures.rule) c.arg-4.ensures

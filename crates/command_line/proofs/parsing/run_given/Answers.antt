@@ -11,4 +11,5 @@ returns-clause-found c =
       script = word_is found (codes "SCRIPT") (Some c.in_ok-get_str.field-0) c.in_ok-get_str.field-0 c.in_ok-get_str.ensures refl;
       store = sym (first_value-rows found (codes "store")) ∙ sym c.get_str-2.ensures;
       serial = c.is_set.ensures;
+      trace = sym (first_value-rows found (codes "trace")) ∙ sym c.get_str-3.ensures;
     }
