@@ -14,8 +14,12 @@ use Rattle.script_model.specs.ScriptReading.{script}
 use Rattle.argus_engine.specs.declared.engine.Ended.TheVariants.{Done, Stopped}
 use Rattle.argus_engine.specs.Judging.{BeginsFault, HasFirstFault, IsJudged, IsRead, IsScriptIn, fault_line}
 use Rattle.argus_engine.specs.Serving.{Writes}
-use Rattle.script_engine.specs.Running.{BeginsRun, Comes, IsDetermined, IsFit, TellsRun, run_text}
+use Rattle.run_model.specs.Openings.{fresh}
+use Rattle.traces.specs.Traces.{trace_text}
+use Rattle.tracer.specs.Leaving.{histories_of}
+use Rattle.script_engine.specs.Running.{BeginsRun, Comes, IsDetermined, IsFit, TellsRun, WriteBoth, run_text}
 use Rattle.script_engine.specs.Files.{BeginsFile, OneFile, OneScript, TellsFile}
+use Rattle.script_engine.proofs.Runs.{appends_none}
 
 -- ---- one document, and what it is
 
@@ -101,18 +105,24 @@ no_fault bytes c why place x (inr y) = of_document (subst (λ d. Fits d c) (one_
 
 module _ (comes : Comes) (one : IsDetermined comes) where
   pub one_file : OneFile comes
-  one_file bytes Done Done text said x y =
+  one_file bytes Done Done trace more text said x y =
       let told = x.2 in
       let again = y.2 in
       let same = one_script bytes x.0 y.0 x.1 y.1 in
       let came =
-      one y.0 y.0.guardians told.0 again.0 told.1 again.1 (subst (λ (c : Checked). comes c c.guardians told.0 told.1) same told.2) again.2 in
-      (refl, told.3 ∙ (λ k. run_text (came.0 k) (came.1 k)) ∙ sym again.3)
-  one_file bytes Done Stopped text said x y = absurd (no_fault bytes x.0 y.0 y.1 x.1 y.2)
-  one_file bytes Stopped Done text said x y = absurd (no_fault bytes y.0 x.0 x.1 y.1 x.2)
-  one_file bytes Stopped Stopped text said x y =
-      let same = one_fault bytes x.0 y.0 x.1 y.1 x.2 y.2 in
-      (refl, x.3 ∙ (λ k. fault_line (same.0 k) (same.1 k)) ∙ sym y.3)
+      one y.0 y.0.guardians told.0 again.0 told.1 again.1 told.2 again.2
+      (subst (λ (c : Checked). comes c c.guardians told.0 told.1 told.2) same told.3) again.3 in (
+        refl,
+        told.4.text ∙ (λ k. trace_text (same k).guardians (histories_of (fresh (same k).guardians) (came.2 k))) ∙ sym again.4.text,
+        told.5 ∙ (λ k. run_text (came.0 k) (came.1 k)) ∙ sym again.5,
+      )
+  one_file bytes Done Stopped trace more text said x y = let judged = y.1 in absurd (no_fault bytes x.0 judged.0 judged.1 x.1 judged.2)
+  one_file bytes Stopped Done trace more text said x y = let judged = x.1 in absurd (no_fault bytes y.0 judged.0 judged.1 y.1 judged.2)
+  one_file bytes Stopped Stopped trace more text said x y =
+      let first = x.1 in
+      let second = y.1 in
+      let same = one_fault bytes first.0 second.0 first.1 second.1 first.2 second.2 in
+      (refl, x.0 ∙ sym y.0, first.3 ∙ (λ k. fault_line (same.0 k) (same.1 k)) ∙ sym second.3)
 
 -- ---- what is written
 
@@ -131,19 +141,31 @@ pub read_as : (bytes : List ℕ) (before after : Option (List ℕ)) (found : Opt
     → IsScriptIn bytes c × Keeps before after
 read_as bytes before after found c is read = subst (IsRead bytes before after) is read
 
+-- and the first fault was said where none was
+pub refused_as : (bytes : List ℕ) (before after : Option (List ℕ)) (found : Option Checked) → found ≡ None → IsRead bytes before after found
+    → Writes before after (IsJudged bytes Stopped)
+refused_as bytes before after found is read = subst (IsRead bytes before after) is read
+
 module _ (comes : Comes) (bytes : List ℕ) (before after : Option (List ℕ)) where
-  pub fault_begun : Writes before after (BeginsFault bytes) → Writes before after (BeginsFile comes bytes)
-  fault_begun (written, wrote, inl none) = (written, wrote, inl none)
-  fault_begun (written, wrote, inr begun) = (written, wrote, inr (Stopped, begun.0, begun.1, begun.2))
+  -- nothing is said of a trace
+  module _ (out : Option (List ℕ)) where
+    pub fault_begun : Writes before after (BeginsFault bytes) → WriteBoth out out before after (BeginsFile comes bytes)
+    fault_begun (written, wrote, inl none) = ([], written, appends_none out, wrote, inl (refl, none))
+    fault_begun (written, wrote, inr begun) =
+        ([], written, appends_none out, wrote, inr (Stopped, [], begun.0, (refl, begun.1), inr (refl, begun.2)))
 
-  pub file_refused : Writes before after (IsJudged bytes Stopped) → Writes before after (BeginsFile comes bytes)
-  file_refused (line, wrote, judged) = (line, wrote, inr (Stopped, line, judged, ([], sym (append-nil line))))
+    pub file_refused : Writes before after (IsJudged bytes Stopped) → WriteBoth out out before after (TellsFile comes bytes Stopped)
+    file_refused (line, wrote, judged) = ([], line, appends_none out, wrote, (refl, judged))
 
-  module _ (mid : Option (List ℕ)) (c : Checked) (is : IsScriptIn bytes c) (kept : Keeps before mid) where
-    pub file_ran : Writes mid after (TellsRun comes c c.guardians) → Writes before after (TellsFile comes bytes Done)
-    file_ran (text, wrote, told) = (text, written_on before mid after text kept wrote, (c, is, told))
+    pub refusal_begun : Writes before after (IsJudged bytes Stopped) → WriteBoth out out before after (BeginsFile comes bytes)
+    refusal_begun (line, wrote, judged) =
+        ([], line, appends_none out, wrote, inr (Stopped, [], line, (refl, judged), inr (refl, ([], sym (append-nil line)))))
 
-    pub file_begun : Writes mid after (BeginsRun comes c c.guardians) → Writes before after (BeginsFile comes bytes)
-    file_begun (written, wrote, inl none) = (written, written_on before mid after written kept wrote, inl none)
-    file_begun (written, wrote, inr (text, told, begins)) =
-        (written, written_on before mid after written kept wrote, inr (Done, text, (c, is, told), begins))
+  module _ (mid : Option (List ℕ)) (c : Checked) (is : IsScriptIn bytes c) (kept : Keeps before mid) (out now : Option (List ℕ)) where
+    pub file_ran : WriteBoth out now mid after (TellsRun comes c c.guardians) → WriteBoth out now before after (TellsFile comes bytes Done)
+    file_ran (trace, text, traced, wrote, told) = (trace, text, traced, written_on before mid after text kept wrote, (c, is, told))
+
+    pub file_begun : WriteBoth out now mid after (BeginsRun comes c c.guardians) → WriteBoth out now before after (BeginsFile comes bytes)
+    file_begun (part, written, traced, wrote, inl none) = (part, written, traced, written_on before mid after written kept wrote, inl none)
+    file_begun (part, written, traced, wrote, inr (trace, text, told, begun)) =
+        (part, written, traced, written_on before mid after written kept wrote, inr (Done, trace, text, (c, is, told), begun))

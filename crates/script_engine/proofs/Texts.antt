@@ -3,7 +3,9 @@ use Rattle.std.proofs.Common.{List, None, Option, Some, [], arith, get_or, lengt
 use Rattle.std.proofs.lemmas.List.{same_lists}
 use Rattle.stable_store.specs.Stored.{Stored}
 use Rattle.values.specs.declared.content.Content.{Content}
-use Rattle.run_model.specs.Openings.{Setup}
+use Rattle.run_model.specs.Openings.{Setup, fresh}
+use Rattle.traces.specs.Traces.{trace_text}
+use Rattle.tracer.specs.Leaving.{histories_of}
 use Rattle.argus_engine.specs.declared.engine.Ended.TheVariants.{Done, Stopped}
 use Rattle.script_engine.specs.Running.{Comes, IsDetermined, run_text}
 use Rattle.script_engine.specs.Storing.{AreOpenedBy, OneStoredRun, Opens}
@@ -31,10 +33,16 @@ one_setup found own a b x y =
 
 module _ (comes : Comes) (one : IsDetermined comes) where
   pub one_stored_run : OneStoredRun comes
-  one_stored_run script found Done Done bases more text said told again =
-      let same = one_setup found script.guardians told.0 again.0 told.2 again.2 in
-      let came = one script again.0 told.1 again.1 bases more (subst (λ s. comes script s told.1 bases) same told.3) again.3 in
-      (refl, came.1, told.4 ∙ (λ k. run_text (came.0 k) (came.1 k)) ∙ sym again.4)
-  one_stored_run script found Done Stopped bases more text said told again = absurd (again.0 told.0 told.2)
-  one_stored_run script found Stopped Done bases more text said told again = absurd (told.0 again.0 again.2)
-  one_stored_run script found Stopped Stopped bases more text said told again = (refl, told.2 ∙ sym again.2, told.1 ∙ sym again.1)
+  one_stored_run script found Done Done bases more trace traced text said told again =
+      let same = one_setup found script.guardians told.0 again.0 told.3 again.3 in
+      let came =
+      one script again.0 told.1 again.1 bases more told.2 again.2 (subst (λ s. comes script s told.1 bases told.2) same told.4) again.4 in (
+        refl,
+        came.1,
+        told.5.text ∙ (λ k. trace_text (same k) (histories_of (fresh (same k)) (came.2 k))) ∙ sym again.5.text,
+        told.6 ∙ (λ k. run_text (came.0 k) (came.1 k)) ∙ sym again.6,
+      )
+  one_stored_run script found Done Stopped bases more trace traced text said told again = absurd (again.0 told.0 told.3)
+  one_stored_run script found Stopped Done bases more trace traced text said told again = absurd (told.0 again.0 again.3)
+  one_stored_run script found Stopped Stopped bases more trace traced text said told again =
+      (refl, told.2 ∙ sym again.2, told.3 ∙ sym again.3, told.1 ∙ sym again.1)

@@ -9,6 +9,7 @@ use Rattle.atomic_types.specs.Parts.{laid_where}
 use Rattle.stable_store.specs.Stored.{Stored, after_save}
 use Rattle.stable_store.specs.Calls.{View, found}
 use Rattle.script_model.specs.declared.checked.Checked.{Checked}
+use Rattle.run_model.specs.declared.history.Event.{Event}
 use Rattle.run_model.specs.Openings.{Setup}
 use Rattle.run_model.specs.Transcripts.{line_feed}
 use Rattle.activities.specs.declared.client.ClientEnd.{ClientEnd}
@@ -16,8 +17,7 @@ use Rattle.argus_engine.specs.declared.engine.Ended.{Ended}
 use Rattle.argus_engine.specs.declared.engine.Ended.TheVariants.{Done, Stopped}
 use Rattle.argus_engine.specs.declared.engine.Fault.{Fault}
 use Rattle.argus_engine.specs.declared.engine.Fault.TheVariants.{Memory, Store}
-use Rattle.argus_engine.specs.Serving.{Begins}
-use Rattle.script_engine.specs.Running.{Bases, Comes, IsOfRun, run_text}
+use Rattle.script_engine.specs.Running.{Bases, BeginBoth, Comes, IsOfRun, IsTraced, run_text}
 
 -- a store by what is seen of it
 module _ {S : Type 0} (seen : S → View) where
@@ -80,40 +80,43 @@ abbrev pub refusal_line : List ℕ
 refusal_line = codes "error store" ++ line_feed ∷ []
 
 module _ (comes : Comes) where
-  -- The text, and the bases that are to be saved: those of an outcome that may come in a new system of what the stores opened; or
+  -- The texts, and the bases that are to be saved: those of an outcome that may come in a new system of what the stores opened; or
   -- that they open none.
-  abbrev pub TellsStoredRun : Checked → List (Option Stored) → Ended → Bases → List ℕ → Type 0
-  TellsStoredRun script found Done bases text = (setup : Setup) × (ends : List ClientEnd)
-      × AreOpenedBy found script.guardians setup × comes script setup ends bases × (text ≡ run_text ends bases)
-  TellsStoredRun script found Stopped bases text =
-      ((setup : Setup) → AreOpenedBy found script.guardians setup → ⊥) × (text ≡ refusal_line) × (bases ≡ [])
+  abbrev pub TellsStoredRun : Checked → List (Option Stored) → Ended → Bases → List ℕ → List ℕ → Type 0
+  TellsStoredRun script found Done bases trace text = (setup : Setup) × (ends : List ClientEnd) × (past : List Event)
+      × AreOpenedBy found script.guardians setup × comes script setup ends bases past × IsTraced setup past trace
+      × (text ≡ run_text ends bases)
+  TellsStoredRun script found Stopped bases trace text =
+      ((setup : Setup) → AreOpenedBy found script.guardians setup → ⊥) × (text ≡ refusal_line) × (bases ≡ []) × (trace ≡ [])
 
-  -- that text was written, and the bases were saved
-  abbrev pub IsStoredRun : Checked → List (Option Stored) → List Stored → List Stored → Ended → List ℕ → Type 0
-  IsStoredRun script found old new ended text =
-      (bases : Bases) × TellsStoredRun script found ended bases text × (new ≡ saved bases old)
+  -- these texts were written, and the bases were saved
+  abbrev pub IsStoredRun : Checked → List (Option Stored) → List Stored → List Stored → Ended → List ℕ → List ℕ → Type 0
+  IsStoredRun script found old new ended trace text =
+      (bases : Bases) × TellsStoredRun script found ended bases trace text × (new ≡ saved bases old)
 
   -- the stores are left as by a run of which less was written
   abbrev pub LeavesStoredRun : Checked → List (Option Stored) → List Stored → List Stored → Type 0
-  LeavesStoredRun script found old new = (ended : Ended) × (text : List ℕ) × IsStoredRun script found old new ended text
+  LeavesStoredRun script found old new =
+      (ended : Ended) × (trace : List ℕ) × (text : List ℕ) × IsStoredRun script found old new ended trace text
 
   -- nothing was written, or a beginning of what is to be written
-  abbrev pub BeginsStoredRun : Checked → List (Option Stored) → List ℕ → Type 0
-  BeginsStoredRun script found written =
-      (written ≡ []) ⊎ ((ended : Ended) × (bases : Bases) × (text : List ℕ)
-      × TellsStoredRun script found ended bases text × Begins written text)
+  abbrev pub BeginsStoredRun : Checked → List (Option Stored) → List ℕ → List ℕ → Type 0
+  BeginsStoredRun script found part written =
+      ((part ≡ []) × (written ≡ [])) ⊎ ((ended : Ended) × (bases : Bases) × (trace : List ℕ) × (text : List ℕ)
+      × TellsStoredRun script found ended bases trace text × BeginBoth trace text part written)
 
   -- the stores are as they were, or the first so many bases were saved
   abbrev pub ArePartlySaved : Checked → List (Option Stored) → List Stored → List Stored → Type 0
   ArePartlySaved script found old new =
-      (new ≡ old) ⊎ ((bases : Bases) × (text : List ℕ) × TellsStoredRun script found Done bases text
+      (new ≡ old) ⊎ ((bases : Bases) × (trace : List ℕ) × (text : List ℕ) × TellsStoredRun script found Done bases trace text
       × (count : ℕ) × (new ≡ saved (take count bases) old))
 
-  -- The script, and what was found at the stores, determine the text of a run, how it ends, and the bases that are saved.
+  -- The script, and what was found at the stores, determine the texts of a run, how it ends, and the bases that are saved.
   abbrev pub OneStoredRun : Type 0
-  OneStoredRun = (script : Checked) (found : List (Option Stored)) (ended other : Ended) (bases more : Bases) (text said : List ℕ)
-      → TellsStoredRun script found ended bases text → TellsStoredRun script found other more said
-      → (ended ≡ other) × (bases ≡ more) × (text ≡ said)
+  OneStoredRun = (script : Checked) (found : List (Option Stored)) (ended other : Ended) (bases more : Bases)
+      (trace traced text said : List ℕ)
+      → TellsStoredRun script found ended bases trace text → TellsStoredRun script found other more traced said
+      → (ended ≡ other) × (bases ≡ more) × (trace ≡ traced) × (text ≡ said)
 
 -- a fault of a store, or out of memory
 abbrev pub IsOfStore : Fault → Type 0

@@ -1,9 +1,8 @@
 //! Running the script that the bytes of a file are.
 
 ghost use Rattle.std.specs.Prelude.{IfErr, IfOk};
-ghost use Rattle.argus_engine.specs.Serving.{Writes};
 ghost use Rattle.script_engine.specs.Files.{BeginsFile, TellsFile};
-ghost use Rattle.script_engine.specs.Running.{IsOfRun};
+ghost use Rattle.script_engine.specs.Running.{IsOfRun, WriteBoth, known};
 
 use crate::clients::RunsClients;
 use crate::running::run_script;
@@ -12,24 +11,27 @@ use std::alloc::Global;
 use std::io::Write;
 
 /// Runs the clients of the script that the bytes are, in a new system of its objects, writes what `run_script` does,
-/// and has `Done`. Where they are no script it writes `fault`, the number of the first fault, from 1 to 12, and the
-/// JSON pointer of its place, which is `/` for the whole document; then it has `Stopped`. After a fault a beginning of
-/// that was written.
-pub fn run_file<R: RunsClients, W: Write>(
+/// and has `Done`. Where they are no script it writes no trace, but `fault`, the number of the first fault, from 1 to
+/// 12, and the JSON pointer of its place, which is `/` for the whole document; then it has `Stopped`. After a fault a
+/// beginning of that was written.
+pub fn run_file<R: RunsClients, T: Write, W: Write>(
     alloc: Global,
     runner: &mut R,
     bytes: &[u8],
+    out: &mut Option<T>,
     writer: &mut W,
 ) -> Result<Ended, Fault>
-    ensures ok { IfOk result (λ ended. Writes (W.contents writer.old) (W.contents writer.new)
-        (TellsFile R.comes bytes.now ended)) }
-    ensures begun { Writes (W.contents writer.old) (W.contents writer.new)
-        (BeginsFile R.comes bytes.now) }
+    requires { R.ready }
+    ensures ok { IfOk result (λ ended. WriteBoth
+        (known T.contents out.old) (known T.contents out.new)
+        (W.contents writer.old) (W.contents writer.new) (TellsFile R.comes bytes.now ended)) }
+    ensures begun { WriteBoth (known T.contents out.old) (known T.contents out.new)
+        (W.contents writer.old) (W.contents writer.new) (BeginsFile R.comes bytes.now) }
     ensures fault { IfErr result (IsOfRun R.faults) }
 {
     let Some(script) = read_script(alloc, bytes, writer)? else {
         return Ok(Ended::Stopped);
     };
-    run_script(alloc, runner, &script, writer)?;
+    run_script(alloc, runner, &script, out, writer)?;
     Ok(Ended::Done)
 }

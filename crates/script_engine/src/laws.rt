@@ -1,5 +1,5 @@
 ghost use Rattle.script_engine.specs.Files.{OneFile, OneScript};
-ghost use Rattle.script_engine.specs.Running.{IsDetermined};
+ghost use Rattle.script_engine.specs.Running.{IsDetermined, TracesAreGathered};
 ghost use Rattle.script_engine.specs.Storing.{OneStoredRun};
 
 use crate::clients::RunsClients;
@@ -13,6 +13,12 @@ pub fn one_script()
 /// written, and how that ends.
 pub fn one_file<R: RunsClients>()
     ensures { IsDetermined R.comes → OneFile R.comes }
+{}
+
+/// `trace_file` of `argus_engine` says `yes` of a trace that was written, with the number of the events, if the trace can
+/// be read.
+pub fn traces_are_gathered()
+    ensures { TracesAreGathered }
 {}
 
 /// Over stores too: the script and what the stores held then determine what is written, how it ends, and the bases that

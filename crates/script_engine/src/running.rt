@@ -4,11 +4,11 @@ ghost use Rattle.std.specs.Prelude.{◌≡◌, ◌<◌, ◌++◌, ◌∷◌, [],
 ghost use Rattle.std.specs.Prelude.{IfErr, IfOk, OnOk};
 ghost use Rattle.script_model.specs.Laws.{HasFewObjects};
 ghost use Rattle.limits.specs.Limits.{max_guardians};
-ghost use Rattle.argus_engine.specs.Serving.{Writes};
-ghost use Rattle.script_engine.specs.Running.{BeginsRun, IsFit, IsOfRun, TellsRun, base_lines};
-ghost use Rattle.script_engine.specs.Running.{end_line, end_text, run_text};
+ghost use Rattle.script_engine.specs.Running.{BeginsRun, IsFit, IsOfRun, TellsRun, WriteBoth};
+ghost use Rattle.script_engine.specs.Running.{base_lines, end_line, end_text, known, run_text};
 
 use crate::clients::RunsClients;
+use crate::tracing::{wanted_trace, write_wanted};
 use activities::ClientEnd;
 use argus_engine::{Fault, finish};
 use run_model::{Setup, SetupFault};
@@ -18,26 +18,32 @@ use std::collections::BTreeMap;
 use std::io::Write;
 use values::Content;
 
-/// Runs a script's clients in a new system of its objects. Writes a line for each client, `client 1 committed`, with
-/// the value that it returned behind it, or `client 1 aborted`, and then a line for each object: its base, as in `1/1
-/// {"record":{"balance":40}}`. After a fault of the writer a beginning of that was written, and after another fault
-/// nothing.
-pub fn run_script<R: RunsClients, W: Write>(
+/// Runs a script's clients in a new system of its objects. Writes the trace of the run to `out`, if that is a writer.
+/// Then it writes a line for each client, `client 1 committed`, with the value that it returned behind it, or `client 1
+/// aborted`, and then a line for each object: its base, as in `1/1 {"record":{"balance":40}}`. After a fault of a writer
+/// a beginning of that was written, no line before the whole trace, and after another fault nothing.
+pub fn run_script<R: RunsClients, T: Write, W: Write>(
     alloc: Global,
     runner: &mut R,
     script: &Checked,
+    out: &mut Option<T>,
     writer: &mut W,
 ) -> Result<(), Fault>
-    requires { IsFit script.now }
-    ensures ok { OnOk result (Writes (W.contents writer.old) (W.contents writer.new)
+    requires script { IsFit script.now }
+    requires ready { R.ready }
+    ensures ok { OnOk result (WriteBoth (known T.contents out.old) (known T.contents out.new)
+        (W.contents writer.old) (W.contents writer.new)
         (TellsRun R.comes script.now script.now.guardians)) }
     // also after a fault
-    ensures begun { Writes (W.contents writer.old) (W.contents writer.new)
+    ensures begun { WriteBoth (known T.contents out.old) (known T.contents out.new)
+        (W.contents writer.old) (W.contents writer.new)
         (BeginsRun R.comes script.now script.now.guardians) }
     ensures fault { IfErr result (IsOfRun R.faults) }
 {
     let outcome = runner.run_clients(alloc, setup_of(alloc, script)?, script)?;
     let text = run_text(alloc, outcome.ends.as_slice(), outcome.bases.as_slice())?;
+    let trace = wanted_trace(alloc, &outcome.system, out)?;
+    write_wanted(out, trace.as_str())?;
     finish(writer, text.as_str())
 }
 

@@ -10,8 +10,7 @@ ghost use Rattle.atomic_types.specs.Parts.{laid_where};
 ghost use Rattle.stable_store.specs.Held.{held, parts_in};
 ghost use Rattle.script_model.specs.Laws.{HasFewObjects};
 ghost use Rattle.argus_engine.specs.declared.engine.Fault.TheVariants.{Output};
-ghost use Rattle.argus_engine.specs.Serving.{Writes};
-ghost use Rattle.script_engine.specs.Running.{IsFit};
+ghost use Rattle.script_engine.specs.Running.{IsFit, WriteBoth, known};
 ghost use Rattle.script_engine.specs.Storing.{CanOpen, HasOnly, IsOpened, IsOpening, Opens};
 ghost use Rattle.script_engine.specs.Storing.{all_found, all_held, found_in, saved};
 ghost use Rattle.script_engine.specs.Storing.{ArePartlySaved, BeginsStoredRun, IsOfStore, IsOfStoredRun, IsStoredRun};
@@ -19,6 +18,7 @@ ghost use Rattle.script_engine.specs.Storing.{LeavesStoredRun};
 
 use crate::clients::RunsClients;
 use crate::running::{add_guardian, run_text};
+use crate::tracing::{wanted_trace, write_wanted};
 use argus_engine::{Ended, Fault, finish};
 use atomic_types::Part;
 use run_model::Setup;
@@ -31,33 +31,41 @@ use values::Content;
 
 /// Runs a script as `run_script` does, in a new system of the contents that the stores have, one store for each
 /// guardian in order; an object of which a store has nothing has the script's content, and one of which it has a delta
-/// has that added to the script's. Then it saves the base of each object, a call for each store in order, and writes
-/// the lines.
+/// has that added to the script's. Then it saves the base of each object, a call for each store in order, writes the
+/// trace to `out`, if that is a writer, and writes the lines.
 ///
 /// Where a store holds no content, or a top action is prepared there, or it has an object that the script lacks, `error
-/// store` is written, `Stopped` comes, and the stores are as they were. After a fault the first stores may have been
-/// saved, and the others are as they were. Where the writer failed all that was to be saved is, and a beginning of what
-/// was to be written was written; after another fault nothing was.
-pub fn run_stored<R: RunsClients, S: Stable, W: Write>(
+/// store` is written, no trace, `Stopped` comes, and the stores are as they were. After a fault the first stores may
+/// have been saved, and the others are as they were. Where a writer failed all that was to be saved is, and a beginning
+/// of what was to be written was written, no line before the whole trace; after another fault nothing was.
+pub fn run_stored<R: RunsClients, S: Stable, T: Write, W: Write>(
     alloc: Global,
     runner: &mut R,
     script: &Checked,
     stores: &mut [S],
+    out: &mut Option<T>,
     writer: &mut W,
 ) -> Result<Ended, Fault>
     requires script { IsFit script.now }
     requires count { length stores.old ≡ length script.now.guardians }
-    ensures ok { IfOk result (λ ended. Writes (W.contents writer.old) (W.contents writer.new)
+    requires ready { R.ready }
+    ensures ok { IfOk result (λ ended. WriteBoth
+        (known T.contents out.old) (known T.contents out.new)
+        (W.contents writer.old) (W.contents writer.new)
         (IsStoredRun R.comes script.now (all_found S.seen stores.old)
         (all_held S.seen stores.old) (all_held S.seen stores.new) ended)) }
     // also after a fault
-    ensures begun { Writes (W.contents writer.old) (W.contents writer.new)
+    ensures begun { WriteBoth (known T.contents out.old) (known T.contents out.new)
+        (W.contents writer.old) (W.contents writer.new)
         (BeginsStoredRun R.comes script.now (all_found S.seen stores.old)) }
     ensures err { OnErr result (ArePartlySaved R.comes script.now (all_found S.seen stores.old)
         (all_held S.seen stores.old) (all_held S.seen stores.new)) }
     // so no line is written before all is saved
     ensures silent { IfErr result (λ fault. fault ≢ Output
         → Keeps (W.contents writer.old) (W.contents writer.new)) }
+    // nor is the trace
+    ensures untraced { IfErr result (λ fault. fault ≢ Output
+        → Keeps (known T.contents out.old) (known T.contents out.new)) }
     // if the fault is none of the clients' run
     ensures untold { IfErr result (λ fault. fault ≡ Output → ¬ R.faults Output
         → LeavesStoredRun R.comes script.now (all_found S.seen stores.old)
@@ -70,7 +78,9 @@ pub fn run_stored<R: RunsClients, S: Stable, W: Write>(
     };
     let outcome = runner.run_clients(alloc, setup, script)?;
     let text = run_text(alloc, outcome.ends.as_slice(), outcome.bases.as_slice())?;
+    let trace = wanted_trace(alloc, &outcome.system, out)?;
     save_all(alloc, stores, outcome.bases.as_slice())?;
+    write_wanted(out, trace.as_str())?;
     finish(writer, text.as_str())?;
     Ok(Ended::Done)
 }
