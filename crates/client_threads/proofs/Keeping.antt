@@ -1,0 +1,90 @@
+-- What a step of a thread leaves, by the receipts that are kept.
+use Rattle.std.proofs.Common.{Err, IfOk, List, None, Ok, OnErr, Option, Result, Some, MatchOption, [], ap, append_assoc, cond, refl, subst, sym, ◌++◌, ◌∙◌, ◌∷◌, ◌≡◌}
+use Rattle.std.specs.Prelude.{is_some, option_to_list}
+use Rattle.std.proofs.lemmas.List.{append-nil}
+use Rattle.run_model.specs.declared.answer.Answer.{Answer}
+use Rattle.run_model.specs.declared.history.Event.{Event}
+use Rattle.run_model.specs.declared.step.Step.{Step}
+use Rattle.run_model.specs.Answers.{answer_of}
+use Rattle.run_model.specs.Openings.{Opening, OpeningLists, opening_in}
+use Rattle.run_model.specs.Runs.{World, history_after, is_accepted, world_after}
+use Rattle.locked_run.specs.declared.shared.Answered.{Answered}
+use Rattle.runtime.specs.Answering.{IsAnsweredOnce}
+use Rattle.activities.specs.Making.{IsAnswered}
+use Rattle.client_threads.specs.Callers.{run_of}
+use Rattle.client_threads.specs.Receipts.{IsKept, event_of, events_of}
+
+pub events_of-append : (xs ys : List (List Event)) → events_of (xs ++ ys) ≡ events_of ys ++ events_of xs
+events_of-append [] ys = sym (append-nil (events_of ys))
+events_of-append (x ∷ xs) ys = ap (λ l. l ++ event_of x) (events_of-append xs ys) ∙ append_assoc (events_of ys) (events_of xs) (event_of x)
+
+-- the events once a receipt was kept, if there is one
+pub kept_events : (step : Step) (answer : Answer) (receipt : Option (List Event)) (past old : List Event) → is_some receipt ≡ is_accepted answer
+    → MatchOption receipt (Unit {0}) (λ run. run ≡ history_after step answer past) → events_of (option_to_list receipt) ++ old ≡ history_after step answer old
+kept_events step answer None past old some is = ap (λ b. cond b (record { step = step; answer = answer } ∷ old) old) some
+kept_events step answer (Some run) past old some is =
+    let whole : run ≡ record { step = step; answer = answer } ∷ past = is ∙ sym (ap (λ b. cond b (record { step = step; answer = answer } ∷ past) past) some) in
+    ap (λ l. event_of l ++ old) whole ∙ ap (λ b. cond b (record { step = step; answer = answer } ∷ old) old) some
+
+module _ {K E F : Type 0} (opening : Opening) (lists : OpeningLists) (step : Step) (answered : Result (Answered K) E) (old new : List (List Event)) (same : opening_in lists ≡ opening)
+    (given : IfOk answered (λ a. IsAnsweredOnce opening step a.answer a.receipt)) where
+  pub is_answered : (result : Result Answer F) → IsKept answered result old new → IfOk result (IsAnswered lists step)
+  is_answered result kept = go answered given result kept
+    where
+      go : (answered : Result (Answered K) E) → IfOk answered (λ a. IsAnsweredOnce opening step a.answer a.receipt) → (result : Result Answer F) → IsKept answered result old new
+          → IfOk result (IsAnswered lists step)
+      go (Ok a) g (Ok answer) k = record {
+        past = g.1.past;
+        answered = k.0 ∙ g.1.answered ∙ ap (λ (o : Opening). answer_of o step g.1.past) (sym same);
+      }
+      go (Ok a) g (Err f) k = tt
+      go (Err e) g (Ok answer) k = absurd k
+      go (Err e) g (Err f) k = tt
+
+  pub is_after : (result : Result Answer F) → IsKept answered result old new
+      → IfOk result (λ answer. record { lists = lists; past = events_of new } ≡ world_after (record { lists = lists; past = events_of old }) step answer)
+  is_after result kept = go answered given result kept
+    where
+      go : (answered : Result (Answered K) E) → IfOk answered (λ a. IsAnsweredOnce opening step a.answer a.receipt) → (result : Result Answer F) → IsKept answered result old new
+          → IfOk result (λ answer. record { lists = lists; past = events_of new } ≡ world_after (record { lists = lists; past = events_of old }) step answer)
+      go (Ok a) g (Ok answer) k =
+          let at = g.1 in
+          let events : events_of new ≡ history_after step a.answer (events_of old) =
+          ap events_of k.1 ∙ events_of-append old (option_to_list a.receipt)
+          ∙ kept_events step a.answer a.receipt at.past (events_of old) at.accepted (subst (λ s. MatchOption a.receipt (Unit {0}) (λ run. run ≡ s)) at.seen_after at.receipt_is) in
+          ap (λ l. record { lists = lists; past = l }) events ∙ ap (λ b. world_after (record { lists = lists; past = events_of old }) step b) (sym k.0)
+      go (Ok a) g (Err f) k = tt
+      go (Err e) g (Ok answer) k = absurd k
+      go (Err e) g (Err f) k = tt
+
+  pub is_same : (result : Result Answer F) → IsKept answered result old new → OnErr result (◌≡◌ {A = World} (record { lists = lists; past = events_of new }) (record { lists = lists; past = events_of old }))
+  is_same result kept = go answered given result kept
+    where
+      go : (answered : Result (Answered K) E) → IfOk answered (λ a. IsAnsweredOnce opening step a.answer a.receipt) → (result : Result Answer F) → IsKept answered result old new
+          → OnErr result (◌≡◌ {A = World} (record { lists = lists; past = events_of new }) (record { lists = lists; past = events_of old }))
+      go (Ok a) g (Ok answer) k = tt
+      go (Ok a) g (Err f) k = absurd k
+      go (Err e) g (Ok answer) k = absurd k
+      go (Err e) g (Err f) k = ap (λ l. record { lists = lists; past = events_of l }) k
+
+-- ---- the calls of a caller
+
+-- There is room for a receipt, a step is answered, and its receipt is kept.
+module _ {K E F : Type 0} (lists left : OpeningLists) (old room new : List (List Event)) (step : Step) (answered : Result (Answered K) E)
+    (result : Result Answer F) (calls : left ≡ lists) (same : room ≡ old) (given : IfOk answered (λ a. IsAnsweredOnce (opening_in lists) step a.answer a.receipt))
+    (kept : IsKept answered result room new) where
+  kept_here : IsKept answered result old new
+  kept_here = subst (λ l. IsKept answered result l new) same kept
+
+  pub step_answered : IfOk result (IsAnswered lists step)
+  step_answered = is_answered (opening_in lists) lists step answered old new refl given result kept_here
+
+  pub step_after : IfOk result (λ answer. run_of left new ≡ world_after (run_of lists old) step answer)
+  step_after =
+      subst (λ l. IfOk result (λ answer. run_of l new ≡ world_after (run_of lists old) step answer)) (sym calls)
+      (is_after (opening_in lists) lists step answered old new refl given result kept_here)
+
+  pub step_same : OnErr result (run_of left new ≡ run_of lists old)
+  step_same =
+      subst (λ l. OnErr result (run_of l new ≡ run_of lists old)) (sym calls)
+      (is_same (opening_in lists) lists step answered old new refl given result kept_here)

@@ -1,0 +1,4 @@
+pub mod Closing
+pub mod Crossing
+pub mod Keeping
+pub mod Running

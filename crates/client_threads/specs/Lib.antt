@@ -1,0 +1,4 @@
+pub mod Receipts
+pub mod Callers
+pub mod Clients
+pub mod Laws
