@@ -1,2 +1,3 @@
 pub mod Bases
+pub mod Kept
 pub mod Outcomes

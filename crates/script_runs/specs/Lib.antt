@@ -1,1 +1,2 @@
 pub mod SerialRuns
+pub mod ThreadRuns

@@ -2,9 +2,12 @@
 use Rattle.std.specs.Prelude.{ℕ, zero, suc, ◌≡◌, ◌↔◌, List, [], ◌∷◌, ◌++◌, length}
 use Rattle.values.specs.declared.content.Content.{Content}
 use Rattle.script_model.specs.declared.checked.Checked.{Checked}
-use Rattle.run_model.specs.Openings.{Setup, objects_at, opening_in}
+use Rattle.run_model.specs.declared.history.Event.{Event}
+use Rattle.run_model.specs.Openings.{Setup, fresh, objects_at, opening_in}
 use Rattle.run_model.specs.Runs.{World, new_world}
 use Rattle.run_model.specs.Versions.{base_of}
+use Rattle.traces.specs.Traces.{trace_text}
+use Rattle.tracer.specs.Leaving.{histories_of}
 use Rattle.activities.specs.declared.client.ClientEnd.{ClientEnd}
 use Rattle.activities.specs.Serial.{serial_run}
 use Rattle.script_engine.specs.Running.{Bases, TellsRun, run_text}
@@ -34,14 +37,24 @@ all_bases w = bases_of_first w (length w.lists.setup)
 abbrev pub bases_of_run : Checked → Setup → Bases
 bases_of_run script setup = all_bases (serial_run script (new_world setup)).world
 
+-- what has happened in the serial run of a script in a new world of this setup
+abbrev pub past_of_run : Checked → Setup → List Event
+past_of_run script setup = (serial_run script (new_world setup)).world.past
+
 -- the outcome is that of the serial run
-abbrev pub ComesSerially : Checked → Setup → List ClientEnd → Bases → Type 0
-ComesSerially script setup ends bases = (ends ≡ (serial_run script (new_world setup)).ends) × (bases ≡ bases_of_run script setup)
+abbrev pub ComesSerially : Checked → Setup → List ClientEnd → Bases → List Event → Type 0
+ComesSerially script setup ends bases past =
+    (ends ≡ (serial_run script (new_world setup)).ends) × (bases ≡ bases_of_run script setup) × (past ≡ past_of_run script setup)
 
 -- the text of the serial run: how the clients ended, and these bases
 abbrev pub text_of_run : Checked → Setup → List ℕ
 text_of_run script setup = run_text (serial_run script (new_world setup)).ends (bases_of_run script setup)
 
--- No other text is written.
+-- the text of its trace
+abbrev pub trace_of_run : Checked → Setup → List ℕ
+trace_of_run script setup = trace_text setup (histories_of (fresh setup) (past_of_run script setup))
+
+-- No other texts are written.
 abbrev pub OneText : Type 0
-OneText = (script : Checked) (setup : Setup) (text : List ℕ) → TellsRun ComesSerially script setup text ↔ (text ≡ text_of_run script setup)
+OneText = (script : Checked) (setup : Setup) (trace text : List ℕ)
+    → TellsRun ComesSerially script setup trace text ↔ ((trace ≡ trace_of_run script setup) × (text ≡ text_of_run script setup))

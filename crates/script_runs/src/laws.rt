@@ -8,7 +8,7 @@ pub fn one_outcome()
     ensures { IsDetermined ComesSerially }
 {}
 
-/// The command writes the text of the serial run of a script, and nothing else.
+/// The command writes the texts of the serial run of a script and of its trace, and nothing else.
 pub fn serial_text()
     ensures { OneText }
 {}

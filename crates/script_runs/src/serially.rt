@@ -5,12 +5,29 @@ use activities::run_serial;
 use argus_engine::Fault;
 use run_model::{ObjectId, Setup};
 use script::Checked;
-use script_engine::{Outcome, RunsClients};
-use stable_store::Stable;
+use script_engine::{Outcome, RunsClients, Traced};
+use stable_store::{PlainStable, Stable};
 use std::alloc::{AllocError, Global};
 use std::collections::BTreeMap;
+use tracer::trace_of;
+use traces::Trace;
 use values::Content;
 use world::World;
+
+/// A world in memory in which clients ran.
+#[derive(Drop)]
+pub struct SerialWorld {
+    world: World<PlainStable>,
+}
+
+impl Traced for SerialWorld {
+    ghost run = { λ a. a.world.run };
+
+    fn trace(&self, alloc: Global) -> Result<Trace, AllocError> {
+        let history = self.world.history().unpacked()?;
+        trace_of(alloc, self.world.opening(), &history)
+    }
+}
 
 /// Runs clients one after another, in a new world whose stores are in memory. A fault is out of memory.
 #[derive(Clone, Copy, Debug, Default)]
@@ -21,23 +38,32 @@ impl RunsClients for Serially {
     ghost use Rattle.argus_engine.specs.declared.engine.Fault.TheVariants.{Memory};
     ghost use Rattle.script_runs.specs.SerialRuns.{ComesSerially};
 
+    type System = SerialWorld;
+
     ghost comes = { ComesSerially };
 
     ghost faults = { λ fault. fault ≡ Memory };
+
+    ghost ready = { Unit {0} };
 
     fn run_clients(
         &mut self,
         alloc: Global,
         setup: Setup,
         script: &Checked,
-    ) -> Result<Outcome, Fault> {
+    ) -> Result<Outcome<SerialWorld>, Fault> {
         let mut world = World::in_memory(alloc, setup)?;
         let Ok(ends) = run_serial(alloc, &mut world, script) else {
             // a store in memory fails no call that a guardian makes of it
             return Err(Fault::Memory);
         };
         let bases = bases(alloc, &world)?;
-        Ok(Outcome { ends, bases })
+        let system = SerialWorld { world };
+        Ok(Outcome {
+            ends,
+            bases,
+            system,
+        })
     }
 }
 

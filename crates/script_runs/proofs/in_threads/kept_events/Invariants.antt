@@ -1,0 +1,6 @@
+use Rattle.std.proofs.Common.{reverse, take, ◌≡◌}
+use Rattle.script_runs.proofs.in_threads.kept_events.Given as goal
+
+-- those before this place
+abbrev pub invariant-loop-place : goal.invariant-loop-place
+invariant-loop-place l = l.events.items ≡ take l.place (reverse l.kept)
