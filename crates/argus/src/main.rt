@@ -12,9 +12,11 @@ use argus_engine::Fault;
 use command_line::request::Command;
 use std::env;
 use std::process::ExitCode;
+use std::sync::Wait;
+use std::thread::Threads;
 
 fn main(rt: HostRuntime) -> ExitCode {
-    match obey(&rt) {
+    match obey(&rt, &rt) {
         Ok(status) => status,
         Err(fault) => {
             let _ = eprintln!(&rt; "{fault}");
@@ -24,7 +26,7 @@ fn main(rt: HostRuntime) -> ExitCode {
 }
 
 /// Reads the command line and runs its command.
-fn obey(rt: &HostRuntime) -> Result<ExitCode, Fault> {
+fn obey<H: Threads + Wait + Sync>(rt: &HostRuntime, threads: &H) -> Result<ExitCode, Fault> {
     let given = match env::args(rt) {
         Ok(given) => given,
         Err(error) => return Err(run::read_fault(&error)),
@@ -40,7 +42,7 @@ fn obey(rt: &HostRuntime) -> Result<ExitCode, Fault> {
     match command_line::command(rt.alloc(), words.as_slice()) {
         Ok(Command::Steps(given)) => run::steps(rt, &Files { rt }, &given),
         Ok(Command::Check(given)) => run::check(rt, &given),
-        Ok(Command::Run(given)) => run::run(rt, &Files { rt }, &given),
+        Ok(Command::Run(given)) => run::run(rt, threads, &Files { rt }, &given),
         Ok(Command::Trace(given)) => run::trace(rt, &given),
         Err(fault) => refusing::explain(rt, &fault),
     }

@@ -11,12 +11,15 @@ use argus_engine::{
 };
 use command_line::request::{Check, Run, Steps, Trace};
 use run_model::{Setup, SetupFault};
-use script_engine::{run_file, run_stored};
-use script_runs::Serially;
+use script_engine::{RunsClients, run_file, run_stored};
+use script_runs::{InThreads, Serially};
 use stable_store::{PlainStable, Stable};
 use std::alloc::Global;
+use std::fs::{self, File};
+use std::io;
 use std::process::ExitCode;
-use std::{fs, io};
+use std::sync::Wait;
+use std::thread::Threads;
 use world::{Refused, World};
 
 /// The file that is standard input.
@@ -96,28 +99,54 @@ pub fn check(rt: &HostRuntime, given: &Check<'_>) -> Result<ExitCode, Fault> {
 }
 
 /// Runs the script in a file and writes how its clients ended, and the bases of its objects, to standard output. The
-/// status is 1 where the file is no script, or where a store is not its own.
-pub fn run<O: Opens>(rt: &HostRuntime, files: &O, given: &Run<'_>) -> Result<ExitCode, Fault> {
+/// clients and arms run in threads, unless they are to run one after another. The file of the trace, if one is given, is
+/// made first, and written before standard output. The status is 1 where the script's file is no script, or where a store
+/// is not its own; then the file of the trace is empty. If that file cannot be made, nothing is run. If it cannot be
+/// written, the bases are saved, it has a beginning of the trace, and nothing is written to standard output.
+pub fn run<O: Opens, H: Threads + Wait + Sync>(
+    rt: &HostRuntime,
+    threads: &H,
+    files: &O,
+    given: &Run<'_>,
+) -> Result<ExitCode, Fault> {
+    if given.serial {
+        run_by(rt, files, given, &mut Serially)
+    } else {
+        run_by(rt, files, given, &mut InThreads::new(threads))
+    }
+}
+
+fn run_by<O: Opens, R: RunsClients>(
+    rt: &HostRuntime,
+    files: &O,
+    given: &Run<'_>,
+    runner: &mut R,
+) -> Result<ExitCode, Fault>
+    requires { R.ready }
+{
     let bytes = read_file(rt, given.script)?;
+    let mut out = created(rt, given.trace)?;
     let ended = match given.store {
-        None => run_file(
-            rt.alloc(),
-            &mut Serially,
-            bytes.as_slice(),
-            &mut io::writer(rt),
-        )?,
-        Some(folder) => run_over(rt, files, bytes.as_slice(), folder)?,
+        None => {
+            let writer = &mut io::writer(rt);
+            run_file(rt.alloc(), runner, bytes.as_slice(), &mut out, writer)?
+        }
+        Some(folder) => run_over(rt, files, runner, bytes.as_slice(), folder, &mut out)?,
     };
     Ok(status_of(ended))
 }
 
 /// The same over the stores in a folder.
-fn run_over<O: Opens>(
+fn run_over<O: Opens, R: RunsClients>(
     rt: &HostRuntime,
     files: &O,
+    runner: &mut R,
     bytes: &[u8],
     folder: &str,
-) -> Result<Ended, Fault> {
+    out: &mut Option<File>,
+) -> Result<Ended, Fault>
+    requires { R.ready }
+{
     let writer = &mut io::writer(rt);
     let Some(script) = read_script(rt.alloc(), bytes, writer)? else {
         return Ok(Ended::Stopped);
@@ -128,11 +157,24 @@ fn run_over<O: Opens>(
     };
     run_stored(
         rt.alloc(),
-        &mut Serially,
+        runner,
         &script,
         stores.as_mut_slice(),
+        out,
         writer,
     )
+}
+
+/// The file at the path, made empty, if there is a path.
+fn created(rt: &HostRuntime, path: Option<&str>) -> Result<Option<File>, Fault> {
+    let Some(path) = path else {
+        return Ok(None);
+    };
+    match fs::create(rt, path) {
+        Ok(file) => Ok(Some(file)),
+        Err(error) if error.kind() == io::ErrorKind::OutOfMemory => Err(Fault::Memory),
+        Err(_) => Err(Fault::Output),
+    }
 }
 
 /// Writes whether the histories of a trace are one run, to standard output, and after a yes what is to be explained.
