@@ -9,7 +9,7 @@ use crate::step_rows::{
 };
 use crate::stores::{Database, keep_database, run_in_memory, run_over_stores};
 use crate::text::unescaped_text;
-use crate::trace_rows::gather_trace;
+use crate::trace_rows::{gather_trace, trace_script};
 use rows::{Row, RowFault};
 use run_model::Setup;
 use stable_store::PlainStable;
@@ -79,6 +79,7 @@ fn answer_of_script(
         "script" => keep_script(examples, row, answer),
         "run" => run_kept_script(examples, row, answer),
         "run_text" => run_text(examples.alloc, row, answer),
+        "run_traced" => trace_script(examples, row, answer),
         "remake" => remake_steps(examples, answer),
         "place" => print_place(examples.alloc, row.given, answer),
         "fault_number" => number_fault(examples.alloc, row.given, answer),

@@ -114,6 +114,9 @@ impl Writer {
             Err(Fault::Output) => self.push("fault output", answer),
             Err(Fault::Input) => self.push("fault input", answer),
             Err(Fault::Store) => self.push("fault store", answer),
+            Err(Fault::Stamps) => self.push("fault stamps", answer),
+            Err(Fault::Receipts) => self.push("fault receipts", answer),
+            Err(Fault::Time) => self.push("fault time", answer),
         }
     }
 
@@ -125,6 +128,16 @@ impl Writer {
             escape(self.written()?, answer)?;
         }
         Ok(())
+    }
+
+    /// Whether memory was refused to it.
+    pub(crate) fn was_refused(&self) -> bool {
+        self.is_refused
+    }
+
+    /// What was written.
+    pub(crate) fn into_taken(self) -> Vec<u8> {
+        self.taken
     }
 
     /// Whether what was written is a beginning of what the wanted answer says.

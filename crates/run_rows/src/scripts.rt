@@ -103,11 +103,13 @@ pub(crate) fn run_kept_script(
     row: &Row<'_>,
     answer: &mut String,
 ) -> Result<(), RowFault> {
+    let mut untraced: Option<Writer> = None;
     let mut writer = Writer::of_word(examples.alloc, row.given)?;
     let ended = run_file(
         examples.alloc,
         &mut Serially,
         examples.script.as_bytes(),
+        &mut untraced,
         &mut writer,
     );
     writer.tell(examples.alloc, ended, row.answer, answer)
@@ -116,9 +118,16 @@ pub(crate) fn run_kept_script(
 /// `run_text WRITER TEXT`: what is told of a run of the text, which may be no script.
 pub(crate) fn run_text(alloc: Global, row: &Row<'_>, answer: &mut String) -> Result<(), RowFault> {
     let mut words = row.words();
+    let mut untraced: Option<Writer> = None;
     let mut writer = Writer::of_word(alloc, words.word()?)?;
     let text = unescaped_text(alloc, words.rest())?;
-    let ended = run_file(alloc, &mut Serially, text.as_bytes(), &mut writer);
+    let ended = run_file(
+        alloc,
+        &mut Serially,
+        text.as_bytes(),
+        &mut untraced,
+        &mut writer,
+    );
     writer.tell(alloc, ended, row.answer, answer)
 }
 

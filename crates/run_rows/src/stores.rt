@@ -208,8 +208,16 @@ fn run<S: Stable>(
     requires fit { IsFit script.now }
     requires count { length stores.old ≡ length script.now.guardians }
 {
+    let mut untraced: Option<Writer> = None;
     let mut writer = Writer::of_word(alloc, word)?;
-    let ended = run_stored(alloc, &mut Serially, script, stores, &mut writer);
+    let ended = run_stored(
+        alloc,
+        &mut Serially,
+        script,
+        stores,
+        &mut untraced,
+        &mut writer,
+    );
     part(answer)?;
     writer.push_end(ended, answer)
 }
