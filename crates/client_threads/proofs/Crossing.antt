@@ -41,6 +41,7 @@ use Rattle.client_threads.specs.contracts.handed.Order as Order
 use Rattle.client_threads.specs.contracts.calls.OverRuntime as OverRuntime
 use Rattle.client_threads.proofs.handed.DoneArm.TheSendSync as done
 use Rattle.client_threads.proofs.coenter.Coenter.TheSendSync as coenter
+use Rattle.client_threads.proofs.watch.Watch.TheSendSync as watch
 use Rattle.activities.proofs.apart.EndedArm.TheSendSync as ended
 use Rattle.script_model.proofs.expression.IntExpr.TheLaws.TheKnot as int
 
@@ -142,10 +143,10 @@ module _ (K S : RattleType) (k : run.Ghosts K.Denot) (s : of_script.Ghosts S.Den
 
   module _ (ℓ : NamedLft) (R G P H : RattleType) (r : forest.Ghosts R.Denot) (g : guardian.Ghosts G.Denot) where
     pub over_sync : IsSend R → IsSend G → IsSync P → IsSync H → IsSync (OverRuntime.the_field ℓ K S R G P H k s r g).row
-    over_sync sr sg sp sh = search (order_send, runtime.the_sync, opening.the_sync, sender.the_sync, sendable, crosses) depth 60 fits 50000
+    over_sync sr sg sp sh = search (order_send, runtime.the_sync, opening.the_sync, sender.the_sync, watch.the_sync, sendable, crosses) depth 60 fits 50000
 
     pub over_row_sync : IsSend R → IsSend G → IsSync P → IsSync H → IsSync (OverRuntime.the_row ℓ K S R G P H k s r g)
-    over_row_sync sr sg sp sh = search (order_send, runtime.the_sync, opening.the_sync, sender.the_sync, sendable, crosses) depth 60 fits 50000
+    over_row_sync sr sg sp sh = search (order_send, runtime.the_sync, opening.the_sync, sender.the_sync, watch.the_sync, sendable, crosses) depth 60 fits 50000
 
 module _ (K S : RattleType) (k : run.Ghosts K.Denot) (s : of_script.Ghosts S.Denot) (send : IsSend S) where
   pub started_row_send : IsSend (Started.the_row K S k s)

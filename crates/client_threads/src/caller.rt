@@ -126,6 +126,7 @@ impl<'a, K: OfRun, S: OfScript, R: Forest, G: Guardian, P: Gate, H: Wait> Caller
             Ok(answered) => {
                 let Answered { answer, receipt } = answered;
                 if let Some(receipt) = receipt {
+                    self.calls.watch.note_step();
                     self.receipts.push_reserved(receipt);
                 }
                 Ok(answer)
@@ -250,7 +251,7 @@ impl<'a, K: OfRun, S: OfScript, R: Forest, G: Guardian, P: Gate, H: Wait> Activi
     }
 
     fn is_called_off(&self) -> bool {
-        self.calls.is_stopped() || is_called_off(&self.coenters)
+        self.calls.watch.is_stopped() || is_called_off(&self.coenters)
     }
 
     fn claim(&mut self) -> bool {

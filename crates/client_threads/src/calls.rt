@@ -6,6 +6,7 @@ ghost use Rattle.runtime.specs.Answering.{IsAnsweredOnce};
 
 use crate::coenter::{Coenter, Coenters, UntilLeft, is_awake, may_sleep};
 use crate::handed::{DoneArm, Handed, OfScript, Order};
+use crate::watch::Watch;
 use action_names::Name;
 use atomic_types::Op;
 use crossbeam_channel::{Receiver, Sender};
@@ -14,7 +15,6 @@ use run_model::{ObjectId, Opening, Step};
 use runtime::{Answered, Gate, OfRun, Runtime, StepFault};
 use std::alloc::{AllocError, Global};
 use std::sync::Wait;
-use std::sync::atomic::{AtomicBool, Ordering};
 
 /// A runtime, the handle by which threads wait and are started, and who starts the threads of arms.
 #[derive(Drop)]
@@ -24,8 +24,7 @@ pub(crate) struct OverRuntime<'a, K: OfRun, S: OfScript, R: Forest, G: Guardian,
     pub(crate) runtime: &'a Runtime<K, R, G, P>,
     pub(crate) opening: &'a Opening,
     pub(crate) orders: &'a Sender<Order<K, S>>,
-    /// Set once all clients and arms are to abort.
-    pub(crate) stop: &'a AtomicBool,
+    pub(crate) watch: &'a Watch,
     pub(crate) ghost same: { opening_in opening.now ≡ K.opening },
 }
 
@@ -45,8 +44,8 @@ impl<'a, K: OfRun, S: OfScript, R: Forest, G: Guardian, P: Gate, H: Wait> OverRu
         self.runtime.step(self.rt, step)
     }
 
-    /// Makes an operation of an arm of these `coenter`s, or of a client. It sleeps while it waits, until one of the `coenter`s
-    /// is left or all are to abort.
+    /// Makes an operation of an arm of these `coenter`s, or of a client. It sleeps while it waits, until one of the
+    /// `coenter`s is left or all are to abort.
     pub(crate) fn op_wait(
         &self,
         action: &Name,
@@ -62,7 +61,7 @@ impl<'a, K: OfRun, S: OfScript, R: Forest, G: Guardian, P: Gate, H: Wait> OverRu
         may_sleep(self.rt, coenters, object.guardian)?;
         let patience = UntilLeft {
             coenters,
-            stop: self.stop,
+            watch: self.watch,
         };
         let answered = self
             .runtime
@@ -96,11 +95,6 @@ impl<'a, K: OfRun, S: OfScript, R: Forest, G: Guardian, P: Gate, H: Wait> OverRu
     pub(crate) fn give_back(&self, to: &Sender<DoneArm<K>>, arm: DoneArm<K>) {
         // who waits for it is gone only after a fault, which the run answers
         let _ = to.send(self.rt, arm);
-    }
-
-    /// Whether all clients and arms are to abort.
-    pub(crate) fn is_stopped(&self) -> bool {
-        self.stop.load(Ordering::SeqCst)
     }
 
     pub(crate) fn claim(&self, coenter: &Coenter) -> bool {

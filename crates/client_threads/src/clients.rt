@@ -11,6 +11,7 @@ use crate::caller::Caller;
 use crate::calls::OverRuntime;
 use crate::handed::{OfScript, Order};
 use crate::starting::start_arms;
+use crate::watch::Watch;
 use activities::{Checked, ClientEnd, run_client};
 use crossbeam_channel::{Receiver, bounded};
 use layer_contracts::{Forest, Guardian};
@@ -20,7 +21,6 @@ use script_model::Client;
 use std::alloc::{AllocError, Global};
 use std::marker::Brand;
 use std::sync::Wait;
-use std::sync::atomic::AtomicBool;
 use std::thread::{self, Scope, Threads, map_indices};
 
 /// How many `coenter`s may wait until the thread that starts arms takes them.
@@ -33,16 +33,15 @@ struct DoneClient<K: OfRun> {
     receipts: Vec<Receipt<K>>,
 }
 
-/// Runs each client, and each arm of a `coenter`, in a thread of its own, and gives how the clients ended, in their order, with the receipts
-/// of all events. Where no thread can be made for a client, it runs in a thread that runs another, before or after it. Where none can be made for an
-/// arm, it and those behind it run in the thread of their `coenter`, once the arms before it have ended.
+/// Runs each client, and each arm of a `coenter`, in a thread of its own, and gives how the clients ended, in their
+/// order, with the receipts of all events. Where no thread can be made for a client, it runs in a thread that runs
+/// another, before or after it. Where none can be made for an arm, it and those behind it run in the thread of their
+/// `coenter`, once the arms before it have ended.
 ///
-/// Once `stop` is set, each client and each arm aborts at its next statement, or while an operation waits. Who sets it then has to wake each
-/// guardian (`Runtime::wake`).
+/// Who has the watch sees how far the run is, and may stop it.
 ///
-/// # Errors
-/// The fault of the lowest client that met one. Such a client aborts its open actions, outwards, as far as that succeeds; the others are run
-/// all the same.
+/// # Errors The fault of the lowest client that met one. Such a client aborts its open actions, outwards, as far as
+/// that succeeds; the others are run all the same.
 pub fn run_clients<
     K: OfRun + Send + Sync,
     R: Forest + Send,
@@ -55,13 +54,13 @@ pub fn run_clients<
     runtime: &Runtime<K, R, G, P>,
     opening: &Opening,
     script: &Checked,
-    stop: &AtomicBool,
+    watch: &Watch,
 ) -> Result<(Vec<ClientEnd>, Vec<Receipt<K>>), StepFault>
     requires opening { opening_in opening.now ≡ K.opening }
     requires script { IsResolved script.now }
     ensures { IfOk result (λ r. AllDid script.now.clients r.0.items r.1.items) }
 {
-    let done = run_named::<K, Brand, R, G, P, H>(alloc, rt, runtime, opening, script, stop)?;
+    let done = run_named::<K, Brand, R, G, P, H>(alloc, rt, runtime, opening, script, watch)?;
     ends_of(alloc, done)
 }
 
@@ -79,7 +78,7 @@ fn run_named<
     runtime: &Runtime<K, R, G, P>,
     opening: &Opening,
     script: &Checked,
-    stop: &AtomicBool,
+    watch: &Watch,
 ) -> Result<Vec<DoneClient<K>>, AllocError>
     requires opening { opening_in opening.now ≡ K.opening }
     requires script { IsOf (only S.script) script.now }
@@ -92,12 +91,13 @@ fn run_named<
         runtime,
         opening,
         orders: &orders,
-        stop,
+        watch,
     };
     in_threads(&calls, script, taken)
 }
 
-/// Runs the clients, and meanwhile starts the threads of their arms in a thread for that. If that cannot be made, arms run in order.
+/// Runs the clients, and meanwhile starts the threads of their arms in a thread for that. If that cannot be made, arms
+/// run in order.
 fn in_threads<
     'a,
     K: OfRun + Send + Sync,
@@ -210,6 +210,7 @@ fn run_one<K: OfRun, S: OfScript, R: Forest, G: Guardian, P: Gate, H: Wait>(
         Ok(end) => Ok(end),
         Err(fault) => Err(caller.fault_of(fault)),
     };
+    calls.watch.note_end();
     let receipts = caller.into_receipts();
     DoneClient { end, receipts }
 }

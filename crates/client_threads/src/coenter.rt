@@ -1,5 +1,6 @@
 //! A `coenter` whose arms run in threads: which of them leaves it, and where the others may be asleep.
 
+use crate::watch::Watch;
 use runtime::Patience;
 use std::alloc::{AllocError, Global};
 use std::sync::atomic::{AtomicBool, Ordering};
@@ -121,14 +122,14 @@ pub(crate) fn is_awake<H: Wait>(rt: &H, coenters: &[Arc<Coenter, Global>], guard
 #[derive(Clone, Copy)]
 pub(crate) struct UntilLeft<'a> {
     pub(crate) coenters: &'a [Arc<Coenter, Global>],
-    pub(crate) stop: &'a AtomicBool,
+    pub(crate) watch: &'a Watch,
 }
 
 impl<'a> Patience for UntilLeft<'a> {
     ghost over = { Unit {0} };
 
     fn is_over(&self) -> bool {
-        self.stop.load(Ordering::SeqCst) || is_called_off(self.coenters)
+        self.watch.is_stopped() || is_called_off(self.coenters)
     }
 }
 

@@ -13,8 +13,8 @@ use runtime::{Gate, OfRun};
 use std::sync::Wait;
 use std::thread::{self, Scope, Threads};
 
-/// Starts a thread for each arm that is handed over, until it is told to stop, and returns once all these threads have ended. Where no thread
-/// can be made for an arm, the arm and those behind it in its `coenter` are not run here.
+/// Starts a thread for each arm that is handed over, until it is told to stop, and returns once all these threads have
+/// ended. Where no thread can be made for an arm, the arm and those behind it in its `coenter` are not run here.
 pub(crate) fn start_arms<
     'a,
     K: OfRun + Send + Sync,
