@@ -1,8 +1,9 @@
 -- Lines at the front of what a reader gives.
-use Rattle.std.proofs.Common.{◌≡◌, ◌≢◌, ℕ, suc, ◌+◌, ◌-◌, ◌<◌, ◌≤◌, true, false, List, [], ◌∷◌, ◌++◌, length, take, drop, Option, Some, None, IfSome, refl, sym, ap, subst, ◌∙◌, Result, Ok, Err, IfOk, append_assoc, append-nil, arith}
+use Rattle.std.proofs.Common.{◌≡◌, ◌≢◌, ℕ, suc, ◌+◌, ◌-◌, ◌<◌, ◌≤◌, true, false, List, [], ◌∷◌, ◌++◌, length, take, drop, Option, Some, None, IfSome, refl, sym, ap, subst, ◌∙◌, Result, Ok, Err, IfOk, append_assoc, append-nil, arith, inl, inr, take-append-drop}
 use Rattle.std.proofs.Math.Seq.{take-add}
 use Rattle.std.proofs.lemmas.List.{take_all, take_more, take_rest, length-drop}
 use Rattle.std.specs.Io.{StartsWith}
+use Rattle.std.specs.Prelude.{OnErr}
 use Rattle.std.specs.Io.BufRead.{DropsConsumable}
 use Rattle.std.specs.Io.KnownBytes.{Consumes, Appends, Keeps, IsAtEnd}
 use Rattle.std.proofs.BufReadLemmas.{Consumes_shown}
@@ -18,7 +19,7 @@ use Rattle.argus_engine.specs.declared.reading.Met.TheVariants as met
 use Rattle.run_model.specs.Runs.{World}
 use Rattle.argus_engine.specs.declared.engine.Next.{Next}
 use Rattle.argus_engine.specs.declared.engine.Next.TheVariants.{Answered, NoStep, End}
-use Rattle.argus_engine.specs.Reading.{AnswersLine, AnswersStep, AreBefore, FacesNoStep, GoesOn, MayGoOn, TakesSome}
+use Rattle.argus_engine.specs.Reading.{AnswersLine, AnswersStep, AreBefore, FacesNoStep, GoesOn, MayGoOn, MayMake, MayMakeNext, TakesSome, stepped}
 use Rattle.argus_engine.proofs.NoLineFeed.{step_lacks_line_feed}
 
 -- what is left after the bytes that were read, as far as it is known
@@ -171,6 +172,51 @@ pub line_stops : (old new : Option (List ℕ)) (line : List ℕ) (world after : 
     → Lacks 10 line → AnswersLine line world after pending grown false → next ≡ NoStep → GoesOn old new world after pending grown next
 line_stops old new line world after pending grown next taken lacks (none, same, stays) is =
     subst (GoesOn old new world after pending grown) (sym is) (line_is_no_step old new line taken lacks none, same, stays)
+
+-- ---- the line whose step may have been made
+
+-- a text that begins with the bytes that are ready
+begins_ready : (xs ready : List ℕ) → StartsWith xs ready → xs ≡ ready ++ drop (length ready) xs
+begins_ready xs ready front = sym (take-append-drop (length ready) xs) ∙ ap (λ (l : List ℕ). l ++ drop (length ready) xs) front
+
+-- the reader gives the line that is ready
+pub gives_ready : (old : Option (List ℕ)) (ready : List ℕ) (count taken : ℕ) → AreBefore ready count taken met.LineFeed → IfSome old (λ xs. StartsWith xs ready)
+    → (rest : List ℕ) × Gives old (take count ready ++ 10 ∷ rest)
+gives_ready None ready count taken before front = ([], tt)
+gives_ready (Some xs) ready count taken before front =
+    let line = take count ready in
+    let rest = drop taken ready ++ drop (length ready) xs in (
+      rest,
+      begins_ready xs ready front
+          ∙ ap (λ (l : List ℕ). l ++ drop (length ready) xs) (sym (take-append-drop taken ready) ∙ ap (λ (l : List ℕ). l ++ drop taken ready) (ready_line ready count taken before))
+          ∙ append_assoc (line ++ 10 ∷ []) (drop taken ready) (drop (length ready) xs) ∙ append_assoc line (10 ∷ []) rest,
+    )
+
+-- and the one that was read
+pub gives_read : (old new : Option (List ℕ)) (line : List ℕ) → Consumes old new (line ++ 10 ∷ []) → (rest : List ℕ) × Gives old (line ++ 10 ∷ rest)
+gives_read old new line taken =
+    let left = left_text old new (line ++ 10 ∷ []) taken in
+    (left.0, subst (Gives old) (append_assoc line (10 ∷ []) left.0) left.1)
+
+pub made_of_line : (old : Option (List ℕ)) (line : List ℕ) (world after : World) → (rest : List ℕ) × Gives old (line ++ 10 ∷ rest)
+    → MayMake line world after → MayMakeNext old world after
+made_of_line old line world after gives (inl e) = inl e
+made_of_line old line world after (rest, gives) (inr (step, spelled, e)) =
+    inr (step, spelled.fits, rest, subst (λ (text : List ℕ). Gives old (text ++ 10 ∷ rest)) spelled.text gives, e)
+
+-- nothing was read before it
+pub made_after_none : {E : Type 0} (old mid : Option (List ℕ)) (world now after : World) (pending held : List ℕ)
+    → MayGoOn old mid world now pending held None → (result : Result Next E) → OnErr result (MayMakeNext mid now after)
+    → OnErr result (MayMakeNext old world after)
+made_after_none old mid world now after pending held idle (Ok next) made = tt
+made_after_none old mid world now after pending held (read, same, kept) (Err e) (inl is) = inl (is ∙ same)
+made_after_none old mid world now after pending held (read, same, kept) (Err e) (inr (step, fits, rest, gives, is)) = inr (
+  step,
+  fits,
+  rest,
+  gives_more old mid [] (step_text step ++ 10 ∷ rest) read gives,
+  is ∙ ap (λ w. stepped w step) same,
+)
 
 -- one more write of the rest
 pub wrote_more : (start mid now : Option (List ℕ)) (bytes : List ℕ) (count more : ℕ) → Appends start mid (take count bytes) → Appends mid now (take more (take (length bytes - count) (drop count bytes)))

@@ -1,7 +1,7 @@
 -- How far the engine has come, and what that gives at its end.
-use Rattle.std.proofs.Common.{◌≡◌, ℕ, ◌+◌, List, [], ◌∷◌, ◌++◌, take, drop, Option, Some, None, refl, sym, ap, subst, ◌∙◌, append_assoc, append-nil, arith, length-append, take-append-drop}
+use Rattle.std.proofs.Common.{◌≡◌, ℕ, ◌+◌, List, [], ◌∷◌, ◌++◌, take, drop, Option, Some, None, refl, sym, ap, subst, ◌∙◌, append_assoc, append-nil, arith, inl, inr, length-append, take-append-drop}
 use Rattle.std.specs.List.{AllByRecursion}
-use Rattle.std.specs.Prelude.{if◌then◌else◌, ◌==◌}
+use Rattle.std.specs.Prelude.{if◌then◌else◌, ◌==◌, ◌⊎◌}
 use Rattle.std.specs.declared.io.buffered.BufReader.{BufReader}
 use Rattle.std.specs.Io.Buffered.{reader_remaining, reader_inner, reader_buffer, reader_capacity}
 use Rattle.std.specs.Io.KnownBytes.{Consumes, Appends, prepend_known}
@@ -17,8 +17,8 @@ use Rattle.argus_engine.specs.declared.engine.Next.{Next}
 use Rattle.argus_engine.specs.declared.engine.Next.TheVariants as found
 use Rattle.argus_engine.specs.declared.engine.Ended.{Ended}
 use Rattle.argus_engine.specs.declared.engine.Ended.TheVariants.{Done, Stopped}
-use Rattle.argus_engine.specs.Serving.{Gives, Begins, step_lines, Made, Answers, BeginsAnswers, Writes, TakesFront}
-use Rattle.argus_engine.specs.Reading.{FacesNoStep, ReadsStep, answer_lines, Progress, Running, GoesOn, Moves}
+use Rattle.argus_engine.specs.Serving.{Gives, Begins, step_lines, Made, MakesFirst, Answers, BeginsAnswers, Writes, TakesFront}
+use Rattle.argus_engine.specs.Reading.{FacesNoStep, MayMakeNext, ReadsStep, answer_lines, Progress, Running, GoesOn, Moves}
 use Rattle.argus_engine.proofs.Bytes.{left_text, gives_more}
 use Rattle.argus_engine.proofs.OneAnswer.{back, forth, one_answer}
 
@@ -191,6 +191,51 @@ sent_some {before = before} {after = after} {kept = kept} later rest r moved = r
   appended = Appends-trans before after later r.sent moved.0 r.appended moved.1;
   progress = same_progress _ _ _ _ _ (r.sent ++ kept) ((r.sent ++ moved.0) ++ rest) r.progress (ap (λ (l : List ℕ). r.sent ++ l) moved.2 ∙ sym (append_assoc r.sent moved.0 rest));
 }
+
+-- the steps that were made are those of the first lines
+pub makes_first : {input left before after : Option (List ℕ)} {old new : World} {number : ℕ} {kept : List ℕ} (next : World)
+    → Running input left before after old new number kept → next ≡ new → MakesFirst input old next
+makes_first {input} {left} {old = old} {new = new} {number = number} {kept = kept} next r e =
+    let p = r.progress in
+    let rest = left_text input left (step_lines p.steps) p.taken in
+    record { text = step_lines p.steps ++ rest.0; given = rest.1; rest = rest.0; made = made input left old new next number (r.sent ++ kept) rest.0 p e }
+
+-- and perhaps the one of the line behind them
+pub may_make_next : {input left before after : Option (List ℕ)} {old new : World} {number : ℕ} {kept : List ℕ} (next : World)
+    → Running input left before after old new number kept → MayMakeNext left new next → MakesFirst input old next
+may_make_next next r (inl e) = makes_first next r e
+may_make_next {input} {left} {old = old} {new = new} next r (inr (s, fits, rest, gives, e)) =
+    let p = r.progress in
+    let past = history_from (opening_in old.lists) old.past p.steps in
+    let answer = answer_of (opening_in new.lists) s new.past in
+    let same : answer ≡ answer_of (opening_in old.lists) s past = ap (λ l. answer_of (opening_in l) s new.past) p.opening ∙ ap (λ (h : List Event). answer_of (opening_in old.lists) s h) p.past in
+    let lines : step_lines (p.steps ++ s ∷ []) ++ rest ≡ step_lines p.steps ++ (step_text s ++ 10 ∷ rest) =
+    ap (λ (l : List ℕ). l ++ rest) (lines_more p.steps s) ∙ append_assoc (step_lines p.steps) (step_text s ++ 10 ∷ []) rest
+    ∙ ap (λ (l : List ℕ). step_lines p.steps ++ l) (append_assoc (step_text s) (10 ∷ []) rest) in
+    record {
+      text = step_lines (p.steps ++ s ∷ []) ++ rest;
+      given = subst (Gives input) (sym lines) (gives_more input left (step_lines p.steps) (step_text s ++ 10 ∷ rest) p.taken gives);
+      rest = rest;
+      made = record {
+        steps = p.steps ++ s ∷ [];
+        each = each_more p.steps s p.each fits;
+        lines = refl;
+        opening = ap (λ (w : World). w.lists) e ∙ p.opening;
+        past = ap (λ (w : World). w.past) e ∙ ap (λ (h : List Event). history_after s answer h) p.past
+            ∙ ap (λ a. history_after s a past) same ∙ sym (past_more (opening_in old.lists) old.past p.steps s);
+      };
+    }
+
+-- no more than that, where no step came next
+pub made_no_more : {input left before after : Option (List ℕ)} {old new : World} {number : ℕ} {kept : List ℕ} (now : Option (List ℕ)) (next : World) (grown : List ℕ) (kind : Next)
+    → Running input left before after old new number kept → GoesOn left now new next kept grown kind → (kind ≡ found.NoStep) ⊎ (kind ≡ found.End)
+    → MakesFirst input old next
+made_no_more {left = left} {new = new} {kept = kept} now next grown kind r goes (inl e) = makes_first next r (subst (GoesOn left now new next kept grown) e goes).1
+made_no_more {left = left} {new = new} {kept = kept} now next grown kind r goes (inr e) = makes_first next r (subst (GoesOn left now new next kept grown) e goes).1
+
+-- nothing was read, and nothing was made
+pub makes_none : (input : Option (List ℕ)) (world : World) → MakesFirst input world world
+makes_none input world = makes_first world (started input None world [] refl) refl
 
 pub moves_all : (after later : Option (List ℕ)) (kept none : List ℕ) → Appends after later kept → none ≡ [] → Moves after later kept none
 moves_all after later kept none took e = (kept, took, sym (ap (λ (l : List ℕ). kept ++ l) e ∙ append-nil kept))

@@ -1,54 +1,21 @@
--- Steps that were made, and one that failed at a store, seen from a world before them.
-use Rattle.std.proofs.Common.{◌≡◌, ◌∙◌, List, [], ◌∷◌, ◌++◌, Result, Ok, Err, Some, None, IsErrAnd, IfErr, ap, inl, inr, refl, subst, sym}
-use Rattle.std.specs.Prelude.{IsErrOf, OnOk}
-use Rattle.run_model.specs.declared.answer.Answer.{Answer}
+-- Faults of steps and of readers, and one at a store seen from a world before the steps that were made.
+use Rattle.std.proofs.Common.{◌≡◌, ◌∙◌, Result, Ok, Err, Some, IsErrAnd, IfErr, ap, inl, inr, subst, sym}
+use Rattle.std.specs.Prelude.{IsErrOf, OnErr}
 use Rattle.run_model.specs.declared.step.Step.{Step}
-use Rattle.run_model.specs.Answers.{answer_of}
-use Rattle.run_model.specs.Openings.{opening_in}
-use Rattle.run_model.specs.Runs.{World, world_after}
+use Rattle.run_model.specs.Runs.{World}
 use Rattle.layer_contracts.specs.declared.guardian.Fault.{Fault as StepFault}
 use Rattle.layer_contracts.specs.declared.guardian.Fault.TheVariants as of_step
 use Rattle.argus_engine.specs.declared.engine.Fault.{Fault}
 use Rattle.argus_engine.specs.declared.engine.Fault.TheVariants.{Memory, Store}
 use Rattle.argus_engine.specs.Reading.{IsOfReader, IsOfReaderOrStep, IsOfStep}
 use Rattle.argus_engine.specs.Serving.{fault_of_step}
-use Rattle.argus_engine.specs.Stepping.{AreMade, FailsAtStore, HasMade, Leaves}
+use Rattle.stepping.specs.Stepping.{FailsAtStore, HasMade, Leaves}
+use Rattle.stepping.proofs.Making.{fails_after, made_none}
 
-join : {M : Type 0} (run : M → World) (leaves : Leaves M) (steps more : List Step) (old now new : M)
-    → AreMade run leaves steps old now → AreMade run leaves more now new → AreMade run leaves (steps ++ more) old new
-join run leaves [] more old now new e m = subst (λ w. AreMade run leaves more w new) e m
-join run leaves (step ∷ steps) more old now new a m = (a.0, a.1, join run leaves steps more a.0 now new a.2 m)
-
-pub made_none : {M : Type 0} (run : M → World) (leaves : Leaves M) (w : M) → HasMade run leaves w w
-made_none run leaves w = ([], refl)
-
-pub made_one : {M : Type 0} (run : M → World) (leaves : Leaves M) (old new : M) (step : Step) (answer : Answer)
-    → answer ≡ answer_of (opening_in (run old).lists) step (run old).past → run new ≡ world_after (run old) step answer
-    → leaves step None old new → HasMade run leaves old new
-made_one run leaves old new step answer is after stores =
-    (step ∷ [], (new, record { after = after ∙ ap (λ a. world_after (run old) step a) is; stores = stores }, refl))
-
-pub made_more : {M : Type 0} (run : M → World) (leaves : Leaves M) (old now new : M) → HasMade run leaves old now
-    → HasMade run leaves now new → HasMade run leaves old new
-made_more run leaves old now new a m = (a.0 ++ m.0, join run leaves a.0 m.0 old now new a.1 m.1)
-
--- what comes after steps that were made
-pub made_after : {M A E : Type 0} (run : M → World) (leaves : Leaves M) (old now new : M) → HasMade run leaves old now
-    → (result : Result A E) → OnOk result (HasMade run leaves now new) → OnOk result (HasMade run leaves old new)
-made_after run leaves old now new made (Err e) ok = tt
-made_after run leaves old now new made (Ok a) ok = made_more run leaves old now new made ok
-
-pub fails_after : {M : Type 0} (run : M → World) (leaves : Leaves M) (old now new : M) → HasMade run leaves old now
-    → FailsAtStore run leaves now new → FailsAtStore run leaves old new
-fails_after run leaves old now new made f = record {
-  before = f.before;
-  made = made_more run leaves old now f.before made f.made;
-  step = f.step;
-  same = f.same;
-  stores = f.stores;
-}
-
--- ---- a fault
+-- what holds, also after a fault
+pub also : {A E So : Type 0} (result : Result A E) → So → OnErr result So
+also (Ok a) so = tt
+also (Err e) so = so
 
 abbrev refused : {A E : Type 0} → E → Result A E
 refused e = Err e

@@ -1,5 +1,4 @@
 pub mod Serving
 pub mod Reading
 pub mod Judging
-pub mod Stepping
 pub mod Tracing

@@ -77,6 +77,20 @@ AnswersLine line world after pending grown true = (step : Step) × Spells line s
 AnswersLine line world after pending grown false =
     ((step : Step) → Spells line step → ⊥) × (after ≡ world) × (grown ≡ pending)
 
+-- the world as the step leaves it
+abbrev pub stepped : World → Step → World
+stepped world step = world_after world step (answer_of (opening_in world.lists) step world.past)
+
+-- the world is as it was, or the step that the line spells was made
+abbrev pub MayMake : List ℕ → World → World → Type 0
+MayMake line world after = (after ≡ world) ⊎ ((step : Step) × Spells line step × (after ≡ stepped world step))
+
+-- or that of the next line that the reader gives
+abbrev pub MayMakeNext : Option (List ℕ) → World → World → Type 0
+MayMakeNext input world after =
+    (after ≡ world)
+    ⊎ ((step : Step) × IsStep step × (rest : List ℕ) × Gives input (step_text step ++ line_feed ∷ rest) × (after ≡ stepped world step))
+
 -- one more line was answered, or none was there to be answered
 abbrev pub GoesOn : Option (List ℕ) → Option (List ℕ) → World → World → List ℕ → List ℕ → Next → Type 0
 GoesOn old new world after pending grown Answered = (step : Step) × ReadsStep old new step × AnswersStep step world after pending grown

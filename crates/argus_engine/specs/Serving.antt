@@ -43,6 +43,13 @@ pub record Made (old new : World) (text rest : List ℕ) : Type 0 where
   pub opening : new.lists ≡ old.lists
   pub past : new.past ≡ history_from (opening_in old.lists) old.past steps
 
+-- The steps of some first lines that the reader gives were made, and no other.
+pub record MakesFirst (input : Option (List ℕ)) (old new : World) : Type 0 where
+  pub text : List ℕ
+  pub given : Gives input text
+  pub rest : List ℕ
+  pub made : Made old new text rest
+
 -- All that the reader gave was answered, and the steps before its end were made.
 pub record Answers (input : Option (List ℕ)) (old new : World) (written : List ℕ) (ended : Ended) : Type 0 where
   pub text : List ℕ

@@ -11,9 +11,9 @@ use script::{Checked, ScriptFault, check, read};
 use std::alloc::{AllocError, Global};
 use std::io::Write;
 
-/// Writes `ok` where the bytes are a script, and else `fault`, the number of the first fault, from 1 to 12, and the JSON pointer of its
-/// place, which is `/` for the whole document; then it has `Stopped`. After a fault of memory or of the writer a beginning of that line was
-/// written.
+/// Writes `ok` where the bytes are a script, and else `fault`, the number of the first fault, from 1 to 12, and the
+/// JSON pointer of its place, which is `/` for the whole document; then it has `Stopped`. After a fault of memory or of
+/// the writer a beginning of that line was written.
 pub fn check_script<W: Write>(alloc: Global, bytes: &[u8], writer: &mut W) -> Result<Ended, Fault>
     ensures ok { IfOk result (λ ended. Writes (W.contents writer.old) (W.contents writer.new) (IsJudged bytes.now ended)) }
     // also after a fault
@@ -25,9 +25,9 @@ pub fn check_script<W: Write>(alloc: Global, bytes: &[u8], writer: &mut W) -> Re
     Ok(ended)
 }
 
-/// The script that the bytes are. Where they are none, it writes `fault`, the number of the first fault, from 1 to 12, and the JSON pointer
-/// of its place, which is `/` for the whole document; then it gives `None`. After a fault of memory or of the writer a beginning of that
-/// line was written.
+/// The script that the bytes are. Where they are none, it writes `fault`, the number of the first fault, from 1 to 12,
+/// and the JSON pointer of its place, which is `/` for the whole document; then it gives `None`. After a fault of
+/// memory or of the writer a beginning of that line was written.
 pub fn read_script<W: Write>(
     alloc: Global,
     bytes: &[u8],

@@ -1,9 +1,9 @@
 ghost use Rattle.std.specs.Prelude.{◌≡◌, IfErr, IfOk, IsErrOf, OnOk, OnErr, string_bytes, ◌++◌, ◌∷◌, []};
 ghost use Rattle.run_model.specs.Texts.{answer_text};
 ghost use Rattle.run_model.specs.Transcripts.{error_text, line_feed};
-ghost use Rattle.argus_engine.specs.Serving.{Answers, BeginsAnswers, Writes};
-ghost use Rattle.argus_engine.specs.Reading.{AnswersLine, GoesOn, IsOfReaderOrStep, IsOfStep, MayGoOn};
-ghost use Rattle.argus_engine.specs.Stepping.{FailsAtStore, HasMade};
+ghost use Rattle.argus_engine.specs.Serving.{Answers, BeginsAnswers, MakesFirst, Writes};
+ghost use Rattle.argus_engine.specs.Reading.{AnswersLine, GoesOn, IsOfReaderOrStep, IsOfStep, MayGoOn, MayMake, MayMakeNext};
+ghost use Rattle.stepping.specs.Stepping.{FailsAtStore, HasMade};
 ghost use Rattle.argus_engine.specs.declared.engine.Fault.TheVariants.{Store};
 
 use crate::reading::{Line, Met, front_of, read_line};
@@ -109,11 +109,11 @@ pub(crate) enum Next {
 }
 
 /// Reads steps to the end or to the first line that is no step, makes each in the world, and writes the line of each
-/// answer, or `error` with the line's number, after which nothing more is written. A line is ended by a line feed and has
-/// at most 8,192 bytes before it. After a fault a beginning was written of the answers that belong to the input, and of those
-/// that belong to some beginning of it; of the world it is then said that its setup is the same and its history a run. `Store` comes only
-/// where a step failed at the store of a guardian, which then has counted one failure more; the world and the contents of the stores are as the
-/// steps before left them.
+/// answer, or `error` with the line's number, after which nothing more is written. A line is ended by a line feed and
+/// has at most 8,192 bytes before it. After a fault a beginning was written of the answers that belong to the input,
+/// and of those that belong to some beginning of it. The steps of some first lines were made then, and no other; their
+/// answers may not all be written. `Store` comes only where a step failed at the store of a guardian, which then has
+/// counted one failure more; the world and the contents of the stores are as the steps before left them.
 pub fn steps<M: MakesSteps, R: Read, W: Write>(
     alloc: Global,
     world: &mut M,
@@ -125,7 +125,7 @@ pub fn steps<M: MakesSteps, R: Read, W: Write>(
     // also after a fault
     ensures begun { Writes (W.contents writer.old) (W.contents writer.new)
         (λ written. BeginsAnswers (R.remaining reader.old) (M.run world.old) written) }
-    ensures setup { (M.run world.new).lists ≡ (M.run world.old).lists }
+    ensures steps { MakesFirst (R.remaining reader.old) (M.run world.old) (M.run world.new) }
     ensures cause { IsErrOf result Store → FailsAtStore M.run M.leaves world.old world.new }
 {
     let Ok(mut buffered) = BufReader::new(alloc, reader) else {
@@ -152,7 +152,7 @@ fn answer_all<M: MakesSteps, R: BufRead, W: Write>(
         (λ sent. Answers (R.remaining reader.old) (M.run world.old) (M.run world.new) (sent ++ string_bytes answers.new) ended)) }
     ensures begun { Writes (W.contents writer.old) (W.contents writer.new)
         (λ sent. BeginsAnswers (R.remaining reader.old) (M.run world.old) (sent ++ string_bytes answers.new)) }
-    ensures setup { (M.run world.new).lists ≡ (M.run world.old).lists }
+    ensures steps { MakesFirst (R.remaining reader.old) (M.run world.old) (M.run world.new) }
     ensures cause { IsErrOf result Store → FailsAtStore M.run M.leaves world.old world.new }
 {
     let mut line = Vec::new(alloc);
@@ -181,7 +181,7 @@ fn answer_next<M: MakesSteps, R: BufRead>(
     ensures ok { IfOk result (λ next. GoesOn (R.remaining reader.old) (R.remaining reader.new) (M.run world.old) (M.run world.new)
         (string_bytes answers.old) (string_bytes answers.new) next) }
     ensures err { OnErr result (string_bytes answers.new ≡ string_bytes answers.old) }
-    ensures setup { (M.run world.new).lists ≡ (M.run world.old).lists }
+    ensures once { OnErr result (MayMakeNext (R.remaining reader.old) (M.run world.old) (M.run world.new)) }
     ensures made { OnOk result (HasMade M.run M.leaves world.old world.new) }
     ensures fault { IfErr result IsOfReaderOrStep }
     ensures cause { IsErrOf result Store → FailsAtStore M.run M.leaves world.old world.new }
@@ -192,8 +192,9 @@ fn answer_next<M: MakesSteps, R: BufRead>(
     }
 }
 
-/// Where the reader has the next line ready with its line feed, makes its step and appends the line of its answer. The line is read where it lies.
-/// Otherwise nothing is read; at the end of the input the reader is not asked again. After a fault the text is as it was.
+/// Where the reader has the next line ready with its line feed, makes its step and appends the line of its answer. The
+/// line is read where it lies. Otherwise nothing is read; at the end of the input the reader is not asked again. After
+/// a fault the text is as it was.
 fn answer_ready<M: MakesSteps, R: BufRead>(
     alloc: Global,
     world: &mut M,
@@ -203,7 +204,7 @@ fn answer_ready<M: MakesSteps, R: BufRead>(
     ensures ok { IfOk result (MayGoOn (R.remaining reader.old) (R.remaining reader.new) (M.run world.old) (M.run world.new)
         (string_bytes answers.old) (string_bytes answers.new)) }
     ensures err { OnErr result (string_bytes answers.new ≡ string_bytes answers.old) }
-    ensures setup { (M.run world.new).lists ≡ (M.run world.old).lists }
+    ensures once { OnErr result (MayMakeNext (R.remaining reader.old) (M.run world.old) (M.run world.new)) }
     ensures made { OnOk result (HasMade M.run M.leaves world.old world.new) }
     ensures fault { IfErr result IsOfReaderOrStep }
     ensures cause { IsErrOf result Store → FailsAtStore M.run M.leaves world.old world.new }
@@ -227,7 +228,8 @@ fn answer_ready<M: MakesSteps, R: BufRead>(
     Ok(Some(next))
 }
 
-/// Reads one line piece by piece, makes its step and appends the line of its answer. After a fault the text is as it was.
+/// Reads one line piece by piece, makes its step and appends the line of its answer. After a fault the text is as it
+/// was.
 #[tactic(auto, using(crate::proofs::Bytes::line_is_no_step))]
 fn answer_read<M: MakesSteps, R: BufRead>(
     alloc: Global,
@@ -239,7 +241,7 @@ fn answer_read<M: MakesSteps, R: BufRead>(
     ensures ok { IfOk result (λ next. GoesOn (R.remaining reader.old) (R.remaining reader.new) (M.run world.old) (M.run world.new)
         (string_bytes answers.old) (string_bytes answers.new) next) }
     ensures err { OnErr result (string_bytes answers.new ≡ string_bytes answers.old) }
-    ensures setup { (M.run world.new).lists ≡ (M.run world.old).lists }
+    ensures once { OnErr result (MayMakeNext (R.remaining reader.old) (M.run world.old) (M.run world.new)) }
     ensures made { OnOk result (HasMade M.run M.leaves world.old world.new) }
     ensures fault { IfErr result IsOfReaderOrStep }
     ensures cause { IsErrOf result Store → FailsAtStore M.run M.leaves world.old world.new }
@@ -254,8 +256,8 @@ fn answer_read<M: MakesSteps, R: BufRead>(
     }
 }
 
-/// Makes the step that the line spells and appends the line of its answer; `false` where the line spells no step. After a
-/// fault the text is as it was.
+/// Makes the step that the line spells and appends the line of its answer; `false` where the line spells no step. After
+/// a fault the text is as it was.
 fn answer_line<M: MakesSteps>(
     alloc: Global,
     world: &mut M,
@@ -264,7 +266,7 @@ fn answer_line<M: MakesSteps>(
 ) -> Result<bool, Fault>
     ensures ok { IfOk result (AnswersLine line.now (M.run world.old) (M.run world.new) (string_bytes answers.old) (string_bytes answers.new)) }
     ensures err { OnErr result (string_bytes answers.new ≡ string_bytes answers.old) }
-    ensures setup { (M.run world.new).lists ≡ (M.run world.old).lists }
+    ensures once { OnErr result (MayMake line.now (M.run world.old) (M.run world.new)) }
     ensures made { OnOk result (HasMade M.run M.leaves world.old world.new) }
     ensures fault { IfErr result IsOfStep }
     ensures cause { IsErrOf result Store → FailsAtStore M.run M.leaves world.old world.new }

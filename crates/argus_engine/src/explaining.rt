@@ -12,9 +12,10 @@ use std::alloc::{AllocError, Global};
 use std::io::Write;
 use tracer::{Explained, explain};
 
-/// Writes what the action whose name the word is sees of the history: a line an operation, by place in the serial order, as in
-/// `5.4.3 1.1 2/1 get n -> 0`, with `*` for a closing step that has not come; or `orphan` alone; or `refused 2` alone where no such action
-/// was begun, also where the word is no name. After a fault a beginning of these lines was written.
+/// Writes what the action whose name the word is sees of the history: a line an operation, by place in the serial
+/// order, as in `5.4.3 1.1 2/1 get n -> 0`, with `*` for a closing step that has not come; or `orphan` alone; or
+/// `refused 2` alone where no such action was begun, also where the word is no name. After a fault a beginning of these
+/// lines was written.
 #[tactic(auto, using(crate::proofs::Explanations::front_written, crate::proofs::Explanations::nothing_written))]
 pub fn explain_text<W: Write>(
     alloc: Global,

@@ -1,8 +1,9 @@
-//! The engine of the program: it reads steps, a line each, makes them in a world, and writes the line of each answer; and it says of a
-//! script whether it is one. Runs of scripts stand in `script_engine`, which writes by `finish` and ends as is said here.
+//! The engine of the program: it reads steps, a line each, makes them in a world, and writes the line of each answer;
+//! and it says of a script whether it is one. Runs of scripts stand in `script_engine`, which writes by `finish` and
+//! ends as is said here.
 //!
-//! What it writes is the answer text that belongs to what it reads. Of steps it keeps one line and one buffer of answers at a
-//! time, beside the world.
+//! What it writes is the answer text that belongs to what it reads. Of steps it keeps one line and one buffer of
+//! answers at a time, beside the world.
 #![tactic(auto)]
 
 mod checking;

@@ -40,8 +40,8 @@ pub(crate) struct Front {
     pub(crate) met: Met,
 }
 
-/// Reads a line without its line feed, in place of what the vector held. Where the line is too long, one byte more than it
-/// may have is read.
+/// Reads a line without its line feed, in place of what the vector held. Where the line is too long, one byte more than
+/// it may have is read.
 #[tactic(auto, using(crate::proofs::Bytes::nothing_was, crate::proofs::Bytes::at_end_gives, crate::proofs::Bytes::cut_is_no_step, crate::proofs::Bytes::long_is_no_step))]
 pub(crate) fn read_line<R: BufRead>(reader: &mut R, line: &mut Vec<u8>) -> Result<Line, Fault>
     ensures found { IfOk result (λ found. ReadsLine (R.remaining reader.old) (R.remaining reader.new) line.new.items found) }
@@ -63,8 +63,8 @@ pub(crate) fn read_line<R: BufRead>(reader: &mut R, line: &mut Vec<u8>) -> Resul
     Err(Fault::Input)
 }
 
-/// Takes what the reader has ready of a line, so many bytes at most, and appends it: up to the line feed, which is taken too and not appended.
-/// Nothing is taken where a signal interrupts.
+/// Takes what the reader has ready of a line, so many bytes at most, and appends it: up to the line feed, which is
+/// taken too and not appended. Nothing is taken where a signal interrupts.
 fn take_some<R: BufRead>(reader: &mut R, room: usize, line: &mut Vec<u8>) -> Result<Met, Fault>
     requires { 1 ≤ room }
     ensures taken { IfOk result (TakesSome (R.remaining reader.old) (R.remaining reader.new) line.old.items line.new.items) }

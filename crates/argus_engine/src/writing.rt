@@ -12,7 +12,8 @@ use std::io::{ErrorKind, Write};
 /// How many bytes of answers are kept before they are written.
 const BUFFER_SIZE: usize = 8192;
 
-/// Writes the text and empties it, where it is long enough. After a fault it is empty, and a beginning of it was written.
+/// Writes the text and empties it, where it is long enough. After a fault it is empty, and a beginning of it was
+/// written.
 #[tactic(auto, using(crate::proofs::Progressed::moves_all, crate::proofs::Progressed::moves_none))]
 pub(crate) fn send_if_full<W: Write>(writer: &mut W, text: &mut String) -> Result<(), Fault>
     ensures ok { OnOk result (Moves (W.contents writer.old) (W.contents writer.new) (string_bytes text.old) (string_bytes text.new)) }
@@ -28,7 +29,8 @@ pub(crate) fn send_if_full<W: Write>(writer: &mut W, text: &mut String) -> Resul
     written
 }
 
-/// Writes the text and flushes the writer. After a fault of the writer a beginning of the text was written; there is no other.
+/// Writes the text and flushes the writer. After a fault of the writer a beginning of the text was written; there is no
+/// other.
 #[tactic(auto, using(crate::proofs::Bytes::flushed, crate::proofs::Bytes::not_flushed))]
 pub fn finish<W: Write>(writer: &mut W, text: &str) -> Result<(), Fault>
     ensures ok { OnOk result (Appends (W.contents writer.old) (W.contents writer.new) text.now) }

@@ -1,6 +1,7 @@
-use Rattle.std.proofs.Common.{string_bytes, refl}
-use Rattle.argus_engine.proofs.Stepped.{failed_later, made_more, made_none}
-use Rattle.argus_engine.proofs.Progressed.{started, went_on, sent_some, begun, begun_part, done, stopped, begun_of_answers, kept_at_no_step}
+use Rattle.std.proofs.Common.{inl, inr, string_bytes, refl}
+use Rattle.stepping.proofs.Making.{made_more, made_none}
+use Rattle.argus_engine.proofs.Stepped.{failed_later}
+use Rattle.argus_engine.proofs.Progressed.{started, went_on, sent_some, begun, begun_part, done, stopped, begun_of_answers, kept_at_no_step, made_no_more, makes_first, may_make_next}
 use Rattle.argus_engine.proofs.engine.answer_all.Goals as goal
 
 pub loop-number-init : goal.loop-number-init
@@ -13,6 +14,10 @@ returns-in_err-answer_next-clause-cause g c =
 
 pub returns-in_err-answer_next-clause-begun : goal.returns-in_err-answer_next-clause-begun
 returns-in_err-answer_next-clause-begun g c = begun (string_bytes c.answer_next.new.answers) c.loop-number.invariant.running c.in_err-answer_next.ensures.err
+
+pub returns-in_err-answer_next-clause-steps : goal.returns-in_err-answer_next-clause-steps
+returns-in_err-answer_next-clause-steps g c =
+    may_make_next (g.M.MakesSteps.run c.answer_next.new.world) c.loop-number.invariant.running c.in_err-answer_next.ensures.once
 
 pub returns-in_err-push_error-in-NoStep-clause-begun : goal.returns-in_err-push_error-in-NoStep-clause-begun
 returns-in_err-push_error-in-NoStep-clause-begun g c =
@@ -51,3 +56,27 @@ loop-number-preserved g c = record {
 
 pub returns-clause-begun : goal.returns-clause-begun
 returns-clause-begun g c = begun (string_bytes c.loop-number.answers) c.loop-number.invariant.running refl
+
+pub returns-in_err-push_error-in-NoStep-clause-steps : goal.returns-in_err-push_error-in-NoStep-clause-steps
+returns-in_err-push_error-in-NoStep-clause-steps g c =
+    made_no_more (g.R.Read.remaining c.answer_next.new.reader) (g.M.MakesSteps.run c.answer_next.new.world) (string_bytes c.answer_next.new.answers) c.in_ok-answer_next.field-0 c.loop-number.invariant.running
+    c.in_ok-answer_next.ensures.ok (inl c.in-NoStep.is)
+
+pub returns-in-NoStep-clause-steps : goal.returns-in-NoStep-clause-steps
+returns-in-NoStep-clause-steps g c =
+    made_no_more (g.R.Read.remaining c.answer_next.new.reader) (g.M.MakesSteps.run c.answer_next.new.world) (string_bytes c.answer_next.new.answers) c.in_ok-answer_next.field-0 c.loop-number.invariant.running
+    c.in_ok-answer_next.ensures.ok (inl c.in-NoStep.is)
+
+pub returns-in-End-clause-steps : goal.returns-in-End-clause-steps
+returns-in-End-clause-steps g c =
+    made_no_more (g.R.Read.remaining c.answer_next.new.reader) (g.M.MakesSteps.run c.answer_next.new.world) (string_bytes c.answer_next.new.answers) c.in_ok-answer_next.field-0 c.loop-number.invariant.running
+    c.in_ok-answer_next.ensures.ok (inr c.in-End.is)
+
+pub returns-in_err-send_if_full-clause-steps : goal.returns-in_err-send_if_full-clause-steps
+returns-in_err-send_if_full-clause-steps g c =
+    makes_first (g.M.MakesSteps.run c.answer_next.new.world)
+    (went_on (g.R.Read.remaining c.answer_next.new.reader) (g.M.MakesSteps.run c.answer_next.new.world) (string_bytes c.answer_next.new.answers) c.in_ok-answer_next.field-0 c.loop-number.invariant.running c.in_ok-answer_next.ensures.ok c.in-Answered.is)
+    refl
+
+pub returns-clause-steps : goal.returns-clause-steps
+returns-clause-steps g c = makes_first (g.M.MakesSteps.run c.loop-number.world) c.loop-number.invariant.running refl

@@ -1,6 +1,6 @@
 use Rattle.std.proofs.Common.{string_bytes}
 use Rattle.argus_engine.specs.Reading.{Running}
-use Rattle.argus_engine.specs.Stepping.{HasMade}
+use Rattle.stepping.specs.Stepping.{HasMade}
 use Rattle.argus_engine.proofs.engine.answer_all.Given as goal
 
 -- the lines before this number were answered, and their steps were made

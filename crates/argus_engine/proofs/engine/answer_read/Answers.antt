@@ -1,4 +1,8 @@
-use Rattle.argus_engine.proofs.Stepped.{failed_later, made_none, not_of_reader, of_its_step, of_reader}
+use Rattle.std.proofs.Common.{inl, refl, subst}
+use Rattle.argus_engine.specs.Reading.{MayMake, ReadsLine}
+use Rattle.argus_engine.proofs.Bytes.{gives_read, made_of_line}
+use Rattle.stepping.proofs.Making.{made_none}
+use Rattle.argus_engine.proofs.Stepped.{also, failed_later, not_of_reader, of_its_step, of_reader}
 use Rattle.argus_engine.proofs.engine.answer_read.Goals as goal
 
 pub returns-in_err-read_line-clause-fault : goal.returns-in_err-read_line-clause-fault
@@ -24,3 +28,14 @@ returns-in-Bad-clause-made g c = made_none g.M.MakesSteps.run g.M.MakesSteps.lea
 
 pub returns-in-Missing-clause-made : goal.returns-in-Missing-clause-made
 returns-in-Missing-clause-made g c = made_none g.M.MakesSteps.run g.M.MakesSteps.leaves _
+
+pub returns-in_err-read_line-clause-once : goal.returns-in_err-read_line-clause-once
+returns-in_err-read_line-clause-once g c = also c.from_residual.result (inl refl)
+
+pub returns-in_err-answer_line-in-Whole-clause-once : goal.returns-in_err-answer_line-in-Whole-clause-once
+returns-in_err-answer_line-in-Whole-clause-once g c =
+    also c.from_residual-in_err-answer_line-in-Whole.result
+    (made_of_line (g.R.Read.remaining c.args.reader.now) c.read_line.new.line.items (g.M.MakesSteps.run c.args.world.now) (g.M.MakesSteps.run c.answer_line.new.world)
+    (gives_read (g.R.Read.remaining c.args.reader.now) (g.R.Read.remaining c.read_line.new.reader) c.read_line.new.line.items
+    (subst (ReadsLine (g.R.Read.remaining c.args.reader.now) (g.R.Read.remaining c.read_line.new.reader) c.read_line.new.line.items) c.in-Whole.is c.in_ok-read_line.ensures.found).0)
+    (subst (λ line. MayMake line (g.M.MakesSteps.run c.args.world.now) (g.M.MakesSteps.run c.answer_line.new.world)) c.deref.ensures.value c.in_err-answer_line-in-Whole.ensures.once))
