@@ -1,5 +1,5 @@
 -- Making steps one after another, and that each leaves a run.
-use Rattle.std.proofs.Common.{◌≡◌, ◌∙◌, List, [], ◌∷◌, ◌++◌, ap, ap₂, refl, subst, sym, append_assoc, append-nil, Result, Ok, Err, IfOk, OnErr}
+use Rattle.std.proofs.Common.{◌≡◌, ◌∙◌, List, [], ◌∷◌, ◌++◌, ap, ap₂, refl, subst, sym, append_assoc, append-nil, None, Result, Ok, Err, IfErr, IfOk, IsErrAnd, OnErr}
 use Rattle.run_model.specs.declared.step.Step.{Step}
 use Rattle.run_model.specs.declared.answer.Answer.{Answer}
 use Rattle.run_model.specs.declared.history.Event.{Event}
@@ -11,7 +11,12 @@ use Rattle.run_laws.specs.Serving.{IsServed}
 use Rattle.run_laws.proofs.Orphans.{refused_orphans_are_orphans}
 use Rattle.run_laws.proofs.Runs.{run_more}
 use Rattle.run_laws.proofs.Serving.{runs_are_served}
-use Rattle.world.specs.Running.{Ran}
+use Rattle.stable_store.specs.Calls.{View}
+use Rattle.layer_contracts.specs.declared.guardian.Fault.{Fault}
+use Rattle.stepping.specs.Stepping.{AreMade}
+use Rattle.stepping.proofs.Making.{join}
+use Rattle.world.specs.Running.{Ran, run_of}
+use Rattle.world.specs.Worlds.{InWorld, LeavesStores}
 
 -- one step more at the end: its answer, and its history
 answers_snoc : (opening : Opening) (past : List Event) (steps : List Step) (step : Step)
@@ -26,26 +31,38 @@ history_snoc : (opening : Opening) (past : List Event) (steps : List Step) (step
 history_snoc opening past [] step = refl
 history_snoc opening past (s ∷ steps) step = history_snoc opening (history_after s (answer_of opening s past) past) steps step
 
--- where no step was made
-pub ran_none : (w : World) (before : List Answer) → Ran w w [] before before
-ran_none w before = record { answers = sym (append-nil before); same_opening = refl; history = refl }
+module _ {S : Type 0} (seen : S → View) where
+  -- where no step was made
+  pub ran_none : (w : InWorld S) (before : List Answer) → Ran seen w w [] before before
+  ran_none w before = record { answers = sym (append-nil before); same_opening = refl; history = refl; made = refl }
 
--- where a step more was made
-pub ran_more : (old now new : World) (steps more : List Step) (step : Step) (answer : Answer) (before after longer : List Answer)
-    → more ≡ steps ++ step ∷ [] → longer ≡ after ++ answer ∷ [] → Ran old now steps before after
-    → answer ≡ answer_of (opening_in now.lists) step now.past → new ≡ world_after now step answer → Ran old new more before longer
-ran_more old now new steps more step answer before after longer m l r a w =
-    let past = history_from (opening_in old.lists) old.past steps in
-    let same : answer ≡ answer_of (opening_in old.lists) step past = a ∙ ap₂ (λ l p. answer_of (opening_in l) step p) r.same_opening r.history in
-    record {
-      answers =
-          l ∙ ap₂ (λ bs b. bs ++ b ∷ []) r.answers same ∙ append_assoc before (answers_from (opening_in old.lists) old.past steps) (answer_of (opening_in old.lists) step past ∷ [])
-          ∙ ap (λ bs. before ++ bs) (sym (answers_snoc (opening_in old.lists) old.past steps step)) ∙ ap (λ ss. before ++ answers_from (opening_in old.lists) old.past ss) (sym m);
-      same_opening = ap (λ v. v.lists) w ∙ r.same_opening;
-      history =
-          ap (λ v. v.past) w ∙ ap₂ (λ b p. history_after step b p) same r.history ∙ sym (history_snoc (opening_in old.lists) old.past steps step)
-          ∙ ap (λ ss. history_from (opening_in old.lists) old.past ss) (sym m);
-    }
+  -- where a step more was made
+  pub ran_more : (old now new : InWorld S) (steps more : List Step) (step : Step) (answer : Answer) (before after longer : List Answer)
+      → more ≡ steps ++ step ∷ [] → longer ≡ after ++ answer ∷ [] → Ran seen old now steps before after
+      → answer ≡ answer_of (opening_in now.run.lists) step now.run.past → new.run ≡ world_after now.run step answer
+      → LeavesStores seen step None now new → Ran seen old new more before longer
+  ran_more old now new steps more step answer before after longer m l r a w leaves =
+      let opening = opening_in old.run.lists in
+      let past = history_from opening old.run.past steps in
+      let same : answer ≡ answer_of opening step past = a ∙ ap₂ (λ l p. answer_of (opening_in l) step p) r.same_opening r.history in
+      record {
+        answers =
+            l ∙ ap₂ (λ bs b. bs ++ b ∷ []) r.answers same ∙ append_assoc before (answers_from opening old.run.past steps) (answer_of opening step past ∷ [])
+            ∙ ap (λ bs. before ++ bs) (sym (answers_snoc opening old.run.past steps step)) ∙ ap (λ ss. before ++ answers_from opening old.run.past ss) (sym m);
+        same_opening = ap (λ v. v.lists) w ∙ r.same_opening;
+        history =
+            ap (λ v. v.past) w ∙ ap₂ (λ b p. history_after step b p) same r.history ∙ sym (history_snoc opening old.run.past steps step)
+            ∙ ap (λ ss. history_from opening old.run.past ss) (sym m);
+        made = subst (λ ss. AreMade run_of (LeavesStores seen) ss old new) (sym m)
+            (join run_of (LeavesStores seen) steps (step ∷ []) old now new r.made
+            (new, record { after = w ∙ ap (λ b. world_after now.run step b) a; stores = leaves }, refl));
+      }
+
+-- the fault that is passed on
+pub passed_on : {T : Type 0} (result : Result T Fault) (fault : Fault) (P : Fault → Type 0) → IsErrAnd result (λ e. e ≡ fault)
+    → P fault → IfErr result P
+passed_on (Ok x) fault P is p = tt
+passed_on (Err e) fault P is p = subst P (sym is) p
 
 -- a step of a run leaves a run, also where it failed
 pub step_served : {E : Type 0} (old new : World) (step : Step) (result : Result Answer E) → IsRun (opening_in old.lists) old.past

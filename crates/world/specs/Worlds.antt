@@ -1,5 +1,5 @@
 -- What a world over stable stores is to contracts: its opening with what has happened since, its registry, and its guardians with their stores.
-use Rattle.std.specs.Prelude.{◌≡◌, ◌+◌, ℕ, true, List, [], length, Option, Some, slice_get}
+use Rattle.std.specs.Prelude.{◌≡◌, ◌+◌, ℕ, true, List, [], length, Option, None, Some, slice_get}
 use Rattle.run_model.specs.declared.step.Step.{Step}
 use Rattle.run_model.specs.Openings.{Opening, opening_in}
 use Rattle.run_model.specs.Runs.{World}
@@ -13,6 +13,7 @@ use Rattle.registry.specs.Registries.{InRegistry, StandsIn}
 use Rattle.layer_contracts.specs.declared.guardian.Fault.{Fault}
 use Rattle.layer_contracts.specs.declared.guardian.Fault.TheVariants.{Stable}
 use Rattle.world_steps.specs.Standings.{HasFailed, IsWorld, StoresLeft, standing}
+use Rattle.world.specs.Stops.{IsKeptThroughStops, StayUp}
 
 pub record InWorld (S : Type 0) : Type 0 where
   -- the opening, in lists, and what has happened since
@@ -32,11 +33,15 @@ abbrev pub IsStanding : {S : Type 0} → (S → View) → InWorld S → Type 0
 IsStanding seen w =
     IsWorld (λ g s. IsWhole seen g s) (λ g. seen_of seen g) (λ f. StandsIn w.registry f) (opening_in w.run.lists) w.run.past w.guardians
 
--- A step, which may have failed so, left each store as its call left it. If a store failed, it has counted that.
+-- A step, which may have failed so, left each store as its call left it. If a store failed, it has counted that. What a
+-- stop within the step leaves are stores of a run without the step, or with it. A step that is made shuts no store.
 pub record LeavesStores {S : Type 0} (seen : S → View) (step : Step) (fault : Option Fault) (old new : InWorld S) : Type 0 where
   pub stores :
       StoresLeft (λ g. seen_of seen g) (opening_in old.run.lists) old.run.past step old.guardians new.guardians fault
   pub failed : fault ≡ Some Stable → HasFailed (λ g. seen_of seen g) old.guardians new.guardians
+  pub stop :
+      IsKeptThroughStops (λ g. seen_of seen g) (opening_in old.run.lists) old.run.past step old.guardians new.guardians
+  pub up : fault ≡ None → StayUp (λ g. seen_of seen g) old.guardians new.guardians
 
 -- the stores from which guardians begin, from the first on: each is at rest, and holds what the opening says that it held, and nothing prepared
 pub record AreOpened {S : Type 0} (seen : S → View) (opening : Opening) (stores : List S) : Type 0 where

@@ -165,11 +165,14 @@ impl<S: Stable> World<S> {
         )
     }
 
-    /// Makes the steps one after another, and appends their answers. After an error the world and the answers are those of the steps before.
+    /// Makes the steps one after another, each as `step` makes it, and appends their answers. `Memory` comes if memory
+    /// for an answer or a step is refused, and `Stable` if a store failed. After an error the steps before are made, and
+    /// their answers stand.
     pub fn run(&mut self, steps: &[Step], answers: &mut Vec<Answer>) -> Result<(), Fault>
-        ensures ok { OnOk result (Ran self.old.run self.new.run steps.now answers.old.items answers.new.items) }
+        ensures ok { OnOk result (Ran S.seen self.old self.new steps.now answers.old.items answers.new.items) }
         ensures served { IsServed (opening_in self.new.run.lists) self.new.run.past }
-        ensures err { OnErr result (RanBefore self.old.run self.new.run steps.now answers.old.items answers.new.items) }
+        ensures err { IfErr result (λ fault.
+            RanBefore S.seen self.old self.new steps.now fault answers.old.items answers.new.items) }
     {
         // so that what happened before is known to be a run
         let _ = &self.history;

@@ -6,6 +6,6 @@ use Rattle.world.proofs.world.World.run.Given as goal
 
 abbrev pub invariant-loop-step : goal.invariant-loop-step
 invariant-loop-step g l = record {
-  ran : Ran l.fn.self.run l.self.run (take l.step-index l.steps) l.fn.answers.items l.answers.items;
+  ran : Ran g.S.Stable.seen l.fn.self l.self (take l.step-index l.steps) l.fn.answers.items l.answers.items;
   served : IsServed (opening_in l.self.run.lists) l.self.run.past;
 }
