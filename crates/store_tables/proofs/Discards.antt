@@ -37,7 +37,7 @@ use Rattle.store_tables.proofs.Finds.{none_found}
 use Rattle.store_tables.proofs.Finds.{find_cases}
 use Rattle.store_tables.proofs.PartRows.{went, same_value}
 use Rattle.store_tables.proofs.Decides.{plain_mode, prepared_table}
-use Rattle.store_tables.proofs.Placed.{Placed, ints}
+use Rattle.store_tables.proofs.Placed.{Placed, ints, same_row}
 use Rattle.store_tables.proofs.Cascade.{work, works_are, ended, Cascades, CascadesTwice, cascades, values_table, deltas_table}
 
 -- The parts of a record in this table are gone, and nothing else. They are gone only where the record was there.
@@ -98,7 +98,7 @@ child_of child moves n r old is =
 row_by_is : (rows : List Row) (id : ℤ) (x : Row) → Placed rows → Has rows x → has_rowid id x ≡ true → row_by rows id ≡ x
 row_by_is rows id x p h is = elim (find_cases (has_rowid id) rows) [
   | inl none ↦ absurd (true≢false (sym is ∙ none_found (has_rowid id) rows none x h))
-  | inr some ↦ ap (λ o. unwrap_or o []) some.3 ∙ p.apart some.0 x some.1 h
+  | inr some ↦ ap (λ o. unwrap_or o []) some.3 ∙ same_row rows p some.0 x some.1 h
       (value_cmp_total.congr (rowid some.0) (Int id) (rowid x) (equal_is _ some.2) ∙ tied_back value_cmp_total (rowid x) (Int id) (equal_is _ is))
 ]
 

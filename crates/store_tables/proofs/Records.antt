@@ -17,7 +17,7 @@ use Rattle.atomic_types.specs.declared.part.Part.{Part}
 use Rattle.stable_store.specs.Stored.{Record}
 use Rattle.store_tables.specs.Rows.{HasRowids}
 use Rattle.store_tables.proofs.Keys.{key_is, equal_is, tied_id}
-use Rattle.store_tables.proofs.Placed.{ints}
+use Rattle.store_tables.proofs.Placed.{ints, same_row}
 use Rattle.store_tables.proofs.Discards.{Discards, LosesParts}
 use Rattle.store_tables.specs.Listed.{Lists}
 use Rattle.store_tables.specs.Shown.{ShowsHome, ShowsRecord}
@@ -184,7 +184,7 @@ some_home (Some r) object p h = (r.home, refl)
 pub number_ties : (v : Column) (n : ℕ) → v ≡ Int (pos n) → is_eq (value_cmp v (Int (pos n))) ≡ true
 number_ties v n is = ap (λ w. is_eq (value_cmp w (Int (pos n)))) is ∙ ap is_eq (tied_itself value_cmp_total (Int (pos n)))
 
-ties_number : (v : Column) (k n : ℕ) → v ≡ Int (pos k) → is_eq (value_cmp v (Int (pos n))) ≡ true → k ≡ n
+pub ties_number : (v : Column) (k n : ℕ) → v ≡ Int (pos k) → is_eq (value_cmp v (Int (pos n))) ≡ true → k ≡ n
 ties_number v k n is h = sym (tied n k (sym (key_is v k n is) ∙ h))
 
 module _ (n : ℕ) (db next : Trees) (m : Records) (homes : Lists (ShowsHome 1) (db 3) (HasHome m)) where
@@ -210,7 +210,7 @@ module _ (n : ℕ) (db next : Trees) (m : Records) (homes : Lists (ShowsHome 1) 
     others_stay r e other has shows id h = false_from_ne_true (has_rowid id r) (λ there.
         let mine = lost.mine id h in
         let tie : value_cmp (rowid r) (rowid mine.0) ≡ Equal = ap (value_cmp (rowid r)) mine.3 ∙ equal_is _ there in
-        let same : r ≡ mine.0 = placed.apart r mine.0 has mine.1 tie in
+        let same : r ≡ mine.0 = same_row (db tree) placed r mine.0 has mine.1 tie in
         other (ties_number (column r 1) e.0 n shows.top.is (ap (λ (x : Row). is_eq (value_cmp (column x 1) (Int (pos n)))) same ∙ mine.2)))
 
     pub parts_taken : Lists (ShowsRecord Spells 1) (db tree) (λ e. HasPart m e × Kind e.1.1)

@@ -1,8 +1,8 @@
 -- Rows by their keys.
-use Rattle.std.specs.Prelude.{◌≡◌, ℕ, pos, Bool, ◌&&◌, List, find, Option, IsTrue}
-use Rattle.std.specs.List.{AllByRecursion}
-use Rattle.std.specs.declared.cmp.Ordering.TheVariants.{Equal}
+use Rattle.std.specs.Prelude.{ℕ, ◌≤◌, pos, Bool, ◌&&◌, List, find, Option, IsTrue}
+use Rattle.std.specs.List.{AllByRecursion, count_by}
 use Rattle.std.specs.Ordering.{is_eq}
+use Rattle.sqlite.specs.declared.types.Value.{Value}
 use Rattle.sqlite.specs.declared.types.Value.TheVariants.{Int, Text}
 use Rattle.sqlite.specs.Order.{Row, column, value_cmp}
 use Rattle.sqlite.specs.Tree.{Trees}
@@ -26,10 +26,10 @@ part_at rows top object = find (is_part_of top object) rows
 abbrev pub is_named : List ℕ → Row → Bool
 is_named name row = is_eq (value_cmp (column row 1) (Text name))
 
--- the rowids are integers, and no two rows have the same one
+-- the rowids are integers, and none comes twice
 pub record HasRowids (rows : List Row) : Type 0 where
   pub ints : (r : Row) → Has rows r → IsTrue (is_int (rowid r))
-  pub apart : (r s : Row) → Has rows r → Has rows s → value_cmp (rowid r) (rowid s) ≡ Equal → r ≡ s
+  pub once : (v : Value) → count_by (λ r. is_eq (value_cmp (rowid r) v)) rows ≤ 1
 
 -- so it is in each table of a store
 abbrev pub HaveRowids : Trees → Type 0
