@@ -1,16 +1,14 @@
 -- What is found when a database is opened, and what looking at it leaves.
-use Rattle.std.proofs.Common.{◌≡◌, Result, Ok, Err, IfOk, OnErr, IfSome, IsTrue, Bool, not, None, option_map, sym, ap, subst, ◌∙◌}
+use Rattle.std.proofs.Common.{◌≡◌, Result, Ok, Err, OnErr, IsTrue, Bool, not, refl, sym, ap, subst, ◌∙◌}
 use Rattle.sqlite.specs.Effect.{Database}
 use Rattle.sqlite.specs.State.{State, HasCleanDisk}
 use Rattle.stable_store.specs.declared.fault.StoreFault.{StoreFault}
 use Rattle.stable_store.specs.Stored.{Stored}
-use Rattle.stable_store.specs.Held.{held}
 use Rattle.store_tables.specs.Tables.{no_schema}
 use Rattle.store_tables.specs.Holds.{IsStore}
 use Rattle.store_writing.specs.Steps.{Stands}
 use Rattle.sql_store.specs.declared.layout.Layout.{Layout}
 use Rattle.sql_store.specs.declared.layout.Layout.TheVariants.{Nothing, Second}
-use Rattle.sql_store.specs.declared.opening.Opened.{Opened}
 use Rattle.sql_store.specs.Layouts.{IsLayout}
 use Rattle.sql_store.specs.Reading.{IsSettled, ShowsTheSame, LooksUp}
 use Rattle.sql_store.proofs.Known.{not_false}
@@ -33,10 +31,19 @@ stands_still a b c P r stands h clean up =
       settled = same.now ∙ (rest.settled ∙ sym same.committed);
     }
 
--- where nothing is held, nothing else is
-pub none_held : (k : Stored) (r : Result Opened StoreFault) → IfOk r (λ it. it.kept ≡ None) → IfOk r (λ it. IfSome (option_map held it.kept) (λ d. d ≡ k))
-none_held k (Ok it) h = subst (λ o. IfSome (option_map held o) (λ d. d ≡ k)) (sym h) tt
-none_held k (Err e) h = tt
+-- nothing was done
+pub untouched : {T : Type 0} (a : State) (P : Database → T → Type 0) (f : StoreFault) → LooksUp {T = T} a a P (Err f)
+untouched a P f = record {
+  clean = λ h. h;
+  ok = λ _. tt;
+  err = λ _ up. record { was_open = up; is_open = up; now = refl; committed = refl; mode = refl };
+  leaves = λ _ _ db h. h;
+}
+
+-- what was not read, of another answer
+pub not_read : {T U : Type 0} (a b : State) (P : Database → T → Type 0) (Q : Database → U → Type 0) (e f : StoreFault) → LooksUp {T = T} a b P (Err e)
+    → LooksUp {T = U} a b Q (Err f)
+not_read a b P Q e f h = record { clean = h.clean; ok = λ _. tt; err = h.err; leaves = h.leaves }
 
 -- ---- which layout it was not
 

@@ -17,3 +17,4 @@ mod Outside
 mod Layouts
 mod Placed
 mod Found
+mod Recognized

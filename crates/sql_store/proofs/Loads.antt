@@ -25,7 +25,7 @@ module _ (old new : State) (c : Stored) (law : IsTrue old.is_open → (db : Tree
       subst (λ t. IsStore t c) (ap (λ (d : Database). d.trees) rest.settled ∙ sym (law up db (h.leaves clean up db may))) rest.store
 
   -- whatever is answered after it was read
-  pub was_read : {T U : Type 0} (P : Database → T → Type 0) (x : T) → LooksUp old new P (Ok x) → (r : Result U StoreFault)
+  pub was_read : {T U E : Type 0} (P : Database → T → Type 0) (x : T) → LooksUp old new P (Ok x) → (r : Result U E)
       → Carries old new c c r
   was_read P x h (Ok y) = record {
     clean = h.clean;
@@ -41,8 +41,9 @@ module _ (old new : State) (c : Stored) (law : IsTrue old.is_open → (db : Tree
   }
 
   -- what was not read
-  pub was_not_read : {T U : Type 0} (P : Database → T → Type 0) (e d : StoreFault) (r : Result U StoreFault) → r ≡ Err d → LooksUp {T = T} old new P (Err e) → Carries old new c c r
-  was_not_read {U = U} P e d r is h = subst (Carries {T = U} old new c c) (sym is) (record {
+  pub was_not_read : {T U E : Type 0} (P : Database → T → Type 0) (e : StoreFault) (d : E) (r : Result U E) → r ≡ Err d → LooksUp {T = T} old new P (Err e)
+      → Carries old new c c r
+  was_not_read {U = U} {E = E} P e d r is h = subst (Carries {T = U} {E = E} old new c c) (sym is) (record {
     clean = h.clean;
     ok = λ clean. tt;
     err = λ clean up. still (h.err clean up) (h.clean clean);

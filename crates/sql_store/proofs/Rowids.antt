@@ -1,12 +1,9 @@
 -- Tables whose rows have rowids of their own, from answers that rise.
-use Rattle.std.proofs.Common.{◌≡◌, inl, inr, ℕ, ◌+◌, ◌≤◌, List, [], ◌∷◌, map, codes, Bool, true}
-use Rattle.std.proofs.Common.{false, cond, IsTrue, refl, sym, ap, ◌∙◌, arith, Ordering, Less}
+use Rattle.std.proofs.Common.{◌≡◌, inl, inr, ℕ, ◌≤◌, List, [], ◌∷◌, map, codes, Bool}
+use Rattle.std.proofs.Common.{false, IsTrue, refl, sym, ap, ◌∙◌, arith, Ordering, Less}
 use Rattle.std.specs.List.{count_by, AllByRecursion}
 use Rattle.std.specs.Ordering.{is_eq, ordering_reverse}
 use Rattle.std.proofs.lemmas.Bool.{cases_Bool}
-use Rattle.std.proofs.lemmas.Cmp.{tied_itself}
-use Rattle.std.proofs.lemmas.List.Sorted.{sum_by-IsPermutation}
-use Rattle.std.proofs.lemmas.List.Sums.{sum_by-cons}
 use Rattle.std.proofs.lemmas.List.Concat.{flat_map_single}
 use Rattle.sqlite.specs.declared.types.Value.{Value}
 use Rattle.sqlite.specs.Order.{Row}
@@ -15,64 +12,25 @@ use Rattle.sqlite_value.proofs.OrderLemmas.{value_cmp_total}
 use Rattle.sqlite_trees.specs.Tree.{Trees, rowid, IsTable}
 use Rattle.sqlite_trees.specs.View.{is_int, IsShaped}
 use Rattle.sqlite_trees.specs.declared.store.Shape.TheVariants.{Table}
-use Rattle.sqlite_rules.specs.Lists.{Has}
 use Rattle.sqlite_rules.proofs.ListLemmas.{all_has}
-use Rattle.sqlite.specs.Term.{col}
+use Rattle.sqlite.specs.Term.{Term, col}
 use Rattle.sqlite.specs.Query.{Query, IsAnswer, output, Output}
 use Rattle.sqlite.specs.Collation.TheVariants.{Binary}
 use Rattle.sqlite.specs.Effect.{Database}
 use Rattle.sqlite.specs.Listing.{understood}
 use Rattle.sqlite.specs.Program.{overlay}
 use Rattle.sqlite_value.specs.Keys.{ascending}
+use Rattle.sqlite_value.specs.declared.keys.Key.{Key}
+use Rattle.sqlite_sql.specs.Term.{eval_all}
 use Rattle.sqlite_tied.specs.Compute.{everything}
 use Rattle.store_tables.specs.Rows.{HasRowids, HaveRowids}
+use Rattle.store_tables.proofs.Counts.{counts_here, counts_past, counts_none, counts_mapped, counts_permuted}
 use Rattle.store_tables.proofs.Keys.{equal_is}
 use Rattle.store_tables.proofs.Queries.{IsQuery}
 use Rattle.sql_store.specs.Reading.{IsAnswered, AreQueryTexts, AreAnswered}
 use Rattle.sql_store.proofs.Queries.{ordered_query, viewed, answer_of, text_of}
 
 -- ---- how often a rowid comes
-
-module _ {X : Type 0} (p : X → Bool) where
-  counts : (x : X) (xs : List X) → count_by p (x ∷ xs) ≡ cond (p x) 1 0 + count_by p xs
-  counts x xs = sum_by-cons (λ y. cond (p y) 1 0) x xs
-
-  counts_here : (x : X) (xs : List X) → p x ≡ true → count_by p (x ∷ xs) ≡ 1 + count_by p xs
-  counts_here x xs is = counts x xs ∙ ap (λ b. cond b 1 0 + count_by p xs) is
-
-  counts_past : (x : X) (xs : List X) → p x ≡ false → count_by p (x ∷ xs) ≡ count_by p xs
-  counts_past x xs is =
-      let zeroed : count_by p (x ∷ xs) ≡ 0 + count_by p xs = counts x xs ∙ ap (λ b. cond b 1 0 + count_by p xs) is in omega (arith, zeroed)
-
-  counts_none : (xs : List X) → ((x : X) → Has xs x → p x ≡ false) → count_by p xs ≡ 0
-  counts_none [] h = refl
-  counts_none (x ∷ xs) h = counts_past x xs (h x (inl refl)) ∙ counts_none xs (λ y i. h y (inr i))
-
-  counts_some : (xs : List X) (x : X) → Has xs x → p x ≡ true → 1 ≤ count_by p xs
-  counts_some [] x h is = absurd h
-  counts_some (y ∷ xs) x (inl same) is = omega (arith, counts_here y xs (ap p (sym same) ∙ is))
-  counts_some (y ∷ xs) x (inr later) is = elim (cases_Bool (p y)) [
-    | inl here ↦ omega (arith, counts_here y xs here)
-    | inr past ↦ omega (arith, counts_past y xs past, counts_some xs x later is)
-  ]
-
-  -- what comes once is one
-  counts_once : (xs : List X) (a b : X) → count_by p xs ≤ 1 → Has xs a → Has xs b → p a ≡ true → p b ≡ true → a ≡ b
-  counts_once [] a b once h k is also = absurd h
-  counts_once (x ∷ xs) a b once (inl h) (inl k) is also = h ∙ sym k
-  counts_once (x ∷ xs) a b once (inl h) (inr k) is also =
-      absurd (omega (arith, once, counts_here x xs (ap p (sym h) ∙ is), counts_some xs b k also))
-  counts_once (x ∷ xs) a b once (inr h) (inl k) is also =
-      absurd (omega (arith, once, counts_here x xs (ap p (sym k) ∙ also), counts_some xs a h is))
-  counts_once (x ∷ xs) a b once (inr h) (inr k) is also = counts_once xs a b (elim (cases_Bool (p x)) [
-    | inl here ↦ omega (arith, once, counts_here x xs here)
-    | inr past ↦ omega (arith, once, counts_past x xs past)
-  ]) h k is also
-
-  counts_mapped : {Y : Type 0} (f : Y → X) (ys : List Y) → count_by p (map f ys) ≡ count_by (λ y. p (f y)) ys
-  counts_mapped f [] = refl
-  counts_mapped f (y ∷ ys) =
-      counts (f y) (map f ys) ∙ (ap (λ n. cond (p (f y)) 1 0 + n) (counts_mapped f ys) ∙ sym (sum_by-cons (λ z. cond (p (f z)) 1 0) y ys))
 
 -- in rows that rise a value comes once at most
 rises_once : (v : Value) (rows : List Row) → IsTable rows → count_by (λ r. is_eq (value_cmp (rowid r) v)) rows ≤ 1
@@ -136,29 +94,26 @@ are_rowids_queries = (
   (text_of _ _ base_rowids, (text_of _ _ homes_rowids, (text_of _ _ values_rowids, (text_of _ _ decided_rowids, (text_of _ _ deltas_rowids, tt))))),
 )
 
+-- as many rows of an answer pass a test as rows of the table
+pub as_many : (p : Row → Bool) (order : List (Term × Key)) (tree : ℕ) (project : List Term) (db : Trees) (found : List Row)
+    → IsAnswer (ordered_query order tree project) db [] found → count_by p found ≡ count_by (λ r. p (eval_all project ([] ∷ r ∷ []))) (db tree)
+as_many p order tree project db found answer =
+    let q = ordered_query order tree project in
+    let shown = λ (o : Output). p o.1 in
+    let env = λ (r : Row). [] ∷ r ∷ [] in
+    let kept : answer.kept ≡ map (output q) (map env (db tree)) =
+    answer.distinct ∙ ap (map (output q)) (answer.grouped ∙ flat_map_single env (db tree)) in
+    ap (count_by p) answer.shown ∙ (counts_mapped p (λ (o : Output). o.1) answer.ordered
+    ∙ (counts_permuted shown answer.kept answer.ordered answer.same ∙ (ap (count_by shown) kept ∙ (counts_mapped shown (output q) (map env (db tree)) ∙ counts_mapped (λ e. shown (output q e)) env (db tree)))))
+
 -- an answer that rises shows the rowid of each row once
 module _ (tree : ℕ) (db : Trees) (found : List Row) (answer : IsAnswer (rowids_query tree) db [] found) (up : IsShaped Table found) where
-  once : (v : Value) → count_by (λ r. is_eq (value_cmp (rowid r) v)) (db tree) ≤ 1
-  once v =
-      let q = rowids_query tree in
-      let p = λ (r : Row). is_eq (value_cmp (rowid r) v) in
-      let shown = λ (o : Output). p o.1 in
-      let env = λ (r : Row). [] ∷ r ∷ [] in
-      let kept : answer.kept ≡ map (output q) (map env (db tree)) =
-      answer.distinct ∙ ap (map (output q)) (answer.grouped ∙ flat_map_single env (db tree)) in
-      let same : count_by shown answer.ordered ≡ count_by shown answer.kept =
-      sum_by-IsPermutation (λ o. cond (shown o) 1 0) answer.kept answer.ordered answer.same in
-      let count : count_by p found ≡ count_by p (db tree) =
-      ap (count_by p) answer.shown ∙ (counts_mapped p (λ (o : Output). o.1) answer.ordered
-      ∙ (same ∙ (ap (count_by shown) kept ∙ (counts_mapped shown (output q) (map env (db tree)) ∙ counts_mapped (λ e. shown (output q e)) env (db tree))))) in
-      omega (arith, sym count, rises_once v found up.0)
-
   pub keyed : HasRowids (db tree)
   keyed = record {
     ints = λ r h. all_has (λ a. IsTrue (is_int (rowid a))) found (rowid r ∷ []) up.1
         ((viewed ((col 1 0, ascending Binary) ∷ []) tree (col 1 0 ∷ []) db found answer).each r h);
-    apart = λ r s h k tie. counts_once (λ x. is_eq (value_cmp (rowid x) (rowid s))) (db tree) r s (once (rowid s)) h k (ap is_eq tie)
-        (ap is_eq (tied_itself value_cmp_total (rowid s)));
+    once = λ v.
+        omega (arith, sym (as_many (λ r. is_eq (value_cmp (rowid r) v)) ((col 1 0, ascending Binary) ∷ []) tree (col 1 0 ∷ []) db found answer), rises_once v found up.0);
   }
 
 keyed_by : (sql : List ℕ) (tree : ℕ) → IsQuery sql (rowids_query tree) → (d : Database) (rows : List Row) → IsAnswered d sql rows → IsShaped Table rows

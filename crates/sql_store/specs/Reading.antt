@@ -1,5 +1,5 @@
 -- What a call that reads the tables answers, and what it leaves.
-use Rattle.std.specs.Prelude.{◌≡◌, ℕ, Bool, true, false, List, [], ◌∷◌, Result, IfOk, OnOk, OnErr, IsTrue}
+use Rattle.std.specs.Prelude.{◌≡◌, ℕ, Bool, true, false, List, [], ◌∷◌, Result, IfOk, OnOk, OnErr, IsErrOf, IsTrue}
 use Rattle.sqlite.specs.Order.{Row}
 use Rattle.sqlite.specs.Tree.{Trees}
 use Rattle.sqlite.proofs.Callers.{command_of}
@@ -8,8 +8,11 @@ use Rattle.sqlite.specs.Given.{IsPlain}
 use Rattle.sqlite.specs.Listing.{understood, reads_listing}
 use Rattle.sqlite.specs.State.{State, HasCleanDisk, KeepsCommit, Survives}
 use Rattle.sqlite_catalog.specs.Listing.{IsSound}
+use Rattle.stable_store.specs.Stored.{Stored}
 use Rattle.stable_store.specs.declared.fault.StoreFault.{StoreFault}
+use Rattle.stable_store.specs.declared.fault.StoreFault.TheVariants.{NotOurs}
 use Rattle.store_tables.specs.Tables.{stable_schema}
+use Rattle.store_writing.specs.Steps.{Stands}
 
 -- ---- answers
 
@@ -74,6 +77,10 @@ pub record StaysOut {T : Type 0} (old new : State) (result : Result T StoreFault
   pub clean : HasCleanDisk new → HasCleanDisk old
   pub mode : old.in_transaction ≡ false → new.in_transaction ≡ false
   pub schema : HasCleanDisk new → OnOk result (new.now.schema ≡ old.now.schema)
+
+-- It is not told of a store that its rows hold no content, unless the disk has returned something else than was written.
+abbrev pub Recognizes : {T : Type 0} → State → State → Result T StoreFault → Type 0
+Recognizes old new result = IsErrOf result NotOurs → HasCleanDisk new → (c : Stored) → ¬ Stands old c
 
 -- so it was found out whether the database has the tables of a store alone
 abbrev pub Knows : State → Bool → Type 0

@@ -1,12 +1,13 @@
 //! Reading the tables.
-ghost use Rattle.std.specs.Prelude.{◌≡◌, ◌<◌, false, IfOk, IsTrue, length, map};
+ghost use Rattle.std.specs.Prelude.{◌≡◌, ◌<◌, false, IsErrOf, IsTrue, length, map};
 ghost use Rattle.sqlite.specs.Held.{state};
 ghost use Rattle.sqlite.specs.State.{HasCleanDisk};
 ghost use Rattle.stable_store.specs.Held.{held};
+ghost use Rattle.stable_store.specs.declared.fault.StoreFault.TheVariants.{NotOurs};
 ghost use Rattle.store_tables.specs.Answered.{rows_of};
 ghost use Rattle.store_tables.specs.Holds.{Holds, IsLaidOut, tables_of};
 ghost use Rattle.store_tables.specs.Rows.{HaveRowids};
-ghost use Rattle.sql_store.specs.Reading.{IsQueryText, IsAnswered, AreQueryTexts, AreAnswered, Quiets, LooksUp, StaysOut};
+ghost use Rattle.sql_store.specs.Reading.{IsQueryText, IsAnswered, AreQueryTexts, AreAnswered, Quiets, LooksUp, StaysOut, Recognizes};
 
 use crate::layout::{READ_COUNT, number_named};
 use sqlite::{Alter, Connection, Row};
@@ -23,6 +24,7 @@ pub(crate) fn answer<A: Alter>(
     ensures outside { StaysOut (state A.Store conn.old) (state A.Store conn.new) result }
     ensures looks { IsQueryText query.now → Quiets (state A.Store conn.old)
         → LooksUp (state A.Store conn.old) (state A.Store conn.new) (λ d rows. IsAnswered d query.now rows.items) result }
+    ensures told { IsErrOf result NotOurs → ⊥ }
 {
     match conn.query_all(query, &[]) {
         Ok(rows) => Ok(rows),
@@ -41,6 +43,7 @@ fn answers<A: Alter>(
     ensures looks { AreQueryTexts (map (λ q. q.now) queries.now) → Quiets (state A.Store conn.old)
         → LooksUp (state A.Store conn.old) (state A.Store conn.new)
         (λ d answers. AreAnswered d (map (λ q. q.now) queries.now) (rows_of answers.items)) result }
+    ensures told { IsErrOf result NotOurs → ⊥ }
 {
     let mut answers = Vec::new(alloc);
     for query in queries {
@@ -57,6 +60,7 @@ pub(crate) fn read_content<A: Alter>(
     ensures outside { StaysOut (state A.Store conn.old) (state A.Store conn.new) result }
     ensures looks { Quiets (state A.Store conn.old)
         → LooksUp (state A.Store conn.old) (state A.Store conn.new) (λ d kept. Holds 1 (tables_of d.trees) (held kept)) result }
+    ensures recognized { Recognizes (state A.Store conn.old) (state A.Store conn.new) result }
 {
     content_of(alloc, &answers(conn, alloc, &QUERIES)?)
 }
@@ -66,6 +70,7 @@ fn check_rowids<A: Alter>(conn: &mut Connection<A>, alloc: Global) -> Result<(),
     ensures outside { StaysOut (state A.Store conn.old) (state A.Store conn.new) result }
     ensures looks { Quiets (state A.Store conn.old)
         → LooksUp (state A.Store conn.old) (state A.Store conn.new) (λ d _. HaveRowids d.trees) result }
+    ensures recognized { Recognizes (state A.Store conn.old) (state A.Store conn.new) result }
 {
     match all_rise(&answers(conn, alloc, &ROWIDS)?) {
         true => Ok(()),
@@ -83,6 +88,7 @@ pub(crate) fn read_store<A: Alter>(
     ensures outside { StaysOut (state A.Store conn.old) (state A.Store conn.new) result }
     ensures looks { IsTrue is_known → Quiets (state A.Store conn.old)
         → LooksUp (state A.Store conn.old) (state A.Store conn.new) (λ d kept. IsLaidOut d.trees (held kept)) result }
+    ensures recognized { Recognizes (state A.Store conn.old) (state A.Store conn.new) result }
 {
     if !is_known {
         return read_content(conn, alloc);

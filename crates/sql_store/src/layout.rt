@@ -1,7 +1,8 @@
 //! Which tables a database has, and the numbers of `meta` by name.
-ghost use Rattle.std.specs.Prelude.{◌≡◌, ◌∷◌, false, IfOk, IsTrue, map, Err};
+ghost use Rattle.std.specs.Prelude.{◌≡◌, ◌∷◌, false, IfOk, IsErrOf, IsTrue, map, Err};
 ghost use Rattle.sqlite.specs.Held.{state};
 ghost use Rattle.sqlite.specs.State.{HasCleanDisk};
+ghost use Rattle.stable_store.specs.declared.fault.StoreFault.TheVariants.{NotOurs};
 ghost use Rattle.store_tables.specs.Tables.{stable_schema};
 ghost use Rattle.sql_store.specs.Reading.{IsAlone, IsSettled, Quiets, IsQueryText, LooksUp};
 ghost use Rattle.sql_store.specs.Layouts.{presence, presence_in, IsAbsence, IsPresence, IsLayout};
@@ -58,6 +59,7 @@ pub(crate) fn layout_of<A: Alter>(conn: &mut Connection<A>) -> Result<Layout, St
     ensures mode { (state A.Store conn.old).in_transaction ≡ false → (state A.Store conn.new).in_transaction ≡ false }
     ensures looks { IsSettled (state A.Store conn.old)
         → LooksUp (state A.Store conn.old) (state A.Store conn.new) (λ d layout. IsLayout d.schema layout) result }
+    ensures told { IsErrOf result NotOurs → ⊥ }
 {
     let first = presence_of_all(conn, META_COLUMNS, &FIRST_COLUMNS)?;
     let deltas = presence_of(conn, DELTA_COLUMNS)?;
@@ -92,6 +94,7 @@ fn presence_of_all<A: Alter>(
     ensures mode { (state A.Store conn.old).in_transaction ≡ false → (state A.Store conn.new).in_transaction ≡ false }
     ensures looks { IsSettled (state A.Store conn.old) → LooksUp (state A.Store conn.old) (state A.Store conn.new)
         (λ d found. IsPresence d.schema (query.now ∷ map (λ q. q.now) others.now) found) result }
+    ensures told { IsErrOf result NotOurs → ⊥ }
 {
     let first = presence_of(conn, query)?;
     for other in others {
@@ -108,6 +111,7 @@ fn presence_of<A: Alter>(conn: &mut Connection<A>, query: &str) -> Result<Presen
     ensures mode { (state A.Store conn.old).in_transaction ≡ false → (state A.Store conn.new).in_transaction ≡ false }
     ensures looks { IsSettled (state A.Store conn.old) → LooksUp (state A.Store conn.old) (state A.Store conn.new)
         (λ d found. found ≡ presence_in d.schema query.now) result }
+    ensures told { IsErrOf result NotOurs → ⊥ }
 {
     match conn.prepare(query) {
         Ok(_) => Ok(Presence::There),
@@ -117,7 +121,8 @@ fn presence_of<A: Alter>(conn: &mut Connection<A>, query: &str) -> Result<Presen
 
 /// What a database has of the columns that a query names which it refused with this error.
 fn absence(error: Error) -> Result<Presence, StoreFault>
-    ensures { IfOk result (IsAbsence error) }
+    ensures absence { IfOk result (IsAbsence error) }
+    ensures told { IsErrOf result NotOurs → ⊥ }
 {
     match error {
         Error::SqlInputError(fault) => absence_by(fault),
@@ -127,7 +132,8 @@ fn absence(error: Error) -> Result<Presence, StoreFault>
 
 /// What a database has of the columns that a query names which it did not understand.
 fn absence_by(fault: CompileError) -> Result<Presence, StoreFault>
-    ensures { IfOk result (λ found. found ≡ presence (Err fault)) }
+    ensures absence { IfOk result (λ found. found ≡ presence (Err fault)) }
+    ensures told { IsErrOf result NotOurs → ⊥ }
 {
     match fault {
         CompileError::NoSuchTable => Ok(Presence::Missing),

@@ -8,7 +8,7 @@ ghost use Rattle.store_tables.specs.Tables.{no_schema, stable_schema};
 ghost use Rattle.sql_store.specs.declared.layout.Layout.TheVariants.{Second};
 ghost use Rattle.store_writing.specs.Steps.{Stands};
 ghost use Rattle.store_tables.specs.Holds.{IsLaidOut};
-ghost use Rattle.sql_store.specs.Reading.{Quiets, LooksUp, Knows};
+ghost use Rattle.sql_store.specs.Reading.{Quiets, LooksUp, Knows, Recognizes};
 
 use crate::asking::{read_first, read_store};
 use crate::building::build;
@@ -45,8 +45,9 @@ pub(crate) fn open<A: Alter>(alloc: Global, conn: &mut Connection<A>) -> Result<
     ensures known { IfOk result (λ it. Knows (state A.Store conn.new) it.is_known) }
     ensures fresh { HasCleanDisk (state A.Store conn.new) → (state A.Store conn.old).now.schema ≡ no_schema
         → IfOk result (λ it. option_map held it.kept ≡ Some empty) }
-    ensures held { HasCleanDisk (state A.Store conn.new) → (c : Stored) → Stands (state A.Store conn.old) c
-        → IfOk result (λ it. IfSome (option_map held it.kept) (λ d. d ≡ c)) }
+    ensures reads { HasCleanDisk (state A.Store conn.new) → (c : Stored) → Stands (state A.Store conn.old) c
+        → LooksUp (state A.Store conn.old) (state A.Store conn.new) (λ _ it. option_map held it.kept ≡ Some c) result }
+    ensures recognized { Recognizes (state A.Store conn.old) (state A.Store conn.new) result }
     ensures refused { HasCleanDisk (state A.Store conn.new) → (state A.Store conn.old).now.schema ≡ no_schema
         → OnErr result (IsTrue (state A.Store conn.new).is_open → (state A.Store conn.new).now ≡ (state A.Store conn.old).now) }
 {
@@ -85,20 +86,31 @@ fn take<A: Alter>(alloc: Global, conn: &mut Connection<A>) -> Result<Opened, Sto
     ensures stands { IfOk result (λ it. IsTrue it.is_known → IfSome it.kept (λ kept. Stands (state A.Store conn.new) (held kept))) }
     ensures known { (state A.Store conn.old).in_transaction ≡ false → IfOk result (λ it. Knows (state A.Store conn.new) it.is_known) }
     ensures clean { HasCleanDisk (state A.Store conn.new) → HasCleanDisk (state A.Store conn.old) }
-    ensures held { HasCleanDisk (state A.Store conn.new) → (c : Stored) → Stands (state A.Store conn.old) c
-        → IfOk result (λ it. IfSome (option_map held it.kept) (λ d. d ≡ c)) }
+    ensures reads { HasCleanDisk (state A.Store conn.new) → IsTrue (state A.Store conn.old).is_open → (c : Stored)
+        → Stands (state A.Store conn.old) c → LooksUp (state A.Store conn.old) (state A.Store conn.new)
+        (λ _ it. option_map held it.kept ≡ Some c) result }
+    ensures recognized { Recognizes (state A.Store conn.old) (state A.Store conn.new) result }
 {
     one_content_is_held();
-    check_numbers(conn)?;
     let is_known = is_alone(conn);
     match read_store(conn, alloc, is_known) {
         Ok(kept) => Ok(Opened {
             kept: Some(kept),
             is_known,
         }),
-        Err(StoreFault::NotOurs) => put_in_place(alloc, conn),
+        Err(StoreFault::NotOurs) => take_others(alloc, conn),
         Err(fault) => Err(fault),
     }
+}
+
+/// Takes tables whose rows stand for no content as they are. `NotOurs` where they are of another version than 2.
+fn take_others<A: Alter>(alloc: Global, conn: &mut Connection<A>) -> Result<Opened, StoreFault>
+    ensures stands { IfOk result (λ it. IsTrue it.is_known → IfSome it.kept (λ kept. Stands (state A.Store conn.new) (held kept))) }
+    ensures known { (state A.Store conn.old).in_transaction ≡ false → IfOk result (λ it. Knows (state A.Store conn.new) it.is_known) }
+    ensures clean { HasCleanDisk (state A.Store conn.new) → HasCleanDisk (state A.Store conn.old) }
+{
+    check_numbers(conn)?;
+    put_in_place(alloc, conn)
 }
 
 /// `NotOurs` where `meta` has another version than 2, or a number of the next top action that is none.

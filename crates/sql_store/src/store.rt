@@ -53,8 +53,9 @@ impl<A: Alter + Drop> SqlStable<A> {
     ghost use Rattle.stable_store.specs.Stored.{Stored, empty};
     ghost use Rattle.stable_store.specs.Calls.{View, Rests, found};
     ghost use Rattle.stable_store.specs.Held.{held};
+    ghost use Rattle.stable_store.specs.declared.fault.StoreFault.TheVariants.{NotOurs};
     ghost use Rattle.store_tables.specs.Tables.{no_schema};
-    ghost use Rattle.store_writing.specs.Steps.{Stands};
+    ghost use Rattle.store_writing.specs.Steps.{Stands, Carries};
     ghost use Rattle.sql_store.specs.Reading.{Knows};
     ghost use Rattle.sql_store.specs.Views.{sql_view};
 
@@ -77,7 +78,13 @@ impl<A: Alter + Drop> SqlStable<A> {
         ensures refused { IfErr result (λ e. HasCleanDisk (state A.Store e.1) → (state A.Store conn).now.schema ≡ no_schema
             → IsTrue (state A.Store e.1).is_open → (state A.Store e.1).now ≡ (state A.Store conn).now) }
         ensures held { IfOk result (λ s. HasCleanDisk (state A.Store s.conn) → (c : Stored) → Stands (state A.Store conn) c
-            → IfSome (found (sql_view A.Store s)) (λ d. d ≡ c)) }
+            → found (sql_view A.Store s) ≡ Some c) }
+        ensures recognized { IfErr result (λ e. e.0 ≡ NotOurs → HasCleanDisk (state A.Store e.1) → (c : Stored)
+            → ¬ Stands (state A.Store conn) c) }
+        ensures carries { IfOk result (λ s. HasCleanDisk (state A.Store s.conn) → (c : Stored) → Stands (state A.Store conn) c
+            → Carries (state A.Store conn) (state A.Store s.conn) c c result) }
+        ensures carries_back { IfErr result (λ e. HasCleanDisk (state A.Store e.1) → (c : Stored) → Stands (state A.Store conn) c
+            → Carries (state A.Store conn) (state A.Store e.1) c c result) }
     {
         let mut conn = conn;
         one_content_is_held();

@@ -1,4 +1,4 @@
-use Rattle.std.proofs.Common.{◌≡◌, Vec, Global, Ok, Err, rules, subst}
+use Rattle.std.proofs.Common.{◌≡◌, Vec, Global, Ok, Err, rules, subst, sym, ◌∙◌, true≢false}
 use Rattle.std.proofs.lemmas.Result.{err_from_is_err_and}
 use Rattle.stable_store.specs.declared.fault.StoreFault.TheVariants.{NotOurs}
 use Rattle.std.specs.List.{AllByRecursion}
@@ -12,6 +12,9 @@ use Rattle.sql_store.specs.Reading.{AreAnswered}
 use Rattle.sql_store.proofs.Rowids.{rowids_queries, are_rowids_queries, all_keyed}
 use Rattle.sql_store.proofs.Sequences.{then_reads, failed_reads}
 use Rattle.sql_store.proofs.Outside.{stays_any, stays_err}
+use Rattle.store_tables.proofs.Told.{told_by}
+use Rattle.sql_store.proofs.Loads.{quiets}
+use Rattle.sql_store.proofs.Recognized.{rowids_told}
 use Rattle.sql_store.proofs.asking.check_rowids.Goals as goal
 
 pub returns-in_err-answers-clause-looks : goal.returns-in_err-answers-clause-looks
@@ -47,3 +50,15 @@ returns-in-true-clause-outside g c = stays_any (state g.A.Store c.args.conn.now)
 
 pub returns-clause-outside : goal.returns-clause-outside
 returns-clause-outside g c = stays_any (state g.A.Store c.args.conn.now) (state g.A.Store c.answers.new.conn) c.in_ok-answers.field-0 (Err NotOurs) c.in_ok-answers.ensures.outside
+
+pub returns-in_err-answers-clause-recognized : goal.returns-in_err-answers-clause-recognized
+returns-in_err-answers-clause-recognized g c is clean k stands =
+    c.in_err-answers.ensures.told (told_by c.from_residual.result c.in_err-answers.field-0.0 c.from_residual.ensures.1 is)
+
+pub returns-clause-recognized : goal.returns-clause-recognized
+returns-clause-recognized g c is clean k stands =
+    let same : c.deref.result.now ≡ c.in_ok-answers.field-0.items = search rules in
+    let old = state g.A.Store c.args.conn.now in
+    let new = state g.A.Store c.answers.new.conn in
+    let rise = rowids_told old new k c.in_ok-answers.field-0 c.deref.result.now same clean stands (c.in_ok-answers.ensures.looks are_rowids_queries (quiets old k stands)) in
+    true≢false (sym (c.all_rise.ensures.found rise) ∙ c.in-false.is)

@@ -10,6 +10,9 @@ use Rattle.sql_store.specs.Reading.{AreAnswered}
 use Rattle.sql_store.proofs.Queries.{are_queries, views}
 use Rattle.sql_store.proofs.Sequences.{then_reads, failed_reads, ok_leads}
 use Rattle.sql_store.proofs.Outside.{stays_any, stays_err}
+use Rattle.store_tables.proofs.Told.{told_by}
+use Rattle.sql_store.proofs.Loads.{quiets}
+use Rattle.sql_store.proofs.Recognized.{content_told}
 use Rattle.sql_store.proofs.asking.read_content.Goals as goal
 
 pub returns-in_err-answers-clause-looks : goal.returns-in_err-answers-clause-looks
@@ -36,3 +39,15 @@ returns-in_err-answers-clause-outside g c =
 
 pub returns-clause-outside : goal.returns-clause-outside
 returns-clause-outside g c = stays_any (state g.A.Store c.args.conn.now) (state g.A.Store c.answers.new.conn) c.in_ok-answers.field-0 c.content_of.result c.in_ok-answers.ensures.outside
+
+pub returns-in_err-answers-clause-recognized : goal.returns-in_err-answers-clause-recognized
+returns-in_err-answers-clause-recognized g c is clean k stands =
+    c.in_err-answers.ensures.told (told_by c.from_residual.result c.in_err-answers.field-0.0 c.from_residual.ensures.1 is)
+
+pub returns-clause-recognized : goal.returns-clause-recognized
+returns-clause-recognized g c is clean k stands =
+    let same : c.deref.result.now ≡ c.in_ok-answers.field-0.items = search rules in
+    let old = state g.A.Store c.args.conn.now in
+    let new = state g.A.Store c.answers.new.conn in
+    content_told old new k c.in_ok-answers.field-0 c.deref.result.now same clean stands (c.in_ok-answers.ensures.looks are_queries (quiets old k stands))
+    (λ six keyed. c.content_of.ensures.told is six keyed k)

@@ -1,4 +1,4 @@
-use Rattle.std.proofs.Common.{Err, sym, ◌∙◌, true≢false}
+use Rattle.std.proofs.Common.{Ok, Err, sym, ◌∙◌, true≢false}
 use Rattle.std.proofs.lemmas.Result.{err_from_is_err_and}
 use Rattle.sqlite.specs.Held.{state}
 use Rattle.stable_store.specs.declared.kept.Kept.{Kept}
@@ -7,6 +7,9 @@ use Rattle.store_tables.specs.Holds.{Holds, IsLaidOut, tables_of}
 use Rattle.store_tables.specs.Rows.{HaveRowids}
 use Rattle.sql_store.proofs.Sequences.{weaker_reads, and_checks, failed_reads}
 use Rattle.sql_store.proofs.Outside.{stays_then, stays_err}
+use Rattle.store_tables.proofs.Told.{told_by}
+use Rattle.sql_store.proofs.Loads.{quiets}
+use Rattle.sql_store.proofs.Found.{stands_still}
 use Rattle.sql_store.proofs.asking.read_store.Goals as goal
 
 pub returns-in_err-check_rowids-clause-looks : goal.returns-in_err-check_rowids-clause-looks
@@ -35,3 +38,14 @@ pub returns-clause-outside : goal.returns-clause-outside
 returns-clause-outside g c =
     stays_then (state g.A.Store c.args.conn.now) (state g.A.Store c.check_rowids.new.conn) (state g.A.Store c.read_content-2.new.conn) c.in_ok-check_rowids.field-0 c.read_content-2.result
     c.in_ok-check_rowids.ensures.outside c.read_content-2.ensures.outside
+
+pub returns-in_err-check_rowids-clause-recognized : goal.returns-in_err-check_rowids-clause-recognized
+returns-in_err-check_rowids-clause-recognized g c is clean k stands =
+    c.in_err-check_rowids.ensures.recognized (told_by c.from_residual.result c.in_err-check_rowids.field-0.0 c.from_residual.ensures.1 is) clean k stands
+
+pub returns-clause-recognized : goal.returns-clause-recognized
+returns-clause-recognized g c is clean k stands =
+    let old = state g.A.Store c.args.conn.now in
+    let mid = state g.A.Store c.check_rowids.new.conn in
+    c.read_content-2.ensures.recognized is clean k
+    (stands_still old mid k (λ d (_ : Unit {0}). HaveRowids d.trees) (Ok c.in_ok-check_rowids.field-0) stands (c.in_ok-check_rowids.ensures.looks (quiets old k stands)))

@@ -21,5 +21,5 @@ returns-clause-looks g c settled =
           (seen sql old new settled c.prepare.ensures.survives There (λ clean. (w.in-Ok.ensures.ok clean).1) (λ clean. sym (outlined _ _ (w.in-Ok.ensures.shape clean))))
       | in-Err w ↦
           subst (LooksUp old new tells) (sym w.result-is)
-          (refused sql old new settled c.prepare.ensures.survives w.in-Err.error w.absence.result w.absence.ensures (λ clean. w.in-Err.ensures.err clean []))
+          (refused sql old new settled c.prepare.ensures.survives w.in-Err.error w.absence.result w.absence.ensures.absence (λ clean. w.in-Err.ensures.err clean []))
     ]

@@ -1,10 +1,13 @@
 use Rattle.std.proofs.Common.{◌≡◌, IfOk, IsTrue, Some, option_map, Ok, sym, subst, ◌∙◌}
+use Rattle.std.proofs.lemmas.Result.{err_from_is_err_and}
 use Rattle.sqlite.specs.Held.{state}
 use Rattle.stable_store.specs.Held.{held}
 use Rattle.sql_store.specs.declared.layout.Layout.{Layout}
-use Rattle.sql_store.specs.declared.layout.Layout.TheVariants.{Nothing, First, Second}
+use Rattle.sql_store.specs.declared.layout.Layout.TheVariants.{Nothing, First, Second, Others}
 use Rattle.sql_store.specs.Layouts.{IsLayout}
-use Rattle.sql_store.proofs.Found.{settled_alone, is_new, is_second, stands_still, on_err, err_leads}
+use Rattle.store_tables.proofs.Told.{told_by}
+use Rattle.sql_store.proofs.Sequences.{failed_reads, and_reads, weaker_reads}
+use Rattle.sql_store.proofs.Found.{settled_alone, is_new, is_second, stands_still, untouched, on_err, err_leads}
 use Rattle.sql_store.proofs.opening.open.Goals as goal
 
 pub returns-in-Nothing-clause-fresh : goal.returns-in-Nothing-clause-fresh
@@ -27,28 +30,89 @@ returns-in-Second-clause-fresh g c clean schema =
     let new = is_new a b c.in_ok-layout_of.field-0 (c.in_ok-layout_of.ensures.looks settled) (c.take.ensures.clean clean) schema in
     absurd (let e : ◌≡◌ {A = Layout} Second Nothing = sym c.in-Second.is ∙ new in cc)
 
-pub returns-in-Nothing-clause-held : goal.returns-in-Nothing-clause-held
-returns-in-Nothing-clause-held g c clean k stands =
+pub returns-then-not-is_autocommit-clause-reads : goal.returns-then-not-is_autocommit-clause-reads
+returns-then-not-is_autocommit-clause-reads g c clean k stands = untouched (state g.A.Store c.args.conn.now) _ _
+
+pub returns-in_err-layout_of-clause-reads : goal.returns-in_err-layout_of-clause-reads
+returns-in_err-layout_of-clause-reads g c clean k stands =
+    let a = state g.A.Store c.args.conn.now in
+    let b = state g.A.Store c.layout_of.new.conn in
+    let settled = settled_alone a c.is_autocommit.result c.is_autocommit.ensures.value c.if-not-is_autocommit.false c.is_autocommit.ensures.settled in
+    let p = err_from_is_err_and c.from_residual.result c.from_residual.ensures.1 in
+    failed_reads a b (λ d l. IsLayout d.schema l) _ c.in_err-layout_of.field-0.0 p.0 c.from_residual.result p.1 (c.in_err-layout_of.ensures.looks settled)
+
+pub returns-in_err-layout_of-clause-recognized : goal.returns-in_err-layout_of-clause-recognized
+returns-in_err-layout_of-clause-recognized g c is clean k stands =
+    c.in_err-layout_of.ensures.told (told_by c.from_residual.result c.in_err-layout_of.field-0.0 c.from_residual.ensures.1 is)
+
+pub returns-in-Nothing-clause-reads : goal.returns-in-Nothing-clause-reads
+returns-in-Nothing-clause-reads g c clean k stands =
     let a = state g.A.Store c.args.conn.now in
     let b = state g.A.Store c.layout_of.new.conn in
     let settled = settled_alone a c.is_autocommit.result c.is_autocommit.ensures.value c.if-not-is_autocommit.false c.is_autocommit.ensures.settled in
     let second = is_second a b c.in_ok-layout_of.field-0 (c.in_ok-layout_of.ensures.looks settled) (c.lay_out.ensures.clean clean) k stands in
     absurd (let e : ◌≡◌ {A = Layout} Nothing Second = sym c.in-Nothing.is ∙ second in cc)
 
-pub returns-in-First-clause-held : goal.returns-in-First-clause-held
-returns-in-First-clause-held g c clean k stands =
+pub returns-in-Nothing-clause-recognized : goal.returns-in-Nothing-clause-recognized
+returns-in-Nothing-clause-recognized g c is clean k stands =
+    let a = state g.A.Store c.args.conn.now in
+    let b = state g.A.Store c.layout_of.new.conn in
+    let settled = settled_alone a c.is_autocommit.result c.is_autocommit.ensures.value c.if-not-is_autocommit.false c.is_autocommit.ensures.settled in
+    let second = is_second a b c.in_ok-layout_of.field-0 (c.in_ok-layout_of.ensures.looks settled) (c.lay_out.ensures.clean clean) k stands in
+    absurd (let e : ◌≡◌ {A = Layout} Nothing Second = sym c.in-Nothing.is ∙ second in cc)
+
+pub returns-in-First-clause-reads : goal.returns-in-First-clause-reads
+returns-in-First-clause-reads g c clean k stands =
     let a = state g.A.Store c.args.conn.now in
     let b = state g.A.Store c.layout_of.new.conn in
     let settled = settled_alone a c.is_autocommit.result c.is_autocommit.ensures.value c.if-not-is_autocommit.false c.is_autocommit.ensures.settled in
     let second = is_second a b c.in_ok-layout_of.field-0 (c.in_ok-layout_of.ensures.looks settled) (c.migrate.ensures.clean clean) k stands in
     absurd (let e : ◌≡◌ {A = Layout} First Second = sym c.in-First.is ∙ second in cc)
 
-pub returns-in-Second-clause-held : goal.returns-in-Second-clause-held
-returns-in-Second-clause-held g c clean k stands =
+pub returns-in-First-clause-recognized : goal.returns-in-First-clause-recognized
+returns-in-First-clause-recognized g c is clean k stands =
     let a = state g.A.Store c.args.conn.now in
     let b = state g.A.Store c.layout_of.new.conn in
     let settled = settled_alone a c.is_autocommit.result c.is_autocommit.ensures.value c.if-not-is_autocommit.false c.is_autocommit.ensures.settled in
-    c.take.ensures.held clean k (stands_still a b k (λ d l. IsLayout d.schema l) (Ok c.in_ok-layout_of.field-0) stands (c.in_ok-layout_of.ensures.looks settled))
+    let second = is_second a b c.in_ok-layout_of.field-0 (c.in_ok-layout_of.ensures.looks settled) (c.migrate.ensures.clean clean) k stands in
+    absurd (let e : ◌≡◌ {A = Layout} First Second = sym c.in-First.is ∙ second in cc)
+
+pub returns-in-Others-clause-reads : goal.returns-in-Others-clause-reads
+returns-in-Others-clause-reads g c clean k stands =
+    let a = state g.A.Store c.args.conn.now in
+    let b = state g.A.Store c.layout_of.new.conn in
+    let settled = settled_alone a c.is_autocommit.result c.is_autocommit.ensures.value c.if-not-is_autocommit.false c.is_autocommit.ensures.settled in
+    let second = is_second a b c.in_ok-layout_of.field-0 (c.in_ok-layout_of.ensures.looks settled) clean k stands in
+    absurd (let e : ◌≡◌ {A = Layout} Others Second = sym c.in-Others.is ∙ second in cc)
+
+pub returns-in-Others-clause-recognized : goal.returns-in-Others-clause-recognized
+returns-in-Others-clause-recognized g c is clean k stands =
+    let a = state g.A.Store c.args.conn.now in
+    let b = state g.A.Store c.layout_of.new.conn in
+    let settled = settled_alone a c.is_autocommit.result c.is_autocommit.ensures.value c.if-not-is_autocommit.false c.is_autocommit.ensures.settled in
+    let second = is_second a b c.in_ok-layout_of.field-0 (c.in_ok-layout_of.ensures.looks settled) clean k stands in
+    absurd (let e : ◌≡◌ {A = Layout} Others Second = sym c.in-Others.is ∙ second in cc)
+
+pub returns-in-Second-clause-reads : goal.returns-in-Second-clause-reads
+returns-in-Second-clause-reads g c clean k stands =
+    let a = state g.A.Store c.args.conn.now in
+    let b = state g.A.Store c.layout_of.new.conn in
+    let settled = settled_alone a c.is_autocommit.result c.is_autocommit.ensures.value c.if-not-is_autocommit.false c.is_autocommit.ensures.settled in
+    let d = state g.A.Store c.take.new.conn in
+    let looked = c.in_ok-layout_of.ensures.looks settled in
+    let mid = stands_still a b k (λ x l. IsLayout x.schema l) (Ok c.in_ok-layout_of.field-0) stands looked in
+    let up = (looked.ok (c.take.ensures.clean clean)).0.is_open in
+    weaker_reads a d _ (λ _ it. option_map held it.kept ≡ Some k) c.take.result (λ db it h. h.1.1)
+    (and_reads a b d (λ x l. IsLayout x.schema l) (λ _ it. option_map held it.kept ≡ Some k) c.in_ok-layout_of.field-0 c.take.result looked
+    (c.take.ensures.reads clean up k mid))
+
+pub returns-in-Second-clause-recognized : goal.returns-in-Second-clause-recognized
+returns-in-Second-clause-recognized g c is clean k stands =
+    let a = state g.A.Store c.args.conn.now in
+    let b = state g.A.Store c.layout_of.new.conn in
+    let settled = settled_alone a c.is_autocommit.result c.is_autocommit.ensures.value c.if-not-is_autocommit.false c.is_autocommit.ensures.settled in
+    let mid = stands_still a b k (λ x l. IsLayout x.schema l) (Ok c.in_ok-layout_of.field-0) stands (c.in_ok-layout_of.ensures.looks settled) in
+    c.take.ensures.recognized is clean k mid
 
 pub returns-in_err-layout_of-clause-refused : goal.returns-in_err-layout_of-clause-refused
 returns-in_err-layout_of-clause-refused g c clean schema =

@@ -1,53 +1,52 @@
-use Rattle.std.proofs.Common.{Ok, IsTrue, ap, ◌∙◌}
+use Rattle.std.proofs.Common.{Some, Err, IsTrue, ap, ◌∙◌}
 use Rattle.sqlite.specs.Effect.{Database}
 use Rattle.sqlite.specs.Held.{state}
-use Rattle.sql_store.proofs.Opens.{read_alone, quiet_alone}
 use Rattle.stable_store.specs.Held.{held}
 use Rattle.store_tables.specs.Holds.{IsLaidOut}
+use Rattle.sql_store.proofs.Opens.{read_alone, quiet_alone}
 use Rattle.sql_store.proofs.Outside.{knows_still}
 use Rattle.sql_store.proofs.Loads.{quiets}
-use Rattle.sql_store.proofs.Found.{stands_still, none_held}
+use Rattle.sql_store.proofs.Found.{not_read}
+use Rattle.sql_store.proofs.Layouts.{looked_ok}
 use Rattle.sql_store.proofs.opening.take.Goals as goal
 
 pub returns-in-Ok-clause-stands : goal.returns-in-Ok-clause-stands
 returns-in-Ok-clause-stands g c known =
-    let old = state g.A.Store c.check_numbers.new.conn in
+    let old = state g.A.Store c.args.conn.now in
     let new = state g.A.Store c.read_store.new.conn in
     let alone = c.is_alone-is_known.ensures.alone known in
     read_alone old new c.in-Ok.kept alone (c.in-Ok.ensures.looks known (quiet_alone old alone))
 
 pub returns-in-Ok-clause-known : goal.returns-in-Ok-clause-known
 returns-in-Ok-clause-known g c mode =
-    let old = state g.A.Store c.check_numbers.new.conn in
+    let old = state g.A.Store c.args.conn.now in
     let new = state g.A.Store c.read_store.new.conn in
-    knows_still old new c.is_alone-is_known.result c.in-Ok.kept (c.check_numbers.ensures.mode mode) c.is_alone-is_known.ensures.alone c.is_alone-is_known.ensures.found
+    knows_still old new c.is_alone-is_known.result c.in-Ok.kept mode c.is_alone-is_known.ensures.alone c.is_alone-is_known.ensures.found
     (λ known clean up.
     let alone = c.is_alone-is_known.ensures.alone known in
     let same = ((c.in-Ok.ensures.looks known (quiet_alone old alone)).ok clean).0 in
     ap (λ (d : Database). d.schema) same.now ∙ (alone.quiet same.was_open).schema)
     c.in-Ok.ensures.outside
 
-pub returns-in-Ok-clause-held : goal.returns-in-Ok-clause-held
-returns-in-Ok-clause-held g c clean k stands =
-    let a = state g.A.Store c.args.conn.now in
-    let b = state g.A.Store c.check_numbers.new.conn in
-    let first = c.in_ok-check_numbers.ensures.looks (quiets a k stands) in
-    let before = c.in-Ok.ensures.outside.clean clean in
-    let mid = stands_still a b k (λ d _. Unit {0}) (Ok c.in_ok-check_numbers.field-0) stands first in
-    let rest = mid before (first.ok before).0.is_open in
+pub returns-in-Ok-clause-reads : goal.returns-in-Ok-clause-reads
+returns-in-Ok-clause-reads g c clean up k stands =
+    let old = state g.A.Store c.args.conn.now in
+    let new = state g.A.Store c.read_store.new.conn in
+    let rest = stands (c.in-Ok.ensures.outside.clean clean) up in
     let known : IsTrue c.is_alone-is_known.result = c.is_alone-is_known.ensures.found rest.mode rest.schema in
-    let laid = ((c.in-Ok.ensures.looks known (quiets b k mid)).ok clean).1 in
-    c.one_content_is_held.ensures 1 _ (held c.in-Ok.kept) k laid.1 rest.store.holds
+    looked_ok old new (λ d kept. IsLaidOut d.trees (held kept)) _ c.in-Ok.kept _ (c.in-Ok.ensures.looks known (quiets old k stands))
+    (λ h. ap (λ x. Some x) (c.one_content_is_held.ensures 1 _ (held c.in-Ok.kept) k h.1 rest.store.holds))
 
-pub returns-in-Err-NotOurs-clause-held : goal.returns-in-Err-NotOurs-clause-held
-returns-in-Err-NotOurs-clause-held g c clean k stands =
-    let a = state g.A.Store c.args.conn.now in
-    let b = state g.A.Store c.check_numbers.new.conn in
-    let d = state g.A.Store c.read_store.new.conn in
-    let first = c.in_ok-check_numbers.ensures.looks (quiets a k stands) in
-    let mid = stands_still a b k (λ x _. Unit {0}) (Ok c.in_ok-check_numbers.field-0) stands first in
-    none_held k c.put_in_place.result (c.put_in_place.ensures.none clean k (λ after up.
-    let before = c.read_store.ensures.outside.clean after in
-    let rest = mid before (first.ok before).0.is_open in
+pub returns-in-Err-NotOurs-clause-reads : goal.returns-in-Err-NotOurs-clause-reads
+returns-in-Err-NotOurs-clause-reads g c clean up k stands = absurd (c.in-Err-NotOurs.ensures.recognized (ap Err c.in-Err-NotOurs.field-0-is) (c.take_others.ensures.clean clean) k stands)
+
+pub returns-in-Err-NotOurs-clause-recognized : goal.returns-in-Err-NotOurs-clause-recognized
+returns-in-Err-NotOurs-clause-recognized g c is clean k stands = c.in-Err-NotOurs.ensures.recognized (ap Err c.in-Err-NotOurs.field-0-is) (c.take_others.ensures.clean clean) k stands
+
+pub returns-in-Err-clause-reads : goal.returns-in-Err-clause-reads
+returns-in-Err-clause-reads g c clean up k stands =
+    let old = state g.A.Store c.args.conn.now in
+    let new = state g.A.Store c.read_store.new.conn in
+    let rest = stands (c.in-Err.ensures.outside.clean clean) up in
     let known : IsTrue c.is_alone-is_known.result = c.is_alone-is_known.ensures.found rest.mode rest.schema in
-    stands_still b d k (λ x kept. IsLaidOut x.trees (held kept)) c.read_store.result mid (c.read_store.ensures.looks known (quiets b k mid)) after up))
+    not_read old new (λ d kept. IsLaidOut d.trees (held kept)) _ _ _ (c.in-Err.ensures.looks known (quiets old k stands))

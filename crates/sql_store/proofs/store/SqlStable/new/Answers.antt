@@ -1,8 +1,12 @@
-use Rattle.std.proofs.Common.{◌≡◌, IfSome, sym, subst, ◌∙◌}
+use Rattle.std.proofs.Common.{Ok, Err, refl, sym, ap, subst, ◌∙◌}
 use Rattle.sqlite.specs.Held.{state}
 use Rattle.sqlite.specs.State.{HasCleanDisk}
+use Rattle.sqlite.specs.declared.connection.Connection.{Connection}
 use Rattle.stable_store.specs.Held.{held}
-use Rattle.store_writing.specs.Steps.{Stands}
+use Rattle.stable_store.specs.declared.fault.StoreFault.{StoreFault}
+use Rattle.store_writing.specs.Steps.{Stands, Carries}
+use Rattle.sql_store.specs.declared.store.SqlStable.{SqlStable}
+use Rattle.sql_store.proofs.Loads.{was_read, was_not_read}
 use Rattle.sql_store.proofs.Made.{at_rest}
 use Rattle.sql_store.proofs.store.SqlStable.new.Goals as goal
 
@@ -19,4 +23,22 @@ returns-in-Ok-clause-fresh g c clean schema =
 
 pub returns-in-Ok-clause-held : goal.returns-in-Ok-clause-held
 returns-in-Ok-clause-held g c clean k stands =
-    subst (λ o. IfSome o (λ d. d ≡ k)) (sym c.over.ensures.content) (c.in-Ok.ensures.held (subst (λ h. HasCleanDisk (state g.A.Store h)) c.over.ensures.conn clean) k stands)
+    let reads = c.in-Ok.ensures.reads (subst (λ h. HasCleanDisk (state g.A.Store h)) c.over.ensures.conn clean) k stands in
+    c.over.ensures.content ∙ (reads.ok (subst (λ h. HasCleanDisk (state g.A.Store h)) c.over.ensures.conn clean)).1
+
+pub returns-in-Ok-clause-carries : goal.returns-in-Ok-clause-carries
+returns-in-Ok-clause-carries g c clean k stands =
+    let at = g.A.Store in
+    let a = c.args.conn in
+    let reads = c.in-Ok.ensures.reads (subst (λ h. HasCleanDisk (state at h)) c.over.ensures.conn clean) k stands in
+    subst (λ h. Carries {T = SqlStable g.row.A.Denot} {E = StoreFault × Connection g.row.A.Denot} (state at a) (state at h) k k (Ok c.over.result)) (sym c.over.ensures.conn)
+    (was_read (state at a) (state at c.open.new.conn) k (λ up db may. g.met.A.Store.settled a.store db up may) stands _ _ reads (Ok c.over.result))
+
+pub returns-in-Err-clause-carries_back : goal.returns-in-Err-clause-carries_back
+returns-in-Err-clause-carries_back g c clean k stands =
+    let at = g.A.Store in
+    let a = c.args.conn in
+    was_not_read (state at a) (state at c.open.new.conn) k (λ up db may. g.met.A.Store.settled a.store db up may) stands _ c.in-Err.fault _ _ refl (c.in-Err.ensures.reads clean k stands)
+
+pub returns-in-Err-clause-recognized : goal.returns-in-Err-clause-recognized
+returns-in-Err-clause-recognized g c is clean k stands = c.in-Err.ensures.recognized (ap Err is) clean k stands
