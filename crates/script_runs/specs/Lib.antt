@@ -1,2 +1,1 @@
 pub mod SerialRuns
-pub mod ThreadRuns

@@ -2,9 +2,10 @@ use Rattle.std.proofs.Common.{ap, refl, subst, sym, ◌+◌, ◌∙◌}
 use Rattle.std.specs.Prelude.{IsNone}
 use Rattle.run_model.specs.Openings.{opening_in}
 use Rattle.world_steps.specs.Standings.{standing}
-use Rattle.script_runs.proofs.Bases.{base_where, object_there, one_more_base}
-use Rattle.script_runs.proofs.in_threads.bases_at.Goals.{in-Some+in_ok-content+in_ok-insert, in_default}
-use Rattle.script_runs.proofs.in_threads.bases_at.Goals as goal
+use Rattle.script_runs.proofs.Bases.{one_more_base}
+use Rattle.script_threads.proofs.Standing.{base_where, object_there}
+use Rattle.script_threads.proofs.in_threads.bases_at.Goals.{in-Some+in_ok-content+in_ok-insert, in_default}
+use Rattle.script_threads.proofs.in_threads.bases_at.Goals as goal
 
 pub loop-index-preserved : goal.loop-index-preserved
 loop-index-preserved c w g at count = elim c.match-base.branch [

@@ -27,8 +27,8 @@ use Rattle.tracer.proofs.Left.{get_up, runs_are_gathered, up_count}
 use Rattle.client_threads.specs.Clients.{AllDid}
 use Rattle.script_engine.specs.Running.{Bases}
 use Rattle.script_runs.specs.SerialRuns.{all_bases}
-use Rattle.script_runs.specs.ThreadRuns.{AreAt, ComesOf, HaveKept, kept_histories, kept_run}
-use Rattle.script_runs.proofs.Bases.{are_at}
+use Rattle.script_threads.specs.ThreadRuns.{AreAt, ComesOf, HaveKept, kept_histories, kept_run}
+use Rattle.script_threads.proofs.Standing.{are_at}
 
 -- the first elements, with the next one
 pub next_taken : {X : Type 0} (xs : List X) (i : ℕ) (x : X) → slice_get xs i ≡ Some x → take (i + 1) xs ≡ take i xs ++ x ∷ []

@@ -2,8 +2,8 @@ use Rattle.std.proofs.Common.{◌∙◌}
 use Rattle.stable_store.specs.Plain.{plain_view}
 use Rattle.registry.specs.Registries.{StandsIn}
 use Rattle.world.specs.Worlds.{seen_of}
-use Rattle.script_runs.proofs.Kept.{begins_there}
-use Rattle.script_runs.proofs.in_threads.InThreadsRunsClients.run_clients.Goals as goal
+use Rattle.script_threads.proofs.Kept.{begins_there}
+use Rattle.script_threads.proofs.in_threads.InThreadsRunsClients.run_clients.Goals as goal
 
 pub in_run-requires-clause-world : goal.in_run-requires-clause-world
 in_run-requires-clause-world g c κs within =

@@ -1,6 +1,6 @@
 use Rattle.std.proofs.Common.{map, reverse, take, ◌≡◌}
 use Rattle.traces.specs.Traces.{lists_of}
-use Rattle.script_runs.proofs.in_threads.EndedThreadsTraced.trace.Given as goal
+use Rattle.script_threads.proofs.in_threads.EndedThreadsTraced.trace.Given as goal
 
 -- those of the first guardians
 abbrev pub invariant-loop-ended : goal.invariant-loop-ended

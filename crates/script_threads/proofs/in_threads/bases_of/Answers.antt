@@ -1,10 +1,10 @@
 use Rattle.std.proofs.Common.{[], ap, arith, length, map, refl, subst, suc, sym, ◌+◌, ◌++◌, ◌<◌, ◌∙◌, ◌∷◌, ◌≡◌}
 use Rattle.std.proofs.lemmas.Option.{slice_get_read}
 use Rattle.run_model.specs.Openings.{objects_at}
-use Rattle.script_runs.specs.ThreadRuns.{StandsAt}
+use Rattle.script_threads.specs.ThreadRuns.{StandsAt}
 use Rattle.std.proofs.lemmas.List.{length_push, map-append}
 use Rattle.script_runs.specs.SerialRuns.{bases_at, bases_of_first}
-use Rattle.script_runs.proofs.in_threads.bases_of.Goals as goal
+use Rattle.script_threads.proofs.in_threads.bases_of.Goals as goal
 
 pub loop-index-preserved : goal.loop-index-preserved
 loop-index-preserved c =

@@ -5,9 +5,9 @@ use Rattle.run_model.specs.Runs.{World}
 use Rattle.stable_store.specs.Plain.{plain_view}
 use Rattle.registry.specs.Registries.{StandsIn}
 use Rattle.world.specs.Worlds.{seen_of}
-use Rattle.script_runs.specs.ThreadRuns.{AreAt, kept_run}
-use Rattle.script_runs.proofs.Kept.{came_of, ends_kept, stand_there}
-use Rattle.script_runs.proofs.in_threads.in_run.Goals as goal
+use Rattle.script_threads.specs.ThreadRuns.{AreAt, kept_run}
+use Rattle.script_threads.proofs.Kept.{came_of, ends_kept, stand_there}
+use Rattle.script_threads.proofs.in_threads.in_run.Goals as goal
 
 pub invariant_of-system : goal.invariant_of-system
 invariant_of-system g c = record {
@@ -29,5 +29,5 @@ returns-in-Ok-close_all-clause-came g c =
     let there : AreAt w c.setup.result.now c.as_slice.result.now =
     subst (λ s. AreAt w s c.as_slice.result.now) (sym setup) (subst (λ gs. AreAt w lists.setup gs) (sym c.as_slice.ensures.value) stand) in
     came_of c.args.script.now lists g.K.OfRun.opening same (λ x. seen_of plain_view x) (λ x. StandsIn x) c.in-Ok.ran.1.items closed
-    c.in-Ok-close_all.ensures.closed c.in-Ok.ran.0.items (map (λ base. base.entries) c.in-Ok-bases_of.bases.items) c.in-Ok.ensures
+    c.in-Ok-close_all.ensures.closed c.in-Ok.ran.0.items (map (λ base. base.entries) c.in-Ok-bases_of.bases.items) c.in-Ok.ensures.did
     (c.in-Ok-bases_of.ensures.bases w there)

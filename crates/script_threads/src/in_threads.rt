@@ -10,16 +10,19 @@ ghost use Rattle.world_steps.specs.Standings.{IsWorld};
 ghost use Rattle.world.specs.Worlds.{seen_of};
 ghost use Rattle.client_threads.specs.Clients.{AllDid};
 ghost use Rattle.script_runs.specs.SerialRuns.{all_bases, bases_at};
-ghost use Rattle.script_runs.specs.ThreadRuns.{AreAt, ComesOf, HaveKept, IsOfThreads, StandsAt, kept_run};
+ghost use Rattle.script_threads.specs.ThreadRuns.{AreAt, ComesOf, HaveKept, IsOfThreads, StandsAt, kept_run};
 
+use crate::watching::{Watched, Watching, keep_watch};
 use activities::ClientEnd;
 use argus_engine::Fault;
 use client_threads::run_clients;
 use guardian::Guardian;
+use layer_contracts::{Forest, Guardian as Serves};
 use registry::Registry;
 use run_model::{Opening, Setup};
 use runtime::{
-    CloseFault, Ended, Ends, OfRun, OpenGate, Receipt, Runtime, Start, StepFault, StoredHistory,
+    CloseFault, Ended, Ends, Gate, OfRun, OpenGate, Receipt, Runtime, Start, StepFault,
+    StoredHistory,
 };
 use script::Checked;
 use script_engine::{Outcome, RunsClients, Traced};
@@ -27,24 +30,26 @@ use stable_store::PlainStable;
 use std::alloc::{AllocError, Global};
 use std::collections::BTreeMap;
 use std::marker::Brand;
-use std::sync::atomic::AtomicBool;
 use std::sync::{Arc, Wait};
-use std::thread::Threads;
+use std::thread::{Threads, join};
+use std::time::Clock;
 use traces::{Stamped, Trace};
 use values::Content;
 use world::World;
 
-/// Runs each client, and each arm of a `coenter`, in a thread of its own, in a new system whose stores are in memory. A fault is out of memory,
-/// a guardian that has drawn all its stamps, or a receipt that is missing.
+/// Runs each client, and each arm of a `coenter`, in a thread of its own, in a new system whose stores are in memory. A
+/// fault is out of memory, a guardian that has drawn all its stamps, a receipt that is missing, or a time that is over.
+/// Where no thread can be made for the clients, the first thread runs them and does not watch.
 #[derive(Clone, Copy)]
 pub struct InThreads<'a, H> {
     rt: &'a H,
+    watching: Watching,
 }
 
 impl<'a, H> InThreads<'a, H> {
-    /// Threads are made and wait by this handle.
-    pub fn new(rt: &'a H) -> InThreads<'a, H> {
-        InThreads { rt }
+    /// Threads are made and wait by this handle, and the first of them watches so.
+    pub fn new(rt: &'a H, watching: Watching) -> InThreads<'a, H> {
+        InThreads { rt, watching }
     }
 }
 
@@ -61,7 +66,7 @@ pub struct EndedThreads {
 
 impl Traced for EndedThreads {
     ghost use Rattle.std.specs.Arc.{arc_value};
-    ghost use Rattle.script_runs.specs.ThreadRuns.{kept_run};
+    ghost use Rattle.script_threads.specs.ThreadRuns.{kept_run};
 
     ghost run = { λ it. record { lists = arc_value it.opening; past = kept_run it.ends } };
 
@@ -92,9 +97,9 @@ fn kept_events(alloc: Global, kept: &StoredHistory) -> Result<Vec<Stamped>, Allo
     Ok(events)
 }
 
-impl<'a, H: Threads + Wait + Sync> RunsClients for InThreads<'a, H> {
+impl<'a, H: Threads + Wait + Clock + Eprint + Sync> RunsClients for InThreads<'a, H> {
     ghost use Rattle.std.specs.Thread.{IsSync};
-    ghost use Rattle.script_runs.specs.ThreadRuns.{ComesInThreads, IsOfThreads};
+    ghost use Rattle.script_threads.specs.ThreadRuns.{ComesInThreads, IsOfThreads};
 
     type System = EndedThreads;
 
@@ -113,14 +118,28 @@ impl<'a, H: Threads + Wait + Sync> RunsClients for InThreads<'a, H> {
         let world = World::in_memory(alloc, setup)?;
         let (opening, registry, guardians) = world.into_parts();
         let start = Start::new(alloc, &opening)?;
-        in_run::<Brand, H>(alloc, self.rt, opening, script, start, registry, guardians)
+        let watcher = Watcher {
+            clock: self.rt,
+            watching: self.watching,
+        };
+        in_run::<Brand, H, H>(
+            alloc, self.rt, watcher, opening, script, start, registry, guardians,
+        )
     }
 }
 
+/// How the first thread watches, and by which clock.
+#[derive(Clone, Copy)]
+struct Watcher<'a, C> {
+    clock: &'a C,
+    watching: Watching,
+}
+
 /// Runs the clients in the run of this name.
-fn in_run<K: OfRun + Send + Sync, H: Threads + Wait + Sync>(
+fn in_run<K: OfRun + Send + Sync, H: Threads + Wait + Sync, C: Wait + Clock + Eprint>(
     alloc: Global,
     rt: &H,
+    watcher: Watcher<'_, C>,
     opening: Arc<Opening, Global>,
     script: &Checked,
     start: Start,
@@ -140,12 +159,11 @@ fn in_run<K: OfRun + Send + Sync, H: Threads + Wait + Sync>(
     ensures fault { IfErr result IsOfThreads }
 {
     let runtime = InMemory::<K>::new(alloc, start, registry, guardians, OpenGate)?;
-    let stop = AtomicBool::new(false);
-    let (ends, receipts) = match run_clients(alloc, rt, &runtime, &opening, script, &stop) {
+    let (ends, receipts) = match run_within(alloc, rt, watcher, &runtime, &opening, script) {
         Ok(ran) => ran,
         Err(fault) => {
             let _ = runtime.close_all(Vec::new(alloc));
-            return Err(fault_of(fault));
+            return Err(fault);
         }
     };
     match runtime.close_all(receipts) {
@@ -166,6 +184,123 @@ fn in_run<K: OfRun + Send + Sync, H: Threads + Wait + Sync>(
         Err(CloseFault::Memory) => Err(Fault::Memory),
         Err(CloseFault::Receipts(_, _)) => Err(Fault::Receipts),
     }
+}
+
+/// What clients came to, and the receipts of all their events.
+type Done<K> = (Vec<ClientEnd>, Vec<Receipt<K>>);
+
+/// What the clients of a run are run by.
+#[derive(Drop)]
+struct Clients<'a, K: OfRun, R: Forest, G: Serves, P: Gate, H> {
+    alloc: Global,
+    rt: &'a H,
+    runtime: &'a Runtime<K, R, G, P>,
+    opening: &'a Opening,
+    script: &'a Checked,
+    watched: &'a Watched,
+}
+
+/// Runs the clients, within the time that they have.
+fn run_within<
+    K: OfRun + Send + Sync,
+    R: Forest + Send,
+    G: Serves + Send,
+    P: Gate + Sync,
+    H: Threads + Wait + Sync,
+    C: Wait + Clock + Eprint,
+>(
+    alloc: Global,
+    rt: &H,
+    watcher: Watcher<'_, C>,
+    runtime: &Runtime<K, R, G, P>,
+    opening: &Opening,
+    script: &Checked,
+) -> Result<Done<K>, Fault>
+    requires opening { opening_in opening.now ≡ K.opening }
+    requires script { IsResolved script.now }
+    ensures did { IfOk result (λ r. AllDid script.now.clients r.0.items r.1.items) }
+    ensures fault { IfErr result IsOfThreads }
+{
+    let watched = Watched::new();
+    let clients = Clients {
+        alloc,
+        rt,
+        runtime,
+        opening,
+        script,
+        watched: &watched,
+    };
+    let ran = if watcher.watching.is_on() {
+        run_watched(&clients, watcher)
+    } else {
+        run_all(&clients)
+    };
+    if watched.watch().is_stopped() {
+        return Err(Fault::Time);
+    }
+    ran.map_err(fault_of)
+}
+
+/// Runs the clients in a thread, and watches them.
+fn run_watched<
+    K: OfRun + Send + Sync,
+    R: Forest + Send,
+    G: Serves + Send,
+    P: Gate + Sync,
+    H: Threads + Wait + Sync,
+    C: Wait + Clock + Eprint,
+>(clients: &Clients<'_, K, R, G, P, H>, watcher: Watcher<'_, C>) -> Result<Done<K>, StepFault>
+    requires opening { opening_in clients.now.opening.now ≡ K.opening }
+    requires script { IsResolved clients.now.script.now }
+    ensures { IfOk result (λ r. AllDid clients.now.script.now.clients r.0.items r.1.items) }
+{
+    let run = move || -> Result<Done<K>, StepFault>
+        requires opening { opening_in clients.now.opening.now ≡ K.opening }
+        requires script { IsResolved clients.now.script.now }
+        ensures { IfOk result
+            (λ r. AllDid clients.entry.now.script.now.clients r.0.items r.1.items) }
+    { run_all(clients) };
+    let (done, ()) = join(clients.rt, run, || watch(clients, watcher));
+    done
+}
+
+/// Runs the clients.
+fn run_all<
+    K: OfRun + Send + Sync,
+    R: Forest + Send,
+    G: Serves + Send,
+    P: Gate + Sync,
+    H: Threads + Wait + Sync,
+>(clients: &Clients<'_, K, R, G, P, H>) -> Result<Done<K>, StepFault>
+    requires opening { opening_in clients.now.opening.now ≡ K.opening }
+    requires script { IsResolved clients.now.script.now }
+    ensures { IfOk result (λ r. AllDid clients.now.script.now.clients r.0.items r.1.items) }
+{
+    let done = run_clients(
+        clients.alloc,
+        clients.rt,
+        clients.runtime,
+        clients.opening,
+        clients.script,
+        clients.watched.watch(),
+    );
+    clients.watched.end(clients.rt);
+    done
+}
+
+/// Watches the clients until they have ended.
+fn watch<K: OfRun, R: Forest, G: Serves, P: Gate, H, C: Wait + Clock + Eprint>(
+    clients: &Clients<'_, K, R, G, P, H>,
+    watcher: Watcher<'_, C>,
+) {
+    keep_watch(
+        watcher.clock,
+        clients.runtime,
+        clients.opening,
+        clients.script.clients.len(),
+        clients.watched,
+        watcher.watching,
+    )
 }
 
 /// What a step's fault is to the command.

@@ -1,8 +1,8 @@
 use Rattle.std.proofs.Common.{length, map, ◌≡◌}
 use Rattle.run_model.specs.Runs.{World}
 use Rattle.script_runs.specs.SerialRuns.{bases_of_first}
-use Rattle.script_runs.specs.ThreadRuns.{AreAt}
-use Rattle.script_runs.proofs.in_threads.bases_of.Given as goal
+use Rattle.script_threads.specs.ThreadRuns.{AreAt}
+use Rattle.script_threads.proofs.in_threads.bases_of.Given as goal
 
 -- those of the first guardians
 abbrev pub invariant-loop-index : goal.invariant-loop-index

@@ -1,5 +1,5 @@
 use Rattle.std.proofs.Common.{reverse, take, ◌≡◌}
-use Rattle.script_runs.proofs.in_threads.kept_events.Given as goal
+use Rattle.script_threads.proofs.in_threads.kept_events.Given as goal
 
 -- those before this place
 abbrev pub invariant-loop-place : goal.invariant-loop-place

@@ -1,0 +1,8 @@
+//! Runs the clients of scripts for `script_engine`, each in a thread of its own.
+#![tactic(auto)]
+
+mod in_threads;
+mod watching;
+
+pub use in_threads::{EndedThreads, InThreads};
+pub use watching::Watching;
