@@ -1,0 +1,10 @@
+pub mod Joining
+pub mod Beginnings
+pub mod Adding
+pub mod Newest
+pub mod Visible
+pub mod Stranded
+pub mod Losing
+pub mod Settling
+pub mod Laying
+pub mod Safe
