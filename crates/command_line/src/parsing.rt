@@ -7,18 +7,19 @@ ghost use Rattle.command_line.specs.declared.request.Check.{Check};
 ghost use Rattle.command_line.specs.declared.request.Run.{Run};
 ghost use Rattle.command_line.specs.declared.request.Steps.{Steps};
 ghost use Rattle.command_line.specs.declared.request.Trace.{Trace};
-ghost use Rattle.command_line.specs.Words.{IsCheckGiven, IsCommand, IsFault, IsFlag, IsFound, IsRunGiven, IsStepsGiven, IsTraceGiven, argus_app, check_app, flag, needed, optional, run_app, steps_app, trace_app};
+ghost use Rattle.command_line.specs.Words.{IsCheckGiven, IsCommand, IsFault, IsFlag, IsFound, IsNumber, IsPictureGiven, IsRunGiven, IsStepsGiven, IsTraceGiven, argus_app, check_app, counted, flag, needed, optional, run_app, steps_app, trace_app, with_picture};
 
 use crate::request::{self, CommandFault};
+use clap::builder::ValueParser;
 use clap::{Arg, ArgAction, ArgMatches};
 use std::alloc::{AllocError, Global};
 
 /// The version that `--version` prints.
 const VERSION: &str = "0.1.0";
 
-/// The command that the words ask for, which come without the program's own name. `Said` comes where clap refuses the words, where
-/// they ask for help or the version, and where memory runs out; its kind tells these apart, and its text is for the user. `Incomplete`
-/// comes only where the words are no command.
+/// The command that the words ask for, which come without the program's own name. `Said` comes where clap refuses the
+/// words, where they ask for help or the version, and where memory runs out; its kind tells these apart, and its text
+/// is for the user. `Incomplete` comes only where the words are no command.
 pub fn command<'a>(
     alloc: Global,
     words: &'a [&'a str],
@@ -61,6 +62,7 @@ fn steps_given<'a>(found: &ArgMatches<'a>) -> Option<request::Steps<'a>>
         explain: found.get_str("explain"),
         store: found.get_str("store"),
         reopen: is_set(found, "reopen"),
+        picture: picture_given(found),
     })
 }
 
@@ -84,6 +86,7 @@ fn run_given<'a>(found: &ArgMatches<'a>) -> Option<request::Run<'a>>
         store: found.get_str("store"),
         serial: is_set(found, "serial"),
         trace: found.get_str("trace"),
+        seconds: found.get_str("seconds"),
     })
 }
 
@@ -94,7 +97,28 @@ fn trace_given<'a>(found: &ArgMatches<'a>) -> Option<request::Trace<'a>>
 {
     let file = found.get_str("FILE")?;
     let explain = found.get_str("explain");
-    Some(request::Trace { file, explain })
+    let picture = picture_given(found);
+    Some(request::Trace {
+        file,
+        explain,
+        picture,
+    })
+}
+
+fn picture_given<'a>(found: &ArgMatches<'a>) -> request::Picture<'a>
+    ensures { IsPictureGiven (rows_of (found_of found.now)) result }
+{
+    let file = found.get_str("picture");
+    let from = number(found, "from");
+    let to = number(found, "to");
+    request::Picture { file, from, to }
+}
+
+/// The number under the id.
+fn number(found: &ArgMatches<'_>, id: &str) -> Option<u64>
+    ensures { IsNumber id.now (rows_of (found_of found.now)) result }
+{
+    found.get_one(id)
 }
 
 /// Whether a flag is set, as `get_flag` gives it, whose contract says nothing of a value that is no `bool`.
@@ -125,7 +149,7 @@ fn definition<'a>(alloc: Global) -> Result<clap::Command<'a>, AllocError>
 fn steps<'a>(alloc: Global) -> Result<clap::Command<'a>, AllocError>
     ensures { IfOk result (λ steps. app_of steps ≡ steps_app) }
 {
-    clap::Command::new(alloc, "steps")
+    let steps = clap::Command::new(alloc, "steps")
         .about("Makes the steps of a file and writes their answers")
         .after_help("Example: argus steps examples/transfer/setup.json examples/transfer/steps")
         .arg(needed(
@@ -150,7 +174,8 @@ fn steps<'a>(alloc: Global) -> Result<clap::Command<'a>, AllocError>
             alloc,
             "reopen",
             "Goes on from the stores in DIR after a stop, in place of making new ones",
-        ))
+        ))?;
+    with_picture(alloc, steps)
 }
 
 fn check<'a>(alloc: Global) -> Result<clap::Command<'a>, AllocError>
@@ -195,13 +220,19 @@ fn run<'a>(alloc: Global) -> Result<clap::Command<'a>, AllocError>
             "trace",
             "OUT",
             "Writes the trace of the run to OUT, before the clients' ends",
+        ))?
+        .arg(optional(
+            alloc,
+            "seconds",
+            "N",
+            "Gives up a run in threads that has not ended after N seconds, and saves nothing of it",
         ))
 }
 
 fn trace<'a>(alloc: Global) -> Result<clap::Command<'a>, AllocError>
     ensures { IfOk result (λ trace. app_of trace ≡ trace_app) }
 {
-    clap::Command::new(alloc, "trace")
+    let trace = clap::Command::new(alloc, "trace")
         .about(
             "Says whether the histories of a trace are one run, or at which stamp they fail first",
         )
@@ -216,7 +247,30 @@ fn trace<'a>(alloc: Global) -> Result<clap::Command<'a>, AllocError>
             "explain",
             "ACTION",
             "Writes, after a yes, what the action sees, by place in the serial order",
-        ))
+        ))?;
+    with_picture(alloc, trace)
+}
+
+/// The command with the options of a picture.
+fn with_picture<'a>(
+    alloc: Global,
+    command: clap::Command<'a>,
+) -> Result<clap::Command<'a>, AllocError>
+    ensures { IfOk result (λ new. app_of new ≡ with_picture (app_of command.entry)) }
+{
+    command
+        .arg(optional(
+            alloc,
+            "picture",
+            "OUT",
+            "Draws the run into the file OUT, a picture in SVG of 2,000 events at most",
+        ))?
+        .arg(counted(
+            alloc,
+            "from",
+            "The first event of the picture; with none it shows the last 2,000",
+        ))?
+        .arg(counted(alloc, "to", "The last event of the picture"))
 }
 
 /// An argument that has to be there.
@@ -233,6 +287,14 @@ fn optional<'a>(alloc: Global, id: &'a str, value: &'a str, help: &'a str) -> Ar
     ensures local { result.global ≡ false }
 {
     Arg::new(alloc, id).long(id).value_name(value).help(help)
+}
+
+/// An option with the number of an event.
+fn counted<'a>(alloc: Global, id: &'a str, help: &'a str) -> Arg<'a>
+    ensures rule { rule_of result ≡ counted id.now }
+    ensures local { result.global ≡ false }
+{
+    optional(alloc, id, "EVENT", help).value_parser(ValueParser::unsigned(1, u64::MAX))
 }
 
 /// An option that is there or not.

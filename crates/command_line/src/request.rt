@@ -26,6 +26,8 @@ pub struct Steps<'a> {
     pub store: Option<&'a str>,
     /// Whether the stores that are there are opened again; else they are made.
     pub reopen: bool,
+    /// The picture to draw after the answers.
+    pub picture: Picture<'a>,
 }
 
 /// What the checking of a script is given.
@@ -46,6 +48,8 @@ pub struct Run<'a> {
     pub serial: bool,
     /// The file to which the trace of the run is written.
     pub trace: Option<&'a str>,
+    /// For how many seconds clients may run in threads; with none they may run for ever.
+    pub seconds: Option<&'a str>,
 }
 
 /// What the gathering of a trace is given.
@@ -55,6 +59,19 @@ pub struct Trace<'a> {
     pub file: &'a str,
     /// The action to explain if the histories are one run.
     pub explain: Option<&'a str>,
+    /// The picture to draw if the histories are one run.
+    pub picture: Picture<'a>,
+}
+
+/// What the drawing of a picture is given.
+#[derive(Clone, Copy, Drop)]
+pub struct Picture<'a> {
+    /// The path of the picture; with none no picture is drawn.
+    pub file: Option<&'a str>,
+    /// The first event to show.
+    pub from: Option<u64>,
+    /// The last event to show.
+    pub to: Option<u64>,
 }
 
 /// Why words are no command.

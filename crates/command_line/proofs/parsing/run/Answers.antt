@@ -10,4 +10,5 @@ returns c =
     let with_script = c.in_ok-arg.ensures.shape c.needed.ensures.local ∙ ap₂ with_rule named c.needed.ensures.rule in
     let with_serial = c.in_ok-arg-2.ensures.shape c.flag.ensures.local ∙ ap₂ with_rule with_script c.flag.ensures.rule in
     let with_store = c.in_ok-arg-3.ensures.shape c.optional.ensures.local ∙ ap₂ with_rule with_serial c.optional.ensures.rule in
-    IfOk-weaker c.arg-4.result _ _ (λ new h. h.shape c.optional-2.ensures.local ∙ ap₂ with_rule with_store c.optional-2.ensures.rule) c.arg-4.ensures
+    let with_trace = c.in_ok-arg-4.ensures.shape c.optional-2.ensures.local ∙ ap₂ with_rule with_store c.optional-2.ensures.rule in
+    IfOk-weaker c.arg-5.result _ _ (λ new h. h.shape c.optional-3.ensures.local ∙ ap₂ with_rule with_trace c.optional-3.ensures.rule) c.arg-5.ensures

@@ -12,4 +12,5 @@ returns-clause-found c =
       store = sym (first_value-rows found (codes "store")) ∙ sym c.get_str-2.ensures;
       serial = c.is_set.ensures;
       trace = sym (first_value-rows found (codes "trace")) ∙ sym c.get_str-3.ensures;
+      seconds = sym (first_value-rows found (codes "seconds")) ∙ sym c.get_str-4.ensures;
     }

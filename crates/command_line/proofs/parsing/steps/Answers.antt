@@ -2,6 +2,7 @@ use Rattle.std.proofs.Common.{codes, ap, ap₂, ◌≡◌, ◌∙◌}
 use Rattle.std.proofs.lemmas.Result.{IfOk-weaker}
 use Rattle.clap.specs.Words.{app_of, new_app, with_rule}
 use Rattle.clap.specs.Simple.{app_of_fields}
+use Rattle.command_line.specs.Words.{with_picture}
 use Rattle.command_line.proofs.parsing.steps.Goals as goal
 
 pub returns : goal.returns
@@ -11,4 +12,5 @@ returns c =
     let second = c.in_ok-arg-2.ensures.shape c.needed-2.ensures.local ∙ ap₂ with_rule first c.needed-2.ensures.rule in
     let third = c.in_ok-arg-3.ensures.shape c.optional.ensures.local ∙ ap₂ with_rule second c.optional.ensures.rule in
     let fourth = c.in_ok-arg-4.ensures.shape c.optional-2.ensures.local ∙ ap₂ with_rule third c.optional-2.ensures.rule in
-    IfOk-weaker c.arg-5.result _ _ (λ new h. h.shape c.flag.ensures.local ∙ ap₂ with_rule fourth c.flag.ensures.rule) c.arg-5.ensures
+    let fifth = c.in_ok-steps.ensures.shape c.flag.ensures.local ∙ ap₂ with_rule fourth c.flag.ensures.rule in
+    IfOk-weaker c.with_picture.result _ _ (λ new h. h ∙ ap with_picture fifth) c.with_picture.ensures

@@ -13,4 +13,5 @@ returns-clause-found c =
       explain = sym (first_value-rows found (codes "explain")) ∙ sym c.get_str-3.ensures;
       store = sym (first_value-rows found (codes "store")) ∙ sym c.get_str-4.ensures;
       reopen = c.is_set.ensures;
+      picture = c.picture_given.ensures;
     }

@@ -10,4 +10,5 @@ returns-clause-found c =
     record {
       file = word_is found (codes "FILE") (Some c.in_ok-file.file) c.in_ok-file.file c.in_ok-file.ensures refl;
       explain = sym (first_value-rows found (codes "explain")) ∙ sym c.get_str-explain.ensures;
+      picture = c.picture_given-picture.ensures;
     }
