@@ -15,8 +15,8 @@ pub fn one_file<R: RunsClients>()
     ensures { IsDetermined R.comes → OneFile R.comes }
 {}
 
-/// `trace_file` of `argus_engine` says `yes` of a trace that was written, with the number of the events, if the trace can
-/// be read.
+/// `trace_file` of `argus_engine` says `yes` of a trace that was written, with the number of the events, if the trace
+/// can be read.
 pub fn traces_are_gathered()
     ensures { TracesAreGathered }
 {}

@@ -20,8 +20,8 @@ use values::Content;
 
 /// Runs a script's clients in a new system of its objects. Writes the trace of the run to `out`, if that is a writer.
 /// Then it writes a line for each client, `client 1 committed`, with the value that it returned behind it, or `client 1
-/// aborted`, and then a line for each object: its base, as in `1/1 {"record":{"balance":40}}`. After a fault of a writer
-/// a beginning of that was written, no line before the whole trace, and after another fault nothing.
+/// aborted`, and then a line for each object: its base, as in `1/1 {"record":{"balance":40}}`. After a fault of a
+/// writer a beginning of that was written, no line before the whole trace, and after another fault nothing.
 pub fn run_script<R: RunsClients, T: Write, W: Write>(
     alloc: Global,
     runner: &mut R,
