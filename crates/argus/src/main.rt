@@ -14,6 +14,7 @@ use std::env;
 use std::process::ExitCode;
 use std::sync::Wait;
 use std::thread::Threads;
+use std::time::Clock;
 
 fn main(rt: HostRuntime) -> ExitCode {
     match obey(&rt, &rt) {
@@ -26,7 +27,10 @@ fn main(rt: HostRuntime) -> ExitCode {
 }
 
 /// Reads the command line and runs its command.
-fn obey<H: Threads + Wait + Sync>(rt: &HostRuntime, threads: &H) -> Result<ExitCode, Fault> {
+fn obey<H: Threads + Wait + Clock + Eprint + Sync>(
+    rt: &HostRuntime,
+    threads: &H,
+) -> Result<ExitCode, Fault> {
     let given = match env::args(rt) {
         Ok(given) => given,
         Err(error) => return Err(run::read_fault(&error)),

@@ -9,17 +9,20 @@ use argus_engine::{
     Ended, Fault, check_script, explain_text, finish, read_script, steps as answer_steps,
     trace_file,
 };
-use command_line::request::{Check, Run, Steps, Trace};
+use command_line::request::{Check, Picture, Run, Steps, Trace};
+use picture::{Window, lay_out, svg};
 use run_model::{Setup, SetupFault};
 use script_engine::{RunsClients, run_file, run_stored};
-use script_runs::{InThreads, Serially};
+use script_runs::Serially;
+use script_threads::{InThreads, Watching};
 use stable_store::{PlainStable, Stable};
 use std::alloc::Global;
 use std::fs::{self, File};
-use std::io;
+use std::io::{self, IsTerminal};
 use std::process::ExitCode;
 use std::sync::Wait;
 use std::thread::Threads;
+use std::time::{Clock, Duration};
 use world::{Refused, World};
 
 /// The file that is standard input.
@@ -28,7 +31,7 @@ const STANDARD_INPUT: &str = "-";
 /// Makes the steps of a file in a world of the setup, and writes their answers to standard output, and after them what
 /// is to be explained. The world is a new one, in memory or over new stores in a folder, or one that goes on from the
 /// stores there. The status is 1 where the setup is none, where the stores cannot be used, or a line is no step; then
-/// nothing is explained.
+/// nothing is explained or drawn.
 pub fn steps<O: Opens>(rt: &HostRuntime, files: &O, given: &Steps<'_>) -> Result<ExitCode, Fault> {
     let Some(setup) = read_setup(rt, given.setup)? else {
         return refuse(rt, "error setup");
@@ -77,18 +80,51 @@ fn answer<S: Stable>(
     world: &mut World<S>,
     given: &Steps<'_>,
 ) -> Result<ExitCode, Fault> {
-    match (answer_file(rt, world, given.file)?, given.explain) {
-        (Ended::Stopped, _) => Ok(ExitCode::FAILURE),
-        (Ended::Done, None) => Ok(ExitCode::SUCCESS),
-        (Ended::Done, Some(action)) => explain(rt, world, action),
+    match answer_file(rt, world, given.file)? {
+        Ended::Stopped => Ok(ExitCode::FAILURE),
+        Ended::Done => show(rt, world, given.explain, &given.picture),
     }
 }
 
+/// Writes what is to be explained of an action, if one is given, and draws a picture, if one is asked for.
+fn show<S: Stable>(
+    rt: &HostRuntime,
+    world: &World<S>,
+    action: Option<&str>,
+    picture: &Picture<'_>,
+) -> Result<ExitCode, Fault> {
+    if let Some(action) = action {
+        explain(rt, world, action)?;
+    }
+    if let Some(file) = picture.file {
+        let window = Window {
+            from: picture.from,
+            to: picture.to,
+        };
+        draw(rt, world, window, file)?;
+    }
+    Ok(ExitCode::SUCCESS)
+}
+
 /// Writes what is to be explained of an action, after the steps of the world.
-fn explain<S: Stable>(rt: &HostRuntime, world: &World<S>, action: &str) -> Result<ExitCode, Fault> {
+fn explain<S: Stable>(rt: &HostRuntime, world: &World<S>, action: &str) -> Result<(), Fault> {
     let history = world.history().unpacked()?;
     explain_text(rt.alloc(), &history, action, &mut io::writer(rt))?;
-    Ok(ExitCode::SUCCESS)
+    Ok(())
+}
+
+/// Draws the run of the world into a file.
+fn draw<S: Stable>(
+    rt: &HostRuntime,
+    world: &World<S>,
+    window: Window,
+    file: &str,
+) -> Result<(), Fault> {
+    let history = world.history().unpacked()?;
+    let layout = lay_out(rt.alloc(), world.setup(), history.events(), window)?;
+    let document = svg(rt.alloc(), &layout)?;
+    let mut output = create(rt, file)?;
+    finish(&mut output, document.as_str())
 }
 
 /// Writes whether a file is a script, or its first fault, to standard output. The status is 1 where it is none.
@@ -99,20 +135,39 @@ pub fn check(rt: &HostRuntime, given: &Check<'_>) -> Result<ExitCode, Fault> {
 }
 
 /// Runs the script in a file and writes how its clients ended, and the bases of its objects, to standard output. The
-/// clients and arms run in threads, unless they are to run one after another. The file of the trace, if one is given, is
-/// made first, and written before standard output. The status is 1 where the script's file is no script, or where a store
-/// is not its own; then the file of the trace is empty. If that file cannot be made, nothing is run. If it cannot be
-/// written, the bases are saved, it has a beginning of the trace, and nothing is written to standard output.
-pub fn run<O: Opens, H: Threads + Wait + Sync>(
+/// clients and arms run in threads, unless they are to run one after another. If they run in threads and standard error
+/// is a terminal, that shows their progress. The file of the trace, if one is given, is made first, and written before
+/// standard output. The status is 1 where the script's file is no script, or where a store is not its own; then the
+/// file of the trace is empty. If that file cannot be made, nothing is run. If it cannot be written, the bases are
+/// saved, it has a beginning of the trace, and nothing is written to standard output.
+///
+/// The status is 1 and nothing is done if the seconds are no number from 1 to 4,294,967,295, or if clients are to run
+/// one after another and seconds are given. If the seconds are over before the clients have ended, the fault is `Time`,
+/// nothing is saved, and the file of the trace is empty.
+pub fn run<O: Opens, H: Threads + Wait + Clock + Eprint + Sync>(
     rt: &HostRuntime,
     threads: &H,
     files: &O,
     given: &Run<'_>,
 ) -> Result<ExitCode, Fault> {
-    if given.serial {
-        run_by(rt, files, given, &mut Serially)
-    } else {
-        run_by(rt, files, given, &mut InThreads::new(threads))
+    match (given.serial, given.seconds.map(seconds_in)) {
+        (true, None) => run_by(rt, files, given, &mut Serially),
+        (true, Some(_)) | (false, Some(None)) => refuse(rt, "error seconds"),
+        (false, limit) => {
+            let watching = Watching {
+                limit: limit.flatten(),
+                shows_progress: rt.stderr().is_terminal(),
+            };
+            run_by(rt, files, given, &mut InThreads::new(threads, watching))
+        }
+    }
+}
+
+/// So many seconds; `None` if the word is no number from 1 to 4,294,967,295.
+fn seconds_in(word: &str) -> Option<Duration> {
+    match word.parse::<u32>() {
+        Ok(0) | Err(_) => None,
+        Ok(seconds) => Some(Duration::from_secs(seconds.into())),
     }
 }
 
@@ -167,23 +222,27 @@ fn run_over<O: Opens, R: RunsClients>(
 
 /// The file at the path, made empty, if there is a path.
 fn created(rt: &HostRuntime, path: Option<&str>) -> Result<Option<File>, Fault> {
-    let Some(path) = path else {
-        return Ok(None);
-    };
+    match path {
+        Some(path) => Ok(Some(create(rt, path)?)),
+        None => Ok(None),
+    }
+}
+
+/// The file at the path, made empty.
+fn create(rt: &HostRuntime, path: &str) -> Result<File, Fault> {
     match fs::create(rt, path) {
-        Ok(file) => Ok(Some(file)),
+        Ok(file) => Ok(file),
         Err(error) if error.kind() == io::ErrorKind::OutOfMemory => Err(Fault::Memory),
         Err(_) => Err(Fault::Output),
     }
 }
 
 /// Writes whether the histories of a trace are one run, to standard output, and after a yes what is to be explained.
-/// The status is 1 if there is no yes.
+/// A picture is drawn after a yes alone. The status is 1 if there is no yes.
 pub fn trace(rt: &HostRuntime, given: &Trace<'_>) -> Result<ExitCode, Fault> {
-    match (gather_file(rt, given.file)?, given.explain) {
-        (None, _) => Ok(ExitCode::FAILURE),
-        (Some(_), None) => Ok(ExitCode::SUCCESS),
-        (Some(world), Some(action)) => explain(rt, &world, action),
+    match gather_file(rt, given.file)? {
+        None => Ok(ExitCode::FAILURE),
+        Some(world) => show(rt, &world, given.explain, &given.picture),
     }
 }
 
