@@ -1,4 +1,5 @@
 //! What the rows are about, and which call each of them makes.
+use crate::picture_rows::list_shown;
 use crate::scripts::{
     check_text, keep_script, number_fault, print_place, remake_steps, run_kept_script, run_text,
 };
@@ -60,6 +61,7 @@ impl Examples {
             "engine" => engine_answers(self, row, answer),
             "explain" => explain_action(self, row, answer),
             "trace" => gather_trace(self, row, answer),
+            "picture" => list_shown(self, row, answer),
             "rewrite" => rewrite_step(self.alloc, row.given, answer),
             "fault" => name_fault(self.alloc, row.given, answer),
             _ => answer_of_script(self, row, answer),

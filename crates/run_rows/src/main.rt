@@ -8,6 +8,7 @@
 mod contents;
 mod examples;
 mod failing;
+mod picture_rows;
 mod pieces;
 mod repeating;
 mod scripts;
