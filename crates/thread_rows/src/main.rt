@@ -10,6 +10,7 @@ use std::alloc::Global;
 use std::io;
 use std::sync::Wait;
 use std::thread::Threads;
+use std::time::Clock;
 
 fn main(rt: HostRuntime) -> io::Result<()> {
     let mut scripts = Scripts::new(rt.alloc());
@@ -18,7 +19,7 @@ fn main(rt: HostRuntime) -> io::Result<()> {
 }
 
 /// Runs the scripts, and prints how many write anything but what they have to, behind what these write.
-fn report<H: Threads + Wait + Sync + Print>(
+fn report<H: Threads + Wait + Clock + Print + Eprint + Sync>(
     rt: &H,
     alloc: Global,
     scripts: &[Expected],

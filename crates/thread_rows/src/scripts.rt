@@ -1,9 +1,14 @@
 //! The rows: a script, and what comes of it in threads.
 use crate::written::written;
 use rows::{Row, RowFault, Subject};
+use script_threads::Watching;
 use std::alloc::{AllocError, Global};
 use std::sync::Wait;
 use std::thread::Threads;
+use std::time::{Clock, Duration};
+
+/// More seconds than a run takes.
+const AN_HOUR: u64 = 3600;
 
 /// A script, how often it is run, and what each run has to write.
 #[derive(Drop)]
@@ -31,19 +36,32 @@ impl Expected {
         self.outcome.as_str()
     }
 
-    /// What the first run writes that writes anything but what it has to; `None` if there is no such run.
-    pub(crate) fn other<H: Threads + Wait + Sync>(
+    /// What the first run writes that writes anything but what it has to; `None` if there is no such run. Every other
+    /// run is watched.
+    pub(crate) fn other<H: Threads + Wait + Clock + Eprint + Sync>(
         &self,
         alloc: Global,
         rt: &H,
     ) -> Result<Option<String>, RowFault> {
-        for _ in 0..self.times {
-            let came = written(alloc, rt, self.script.as_str())?;
+        for time in 0..self.times {
+            let came = written(alloc, rt, self.script.as_str(), watching(time))?;
             if came.as_str() != self.outcome.as_str() {
                 return Ok(Some(came));
             }
         }
         Ok(None)
+    }
+}
+
+/// How a run is watched: every other one for an hour, the rest not at all.
+fn watching(time: u32) -> Watching {
+    if time % 2 == 0 {
+        Watching::none()
+    } else {
+        Watching {
+            limit: Some(Duration::from_secs(AN_HOUR)),
+            shows_progress: false,
+        }
     }
 }
 

@@ -6,32 +6,40 @@ use argus_engine::{Fault, trace_file};
 use rows::{RowFault, again};
 use run_model::Setup;
 use script_engine::run_file;
-use script_runs::InThreads;
+use script_threads::{InThreads, Watching};
 use stable_store::PlainStable;
 use std::alloc::Global;
 use std::sync::Wait;
 use std::thread::Threads;
+use std::time::Clock;
 use world::World;
 
-/// What a run of the script in threads writes, and whether its trace gathers, on one line. A run for which memory was refused is made once more.
-pub(crate) fn written<H: Threads + Wait + Sync>(
+/// What a run of the script in threads writes, and whether its trace gathers, on one line. A run for which memory was
+/// refused is made once more.
+pub(crate) fn written<H: Threads + Wait + Clock + Eprint + Sync>(
     alloc: Global,
     rt: &H,
     script: &str,
+    watching: Watching,
 ) -> Result<String, RowFault> {
-    match again!(run(alloc, rt, script)) {
+    match again!(run(alloc, rt, script, watching)) {
         Ok(lines) => on_one_line(alloc, lines.as_slice()),
         Err(Fault::Memory) => Err(RowFault::Memory),
         Err(_) => Err(RowFault::Unread),
     }
 }
 
-fn run<H: Threads + Wait + Sync>(alloc: Global, rt: &H, script: &str) -> Result<Vec<u8>, Fault> {
+fn run<H: Threads + Wait + Clock + Eprint + Sync>(
+    alloc: Global,
+    rt: &H,
+    script: &str,
+    watching: Watching,
+) -> Result<Vec<u8>, Fault> {
     let mut out = Some(Vec::new(alloc));
     let mut lines = Vec::new(alloc);
     run_file(
         alloc,
-        &mut InThreads::new(rt),
+        &mut InThreads::new(rt, watching),
         script.as_bytes(),
         &mut out,
         &mut lines,
