@@ -45,6 +45,9 @@ pub enum Fault {
     /// The receipts of threads are not those of all events.
     #[error("fault receipts")]
     Receipts,
+    /// An action of a run in threads has neither committed nor aborted.
+    #[error("fault open")]
+    Open,
     /// The time that was given to a run was over before its clients had ended.
     #[error("fault time")]
     Time,

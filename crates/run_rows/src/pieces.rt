@@ -116,6 +116,7 @@ impl Writer {
             Err(Fault::Store) => self.push("fault store", answer),
             Err(Fault::Stamps) => self.push("fault stamps", answer),
             Err(Fault::Receipts) => self.push("fault receipts", answer),
+            Err(Fault::Open) => self.push("fault open", answer),
             Err(Fault::Time) => self.push("fault time", answer),
         }
     }
