@@ -7,40 +7,41 @@ use Rattle.std.proofs.lemmas.List.{take_more, map-append}
 use Rattle.sqlite_trees.specs.declared.store.Store.{Ghosts}
 use Rattle.sqlite.specs.Order.{Row}
 use Rattle.sqlite.specs.Effect.{Database}
+use Rattle.sqlite.specs.Schema.{Schema}
 use Rattle.sqlite.specs.State.{State}
 use Rattle.sqlite.specs.Held.{Held, state}
 use Rattle.stable_store.specs.declared.fault.StoreFault.{StoreFault}
 use Rattle.store_tables.specs.Answered.{rows_of}
-use Rattle.sql_store.specs.Reading.{Quiets, ShowsTheSame, LooksUp, IsQueryText, IsAnswered, AreQueryTexts, AreAnswered}
+use Rattle.sql_store.specs.Reading.{QuietsWith, ShowsTheSame, LooksUp, IsQueryOf, IsAnswerOf, AreQueriesOf, AreAnswersOf}
 use Rattle.sql_store.proofs.Sequences.{and_checks, weaker_reads, one_answer, quiet_after}
 
-module _ {A : Type 0} (g : Ghosts A) (first : Held A) where
+module _ (tables : Schema) {A : Type 0} (g : Ghosts A) (first : Held A) where
   -- nothing was asked, or these queries were answered so
   abbrev pub Asked : List (List ℕ) → Held A → List (List Row) → Type 0
   Asked qs mid shown =
-      ((qs ≡ []) × (mid ≡ first) × (shown ≡ [])) ⊎ LooksUp {T = Unit {0}} (state g first) (state g mid) (λ d _. AreAnswered d qs shown) (Ok tt)
+      ((qs ≡ []) × (mid ≡ first) × (shown ≡ [])) ⊎ LooksUp {T = Unit {0}} (state g first) (state g mid) (λ d _. AreAnswersOf tables d qs shown) (Ok tt)
 
-  module _ (quiet : Quiets (state g first)) (qs : List (List ℕ)) (mid last : Held A) (shown : List (List Row)) (q : List ℕ) (so_far : Asked qs mid shown) where
-    pub quiet_mid : Quiets (state g mid)
+  module _ (quiet : QuietsWith tables (state g first)) (qs : List (List ℕ)) (mid last : Held A) (shown : List (List Row)) (q : List ℕ) (so_far : Asked qs mid shown) where
+    pub quiet_mid : QuietsWith tables (state g mid)
     quiet_mid = elim so_far [
-      | inl none ↦ subst (λ h. Quiets (state g h)) (sym none.1) quiet
-      | inr asked ↦ quiet_after (state g first) (state g mid) (λ d (_ : Unit {0}). AreAnswered d qs shown) tt quiet asked
+      | inl none ↦ subst (λ h. QuietsWith tables (state g h)) (sym none.1) quiet
+      | inr asked ↦ quiet_after (state g first) (state g mid) (λ d (_ : Unit {0}). AreAnswersOf tables d qs shown) tt quiet asked
     ]
 
-    pub one_asked : (a : Vec Row Global) → LooksUp {T = Vec Row Global} (state g mid) (state g last) (λ d rows. IsAnswered d q rows.items) (Ok a)
+    pub one_asked : (a : Vec Row Global) → LooksUp {T = Vec Row Global} (state g mid) (state g last) (λ d rows. IsAnswerOf tables d q rows.items) (Ok a)
         → Asked (qs ++ q ∷ []) last (shown ++ a.items ∷ [])
     one_asked a one = inr (elim so_far [
       | inl none ↦
-          weaker_reads (state g first) (state g last) (λ d (_ : Unit {0}). IsAnswered d q a.items) (λ d _. AreAnswered d (qs ++ q ∷ []) (shown ++ a.items ∷ [])) (Ok tt)
-          (λ d _ h. subst (λ xs. AreAnswered d (xs ++ q ∷ []) (shown ++ a.items ∷ [])) (sym none.0) (subst (λ xs. AreAnswered d (q ∷ []) (xs ++ a.items ∷ [])) (sym none.2) (h, tt)))
-          (subst (λ h. LooksUp {T = Unit {0}} (state g h) (state g last) (λ d _. IsAnswered d q a.items) (Ok tt)) none.1 (only (state g mid) (state g last) one))
+          weaker_reads (state g first) (state g last) (λ d (_ : Unit {0}). IsAnswerOf tables d q a.items) (λ d _. AreAnswersOf tables d (qs ++ q ∷ []) (shown ++ a.items ∷ [])) (Ok tt)
+          (λ d _ h. subst (λ xs. AreAnswersOf tables d (xs ++ q ∷ []) (shown ++ a.items ∷ [])) (sym none.0) (subst (λ xs. AreAnswersOf tables d (q ∷ []) (xs ++ a.items ∷ [])) (sym none.2) (h, tt)))
+          (subst (λ h. LooksUp {T = Unit {0}} (state g h) (state g last) (λ d _. IsAnswerOf tables d q a.items) (Ok tt)) none.1 (only (state g mid) (state g last) one))
       | inr asked ↦
-          weaker_reads (state g first) (state g last) (λ d (_ : Unit {0}). AreAnswered d qs shown × IsAnswered d q a.items) (λ d _. AreAnswered d (qs ++ q ∷ []) (shown ++ a.items ∷ [])) (Ok tt)
-          (λ d _ h. one_answer d qs shown q a.items h.0 h.1)
-          (and_checks (state g first) (state g mid) (state g last) (λ d (_ : Unit {0}). AreAnswered d qs shown) (λ d (_ : Unit {0}). IsAnswered d q a.items) tt (Ok tt) quiet asked (λ _. only (state g mid) (state g last) one))
+          weaker_reads (state g first) (state g last) (λ d (_ : Unit {0}). AreAnswersOf tables d qs shown × IsAnswerOf tables d q a.items) (λ d _. AreAnswersOf tables d (qs ++ q ∷ []) (shown ++ a.items ∷ [])) (Ok tt)
+          (λ d _ h. one_answer tables d qs shown q a.items h.0 h.1)
+          (and_checks (state g first) (state g mid) (state g last) (λ d (_ : Unit {0}). AreAnswersOf tables d qs shown) (λ d (_ : Unit {0}). IsAnswerOf tables d q a.items) tt (Ok tt) quiet asked (λ _. only (state g mid) (state g last) one))
     ])
       where
-        only : (s t : State) → LooksUp {T = Vec Row Global} s t (λ d rows. IsAnswered d q rows.items) (Ok a) → LooksUp {T = Unit {0}} s t (λ d _. IsAnswered d q a.items) (Ok tt)
+        only : (s t : State) → LooksUp {T = Vec Row Global} s t (λ d rows. IsAnswerOf tables d q rows.items) (Ok a) → LooksUp {T = Unit {0}} s t (λ d _. IsAnswerOf tables d q a.items) (Ok tt)
         only s t h = record { clean = h.clean; ok = h.ok; err = λ _. tt; leaves = h.leaves }
 
     -- the next is not answered
@@ -49,7 +50,7 @@ module _ {A : Type 0} (g : Ghosts A) (first : Held A) where
     none_asked {T = T} {U = U} P e f one = elim so_far [
       | inl none ↦ subst (λ h. LooksUp (state g h) (state g last) P (Err f)) none.1 (failed (state g mid) (state g last) one)
       | inr asked ↦
-          let both = and_checks (state g first) (state g mid) (state g last) (λ d (_ : Unit {0}). AreAnswered d qs shown) P tt (Err f) quiet asked (λ _. failed (state g mid) (state g last) one) in
+          let both = and_checks (state g first) (state g mid) (state g last) (λ d (_ : Unit {0}). AreAnswersOf tables d qs shown) P tt (Err f) quiet asked (λ _. failed (state g mid) (state g last) one) in
           record { clean = both.clean; ok = λ _. tt; err = both.err; leaves = both.leaves }
     ]
       where
@@ -62,8 +63,8 @@ pub next_text : (qs : List (Bor (List ℕ))) (i : ℕ) (d : Bor (List ℕ)) → 
 next_text qs i d low = ap (map (λ (x : Bor (List ℕ)). x.now)) (take_more qs i d low) ∙ map-append (λ (x : Bor (List ℕ)). x.now) (take i qs) (get_or qs i d ∷ [])
 
 -- the text of each of these
-pub text_at : (qs : List (Bor (List ℕ))) (i : ℕ) (d : Bor (List ℕ)) → i < length qs → AreQueryTexts (map (λ (x : Bor (List ℕ)). x.now) qs)
-    → IsQueryText (get_or qs i d).now
+pub text_at : {tables : Schema} (qs : List (Bor (List ℕ))) (i : ℕ) (d : Bor (List ℕ)) → i < length qs → AreQueriesOf tables (map (λ (x : Bor (List ℕ)). x.now) qs)
+    → IsQueryOf tables (get_or qs i d).now
 text_at [] i d low h = absurd (omega (arith, low))
 text_at (x ∷ qs) zero d low h = h.0
 text_at (x ∷ qs) (suc i) d low h = text_at qs i d (omega (arith, low)) h.1
@@ -75,10 +76,10 @@ no_text = record { ref_ptr = (0, 0); now = [] }
 same_self : (s : State) → IsTrue s.is_open → ShowsTheSame s s
 same_self s up = record { was_open = up; is_open = up; now = refl; committed = refl; mode = refl }
 
-module _ {A : Type 0} (g : Ghosts A) (first last : Held A) where
+module _ (tables : Schema) {A : Type 0} (g : Ghosts A) (first last : Held A) where
   -- what was asked, and then given up
   pub given_up : {T : Type 0} (qs : List (List ℕ)) (shown : List (List Row)) (P : Database → T → Type 0) (f : StoreFault) (r : Result T StoreFault)
-      → Asked g first qs last shown → r ≡ Err f → LooksUp (state g first) (state g last) P r
+      → Asked tables g first qs last shown → r ≡ Err f → LooksUp (state g first) (state g last) P r
   given_up {T = T} qs shown P f r so_far is = subst (LooksUp {T = T} (state g first) (state g last) P) (sym is) (elim so_far [
     | inl none ↦
         subst (λ h. LooksUp {T = T} (state g first) (state g h) P (Err f)) (sym none.1)
@@ -87,8 +88,8 @@ module _ {A : Type 0} (g : Ghosts A) (first last : Held A) where
   ])
 
   -- all was asked
-  pub all_asked : (qs : List (List ℕ)) (answers : Vec (Vec Row Global) Global) → 0 < length qs → Asked g first qs last (rows_of answers.items)
-      → LooksUp {T = Vec (Vec Row Global) Global} (state g first) (state g last) (λ d all. AreAnswered d qs (rows_of all.items)) (Ok answers)
+  pub all_asked : (qs : List (List ℕ)) (answers : Vec (Vec Row Global) Global) → 0 < length qs → Asked tables g first qs last (rows_of answers.items)
+      → LooksUp {T = Vec (Vec Row Global) Global} (state g first) (state g last) (λ d all. AreAnswersOf tables d qs (rows_of all.items)) (Ok answers)
   all_asked qs answers some (inl none) = absurd (no_more qs none.0 some)
     where
       no_more : (qs : List (List ℕ)) → qs ≡ [] → 0 < length qs → ⊥

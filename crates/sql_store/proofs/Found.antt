@@ -15,7 +15,7 @@ use Rattle.sql_store.proofs.Known.{not_false}
 
 -- ---- what stays over a look
 
-same_still : {T : Type 0} (a b : State) (P : Database → T → Type 0) (r : Result T StoreFault) → LooksUp a b P r → HasCleanDisk b → IsTrue b.is_open
+pub same_still : {T : Type 0} (a b : State) (P : Database → T → Type 0) (r : Result T StoreFault) → LooksUp a b P r → HasCleanDisk b → IsTrue b.is_open
     → ShowsTheSame a b
 same_still a b P (Ok x) h clean up = (h.ok clean).0
 same_still a b P (Err e) h clean up = h.err clean up

@@ -17,11 +17,11 @@ use Rattle.sqlite_resolve.specs.declared.error.CompileError.{CompileError}
 use Rattle.sqlite_resolve.specs.declared.error.CompileError.TheVariants.{NoSuchTable}
 use Rattle.sqlite_tied.specs.Compute.{everything}
 use Rattle.stable_store.specs.declared.fault.StoreFault.{StoreFault}
-use Rattle.store_tables.specs.Tables.{no_schema, stable_schema}
+use Rattle.store_tables.specs.Tables.{no_schema, first_schema, stable_schema}
 use Rattle.sql_store.specs.Reading.{IsSettled, ShowsTheSame, LooksUp}
 use Rattle.sql_store.specs.Layouts.{presence, presence_in, IsAbsence, IsPresence, IsLayout}
 use Rattle.sql_store.specs.declared.layout.Layout.{Layout}
-use Rattle.sql_store.specs.declared.layout.Layout.TheVariants.{Nothing, Second}
+use Rattle.sql_store.specs.declared.layout.Layout.TheVariants.{Nothing, First, Second}
 use Rattle.sql_store.specs.declared.layout.Presence.{Presence}
 use Rattle.sql_store.specs.declared.layout.Presence.TheVariants.{There, Missing, Others}
 use Rattle.sql_store.proofs.Queries.{the_same}
@@ -162,6 +162,14 @@ new_delta : presence_in no_schema delta_columns ≡ Missing
 unfolding understood listing_schema everything
 new_delta = refl
 
+first_first : AllByRecursion (λ q. presence_in first_schema q ≡ There) first_columns
+unfolding understood listing_schema everything
+first_first = (refl, (refl, (refl, (refl, (refl, tt)))))
+
+first_delta : presence_in first_schema delta_columns ≡ Missing
+unfolding understood listing_schema everything
+first_delta = refl
+
 second_first : AllByRecursion (λ q. presence_in stable_schema q ≡ There) first_columns
 unfolding understood listing_schema everything
 second_first = (refl, (refl, (refl, (refl, (refl, tt)))))
@@ -171,11 +179,15 @@ unfolding understood listing_schema everything
 second_delta = refl
 
 pub layout_is : (schema : Schema) (first deltas : Presence) (layout : Layout) → IsPresence schema first_columns first → deltas ≡ presence_in schema delta_columns
-    → (first ≡ Missing → deltas ≡ Missing → layout ≡ Nothing) → (first ≡ There → deltas ≡ There → layout ≡ Second) → IsLayout schema layout
-layout_is schema first deltas layout all told new second = record {
+    → (first ≡ Missing → deltas ≡ Missing → layout ≡ Nothing) → (first ≡ There → deltas ≡ Missing → layout ≡ First)
+    → (first ≡ There → deltas ≡ There → layout ≡ Second) → IsLayout schema layout
+layout_is schema first deltas layout all told new older second = record {
   new = λ is.
       new (all Missing (subst (λ s. AllByRecursion (λ q. presence_in s q ≡ Missing) first_columns) (sym is) new_first))
       (told ∙ (ap (λ s. presence_in s delta_columns) is ∙ new_delta));
+  first = λ is.
+      older (all There (subst (λ s. AllByRecursion (λ q. presence_in s q ≡ There) first_columns) (sym is) first_first))
+      (told ∙ (ap (λ s. presence_in s delta_columns) is ∙ first_delta));
   second = λ is.
       second (all There (subst (λ s. AllByRecursion (λ q. presence_in s q ≡ There) first_columns) (sym is) second_first))
       (told ∙ (ap (λ s. presence_in s delta_columns) is ∙ second_delta));

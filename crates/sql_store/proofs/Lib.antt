@@ -13,8 +13,13 @@ mod Looking
 mod Opens
 mod ReadBack
 mod Works
+mod Schemas
+mod TableTexts
 mod Outside
 mod Layouts
 mod Placed
 mod Found
 mod Recognized
+mod FirstQueries
+mod FirstContent
+mod FirstRead

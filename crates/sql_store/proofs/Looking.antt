@@ -36,22 +36,23 @@ concluded : (task : Task) (mode : Mode) (what : Option Returning) (command : Com
     → OnRows task mode what command db (Ok (tally, after)) → after.schema ≡ task.schema
 concluded task mode what command db tally after h = ap (λ (p : Tally × Database). p.1.schema) (same_value (went (went (went h).2).2).2)
 
-module _ (limit : Option ℕ) (mode : Mode) (params : Row) (db : Database) (text : List ℕ) (what : Returning) (tally : Tally) (after : Database) where
+module _ (limit : Option ℕ) (mode : Mode) (params : Row) (db : Database) (what : Option Returning) (tally : Tally) (after : Database) where
   abbrev task_on : Table → Task
   task_on t = record { limit = limit; keys = mode.keys; schema = db.schema; table = t; params = params }
 
-  on_table : (at : ℕ) (command : Command)
-      → AtPlace (λ t. OnRows (task_on t) mode (Some what) command db.trees) (slice_get db.schema.tables at) (Ok (tally, after))
+  pub on_table : (at : ℕ) (command : Command)
+      → AtPlace (λ t. OnRows (task_on t) mode what command db.trees) (slice_get db.schema.tables at) (Ok (tally, after))
       → after.schema ≡ db.schema
   on_table at command h =
-      at_table (slice_get db.schema.tables at) (λ t. OnRows (task_on t) mode (Some what) command db.trees) (tally, after) (after.schema ≡ db.schema)
-      (λ t k. concluded (task_on t) mode (Some what) command db.trees tally after k) h
+      at_table (slice_get db.schema.tables at) (λ t. OnRows (task_on t) mode what command db.trees) (tally, after) (after.schema ≡ db.schema)
+      (λ t k. concluded (task_on t) mode what command db.trees tally after k) h
 
+module _ (limit : Option ℕ) (mode : Mode) (params : Row) (db : Database) (text : List ℕ) (what : Returning) (tally : Tally) (after : Database) where
   does_schema : (command : Command) → Does limit mode params db text (Some what) command (Ok (tally, after)) → after.schema ≡ db.schema
-  does_schema (Insert at from) h = on_table at (Insert at from) h
-  does_schema (InsertOr at way from clauses) h = on_table at (InsertOr at way from clauses) h
-  does_schema (Update at q) h = on_table at (Update at q) h
-  does_schema (Delete at q) h = on_table at (Delete at q) h
+  does_schema (Insert at from) h = on_table limit mode params db (Some what) tally after at (Insert at from) h
+  does_schema (InsertOr at way from clauses) h = on_table limit mode params db (Some what) tally after at (InsertOr at way from clauses) h
+  does_schema (Update at q) h = on_table limit mode params db (Some what) tally after at (Update at q) h
+  does_schema (Delete at q) h = on_table limit mode params db (Some what) tally after at (Delete at q) h
   does_schema _ h = absurd (let e = h in cc)
 
 module _ (sql : List ℕ) (old new : State) where

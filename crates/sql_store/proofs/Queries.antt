@@ -9,6 +9,7 @@ use Rattle.sqlite_rules.proofs.ProbeLemmas.{has_mapped, mapped_has}
 use Rattle.sqlite.specs.declared.types.Value.TheVariants.{Null, Int}
 use Rattle.sqlite.specs.Order.{Row}
 use Rattle.sqlite.specs.Tree.{Trees}
+use Rattle.sqlite.specs.Schema.{Schema}
 use Rattle.sqlite.specs.Term.{Term, lit, col}
 use Rattle.sqlite.specs.Query.{Query, inner, end, IsAnswer, output, Output}
 use Rattle.sqlite.specs.Program.{overlay}
@@ -28,11 +29,10 @@ use Rattle.sqlite_resolve.specs.declared.compiled.Compiled.{Compiled}
 use Rattle.sqlite.specs.declared.error.Error.{Error}
 use Rattle.sqlite.proofs.Callers.{IsPlain, command_of, reads_as, never_commits}
 use Rattle.stable_store.specs.declared.fault.StoreFault.{StoreFault}
-use Rattle.store_tables.specs.Tables.{stable_schema}
 use Rattle.store_tables.proofs.Queries.{IsQuery, base_query, homes_query, values_query, deltas_query, decided_query}
 use Rattle.store_tables.specs.Holds.{IsViewOf, AreViews}
 use Rattle.store_tables.specs.Answered.{queries, answered}
-use Rattle.sql_store.specs.Reading.{IsQuiet, Quiets, ShowsTheSame, LooksUp, IsQueryText, IsAnswered, AreQueryTexts, AreAnswered}
+use Rattle.sql_store.specs.Reading.{IsQuietWith, QuietsWith, ShowsTheSame, LooksUp, IsQueryOf, IsAnswerOf, IsQueryText, IsAnswered, AreQueryTexts, AreAnswered}
 
 -- these columns of the rows of a table, in some order
 abbrev pub ordered_query : List (Term × Key) → ℕ → List Term → Query
@@ -170,7 +170,7 @@ failed_leaves sql old new e (inl (inl same)) = inl same.1
 failed_leaves sql old new e (inl (inr failed)) = inr failed.3
 failed_leaves sql old new e (inr h) = showing_failed sql old new h.0 (timed [] h.0.formats h.1.now) e h.0.returning h.2
 
-pub same_after : (old new : State) → IsUnchanged old new ⊎ IsRolledBack old new → (IsTrue old.is_open → IsQuiet old) → IsTrue new.is_open
+pub same_after : {tables : Schema} (old new : State) → IsUnchanged old new ⊎ IsRolledBack old new → (IsTrue old.is_open → IsQuietWith tables old) → IsTrue new.is_open
     → ShowsTheSame old new
 same_after old new (inl same) quiet up = the_same old new same
 same_after old new (inr back) quiet up =
@@ -179,7 +179,7 @@ same_after old new (inr back) quiet up =
     record { was_open = opened; is_open = up; now = (back.undone up).0 ∙ sym q.settled; committed = (back.undone up).1; mode = back.autocommit ∙ sym q.mode }
 
 -- one query
-module _ (sql : List ℕ) (old new : State) (text : IsQueryText sql) (quiet : Quiets old) (survives : Survives old new (CommitsShowing sql [] old)) where
+module _ (tables : Schema) (sql : List ℕ) (old new : State) (text : IsQueryOf tables sql) (quiet : QuietsWith tables old) (survives : Survives old new (CommitsShowing sql [] old)) where
   was_clean : HasCleanDisk new → HasCleanDisk old
   was_clean clean = omega (arith, survives.clean)
 
@@ -191,14 +191,14 @@ module _ (sql : List ℕ) (old new : State) (text : IsQueryText sql) (quiet : Qu
       elim (survives.crash clean db may) [ inl before ↦ before | inr made ↦ absurd (never_commits sql [] old db (plainly clean up) made) ]
 
   pub looked_up : {T : Type 0} (rows : List Row) (Shows : Database → T → Type 0) (x : T) → (HasCleanDisk new → Shown sql [] old new rows)
-      → (IsAnswered old.now sql rows → Shows old.now x) → LooksUp old new Shows (Ok x)
+      → (IsAnswerOf tables old.now sql rows → Shows old.now x) → LooksUp old new Shows (Ok x)
   looked_up rows Shows x shown so = record {
     clean = was_clean;
     ok = λ clean.
         let up = was_open sql old new rows (shown clean) in
         let schema = (quiet (was_clean clean) up).schema in (
           the_same old new (shown_same sql old new rows (plainly clean up) (shown clean)),
-          so (reads_as sql [] old new stable_schema schema (command_of (understood stable_schema sql)) refl text.plain text.unlisted rows (shown clean)),
+          so (reads_as sql [] old new tables schema (command_of (understood tables sql)) refl text.plain text.unlisted rows (shown clean)),
         );
     err = λ clean. tt;
     leaves = left;

@@ -11,6 +11,7 @@ use Rattle.sqlite.specs.declared.types.Value.{Value}
 use Rattle.sqlite.specs.declared.types.Value.TheVariants.{Int}
 use Rattle.sqlite.specs.Order.{Row, column}
 use Rattle.sqlite.specs.Tree.{Trees}
+use Rattle.sqlite.specs.Schema.{Schema}
 use Rattle.sqlite.specs.Term.{Term, col}
 use Rattle.sqlite.specs.Query.{Query, IsAnswer, output, Output}
 use Rattle.sqlite_sql.specs.Query.{output_cmp}
@@ -48,11 +49,11 @@ use Rattle.store_tables.proofs.Records.{ties_number}
 use Rattle.store_tables.proofs.Queries.{base_query, homes_query, values_query, deltas_query}
 use Rattle.store_tables.proofs.Viewed.{stands_for}
 use Rattle.store_writing.specs.Steps.{Stands}
-use Rattle.sql_store.specs.Reading.{AreAnswered, LooksUp}
+use Rattle.sql_store.specs.Reading.{AreAnswersOf, AreAnswered, LooksUp}
 use Rattle.sql_store.proofs.Queries.{ordered_query, viewed, answer_of, has_permuted, numbers_query, views}
 use Rattle.sql_store.proofs.Rowids.{rowids_query, rowids_queries, as_many, meta_rowids, base_rowids, homes_rowids, values_rowids, decided_rowids, deltas_rowids}
 
-not_true : (b : Bool) → not b ≡ true → b ≡ false
+pub not_true : (b : Bool) → not b ≡ true → b ≡ false
 not_true true h = absurd (true≢false (sym h))
 not_true false h = refl
 
@@ -190,6 +191,16 @@ module _ (rows : List Row) (placed : HasRowids rows) (top object : ℕ)
     )
   ]
 
+-- the numbers of a row that is a part of this record
+pub numbers_in : (Spells : Value → Part → Type 0) (rows : List Row) (Is : ℕ × (ℕ × Part) → Type 0) → Lists (ShowsRecord Spells 1) rows Is
+    → (top object : ℕ) (r : Row) → Has rows r → is_part_of top object r ≡ true → (column r 1 ≡ Int (pos top)) × (column r 2 ≡ Int (pos object))
+numbers_in Spells rows Is listed top object r h mine =
+    let e = listed.each r h in
+    let p = and_parts _ _ mine in (
+      e.1.top.is ∙ ap (λ n. Int (pos n)) (ties_number (column r 1) e.0.0 top e.1.top.is p.0),
+      e.1.object.is ∙ ap (λ n. Int (pos n)) (ties_number (column r 2) e.0.1.0 object e.1.object.is p.1),
+    )
+
 -- ---- the answers to the queries of a content
 
 module _ (d : Database) (c : Stored) (store : IsStore d.trees c) where
@@ -199,15 +210,6 @@ module _ (d : Database) (c : Stored) (store : IsStore d.trees c) where
 
   deltas_differ : (r : Row) → Has (d.trees 7) r → clashes plain (1 ∷ 2 ∷ []) (d.trees 7) r ≡ false
   deltas_differ r h = not_true _ (and_parts _ _ (all_has (λ row. passes Unique stable_schema d.trees (record prepared_delta { tree = 7 }) row ≡ true) (d.trees 7) r (store.sound.obeys.rules Unique).1.1.1.1.1.0 h)).0
-
-  numbers_in : (Spells : Value → Part → Type 0) (rows : List Row) (Is : ℕ × (ℕ × Part) → Type 0) → Lists (ShowsRecord Spells 1) rows Is
-      → (top object : ℕ) (r : Row) → Has rows r → is_part_of top object r ≡ true → (column r 1 ≡ Int (pos top)) × (column r 2 ≡ Int (pos object))
-  numbers_in Spells rows Is listed top object r h mine =
-      let e = listed.each r h in
-      let p = and_parts _ _ mine in (
-        e.1.top.is ∙ ap (λ n. Int (pos n)) (ties_number (column r 1) e.0.0 top e.1.top.is p.0),
-        e.1.object.is ∙ ap (λ n. Int (pos n)) (ties_number (column r 2) e.0.1.0 object e.1.object.is p.1),
-      )
 
   pub answers_keyed : (answers : List (List Row)) → AreAnswered d queries answers → AreKeyed (answered answers)
   answers_keyed [] h = absurd h
@@ -263,11 +265,11 @@ module _ (d : Database) (c : Stored) (store : IsStore d.trees c) where
   rowids_rise (a ∷ b ∷ k ∷ e ∷ f ∷ g ∷ l ∷ more) h = absurd h.1.1.1.1.1.1
 
 -- so many queries have so many answers
-pub as_many_answers : (d : Database) (qs : List (List ℕ)) (answers : List (List Row)) → AreAnswered d qs answers → length answers ≡ length qs
-as_many_answers d [] [] h = refl
-as_many_answers d [] (a ∷ answers) h = absurd h
-as_many_answers d (q ∷ qs) [] h = absurd h
-as_many_answers d (q ∷ qs) (a ∷ answers) h = ap suc (as_many_answers d qs answers h.1)
+pub as_many_answers : (tables : Schema) (d : Database) (qs : List (List ℕ)) (answers : List (List Row)) → AreAnswersOf tables d qs answers → length answers ≡ length qs
+as_many_answers tables d [] [] h = refl
+as_many_answers tables d [] (a ∷ answers) h = absurd h
+as_many_answers tables d (q ∷ qs) [] h = absurd h
+as_many_answers tables d (q ∷ qs) (a ∷ answers) h = ap suc (as_many_answers tables d qs answers h.1)
 
 -- ---- a store is recognized
 
@@ -283,7 +285,7 @@ module _ (old new : State) (c : Stored) (all : Vec (Vec Row Global) Global) (xs 
       let shown = (looked.ok clean).1 in
       let store = store_of queries looked in
       subst (λ l. (length l ≡ 6 → AreKeyed (answered (rows_of l)) → Holds 0 (answered (rows_of l)) c → ⊥) → ⊥) (sym same)
-      (λ no. no (sym (length-map all.items (λ (a : Vec Row Global). a.items)) ∙ as_many_answers old.now queries (rows_of all.items) shown)
+      (λ no. no (sym (length-map all.items (λ (a : Vec Row Global). a.items)) ∙ as_many_answers stable_schema old.now queries (rows_of all.items) shown)
       (answers_keyed old.now c store (rows_of all.items) shown)
       (stands_for (answered (rows_of all.items)) old.now.trees c (views old.now (rows_of all.items) shown) store.holds)) never
 

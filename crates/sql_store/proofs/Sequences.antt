@@ -2,9 +2,10 @@
 use Rattle.std.proofs.Common.{◌≡◌, ℕ, List, [], ◌∷◌, ◌++◌, Result, Ok, Err, IfOk, sym, ap, subst, ◌∙◌}
 use Rattle.sqlite.specs.Order.{Row}
 use Rattle.sqlite.specs.Effect.{Database}
+use Rattle.sqlite.specs.Schema.{Schema}
 use Rattle.sqlite.specs.State.{State}
 use Rattle.stable_store.specs.declared.fault.StoreFault.{StoreFault}
-use Rattle.sql_store.specs.Reading.{IsQuiet, Quiets, ShowsTheSame, LooksUp, IsAnswered, AreAnswered}
+use Rattle.sql_store.specs.Reading.{IsQuietWith, QuietsWith, ShowsTheSame, LooksUp, IsAnswerOf, AreAnswersOf}
 
 pub ok_leads : {T : Type 0} (r : Result T StoreFault) (P Q : T → Type 0) → ((x : T) → P x → Q x) → IfOk r P → IfOk r Q
 ok_leads (Ok x) P Q leads h = leads x h
@@ -15,9 +16,9 @@ the_same_then a b c p q =
     record { was_open = p.was_open; is_open = q.is_open; now = q.now ∙ p.now; committed = q.committed ∙ p.committed; mode = q.mode ∙ p.mode }
 
 -- what was read was understood, or not
-pub then_reads : {T U : Type 0} (old new : State) (P : Database → T → Type 0) (Q : Database → U → Type 0) (x : T) (r : Result U StoreFault)
-    → Quiets old → LooksUp old new P (Ok x)
-    → (IsQuiet old → P old.now x → IfOk r (Q old.now)) → LooksUp old new Q r
+pub then_reads : {tables : Schema} {T U : Type 0} (old new : State) (P : Database → T → Type 0) (Q : Database → U → Type 0) (x : T) (r : Result U StoreFault)
+    → QuietsWith tables old → LooksUp old new P (Ok x)
+    → (IsQuietWith tables old → P old.now x → IfOk r (Q old.now)) → LooksUp old new Q r
 then_reads old new P Q x (Ok y) quiet first leads = record {
   clean = first.clean;
   ok = λ clean. let h = first.ok clean in (h.0, leads (quiet (first.clean clean) h.0.was_open) h.1);
@@ -53,7 +54,7 @@ and_reads a b c P Q x (Err e) first second = record {
   leaves = λ clean up db may. first.leaves (second.clean clean) up db (second.leaves clean (first.ok (second.clean clean)).0.is_open db may);
 }
 
-pub quiet_after : {T : Type 0} (a b : State) (P : Database → T → Type 0) (x : T) → Quiets a → LooksUp a b P (Ok x) → Quiets b
+pub quiet_after : {tables : Schema} {T : Type 0} (a b : State) (P : Database → T → Type 0) (x : T) → QuietsWith tables a → LooksUp a b P (Ok x) → QuietsWith tables b
 quiet_after a b P x quiet first clean up =
     let same = (first.ok clean).0 in
     let q = quiet (first.clean clean) same.was_open in
@@ -67,18 +68,18 @@ weaker_reads old new P Q (Ok x) leads h =
     record { clean = h.clean; ok = λ clean. let k = h.ok clean in (k.0, leads old.now x k.1); err = λ _. tt; leaves = h.leaves }
 weaker_reads old new P Q (Err e) leads h = record { clean = h.clean; ok = λ _. tt; err = h.err; leaves = h.leaves }
 
-pub and_checks : {T U : Type 0} (a b c : State) (P : Database → T → Type 0) (Q : Database → U → Type 0) (x : T) (r : Result U StoreFault)
-    → Quiets a → LooksUp a b P (Ok x)
-    → (Quiets b → LooksUp b c Q r) → LooksUp a c (λ db y. P db x × Q db y) r
+pub and_checks : {tables : Schema} {T U : Type 0} (a b c : State) (P : Database → T → Type 0) (Q : Database → U → Type 0) (x : T) (r : Result U StoreFault)
+    → QuietsWith tables a → LooksUp a b P (Ok x)
+    → (QuietsWith tables b → LooksUp b c Q r) → LooksUp a c (λ db y. P db x × Q db y) r
 and_checks a b c P Q x r quiet first next =
     weaker_reads a c (λ db y. ShowsTheSame a b × (P db x × Q db y)) (λ db y. P db x × Q db y) r (λ db y h. h.1)
     (and_reads a b c P Q x r first (next (quiet_after a b P x quiet first)))
 
 -- ---- answers one after another
 
-pub one_answer : (d : Database) (qs : List (List ℕ)) (shown : List (List Row)) (q : List ℕ) (a : List Row) → AreAnswered d qs shown → IsAnswered d q a
-    → AreAnswered d (qs ++ q ∷ []) (shown ++ a ∷ [])
-one_answer d [] [] q a h k = (k, tt)
-one_answer d [] (x ∷ shown) q a h k = absurd h
-one_answer d (x ∷ qs) [] q a h k = absurd h
-one_answer d (x ∷ qs) (y ∷ shown) q a h k = (h.0, one_answer d qs shown q a h.1 k)
+pub one_answer : (tables : Schema) (d : Database) (qs : List (List ℕ)) (shown : List (List Row)) (q : List ℕ) (a : List Row) → AreAnswersOf tables d qs shown → IsAnswerOf tables d q a
+    → AreAnswersOf tables d (qs ++ q ∷ []) (shown ++ a ∷ [])
+one_answer tables d [] [] q a h k = (k, tt)
+one_answer tables d [] (x ∷ shown) q a h k = absurd h
+one_answer tables d (x ∷ qs) [] q a h k = absurd h
+one_answer tables d (x ∷ qs) (y ∷ shown) q a h k = (h.0, one_answer tables d qs shown q a h.1 k)

@@ -8,9 +8,9 @@ use Rattle.sqlite.specs.declared.error.Error.TheVariants.{SqlInputError}
 use Rattle.sqlite_resolve.specs.declared.compiled.Compiled.{Compiled}
 use Rattle.sqlite_resolve.specs.declared.error.CompileError.{CompileError}
 use Rattle.sqlite_resolve.specs.declared.error.CompileError.TheVariants.{NoSuchTable}
-use Rattle.store_tables.specs.Tables.{no_schema, stable_schema}
+use Rattle.store_tables.specs.Tables.{no_schema, first_schema, stable_schema}
 use Rattle.sql_store.specs.declared.layout.Layout.{Layout}
-use Rattle.sql_store.specs.declared.layout.Layout.TheVariants.{Nothing, Second}
+use Rattle.sql_store.specs.declared.layout.Layout.TheVariants.{Nothing, First, Second}
 use Rattle.sql_store.specs.declared.layout.Presence.{Presence}
 use Rattle.sql_store.specs.declared.layout.Presence.TheVariants.{There, Missing, Others}
 
@@ -31,7 +31,8 @@ IsAbsence error found = (fault : CompileError) × (error ≡ SqlInputError fault
 abbrev pub IsPresence : Schema → List (List ℕ) → Presence → Type 0
 IsPresence schema queries found = (all : Presence) → AllByRecursion (λ q. presence_in schema q ≡ all) queries → found ≡ all
 
--- which layout it is, for the schemas of a new database and of a store
+-- which layout it is, for the schemas of a new database, of version 1 and of a store
 pub record IsLayout (schema : Schema) (layout : Layout) : Type 0 where
   pub new : schema ≡ no_schema → layout ≡ Nothing
+  pub first : schema ≡ first_schema → layout ≡ First
   pub second : schema ≡ stable_schema → layout ≡ Second

@@ -2,4 +2,6 @@ pub mod Mirror
 pub mod Views
 pub mod Reading
 pub mod Layouts
+pub mod Schemas
 pub mod Placed
+pub mod First

@@ -1,6 +1,8 @@
 -- What a call that reads the tables answers, and what it leaves.
-use Rattle.std.specs.Prelude.{◌≡◌, ℕ, Bool, true, false, List, [], ◌∷◌, Result, IfOk, OnOk, OnErr, IsErrOf, IsTrue}
-use Rattle.sqlite.specs.Order.{Row}
+use Rattle.std.specs.Prelude.{◌≡◌, ℕ, pos, Bool, true, false, List, [], ◌∷◌, Result, IfOk, OnOk, OnErr, IsErrOf, IsTrue}
+use Rattle.sqlite.specs.declared.types.Value.TheVariants.{Int}
+use Rattle.sqlite.specs.Order.{Row, column}
+use Rattle.sqlite.specs.Schema.{Schema}
 use Rattle.sqlite.specs.Tree.{Trees}
 use Rattle.sqlite.proofs.Callers.{command_of}
 use Rattle.sqlite.specs.Effect.{Database, Reads}
@@ -16,36 +18,70 @@ use Rattle.store_writing.specs.Steps.{Stands}
 
 -- ---- answers
 
--- the text is a query of the tables of a store, with no parameters
-pub record IsQueryText (sql : List ℕ) : Type 0 where
-  pub plain : IsPlain (understood stable_schema sql)
-  pub unlisted : reads_listing stable_schema sql ≡ false
+-- the text is a query of tables with this schema, with no parameters
+pub record IsQueryOf (tables : Schema) (sql : List ℕ) : Type 0 where
+  pub plain : IsPlain (understood tables sql)
+  pub unlisted : reads_listing tables sql ≡ false
 
--- the rows are an answer to the query in a database with the tables of a store
+-- the rows are an answer to the query in a database with this schema
+abbrev pub IsAnswerOf : Schema → Database → List ℕ → List Row → Type 0
+IsAnswerOf tables d sql rows = Reads (command_of (understood tables sql)) d [] rows
+
+abbrev pub AreQueriesOf : Schema → List (List ℕ) → Type 0
+AreQueriesOf tables [] = Unit {0}
+AreQueriesOf tables (q ∷ qs) = IsQueryOf tables q × AreQueriesOf tables qs
+
+abbrev pub AreAnswersOf : Schema → Database → List (List ℕ) → List (List Row) → Type 0
+AreAnswersOf tables d [] [] = Unit {0}
+AreAnswersOf tables d [] (a ∷ shown) = ⊥
+AreAnswersOf tables d (q ∷ qs) [] = ⊥
+AreAnswersOf tables d (q ∷ qs) (a ∷ shown) = IsAnswerOf tables d q a × AreAnswersOf tables d qs shown
+
+-- so it is with the tables of a store
+abbrev pub IsQueryText : List ℕ → Type 0
+IsQueryText = IsQueryOf stable_schema
+
 abbrev pub IsAnswered : Database → List ℕ → List Row → Type 0
-IsAnswered d sql rows = Reads (command_of (understood stable_schema sql)) d [] rows
+IsAnswered = IsAnswerOf stable_schema
 
 abbrev pub AreQueryTexts : List (List ℕ) → Type 0
-AreQueryTexts [] = Unit {0}
-AreQueryTexts (q ∷ qs) = IsQueryText q × AreQueryTexts qs
+AreQueryTexts = AreQueriesOf stable_schema
 
 abbrev pub AreAnswered : Database → List (List ℕ) → List (List Row) → Type 0
-AreAnswered d [] [] = Unit {0}
-AreAnswered d [] (a ∷ shown) = ⊥
-AreAnswered d (q ∷ qs) [] = ⊥
-AreAnswered d (q ∷ qs) (a ∷ shown) = IsAnswered d q a × AreAnswered d qs shown
+AreAnswered = AreAnswersOf stable_schema
+
+-- the rows are one, which has this number first
+pub record IsOnlyNumber (rows : List Row) (n : ℕ) : Type 0 where
+  pub row : Row
+  pub only : rows ≡ row ∷ []
+  pub number : column row 0 ≡ Int (pos n)
+
+-- an answer to the query is this number
+abbrev pub IsNumberOf : Schema → List ℕ → Database → ℕ → Type 0
+IsNumberOf tables sql d n = (rows : List Row) × IsAnswerOf tables d sql rows × IsOnlyNumber rows n
+
+-- each answer to the query is a number
+abbrev pub IsCounted : Schema → List ℕ → Database → Type 0
+IsCounted tables sql d = (rows : List Row) → IsAnswerOf tables d sql rows → (n : ℕ) × IsOnlyNumber rows n
 
 -- ---- states
 
--- the database has the tables of a store alone, and nothing waits for a commit
-pub record IsQuiet (s : State) : Type 0 where
-  pub schema : s.now.schema ≡ stable_schema
+-- the database has tables with this schema alone, and nothing waits for a commit
+pub record IsQuietWith (tables : Schema) (s : State) : Type 0 where
+  pub schema : s.now.schema ≡ tables
   pub mode : s.in_transaction ≡ false
   pub settled : s.now ≡ s.committed
 
 -- so it is while the disk is clean and the connection open
+abbrev pub QuietsWith : Schema → State → Type 0
+QuietsWith tables s = HasCleanDisk s → IsTrue s.is_open → IsQuietWith tables s
+
+-- so it is with the tables of a store
+abbrev pub IsQuiet : State → Type 0
+IsQuiet = IsQuietWith stable_schema
+
 abbrev pub Quiets : State → Type 0
-Quiets s = HasCleanDisk s → IsTrue s.is_open → IsQuiet s
+Quiets = QuietsWith stable_schema
 
 -- no transaction is under way, and nothing waits for a commit
 pub record IsSettled (s : State) : Type 0 where

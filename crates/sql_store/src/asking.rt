@@ -1,19 +1,24 @@
 //! Reading the tables.
 ghost use Rattle.std.specs.Prelude.{◌≡◌, ◌<◌, false, IsErrOf, IsTrue, length, map};
 ghost use Rattle.sqlite.specs.Held.{state};
+ghost use Rattle.sqlite.specs.Schema.{Schema};
 ghost use Rattle.sqlite.specs.State.{HasCleanDisk};
+ghost use Rattle.stable_store.specs.Stored.{Stored};
 ghost use Rattle.stable_store.specs.Held.{held};
 ghost use Rattle.stable_store.specs.declared.fault.StoreFault.TheVariants.{NotOurs};
 ghost use Rattle.store_tables.specs.Answered.{rows_of};
 ghost use Rattle.store_tables.specs.Holds.{Holds, IsLaidOut, tables_of};
 ghost use Rattle.store_tables.specs.Rows.{HaveRowids};
-ghost use Rattle.sql_store.specs.Reading.{IsQueryText, IsAnswered, AreQueryTexts, AreAnswered, Quiets, LooksUp, StaysOut, Recognizes};
+ghost use Rattle.sql_store.specs.Reading.{IsQueryOf, IsAnswerOf, AreQueriesOf, AreAnswersOf, Quiets, QuietsWith, LooksUp, StaysOut, Recognizes};
+ghost use Rattle.sql_store.specs.First.{IsFirst, RecognizesFirst};
 
 use crate::layout::{READ_COUNT, number_named};
 use sqlite::{Alter, Connection, Row};
 use stable_store::{Kept, StoreFault};
 use std::alloc::Global;
-use store_tables::{FIRST_QUERIES, QUERIES, ROWIDS, all_rise, content_of, first_content_of};
+use store_tables::{
+    FIRST_QUERIES, QUERIES, ROWIDS, all_rise, content_of, first_content_of, one_part_spelling,
+};
 use store_writing::faults::fault_of;
 
 /// The rows that a query with no parameters answers.
@@ -22,8 +27,10 @@ pub(crate) fn answer<A: Alter>(
     query: &str,
 ) -> Result<Vec<Row>, StoreFault>
     ensures outside { StaysOut (state A.Store conn.old) (state A.Store conn.new) result }
-    ensures looks { IsQueryText query.now → Quiets (state A.Store conn.old)
-        → LooksUp (state A.Store conn.old) (state A.Store conn.new) (λ d rows. IsAnswered d query.now rows.items) result }
+    ensures looks { (tables : Schema) → IsQueryOf tables query.now
+        → QuietsWith tables (state A.Store conn.old)
+        → LooksUp (state A.Store conn.old) (state A.Store conn.new)
+        (λ d rows. IsAnswerOf tables d query.now rows.items) result }
     ensures told { IsErrOf result NotOurs → ⊥ }
 {
     match conn.query_all(query, &[]) {
@@ -40,9 +47,11 @@ fn answers<A: Alter>(
 ) -> Result<Vec<Vec<Row>>, StoreFault>
     requires { 0 < length queries.now }
     ensures outside { StaysOut (state A.Store conn.old) (state A.Store conn.new) result }
-    ensures looks { AreQueryTexts (map (λ q. q.now) queries.now) → Quiets (state A.Store conn.old)
+    ensures looks { (tables : Schema) → AreQueriesOf tables (map (λ q. q.now) queries.now)
+        → QuietsWith tables (state A.Store conn.old)
         → LooksUp (state A.Store conn.old) (state A.Store conn.new)
-        (λ d answers. AreAnswered d (map (λ q. q.now) queries.now) (rows_of answers.items)) result }
+        (λ d answers. AreAnswersOf tables d (map (λ q. q.now) queries.now) (rows_of answers.items))
+        result }
     ensures told { IsErrOf result NotOurs → ⊥ }
 {
     let mut answers = Vec::new(alloc);
@@ -104,7 +113,12 @@ pub(crate) fn read_first<A: Alter>(
 ) -> Result<Kept, StoreFault>
     ensures clean { HasCleanDisk (state A.Store conn.new) → HasCleanDisk (state A.Store conn.old) }
     ensures mode { (state A.Store conn.old).in_transaction ≡ false → (state A.Store conn.new).in_transaction ≡ false }
+    ensures looks { (c : Stored) → IsFirst (state A.Store conn.old) c
+        → LooksUp (state A.Store conn.old) (state A.Store conn.new)
+        (λ _ kept. held kept ≡ c) result }
+    ensures recognized { RecognizesFirst (state A.Store conn.old) (state A.Store conn.new) result }
 {
+    one_part_spelling();
     let count = number_named(conn, READ_COUNT)?;
     first_content_of(alloc, &answers(conn, alloc, &FIRST_QUERIES)?, count)
 }

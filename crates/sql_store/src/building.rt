@@ -1,13 +1,15 @@
 //! Laying tables out, within a transaction.
 ghost use Rattle.std.specs.Prelude.{◌≡◌, ◌≢◌, ◌≤◌, IfOk, OnOk, IsTrue, map};
+ghost use Rattle.sqlite.specs.Values.{bound};
 ghost use Rattle.sqlite.specs.Held.{state};
 ghost use Rattle.sqlite.specs.State.{HasCleanDisk, Survives};
 ghost use Rattle.stable_store.specs.Held.{held};
 ghost use Rattle.store_tables.specs.Tables.{stable_schema};
 ghost use Rattle.store_tables.specs.Answered.{rows_of};
-ghost use Rattle.sql_store.specs.declared.layout.Layout.TheVariants.{Second};
+ghost use Rattle.sql_store.specs.declared.layout.Layout.TheVariants.{Nothing, First, Second};
 ghost use Rattle.store_tables.specs.Holds.{IsLaidOut};
 ghost use Rattle.sql_store.specs.Reading.{RunsInside, Works, Looks, IsQueryText, IsAnswered, AreQueryTexts, AreAnswered};
+ghost use Rattle.sql_store.specs.Schemas.{LaysOut, KeepsSchema, HasRun};
 
 use crate::layout::Layout;
 use crate::mirror::are_same;
@@ -50,6 +52,8 @@ pub(crate) fn build<A: Alter>(
         → IfOk result (λ kept. (state A.Store tx.new.conn.now).now.schema ≡ stable_schema
         → IsLaidOut (state A.Store tx.new.conn.now).now.trees (held kept)) }
     ensures as_given { layout ≢ Second → IfOk result (λ kept. held kept ≡ held content.now) }
+    ensures lays_out { LaysOut layout (state A.Store tx.old.conn.now)
+        (state A.Store tx.new.conn.now) result }
 {
     write_tables(tx, layout, content)?;
     let found = read_back(tx, alloc)?;
@@ -80,6 +84,8 @@ fn write_tables<A: Alter>(
 ) -> Result<(), StoreFault>
     ensures same { tx.new.conn.ghost_name ≡ tx.old.conn.ghost_name }
     ensures works { Works (state A.Store tx.old.conn.now) (state A.Store tx.new.conn.now) result }
+    ensures lays_out { LaysOut layout (state A.Store tx.old.conn.now)
+        (state A.Store tx.new.conn.now) result }
 {
     make_missing(tx, layout, content)?;
     put_numbers(tx, content.count, content.next_top)
@@ -93,6 +99,8 @@ fn make_missing<A: Alter>(
 ) -> Result<(), StoreFault>
     ensures same { tx.new.conn.ghost_name ≡ tx.old.conn.ghost_name }
     ensures works { Works (state A.Store tx.old.conn.now) (state A.Store tx.new.conn.now) result }
+    ensures lays_out { LaysOut layout (state A.Store tx.old.conn.now)
+        (state A.Store tx.new.conn.now) result }
 {
     match layout {
         Layout::Nothing => make_tables(tx),
@@ -105,6 +113,8 @@ fn make_missing<A: Alter>(
 fn make_tables<A: Alter>(tx: &mut Transaction<'_, A>) -> Result<(), StoreFault>
     ensures same { tx.new.conn.ghost_name ≡ tx.old.conn.ghost_name }
     ensures works { Works (state A.Store tx.old.conn.now) (state A.Store tx.new.conn.now) result }
+    ensures lays_out { LaysOut Nothing (state A.Store tx.old.conn.now)
+        (state A.Store tx.new.conn.now) result }
 {
     for text in FIRST_TABLES {
         run(tx, text, &[])?;
@@ -119,6 +129,8 @@ fn move_deltas<A: Alter>(
 ) -> Result<(), StoreFault>
     ensures same { tx.new.conn.ghost_name ≡ tx.old.conn.ghost_name }
     ensures works { Works (state A.Store tx.old.conn.now) (state A.Store tx.new.conn.now) result }
+    ensures lays_out { LaysOut First (state A.Store tx.old.conn.now)
+        (state A.Store tx.new.conn.now) result }
 {
     run(tx, DELTA_TABLE, &[])?;
     for (&top, record) in records {
@@ -135,6 +147,8 @@ fn move_parts<A: Alter>(
 ) -> Result<(), StoreFault>
     ensures same { tx.new.conn.ghost_name ≡ tx.old.conn.ghost_name }
     ensures works { Works (state A.Store tx.old.conn.now) (state A.Store tx.new.conn.now) result }
+    ensures lays_out { LaysOut Second (state A.Store tx.old.conn.now)
+        (state A.Store tx.new.conn.now) result }
 {
     for (&object, part) in parts {
         move_part(tx, top, object, part)?;
@@ -151,6 +165,8 @@ fn move_part<A: Alter>(
 ) -> Result<(), StoreFault>
     ensures same { tx.new.conn.ghost_name ≡ tx.old.conn.ghost_name }
     ensures works { Works (state A.Store tx.old.conn.now) (state A.Store tx.new.conn.now) result }
+    ensures lays_out { LaysOut Second (state A.Store tx.old.conn.now)
+        (state A.Store tx.new.conn.now) result }
 {
     match part {
         Part::Delta(by) => move_delta(tx, top, object, *by),
@@ -167,6 +183,8 @@ fn move_delta<A: Alter>(
 ) -> Result<(), StoreFault>
     ensures same { tx.new.conn.ghost_name ≡ tx.old.conn.ghost_name }
     ensures works { Works (state A.Store tx.old.conn.now) (state A.Store tx.new.conn.now) result }
+    ensures lays_out { LaysOut Second (state A.Store tx.old.conn.now)
+        (state A.Store tx.new.conn.now) result }
 {
     run(
         tx,
@@ -188,6 +206,8 @@ fn put_numbers<A: Alter>(
 ) -> Result<(), StoreFault>
     ensures same { tx.new.conn.ghost_name ≡ tx.old.conn.ghost_name }
     ensures works { Works (state A.Store tx.old.conn.now) (state A.Store tx.new.conn.now) result }
+    ensures lays_out { LaysOut Second (state A.Store tx.old.conn.now)
+        (state A.Store tx.new.conn.now) result }
 {
     if count > GREATEST_COUNT || next_top > GREATEST_COUNT {
         return Err(StoreFault::NotOurs);
@@ -218,6 +238,9 @@ fn run<A: Alter>(
 ) -> Result<(), StoreFault>
     ensures same { tx.new.conn.ghost_name ≡ tx.old.conn.ghost_name }
     ensures works { Works (state A.Store tx.old.conn.now) (state A.Store tx.new.conn.now) result }
+    ensures ran { HasCleanDisk (state A.Store tx.new.conn.now)
+        → OnOk result (HasRun text.now (bound params.now)
+        (state A.Store tx.old.conn.now) (state A.Store tx.new.conn.now)) }
 {
     match tx.execute(text, params) {
         Ok(_) => Ok(()),
@@ -232,6 +255,8 @@ fn answer<A: Alter>(tx: &mut Transaction<'_, A>, query: &str) -> Result<Vec<Row>
     ensures looks { HasCleanDisk (state A.Store tx.new.conn.now) → IsTrue (state A.Store tx.old.conn.now).in_transaction
         → IsQueryText query.now → Looks (state A.Store tx.old.conn.now) (state A.Store tx.new.conn.now)
         (λ rows. IsAnswered (state A.Store tx.old.conn.now).now query.now rows.items) result }
+    ensures schema { KeepsSchema (state A.Store tx.old.conn.now)
+        (state A.Store tx.new.conn.now) result }
 {
     match tx.query_all(query, &[]) {
         Ok(rows) => Ok(rows),
@@ -250,6 +275,8 @@ fn answers<A: Alter>(
     ensures looks { HasCleanDisk (state A.Store tx.new.conn.now) → IsTrue (state A.Store tx.old.conn.now).in_transaction
         → AreQueryTexts (map (λ q. q.now) queries.now) → Looks (state A.Store tx.old.conn.now) (state A.Store tx.new.conn.now)
         (λ answers. AreAnswered (state A.Store tx.old.conn.now).now (map (λ q. q.now) queries.now) (rows_of answers.items)) result }
+    ensures schema { KeepsSchema (state A.Store tx.old.conn.now)
+        (state A.Store tx.new.conn.now) result }
 {
     let mut answers = Vec::new(alloc);
     for query in queries {
@@ -265,6 +292,8 @@ fn read_back<A: Alter>(tx: &mut Transaction<'_, A>, alloc: Global) -> Result<Kep
     ensures looks { HasCleanDisk (state A.Store tx.new.conn.now) → IsTrue (state A.Store tx.old.conn.now).in_transaction
         → Looks (state A.Store tx.old.conn.now) (state A.Store tx.new.conn.now)
         (λ kept. IsLaidOut (state A.Store tx.new.conn.now).now.trees (held kept)) result }
+    ensures schema { KeepsSchema (state A.Store tx.old.conn.now)
+        (state A.Store tx.new.conn.now) result }
 {
     if !all_rise(&answers(tx, alloc, &ROWIDS)?) {
         return Err(StoreFault::NotOurs);

@@ -1,12 +1,13 @@
 //! Which tables a database has, and the numbers of `meta` by name.
-ghost use Rattle.std.specs.Prelude.{◌≡◌, ◌∷◌, false, IfOk, IsErrOf, IsTrue, map, Err};
+ghost use Rattle.std.specs.Prelude.{◌≡◌, ℕ, ◌∷◌, false, IfOk, IsErrOf, IsTrue, map, Err};
 ghost use Rattle.sqlite.specs.Held.{state};
+ghost use Rattle.sqlite.specs.Schema.{Schema};
 ghost use Rattle.sqlite.specs.State.{HasCleanDisk};
 ghost use Rattle.stable_store.specs.declared.fault.StoreFault.TheVariants.{NotOurs};
 ghost use Rattle.store_tables.specs.Tables.{stable_schema};
-ghost use Rattle.sql_store.specs.Reading.{IsAlone, IsSettled, Quiets, IsQueryText, LooksUp};
+ghost use Rattle.sql_store.specs.Reading.{IsAlone, IsSettled, IsQueryOf, QuietsWith, IsOnlyNumber, IsNumberOf, IsCounted, LooksUp};
 ghost use Rattle.sql_store.specs.Layouts.{presence, presence_in, IsAbsence, IsPresence, IsLayout};
-ghost use Rattle.sql_store.specs.declared.layout.Layout.TheVariants.{Nothing, Second};
+ghost use Rattle.sql_store.specs.declared.layout.Layout.TheVariants.{Nothing, First, Second};
 ghost use Rattle.sql_store.specs.declared.layout.Presence.TheVariants.{Missing, There};
 
 use crate::asking::answer;
@@ -69,6 +70,7 @@ pub(crate) fn layout_of<A: Alter>(conn: &mut Connection<A>) -> Result<Layout, St
 /// The tables that a database has which has this of those of version 1, and this of that of version 2.
 fn layout_by(first: Presence, deltas: Presence) -> Layout
     ensures new { first ≡ Missing → deltas ≡ Missing → result ≡ Nothing }
+    ensures first { first ≡ There → deltas ≡ Missing → result ≡ First }
     ensures second { first ≡ There → deltas ≡ There → result ≡ Second }
 {
     match first {
@@ -157,15 +159,25 @@ pub(crate) fn number_named<A: Alter>(
 ) -> Result<u64, StoreFault>
     ensures mode { (state A.Store conn.old).in_transaction ≡ false → (state A.Store conn.new).in_transaction ≡ false }
     ensures clean { HasCleanDisk (state A.Store conn.new) → HasCleanDisk (state A.Store conn.old) }
-    ensures looks { IsQueryText query.now → Quiets (state A.Store conn.old)
-        → LooksUp (state A.Store conn.old) (state A.Store conn.new) (λ d _. Unit {0}) result }
+    ensures looks { (tables : Schema) → IsQueryOf tables query.now
+        → QuietsWith tables (state A.Store conn.old)
+        → LooksUp (state A.Store conn.old) (state A.Store conn.new) (IsNumberOf tables query.now)
+        result }
+    ensures told { IsErrOf result NotOurs → HasCleanDisk (state A.Store conn.new)
+        → (tables : Schema)
+        → IsQueryOf tables query.now → QuietsWith tables (state A.Store conn.old)
+        → ¬ (IsTrue (state A.Store conn.old).is_open
+        → IsCounted tables query.now (state A.Store conn.old).now) }
 {
     let rows = answer(conn, query)?;
     only_number(&rows)
 }
 
 /// The one number that rows of one column have, or `NotOurs` where they have something else.
-fn only_number(rows: &[Row]) -> Result<u64, StoreFault> {
+fn only_number(rows: &[Row]) -> Result<u64, StoreFault>
+    ensures number { IfOk result (IsOnlyNumber rows.now) }
+    ensures told { IsErrOf result NotOurs → (n : ℕ) → ¬ IsOnlyNumber rows.now n }
+{
     let [row] = rows else {
         return Err(StoreFault::NotOurs);
     };

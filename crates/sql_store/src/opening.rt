@@ -1,14 +1,17 @@
 //! Opening a database: its tables are made, migrated or taken.
-ghost use Rattle.std.specs.Prelude.{◌≡◌, ◌≢◌, false, IfOk, OnErr, IfSome, IsTrue, Some, None, option_map};
+ghost use Rattle.std.specs.Prelude.{◌≡◌, ◌≢◌, false, IfOk, OnErr, IsErrOf, IfSome, IsTrue, Some, None, option_map};
 ghost use Rattle.sqlite.specs.Held.{state};
 ghost use Rattle.sqlite.specs.State.{HasCleanDisk};
 ghost use Rattle.stable_store.specs.Stored.{Stored, empty};
 ghost use Rattle.stable_store.specs.Held.{held};
 ghost use Rattle.store_tables.specs.Tables.{no_schema, stable_schema};
-ghost use Rattle.sql_store.specs.declared.layout.Layout.TheVariants.{Second};
+ghost use Rattle.sql_store.specs.declared.layout.Layout.TheVariants.{Nothing, Second};
+ghost use Rattle.sql_store.specs.Schemas.{LaysOut};
 ghost use Rattle.store_writing.specs.Steps.{Stands};
 ghost use Rattle.store_tables.specs.Holds.{IsLaidOut};
+ghost use Rattle.stable_store.specs.declared.fault.StoreFault.TheVariants.{NotOurs};
 ghost use Rattle.sql_store.specs.Reading.{Quiets, LooksUp, Knows, Recognizes};
+ghost use Rattle.sql_store.specs.First.{IsFirst, RecognizesFirst};
 
 use crate::asking::{read_first, read_store};
 use crate::building::build;
@@ -43,6 +46,7 @@ pub(crate) struct Opened {
 pub(crate) fn open<A: Alter>(alloc: Global, conn: &mut Connection<A>) -> Result<Opened, StoreFault>
     ensures stands { IfOk result (λ it. IsTrue it.is_known → IfSome it.kept (λ kept. Stands (state A.Store conn.new) (held kept))) }
     ensures known { IfOk result (λ it. Knows (state A.Store conn.new) it.is_known) }
+    ensures makes { LaysOut Nothing (state A.Store conn.old) (state A.Store conn.new) result }
     ensures fresh { HasCleanDisk (state A.Store conn.new) → (state A.Store conn.old).now.schema ≡ no_schema
         → IfOk result (λ it. option_map held it.kept ≡ Some empty) }
     ensures reads { HasCleanDisk (state A.Store conn.new) → (c : Stored) → Stands (state A.Store conn.old) c
@@ -50,6 +54,15 @@ pub(crate) fn open<A: Alter>(alloc: Global, conn: &mut Connection<A>) -> Result<
     ensures recognized { Recognizes (state A.Store conn.old) (state A.Store conn.new) result }
     ensures refused { HasCleanDisk (state A.Store conn.new) → (state A.Store conn.old).now.schema ≡ no_schema
         → OnErr result (IsTrue (state A.Store conn.new).is_open → (state A.Store conn.new).now ≡ (state A.Store conn.old).now) }
+    ensures migrates { HasCleanDisk (state A.Store conn.new) → (c : Stored)
+        → IsFirst (state A.Store conn.old) c
+        → IfOk result (λ it. option_map held it.kept ≡ Some c) }
+    ensures recognized_first { RecognizesFirst (state A.Store conn.old) (state A.Store conn.new)
+        result }
+    ensures refused_first { HasCleanDisk (state A.Store conn.new) → (c : Stored)
+        → IsFirst (state A.Store conn.old) c
+        → OnErr result (IsTrue (state A.Store conn.new).is_open
+        → (state A.Store conn.new).now ≡ (state A.Store conn.old).now) }
 {
     if !conn.is_autocommit() {
         return Err(StoreFault::Failed);
@@ -62,11 +75,19 @@ pub(crate) fn open<A: Alter>(alloc: Global, conn: &mut Connection<A>) -> Result<
     }
 }
 
-/// Migrates the tables of version 1. Where they hold no content of a store they stay as they are.
+/// Migrates the tables of version 1. If they hold no content of a store they stay as they are.
 fn migrate<A: Alter>(alloc: Global, conn: &mut Connection<A>) -> Result<Opened, StoreFault>
     ensures stands { IfOk result (λ it. IsTrue it.is_known → IfSome it.kept (λ kept. Stands (state A.Store conn.new) (held kept))) }
     ensures known { (state A.Store conn.old).in_transaction ≡ false → IfOk result (λ it. Knows (state A.Store conn.new) it.is_known) }
     ensures clean { HasCleanDisk (state A.Store conn.new) → HasCleanDisk (state A.Store conn.old) }
+    ensures migrates { HasCleanDisk (state A.Store conn.new) → (c : Stored)
+        → IsFirst (state A.Store conn.old) c
+        → IfOk result (λ it. option_map held it.kept ≡ Some c) }
+    ensures recognized { RecognizesFirst (state A.Store conn.old) (state A.Store conn.new) result }
+    ensures refused { HasCleanDisk (state A.Store conn.new) → (c : Stored)
+        → IsFirst (state A.Store conn.old) c
+        → OnErr result (IsTrue (state A.Store conn.new).is_open
+        → (state A.Store conn.new).now ≡ (state A.Store conn.old).now) }
 {
     if number_named(conn, READ_VERSION)? != 1 {
         return Err(StoreFault::NotOurs);
@@ -178,8 +199,10 @@ fn lay_out<A: Alter>(
     ensures stands { IfOk result (λ it. IsTrue it.is_known → IfSome it.kept (λ kept. Stands (state A.Store conn.new) (held kept))) }
     ensures mode { (state A.Store conn.old).in_transaction ≡ false → (state A.Store conn.new).in_transaction ≡ false }
     ensures known { (state A.Store conn.old).in_transaction ≡ false → IfOk result (λ it. Knows (state A.Store conn.new) it.is_known) }
+    ensures lays_out { LaysOut layout (state A.Store conn.old) (state A.Store conn.new) result }
     ensures clean { HasCleanDisk (state A.Store conn.new) → HasCleanDisk (state A.Store conn.old) }
     ensures as_given { layout ≢ Second → IfOk result (λ it. option_map held it.kept ≡ Some (held content.now)) }
+    ensures told { layout ≢ Second → ¬ IsErrOf result NotOurs }
     ensures refused { HasCleanDisk (state A.Store conn.new) → OnErr result (IsTrue (state A.Store conn.new).is_open
         → (state A.Store conn.new).now ≡ (state A.Store conn.old).now) }
 {
@@ -198,12 +221,14 @@ fn lay_tables<A: Alter>(
     content: &Kept,
 ) -> Result<Kept, StoreFault>
     ensures mode { (state A.Store conn.old).in_transaction ≡ false → (state A.Store conn.new).in_transaction ≡ false }
+    ensures lays_out { LaysOut layout (state A.Store conn.old) (state A.Store conn.new) result }
     ensures made { HasCleanDisk (state A.Store conn.new) → IfOk result (λ kept. (state A.Store conn.new).now.schema ≡ stable_schema
         → IsLaidOut (state A.Store conn.new).now.trees (held kept)) }
     ensures refused { HasCleanDisk (state A.Store conn.new) → OnErr result (IsTrue (state A.Store conn.new).is_open
         → (state A.Store conn.new).now ≡ (state A.Store conn.old).now) }
     ensures clean { HasCleanDisk (state A.Store conn.new) → HasCleanDisk (state A.Store conn.old) }
     ensures as_given { layout ≢ Second → IfOk result (λ kept. held kept ≡ held content.now) }
+    ensures told { layout ≢ Second → ¬ IsErrOf result NotOurs }
 {
     if !conn.is_autocommit() {
         return Err(StoreFault::Failed);
@@ -216,7 +241,21 @@ fn lay_tables<A: Alter>(
         },
         Err(fault) => {
             tx.rollback();
-            Err(fault)
+            Err(laying_fault(layout, fault))
         }
+    }
+}
+
+/// The fault where tables were not laid out. A database that holds other rows than were just written has failed, so
+/// `NotOurs` is left to rows that were there before.
+fn laying_fault(layout: Layout, fault: StoreFault) -> StoreFault
+    ensures { layout ≢ Second → result ≢ NotOurs }
+{
+    match fault {
+        StoreFault::NotOurs => match layout {
+            Layout::Second => StoreFault::NotOurs,
+            Layout::Nothing | Layout::First | Layout::Others => StoreFault::Failed,
+        },
+        fault => fault,
     }
 }

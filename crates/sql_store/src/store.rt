@@ -54,16 +54,17 @@ impl<A: Alter + Drop> SqlStable<A> {
     ghost use Rattle.stable_store.specs.Calls.{View, Rests, found};
     ghost use Rattle.stable_store.specs.Held.{held};
     ghost use Rattle.stable_store.specs.declared.fault.StoreFault.TheVariants.{NotOurs};
-    ghost use Rattle.store_tables.specs.Tables.{no_schema};
+    ghost use Rattle.store_tables.specs.Tables.{no_schema, stable_schema};
     ghost use Rattle.store_writing.specs.Steps.{Stands, Carries};
     ghost use Rattle.sql_store.specs.Reading.{Knows};
+    ghost use Rattle.sql_store.specs.First.{IsFirst};
     ghost use Rattle.sql_store.specs.Views.{sql_view};
 
     /// A store in this database: in tables that it makes where the database has none of them, and else in those that
-    /// are there; tables of version 1 are migrated. `NotOurs` where only some tables are there, where they have other columns
-    /// or are of another version, and where the next top action's number is none; `Failed` where the device or the database
-    /// refuses, or a transaction is under way; `Memory` if memory runs out. With a fault the connection comes back, and the
-    /// database is what it was.
+    /// are there. Tables of version 1 are migrated, and the store has the content that they held. `NotOurs` where only some
+    /// tables are there, where they have other columns or are of another version, and where the next top action's number
+    /// is none; `Failed` where the device or the database refuses or does not hold what was written, or a transaction is
+    /// under way; `Memory` if memory runs out. With a fault the connection comes back, and the database is what it was.
     ///
     /// Where the tables hold no content of a store, the store answers `NotOurs` to each call, and counts it.
     pub fn new(
@@ -75,12 +76,24 @@ impl<A: Alter + Drop> SqlStable<A> {
         ensures known { IfOk result (λ s. Knows (state A.Store s.conn) (sql_view A.Store s).is_known) }
         ensures fresh { IfOk result (λ s. HasCleanDisk (state A.Store s.conn) → (state A.Store conn).now.schema ≡ no_schema
             → found (sql_view A.Store s) ≡ Some empty) }
+        ensures makes { IfOk result (λ s. HasCleanDisk (state A.Store s.conn)
+            → (state A.Store conn).now.schema ≡ no_schema
+            → (state A.Store s.conn).now.schema ≡ stable_schema) }
         ensures refused { IfErr result (λ e. HasCleanDisk (state A.Store e.1) → (state A.Store conn).now.schema ≡ no_schema
             → IsTrue (state A.Store e.1).is_open → (state A.Store e.1).now ≡ (state A.Store conn).now) }
         ensures held { IfOk result (λ s. HasCleanDisk (state A.Store s.conn) → (c : Stored) → Stands (state A.Store conn) c
             → found (sql_view A.Store s) ≡ Some c) }
         ensures recognized { IfErr result (λ e. e.0 ≡ NotOurs → HasCleanDisk (state A.Store e.1) → (c : Stored)
             → ¬ Stands (state A.Store conn) c) }
+        ensures migrates { IfOk result (λ s. HasCleanDisk (state A.Store s.conn) → (c : Stored)
+            → IsFirst (state A.Store conn) c → found (sql_view A.Store s) ≡ Some c) }
+        ensures recognized_first { IfErr result (λ e. e.0 ≡ NotOurs
+            → HasCleanDisk (state A.Store e.1) → (c : Stored)
+            → ¬ IsFirst (state A.Store conn) c) }
+        ensures refused_first { IfErr result (λ e. HasCleanDisk (state A.Store e.1) → (c : Stored)
+            → IsFirst (state A.Store conn) c
+            → IsTrue (state A.Store e.1).is_open
+            → (state A.Store e.1).now ≡ (state A.Store conn).now) }
         ensures carries { IfOk result (λ s. HasCleanDisk (state A.Store s.conn) → (c : Stored) → Stands (state A.Store conn) c
             → Carries (state A.Store conn) (state A.Store s.conn) c c result) }
         ensures carries_back { IfErr result (λ e. HasCleanDisk (state A.Store e.1) → (c : Stored) → Stands (state A.Store conn) c

@@ -4,16 +4,16 @@ use Rattle.sql_store.proofs.Queries.{looked_up, not_looked_up}
 use Rattle.sql_store.proofs.asking.answer.Goals as goal
 
 pub returns-in-Ok-clause-looks : goal.returns-in-Ok-clause-looks
-returns-in-Ok-clause-looks g c text quiet =
+returns-in-Ok-clause-looks g c tables text quiet =
     let old = state g.A.Store c.args.conn.now in
     let new = state g.A.Store c.query_all.new.self in
-    looked_up c.args.query.now old new text quiet c.query_all.ensures.survives c.in-Ok.rows.items _ c.in-Ok.rows (λ clean. c.in-Ok.ensures.ok clean) (λ h. h)
+    looked_up tables c.args.query.now old new text quiet c.query_all.ensures.survives c.in-Ok.rows.items _ c.in-Ok.rows (λ clean. c.in-Ok.ensures.ok clean) (λ h. h)
 
 pub returns-in-Err-clause-looks : goal.returns-in-Err-clause-looks
-returns-in-Err-clause-looks g c text quiet =
+returns-in-Err-clause-looks g c tables text quiet =
     let old = state g.A.Store c.args.conn.now in
     let new = state g.A.Store c.query_all.new.self in
-    not_looked_up c.args.query.now old new text quiet c.query_all.ensures.survives c.in-Err.error _ _ (λ clean. c.in-Err.ensures.err clean)
+    not_looked_up tables c.args.query.now old new text quiet c.query_all.ensures.survives c.in-Err.error _ _ (λ clean. c.in-Err.ensures.err clean)
 
 pub returns-in-Ok-clause-outside : goal.returns-in-Ok-clause-outside
 returns-in-Ok-clause-outside g c =

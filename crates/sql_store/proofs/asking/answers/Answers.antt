@@ -4,7 +4,7 @@ use Rattle.std.proofs.lemmas.Result.{err_from_is_err_and}
 use Rattle.sqlite.specs.Held.{state}
 use Rattle.sqlite.specs.Order.{Row}
 use Rattle.store_tables.specs.Answered.{rows_of}
-use Rattle.sql_store.specs.Reading.{AreAnswered, IsAnswered, LooksUp}
+use Rattle.sql_store.specs.Reading.{AreAnswersOf, IsAnswerOf, LooksUp}
 use Rattle.sql_store.proofs.Sequences.{weaker_reads}
 use Rattle.sql_store.proofs.Asked.{Asked, quiet_mid, one_asked, none_asked, next_text, text_at, no_text, given_up, all_asked}
 use Rattle.sql_store.proofs.Outside.{stays_self, stays_then, stays_any, stays_err}
@@ -16,37 +16,37 @@ texts_of qs = map (λ (b : Bor (List ℕ)). b.now) qs
 pub loop-query-init : goal.loop-query-init
 loop-query-init g c =
     let none : c.new-answers.result.items ≡ [] = search rules in
-    record { asked = λ texts quiet. inl (refl, refl, ap rows_of none); outside = stays_self (state g.A.Store c.args.conn.now) tt }
+    record { asked = λ tables texts quiet. inl (refl, refl, ap rows_of none); outside = stays_self (state g.A.Store c.args.conn.now) tt }
 
 pub returns-in_err-answer-clause-looks : goal.returns-in_err-answer-clause-looks
-returns-in_err-answer-clause-looks g c texts quiet =
+returns-in_err-answer-clause-looks g c tables texts quiet =
     let at = g.A.Store in
     let qs = c.args.queries.now in
     let i = c.loop-query.query-index in
     let q = get_or qs i no_text in
     let shown = rows_of c.loop-query.answers.items in
-    let so_far = c.loop-query.invariant.asked texts quiet in
+    let so_far = c.loop-query.invariant.asked tables texts quiet in
     let p = err_from_is_err_and c.from_residual.result c.from_residual.ensures.1 in
-    let still = quiet_mid at c.args.conn.now quiet (texts_of (take i qs)) c.loop-query.conn c.answer.new.conn shown q.now so_far in
-    let one = c.in_err-answer.ensures.looks (text_at qs i no_text c.loop-query-test.true texts) still in
-    subst (LooksUp {T = Vec (Vec Row Global) Global} (state at c.args.conn.now) (state at c.answer.new.conn) (λ d all. AreAnswered d (texts_of qs) (rows_of all.items))) (sym p.1)
-    (none_asked at c.args.conn.now quiet (texts_of (take i qs)) c.loop-query.conn c.answer.new.conn shown q.now so_far (λ d (all : Vec (Vec Row Global) Global). AreAnswered d (texts_of qs) (rows_of all.items)) c.in_err-answer.field-0.0 p.0
-    (weaker_reads (state at c.loop-query.conn) (state at c.answer.new.conn) (λ d (rows : Vec Row Global). IsAnswered d q.now rows.items) (λ d _. Unit {0}) (Err c.in_err-answer.field-0.0) (λ d x h. tt) one))
+    let still = quiet_mid tables at c.args.conn.now quiet (texts_of (take i qs)) c.loop-query.conn c.answer.new.conn shown q.now so_far in
+    let one = c.in_err-answer.ensures.looks tables (text_at qs i no_text c.loop-query-test.true texts) still in
+    subst (LooksUp {T = Vec (Vec Row Global) Global} (state at c.args.conn.now) (state at c.answer.new.conn) (λ d all. AreAnswersOf tables d (texts_of qs) (rows_of all.items))) (sym p.1)
+    (none_asked tables at c.args.conn.now quiet (texts_of (take i qs)) c.loop-query.conn c.answer.new.conn shown q.now so_far (λ d (all : Vec (Vec Row Global) Global). AreAnswersOf tables d (texts_of qs) (rows_of all.items)) c.in_err-answer.field-0.0 p.0
+    (weaker_reads (state at c.loop-query.conn) (state at c.answer.new.conn) (λ d (rows : Vec Row Global). IsAnswerOf tables d q.now rows.items) (λ d _. Unit {0}) (Err c.in_err-answer.field-0.0) (λ d x h. tt) one))
 
 pub returns-in_err-push-clause-looks : goal.returns-in_err-push-clause-looks
-returns-in_err-push-clause-looks g c texts quiet =
+returns-in_err-push-clause-looks g c tables texts quiet =
     let at = g.A.Store in
     let qs = c.args.queries.now in
     let i = c.loop-query.query-index in
     let q = get_or qs i no_text in
     let rows = c.in_ok-answer.field-0 in
     let shown = rows_of c.loop-query.answers.items in
-    let so_far = c.loop-query.invariant.asked texts quiet in
+    let so_far = c.loop-query.invariant.asked tables texts quiet in
     let p = err_from_is_err_and c.from_residual-in_err-push.result c.from_residual-in_err-push.ensures.1 in
-    let still = quiet_mid at c.args.conn.now quiet (texts_of (take i qs)) c.loop-query.conn c.answer.new.conn shown q.now so_far in
-    let one = c.in_ok-answer.ensures.looks (text_at qs i no_text c.loop-query-test.true texts) still in
-    given_up at c.args.conn.now c.answer.new.conn (texts_of (take i qs) ++ q.now ∷ []) (shown ++ rows.items ∷ []) (λ d (all : Vec (Vec Row Global) Global). AreAnswered d (texts_of qs) (rows_of all.items)) p.0 c.from_residual-in_err-push.result
-    (one_asked at c.args.conn.now quiet (texts_of (take i qs)) c.loop-query.conn c.answer.new.conn shown q.now so_far rows one) p.1
+    let still = quiet_mid tables at c.args.conn.now quiet (texts_of (take i qs)) c.loop-query.conn c.answer.new.conn shown q.now so_far in
+    let one = c.in_ok-answer.ensures.looks tables (text_at qs i no_text c.loop-query-test.true texts) still in
+    given_up tables at c.args.conn.now c.answer.new.conn (texts_of (take i qs) ++ q.now ∷ []) (shown ++ rows.items ∷ []) (λ d (all : Vec (Vec Row Global) Global). AreAnswersOf tables d (texts_of qs) (rows_of all.items)) p.0 c.from_residual-in_err-push.result
+    (one_asked tables at c.args.conn.now quiet (texts_of (take i qs)) c.loop-query.conn c.answer.new.conn shown q.now so_far rows one) p.1
 
 pub loop-query-preserved : goal.loop-query-preserved
 loop-query-preserved g c =
@@ -60,23 +60,23 @@ loop-query-preserved g c =
     let rows = c.in_ok-answer.field-0 in
     let shown = rows_of c.loop-query.answers.items in
     record {
-      asked = λ texts quiet.
-          let so_far = c.loop-query.invariant.asked texts quiet in
-          let still = quiet_mid at first quiet (texts_of (take i qs)) mid last shown q.now so_far in
-          let one = c.in_ok-answer.ensures.looks (text_at qs i no_text c.loop-query-test.true texts) still in
-          subst (λ ts. Asked at first ts last (rows_of c.push.new.self.items)) (sym (next_text qs i no_text c.loop-query-test.true))
-          (subst (λ rs. Asked at first (texts_of (take i qs) ++ q.now ∷ []) last (rows_of rs)) (sym c.in_ok-push.ensures.items)
-          (subst (λ rs. Asked at first (texts_of (take i qs) ++ q.now ∷ []) last rs) (sym (map-append (λ (it : Vec Row Global). it.items) c.loop-query.answers.items (rows ∷ [])))
-          (one_asked at first quiet (texts_of (take i qs)) mid last shown q.now so_far rows one)));
+      asked = λ tables texts quiet.
+          let so_far = c.loop-query.invariant.asked tables texts quiet in
+          let still = quiet_mid tables at first quiet (texts_of (take i qs)) mid last shown q.now so_far in
+          let one = c.in_ok-answer.ensures.looks tables (text_at qs i no_text c.loop-query-test.true texts) still in
+          subst (λ ts. Asked tables at first ts last (rows_of c.push.new.self.items)) (sym (next_text qs i no_text c.loop-query-test.true))
+          (subst (λ rs. Asked tables at first (texts_of (take i qs) ++ q.now ∷ []) last (rows_of rs)) (sym c.in_ok-push.ensures.items)
+          (subst (λ rs. Asked tables at first (texts_of (take i qs) ++ q.now ∷ []) last rs) (sym (map-append (λ (it : Vec Row Global). it.items) c.loop-query.answers.items (rows ∷ [])))
+          (one_asked tables at first quiet (texts_of (take i qs)) mid last shown q.now so_far rows one)));
       outside = stays_any (state at first) (state at last) rows (Ok tt) (stays_then (state at first) (state at mid) (state at last) tt (Ok rows) c.loop-query.invariant.outside c.in_ok-answer.ensures.outside);
     }
 
 pub returns-clause-looks : goal.returns-clause-looks
-returns-clause-looks g c texts quiet =
+returns-clause-looks g c tables texts quiet =
     let qs = c.args.queries.now in
     let some : 0 < length (texts_of qs) = omega (arith, c.requires, length-map qs (λ (b : Bor (List ℕ)). b.now)) in
-    all_asked g.A.Store c.args.conn.now c.loop-query.conn (texts_of qs) c.loop-query.answers some
-    (subst (λ xs. Asked g.A.Store c.args.conn.now (texts_of xs) c.loop-query.conn (rows_of c.loop-query.answers.items)) (take_all _ _ c.loop-query-test.false) (c.loop-query.invariant.asked texts quiet))
+    all_asked tables g.A.Store c.args.conn.now c.loop-query.conn (texts_of qs) c.loop-query.answers some
+    (subst (λ xs. Asked tables g.A.Store c.args.conn.now (texts_of xs) c.loop-query.conn (rows_of c.loop-query.answers.items)) (take_all _ _ c.loop-query-test.false) (c.loop-query.invariant.asked tables texts quiet))
 
 pub returns-in_err-answer-clause-outside : goal.returns-in_err-answer-clause-outside
 returns-in_err-answer-clause-outside g c =

@@ -6,6 +6,7 @@ use Rattle.sqlite_trees.specs.View.{IsShaped}
 use Rattle.sqlite_trees.specs.declared.store.Shape.TheVariants.{Table}
 use Rattle.sqlite.specs.Held.{state}
 use Rattle.sqlite.specs.Order.{Row}
+use Rattle.store_tables.specs.Tables.{stable_schema}
 use Rattle.store_tables.specs.Answered.{rows_of}
 use Rattle.store_tables.specs.Rows.{HaveRowids}
 use Rattle.sql_store.specs.Reading.{AreAnswered}
@@ -21,7 +22,7 @@ pub returns-in_err-answers-clause-looks : goal.returns-in_err-answers-clause-loo
 returns-in_err-answers-clause-looks g c quiet =
     let p = err_from_is_err_and c.from_residual.result c.from_residual.ensures.1 in
     failed_reads (state g.A.Store c.args.conn.now) (state g.A.Store c.answers.new.conn) (λ d (all : Vec (Vec Row Global) Global). AreAnswered d rowids_queries (rows_of all.items))
-    (λ d _. HaveRowids d.trees) _ p.0 c.from_residual.result p.1 (c.in_err-answers.ensures.looks are_rowids_queries quiet)
+    (λ d _. HaveRowids d.trees) _ p.0 c.from_residual.result p.1 (c.in_err-answers.ensures.looks stable_schema are_rowids_queries quiet)
 
 pub returns-in-true-clause-looks : goal.returns-in-true-clause-looks
 returns-in-true-clause-looks g c quiet =
@@ -29,7 +30,7 @@ returns-in-true-clause-looks g c quiet =
     let old = state g.A.Store c.args.conn.now in
     let new = state g.A.Store c.answers.new.conn in
     then_reads old new (λ d (all : Vec (Vec Row Global) Global). AreAnswered d rowids_queries (rows_of all.items)) (λ d _. HaveRowids d.trees)
-    c.in_ok-answers.field-0 (Ok tt) quiet (c.in_ok-answers.ensures.looks are_rowids_queries quiet)
+    c.in_ok-answers.field-0 (Ok tt) quiet (c.in_ok-answers.ensures.looks stable_schema are_rowids_queries quiet)
     (λ q shown. all_keyed old.now (rows_of c.in_ok-answers.field-0.items) shown
     (subst (λ xs. AllByRecursion (IsShaped Table) (rows_of xs)) same (c.all_rise.ensures.rises c.in-true.is)))
 
@@ -38,7 +39,7 @@ returns-clause-looks g c quiet =
     let old = state g.A.Store c.args.conn.now in
     let new = state g.A.Store c.answers.new.conn in
     then_reads old new (λ d (all : Vec (Vec Row Global) Global). AreAnswered d rowids_queries (rows_of all.items)) (λ d (_ : Unit {0}). HaveRowids d.trees)
-    c.in_ok-answers.field-0 (Err NotOurs) quiet (c.in_ok-answers.ensures.looks are_rowids_queries quiet) (λ q shown. tt)
+    c.in_ok-answers.field-0 (Err NotOurs) quiet (c.in_ok-answers.ensures.looks stable_schema are_rowids_queries quiet) (λ q shown. tt)
 
 pub returns-in_err-answers-clause-outside : goal.returns-in_err-answers-clause-outside
 returns-in_err-answers-clause-outside g c =
@@ -60,5 +61,5 @@ returns-clause-recognized g c is clean k stands =
     let same : c.deref.result.now ≡ c.in_ok-answers.field-0.items = search rules in
     let old = state g.A.Store c.args.conn.now in
     let new = state g.A.Store c.answers.new.conn in
-    let rise = rowids_told old new k c.in_ok-answers.field-0 c.deref.result.now same clean stands (c.in_ok-answers.ensures.looks are_rowids_queries (quiets old k stands)) in
+    let rise = rowids_told old new k c.in_ok-answers.field-0 c.deref.result.now same clean stands (c.in_ok-answers.ensures.looks stable_schema are_rowids_queries (quiets old k stands)) in
     true≢false (sym (c.all_rise.ensures.found rise) ∙ c.in-false.is)

@@ -3,6 +3,7 @@ use Rattle.std.proofs.lemmas.Result.{err_from_is_err_and}
 use Rattle.sqlite.specs.Held.{state}
 use Rattle.sqlite.specs.Order.{Row}
 use Rattle.stable_store.specs.Held.{held}
+use Rattle.store_tables.specs.Tables.{stable_schema}
 use Rattle.store_tables.specs.Answered.{answered, queries, rows_of}
 use Rattle.store_tables.specs.Holds.{Holds, tables_of}
 use Rattle.store_tables.proofs.Viewed.{held_by}
@@ -19,7 +20,7 @@ pub returns-in_err-answers-clause-looks : goal.returns-in_err-answers-clause-loo
 returns-in_err-answers-clause-looks g c quiet =
     let p = err_from_is_err_and c.from_residual.result c.from_residual.ensures.1 in
     failed_reads (state g.A.Store c.args.conn.now) (state g.A.Store c.answers.new.conn) (λ d (all : Vec (Vec Row Global) Global). AreAnswered d queries (rows_of all.items))
-    (λ d kept. Holds 1 (tables_of d.trees) (held kept)) _ p.0 c.from_residual.result p.1 (c.in_err-answers.ensures.looks are_queries quiet)
+    (λ d kept. Holds 1 (tables_of d.trees) (held kept)) _ p.0 c.from_residual.result p.1 (c.in_err-answers.ensures.looks stable_schema are_queries quiet)
 
 pub returns-clause-looks : goal.returns-clause-looks
 returns-clause-looks g c quiet =
@@ -27,7 +28,7 @@ returns-clause-looks g c quiet =
     let old = state g.A.Store c.args.conn.now in
     let new = state g.A.Store c.answers.new.conn in
     then_reads old new (λ d (all : Vec (Vec Row Global) Global). AreAnswered d queries (rows_of all.items)) (λ d kept. Holds 1 (tables_of d.trees) (held kept))
-    c.in_ok-answers.field-0 c.content_of.result quiet (c.in_ok-answers.ensures.looks are_queries quiet)
+    c.in_ok-answers.field-0 c.content_of.result quiet (c.in_ok-answers.ensures.looks stable_schema are_queries quiet)
     (λ q shown. ok_leads c.content_of.result (λ k. Holds 0 (answered (rows_of c.in_ok-answers.field-0.items)) (held k)) (λ k. Holds 1 (tables_of old.now.trees) (held k))
     (λ k h. held_by (answered (rows_of c.in_ok-answers.field-0.items)) old.now.trees (held k) (views old.now (rows_of c.in_ok-answers.field-0.items) shown) h)
     (subst (λ xs. IfOk c.content_of.result (λ k. Holds 0 (answered (rows_of xs)) (held k))) same c.content_of.ensures.found))
@@ -49,5 +50,5 @@ returns-clause-recognized g c is clean k stands =
     let same : c.deref.result.now ≡ c.in_ok-answers.field-0.items = search rules in
     let old = state g.A.Store c.args.conn.now in
     let new = state g.A.Store c.answers.new.conn in
-    content_told old new k c.in_ok-answers.field-0 c.deref.result.now same clean stands (c.in_ok-answers.ensures.looks are_queries (quiets old k stands))
+    content_told old new k c.in_ok-answers.field-0 c.deref.result.now same clean stands (c.in_ok-answers.ensures.looks stable_schema are_queries (quiets old k stands))
     (λ six keyed. c.content_of.ensures.told is six keyed k)

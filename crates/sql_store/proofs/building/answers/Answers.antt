@@ -4,6 +4,7 @@ use Rattle.sqlite.specs.Held.{state}
 use Rattle.sqlite.specs.Order.{Row}
 use Rattle.sqlite.specs.Effect.{Database}
 use Rattle.sqlite.proofs.StateLemmas.{survives_then}
+use Rattle.store_tables.specs.Tables.{stable_schema}
 use Rattle.store_tables.specs.Answered.{rows_of}
 use Rattle.std.proofs.lemmas.Result.{err_from_is_err_and}
 use Rattle.sql_store.specs.Reading.{AreAnswered, IsAnswered, Looks}
@@ -23,6 +24,7 @@ loop-query-init g c =
     record {
       same = refl;
       survives = survives_self s;
+      schema = λ _. refl;
       looks = λ clean within texts.
           looks_none s (λ (_ : Unit {0}). AreAnswered s.now [] (rows_of c.new-answers.result.items)) tt within (keeps_same s)
           (subst (λ xs. AreAnswered s.now [] (rows_of xs)) (sym none) tt);
@@ -41,6 +43,7 @@ loop-query-preserved g c =
     record {
       same = c.answer.ensures.same ∙ c.loop-query.invariant.same;
       survives = survives_then a b d _ _ (λ _. ⊥) (λ _ db none. none) (λ _ db none. none) c.loop-query.invariant.survives c.answer.ensures.survives;
+      schema = λ clean. c.in_ok-answer.ensures.schema clean ∙ c.loop-query.invariant.schema (clean_before b d _ c.answer.ensures.survives clean);
       looks = λ clean within texts.
           then_looks a b d (λ (_ : Unit {0}). AreAnswered a.now (texts_of (take i qs)) shown)
           (λ (_ : Unit {0}). AreAnswered a.now (texts_of (take (i + 1) qs)) (rows_of c.push.new.self.items)) tt (Ok tt) within
@@ -51,7 +54,7 @@ loop-query-preserved g c =
           subst (λ ts. AreAnswered a.now ts (rows_of c.push.new.self.items)) (sym (next_text qs i no_text c.loop-query-test.true))
           (subst (λ rs. AreAnswered a.now (texts_of (take i qs) ++ q.now ∷ []) (rows_of rs)) (sym c.in_ok-push.ensures.items)
           (subst (λ rs. AreAnswered a.now (texts_of (take i qs) ++ q.now ∷ []) rs) (sym (map-append (λ (it : Vec Row Global). it.items) c.loop-query.answers.items (rows ∷ [])))
-          (one_answer a.now (texts_of (take i qs)) shown q.now rows.items all (subst (λ (x : Database). IsAnswered x q.now rows.items) is answered))))));
+          (one_answer stable_schema a.now (texts_of (take i qs)) shown q.now rows.items all (subst (λ (x : Database). IsAnswered x q.now rows.items) is answered))))));
     }
 
 pub returns-in_err-answer-clause-looks : goal.returns-in_err-answer-clause-looks

@@ -1,4 +1,4 @@
-use Rattle.std.proofs.Common.{Ok}
+use Rattle.std.proofs.Common.{Ok, ◌∙◌}
 use Rattle.sqlite.specs.Held.{state}
 use Rattle.sql_store.proofs.Looking.{clean_before}
 use Rattle.sql_store.proofs.ReadBack.{built_runs, built_seen}
@@ -19,3 +19,9 @@ returns-clause-made g c clean within =
     let d = state g.A.Store c.read_back.new.tx.conn.now in
     built_seen a b d within (clean_before b d _ c.read_back.ensures.survives clean) c.in_ok-write_tables.field-0 (Ok c.in_ok-found.found)
     c.in_ok-write_tables.ensures.works.runs (c.in_ok-found.ensures.looks clean)
+
+pub returns-clause-lays_out : goal.returns-clause-lays_out
+returns-clause-lays_out g c clean has =
+    let b = state g.A.Store c.write_tables.new.tx.conn.now in
+    let d = state g.A.Store c.read_back.new.tx.conn.now in
+    c.in_ok-found.ensures.schema clean ∙ c.in_ok-write_tables.ensures.lays_out (clean_before b d _ c.read_back.ensures.survives clean) has

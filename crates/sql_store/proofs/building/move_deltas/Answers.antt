@@ -2,12 +2,21 @@ use Rattle.std.proofs.Common.{◌∙◌, Ok, Err}
 use Rattle.std.proofs.lemmas.Result.{err_from_is_err_and}
 use Rattle.sqlite.specs.Held.{state}
 use Rattle.sql_store.proofs.Works.{works_then, works_ok, works_err}
+use Rattle.stable_store.specs.declared.fault.StoreFault.{StoreFault}
+use Rattle.sql_store.proofs.Looking.{clean_before}
+use Rattle.sql_store.proofs.Schemas.{ran_last}
+use Rattle.sql_store.proofs.TableTexts.{makes_deltas}
 use Rattle.sql_store.proofs.building.move_deltas.Goals as goal
 
 pub loop-top-init : goal.loop-top-init
 loop-top-init g c =
     let first = state g.A.Store c.args.tx.now.conn.now in
-    record { same = c.run.ensures.same; works = works_ok first (state g.A.Store c.run.new.tx.conn.now) _ tt c.in_ok-run.ensures.works }
+    let mid = state g.A.Store c.run.new.tx.conn.now in
+    record {
+      same = c.run.ensures.same;
+      works = works_ok first mid _ tt c.in_ok-run.ensures.works;
+      made = ran_last {T = Unit {0}} {E = StoreFault} _ _ first mid (Ok tt) makes_deltas c.in_ok-run.ensures.ran;
+    }
 
 pub returns-in_err-run-clause-works : goal.returns-in_err-run-clause-works
 returns-in_err-run-clause-works g c =
@@ -22,6 +31,7 @@ loop-top-preserved g c =
     record {
       same = c.move_parts.ensures.same ∙ c.loop-top.invariant.same;
       works = works_ok first last _ tt (works_then first mid last tt (Ok _) c.loop-top.invariant.works c.in_ok-move_parts.ensures.works);
+      made = λ clean has. c.in_ok-move_parts.ensures.lays_out clean (c.loop-top.invariant.made (clean_before mid last _ c.move_parts.ensures.works.survives clean) has);
     }
 
 pub returns-in_err-move_parts-clause-works : goal.returns-in_err-move_parts-clause-works

@@ -1,4 +1,4 @@
-use Rattle.std.proofs.Common.{◌≡◌, Vec, Global, IfOk, Err, rules, sym, subst}
+use Rattle.std.proofs.Common.{◌≡◌, Vec, Global, IfOk, Err, rules, sym, subst, ◌∙◌}
 use Rattle.std.proofs.lemmas.Result.{err_from_is_err_and}
 use Rattle.std.specs.List.{AllByRecursion}
 use Rattle.sqlite_trees.specs.View.{IsShaped}
@@ -15,6 +15,7 @@ use Rattle.sql_store.proofs.Looking.{clean_before, looks_err, then_looks}
 use Rattle.sql_store.proofs.Queries.{are_queries}
 use Rattle.sql_store.proofs.Rowids.{rowids_queries, are_rowids_queries}
 use Rattle.sql_store.proofs.ReadBack.{laid_seen}
+use Rattle.sql_store.proofs.Schemas.{on_ok}
 use Rattle.sql_store.proofs.building.read_back.Goals as goal
 
 pub returns-in_err-answers-clause-looks : goal.returns-in_err-answers-clause-looks
@@ -60,3 +61,9 @@ returns-clause-looks g c clean within =
     (λ w. c.in_ok-answers-2.ensures.looks clean w are_queries)
     (subst (λ xs. AllByRecursion (IsShaped Table) (rows_of xs)) ids (c.all_rise.ensures.rises c.if-not-all_rise.false))
     (subst (λ xs. IfOk c.content_of.result (λ k. Holds 0 (answered (rows_of xs)) (held k))) rows c.content_of.ensures.found)
+
+pub returns-clause-schema : goal.returns-clause-schema
+returns-clause-schema g c clean =
+    let b = state g.A.Store c.answers.new.tx.conn.now in
+    let d = state g.A.Store c.answers-2.new.tx.conn.now in
+    on_ok c.content_of.result _ (c.in_ok-answers-2.ensures.schema clean ∙ c.in_ok-answers.ensures.schema (clean_before b d _ c.answers-2.ensures.survives clean))

@@ -43,4 +43,4 @@ returns-clause-looks g c settled =
     looked_ok a d _ is_layout c.in_ok-deltas.deltas c.layout_by.result
     (and_reads a b d first_is deltas_are c.in_ok-first.first (Ok c.in_ok-deltas.deltas) one
     (c.in_ok-deltas.ensures.looks (settled_after a b first_is c.in_ok-first.first settled c.presence_of_all.ensures.mode one)))
-    (λ h. layout_is a.now.schema c.in_ok-first.first c.in_ok-deltas.deltas c.layout_by.result h.1.0 h.1.1 c.layout_by.ensures.new c.layout_by.ensures.second)
+    (λ h. layout_is a.now.schema c.in_ok-first.first c.in_ok-deltas.deltas c.layout_by.result h.1.0 h.1.1 c.layout_by.ensures.new c.layout_by.ensures.first c.layout_by.ensures.second)

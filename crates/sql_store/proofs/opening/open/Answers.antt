@@ -1,5 +1,6 @@
-use Rattle.std.proofs.Common.{◌≡◌, IfOk, IsTrue, Some, option_map, Ok, sym, subst, ◌∙◌}
+use Rattle.std.proofs.Common.{◌≡◌, IfOk, IsTrue, Some, option_map, Ok, sym, ap, subst, ◌∙◌}
 use Rattle.std.proofs.lemmas.Result.{err_from_is_err_and}
+use Rattle.sqlite.specs.Effect.{Database}
 use Rattle.sqlite.specs.Held.{state}
 use Rattle.stable_store.specs.Held.{held}
 use Rattle.sql_store.specs.declared.layout.Layout.{Layout}
@@ -8,7 +9,32 @@ use Rattle.sql_store.specs.Layouts.{IsLayout}
 use Rattle.store_tables.proofs.Told.{told_by}
 use Rattle.sql_store.proofs.Sequences.{failed_reads, and_reads, weaker_reads}
 use Rattle.sql_store.proofs.Found.{settled_alone, is_new, is_second, stands_still, untouched, on_err, err_leads}
+use Rattle.sql_store.proofs.FirstRead.{first_still, is_first}
 use Rattle.sql_store.proofs.opening.open.Goals as goal
+
+pub returns-in-Nothing-clause-makes : goal.returns-in-Nothing-clause-makes
+returns-in-Nothing-clause-makes g c clean schema =
+    let a = state g.A.Store c.args.conn.now in
+    let b = state g.A.Store c.layout_of.new.conn in
+    let settled = settled_alone a c.is_autocommit.result c.is_autocommit.ensures.value c.if-not-is_autocommit.false c.is_autocommit.ensures.settled in
+    let same = ((c.in_ok-layout_of.ensures.looks settled).ok (c.lay_out.ensures.clean clean)).0.now in
+    c.lay_out.ensures.lays_out clean (ap (λ (d : Database). d.schema) same ∙ schema)
+
+pub returns-in-First-clause-makes : goal.returns-in-First-clause-makes
+returns-in-First-clause-makes g c clean schema =
+    let a = state g.A.Store c.args.conn.now in
+    let b = state g.A.Store c.layout_of.new.conn in
+    let settled = settled_alone a c.is_autocommit.result c.is_autocommit.ensures.value c.if-not-is_autocommit.false c.is_autocommit.ensures.settled in
+    let new = is_new a b c.in_ok-layout_of.field-0 (c.in_ok-layout_of.ensures.looks settled) (c.migrate.ensures.clean clean) schema in
+    absurd (let e : ◌≡◌ {A = Layout} First Nothing = sym c.in-First.is ∙ new in cc)
+
+pub returns-in-Second-clause-makes : goal.returns-in-Second-clause-makes
+returns-in-Second-clause-makes g c clean schema =
+    let a = state g.A.Store c.args.conn.now in
+    let b = state g.A.Store c.layout_of.new.conn in
+    let settled = settled_alone a c.is_autocommit.result c.is_autocommit.ensures.value c.if-not-is_autocommit.false c.is_autocommit.ensures.settled in
+    let new = is_new a b c.in_ok-layout_of.field-0 (c.in_ok-layout_of.ensures.looks settled) (c.take.ensures.clean clean) schema in
+    absurd (let e : ◌≡◌ {A = Layout} Second Nothing = sym c.in-Second.is ∙ new in cc)
 
 pub returns-in-Nothing-clause-fresh : goal.returns-in-Nothing-clause-fresh
 returns-in-Nothing-clause-fresh g c clean schema =
@@ -151,3 +177,105 @@ returns-in-Others-clause-refused g c clean schema up =
     let a = state g.A.Store c.args.conn.now in
     let settled = settled_alone a c.is_autocommit.result c.is_autocommit.ensures.value c.if-not-is_autocommit.false c.is_autocommit.ensures.settled in
     ((c.in_ok-layout_of.ensures.looks settled).ok clean).0.now
+
+-- ---- a database of version 1
+
+pub returns-in_err-layout_of-clause-recognized_first : goal.returns-in_err-layout_of-clause-recognized_first
+returns-in_err-layout_of-clause-recognized_first g c is clean k first =
+    c.in_err-layout_of.ensures.told (told_by c.from_residual.result c.in_err-layout_of.field-0.0 c.from_residual.ensures.1 is)
+
+pub returns-in_err-layout_of-clause-refused_first : goal.returns-in_err-layout_of-clause-refused_first
+returns-in_err-layout_of-clause-refused_first g c clean k first =
+    let a = state g.A.Store c.args.conn.now in
+    let b = state g.A.Store c.layout_of.new.conn in
+    let settled = settled_alone a c.is_autocommit.result c.is_autocommit.ensures.value c.if-not-is_autocommit.false c.is_autocommit.ensures.settled in
+    on_err c.from_residual.result (IsTrue b.is_open → b.now ≡ a.now) (λ up. ((c.in_err-layout_of.ensures.looks settled).err clean up).now)
+
+pub returns-in-Nothing-clause-migrates : goal.returns-in-Nothing-clause-migrates
+returns-in-Nothing-clause-migrates g c clean k first =
+    let a = state g.A.Store c.args.conn.now in
+    let b = state g.A.Store c.layout_of.new.conn in
+    let settled = settled_alone a c.is_autocommit.result c.is_autocommit.ensures.value c.if-not-is_autocommit.false c.is_autocommit.ensures.settled in
+    let older = is_first a b c.in_ok-layout_of.field-0 (c.in_ok-layout_of.ensures.looks settled) (c.lay_out.ensures.clean clean) k first in
+    absurd (let e : ◌≡◌ {A = Layout} Nothing First = sym c.in-Nothing.is ∙ older in cc)
+
+pub returns-in-Nothing-clause-recognized_first : goal.returns-in-Nothing-clause-recognized_first
+returns-in-Nothing-clause-recognized_first g c is clean k first =
+    let a = state g.A.Store c.args.conn.now in
+    let b = state g.A.Store c.layout_of.new.conn in
+    let settled = settled_alone a c.is_autocommit.result c.is_autocommit.ensures.value c.if-not-is_autocommit.false c.is_autocommit.ensures.settled in
+    let older = is_first a b c.in_ok-layout_of.field-0 (c.in_ok-layout_of.ensures.looks settled) (c.lay_out.ensures.clean clean) k first in
+    absurd (let e : ◌≡◌ {A = Layout} Nothing First = sym c.in-Nothing.is ∙ older in cc)
+
+pub returns-in-Nothing-clause-refused_first : goal.returns-in-Nothing-clause-refused_first
+returns-in-Nothing-clause-refused_first g c clean k first =
+    let a = state g.A.Store c.args.conn.now in
+    let b = state g.A.Store c.layout_of.new.conn in
+    let settled = settled_alone a c.is_autocommit.result c.is_autocommit.ensures.value c.if-not-is_autocommit.false c.is_autocommit.ensures.settled in
+    let older = is_first a b c.in_ok-layout_of.field-0 (c.in_ok-layout_of.ensures.looks settled) (c.lay_out.ensures.clean clean) k first in
+    absurd (let e : ◌≡◌ {A = Layout} Nothing First = sym c.in-Nothing.is ∙ older in cc)
+
+pub returns-in-Second-clause-migrates : goal.returns-in-Second-clause-migrates
+returns-in-Second-clause-migrates g c clean k first =
+    let a = state g.A.Store c.args.conn.now in
+    let b = state g.A.Store c.layout_of.new.conn in
+    let settled = settled_alone a c.is_autocommit.result c.is_autocommit.ensures.value c.if-not-is_autocommit.false c.is_autocommit.ensures.settled in
+    let older = is_first a b c.in_ok-layout_of.field-0 (c.in_ok-layout_of.ensures.looks settled) (c.take.ensures.clean clean) k first in
+    absurd (let e : ◌≡◌ {A = Layout} Second First = sym c.in-Second.is ∙ older in cc)
+
+pub returns-in-Second-clause-recognized_first : goal.returns-in-Second-clause-recognized_first
+returns-in-Second-clause-recognized_first g c is clean k first =
+    let a = state g.A.Store c.args.conn.now in
+    let b = state g.A.Store c.layout_of.new.conn in
+    let settled = settled_alone a c.is_autocommit.result c.is_autocommit.ensures.value c.if-not-is_autocommit.false c.is_autocommit.ensures.settled in
+    let older = is_first a b c.in_ok-layout_of.field-0 (c.in_ok-layout_of.ensures.looks settled) (c.take.ensures.clean clean) k first in
+    absurd (let e : ◌≡◌ {A = Layout} Second First = sym c.in-Second.is ∙ older in cc)
+
+pub returns-in-Second-clause-refused_first : goal.returns-in-Second-clause-refused_first
+returns-in-Second-clause-refused_first g c clean k first =
+    let a = state g.A.Store c.args.conn.now in
+    let b = state g.A.Store c.layout_of.new.conn in
+    let settled = settled_alone a c.is_autocommit.result c.is_autocommit.ensures.value c.if-not-is_autocommit.false c.is_autocommit.ensures.settled in
+    let older = is_first a b c.in_ok-layout_of.field-0 (c.in_ok-layout_of.ensures.looks settled) (c.take.ensures.clean clean) k first in
+    absurd (let e : ◌≡◌ {A = Layout} Second First = sym c.in-Second.is ∙ older in cc)
+
+pub returns-in-Others-clause-recognized_first : goal.returns-in-Others-clause-recognized_first
+returns-in-Others-clause-recognized_first g c is clean k first =
+    let a = state g.A.Store c.args.conn.now in
+    let b = state g.A.Store c.layout_of.new.conn in
+    let settled = settled_alone a c.is_autocommit.result c.is_autocommit.ensures.value c.if-not-is_autocommit.false c.is_autocommit.ensures.settled in
+    let older = is_first a b c.in_ok-layout_of.field-0 (c.in_ok-layout_of.ensures.looks settled) (clean) k first in
+    absurd (let e : ◌≡◌ {A = Layout} Others First = sym c.in-Others.is ∙ older in cc)
+
+pub returns-in-Others-clause-refused_first : goal.returns-in-Others-clause-refused_first
+returns-in-Others-clause-refused_first g c clean k first up =
+    let a = state g.A.Store c.args.conn.now in
+    let settled = settled_alone a c.is_autocommit.result c.is_autocommit.ensures.value c.if-not-is_autocommit.false c.is_autocommit.ensures.settled in
+    ((c.in_ok-layout_of.ensures.looks settled).ok clean).0.now
+
+pub returns-in-First-clause-migrates : goal.returns-in-First-clause-migrates
+returns-in-First-clause-migrates g c clean k first =
+    let a = state g.A.Store c.args.conn.now in
+    let b = state g.A.Store c.layout_of.new.conn in
+    let settled = settled_alone a c.is_autocommit.result c.is_autocommit.ensures.value c.if-not-is_autocommit.false c.is_autocommit.ensures.settled in
+    let mid = first_still a b k (λ x l. IsLayout x.schema l) (Ok c.in_ok-layout_of.field-0) first (c.in_ok-layout_of.ensures.looks settled) in
+    c.migrate.ensures.migrates clean k mid
+
+pub returns-in-First-clause-recognized_first : goal.returns-in-First-clause-recognized_first
+returns-in-First-clause-recognized_first g c is clean k first =
+    let a = state g.A.Store c.args.conn.now in
+    let b = state g.A.Store c.layout_of.new.conn in
+    let settled = settled_alone a c.is_autocommit.result c.is_autocommit.ensures.value c.if-not-is_autocommit.false c.is_autocommit.ensures.settled in
+    let mid = first_still a b k (λ x l. IsLayout x.schema l) (Ok c.in_ok-layout_of.field-0) first (c.in_ok-layout_of.ensures.looks settled) in
+    c.migrate.ensures.recognized is clean k mid
+
+pub returns-in-First-clause-refused_first : goal.returns-in-First-clause-refused_first
+returns-in-First-clause-refused_first g c clean k first =
+    let a = state g.A.Store c.args.conn.now in
+    let b = state g.A.Store c.layout_of.new.conn in
+    let settled = settled_alone a c.is_autocommit.result c.is_autocommit.ensures.value c.if-not-is_autocommit.false c.is_autocommit.ensures.settled in
+    let d = state g.A.Store c.migrate.new.conn in
+    let looked = c.in_ok-layout_of.ensures.looks settled in
+    let mid = first_still a b k (λ x l. IsLayout x.schema l) (Ok c.in_ok-layout_of.field-0) first looked in
+    let same = (looked.ok (c.migrate.ensures.clean clean)).0.now in
+    err_leads c.migrate.result (IsTrue d.is_open → d.now ≡ b.now) (IsTrue d.is_open → d.now ≡ a.now) (λ h up. h up ∙ same) (c.migrate.ensures.refused clean k mid)

@@ -1,4 +1,4 @@
-use Rattle.std.proofs.Common.{Ok, Err, refl, sym, ap, subst, ◌∙◌}
+use Rattle.std.proofs.Common.{◌≡◌, Ok, Err, refl, sym, ap, subst, ◌∙◌}
 use Rattle.sqlite.specs.Held.{state}
 use Rattle.sqlite.specs.State.{HasCleanDisk}
 use Rattle.sqlite.specs.declared.connection.Connection.{Connection}
@@ -8,6 +8,7 @@ use Rattle.store_writing.specs.Steps.{Stands, Carries}
 use Rattle.sql_store.specs.declared.store.SqlStable.{SqlStable}
 use Rattle.sql_store.proofs.Loads.{was_read, was_not_read}
 use Rattle.sql_store.proofs.Made.{at_rest}
+use Rattle.store_tables.specs.Tables.{stable_schema}
 use Rattle.sql_store.proofs.store.SqlStable.new.Goals as goal
 
 pub returns-in-Ok-clause-rests : goal.returns-in-Ok-clause-rests
@@ -16,6 +17,11 @@ returns-in-Ok-clause-rests g c trusted up left may =
     let s = c.over.result in
     let stands = subst (λ h. Stands (state at h) (held s.kept)) (sym c.over.ensures.conn) (c.over.ensures.known trusted.known up.1) in
     at_rest at c.one_content_is_held.ensures (λ h open_ db found. g.met.A.Store.settled h.store db open_ found) s.conn (held s.kept) up.0 (stands trusted.honest.0 up.0) left may
+
+pub returns-in-Ok-clause-makes : goal.returns-in-Ok-clause-makes
+returns-in-Ok-clause-makes g c clean schema =
+    subst (λ h. (state g.A.Store h).now.schema ≡ stable_schema) (sym c.over.ensures.conn)
+    (c.in-Ok.ensures.makes (subst (λ h. HasCleanDisk (state g.A.Store h)) c.over.ensures.conn clean) schema)
 
 pub returns-in-Ok-clause-fresh : goal.returns-in-Ok-clause-fresh
 returns-in-Ok-clause-fresh g c clean schema =
@@ -42,3 +48,10 @@ returns-in-Err-clause-carries_back g c clean k stands =
 
 pub returns-in-Err-clause-recognized : goal.returns-in-Err-clause-recognized
 returns-in-Err-clause-recognized g c is clean k stands = c.in-Err.ensures.recognized (ap Err is) clean k stands
+
+pub returns-in-Ok-clause-migrates : goal.returns-in-Ok-clause-migrates
+returns-in-Ok-clause-migrates g c clean k first =
+    c.over.ensures.content ∙ c.in-Ok.ensures.migrates (subst (λ h. HasCleanDisk (state g.A.Store h)) c.over.ensures.conn clean) k first
+
+pub returns-in-Err-clause-recognized_first : goal.returns-in-Err-clause-recognized_first
+returns-in-Err-clause-recognized_first g c is clean k first = c.in-Err.ensures.recognized_first (ap Err is) clean k first
