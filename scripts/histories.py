@@ -75,3 +75,37 @@ def copies_of(events):
 
 def text_of(setup, copies):
     return f"setup {setup}\n" + "".join(copy.line() for copy in copies)
+
+
+# ---- where histories fail
+
+
+def events_of(copies):
+    """The event of each stamp, in the order of the stamps."""
+    events = {copy.stamp: copy.event for copy in copies}
+    return {stamp: events[stamp] for stamp in sorted(events)}
+
+
+def stands_late(stamp, history):
+    """Whether the event of the stamp stands behind one whose stamp is not smaller."""
+    places = [place for place, copy in enumerate(history) if copy.stamp == stamp]
+    return any(before.stamp >= stamp for place in places for before in history[:place])
+
+
+def least_failing(copies, guardians, wrong):
+    """The least stamp at which the histories fail, if there is one. Wrong are the stamps whose answers are others."""
+    limit = max([guardians] + [copy.history for copy in copies])
+    histories = [[copy for copy in copies if copy.history == number] for number in range(limit + 1)]
+    below = Actions()
+    for stamp, event in events_of(copies).items():
+        named = below.named(event.step) - {0} | ({REGISTRY} if event.step.split(" ")[0] not in OUTSIDE else set())
+        there = {copy.history for copy in copies if copy.stamp == stamp}
+        if (
+            stamp in wrong
+            or any(stands_late(stamp, history) for history in histories)
+            or any(copy.event != event for copy in copies if copy.stamp == stamp)
+            or there != {number for number in named if number <= limit}
+        ):
+            return stamp
+        below.add(event)
+    return None

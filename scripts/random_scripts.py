@@ -1,7 +1,7 @@
-"""random_scripts.py SEED: prints the script that `scripts/soak` runs for this seed.
+"""random_scripts.py SEED [large]: prints the script that `scripts/soak` runs for this seed.
 
-A script has 2 to 8 clients over 1 to 4 guardians, with calls, coenters, nested top actions, signals and aborts. Clients
-and arms wait for each other, but not for ever:
+A script has 2 to 8 clients over 1 to 4 guardians, with calls, coenters, nested top actions, signals and aborts. A large
+one has 16 clients over 8 guardians, and aborts more often. Clients and arms wait for each other, but not for ever:
 
 - Some counters are *sums*: all operations on them are adds, and adds do not conflict.
 - A client first takes the objects that it will use, in rising order of guardian and number. It takes each by the
@@ -22,7 +22,20 @@ from typing import NamedTuple
 
 DEPTH = 4  # of statements within statements
 STATEMENTS = 20  # of a client that have bodies
-CALLS = 40  # handlers that are made for one call; the other 24 take objects
+
+
+class Size(NamedTuple):
+    """How much there is in a script. There are 64 handlers at most: two that take each object, and those of calls."""
+
+    clients: tuple  # from so many to so many
+    guardians: tuple
+    objects: tuple  # of each guardian
+    calls: int  # handlers that are made for one call
+    ends: int  # of a hundred statements, those that abort or return
+
+
+USUAL = Size((2, 8), (1, 4), (1, 3), calls=40, ends=4)
+LARGE = Size((16, 16), (8, 8), (1, 2), calls=32, ends=8)
 
 CONTENTS = {
     "record": {"record": {"n": 1, "name": "x"}},
@@ -66,13 +79,13 @@ class Place(NamedTuple):
 class Maker:
     """Makes one script."""
 
-    def __init__(self, seed):
-        self.rng = random.Random(seed)
+    def __init__(self, seed, size):
+        self.rng, self.size = random.Random(seed), size
         self.kinds = {}  # of each object
         self.handlers = {}  # of each guardian
-        for guardian in range(1, self.rng.randint(1, 4) + 1):
+        for guardian in range(1, self.rng.randint(*size.guardians) + 1):
             self.handlers[guardian] = {}
-            for number in range(1, self.rng.randint(1, 3) + 1):
+            for number in range(1, self.rng.randint(*size.objects) + 1):
                 self.kinds[guardian, number] = self.rng.choice([*CONTENTS, "sum"])
         self.statements = self.calls = 0  # how many the client may still have
         self.names = 0
@@ -85,8 +98,8 @@ class Maker:
         return f"{letter}{self.names}"
 
     def script(self):
-        count = self.rng.randint(2, 8)
-        clients = [self.client(CALLS // count) for _ in range(count)]
+        count = self.rng.randint(*self.size.clients)
+        clients = [self.client(self.size.calls // count) for _ in range(count)]
         guardians = [
             {"objects": [CONTENTS[kind] for (home, _), kind in self.kinds.items() if home == guardian], "handlers": handlers}
             for guardian, handlers in self.handlers.items()
@@ -113,7 +126,7 @@ class Maker:
         return [self.statement(place) for _ in range(self.rng.choice([1, 1, 2, 2, 3] if place.depth else [2, 3, 4]))]
 
     def statement(self, place):
-        if self.chance(4):
+        if self.chance(self.size.ends):
             return self.end(place)
         if place.depth == DEPTH or not self.statements or self.chance(40):
             return self.use(place)
@@ -240,11 +253,11 @@ class Maker:
         return {"repeat": [self.rng.randint(0, 3), self.body(place.within())]}
 
 
-def script_of(seed):
-    return Maker(seed).script()
+def script_of(seed, size=USUAL):
+    return Maker(seed, size).script()
 
 
 if __name__ == "__main__":
-    if len(sys.argv) != 2:
+    if len(sys.argv) != 2 and sys.argv[2:] != ["large"]:
         sys.exit(__doc__)
-    print(json.dumps(script_of(int(sys.argv[1]))))
+    print(json.dumps(script_of(int(sys.argv[1]), LARGE if sys.argv[2:] else USUAL)))

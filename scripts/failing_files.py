@@ -1,0 +1,141 @@
+"""The sections of soak for mistakes in the command line, and for readers and writers that fail at each byte."""
+import pathlib
+import shutil
+import subprocess
+import tempfile
+
+from soaking import EXAMPLES, SECONDS, Came, compared, examples, run, script_files, status_of, trace_files
+
+FULL = Came(2, b"", b"fault output\n")
+NO_INPUT = Came(2, b"", b"fault input\n")
+
+
+def written(program, words, most, to=None):
+    """What a run leaves of a file of so many bytes at most: of standard output, or of the file `to`."""
+    with tempfile.TemporaryDirectory() as folder:
+        out = pathlib.Path(folder, "out")
+        with out.open("wb") as output:
+            words = ["prlimit", f"--fsize={most}:{most}", program, *words, *([to, out] if to else [])]
+            # A write beyond the limit fails, as Python leaves its signal ignored.
+            how = {"stdout": subprocess.PIPE if to else output, "stderr": subprocess.PIPE, "restore_signals": False}
+            done = subprocess.run(words, timeout=SECONDS, **how)
+        return Came(done.returncode, done.stdout or b"", done.stderr), out.read_bytes()
+
+
+def limited(program, words, most, to, ample, answers):
+    """What is wrong where a file has room for so many bytes, or nothing. With ample room the run came and left this."""
+    came, whole = ample
+    wanted = (came if most == len(whole) else FULL._replace(written=answers)), whole[:most]
+    return compared(written(program, words, most, to), wanted)
+
+
+def each_room(name, program, words, to=None, answers=b""):
+    """Trials of a run whose file has room for no byte, for one, and so on. The answers come before the file is written."""
+    ample = written(program, words, 2**30, to)
+    for most in range(len(ample[1]) + 1):
+        yield f"{name}: {to or 'standard output'} of {most} bytes", limited, program, words, most, to, ample, answers
+
+
+def writers(program):
+    for folder in examples()[::4] + [EXAMPLES / "transfer"]:
+        steps = ["steps", folder / "setup.json", folder / "steps"]
+        yield from each_room(folder.name, program, steps)
+    picture = EXAMPLES / "coordinator-crashes"
+    answers = (picture / "answers").read_bytes()
+    yield from each_room(picture.name, program, ["steps", picture / "setup.json", picture / "steps"], "--picture", answers)
+    for file in trace_files():
+        yield from each_room(file.parent.name, program, ["trace", file])
+    for file in script_files():
+        yield from each_room(file.parent.name, program, ["check", file])
+        if (file.parent / "ran").exists():
+            yield from each_room(file.parent.name, program, ["run", "--serial", file])
+    yield from each_room("take", program, ["run", "--serial", EXAMPLES / "scripts/take/script.json"], "--trace")
+
+
+def byte_by_byte(program, folder):
+    """The steps of an example, handed over one byte at a time."""
+    words = [program, "steps", folder / "setup.json", "-"]
+    pipe = subprocess.PIPE
+    with subprocess.Popen(words, stdin=pipe, stdout=pipe, stderr=pipe, bufsize=0) as running:
+        for byte in (folder / "steps").read_bytes():
+            running.stdin.write(bytes([byte]))
+        came = running.communicate(timeout=SECONDS)
+    return compared(Came(running.returncode, *came), Came(status_of(folder), (folder / "answers").read_bytes(), b""))
+
+
+def closed_pipe(program, *words):
+    """A reader of standard output that has gone."""
+    shell = ["sh", "-c", 'exec 3>&1; { sleep 0.3; "$@" 2>&3; echo "$?" >&3; } | true', "sh", program, *words]
+    done = subprocess.run(shell, capture_output=True, timeout=SECONDS)
+    return compared(done.stdout, b"fault output\n2\n")
+
+
+def ends_so(program, wanted, *words):
+    return compared(run(program, *words), wanted)
+
+
+def readers(program):
+    transfer, script = EXAMPLES / "transfer", EXAMPLES / "scripts/take/script.json"
+    setup, steps = transfer / "setup.json", transfer / "steps"
+    for file in EXAMPLES, EXAMPLES / "nothing", setup / "nothing":
+        alone = [[*words, file] for words in (["check"], ["run"], ["run", "--serial"], ["trace"])]
+        for words in [["steps", file, steps], ["steps", setup, file], *alone]:
+            yield f"{words[0]}: {file.name} is to be read", ends_so, program, NO_INPUT, *words
+    drawn = FULL._replace(written=(transfer / "answers").read_bytes())
+    for out in EXAMPLES, EXAMPLES / "nothing/out", "/dev/full":
+        yield f"steps: {out} is to be drawn", ends_so, program, drawn, "steps", "--picture", out, setup, steps
+        yield f"run: {out} is to be written", ends_so, program, FULL, "run", "--trace", out, script
+
+
+def devices(given):
+    if not shutil.which("prlimit"):
+        print("devices: skipped, since there is no prlimit")
+        return
+    yield from readers(given.program)
+    for folder in examples():
+        yield f"{folder.name}: byte by byte", byte_by_byte, given.program, folder
+    transfer = EXAMPLES / "transfer"
+    yield "steps: a closed pipe", closed_pipe, given.program, "steps", transfer / "setup.json", transfer / "steps"
+    yield "check: a closed pipe", closed_pipe, given.program, "check", EXAMPLES / "scripts/take/script.json"
+    yield from writers(given.program)
+
+
+# ---- the command line
+
+TRANSFER, TAKE = EXAMPLES / "transfer", EXAMPLES / "scripts/take/script.json"
+STEPS = [TRANSFER / "setup.json", TRANSFER / "steps"]
+MISTAKES = [
+    [], ["x"], ["Steps", *STEPS], ["steps"], ["steps", STEPS[0]], ["steps", *STEPS, "x"], ["steps", "--x", *STEPS],
+    ["steps", *STEPS, "--store"], ["steps", *STEPS, "--explain"], ["steps", *STEPS, "--picture"], ["steps", "--serial", *STEPS],
+    ["steps", "--from", "x", *STEPS], ["steps", "--to", str(2**64), *STEPS], ["steps", "--from", "1.5", *STEPS], ["check"],
+    ["check", TAKE, TAKE], ["run"], ["run", TAKE, "--seconds"], ["run", "--reopen", TAKE], ["run", "--serial=1", TAKE], ["trace"],
+    ["trace", "--store", TAKE, TAKE], [b"\xff"], ["steps", b"\xff", STEPS[1]], ["check", b"\xff"], ["x" * 100_000],
+]  # fmt: skip
+ASKED = [["--help"], ["--version"], ["steps", "--help"], ["check", "--help"], ["run", "--help"], ["trace", "--help"]]
+NO_STORE, FAILED = Came(1, b"error store\n", b""), Came(2, b"", b"fault store\n")
+ANSWERED = [
+    *((["run", "--seconds", word, TAKE], Came(1, b"error seconds\n", b"")) for word in ("0", str(2**32), "x", "1.5", " 1", "")),
+    (["run", "--serial", "--seconds", "5", TAKE], Came(1, b"error seconds\n", b"")),
+    (["steps", "--reopen", *STEPS], NO_STORE),
+    (["steps", "--reopen", "--store", EXAMPLES / "nothing", *STEPS], NO_STORE),
+    (["steps", "--store", EXAMPLES / "nothing", *STEPS], FAILED),
+    (["run", "--store", EXAMPLES / "nothing", TAKE], FAILED),
+]
+
+
+def is_mistake(program, *words):
+    came = run(program, *words)
+    return None if came.status == 2 and came.fault and not came.written else f"{came}; wanted status 2, and why"
+
+
+def is_told(program, *words):
+    came = run(program, *words)
+    return None if came.status == 0 and came.written and not came.fault else f"{came}; wanted status 0, and a text"
+
+
+def words(given):
+    for trial, lines in (is_mistake, MISTAKES), (is_told, ASKED):
+        for line in lines:
+            yield f"{' '.join(map(str, line))[:200]}", trial, given.program, *line
+    for line, wanted in ANSWERED:
+        yield f"{' '.join(map(str, line))}", ends_so, given.program, wanted, *line

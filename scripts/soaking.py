@@ -1,0 +1,85 @@
+"""What the sections of soak share: how they run the built program, and the examples."""
+import pathlib
+import subprocess
+import sys
+import tempfile
+from typing import NamedTuple
+
+sys.dont_write_bytecode = True
+
+EXAMPLES = pathlib.Path(__file__).resolve().parent.parent / "examples"
+SECONDS = 20  # of one run
+AT_ONCE = 4
+BATCH = 8 * AT_ONCE  # trials that are begun before the time is looked at
+NEW_ACTION = b"top 1\n"
+
+
+class Given(NamedTuple):
+    """What a section is given. It yields trials: a name, a call, and the call's words. The call says what is wrong."""
+
+    program: str
+    seed: int
+
+
+class Came(NamedTuple):
+    """What a run wrote and ended with. The status is less than 0 if a signal stopped it."""
+
+    status: int
+    written: bytes
+    fault: bytes
+
+    def __str__(self):
+        return f"status {self.status}, {self.written[-200:]!r}, {self.fault[-200:]!r}"
+
+
+def run(program, *words, given=b"", **how):
+    done = subprocess.run([program, *words], input=given, capture_output=True, timeout=SECONDS, **how)
+    return Came(done.returncode, done.stdout, done.stderr)
+
+
+def compared(came, wanted):
+    """What is wrong in a run, or nothing."""
+    return None if came == wanted else f"{came}; wanted {wanted}"
+
+
+def tried(trial):
+    """What is wrong in a trial, or nothing."""
+    _, call, *words = trial
+    try:
+        return call(*words)
+    except subprocess.TimeoutExpired:
+        return f"it ran for {SECONDS} seconds"
+    except Exception as error:  # what came could not be read
+        return f"{type(error).__name__}: {error}"
+
+
+def with_file(content, use):
+    """What is made of the name of a file that has these bytes."""
+    with tempfile.NamedTemporaryFile() as file:
+        file.write(content)
+        file.flush()
+        return use(file.name)
+
+
+# ---- examples
+
+
+def examples():
+    return sorted(folder for folder in EXAMPLES.iterdir() if (folder / "steps").exists())
+
+
+def two_phases():
+    return [folder for folder in examples() if b"prepare" in (folder / "steps").read_bytes()]
+
+
+def script_files():
+    return sorted(EXAMPLES.glob("scripts/*/script.json"))
+
+
+def trace_files():
+    return sorted(EXAMPLES.glob("traces/*/trace"))
+
+
+def status_of(folder):
+    file = folder / "status"
+    return int(file.read_text()) if file.exists() else 0
