@@ -9,13 +9,14 @@ use Rattle.stable_store.specs.Calls.{HasCounted, IsExcused, IsTrusted, Makes, Re
 use Rattle.stable_store.specs.Stored.{Record, Stored, after_bump, after_discard, after_install}
 use Rattle.stable_store.specs.declared.fault.StoreFault.{StoreFault}
 use Rattle.stable_store.specs.declared.fault.StoreFault.TheVariants as call
-use Rattle.store_recovery.specs.Settling.{bases_then, contents, is_decided, settled}
-use Rattle.store_recovery.specs.Steps.{Called, GoesOn, HasFirst, HasNoRecord, KeepsBases, KeepsItself, OneHasCounted, OpensItself, SettlesOne, all_hold}
+use Rattle.store_recovery.specs.Settling.{IsSettledInPart, bases_then, contents, is_decided, settled}
+use Rattle.store_recovery.specs.Steps.{Called, GoesOn, HasFirst, HasNoRecord, IsBumpedAtMost, KeepsBases, KeepsItself, OneHasCounted, OpensItself, SettlesOne, all_hold}
 use Rattle.store_recovery.specs.Faults.{refused_by}
 use Rattle.store_recovery.specs.declared.refused.Refused.{Refused}
 use Rattle.store_recovery.specs.declared.refused.Refused.TheVariants.{Memory, Stable, NotOurs}
 use Rattle.store_recovery.proofs.Places.{about, rest_less, same_there, zip_but_one, zip_put, zip_then, zip_with_itself}
-use Rattle.store_recovery.proofs.Promised.{go_on}
+use Rattle.store_recovery.proofs.InPart.{all_none_in_part, in_part_then}
+use Rattle.store_recovery.proofs.Promised.{go_on, moves_by}
 use Rattle.store_recovery.proofs.Entries.{first_removed}
 use Rattle.store_recovery.proofs.Settled.{by, one_less, settled_alike, settled_with}
 use Rattle.store_recovery.proofs.Stops.{called_then, contents_among, each_among, goes_all_then, goes_itself, goes_on, itself, keeps_then, one_counts, stay_so, stop_at, stops_then, trusted_before}
@@ -253,22 +254,22 @@ module _ {S : Type 0} (seen : S → View) where
       → contents seen (set now i made) ≡ contents seen old
   same_refused old now i d made within a same = same_put now i d made within same ∙ a.same
 
-  -- the same records
-  abbrev KeepsRecords : S → S → Type 0
-  KeepsRecords old new = (seen new).content.prepared ≡ (seen old).content.prepared
+  same_records : (old new : S) → IsBumpedAtMost seen old new → (seen new).content.prepared ≡ (seen old).content.prepared
+  same_records old new (inl same) = ap (λ c. c.prepared) same
+  same_records old new (inr more) = ap (λ c. c.prepared) more
 
-  none_still : (old now : List S) → AllZip KeepsRecords old now → AllByRecursion HasNoRecord (contents seen old) → AllByRecursion HasNoRecord (contents seen now)
+  none_still : (old now : List S) → AllZip (IsBumpedAtMost seen) old now → AllByRecursion HasNoRecord (contents seen old) → AllByRecursion HasNoRecord (contents seen now)
   none_still [] [] all none = tt
   none_still [] (n ∷ ns) all none = absurd all
   none_still (o ∷ os) [] all none = absurd all
-  none_still (o ∷ os) (n ∷ ns) all none = (all.0 ∙ none.0, none_still os ns all.1 none.1)
+  none_still (o ∷ os) (n ∷ ns) all none = (same_records o n all.0 ∙ none.0, none_still os ns all.1 none.1)
 
   -- A recovery was counted at the stores before a place, and those that are left are as they were.
   pub record AreCounted (old now : List S) (i : ℕ) : Type 0 where
     pub left : drop i now ≡ drop i old
     pub more : contents seen now ≡ each after_bump (take i (contents seen old)) ++ drop i (contents seen old)
     pub rest : AllByRecursion (λ s. Rests (seen s)) (take i now)
-    pub records : AllZip KeepsRecords old now
+    pub bumped : AllZip (IsBumpedAtMost seen) old now
     pub bases : bases_then (contents seen now) ≡ bases_then (contents seen old)
     pub kept : AllZip (OpensItself seen) old now
     pub goes : AllZip (GoesOn seen) old now
@@ -278,7 +279,7 @@ module _ {S : Type 0} (seen : S → View) where
     left = refl;
     more = refl;
     rest = tt;
-    records = zip_with_itself KeepsRecords (λ s. refl) stores;
+    bumped = zip_with_itself (IsBumpedAtMost seen) (λ s. inl refl) stores;
     bases = refl;
     kept = zip_with_itself (OpensItself seen) opens_itself stores;
     goes = zip_with_itself (GoesOn seen) (goes_itself seen) stores;
@@ -311,8 +312,8 @@ module _ {S : Type 0} (seen : S → View) where
       rest =
           subst (λ ss. AllByRecursion (λ s. Rests (seen s)) ss) (sym (take_more_set now i made within))
           (each_append (λ s. Rests (seen s)) (take i now) (made ∷ []) a.rest (makes.rest, tt));
-      records =
-          zip_put KeepsRecords old now i d made within_before a.records (subst (λ s. KeepsRecords s made) bumped_is (ap (λ c. c.prepared) makes.changes));
+      bumped =
+          zip_put (IsBumpedAtMost seen) old now i d made within_before a.bumped (subst (λ s. IsBumpedAtMost seen s made) bumped_is (inr makes.changes));
       bases = bumped_put now i d made within makes.changes ∙ a.bases;
       kept =
           zip_put (OpensItself seen) old now i d made within_before a.kept
@@ -332,7 +333,10 @@ module _ {S : Type 0} (seen : S → View) where
     pub none_refused : (seen made).content ≡ (seen bumped).content → AllByRecursion HasNoRecord (contents seen old)
         → AllByRecursion HasNoRecord (contents seen (set now i made))
     none_refused same none =
-        subst (λ cs. AllByRecursion HasNoRecord cs) (sym (same_put now i d made within same)) (none_still old now a.records none)
+        subst (λ cs. AllByRecursion HasNoRecord cs) (sym (same_put now i d made within same)) (none_still old now a.bumped none)
+
+    pub bumped_refused : (seen made).content ≡ (seen bumped).content → AllZip (IsBumpedAtMost seen) old (set now i made)
+    bumped_refused same = zip_put (IsBumpedAtMost seen) old now i d made within_before a.bumped (subst (λ s. IsBumpedAtMost seen s made) bumped_is (inl same))
 
     pub bases_refused : (seen made).content ≡ (seen bumped).content → bases_then (contents seen (set now i made)) ≡ bases_then (contents seen old)
     bases_refused same = ap bases_then (same_put now i d made within same) ∙ a.bases
@@ -345,7 +349,7 @@ module _ {S : Type 0} (seen : S → View) where
   all_counted old now i a = called_well (OpensItself seen) old now tt a.kept a.goes a.bases
 
   pub still_none : (old now : List S) (i : ℕ) → AreCounted old now i → AllByRecursion HasNoRecord (contents seen old) → AllByRecursion HasNoRecord (contents seen now)
-  still_none old now i a none = none_still old now a.records none
+  still_none old now i a none = none_still old now a.bumped none
 
   pub all_rest : (old now : List S) (i : ℕ) → length now ≤ i → AreCounted old now i → AllByRecursion (λ s. Rests (seen s)) now
   all_rest old now i past a = subst (λ ss. AllByRecursion (λ s. Rests (seen s)) ss) (take_all i now past) a.rest
@@ -360,12 +364,17 @@ module _ {S : Type 0} (seen : S → View) where
   -- All records so far were settled.
   pub record AreSettled (old now : List S) : Type 0 where
     pub settled : settled (contents seen now) ≡ settled (contents seen old)
+    pub in_part : AllZip (IsSettledInPart (contents seen old)) (contents seen old) (contents seen now)
     pub kept : AllZip (KeepsItself seen) old now
     pub goes : AllZip (GoesOn seen) old now
 
   pub none_settled : (stores : List S) → AreSettled stores stores
-  none_settled stores =
-      record { settled = refl; kept = zip_with_itself (KeepsItself seen) (itself seen) stores; goes = zip_with_itself (GoesOn seen) (goes_itself seen) stores }
+  none_settled stores = record {
+    settled = refl;
+    in_part = all_none_in_part (contents seen stores) (contents seen stores);
+    kept = zip_with_itself (KeepsItself seen) (itself seen) stores;
+    goes = zip_with_itself (GoesOn seen) (goes_itself seen) stores;
+  }
 
   same_bases_of : (old now : List S) → AreSettled old now → bases_then (contents seen now) ≡ bases_then (contents seen old)
   same_bases_of old now a = ap (λ stores. each (λ s. s.base) stores) a.settled
@@ -376,11 +385,17 @@ module _ {S : Type 0} (seen : S → View) where
   hold_on (o ∷ os) [] all = absurd all
   hold_on (o ∷ os) (n ∷ ns) all = ap₂ (λ a b. a && b) all.0.holds (hold_on os ns all.1)
 
+  -- a call more, whatever it answered
+  pub part_settled : (may_fail : S → S → Type 0) (old now new : List S) (one : Result Bool Refused) → AreSettled old now → SettlesOne seen may_fail now new one
+      → AllZip (IsSettledInPart (contents seen old)) (contents seen old) (contents seen new)
+  part_settled may_fail old now new one a settles = in_part_then seen old now new a.kept a.in_part (moves_by seen may_fail now new one settles)
+
   -- a call more that was not refused
   pub one_settled : (may_fail : S → S → Type 0) (old now new : List S) (one : Bool) → AreSettled old now → SettlesOne seen may_fail now new (Ok one)
       → settled (contents seen new) ≡ settled (contents seen now) → AllZip (KeepsItself seen) now new → AreSettled old new
   one_settled may_fail old now new one a settles same kept = record {
     settled = same ∙ a.settled;
+    in_part = part_settled may_fail old now new (Ok one) a settles;
     kept = zip_then (KeepsItself seen) (KeepsItself seen) (KeepsItself seen) (keeps_then seen) old now new a.kept kept;
     goes = goes_all_then seen old now new a.goes (go_on_by one settles);
   }

@@ -1,6 +1,7 @@
 pub mod Entries
 pub mod Settled
 pub mod Places
+pub mod InPart
 pub mod Stops
 pub mod InTurn
 pub mod Promised

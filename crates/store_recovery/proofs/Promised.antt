@@ -11,7 +11,8 @@ use Rattle.store_recovery.specs.Steps.{GoesOn, HasFirst, KeepsBases, KeepsItself
 use Rattle.store_recovery.specs.Finding.{IsFirstLeft}
 use Rattle.store_recovery.specs.Faults.{refused_by}
 use Rattle.store_recovery.specs.declared.refused.Refused.{Refused}
-use Rattle.store_recovery.specs.declared.refused.Refused.TheVariants.{Stable}
+use Rattle.store_recovery.specs.declared.refused.Refused.TheVariants.{Memory, NotOurs, Stable}
+use Rattle.store_recovery.proofs.InPart.{MovesOn}
 use Rattle.store_recovery.proofs.Places.{zip_but_one, zip_with_itself}
 use Rattle.store_recovery.proofs.Settled.{same_count, same_decided, same_next_top, settled_among}
 use Rattle.store_recovery.proofs.Stops.{contents_among, either_content, goes_itself, goes_on, itself, one_counts, stop_at, trusted_before}
@@ -51,6 +52,14 @@ module _ {S : Type 0} (seen : S → View) where
     now_either : ((seen k.made).content ≡ (seen k.store).content) ⊎ ((seen k.made).content ≡ next)
     now_either = either_content r (seen k.store).content next (seen k.made).content k.makes.changes
 
+    -- each store is as it was, or its first record is settled
+    pub moves : AllZip (MovesOn (contents seen old)) (contents seen old) (contents seen new)
+    moves =
+        let R = MovesOn (contents seen old) in
+        subst₂ (λ a b. AllZip R a b) (sym old_are) (sym new_are)
+        (zip_but_one R (λ s. inl refl) (contents seen k.before) (seen k.store).content (seen k.made).content (contents seen k.behind)
+        (elim now_either [ inl is ↦ inl is | inr is ↦ inr (k.entry, k.first, is) ]))
+
     pub same_settled : settled (contents seen new) ≡ settled (contents seen old)
     same_settled = ap settled new_are ∙ either_settled (seen k.made).content now_either
 
@@ -84,12 +93,26 @@ module _ {S : Type 0} (seen : S → View) where
         (stop_at seen k.before k.store k.made k.behind (may_fail k.store k.made) next r k.makes
         (ap (λ stores. each (λ s. s.base) stores) (either_settled next (inr refl)) ∙ ap (λ ss. bases_then (contents seen ss)) k.were))
 
+  unmoved : (old new : List S) → new ≡ old → AllZip (MovesOn (contents seen old)) (contents seen old) (contents seen new)
+  unmoved old new is =
+      let R = MovesOn (contents seen old) in
+      subst (λ ss. AllZip R (contents seen old) (contents seen ss)) (sym is) (zip_with_itself R (λ s. inl refl) (contents seen old))
+
   -- a record that was settled
   pub go_on : (may_fail : S → S → Type 0) (old new : List S) (x : Unit {0}) → SettlesFirst seen may_fail old new (Ok x) → AllZip (GoesOn seen) old new
   go_on may_fail old new x k =
       subst₂ (λ a b. AllZip (GoesOn seen) a b) (sym k.were) (sym k.are)
       (zip_but_one (GoesOn seen) (goes_itself seen) k.before k.store k.made k.behind
       (goes_on seen k.store k.made (may_fail k.store k.made) (settled_by (contents seen old) k.entry (seen k.store).content) x k.makes))
+
+  -- whatever the call answers
+  pub moves_by : (may_fail : S → S → Type 0) (old new : List S) (r : Result Bool Refused) → SettlesOne seen may_fail old new r
+      → AllZip (MovesOn (contents seen old)) (contents seen old) (contents seen new)
+  moves_by may_fail old new (Ok true) k = moves may_fail old new (Ok tt) k
+  moves_by may_fail old new (Ok false) k = unmoved old new k.0
+  moves_by may_fail old new (Err Memory) k = moves may_fail old new (Err call.Memory) k
+  moves_by may_fail old new (Err Stable) k = moves may_fail old new (Err call.Failed) k
+  moves_by may_fail old new (Err NotOurs) k = unmoved old new k
 
   failed_counts : (may_fail : S → S → Type 0) (old new : List S) → SettlesFirst seen may_fail old new (Err call.Failed) → OneHasCounted seen old new
   failed_counts may_fail old new k =

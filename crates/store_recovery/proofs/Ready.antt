@@ -6,11 +6,12 @@ use Rattle.stable_store.specs.Stored.{Stored, after_bump}
 use Rattle.run_model.specs.Openings.{Setup}
 use Rattle.store_recovery.specs.Belonging.{all_belong}
 use Rattle.store_recovery.specs.Opened.{AreOpened, AreRefused, CountsNone, CountsOneMore, opened}
-use Rattle.store_recovery.specs.Settling.{bases_then, contents, is_decided, settled}
-use Rattle.store_recovery.specs.Steps.{Called, HasNoRecord, KeepsItself, OpensItself, all_hold}
+use Rattle.store_recovery.specs.Settling.{IsSettledInPart, bases_then, contents, is_decided, settled}
+use Rattle.store_recovery.specs.Steps.{Called, HasNoRecord, IsBumpedAtMost, KeepsItself, OpensItself, all_hold}
 use Rattle.store_recovery.specs.declared.refused.Refused.{Refused}
 use Rattle.store_recovery.specs.declared.refused.Refused.TheVariants.{Memory, NotOurs}
 use Rattle.store_recovery.proofs.Entries.{no_entries}
+use Rattle.store_recovery.proofs.InPart.{all_in_part, all_none_in_part, in_part_bumped}
 use Rattle.store_recovery.proofs.InTurn.{keeps_opens, opens_itself}
 use Rattle.store_recovery.proofs.Places.{zip_then, zip_with_itself}
 use Rattle.store_recovery.proofs.Settled.{by, settled_with}
@@ -53,10 +54,16 @@ module _ {S : Type 0} (seen : S → View) where
   hold_opened (o ∷ os) [] all = absurd all
   hold_opened (o ∷ os) (n ∷ ns) all = ap₂ (λ a b. a && b) all.0.holds (hold_opened os ns all.1)
 
+  same_in_part : (old new : List S) → contents seen new ≡ contents seen old
+      → AllZip (IsSettledInPart (contents seen old)) (contents seen old) (contents seen new)
+  same_in_part old new same =
+      subst (λ cs. AllZip (IsSettledInPart (contents seen old)) (contents seen old) cs) (sym same) (all_none_in_part (contents seen old) (contents seen old))
+
   -- a store holds no content
   pub are_empty : (setup : Setup) (stores : List S) → all_hold seen stores ≡ false → AreRefused seen setup stores stores NotOurs
   are_empty setup stores empty = record {
     bases = refl;
+    in_part = same_in_part stores stores refl;
     kept = zip_with_itself (OpensItself seen) (opens_itself seen) stores;
     stops = stay_so seen stores;
     counted = λ is. absurd cc;
@@ -71,6 +78,7 @@ module _ {S : Type 0} (seen : S → View) where
       → Called seen {T = Unit {0}} (KeepsItself seen) old new (Err why) → AreRefused seen setup old new why
   not_read setup old new why hold same called = record {
     bases = ap bases_then same;
+    in_part = same_in_part old new same;
     kept = opens_of old new called.kept;
     stops = called.stops;
     counted = λ is. called.counted (λ memory. absurd cc);
@@ -85,6 +93,7 @@ module _ {S : Type 0} (seen : S → View) where
       → Called seen {T = Unit {0}} (KeepsItself seen) old new (Ok tt) → all_belong setup (contents seen new) ≡ false → AreRefused seen setup old new NotOurs
   are_strange setup old new hold same called strange = record {
     bases = ap bases_then same;
+    in_part = same_in_part old new same;
     kept = opens_of old new called.kept;
     stops = called.stops;
     counted = λ is. absurd cc;
@@ -101,15 +110,23 @@ module _ {S : Type 0} (seen : S → View) where
     belonged_before : all_belong setup (contents seen old) ≡ true
     belonged_before = ap (λ cs. all_belong setup cs) (sym same) ∙ belonged
 
+    -- some records are settled of what the stores contained at first
+    abbrev ArePart : List S → List S → Type 0
+    ArePart were new = AllZip (IsSettledInPart (contents seen were)) (contents seen were) (contents seen new)
+
+    part_before : (new : List S) → ArePart mid new → ArePart old new
+    part_before new part = subst (λ cs. AllZip (IsSettledInPart cs) cs (contents seen new)) same part
+
     -- a later call was refused
     late : (new : List S) (why : Refused) → Called seen {T = Unit {0}} (OpensItself seen) mid new (Err why) → bases_then (contents seen new) ≡ bases_then (contents seen mid)
-        → AllByRecursion HasNoRecord (contents seen new) ⊎ AllZip (CountsNone seen) old new → why ≢ NotOurs → AreRefused seen setup old new why
-    late new why called bases first ours =
+        → ArePart mid new → AllByRecursion HasNoRecord (contents seen new) ⊎ AllZip (CountsNone seen) old new → why ≢ NotOurs → AreRefused seen setup old new why
+    late new why called bases part first ours =
         let refused : Result (Unit {0}) Refused = Err why in
         let whole : Called seen (OpensItself seen) old new refused =
         called_then seen (KeepsItself seen) (OpensItself seen) (OpensItself seen) (keeps_opens seen) (λ y z k. k.trusted) old mid new refused read.kept read.goes
         (ap bases_then same) called in record {
           bases = bases ∙ ap bases_then same;
+          in_part = part_before new part;
           kept = whole.kept;
           stops = whole.stops;
           counted = λ is. whole.counted (λ memory. absurd cc);
@@ -122,10 +139,10 @@ module _ {S : Type 0} (seen : S → View) where
     same_bases_by : (new : List S) → settled (contents seen new) ≡ settled (contents seen mid) → bases_then (contents seen new) ≡ bases_then (contents seen mid)
     same_bases_by new settles = ap (λ stores. each (λ s. s.base) stores) settles
 
-    pub not_settled : (new : List S) (why : Refused) → settled (contents seen new) ≡ settled (contents seen mid)
+    pub not_settled : (new : List S) (why : Refused) → settled (contents seen new) ≡ settled (contents seen mid) → ArePart mid new
         → Called seen {T = Unit {0}} (KeepsItself seen) mid new (Err why) → why ≢ NotOurs → AreRefused seen setup old new why
-    not_settled new why settles called ours =
-        late new why (record { kept = opens_of mid new called.kept; goes = tt; stops = called.stops; counted = called.counted }) (same_bases_by new settles)
+    not_settled new why settles part called ours =
+        late new why (record { kept = opens_of mid new called.kept; goes = tt; stops = called.stops; counted = called.counted }) (same_bases_by new settles) part
         (inr (count_none old new (zip_then (KeepsItself seen) (KeepsItself seen) (KeepsItself seen) (keeps_then seen) old mid new read.kept called.kept))) ours
 
     module _ (ready : List S) (settles : settled (contents seen ready) ≡ settled (contents seen mid)) (none : AllByRecursion HasNoRecord (contents seen ready))
@@ -138,13 +155,15 @@ module _ {S : Type 0} (seen : S → View) where
           called_then seen (KeepsItself seen) (OpensItself seen) (OpensItself seen) (keeps_opens seen) (λ y z k. k.trusted) mid ready new r settling.kept
           settling.goes (same_bases_by ready settles) called
 
-      pub not_counted : (new : List S) (r : Result (Unit {0}) Refused) → Called seen (OpensItself seen) ready new r
+      pub not_counted : (new : List S) (r : Result (Unit {0}) Refused) → ArePart mid ready → Called seen (OpensItself seen) ready new r
+          → AllZip (IsBumpedAtMost seen) ready new
           → bases_then (contents seen new) ≡ bases_then (contents seen ready)
           → (AllByRecursion HasNoRecord (contents seen ready) → AllByRecursion HasNoRecord (contents seen new)) → IfErr r (λ why. why ≢ NotOurs)
           → IfErr r (λ why. AreRefused seen setup old new why)
-      not_counted new (Ok x) called bases still ours = tt
-      not_counted new (Err why) called bases still ours =
-          late new why (counting new (Err why) called) (bases ∙ same_bases_by ready settles) (inl (still none)) ours
+      not_counted new (Ok x) part called bumped bases still ours = tt
+      not_counted new (Err why) part called bumped bases still ours =
+          late new why (counting new (Err why) called) (bases ∙ same_bases_by ready settles)
+          (in_part_bumped seen (contents seen mid) (contents seen mid) ready new part bumped) (inl (still none)) ours
 
       now_opened : (new : List S) → contents seen new ≡ each after_bump (contents seen ready) → contents seen new ≡ opened (contents seen old)
       now_opened new more =
@@ -193,6 +212,8 @@ module _ {S : Type 0} (seen : S → View) where
   pub not_said : (setup : Setup) (old new : List S) → AreOpened seen setup old new → AreRefused seen setup old new Memory
   not_said setup old new a = record {
     bases = a.bases;
+    in_part =
+        subst (λ cs. AllZip (IsSettledInPart (contents seen old)) (contents seen old) cs) (sym a.now) (all_in_part (contents seen old) (contents seen old));
     kept = a.kept;
     stops = a.stops;
     counted = λ is. absurd cc;

@@ -1,5 +1,5 @@
 -- How the records of a system's stores are settled.
-use Rattle.std.specs.Prelude.{ℕ, zero, suc, Bool, false, List, fold, map as each, Option, Some, None, slice_get, if◌then◌else◌}
+use Rattle.std.specs.Prelude.{◌≡◌, ◌++◌, ℕ, zero, suc, Bool, false, List, fold, map as each, Option, Some, None, slice_get, if◌then◌else◌}
 use Rattle.std.specs.Ordering.{nat_cmp}
 use Rattle.std.specs.FinMap as map
 use Rattle.std.specs.FinSet as set
@@ -32,6 +32,14 @@ settled_by stores entry s = if is_decided stores entry.1.home entry.0 then after
 -- a store once all its records are settled, from the least top action on
 abbrev pub settled_store : List Stored → Stored → Stored
 settled_store stores s = fold (λ t entry. settled_by stores entry t) s (map.entries s.prepared)
+
+-- t holds what s holds once the first of its records are settled, from the least top action on. Counts may differ.
+pub record IsSettledInPart (stores : List Stored) (s t : Stored) : Type 0 where
+  pub records : List (ℕ × Record)
+  pub left : List (ℕ × Record)
+  pub are : map.entries s.prepared ≡ records ++ left
+  pub base : t.base ≡ (fold (λ u r. settled_by stores r u) s records).base
+  pub prepared : t.prepared ≡ (fold (λ u r. settled_by stores r u) s records).prepared
 
 -- the stores once all records are settled
 abbrev pub settled : List Stored → List Stored

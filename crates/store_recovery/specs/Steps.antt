@@ -3,7 +3,7 @@ use Rattle.std.specs.Prelude.{◌≡◌, ◌⊎◌, ℕ, ◌+◌, Bool, true, fa
 use Rattle.std.specs.List.{AllByRecursion, AllZip, list_all}
 use Rattle.std.specs.FinMap as map
 use Rattle.stable_store.specs.Calls.{HasCounted, IsTrusted, Makes, Rests, View}
-use Rattle.stable_store.specs.Stored.{Record, Stored}
+use Rattle.stable_store.specs.Stored.{Record, Stored, after_bump}
 use Rattle.stable_store.specs.declared.fault.StoreFault.{StoreFault}
 use Rattle.stable_store.specs.declared.fault.StoreFault.TheVariants as call
 use Rattle.store_recovery.specs.Settling.{bases_then, contents, settled_by}
@@ -83,6 +83,10 @@ module _ {S : Type 0} (seen : S → View) where
     pub holds : (seen new).holds_content ≡ (seen old).holds_content
     pub trusted : IsTrusted (seen new) → IsTrusted (seen old)
     pub rests : Rests (seen old) → Rests (seen new)
+
+  -- what a store contains is as it was, but one recovery more may be counted
+  abbrev pub IsBumpedAtMost : S → S → Type 0
+  IsBumpedAtMost old new = ((seen new).content ≡ (seen old).content) ⊎ ((seen new).content ≡ after_bump (seen old).content)
 
   -- a store none of whose calls was refused
   pub record GoesOn (old new : S) : Type 0 where

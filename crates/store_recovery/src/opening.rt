@@ -24,8 +24,8 @@ use std::collections::{BTreeMap, BTreeSet};
 /// After an error the setup and the stores come back. `NotOurs` comes before anything is changed: where a store holds no content, where
 /// its device returned none, or where what it contains does not fit the objects of its guardian or the guardians of the setup. `Stable`
 /// comes of a store that counted a failure, `Memory` of memory that ran out. What was settled by then stays so, and a recovery may have been
-/// counted at some stores once no record was left. What is installed once all records are settled is what it was, so the stores can be
-/// opened again.
+/// counted at some stores once no record was left. What is installed once all records are settled is what it was. Each
+/// store holds what it held, with some of its records settled. So the stores can be opened again.
 pub fn open_stores<S: Stable>(
     alloc: Global,
     setup: Setup,

@@ -1,6 +1,6 @@
 use Rattle.std.proofs.Common.{arith, ap, sym, true≢false, Err, ◌∙◌}
 use Rattle.store_recovery.specs.Faults.{refused_by}
-use Rattle.store_recovery.proofs.InTurn.{all_counted, all_more, all_rest, bases_refused, bump_refused, bumped_holds, never_ours, none_counted, none_refused, one_counted, still_none}
+use Rattle.store_recovery.proofs.InTurn.{all_counted, all_more, all_rest, bases_refused, bump_refused, bumped_holds, bumped_refused, never_ours, none_counted, none_refused, one_counted, still_none}
 use Rattle.store_recovery.proofs.Stops.{error_is}
 use Rattle.store_recovery.proofs.calls.count_all.Goals as goal
 
@@ -45,4 +45,12 @@ returns-clause-none g c = still_none g.S.Stable.seen c.args.stores.now c.loop-st
 pub returns-in_err-bump-clause-none : goal.returns-in_err-bump-clause-none
 returns-in_err-bump-clause-none g c =
     none_refused g.S.Stable.seen c.args.stores.now c.loop-store.stores c.loop-store.store-index c.store-item.result c.bump.new.self (omega arith)
+    c.loop-store.invariant c.in_err-bump.ensures.makes.changes
+
+pub returns-clause-bumped : goal.returns-clause-bumped
+returns-clause-bumped g c = c.loop-store.invariant.bumped
+
+pub returns-in_err-bump-clause-bumped : goal.returns-in_err-bump-clause-bumped
+returns-in_err-bump-clause-bumped g c =
+    bumped_refused g.S.Stable.seen c.args.stores.now c.loop-store.stores c.loop-store.store-index c.store-item.result c.bump.new.self (omega arith)
     c.loop-store.invariant c.in_err-bump.ensures.makes.changes

@@ -1,7 +1,7 @@
 use Rattle.std.proofs.Common.{ap, subst, sym, true≢false, Err, Ok, ◌∙◌, ◌≢◌}
 use Rattle.store_recovery.specs.Steps.{SettlesOne}
 use Rattle.store_recovery.specs.declared.refused.Refused.TheVariants.{NotOurs}
-use Rattle.store_recovery.proofs.InTurn.{all_settled, error_by, fewer, hold_on, none_settled, one_settled, settle_refused}
+use Rattle.store_recovery.proofs.InTurn.{all_settled, error_by, fewer, hold_on, none_settled, one_settled, part_settled, settle_refused}
 use Rattle.store_recovery.proofs.Stops.{error_is}
 use Rattle.store_recovery.proofs.calls.settle_all.Goals as goal
 use Rattle.store_recovery.proofs.calls.settle_all.Goals.{After-from_residual}
@@ -24,6 +24,16 @@ returns-clause-called g c =
     all_settled g.S.Stable.seen c.args.stores.now c.settle.new.stores
     (one_settled g.S.Stable.seen g.S.Stable.may_fail c.args.stores.now c.loop.stores c.settle.new.stores c.in_ok-settle.field-0 c.loop.invariant
     c.in_ok-settle.ensures.settles c.in_ok-settle.ensures.settled c.in_ok-settle.ensures.kept)
+
+pub returns-clause-in_part : goal.returns-clause-in_part
+returns-clause-in_part g c =
+    part_settled g.S.Stable.seen g.S.Stable.may_fail c.args.stores.now c.loop.stores c.settle.new.stores (Ok c.in_ok-settle.field-0) c.loop.invariant
+    c.in_ok-settle.ensures.settles
+
+pub returns-in_err-settle-clause-in_part : goal.returns-in_err-settle-clause-in_part
+returns-in_err-settle-clause-in_part g c =
+    part_settled g.S.Stable.seen g.S.Stable.may_fail c.args.stores.now c.loop.stores c.settle.new.stores (Err c.in_err-settle.field-0.0) c.loop.invariant
+    c.in_err-settle.ensures.settles
 
 -- each store holds a content
 never_ours : (g : _) (c : After-from_residual g) → c.in_err-settle.field-0.0 ≢ NotOurs

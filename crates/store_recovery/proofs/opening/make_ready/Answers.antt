@@ -38,7 +38,7 @@ returns-in_err-settle_all-clause-refused g c =
     (error_is c.from_residual-in_err-settle_all.result why c.from_residual-in_err-settle_all.ensures.1)
     (not_settled g.S.Stable.seen c.args.setup.now c.args.stores.now c.load_all.new.stores (sym c.all_hold.ensures ∙ c.if-not-all_hold.false)
     c.in_ok-load_all.ensures.same c.in_ok-load_all.ensures.called (sym c.all_belong.ensures ∙ c.if-not-all_belong.false) c.settle_all.new.stores why
-    settling.settled settling.called settling.ours)
+    settling.settled settling.in_part settling.called settling.ours)
 
 pub count_all-requires : goal.count_all-requires
 count_all-requires g c =
@@ -60,5 +60,5 @@ returns-clause-refused g c =
     let settling = c.in_ok-settle_all.ensures in
     not_counted g.S.Stable.seen c.args.setup.now c.args.stores.now c.load_all.new.stores (sym c.all_hold.ensures ∙ c.if-not-all_hold.false)
     c.in_ok-load_all.ensures.same c.in_ok-load_all.ensures.called (sym c.all_belong.ensures ∙ c.if-not-all_belong.false) c.settle_all.new.stores
-    settling.settled settling.none settling.called c.count_all.new.stores c.count_all.result c.count_all.ensures.called c.count_all.ensures.bases
-    c.count_all.ensures.none c.count_all.ensures.ours
+    settling.settled settling.none settling.called c.count_all.new.stores c.count_all.result settling.in_part c.count_all.ensures.called
+    c.count_all.ensures.bumped c.count_all.ensures.bases c.count_all.ensures.none c.count_all.ensures.ours
