@@ -17,8 +17,8 @@ use Rattle.recovery_laws.proofs.Held.{Holds}
 use Rattle.recovery_laws.proofs.Settled.{holds_at, store_there}
 use Rattle.recovery_laws.proofs.StoreStops.{stop_within_any_step}
 use Rattle.store_recovery.specs.Belonging.{all_belong, belong_from, belongs, object_at, record_belongs}
-use Rattle.store_recovery.specs.Settling.{settled, settled_store}
-use Rattle.restart_laws.specs.Laws.{BelongThroughStops, IsSettledInPart, NextOpensInType, OpensInTypeThroughStops, RunsBelong, SettledBelong, SettledInPartBelong, StopsBelong}
+use Rattle.store_recovery.specs.Settling.{IsSettledInPart, settled, settled_store}
+use Rattle.restart_laws.specs.Laws.{BelongThroughStops, NextOpensInType, OpensInTypeThroughStops, RunsBelong, SettledBelong, SettledInPartBelong, StopsBelong}
 use Rattle.restart_laws.specs.Openings.{OpensInType}
 use Rattle.restart_laws.proofs.Contents.{BaseSuits, Fits, belongs_from, fits_from, in_part_belongs, settled_belongs}
 use Rattle.restart_laws.proofs.Parts.{SuitsWhere}

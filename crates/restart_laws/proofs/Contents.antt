@@ -14,8 +14,7 @@ use Rattle.run_laws.proofs.Each.{Each, each_map}
 use Rattle.stable_store.specs.Stored.{Record, Stored, after_discard, after_install, installed, laid, put_over}
 use Rattle.recovery_laws.proofs.Entries.{all_found}
 use Rattle.store_recovery.specs.Belonging.{all_suit, belongs, object_at, record_belongs, suits}
-use Rattle.store_recovery.specs.Settling.{is_decided, settled_by, settled_store}
-use Rattle.restart_laws.specs.Laws.{IsSettledInPart}
+use Rattle.store_recovery.specs.Settling.{IsSettledInPart, is_decided, settled_by, settled_store}
 use Rattle.restart_laws.proofs.Parts.{SuitsWhere, over_suits}
 
 -- ---- maps
@@ -141,14 +140,14 @@ module _ (setup : Setup) (g : ℕ) where
   all_fit stores [] s f = f
   all_fit stores (e ∷ es) s f = all_fit stores es (settled_by stores e s) (one_fits stores e s f)
 
-  -- some of the records, in whatever order
+  -- some of the records
   pub in_part_belongs : (stores : List Stored) (s t : Stored) → IsSettledInPart stores s t → belongs setup g s ≡ true
       → belongs setup g t ≡ true
-  in_part_belongs stores s t (records, base, prepared) h =
-      let f = all_fit stores records s (fits_from s h) in
+  in_part_belongs stores s t p h =
+      let f = all_fit stores p.records s (fits_from s h) in
       belongs_from t (record {
-        base = subst (BaseSuits objects) (sym base) f.base;
-        prepared = subst AreRecords (sym prepared) f.prepared;
+        base = subst (BaseSuits objects) (sym p.base) f.base;
+        prepared = subst AreRecords (sym p.prepared) f.prepared;
       })
     where
       AreRecords : map.FinMap nat_cmp Record → Type 0

@@ -1,4 +1,4 @@
--- What opening the stores of a system gives, and when they are refused.
+-- What opening the stores of a system gives, when they are refused, and that they still belong then.
 use Rattle.std.proofs.Common.{List, [], ap, inl, inr, length, map as each, refl, subst, sym, ◌+◌, ◌∙◌, ◌∷◌, ◌≡◌}
 use Rattle.std.proofs.lemmas.List.{length-map}
 use Rattle.run_laws.proofs.Names.{clash}
@@ -7,8 +7,8 @@ use Rattle.stable_store.specs.Calls.{View}
 use Rattle.stable_store.specs.Stored.{Stored, after_bump}
 use Rattle.store_recovery.specs.Settling.{contents, settled, settled_store}
 use Rattle.store_recovery.specs.declared.refused.Refused.TheVariants.{Memory, NotOurs, Stable}
-use Rattle.restart_laws.specs.Laws.{RefusedByFaultsAlone, ReopenedOpensInType}
-use Rattle.restart_laws.proofs.Belong.{BasesSuit, bases_suit, opens_with_bases, runs_belong, settled_belong}
+use Rattle.restart_laws.specs.Laws.{RefusedByFaultsAlone, RefusedStillBelong, ReopenedOpensInType}
+use Rattle.restart_laws.proofs.Belong.{BasesSuit, bases_suit, opens_with_bases, runs_belong, settled_belong, settled_in_part_belong}
 
 -- counting recoveries leaves the bases
 bumped : (stores : List Stored) → each (λ s. s.base) (each after_bump stores) ≡ each (λ s. s.base) stores
@@ -51,3 +51,8 @@ module _ {S : Type 0} (seen : S → View) where
       | inr counted ↦ counted
     ]
   ]
+
+  -- the law
+  pub refused_still_belong : RefusedStillBelong seen
+  refused_still_belong setup old new why belong are =
+      settled_in_part_belong setup (contents seen old) (contents seen new) belong are.in_part

@@ -1,14 +1,15 @@
--- The stores that a run leaves belong to its setup, so a restart accepts them.
-use Rattle.std.specs.Prelude.{◌≡◌, ◌≢◌, ℕ, true, IsTrue, List, ◌∷◌, fold, length}
+-- The stores that a run leaves belong to its setup. So a restart refuses them only if memory runs out or a store counts a
+-- failure.
+use Rattle.std.specs.Prelude.{◌≡◌, ◌≢◌, true, IsTrue, List, ◌∷◌, length}
 use Rattle.std.specs.List.{AllZip}
 use Rattle.run_model.specs.declared.history.Event.{Event}
 use Rattle.run_model.specs.Openings.{Opening, Setup}
 use Rattle.run_model.specs.Runs.{IsRun}
 use Rattle.stable_store.specs.Calls.{View}
-use Rattle.stable_store.specs.Stored.{Record, Stored}
+use Rattle.stable_store.specs.Stored.{Stored}
 use Rattle.store_recovery.specs.Belonging.{all_belong}
 use Rattle.store_recovery.specs.Opened.{AreOpened, AreRefused, IsOpeningOf}
-use Rattle.store_recovery.specs.Settling.{contents, settled, settled_by}
+use Rattle.store_recovery.specs.Settling.{IsSettledInPart, contents, settled}
 use Rattle.store_recovery.specs.Steps.{OneHasCounted, all_hold}
 use Rattle.store_recovery.specs.declared.refused.Refused.{Refused}
 use Rattle.store_recovery.specs.declared.refused.Refused.TheVariants.{Memory}
@@ -34,12 +35,6 @@ StopsBelong = (opening : Opening) (e : Event) (past : List Event) (stores left :
 abbrev pub SettledBelong : Type 0
 SettledBelong = (setup : Setup) (stores : List Stored) → IsTrue (all_belong setup stores)
     → IsTrue (all_belong setup (settled stores))
-
--- t holds what s holds once these records are settled. They may be some of its own, and counts may differ.
-abbrev pub IsSettledInPart : List Stored → Stored → Stored → Type 0
-IsSettledInPart stores s t =
-    (records : List (ℕ × Record)) × (t.base ≡ (fold (λ u r. settled_by stores r u) s records).base)
-    × (t.prepared ≡ (fold (λ u r. settled_by stores r u) s records).prepared)
 
 -- So do stores with only some of their records settled.
 abbrev pub SettledInPartBelong : Type 0
@@ -75,3 +70,8 @@ module _ {S : Type 0} (seen : S → View) where
   RefusedByFaultsAlone = (opening : Opening) (past : List Event) (old new : List S) (why : Refused)
       → OpensInType opening → IsRun opening past → AreOfRun opening past (contents seen old) → all_hold seen old ≡ true
       → AreRefused seen opening.setup old new why → why ≢ Memory → OneHasCounted seen old new
+
+  -- Stores that belonged and were refused still belong, so they can be opened again.
+  abbrev pub RefusedStillBelong : Type 0
+  RefusedStillBelong = (setup : Setup) (old new : List S) (why : Refused) → IsTrue (all_belong setup (contents seen old))
+      → AreRefused seen setup old new why → IsTrue (all_belong setup (contents seen new))

@@ -1,10 +1,11 @@
-//! A restart accepts what a run left: the stores of a run belong to its setup, and so does what they hold once settled.
+//! A restart refuses what a run left only if memory runs out or a store counts a failure: the stores of a run belong to its
+//! setup, and they still do once some of their records are settled.
 //!
 //! `World::reopen` answers `NotOurs` if what its stores contain does not belong to the setup. Without these laws a check
 //! that refuses all stores would be proved too. Each law is the contract of a function without a body.
 #![tactic(auto)]
 
-ghost use Rattle.restart_laws.specs.Laws.{BelongThroughStops, NextOpensInType, OpensInTypeThroughStops, RefusedByFaultsAlone, ReopenedOpensInType, RunsBelong, SettledBelong, SettledInPartBelong, StopsBelong};
+ghost use Rattle.restart_laws.specs.Laws.{BelongThroughStops, NextOpensInType, OpensInTypeThroughStops, RefusedByFaultsAlone, RefusedStillBelong, ReopenedOpensInType, RunsBelong, SettledBelong, SettledInPartBelong, StopsBelong};
 ghost use Rattle.restart_laws.specs.Openings.{FreshOpensInType, ObjectsKeepTypes, ObjectsOpenInType};
 
 use stable_store::Stable;
@@ -67,4 +68,9 @@ pub fn reopened_opens_in_type<S: Stable>()
 /// Stores that hold what a run left are refused only if memory runs out or a store counts a failure in that call.
 pub fn refused_by_faults_alone<S: Stable>()
     ensures { RefusedByFaultsAlone S.seen }
+{}
+
+/// Stores that belonged still do after an opening refused them.
+pub fn refused_still_belong<S: Stable>()
+    ensures { RefusedStillBelong S.seen }
 {}
