@@ -31,7 +31,7 @@ use Rattle.store_tables.proofs.Listed.{looked}
 use Rattle.sql_store.specs.Reading.{IsQueryOf, IsAnswerOf, AreQueriesOf, AreAnswersOf, IsOnlyNumber, IsCounted}
 use Rattle.sql_store.specs.First.{Names}
 use Rattle.sql_store.proofs.Queries.{ordered_query, viewed, has_permuted}
-use Rattle.sql_store.proofs.Placed.{version_text}
+use Rattle.sql_store.proofs.Numbers.{version_text, count_text}
 
 -- what is known of a text that is such a query of version 1
 pub record IsFirstQuery (sql : List ℕ) (q : Query) : Type 0 where
@@ -160,9 +160,6 @@ number_query name = record {
   limit = lit (Int (negsuc 0));
   offset = lit (Int (pos 0));
 }
-
-abbrev pub count_text : List ℕ
-count_text = codes "SELECT v FROM meta WHERE k = 'count'"
 
 pub first_version : IsFirstQuery version_text (number_query (codes "version"))
 unfolding understood everything

@@ -30,12 +30,12 @@ use Rattle.sql_store.specs.Reading.{QuietsWith, ShowsTheSame, LooksUp, AreAnswer
 use Rattle.sql_store.specs.First.{IsFirstStore, IsFirst}
 use Rattle.sql_store.proofs.Sequences.{ok_leads, and_reads}
 use Rattle.sql_store.proofs.Found.{same_still}
-use Rattle.sql_store.proofs.Placed.{version_text}
+use Rattle.sql_store.proofs.Numbers.{version_text, count_text}
 use Rattle.sql_store.proofs.Rowids.{as_many}
 use Rattle.sql_store.proofs.Recognized.{not_true, numbers_in, comes_once, as_many_answers}
 use Rattle.sql_store.proofs.FirstContent.{OneSpelling, one_first}
 use Rattle.sql_store.proofs.FirstQueries.{first_answer, first_base, first_homes, first_parts, first_queries, first_views, first_held_by, first_stands_for}
-use Rattle.sql_store.proofs.FirstQueries.{count_text, first_version, first_count, number_query, number_shown, one_number}
+use Rattle.sql_store.proofs.FirstQueries.{first_version, first_count, number_query, number_shown, one_number}
 
 -- ---- what stays over a look
 

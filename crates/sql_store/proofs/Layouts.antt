@@ -191,4 +191,5 @@ layout_is schema first deltas layout all told new older second = record {
   second = λ is.
       second (all There (subst (λ s. AllByRecursion (λ q. presence_in s q ≡ There) first_columns) (sym is) second_first))
       (told ∙ (ap (λ s. presence_in s delta_columns) is ∙ second_delta));
+  columns = λ has. second (all There (has.0, (has.1.0, (has.1.1.0, (has.1.1.1.0, (has.1.1.1.1.0, tt)))))) (told ∙ has.1.1.1.1.1.0);
 }

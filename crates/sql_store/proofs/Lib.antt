@@ -17,9 +17,11 @@ mod Schemas
 mod TableTexts
 mod Outside
 mod Layouts
-mod Placed
+mod Numbers
 mod Found
 mod Recognized
 mod FirstQueries
 mod FirstContent
 mod FirstRead
+mod Beside
+mod Stops

@@ -121,6 +121,3 @@ excused_more P Q leads m n NotOurs h = h
 -- what was told is what was counted
 pub excused_as : (P : Type 0) (m n : ℕ) (f k : StoreFault) → k ≡ f → IsExcused P m n f → IsExcused P m n k
 excused_as P m n f k same h = subst (IsExcused P m n) (sym same) h
-
-pub never_told : (f k : StoreFault) → k ≡ f → (f ≡ NotOurs → ⊥) → k ≡ NotOurs → ⊥
-never_told f k same never h = never (sym same ∙ h)

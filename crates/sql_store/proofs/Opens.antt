@@ -1,5 +1,5 @@
 -- What is known of a store that was just opened.
-use Rattle.std.proofs.Common.{◌≡◌, Ok, IsTrue, sym, ap, subst, ◌∙◌}
+use Rattle.std.proofs.Common.{◌≡◌, Bool, Option, Some, None, option_map, IfSome, Ok, IsTrue, sym, ap, subst, ◌∙◌}
 use Rattle.sqlite.specs.Effect.{Database}
 use Rattle.sqlite.specs.State.{State, HasCleanDisk}
 use Rattle.stable_store.specs.Stored.{Stored}
@@ -8,7 +8,8 @@ use Rattle.stable_store.specs.Held.{held}
 use Rattle.store_tables.specs.Tables.{stable_schema}
 use Rattle.store_tables.specs.Holds.{IsStore, IsLaidOut}
 use Rattle.store_writing.specs.Steps.{Stands}
-use Rattle.sql_store.specs.Reading.{Quiets, IsAlone, LooksUp}
+use Rattle.sql_store.specs.Reading.{Quiets, IsAlone, LooksUp, Knows}
+use Rattle.sql_store.proofs.Back.{same_some}
 
 store_of : (s : State) (c : Stored) → IsAlone s → IsTrue s.is_open → IsLaidOut s.now.trees c → IsStore s.now.trees c
 store_of s c alone up h = record { sound = alone.sound up; placed = h.0; holds = h.1 }
@@ -33,3 +34,12 @@ read_alone old new kept alone reads clean up =
       mode = same.mode ∙ q.mode;
       settled = same.now ∙ (q.settled ∙ sym same.committed);
     }
+
+-- the content that was found stands, where the schema is that of a store
+pub found_stands : (s : State) (kept : Option Kept) (known : Bool) (c : Stored) → Knows s known → (IsTrue known → IfSome kept (λ k. Stands s (held k)))
+    → (HasCleanDisk s → option_map held kept ≡ Some c) → (HasCleanDisk s → s.now.schema ≡ stable_schema) → Stands s c
+found_stands s kept known c knows stands holds schema clean up = go kept (stands ((knows clean up).1 (schema clean))) (holds clean) clean up
+  where
+    go : (o : Option Kept) → IfSome o (λ k. Stands s (held k)) → option_map held o ≡ Some c → Stands s c
+    go None h e = absurd (let q = e in cc)
+    go (Some k) h e = subst (Stands s) (same_some (held k) c e) h

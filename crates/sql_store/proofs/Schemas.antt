@@ -6,7 +6,7 @@ use Rattle.sqlite.specs.Table.{Table}
 use Rattle.sqlite.specs.Schema.{Schema}
 use Rattle.sqlite.specs.Command.{Command}
 use Rattle.sqlite.specs.Command.TheVariants.{Insert, InsertOr, Update, Delete, CreateTable}
-use Rattle.sqlite.specs.Effect.{Database}
+use Rattle.sqlite.specs.Effect.{Database, IsDatabase}
 use Rattle.sqlite.specs.Does.{Tally, Does, lacks_sequence}
 use Rattle.sqlite.specs.declared.run.Mode.{Mode}
 use Rattle.sqlite.specs.Listing.{understood}
@@ -15,12 +15,13 @@ use Rattle.sqlite.specs.State.{State, HasCleanDisk, Runs, Writes, mode_of}
 use Rattle.sqlite.proofs.Callers.{command_of, statement_of, runs_as}
 use Rattle.sqlite_resolve.specs.Compile.{table_defined_by}
 use Rattle.sqlite_catalog.specs.Change.{created}
+use Rattle.sqlite_catalog.specs.Listing.{IsSound}
 use Rattle.store_tables.proofs.PartRows.{went, same_value}
 use Rattle.store_tables.specs.Tables.{first_schema, stable_schema}
 use Rattle.store_writing.proofs.Runs.{writes_rows}
 use Rattle.sql_store.specs.declared.layout.Layout.{Layout}
 use Rattle.sql_store.specs.declared.layout.Layout.TheVariants.{First, Second}
-use Rattle.sql_store.specs.Schemas.{HasTables, LaysOut, HasRun}
+use Rattle.sql_store.specs.Schemas.{HasTables, LaysOut, LaysSound, HasRun}
 use Rattle.sql_store.proofs.Looking.{on_table}
 use Rattle.sql_store.proofs.Asked.{no_text}
 
@@ -92,6 +93,18 @@ module _ (sql : List ℕ) (params : Row) (old new : State) (schema : Schema) (ha
       written (Delete at q) w h = wrote (Delete at q) w h
       written _ w h = absurd w
 
+  pub sound_after : WritesRows schema sql → IsDatabase new.now
+  sound_after it =
+      let command = command_of (understood schema sql) in
+      obeyed command it.rows (runs_as sql params old new schema has command refl it.plain ran.0 ran.1)
+    where
+      obeyed : (command : Command) → writes_rows command → Runs old new None command statement params ran.0 → IsDatabase new.now
+      obeyed (Insert at from) w h = h.sound
+      obeyed (InsertOr at way from clauses) w h = h.sound
+      obeyed (Update at q) w h = h.sound
+      obeyed (Delete at q) w h = h.sound
+      obeyed _ w h = absurd w
+
 -- ---- texts one after another
 
 pub next_made : {texts : List (Bor (List ℕ))} {i : ℕ} {last : Schema} (params : Row) (a b : State) → i < length texts → MakesLeft a.now.schema last texts i
@@ -123,6 +136,18 @@ pub then_laid : {T E : Type 0} (layout : Layout) (a b d : State) (r : Result T E
     → (HasCleanDisk b → HasTables layout a.now.schema → b.now.schema ≡ stable_schema) → LaysOut Second b d r → LaysOut layout a d r
 then_laid layout a b d (Ok y) before first next clean has = next clean (first (before clean) has)
 then_laid layout a b d (Err e) before first next clean has = tt
+
+-- the rows obey the schema once a statement was run
+pub ran_sound : {T E : Type 0} (sql : List ℕ) (params : Row) (a b : State) (r : Result T E) → WritesRows stable_schema sql
+    → (HasCleanDisk b → OnOk r (HasRun sql params a b)) → LaysSound Second a b r
+ran_sound sql params a b (Ok x) it ran clean has =
+    subst (λ s. IsSound s b.now.trees) (writes_only sql params a b stable_schema has (ran clean) it) (sound_after sql params a b stable_schema has (ran clean) it)
+ran_sound sql params a b (Err e) it ran clean has = tt
+
+pub then_sound : {T E : Type 0} (layout : Layout) (a b d : State) (r : Result T E) → (HasCleanDisk d → HasCleanDisk b)
+    → (HasCleanDisk b → HasTables layout a.now.schema → b.now.schema ≡ stable_schema) → LaysSound Second b d r → LaysSound layout a d r
+then_sound layout a b d (Ok y) before first next clean has = next clean (first (before clean) has)
+then_sound layout a b d (Err e) before first next clean has = tt
 
 pub on_ok : {T E : Type 0} (r : Result T E) (P : Type 0) → P → OnOk r P
 on_ok (Ok x) P h = h

@@ -8,9 +8,6 @@ use Rattle.store_writing.proofs.Inside.{keeps_same, keeps_then, survives_self}
 pub works_none : {T E : Type 0} (s : State) (x : T) → Works {T = T} {E = E} s s (Ok x)
 works_none s x = record { survives = survives_self s; runs = λ _. record { kept = keeps_same s; within = λ w. w } }
 
-pub works_refused : {T E : Type 0} (s : State) (e : E) → Works {T = T} {E = E} s s (Err e)
-works_refused s e = record { survives = survives_self s; runs = λ _. record { kept = keeps_same s; within = λ _. tt } }
-
 pub works_then : {T U E F : Type 0} (a b d : State) (x : T) (r : Result U F) → Works {T = T} {E = E} a b (Ok x) → Works b d r → Works a d r
 works_then a b d x r first next = record {
   survives = survives_then a b d _ _ (λ _. ⊥) (λ _ db none. none) (λ _ db none. none) first.survives next.survives;

@@ -1,5 +1,5 @@
 -- What a database has of the columns that queries name, and which tables of a store those are.
-use Rattle.std.specs.Prelude.{◌≡◌, ℕ, List, Result, Ok, Err}
+use Rattle.std.specs.Prelude.{◌≡◌, ℕ, List, [], ◌∷◌, codes, Result, Ok, Err}
 use Rattle.std.specs.List.{AllByRecursion}
 use Rattle.sqlite.specs.Schema.{Schema}
 use Rattle.sqlite.specs.Listing.{understood}
@@ -31,8 +31,24 @@ IsAbsence error found = (fault : CompileError) × (error ≡ SqlInputError fault
 abbrev pub IsPresence : Schema → List (List ℕ) → Presence → Type 0
 IsPresence schema queries found = (all : Presence) → AllByRecursion (λ q. presence_in schema q ≡ all) queries → found ≡ all
 
--- which layout it is, for the schemas of a new database, of version 1 and of a store
+-- the queries that look for the columns of a store
+abbrev pub column_queries : List (List ℕ)
+column_queries =
+    codes "SELECT k, v FROM meta"
+    ∷ codes "SELECT obj, val FROM base"
+    ∷ codes "SELECT top, home FROM prepared"
+    ∷ codes "SELECT top, obj, val FROM prepared_val"
+    ∷ codes "SELECT top FROM decided"
+    ∷ codes "SELECT top, obj, add_by FROM prepared_delta"
+    ∷ []
+
+-- the database has the tables and the columns of a store, whatever else it has
+abbrev pub HasColumns : Schema → Type 0
+HasColumns schema = AllByRecursion (λ q. presence_in schema q ≡ There) column_queries
+
+-- which layout it is, for the schemas of a new database, of version 1 and of a store, and with the columns of a store
 pub record IsLayout (schema : Schema) (layout : Layout) : Type 0 where
   pub new : schema ≡ no_schema → layout ≡ Nothing
   pub first : schema ≡ first_schema → layout ≡ First
   pub second : schema ≡ stable_schema → layout ≡ Second
+  pub columns : HasColumns schema → layout ≡ Second

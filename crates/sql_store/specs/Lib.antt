@@ -3,5 +3,5 @@ pub mod Views
 pub mod Reading
 pub mod Layouts
 pub mod Schemas
-pub mod Placed
 pub mod First
+pub mod Beside

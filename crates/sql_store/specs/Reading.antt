@@ -1,5 +1,5 @@
 -- What a call that reads the tables answers, and what it leaves.
-use Rattle.std.specs.Prelude.{◌≡◌, ℕ, pos, Bool, true, false, List, [], ◌∷◌, Result, IfOk, OnOk, OnErr, IsErrOf, IsTrue}
+use Rattle.std.specs.Prelude.{◌≡◌, ◌⊎◌, ℕ, pos, Bool, true, false, List, [], ◌∷◌, Result, IfOk, OnOk, OnErr, IsErrOf, IsTrue}
 use Rattle.sqlite.specs.declared.types.Value.TheVariants.{Int}
 use Rattle.sqlite.specs.Order.{Row, column}
 use Rattle.sqlite.specs.Schema.{Schema}
@@ -14,6 +14,7 @@ use Rattle.stable_store.specs.Stored.{Stored}
 use Rattle.stable_store.specs.declared.fault.StoreFault.{StoreFault}
 use Rattle.stable_store.specs.declared.fault.StoreFault.TheVariants.{NotOurs}
 use Rattle.store_tables.specs.Tables.{stable_schema}
+use Rattle.store_tables.specs.Holds.{IsStore}
 use Rattle.store_writing.specs.Steps.{Stands}
 
 -- ---- answers
@@ -107,6 +108,11 @@ pub record LooksUp {T : Type 0} (old new : State) (Shows : Database → T → Ty
   pub ok : HasCleanDisk new → IfOk result (λ x. ShowsTheSame old new × Shows old.now x)
   pub err : HasCleanDisk new → OnErr result (IsTrue new.is_open → ShowsTheSame old new)
   pub leaves : HasCleanDisk new → IsTrue old.is_open → (db : Trees) → new.may_leave db → old.may_leave db
+
+-- A stop leaves what one before the call would have left, or a store with this content.
+abbrev pub StopLeaves : State → State → Stored → Type 0
+StopLeaves old new c =
+    HasCleanDisk new → IsTrue old.is_open → (db : Trees) → new.may_leave db → old.may_leave db ⊎ IsStore db c
 
 -- Whatever the schema is: outside a transaction none was begun, and what was read left the schema.
 pub record StaysOut {T : Type 0} (old new : State) (result : Result T StoreFault) : Type 0 where

@@ -3,6 +3,7 @@ use Rattle.std.specs.Prelude.{◌≡◌, ℕ, List, Result, Ok, OnOk}
 use Rattle.sqlite.specs.Order.{Row}
 use Rattle.sqlite.specs.Schema.{Schema}
 use Rattle.sqlite.specs.State.{State, HasCleanDisk, Executes}
+use Rattle.sqlite_catalog.specs.Listing.{IsSound}
 use Rattle.store_tables.specs.Tables.{no_schema, first_schema, stable_schema}
 use Rattle.sql_store.specs.declared.layout.Layout.{Layout}
 use Rattle.sql_store.specs.declared.layout.Layout.TheVariants.{Nothing, First, Second, Others}
@@ -17,6 +18,10 @@ HasTables Others schema = ⊥
 -- The database had the tables of this layout and nothing else, and after `Ok` it has those of a store and nothing else.
 abbrev pub LaysOut : {T E : Type 0} → Layout → State → State → Result T E → Type 0
 LaysOut layout old new result = HasCleanDisk new → HasTables layout old.now.schema → OnOk result (new.now.schema ≡ stable_schema)
+
+-- And after `Ok` the rows obey that schema, and list it.
+abbrev pub LaysSound : {T E : Type 0} → Layout → State → State → Result T E → Type 0
+LaysSound layout old new result = HasCleanDisk new → HasTables layout old.now.schema → OnOk result (IsSound stable_schema new.now.trees)
 
 -- after `Ok` the schema is what it was
 abbrev pub KeepsSchema : {T E : Type 0} → State → State → Result T E → Type 0

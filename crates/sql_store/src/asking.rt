@@ -11,13 +11,15 @@ ghost use Rattle.store_tables.specs.Holds.{Holds, IsLaidOut, tables_of};
 ghost use Rattle.store_tables.specs.Rows.{HaveRowids};
 ghost use Rattle.sql_store.specs.Reading.{IsQueryOf, IsAnswerOf, AreQueriesOf, AreAnswersOf, Quiets, QuietsWith, LooksUp, StaysOut, Recognizes};
 ghost use Rattle.sql_store.specs.First.{IsFirst, RecognizesFirst};
+ghost use Rattle.sql_store.specs.Beside.{IsBeside, RecognizesBeside};
 
 use crate::layout::{READ_COUNT, number_named};
 use sqlite::{Alter, Connection, Row};
 use stable_store::{Kept, StoreFault};
 use std::alloc::Global;
 use store_tables::{
-    FIRST_QUERIES, QUERIES, ROWIDS, all_rise, content_of, first_content_of, one_part_spelling,
+    FIRST_QUERIES, QUERIES, ROWIDS, all_rise, content_of, first_content_of, one_content_is_held,
+    one_part_spelling,
 };
 use store_writing::faults::fault_of;
 
@@ -70,7 +72,13 @@ pub(crate) fn read_content<A: Alter>(
     ensures looks { Quiets (state A.Store conn.old)
         → LooksUp (state A.Store conn.old) (state A.Store conn.new) (λ d kept. Holds 1 (tables_of d.trees) (held kept)) result }
     ensures recognized { Recognizes (state A.Store conn.old) (state A.Store conn.new) result }
+    ensures beside { (c : Stored) → IsBeside (state A.Store conn.old) c
+        → LooksUp (state A.Store conn.old) (state A.Store conn.new)
+        (λ _ kept. held kept ≡ c) result }
+    ensures recognized_beside { RecognizesBeside (state A.Store conn.old) (state A.Store conn.new)
+        result }
 {
+    one_content_is_held();
     content_of(alloc, &answers(conn, alloc, &QUERIES)?)
 }
 
@@ -98,6 +106,11 @@ pub(crate) fn read_store<A: Alter>(
     ensures looks { IsTrue is_known → Quiets (state A.Store conn.old)
         → LooksUp (state A.Store conn.old) (state A.Store conn.new) (λ d kept. IsLaidOut d.trees (held kept)) result }
     ensures recognized { Recognizes (state A.Store conn.old) (state A.Store conn.new) result }
+    ensures beside { is_known ≡ false → (c : Stored) → IsBeside (state A.Store conn.old) c
+        → LooksUp (state A.Store conn.old) (state A.Store conn.new)
+        (λ _ kept. held kept ≡ c) result }
+    ensures recognized_beside { is_known ≡ false
+        → RecognizesBeside (state A.Store conn.old) (state A.Store conn.new) result }
 {
     if !is_known {
         return read_content(conn, alloc);

@@ -9,7 +9,7 @@ ghost use Rattle.store_tables.specs.Answered.{rows_of};
 ghost use Rattle.sql_store.specs.declared.layout.Layout.TheVariants.{Nothing, First, Second};
 ghost use Rattle.store_tables.specs.Holds.{IsLaidOut};
 ghost use Rattle.sql_store.specs.Reading.{RunsInside, Works, Looks, IsQueryText, IsAnswered, AreQueryTexts, AreAnswered};
-ghost use Rattle.sql_store.specs.Schemas.{LaysOut, KeepsSchema, HasRun};
+ghost use Rattle.sql_store.specs.Schemas.{LaysOut, LaysSound, KeepsSchema, HasRun};
 
 use crate::layout::Layout;
 use crate::mirror::are_same;
@@ -54,6 +54,10 @@ pub(crate) fn build<A: Alter>(
     ensures as_given { layout ≢ Second → IfOk result (λ kept. held kept ≡ held content.now) }
     ensures lays_out { LaysOut layout (state A.Store tx.old.conn.now)
         (state A.Store tx.new.conn.now) result }
+    ensures sound { IsTrue (state A.Store tx.old.conn.now).in_transaction
+        → LaysSound layout (state A.Store tx.old.conn.now) (state A.Store tx.new.conn.now) result }
+    ensures numbers { IfOk result (λ kept. (kept.count ≡ content.now.count)
+        × (kept.next_top ≡ content.now.next_top)) }
 {
     write_tables(tx, layout, content)?;
     let found = read_back(tx, alloc)?;
@@ -61,18 +65,31 @@ pub(crate) fn build<A: Alter>(
     Ok(found)
 }
 
-/// `NotOurs` where what was found is not what was to be written. Of tables that stay nothing but the numbers was to be.
+/// The fault where what was found is not what was to be written. Of tables that stay nothing but the numbers was to be.
 fn check_same(alloc: Global, layout: Layout, found: &Kept, content: &Kept) -> Result<(), StoreFault>
-    ensures { layout ≢ Second → OnOk result (held found.now ≡ held content.now) }
+    ensures same { layout ≢ Second → OnOk result (held found.now ≡ held content.now) }
+    ensures numbers { OnOk result ((found.now.count ≡ content.now.count)
+        × (found.now.next_top ≡ content.now.next_top)) }
 {
     match layout {
-        Layout::Second => Ok(()),
+        Layout::Second => check_written(found, content),
         Layout::Nothing | Layout::First | Layout::Others => {
             match are_same(alloc, found, content)? {
                 true => Ok(()),
                 false => Err(StoreFault::NotOurs),
             }
         }
+    }
+}
+
+/// `Failed` where other numbers were found than were just written.
+fn check_written(found: &Kept, content: &Kept) -> Result<(), StoreFault>
+    ensures { OnOk result ((found.now.count ≡ content.now.count)
+        × (found.now.next_top ≡ content.now.next_top)) }
+{
+    match found.count == content.count && found.next_top == content.next_top {
+        true => Ok(()),
+        false => Err(StoreFault::Failed),
     }
 }
 
@@ -85,6 +102,8 @@ fn write_tables<A: Alter>(
     ensures same { tx.new.conn.ghost_name ≡ tx.old.conn.ghost_name }
     ensures works { Works (state A.Store tx.old.conn.now) (state A.Store tx.new.conn.now) result }
     ensures lays_out { LaysOut layout (state A.Store tx.old.conn.now)
+        (state A.Store tx.new.conn.now) result }
+    ensures sound { LaysSound layout (state A.Store tx.old.conn.now)
         (state A.Store tx.new.conn.now) result }
 {
     make_missing(tx, layout, content)?;
@@ -207,6 +226,8 @@ fn put_numbers<A: Alter>(
     ensures same { tx.new.conn.ghost_name ≡ tx.old.conn.ghost_name }
     ensures works { Works (state A.Store tx.old.conn.now) (state A.Store tx.new.conn.now) result }
     ensures lays_out { LaysOut Second (state A.Store tx.old.conn.now)
+        (state A.Store tx.new.conn.now) result }
+    ensures sound { LaysSound Second (state A.Store tx.old.conn.now)
         (state A.Store tx.new.conn.now) result }
 {
     if count > GREATEST_COUNT || next_top > GREATEST_COUNT {

@@ -1,17 +1,18 @@
 //! Opening a database: its tables are made, migrated or taken.
-ghost use Rattle.std.specs.Prelude.{◌≡◌, ◌≢◌, false, IfOk, OnErr, IsErrOf, IfSome, IsTrue, Some, None, option_map};
+ghost use Rattle.std.specs.Prelude.{◌≡◌, ◌≢◌, codes, false, IfOk, OnOk, OnErr, IsErrOf, IfSome, IsTrue, Some, option_map};
 ghost use Rattle.sqlite.specs.Held.{state};
 ghost use Rattle.sqlite.specs.State.{HasCleanDisk};
 ghost use Rattle.stable_store.specs.Stored.{Stored, empty};
 ghost use Rattle.stable_store.specs.Held.{held};
 ghost use Rattle.store_tables.specs.Tables.{no_schema, stable_schema};
 ghost use Rattle.sql_store.specs.declared.layout.Layout.TheVariants.{Nothing, Second};
-ghost use Rattle.sql_store.specs.Schemas.{LaysOut};
+ghost use Rattle.sql_store.specs.Schemas.{HasTables, LaysOut};
 ghost use Rattle.store_writing.specs.Steps.{Stands};
 ghost use Rattle.store_tables.specs.Holds.{IsLaidOut};
 ghost use Rattle.stable_store.specs.declared.fault.StoreFault.TheVariants.{NotOurs};
-ghost use Rattle.sql_store.specs.Reading.{Quiets, LooksUp, Knows, Recognizes};
+ghost use Rattle.sql_store.specs.Reading.{Quiets, LooksUp, StopLeaves, IsNumberOf, Knows, Recognizes};
 ghost use Rattle.sql_store.specs.First.{IsFirst, RecognizesFirst};
+ghost use Rattle.sql_store.specs.Beside.{IsBeside, RecognizesBeside};
 
 use crate::asking::{read_first, read_store};
 use crate::building::build;
@@ -57,12 +58,25 @@ pub(crate) fn open<A: Alter>(alloc: Global, conn: &mut Connection<A>) -> Result<
     ensures migrates { HasCleanDisk (state A.Store conn.new) → (c : Stored)
         → IsFirst (state A.Store conn.old) c
         → IfOk result (λ it. option_map held it.kept ≡ Some c) }
+    ensures makes_anew { HasCleanDisk (state A.Store conn.new) → (c : Stored)
+        → IsFirst (state A.Store conn.old) c
+        → OnOk result ((state A.Store conn.new).now.schema ≡ stable_schema) }
     ensures recognized_first { RecognizesFirst (state A.Store conn.old) (state A.Store conn.new)
         result }
     ensures refused_first { HasCleanDisk (state A.Store conn.new) → (c : Stored)
         → IsFirst (state A.Store conn.old) c
         → OnErr result (IsTrue (state A.Store conn.new).is_open
         → (state A.Store conn.new).now ≡ (state A.Store conn.old).now) }
+    ensures leaves { (state A.Store conn.old).now.schema ≡ no_schema
+        → StopLeaves (state A.Store conn.old) (state A.Store conn.new) empty }
+    ensures leaves_first { (c : Stored) → IsFirst (state A.Store conn.old) c
+        → StopLeaves (state A.Store conn.old) (state A.Store conn.new) c }
+    ensures beside { HasCleanDisk (state A.Store conn.new) → (c : Stored)
+        → IsBeside (state A.Store conn.old) c
+        → LooksUp (state A.Store conn.old) (state A.Store conn.new)
+        (λ _ it. option_map held it.kept ≡ Some c) result }
+    ensures recognized_beside { RecognizesBeside (state A.Store conn.old) (state A.Store conn.new)
+        result }
 {
     if !conn.is_autocommit() {
         return Err(StoreFault::Failed);
@@ -83,11 +97,16 @@ fn migrate<A: Alter>(alloc: Global, conn: &mut Connection<A>) -> Result<Opened, 
     ensures migrates { HasCleanDisk (state A.Store conn.new) → (c : Stored)
         → IsFirst (state A.Store conn.old) c
         → IfOk result (λ it. option_map held it.kept ≡ Some c) }
+    ensures makes { HasCleanDisk (state A.Store conn.new) → (c : Stored)
+        → IsFirst (state A.Store conn.old) c
+        → OnOk result ((state A.Store conn.new).now.schema ≡ stable_schema) }
     ensures recognized { RecognizesFirst (state A.Store conn.old) (state A.Store conn.new) result }
     ensures refused { HasCleanDisk (state A.Store conn.new) → (c : Stored)
         → IsFirst (state A.Store conn.old) c
         → OnErr result (IsTrue (state A.Store conn.new).is_open
         → (state A.Store conn.new).now ≡ (state A.Store conn.old).now) }
+    ensures leaves { (c : Stored) → IsFirst (state A.Store conn.old) c
+        → StopLeaves (state A.Store conn.old) (state A.Store conn.new) c }
 {
     if number_named(conn, READ_VERSION)? != 1 {
         return Err(StoreFault::NotOurs);
@@ -111,6 +130,12 @@ fn take<A: Alter>(alloc: Global, conn: &mut Connection<A>) -> Result<Opened, Sto
         → Stands (state A.Store conn.old) c → LooksUp (state A.Store conn.old) (state A.Store conn.new)
         (λ _ it. option_map held it.kept ≡ Some c) result }
     ensures recognized { Recognizes (state A.Store conn.old) (state A.Store conn.new) result }
+    ensures beside { HasCleanDisk (state A.Store conn.new) → (c : Stored)
+        → IsBeside (state A.Store conn.old) c
+        → LooksUp (state A.Store conn.old) (state A.Store conn.new)
+        (λ _ it. option_map held it.kept ≡ Some c) result }
+    ensures recognized_beside { RecognizesBeside (state A.Store conn.old) (state A.Store conn.new)
+        result }
 {
     one_content_is_held();
     let is_known = is_alone(conn);
@@ -138,7 +163,6 @@ fn take_others<A: Alter>(alloc: Global, conn: &mut Connection<A>) -> Result<Open
 fn check_numbers<A: Alter>(conn: &mut Connection<A>) -> Result<(), StoreFault>
     ensures mode { (state A.Store conn.old).in_transaction ≡ false → (state A.Store conn.new).in_transaction ≡ false }
     ensures clean { HasCleanDisk (state A.Store conn.new) → HasCleanDisk (state A.Store conn.old) }
-    ensures looks { Quiets (state A.Store conn.old) → LooksUp (state A.Store conn.old) (state A.Store conn.new) (λ d _. Unit {0}) result }
 {
     if number_named(conn, READ_VERSION)? != 2 {
         return Err(StoreFault::NotOurs);
@@ -155,8 +179,6 @@ fn put_in_place<A: Alter>(alloc: Global, conn: &mut Connection<A>) -> Result<Ope
     ensures stands { IfOk result (λ it. IsTrue it.is_known → IfSome it.kept (λ kept. Stands (state A.Store conn.new) (held kept))) }
     ensures known { (state A.Store conn.old).in_transaction ≡ false → IfOk result (λ it. Knows (state A.Store conn.new) it.is_known) }
     ensures clean { HasCleanDisk (state A.Store conn.new) → HasCleanDisk (state A.Store conn.old) }
-    ensures none { HasCleanDisk (state A.Store conn.new) → (c : Stored) → Stands (state A.Store conn.old) c
-        → IfOk result (λ it. it.kept ≡ None) }
 {
     if have_places(conn)? {
         return Ok(Opened {
@@ -179,6 +201,12 @@ fn write_numbers<A: Alter>(alloc: Global, conn: &mut Connection<A>) -> Result<Op
     ensures mode { (state A.Store conn.old).in_transaction ≡ false → (state A.Store conn.new).in_transaction ≡ false }
     ensures known { (state A.Store conn.old).in_transaction ≡ false → IfOk result (λ it. Knows (state A.Store conn.new) it.is_known) }
     ensures clean { HasCleanDisk (state A.Store conn.new) → HasCleanDisk (state A.Store conn.old) }
+    ensures numbers { HasCleanDisk (state A.Store conn.new) → Quiets (state A.Store conn.old)
+        → IfOk result (λ it. IfSome it.kept (λ kept.
+        IsNumberOf stable_schema (codes "SELECT v FROM meta WHERE k = 'count'")
+        (state A.Store conn.old).now kept.count
+        × IsNumberOf stable_schema (codes "SELECT v FROM meta WHERE k = 'next_top'")
+        (state A.Store conn.old).now kept.next_top)) }
 {
     if number_named(conn, COUNT_NUMBERS)? != 3 {
         return Err(StoreFault::NotOurs);
@@ -205,6 +233,10 @@ fn lay_out<A: Alter>(
     ensures told { layout ≢ Second → ¬ IsErrOf result NotOurs }
     ensures refused { HasCleanDisk (state A.Store conn.new) → OnErr result (IsTrue (state A.Store conn.new).is_open
         → (state A.Store conn.new).now ≡ (state A.Store conn.old).now) }
+    ensures leaves { layout ≢ Second → HasTables layout (state A.Store conn.old).now.schema
+        → StopLeaves (state A.Store conn.old) (state A.Store conn.new) (held content.now) }
+    ensures numbers { IfOk result (λ it. IfSome it.kept (λ kept. (kept.count ≡ content.now.count)
+        × (kept.next_top ≡ content.now.next_top))) }
 {
     let kept = lay_tables(alloc, conn, layout, content)?;
     Ok(Opened {
@@ -229,6 +261,10 @@ fn lay_tables<A: Alter>(
     ensures clean { HasCleanDisk (state A.Store conn.new) → HasCleanDisk (state A.Store conn.old) }
     ensures as_given { layout ≢ Second → IfOk result (λ kept. held kept ≡ held content.now) }
     ensures told { layout ≢ Second → ¬ IsErrOf result NotOurs }
+    ensures leaves { layout ≢ Second → HasTables layout (state A.Store conn.old).now.schema
+        → StopLeaves (state A.Store conn.old) (state A.Store conn.new) (held content.now) }
+    ensures numbers { IfOk result (λ kept. (kept.count ≡ content.now.count)
+        × (kept.next_top ≡ content.now.next_top)) }
 {
     if !conn.is_autocommit() {
         return Err(StoreFault::Failed);

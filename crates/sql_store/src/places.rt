@@ -1,14 +1,7 @@
 //! Whether the numbers of `meta` are in their places.
-ghost use Rattle.std.specs.Prelude.{◌≡◌, ℕ, pos, false, IsTrue};
-ghost use Rattle.sqlite.specs.declared.types.Value.TheVariants.{Int, Text};
-ghost use Rattle.sqlite.specs.Order.{column};
-ghost use Rattle.sqlite_value.specs.Value.{owned};
+ghost use Rattle.std.specs.Prelude.{◌≡◌, false};
 ghost use Rattle.sqlite.specs.Held.{state};
 ghost use Rattle.sqlite.specs.State.{HasCleanDisk};
-ghost use Rattle.stable_store.specs.Stored.{Stored};
-ghost use Rattle.store_tables.specs.Holds.{Holds, tables_of};
-ghost use Rattle.sql_store.specs.Reading.{Quiets, LooksUp};
-ghost use Rattle.sql_store.specs.Placed.{IsPlaced, ArePlaced};
 
 use crate::asking::answer;
 use sqlite::types::ValueRef;
@@ -22,17 +15,13 @@ const NUMBERS: &str = "SELECT rowid, k, v FROM meta ORDER BY rowid";
 pub(crate) fn have_places<A: Alter>(conn: &mut Connection<A>) -> Result<bool, StoreFault>
     ensures mode { (state A.Store conn.old).in_transaction ≡ false → (state A.Store conn.new).in_transaction ≡ false }
     ensures clean { HasCleanDisk (state A.Store conn.new) → HasCleanDisk (state A.Store conn.old) }
-    ensures looks { Quiets (state A.Store conn.old) → LooksUp (state A.Store conn.old) (state A.Store conn.new)
-        (λ d placed. (c : Stored) → Holds 1 (tables_of d.trees) c → IsTrue placed) result }
 {
     let rows = answer(conn, NUMBERS)?;
     Ok(are_placed(&rows))
 }
 
 /// Whether each of these rows of `meta` is in the place of its name.
-fn are_placed(rows: &[Row]) -> bool
-    ensures { (count next_top : ℕ) → ArePlaced count next_top rows.now → IsTrue result }
-{
+fn are_placed(rows: &[Row]) -> bool {
     for row in rows {
         if !is_placed(row) {
             return false;
@@ -42,23 +31,17 @@ fn are_placed(rows: &[Row]) -> bool
 }
 
 /// Whether this row of `meta` is in the place of its name.
-fn is_placed(row: &Row) -> bool
-    ensures { (count next_top : ℕ) → IsPlaced count next_top row.now → IsTrue result }
-{
+fn is_placed(row: &Row) -> bool {
     has_place(row, 1, "version") || has_place(row, 2, "count") || has_place(row, 3, "next_top")
 }
 
 /// Whether this row of `meta` has this place and this name.
-fn has_place(row: &Row, place: u32, name: &str) -> bool
-    ensures { column row.now 0 ≡ Int (pos place) → column row.now 1 ≡ Text name.now → IsTrue result }
-{
+fn has_place(row: &Row, place: u32, name: &str) -> bool {
     has_number(row, place) && has_name(row, name)
 }
 
 /// Whether the first column of a row has this number.
-fn has_number(row: &Row, number: u32) -> bool
-    ensures { column row.now 0 ≡ Int (pos number) → IsTrue result }
-{
+fn has_number(row: &Row, number: u32) -> bool {
     match row.get_ref(0) {
         Ok(value) => is_number(value, number),
         Err(_) => false,
@@ -66,27 +49,21 @@ fn has_number(row: &Row, number: u32) -> bool
 }
 
 /// Whether the second column of a row has this text.
-fn has_name(row: &Row, name: &str) -> bool
-    ensures { column row.now 1 ≡ Text name.now → IsTrue result }
-{
+fn has_name(row: &Row, name: &str) -> bool {
     match row.get_ref(1) {
         Ok(value) => is_text(value, name),
         Err(_) => false,
     }
 }
 
-fn is_number(value: ValueRef<'_>, number: u32) -> bool
-    ensures { owned value.entry ≡ Int (pos number) → IsTrue result }
-{
+fn is_number(value: ValueRef<'_>, number: u32) -> bool {
     match value {
         ValueRef::Int(found) => found == i64::from(number),
         _ => false,
     }
 }
 
-fn is_text(value: ValueRef<'_>, text: &str) -> bool
-    ensures { owned value.entry ≡ Text text.now → IsTrue result }
-{
+fn is_text(value: ValueRef<'_>, text: &str) -> bool {
     match value {
         ValueRef::Text(found) => found == text.as_bytes(),
         _ => false,

@@ -56,8 +56,9 @@ impl<A: Alter + Drop> SqlStable<A> {
     ghost use Rattle.stable_store.specs.declared.fault.StoreFault.TheVariants.{NotOurs};
     ghost use Rattle.store_tables.specs.Tables.{no_schema, stable_schema};
     ghost use Rattle.store_writing.specs.Steps.{Stands, Carries};
-    ghost use Rattle.sql_store.specs.Reading.{Knows};
+    ghost use Rattle.sql_store.specs.Reading.{Knows, StopLeaves};
     ghost use Rattle.sql_store.specs.First.{IsFirst};
+    ghost use Rattle.sql_store.specs.Beside.{IsBeside, Keeps};
     ghost use Rattle.sql_store.specs.Views.{sql_view};
 
     /// A store in this database: in tables that it makes where the database has none of them, and else in those that
@@ -87,6 +88,9 @@ impl<A: Alter + Drop> SqlStable<A> {
             → ¬ Stands (state A.Store conn) c) }
         ensures migrates { IfOk result (λ s. HasCleanDisk (state A.Store s.conn) → (c : Stored)
             → IsFirst (state A.Store conn) c → found (sql_view A.Store s) ≡ Some c) }
+        ensures makes_anew { IfOk result (λ s. HasCleanDisk (state A.Store s.conn) → (c : Stored)
+            → IsFirst (state A.Store conn) c
+            → (state A.Store s.conn).now.schema ≡ stable_schema) }
         ensures recognized_first { IfErr result (λ e. e.0 ≡ NotOurs
             → HasCleanDisk (state A.Store e.1) → (c : Stored)
             → ¬ IsFirst (state A.Store conn) c) }
@@ -98,6 +102,29 @@ impl<A: Alter + Drop> SqlStable<A> {
             → Carries (state A.Store conn) (state A.Store s.conn) c c result) }
         ensures carries_back { IfErr result (λ e. HasCleanDisk (state A.Store e.1) → (c : Stored) → Stands (state A.Store conn) c
             → Carries (state A.Store conn) (state A.Store e.1) c c result) }
+        ensures stands { IfOk result (λ s. (state A.Store conn).now.schema ≡ no_schema
+            → Stands (state A.Store s.conn) empty) }
+        ensures stands_first { IfOk result (λ s. (c : Stored) → IsFirst (state A.Store conn) c
+            → Stands (state A.Store s.conn) c) }
+        ensures leaves { IfOk result (λ s. (state A.Store conn).now.schema ≡ no_schema
+            → StopLeaves (state A.Store conn) (state A.Store s.conn) empty) }
+        ensures leaves_back { IfErr result (λ e. (state A.Store conn).now.schema ≡ no_schema
+            → StopLeaves (state A.Store conn) (state A.Store e.1) empty) }
+        ensures leaves_first { IfOk result (λ s. (c : Stored) → IsFirst (state A.Store conn) c
+            → StopLeaves (state A.Store conn) (state A.Store s.conn) c) }
+        ensures leaves_first_back { IfErr result (λ e. (c : Stored) → IsFirst (state A.Store conn) c
+            → StopLeaves (state A.Store conn) (state A.Store e.1) c) }
+        ensures beside { IfOk result (λ s. HasCleanDisk (state A.Store s.conn) → (c : Stored)
+            → IsBeside (state A.Store conn) c → found (sql_view A.Store s) ≡ Some c) }
+        ensures recognized_beside { IfErr result (λ e. e.0 ≡ NotOurs
+            → HasCleanDisk (state A.Store e.1) → (c : Stored)
+            → ¬ IsBeside (state A.Store conn) c) }
+        ensures keeps_beside { IfOk result (λ s. HasCleanDisk (state A.Store s.conn) → (c : Stored)
+            → IsBeside (state A.Store conn) c
+            → Keeps (state A.Store conn) (state A.Store s.conn)) }
+        ensures keeps_beside_back { IfErr result (λ e. HasCleanDisk (state A.Store e.1)
+            → (c : Stored) → IsBeside (state A.Store conn) c
+            → Keeps (state A.Store conn) (state A.Store e.1)) }
     {
         let mut conn = conn;
         one_content_is_held();

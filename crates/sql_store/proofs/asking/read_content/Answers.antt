@@ -14,6 +14,8 @@ use Rattle.sql_store.proofs.Outside.{stays_any, stays_err}
 use Rattle.store_tables.proofs.Told.{told_by}
 use Rattle.sql_store.proofs.Loads.{quiets}
 use Rattle.sql_store.proofs.Recognized.{content_told}
+use Rattle.sql_store.specs.Reading.{AreAnswersOf}
+use Rattle.sql_store.proofs.Beside.{quiets_beside, beside_read, beside_told}
 use Rattle.sql_store.proofs.asking.read_content.Goals as goal
 
 pub returns-in_err-answers-clause-looks : goal.returns-in_err-answers-clause-looks
@@ -51,4 +53,33 @@ returns-clause-recognized g c is clean k stands =
     let old = state g.A.Store c.args.conn.now in
     let new = state g.A.Store c.answers.new.conn in
     content_told old new k c.in_ok-answers.field-0 c.deref.result.now same clean stands (c.in_ok-answers.ensures.looks stable_schema are_queries (quiets old k stands))
+    (λ six keyed. c.content_of.ensures.told is six keyed k)
+
+-- ---- tables beside others
+
+pub returns-in_err-answers-clause-beside : goal.returns-in_err-answers-clause-beside
+returns-in_err-answers-clause-beside g c k it =
+    let p = err_from_is_err_and c.from_residual.result c.from_residual.ensures.1 in
+    failed_reads (state g.A.Store c.args.conn.now) (state g.A.Store c.answers.new.conn) (λ d (all : Vec (Vec Row Global) Global). AreAnswersOf it.tables d queries (rows_of all.items))
+    (λ _ kept. held kept ≡ k) _ p.0 c.from_residual.result p.1
+    (c.in_err-answers.ensures.looks it.tables it.beside.asked (quiets_beside (state g.A.Store c.args.conn.now) k it))
+
+pub returns-clause-beside : goal.returns-clause-beside
+returns-clause-beside g c k it =
+    let same : c.deref.result.now ≡ c.in_ok-answers.field-0.items = search rules in
+    let old = state g.A.Store c.args.conn.now in
+    let new = state g.A.Store c.answers.new.conn in
+    beside_read old new k it c.in_ok-answers.field-0 (c.in_ok-answers.ensures.looks it.tables it.beside.asked (quiets_beside old k it)) c.one_content_is_held.ensures c.content_of.result
+    (subst (λ xs. IfOk c.content_of.result (λ h. Holds 0 (answered (rows_of xs)) (held h))) same c.content_of.ensures.found)
+
+pub returns-in_err-answers-clause-recognized_beside : goal.returns-in_err-answers-clause-recognized_beside
+returns-in_err-answers-clause-recognized_beside g c is clean k it =
+    c.in_err-answers.ensures.told (told_by c.from_residual.result c.in_err-answers.field-0.0 c.from_residual.ensures.1 is)
+
+pub returns-clause-recognized_beside : goal.returns-clause-recognized_beside
+returns-clause-recognized_beside g c is clean k it =
+    let same : c.deref.result.now ≡ c.in_ok-answers.field-0.items = search rules in
+    let old = state g.A.Store c.args.conn.now in
+    let new = state g.A.Store c.answers.new.conn in
+    beside_told old new k it c.in_ok-answers.field-0 (c.in_ok-answers.ensures.looks it.tables it.beside.asked (quiets_beside old k it)) c.deref.result.now same clean
     (λ six keyed. c.content_of.ensures.told is six keyed k)

@@ -10,7 +10,8 @@ use Rattle.store_tables.specs.First.{first_answered, HoldsFirst}
 use Rattle.store_tables.proofs.Told.{told_by}
 use Rattle.sql_store.specs.Reading.{AreAnswersOf, IsNumberOf}
 use Rattle.sql_store.proofs.Sequences.{failed_reads, and_reads}
-use Rattle.sql_store.proofs.FirstQueries.{first_queries, are_first_queries, first_text, first_count, count_text, number_there}
+use Rattle.sql_store.proofs.FirstQueries.{first_queries, are_first_queries, first_text, first_count, number_there}
+use Rattle.sql_store.proofs.Numbers.{count_text}
 use Rattle.sql_store.proofs.FirstRead.{first_quiets, first_still, content_read, first_told}
 use Rattle.sql_store.proofs.asking.read_first.Goals as goal
 

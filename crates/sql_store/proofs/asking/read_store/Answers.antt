@@ -49,3 +49,17 @@ returns-clause-recognized g c is clean k stands =
     let mid = state g.A.Store c.check_rowids.new.conn in
     c.read_content-2.ensures.recognized is clean k
     (stands_still old mid k (λ d (_ : Unit {0}). HaveRowids d.trees) (Ok c.in_ok-check_rowids.field-0) stands (c.in_ok-check_rowids.ensures.looks (quiets old k stands)))
+
+-- ---- tables beside others
+
+pub returns-in_err-check_rowids-clause-beside : goal.returns-in_err-check_rowids-clause-beside
+returns-in_err-check_rowids-clause-beside g c other k it = absurd (true≢false (sym c.if-not-is_known.false ∙ other))
+
+pub returns-clause-beside : goal.returns-clause-beside
+returns-clause-beside g c other k it = absurd (true≢false (sym c.if-not-is_known.false ∙ other))
+
+pub returns-in_err-check_rowids-clause-recognized_beside : goal.returns-in_err-check_rowids-clause-recognized_beside
+returns-in_err-check_rowids-clause-recognized_beside g c other is clean k it = absurd (true≢false (sym c.if-not-is_known.false ∙ other))
+
+pub returns-clause-recognized_beside : goal.returns-clause-recognized_beside
+returns-clause-recognized_beside g c other is clean k it = absurd (true≢false (sym c.if-not-is_known.false ∙ other))

@@ -2,7 +2,7 @@ use Rattle.std.proofs.lemmas.Result.{err_from_is_err_and}
 use Rattle.sqlite.specs.Held.{state}
 use Rattle.sql_store.proofs.Works.{works_then, works_err}
 use Rattle.sql_store.proofs.Looking.{clean_before}
-use Rattle.sql_store.proofs.Schemas.{then_laid}
+use Rattle.sql_store.proofs.Schemas.{then_laid, then_sound}
 use Rattle.sql_store.proofs.building.write_tables.Goals as goal
 
 pub returns-in_err-make_missing-clause-works : goal.returns-in_err-make_missing-clause-works
@@ -22,3 +22,11 @@ returns-clause-lays_out g c =
     let last = state g.A.Store c.put_numbers.new.tx.conn.now in
     then_laid c.args.layout first mid last c.put_numbers.result (clean_before mid last _ c.put_numbers.ensures.works.survives) c.in_ok-make_missing.ensures.lays_out
     c.put_numbers.ensures.lays_out
+
+pub returns-clause-sound : goal.returns-clause-sound
+returns-clause-sound g c =
+    let first = state g.A.Store c.args.tx.now.conn.now in
+    let mid = state g.A.Store c.make_missing.new.tx.conn.now in
+    let last = state g.A.Store c.put_numbers.new.tx.conn.now in
+    then_sound c.args.layout first mid last c.put_numbers.result (clean_before mid last _ c.put_numbers.ensures.works.survives) c.in_ok-make_missing.ensures.lays_out
+    c.put_numbers.ensures.sound

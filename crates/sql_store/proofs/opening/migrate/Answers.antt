@@ -1,13 +1,15 @@
 use Rattle.std.proofs.Common.{◌≡◌, codes, IfOk, IsTrue, Ok, Err, Some, option_map, refl, ap, subst, ◌∙◌}
+use Rattle.sqlite.specs.Effect.{Database}
 use Rattle.sqlite.specs.Held.{state}
 use Rattle.stable_store.specs.Held.{held}
 use Rattle.store_tables.specs.Tables.{first_schema}
 use Rattle.store_tables.proofs.Told.{told_by}
-use Rattle.sql_store.specs.Reading.{IsNumberOf}
+use Rattle.sql_store.specs.Reading.{IsNumberOf, StopLeaves}
 use Rattle.sql_store.proofs.Found.{on_err, err_leads}
-use Rattle.sql_store.proofs.Placed.{version_text}
+use Rattle.sql_store.proofs.Numbers.{version_text}
 use Rattle.sql_store.proofs.FirstQueries.{first_text, first_version, number_there}
 use Rattle.sql_store.proofs.FirstRead.{first_quiets, first_still, version_is}
+use Rattle.sql_store.proofs.Stops.{stop_looked, stop_after}
 use Rattle.sql_store.proofs.opening.migrate.Goals as goal
 
 pub returns-in_err-number_named-clause-recognized : goal.returns-in_err-number_named-clause-recognized
@@ -86,3 +88,76 @@ returns-in-Err-clause-refused g c clean k first up =
     let mid = first_still a b k (IsNumberOf first_schema version_text) (Ok c.in_ok-number_named.field-0) first looked in
     let read = c.in-Err.ensures.looks k mid in
     (read.err clean up).now ∙ (looked.ok (read.clean clean)).0.now
+
+-- ---- the schema
+
+pub returns-in-Ok-clause-makes : goal.returns-in-Ok-clause-makes
+returns-in-Ok-clause-makes g c clean k first =
+    let a = state g.A.Store c.args.conn.now in
+    let b = state g.A.Store c.number_named.new.conn in
+    let looked = c.in_ok-number_named.ensures.looks first_schema (first_text _ _ first_version) (first_quiets a k first) in
+    let mid = first_still a b k (IsNumberOf first_schema version_text) (Ok c.in_ok-number_named.field-0) first looked in
+    let read = c.in-Ok.ensures.looks k mid in
+    let before = c.lay_out.ensures.clean clean in
+    let was = looked.ok (read.clean before) in
+    let same = (read.ok before).0.now ∙ was.0.now in
+    c.lay_out.ensures.lays_out clean (ap (λ (d : Database). d.schema) same ∙ (first (looked.clean (read.clean before)) was.0.was_open).schema)
+
+pub returns-in-Err-NotOurs-clause-makes : goal.returns-in-Err-NotOurs-clause-makes
+returns-in-Err-NotOurs-clause-makes g c clean k first =
+    let a = state g.A.Store c.args.conn.now in
+    let b = state g.A.Store c.number_named.new.conn in
+    let looked = c.in_ok-number_named.ensures.looks first_schema (first_text _ _ first_version) (first_quiets a k first) in
+    let mid = first_still a b k (IsNumberOf first_schema version_text) (Ok c.in_ok-number_named.field-0) first looked in
+    absurd (c.in-Err-NotOurs.ensures.recognized (ap Err c.in-Err-NotOurs.field-0-is) clean k mid)
+
+-- ---- what a stop leaves
+
+pub returns-in_err-number_named-clause-leaves : goal.returns-in_err-number_named-clause-leaves
+returns-in_err-number_named-clause-leaves g c k first =
+    let a = state g.A.Store c.args.conn.now in
+    let b = state g.A.Store c.number_named.new.conn in
+    stop_looked a b (IsNumberOf first_schema version_text) _ k
+    (c.in_err-number_named.ensures.looks first_schema (first_text _ _ first_version) (first_quiets a k first))
+
+pub returns-then-branch-ne1-clause-leaves : goal.returns-then-branch-ne1-clause-leaves
+returns-then-branch-ne1-clause-leaves g c k first =
+    let a = state g.A.Store c.args.conn.now in
+    let b = state g.A.Store c.number_named.new.conn in
+    stop_looked a b (IsNumberOf first_schema version_text) _ k
+    (c.in_ok-number_named.ensures.looks first_schema (first_text _ _ first_version) (first_quiets a k first))
+
+pub returns-in-Ok-clause-leaves : goal.returns-in-Ok-clause-leaves
+returns-in-Ok-clause-leaves g c k first clean =
+    let a = state g.A.Store c.args.conn.now in
+    let b = state g.A.Store c.number_named.new.conn in
+    let d = state g.A.Store c.read_first.new.conn in
+    let e = state g.A.Store c.lay_out.new.conn in
+    let looked = c.in_ok-number_named.ensures.looks first_schema (first_text _ _ first_version) (first_quiets a k first) in
+    let mid = first_still a b k (IsNumberOf first_schema version_text) (Ok c.in_ok-number_named.field-0) first looked in
+    let read = c.in-Ok.ensures.looks k mid in
+    let before = c.lay_out.ensures.clean clean in
+    let was = looked.ok (read.clean before) in
+    let same = (read.ok before).0.now ∙ was.0.now in
+    let schema = ap (λ (x : Database). x.schema) same ∙ (first (looked.clean (read.clean before)) was.0.was_open).schema in
+    let made : StopLeaves d e k = subst (StopLeaves d e) (read.ok before).1 (c.lay_out.ensures.leaves (λ is. cc) schema) in
+    stop_after a b e (IsNumberOf first_schema version_text) _ k looked (λ h. read.clean (c.lay_out.ensures.clean h))
+    (stop_after b d e (λ _ kept. held kept ≡ k) _ k read c.lay_out.ensures.clean made) clean
+
+pub returns-in-Err-NotOurs-clause-leaves : goal.returns-in-Err-NotOurs-clause-leaves
+returns-in-Err-NotOurs-clause-leaves g c k first clean =
+    let a = state g.A.Store c.args.conn.now in
+    let b = state g.A.Store c.number_named.new.conn in
+    let looked = c.in_ok-number_named.ensures.looks first_schema (first_text _ _ first_version) (first_quiets a k first) in
+    let mid = first_still a b k (IsNumberOf first_schema version_text) (Ok c.in_ok-number_named.field-0) first looked in
+    absurd (c.in-Err-NotOurs.ensures.recognized (ap Err c.in-Err-NotOurs.field-0-is) clean k mid)
+
+pub returns-in-Err-clause-leaves : goal.returns-in-Err-clause-leaves
+returns-in-Err-clause-leaves g c k first =
+    let a = state g.A.Store c.args.conn.now in
+    let b = state g.A.Store c.number_named.new.conn in
+    let d = state g.A.Store c.read_first.new.conn in
+    let looked = c.in_ok-number_named.ensures.looks first_schema (first_text _ _ first_version) (first_quiets a k first) in
+    let mid = first_still a b k (IsNumberOf first_schema version_text) (Ok c.in_ok-number_named.field-0) first looked in
+    let read = c.in-Err.ensures.looks k mid in
+    stop_after a b d (IsNumberOf first_schema version_text) _ k looked read.clean (stop_looked b d (λ _ kept. held kept ≡ k) _ k read)

@@ -1,4 +1,5 @@
-use Rattle.std.proofs.Common.{Some, Err, IsTrue, ap, ◌∙◌}
+use Rattle.std.proofs.Common.{◌≡◌, inl, inr, Some, Err, IsTrue, ap, ◌∙◌}
+use Rattle.std.proofs.lemmas.Bool.{cases_Bool}
 use Rattle.sqlite.specs.Effect.{Database}
 use Rattle.sqlite.specs.Held.{state}
 use Rattle.stable_store.specs.Held.{held}
@@ -8,6 +9,8 @@ use Rattle.sql_store.proofs.Outside.{knows_still}
 use Rattle.sql_store.proofs.Loads.{quiets}
 use Rattle.sql_store.proofs.Found.{not_read}
 use Rattle.sql_store.proofs.Layouts.{looked_ok}
+use Rattle.sql_store.proofs.FirstRead.{then_seen}
+use Rattle.sql_store.proofs.Beside.{not_alone, stands_not}
 use Rattle.sql_store.proofs.opening.take.Goals as goal
 
 pub returns-in-Ok-clause-stands : goal.returns-in-Ok-clause-stands
@@ -50,3 +53,46 @@ returns-in-Err-clause-reads g c clean up k stands =
     let rest = stands (c.in-Err.ensures.outside.clean clean) up in
     let known : IsTrue c.is_alone-is_known.result = c.is_alone-is_known.ensures.found rest.mode rest.schema in
     not_read old new (λ d kept. IsLaidOut d.trees (held kept)) _ _ _ (c.in-Err.ensures.looks known (quiets old k stands))
+
+-- ---- tables beside others
+
+pub returns-in-Ok-clause-beside : goal.returns-in-Ok-clause-beside
+returns-in-Ok-clause-beside g c clean k it =
+    let old = state g.A.Store c.args.conn.now in
+    let new = state g.A.Store c.read_store.new.conn in
+    elim (cases_Bool c.is_alone-is_known.result) [
+      | inl known ↦
+          let alone = c.is_alone-is_known.ensures.alone known in
+          then_seen old new (λ d kept. IsLaidOut d.trees (held kept)) _ c.in-Ok.kept _ (c.in-Ok.ensures.looks known (quiet_alone old alone))
+          (λ was up seen. absurd (not_alone old k it alone was up))
+      | inr other ↦ looked_ok old new (λ _ kept. held kept ≡ k) _ c.in-Ok.kept _ (c.in-Ok.ensures.beside other k it) (λ h. ap (λ x. Some x) h)
+    ]
+
+pub returns-in-Err-NotOurs-clause-beside : goal.returns-in-Err-NotOurs-clause-beside
+returns-in-Err-NotOurs-clause-beside g c clean k it =
+    let old = state g.A.Store c.args.conn.now in
+    let told = ap Err c.in-Err-NotOurs.field-0-is in
+    let before = c.take_others.ensures.clean clean in
+    elim (cases_Bool c.is_alone-is_known.result) [
+      | inl known ↦ absurd (c.in-Err-NotOurs.ensures.recognized told before k (stands_not old k it (c.is_alone-is_known.ensures.alone known)))
+      | inr other ↦ absurd (c.in-Err-NotOurs.ensures.recognized_beside other told before k it)
+    ]
+
+pub returns-in-Err-NotOurs-clause-recognized_beside : goal.returns-in-Err-NotOurs-clause-recognized_beside
+returns-in-Err-NotOurs-clause-recognized_beside g c is clean k it =
+    let old = state g.A.Store c.args.conn.now in
+    let told = ap Err c.in-Err-NotOurs.field-0-is in
+    let before = c.take_others.ensures.clean clean in
+    elim (cases_Bool c.is_alone-is_known.result) [
+      | inl known ↦ absurd (c.in-Err-NotOurs.ensures.recognized told before k (stands_not old k it (c.is_alone-is_known.ensures.alone known)))
+      | inr other ↦ absurd (c.in-Err-NotOurs.ensures.recognized_beside other told before k it)
+    ]
+
+pub returns-in-Err-clause-beside : goal.returns-in-Err-clause-beside
+returns-in-Err-clause-beside g c clean k it =
+    let old = state g.A.Store c.args.conn.now in
+    let new = state g.A.Store c.read_store.new.conn in
+    elim (cases_Bool c.is_alone-is_known.result) [
+      | inl known ↦ not_read old new (λ d kept. IsLaidOut d.trees (held kept)) _ _ _ (c.in-Err.ensures.looks known (quiet_alone old (c.is_alone-is_known.ensures.alone known)))
+      | inr other ↦ not_read old new (λ _ kept. held kept ≡ k) _ _ _ (c.in-Err.ensures.beside other k it)
+    ]
