@@ -1,11 +1,12 @@
 -- What the locks have kept at the end of a run: the histories that the run leaves.
-use Rattle.std.proofs.Common.{List, Some, [], ap, arith, length, map, refl, reverse, slice_get, subst, suc, sym, take, zero, ℕ, ◌+◌, ◌++◌, ◌<◌, ◌∙◌, ◌∷◌, ◌≡◌}
-use Rattle.std.proofs.lemmas.List.{length-map, map-append}
-use Rattle.std.proofs.lemmas.Option.{none-some, same_Some, slice_get_within}
+use Rattle.std.proofs.Common.{List, Some, [], ap, arith, length, map, refl, reverse, slice_get, subst, suc, sym, true, ℕ, ◌+◌, ◌<◌, ◌∙◌, ◌∷◌, ◌≡◌}
+use Rattle.std.proofs.lemmas.List.{length-map}
+use Rattle.std.proofs.lemmas.Option.{same_Some, slice_get_within}
 use Rattle.std.specs.Prelude.{IsPermutation}
 use Rattle.run_model.specs.declared.history.Event.{Event}
 use Rattle.run_model.specs.Gathering.{Histories, all_copies, by_stamp}
 use Rattle.run_model.specs.Lists.{guardians_of}
+use Rattle.run_model.specs.LocalHistories.{events_there}
 use Rattle.run_model.specs.Openings.{Opening, OpeningLists, Setup, opening_in}
 use Rattle.run_model.specs.Runs.{IsRun, World, new_world}
 use Rattle.run_laws.specs.Serving.{IsServed}
@@ -15,9 +16,10 @@ use Rattle.stable_store.specs.declared.plain.PlainStable.{PlainStable}
 use Rattle.layer_contracts.specs.Forests.{ForestState}
 use Rattle.layer_contracts.specs.Guardians.{GuardianState}
 use Rattle.guardian.specs.Guardians.{InParts, IsWhole}
-use Rattle.world_steps.specs.Standings.{IsWorld}
+use Rattle.world_steps.specs.Standings.{IsWorld, forest_of}
 use Rattle.registry.specs.Registries.{InRegistry}
 use Rattle.script_model.specs.declared.checked.Checked.{Checked}
+use Rattle.activities.specs.Continuing.{EndsAll}
 use Rattle.activities.specs.declared.client.ClientEnd.{ClientEnd}
 use Rattle.locked_run.specs.Closing.{AreEnds, IsClosed, beginnings}
 use Rattle.locked_run.specs.declared.closing.Ended.{Ended}
@@ -27,20 +29,10 @@ use Rattle.tracer.proofs.Left.{get_up, runs_are_gathered, up_count}
 use Rattle.client_threads.specs.Clients.{AllDid}
 use Rattle.script_engine.specs.Running.{Bases}
 use Rattle.script_runs.specs.SerialRuns.{all_bases}
-use Rattle.script_threads.specs.ThreadRuns.{AreAt, ComesOf, HaveKept, kept_histories, kept_run}
+use Rattle.script_threads.specs.Ended.{have_ended_there}
+use Rattle.script_threads.specs.ThreadRuns.{AreAt, ComesOf, HaveKept, begun_in, kept_histories, kept_run}
+use Rattle.script_threads.proofs.AllEnded.{all_ended}
 use Rattle.script_threads.proofs.Standing.{are_at}
-
--- the first elements, with the next one
-pub next_taken : {X : Type 0} (xs : List X) (i : ℕ) (x : X) → slice_get xs i ≡ Some x → take (i + 1) xs ≡ take i xs ++ x ∷ []
-next_taken [] i x at = absurd (none-some x at)
-next_taken (y ∷ ys) zero x at = ap (λ z. z ∷ []) (same_Some y x at)
-next_taken (y ∷ ys) (suc i) x at =
-    let next : suc i + 1 ≡ suc (i + 1) = omega arith in
-    ap (λ n. take n (y ∷ ys)) next ∙ ap (λ zs. y ∷ zs) (next_taken ys i x at)
-
--- and what they are mapped to
-pub next_mapped : {X Y : Type 0} (f : X → Y) (xs : List X) (i : ℕ) (x : X) → slice_get xs i ≡ Some x → map f (take (i + 1) xs) ≡ map f (take i xs) ++ f x ∷ []
-next_mapped f xs i x at = ap (map f) (next_taken xs i x at) ∙ map-append f (take i xs) (x ∷ [])
 
 -- two maps of two lists agree if they agree at each place
 same_maps : {X Y Z : Type 0} (f : X → Z) (g : Y → Z) (xs : List X) (ys : List Y) → length xs ≡ length ys
@@ -110,13 +102,23 @@ module _ (script : Checked) (lists : OpeningLists) (opening : Opening) (same : o
       subst (λ past. AreAt (record { lists = lists; past = past }) lists.setup ends.guardians.items) (sym run_is)
       (are_at lists opening closed.past stored (forest ends.registry.value) ends.guardians.items same closed.ends.world)
 
+  pub all_have_ended : have_ended_there (events_there (forest_of opening closed.past).registry) (reverse ends.registry.history) ≡ true
+      → EndsAll (begun_in lists) (record { lists = lists; past = kept_run ends })
+  all_have_ended fine =
+      let kept = subst (λ history. have_ended_there (events_there (forest_of opening closed.past).registry) (reverse history) ≡ true)
+      closed.ends.registry fine in
+      subst (λ past. EndsAll (begun_in lists) (record { lists = lists; past = past })) (sym run_is)
+      (all_ended lists opening closed.past closed.ends.world.is_run kept)
+
   pub came_of : (clients : List ClientEnd) (bases : Bases) → AllDid script.clients clients receipts
+      → EndsAll (begun_in lists) (record { lists = lists; past = kept_run ends })
       → bases ≡ all_bases (record { lists = lists; past = kept_run ends }) → ComesOf script lists clients bases (kept_run ends)
-  came_of clients bases did left = record {
+  came_of clients bases did ended left = record {
     served = subst (IsServed (opening_in lists)) (sym run_is) (subst (λ o. IsServed o closed.past) same closed.served);
     receipts = receipts;
     did = did;
     all = subst (λ past. IsPermutation receipts (beginnings past)) (sym run_is) closed.receipts;
+    ended = ended;
     left = left;
   }
 

@@ -1,3 +1,5 @@
+pub mod Places
 pub mod Standing
+pub mod AllEnded
 pub mod Kept
 pub mod Crossing

@@ -1,1 +1,2 @@
 pub mod ThreadRuns
+pub mod Ended

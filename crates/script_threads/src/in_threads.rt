@@ -12,6 +12,7 @@ ghost use Rattle.client_threads.specs.Clients.{AllDid};
 ghost use Rattle.script_runs.specs.SerialRuns.{all_bases, bases_at};
 ghost use Rattle.script_threads.specs.ThreadRuns.{AreAt, ComesOf, HaveKept, IsOfThreads, StandsAt, kept_run};
 
+use crate::ended::have_all_ended;
 use crate::watching::{Watched, Watching, keep_watch};
 use activities::ClientEnd;
 use argus_engine::Fault;
@@ -38,7 +39,8 @@ use values::Content;
 use world::World;
 
 /// Runs each client, and each arm of a `coenter`, in a thread of its own, in a new system whose stores are in memory. A
-/// fault is out of memory, a guardian that has drawn all its stamps, a receipt that is missing, or a time that is over.
+/// fault is out of memory, a guardian that has drawn all its stamps, a receipt that is missing, an action that has not
+/// ended, or a time that is over.
 /// Where no thread can be made for the clients, the first thread runs them and does not watch.
 #[derive(Clone, Copy)]
 pub struct InThreads<'a, H> {
@@ -168,6 +170,9 @@ fn in_run<K: OfRun + Send + Sync, H: Threads + Wait + Sync, C: Wait + Clock + Ep
     };
     match runtime.close_all(receipts) {
         Ok(closed) => {
+            if !have_all_ended(&closed.registry)? {
+                return Err(Fault::Open);
+            }
             let Ok(bases) = bases_of(alloc, opening.setup(), closed.guardians.as_slice()) else {
                 return Err(Fault::Memory);
             };

@@ -1,5 +1,5 @@
 use Rattle.std.proofs.Common.{[], ap, reverse, sym, ◌++◌, ◌∙◌, ◌∷◌}
-use Rattle.script_threads.proofs.Kept.{next_taken}
+use Rattle.script_threads.proofs.Places.{next_taken}
 use Rattle.script_threads.proofs.in_threads.kept_events.Goals as goal
 
 pub loop-place-preserved : goal.loop-place-preserved
