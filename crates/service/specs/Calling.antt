@@ -1,0 +1,79 @@
+-- What a call of a service does and gives, by the step that it makes.
+use Rattle.std.specs.Prelude.{◌≡◌, ◌⊎◌, ℕ, Bool, true, false, List, [], ◌∷◌, Some, None, Result, Ok, Err, IfErr, IsTrue, OnErr, OnOk}
+use Rattle.action_names.specs.Names.{Name}
+use Rattle.atomic_types.specs.declared.op.Reply.{Reply}
+use Rattle.run_model.specs.declared.answer.Answer.{Answer}
+use Rattle.run_model.specs.declared.answer.Answer.TheVariants as answers
+use Rattle.run_model.specs.declared.step.Step.{Step}
+use Rattle.run_model.specs.declared.step.Step.TheVariants as steps
+use Rattle.run_model.specs.Answers.{answer_of}
+use Rattle.run_model.specs.Openings.{opening_in}
+use Rattle.run_model.specs.Runs.{World, is_accepted}
+use Rattle.stepping.specs.Stepping.{IsMade, Leaves}
+use Rattle.service.specs.declared.fault.CallFault.{CallFault}
+use Rattle.service.specs.declared.fault.CallFault.TheVariants.{Refused, Waits, Failed}
+
+-- ---- what is given of an answer
+
+-- the answer itself, of a step that happened
+abbrev pub IsAccepted : Answer → Answer → Type 0
+IsAccepted given answer = (answer ≡ given) × IsTrue (is_accepted given)
+
+-- the one action that began
+abbrev pub BeganOne : Name → Answer → Type 0
+BeganOne name answer = answer ≡ answers.Began (name ∷ [])
+
+-- the actions that began
+abbrev pub BeganThese : List Name → Answer → Type 0
+BeganThese names answer = answer ≡ answers.Began names
+
+-- the reply of an operation that is granted
+abbrev pub IsReply : Reply → Answer → Type 0
+IsReply reply answer = answer ≡ answers.Granted reply
+
+-- nothing but that the step happened
+abbrev pub IsDone : Unit {0} → Answer → Type 0
+IsDone _ answer = answer ≡ answers.Done 0
+
+-- whether a guardian votes yes
+abbrev pub IsVote : Bool → Answer → Type 0
+IsVote true answer = answer ≡ answers.VoteYes
+IsVote false answer = answer ≡ answers.VoteNo
+
+-- how many objects a telling changed
+abbrev pub Told : ℕ → Answer → Type 0
+Told count answer = answer ≡ answers.Done count
+
+-- ---- calls
+
+-- The call gives this of the answer, or says why the step did not happen.
+abbrev pub Gives : {T : Type 0} → (T → Answer → Type 0) → Answer → Result T CallFault → Type 0
+Gives Shows answer (Ok x) = Shows x answer
+Gives Shows answer (Err (Refused why)) = answer ≡ answers.Refused why
+Gives Shows answer (Err (Waits names)) = answer ≡ answers.Waits names
+Gives Shows answer (Err (Failed fault)) = Unit {0}
+
+-- so the stores are left by a step that did not happen; memory may run out before it is made
+abbrev pub LeavesStores : {M : Type 0} → Leaves M → Step → M → M → CallFault → Type 0
+LeavesStores leaves step old new (Refused why) = leaves step None old new
+LeavesStores leaves step old new (Waits names) = leaves step None old new
+LeavesStores leaves step old new (Failed fault) = (new ≡ old) ⊎ leaves step (Some fault) old new
+
+-- The call made this step, or it says why the step did not happen, and then nothing has.
+pub record IsCall {T M : Type 0} (run : M → World) (leaves : Leaves M) (step : Step) (Shows : T → Answer → Type 0) (old new : M)
+    (result : Result T CallFault) : Type 0 where
+  pub gives : Gives Shows (answer_of (opening_in (run old).lists) step (run old).past) result
+  pub made : OnOk result (IsMade run leaves step old new)
+  pub same : OnErr result (run new ≡ run old)
+  pub stores : IfErr result (LeavesStores leaves step old new)
+
+-- ---- steps that are answered 0 if they happen
+
+abbrev pub IsFinishing : Step → Type 0
+IsFinishing (steps.Commit a) = Unit {0}
+IsFinishing (steps.Close t) = Unit {0}
+IsFinishing (steps.Decide t) = Unit {0}
+IsFinishing (steps.Abort a) = Unit {0}
+IsFinishing (steps.Crash g) = Unit {0}
+IsFinishing (steps.Recover g) = Unit {0}
+IsFinishing _ = ⊥

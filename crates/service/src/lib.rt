@@ -1,0 +1,13 @@
+//! A world as a service calls it: each step by a method that gives what the step is for.
+//!
+//! A step that is refused, or whose operation waits, is an error here, and so is a fault.
+#![tactic(auto)]
+
+mod answered;
+mod fault;
+mod operations;
+mod service;
+
+pub use fault::CallFault;
+pub use operations::{change, get, is, set, value_of};
+pub use service::Service;
