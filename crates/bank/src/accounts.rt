@@ -1,5 +1,6 @@
 //! Accounts, actions and payments, and how they are written.
 
+use run_model::ObjectId;
 use std::fmt;
 
 /// An account: an object of a branch.
@@ -10,19 +11,22 @@ pub(crate) struct Account {
     pub(crate) number: u32,
 }
 
+impl Account {
+    /// The object of its branch.
+    pub(crate) fn object(self) -> ObjectId {
+        ObjectId {
+            guardian: self.branch,
+            number: self.number,
+        }
+    }
+}
+
 /// A payment from one branch to the other.
 #[derive(Clone, Copy, Debug, PartialEq, Eq)]
 pub(crate) struct Payment {
     pub(crate) from: Account,
     pub(crate) to: Account,
     pub(crate) amount: i64,
-}
-
-/// A subaction: the number of its top action, and its own.
-#[derive(Clone, Copy, Debug, PartialEq, Eq)]
-pub(crate) struct Subaction {
-    pub(crate) top: u32,
-    pub(crate) number: u32,
 }
 
 /// How a payment ended.
@@ -33,18 +37,6 @@ pub(crate) enum Outcome {
     LacksMoney,
     /// A branch voted no, since it had crashed in between.
     VotedDown,
-}
-
-impl fmt::Display for Account {
-    fn fmt<W: fmt::Write>(&self, f: &mut fmt::Formatter<W>) -> fmt::Result {
-        write!(f, "{}/{}", self.branch, self.number)
-    }
-}
-
-impl fmt::Display for Subaction {
-    fn fmt<W: fmt::Write>(&self, f: &mut fmt::Formatter<W>) -> fmt::Result {
-        write!(f, "{}.{}", self.top, self.number)
-    }
 }
 
 impl fmt::Display for Payment {

@@ -1,9 +1,11 @@
 //! Why the bank stops.
 
 use run_model::SetupFault;
+use service::CallFault;
 use std::alloc::AllocError;
 use std::io;
 use thiserror::Error;
+use values::ValueFault;
 use world::Fault;
 
 /// Why the bank stops.
@@ -13,8 +15,10 @@ pub(crate) enum BankFault {
     Memory,
     #[error("the setup is none")]
     Setup,
-    #[error("a line is no step")]
-    Line,
+    #[error("the field of a balance has no name")]
+    NoName,
+    #[error("an object is no account")]
+    NoAccount,
     #[error("a step was refused, or had to wait")]
     Refused,
     #[error("a store failed")]
@@ -29,11 +33,21 @@ impl From<AllocError> for BankFault {
     }
 }
 
-impl From<Fault> for BankFault {
-    fn from(fault: Fault) -> BankFault {
+impl From<CallFault> for BankFault {
+    fn from(fault: CallFault) -> BankFault {
         match fault {
-            Fault::Memory => BankFault::Memory,
-            Fault::Stable => BankFault::Store,
+            CallFault::Refused(_) | CallFault::Waits(_) => BankFault::Refused,
+            CallFault::Failed(Fault::Memory) => BankFault::Memory,
+            CallFault::Failed(Fault::Stable) => BankFault::Store,
+        }
+    }
+}
+
+impl From<ValueFault> for BankFault {
+    fn from(fault: ValueFault) -> BankFault {
+        match fault {
+            ValueFault::Unfit => BankFault::NoName,
+            ValueFault::Memory => BankFault::Memory,
         }
     }
 }

@@ -5,7 +5,6 @@
 mod accounts;
 mod bank;
 mod fault;
-mod said;
 
 use accounts::{Account, Payment};
 use bank::Bank;
@@ -84,10 +83,10 @@ fn show_balances(rt: &HostRuntime, bank: &mut Bank) -> Result<(), BankFault> {
     let mut text = String::new(rt.alloc());
     let top = bank.begin(1)?;
     for account in [ANN, BEN, CLEO, DAN] {
-        let balance = bank.balance(top, account)?;
+        let balance = bank.balance(&top, account)?;
         writeln!(text, "{} has {balance}", account.owner)?;
     }
-    if !bank.commit(top)? {
+    if !bank.commit(&top)? {
         return Err(BankFault::Refused);
     }
     print!(rt; "{text}")?;
