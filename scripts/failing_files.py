@@ -4,7 +4,10 @@ import shutil
 import subprocess
 import tempfile
 
-from soaking import EXAMPLES, SECONDS, Came, compared, examples, run, script_files, status_of, trace_files
+from examples import (
+    EXAMPLES, answers_of, explained, said_of, script_folders, status_of, status_of_trace, step_folders, trace_folders,
+)  # fmt: skip
+from soaking import SECONDS, Came, compared, run
 
 FULL = Came(2, b"", b"fault output\n")
 NO_INPUT = Came(2, b"", b"fault input\n")
@@ -22,34 +25,44 @@ def written(program, words, most, to=None):
         return Came(done.returncode, done.stdout or b"", done.stderr), out.read_bytes()
 
 
-def limited(program, words, most, to, ample, answers):
-    """What is wrong where a file has room for so many bytes, or nothing. With ample room the run came and left this."""
-    came, whole = ample
-    wanted = (came if most == len(whole) else FULL._replace(written=answers)), whole[:most]
+def limited(program, words, most, to, whole, ends, answers):
+    """What is wrong where a file has room for so many bytes, or nothing. With room for the whole, the run ends so."""
+    wanted = (ends if most == len(whole) else FULL._replace(written=answers)), whole[:most]
     return compared(written(program, words, most, to), wanted)
 
 
-def each_room(name, program, words, to=None, answers=b""):
+def each_room(name, program, words, whole, ends=Came(0, b"", b""), to=None, answers=b""):
     """Trials of a run whose file has room for no byte, for one, and so on. The answers come before the file is written."""
-    ample = written(program, words, 2**30, to)
-    for most in range(len(ample[1]) + 1):
-        yield f"{name}: {to or 'standard output'} of {most} bytes", limited, program, words, most, to, ample, answers
+    for most in range(len(whole) + 1):
+        of = f"{name}: {to or 'standard output'} of {most} bytes"
+        yield of, limited, program, words, most, to, whole, ends, answers
 
 
 def writers(program):
-    for folder in examples()[::4] + [EXAMPLES / "transfer"]:
-        steps = ["steps", folder / "setup.json", folder / "steps"]
-        yield from each_room(folder.name, program, steps)
-    picture = EXAMPLES / "coordinator-crashes"
-    answers = (picture / "answers").read_bytes()
-    yield from each_room(picture.name, program, ["steps", picture / "setup.json", picture / "steps"], "--picture", answers)
-    for file in trace_files():
-        yield from each_room(file.parent.name, program, ["trace", file])
-    for file in script_files():
-        yield from each_room(file.parent.name, program, ["check", file])
-        if (file.parent / "ran").exists():
-            yield from each_room(file.parent.name, program, ["run", "--serial", file])
-    yield from each_room("take", program, ["run", "--serial", EXAMPLES / "scripts/take/script.json"], "--trace")
+    for folder in step_folders()[::4] + [EXAMPLES / "prepared-read-lock-lost", EXAMPLES / "transfer"]:
+        steps = ["steps", *explained(folder), folder / "setup.json", folder / "steps"]
+        ends = Came(status_of(folder), b"", b"")
+        yield from each_room(folder.name, program, steps, (folder / "answers").read_bytes(), ends)
+    for folder in trace_folders():
+        told = (folder / "told").read_bytes()
+        ends = Came(status_of_trace(told), b"", b"")
+        yield from each_room(folder.name, program, ["trace", *explained(folder), folder / "trace"], told, ends)
+    for folder in script_folders():
+        script, said = folder / "script.json", said_of(folder)
+        ends = Came(0 if said == b"ok\n" else 1, b"", b"")
+        yield from each_room(folder.name, program, ["check", script], said, ends)
+        if (folder / "ran").exists():
+            yield from each_room(folder.name, program, ["run", "--serial", script], (folder / "ran").read_bytes())
+    yield from other_files(program)
+
+
+def other_files(program):
+    drawn, script = EXAMPLES / "coordinator-crashes", EXAMPLES / "scripts/take"
+    answers, picture = (drawn / "answers").read_bytes(), (EXAMPLES.parent / "docs/picture.svg").read_bytes()
+    steps, came = ["steps", drawn / "setup.json", drawn / "steps"], Came(0, answers, b"")
+    yield from each_room(drawn.name, program, steps, picture, came, "--picture", answers)
+    trace, came = (EXAMPLES / "traces/take/trace").read_bytes(), Came(0, (script / "ran").read_bytes(), b"")
+    yield from each_room(script.name, program, ["run", "--serial", script / "script.json"], trace, came, "--trace")
 
 
 def byte_by_byte(program, folder):
@@ -60,7 +73,7 @@ def byte_by_byte(program, folder):
         for byte in (folder / "steps").read_bytes():
             running.stdin.write(bytes([byte]))
         came = running.communicate(timeout=SECONDS)
-    return compared(Came(running.returncode, *came), Came(status_of(folder), (folder / "answers").read_bytes(), b""))
+    return compared(Came(running.returncode, *came), Came(status_of(folder), answers_of(folder), b""))
 
 
 def closed_pipe(program, *words):
@@ -92,7 +105,7 @@ def devices(given):
         print("devices: skipped, since there is no prlimit")
         return
     yield from readers(given.program)
-    for folder in examples():
+    for folder in step_folders():
         yield f"{folder.name}: byte by byte", byte_by_byte, given.program, folder
     transfer = EXAMPLES / "transfer"
     yield "steps: a closed pipe", closed_pipe, given.program, "steps", transfer / "setup.json", transfer / "steps"
@@ -107,7 +120,8 @@ STEPS = [TRANSFER / "setup.json", TRANSFER / "steps"]
 MISTAKES = [
     [], ["x"], ["Steps", *STEPS], ["steps"], ["steps", STEPS[0]], ["steps", *STEPS, "x"], ["steps", "--x", *STEPS],
     ["steps", *STEPS, "--store"], ["steps", *STEPS, "--explain"], ["steps", *STEPS, "--picture"], ["steps", "--serial", *STEPS],
-    ["steps", "--from", "x", *STEPS], ["steps", "--to", str(2**64), *STEPS], ["steps", "--from", "1.5", *STEPS], ["check"],
+    ["steps", "--from", "x", *STEPS], ["steps", "--to", str(2**64), *STEPS], ["steps", "--from", "1.5", *STEPS],
+    ["steps", "--from", "0", *STEPS], ["steps", "--to", "0", *STEPS], ["check"],
     ["check", TAKE, TAKE], ["run"], ["run", TAKE, "--seconds"], ["run", "--reopen", TAKE], ["run", "--serial=1", TAKE], ["trace"],
     ["trace", "--store", TAKE, TAKE], [b"\xff"], ["steps", b"\xff", STEPS[1]], ["check", b"\xff"], ["x" * 100_000],
 ]  # fmt: skip

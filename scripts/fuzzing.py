@@ -16,10 +16,11 @@ from typing import NamedTuple
 from xml.etree import ElementTree
 
 import spellings
+from examples import script_folders, step_folders, trace_folders, two_phases
 from histories import Copy, Event, least_failing
 from mutating import JSON, STORE, TEXT, mutated
-from soaking import BATCH, NEW_ACTION, Came, compared, examples, run, script_files, trace_files, two_phases, with_file
-from spoilt_stores import REFUSED, wrong_opening, with_stores
+from soaking import BATCH, NEW_ACTION, Came, compared, run, with_file
+from spoilt_stores import REFUSED, first_file, settle, with_stores, wrong_opening
 
 THREADED = "3"  # seconds of a run in threads
 STORED = 0.1  # of all mutants, those that are stores
@@ -214,6 +215,7 @@ class Judge:
     def store(self):
         def use(stores):
             file = stores / "g1.db"
+            settle(file)
             file.write_bytes(self.mutant.content)
             came = self.run(
                 "steps", "--store", stores, "--reopen", self.mutant.beside / "setup.json", "-", given=NEW_ACTION
@@ -244,14 +246,13 @@ REPAIRS = {"steps": only_steps, "trace": only_lines}
 
 def seeds(program):
     """The examples, by their kinds: what is changed, and what stands beside it."""
-    first = lambda stores: (stores / "g1.db").read_bytes()
-    pairs = [((folder / "steps").read_bytes(), (folder / "setup.json").read_bytes()) for folder in examples()]
+    pairs = [((folder / "steps").read_bytes(), (folder / "setup.json").read_bytes()) for folder in step_folders()]
     return {
         "steps": (TEXT, pairs),
         "setup": (JSON, [(setup, steps) for steps, setup in pairs]),
-        "script": (JSON, [(file.read_bytes(), None) for file in script_files()]),
-        "trace": (TEXT, [(file.read_bytes(), None) for file in trace_files()]),
-        "store": (STORE, [(with_stores(program, folder, first), folder) for folder in two_phases()]),
+        "script": (JSON, [((folder / "script.json").read_bytes(), None) for folder in script_folders()]),
+        "trace": (TEXT, [((folder / "trace").read_bytes(), None) for folder in trace_folders()]),
+        "store": (STORE, [(first_file(program, folder), folder) for folder in two_phases()]),
     }
 
 

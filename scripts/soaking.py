@@ -1,5 +1,4 @@
-"""What the sections of soak share: how they run the built program, and the examples."""
-import pathlib
+"""What the sections of soak share: how they run the built program."""
 import subprocess
 import sys
 import tempfile
@@ -7,7 +6,6 @@ from typing import NamedTuple
 
 sys.dont_write_bytecode = True
 
-EXAMPLES = pathlib.Path(__file__).resolve().parent.parent / "examples"
 SECONDS = 20  # of one run
 AT_ONCE = 4
 BATCH = 8 * AT_ONCE  # trials that are begun before the time is looked at
@@ -59,27 +57,3 @@ def with_file(content, use):
         file.write(content)
         file.flush()
         return use(file.name)
-
-
-# ---- examples
-
-
-def examples():
-    return sorted(folder for folder in EXAMPLES.iterdir() if (folder / "steps").exists())
-
-
-def two_phases():
-    return [folder for folder in examples() if b"prepare" in (folder / "steps").read_bytes()]
-
-
-def script_files():
-    return sorted(EXAMPLES.glob("scripts/*/script.json"))
-
-
-def trace_files():
-    return sorted(EXAMPLES.glob("traces/*/trace"))
-
-
-def status_of(folder):
-    file = folder / "status"
-    return int(file.read_text()) if file.exists() else 0

@@ -1,11 +1,13 @@
 """The sections of soak for cut and spoilt steps, setups and scripts, for those at a limit or beyond it, and for pictures."""
 import json
 import pathlib
+import re
 import tempfile
 from xml.etree import ElementTree
 
 import spellings
-from soaking import EXAMPLES, NEW_ACTION, Came, compared, examples, run, script_files, status_of, with_file
+from examples import EXAMPLES, script_folders, status_of, step_folders
+from soaking import NEW_ACTION, Came, compared, run, with_file
 
 OK = Came(0, b"ok\n", b"")
 
@@ -34,10 +36,11 @@ def cut_script(program, file, length):
 
 
 def cut(given):
-    for folder in examples():
+    for folder in step_folders():
         for length in range(len((folder / "steps").read_bytes()) + 1):
             yield f"{folder.name}: steps cut after {length} bytes", cut_steps, given.program, folder, length
-    files = [(cut_setup, folder / "setup.json") for folder in examples()] + [(cut_script, file) for file in script_files()]
+    files = [(cut_setup, folder / "setup.json") for folder in step_folders()]
+    files += [(cut_script, folder / "script.json") for folder in script_folders()]
     for trial, file in files:
         for length in range(len(file.read_bytes().rstrip())):
             yield f"{file.parent.name}: {file.name} cut after {length} bytes", trial, given.program, file, length
@@ -310,12 +313,13 @@ def limits(given):
 
 STEPS_DRAWN = 2_500
 TEXTS = ["<&>\"'", "]]>", "<!--", "&#0;", "\0\x1f\x7f\x85", "\t\n\r", "\ufffe\uffff\ufffd", "\U0010ffff", "é\u202e", "a" * 1_024]
-# The options, and the first and the last event that are shown.
+# The options, and the first and the last event that are shown; no event if the last is the lesser.
 WINDOWS = [
     ([], 501, 2_500), (["--from", "1"], 1, 2_000), (["--from", "100"], 100, 2_099), (["--from", "2400"], 2_400, 2_500),
     (["--to", "2100"], 101, 2_100), (["--to", "9"], 1, 9), (["--from", "7", "--to", "7"], 7, 7),
     (["--from", "2", "--to", "2500"], 2, 2_001),
-    (["--to", str(2**64 - 1)], 501, 2_500),
+    (["--to", str(2**64 - 1)], 501, 2_500), (["--from", "2500"], 2_500, 2_500), (["--from", "2501"], 2_501, 2_500),
+    (["--from", "9", "--to", "8"], 9, 8),
 ]  # fmt: skip
 
 
@@ -330,17 +334,28 @@ def drawn(program, setup, steps, *options):
         return ElementTree.parse(out)
 
 
+def titles(picture):
+    return [it.text for it in picture.iter() if it.tag.endswith("title")]
+
+
 def drawn_text(program, text):
-    """Each document with the text in its setup, in an operation and in a reply is one of XML."""
-    steps = "top 1\nop 1 1/1 get a\nop 1 1/1 set a %s\n" % json.dumps(text, ensure_ascii=False)
-    drawn(program, setup_of({"record": {"a": text}}), steps.encode())
+    """A picture shows the text in a reply and in an operation. XML lacks two of its characters."""
+    spelled = json.dumps(text, ensure_ascii=False)
+    steps = f"top 1\nop 1 1/1 get a\nop 1 1/1 set a {spelled}\n"
+    picture = drawn(program, setup_of({"record": {"a": text}}), steps.encode())
+    shown = re.sub("[\ufffe\uffff]", "\ufffd", spelled)
+    ends = f"get a -> {shown}", f"set a {shown} -> done"
+    missing = [end for end in ends if not any(it.endswith(end) for it in titles(picture))]
+    return f"{missing} is not shown" if missing else None
 
 
 def drawn_window(program, options, first, last):
     steps = b"top 1\n" + b"op 1 1/1 add 1\n" * (STEPS_DRAWN - 1)
     picture = drawn(program, setup_of({"counter": 0}), steps, *options)
     said = [it.text for it in picture.iter() if it.get("class") == "window"]
-    return compared(said, [f"Events {first} to {last} of {STEPS_DRAWN} are shown."])
+    some, none = f"Events {first} to {last} of {STEPS_DRAWN} are shown.", f"No event of {STEPS_DRAWN} is shown."
+    numbers = sorted(int(it.split()[1].rstrip(":")) for it in titles(picture) if it.endswith(" 1/1 add 1 -> done"))
+    return compared(said, [some if first <= last else none]) or compared(numbers, list(range(max(2, first), last + 1)))
 
 
 def pictures(given):

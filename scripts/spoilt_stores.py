@@ -1,16 +1,17 @@
 """The sections of soak over stores in files: a full disk, files that are no stores, and turned bits."""
 import contextlib
+import functools
 import itertools
 import json
 import os
 import pathlib
 import random
-import shutil
 import sqlite3
 import subprocess
 import tempfile
 
-from soaking import NEW_ACTION, Came, compared, examples, run, status_of, two_phases
+from examples import answers_of, next_top, status_of, two_phases
+from soaking import NEW_ACTION, Came, run
 
 REFUSED = Came(1, b"error store\n", b"")
 FAILED = Came(2, b"", b"fault store\n")
@@ -48,13 +49,17 @@ def small_disk(program, folder, size):
 
 
 def on_small_disk(program, folder, disk):
-    wanted = (folder / "answers").read_bytes()
+    wanted = answers_of(folder)
     came = run(program, "steps", "--store", disk, folder / "setup.json", folder / "steps")
     is_full = came.status == 2 and came.fault == b"fault store\n" and wanted.startswith(came.written)
     if not is_full and came != Came(status_of(folder), wanted, b""):
         return f"{came}; wanted the answers, or a beginning of them and 'fault store'"
     subprocess.run(["mount", "-o", "remount,size=16m", disk], check=True)
-    return opened(program, folder, disk)
+    again, made = open_again(program, folder, disk), came.written.count(b"\n")
+    steps, answers = (folder / "steps").read_text().splitlines(), wanted.decode().splitlines()
+    tops = {next_top(steps[:count], answers[:count]) for count in (made, made + 1)}
+    allowed = [Came(0, b"began %d\n" % top, b"") for top in tops] + ([] if made else [REFUSED])
+    return None if again in allowed else f"opened: {again}; wanted one of {[str(it) for it in allowed]}"
 
 
 def disk(given):
@@ -66,7 +71,7 @@ def disk(given):
         print("disk: skipped, since no disk can be mounted")
         return
     for folder in two_phases():
-        for size in range(4, 132, 8):
+        for size in range(8, 648, 40):
             yield f"{folder.name}: a disk of {size} KiB", small_disk, given.program, folder, size
 
 
@@ -75,11 +80,22 @@ def disk(given):
 TABLES = ("meta", "base", "prepared", "prepared_val", "prepared_delta", "decided")
 
 
+@functools.cache
+def stores_of(program, folder):
+    """The files that the steps of an example leave, by their names."""
+    with tempfile.TemporaryDirectory() as stores:
+        came = run(program, "steps", "--store", stores, folder / "setup.json", folder / "steps")
+        if came != Came(status_of(folder), answers_of(folder), b""):
+            raise ValueError(came)
+        return {file.name: file.read_bytes() for file in pathlib.Path(stores).iterdir()}
+
+
 def with_stores(program, folder, use):
     """What is made of the stores that the steps of an example leave."""
     with tempfile.TemporaryDirectory() as name:
         stores = pathlib.Path(name)
-        run(program, "steps", "--store", stores, folder / "setup.json", folder / "steps")
+        for file, content in stores_of(program, folder).items():
+            (stores / file).write_bytes(content)
         return use(stores)
 
 
@@ -96,6 +112,22 @@ def run_again(program, folder, stores, **how):
     return run(program, "run", "--serial", "--store", stores, script, **how)
 
 
+def settle(file):
+    """Brings what stands in a database's log into its file."""
+    with contextlib.closing(sqlite3.connect(file)) as store:
+        store.execute("PRAGMA wal_checkpoint(TRUNCATE)")
+
+
+def first_file(program, folder):
+    """The file of the first guardian after the steps of an example."""
+
+    def use(stores):
+        settle(stores / "g1.db")
+        return (stores / "g1.db").read_bytes()
+
+    return with_stores(program, folder, use)
+
+
 def content_of(file):
     return file.read_bytes() if file.is_file() else sorted(file.iterdir()) if file.is_dir() else None
 
@@ -105,6 +137,7 @@ def spoilt_file(program, folder, number, spoil, again, allowed):
 
     def use(stores):
         file = stores / f"g{number}.db"
+        settle(file)
         spoil(file)
         before = content_of(file)
         came = again(program, folder, stores)
@@ -207,8 +240,7 @@ def permissions(program):
 
 def cuts(program, folder):
     """How long the first guardian's file may be cut to."""
-    with_length = lambda stores: (stores / "g1.db").stat().st_size
-    return range(512, with_stores(program, folder, with_length), 512)
+    return range(512, len(first_file(program, folder)), 512)
 
 
 def files(given):

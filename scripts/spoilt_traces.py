@@ -2,8 +2,9 @@
 import itertools
 
 import spellings
+from examples import trace_folders
 from histories import Copy, Event, least_failing
-from soaking import Came, compared, run, trace_files
+from soaking import Came, compared, run
 
 STEP = b"arms 10" + b" s" * 4093  # one byte too long
 GREATEST = 2**64 - 1
@@ -110,7 +111,7 @@ def changed(file):
 
 
 def traces(given):
-    for file in trace_files():
+    for file in (folder / "trace" for folder in trace_folders()):
         for length in range(len(file.read_bytes()) + 1):
             yield f"{file.parent.name}: trace cut after {length} bytes", cut_trace, given.program, file, length
         for name, content, wrong in changed(file):

@@ -1,5 +1,6 @@
 """The sections of soak that run scripts in threads."""
 import contextlib
+import functools
 import itertools
 import json
 import pathlib
@@ -9,9 +10,11 @@ import tempfile
 
 import refusing
 import spellings
+from contents import contents_of
+from examples import script_folders
 from histories import Actions, Copy, Event, events_of
 from random_scripts import LARGE, script_of
-from soaking import Came, compared, run, script_files, with_file
+from soaking import Came, compared, run, with_file
 
 # ---- scripts in threads
 
@@ -35,41 +38,47 @@ def with_script(script, use):
     return with_file(json.dumps(script).encode(), use)
 
 
-def serial_outputs(program, script):
-    """What serial runs print of the clients and arms in some orders, with the lines of the clients in the script's order."""
-    chosen = random.Random(0)
-    outputs = set()
-    for number in range(ORDERS):
-        other = permuted(chosen, script) if number else script
-        order = list(range(len(script["clients"])))
+def serial_output(program, script, order):
+    """What a serial run prints of the clients in the order, with their lines in the script's order."""
+    other = {**script, "clients": [script["clients"][place] for place in order]}
+    came = with_script(other, lambda name: run(program, "run", "--serial", name))
+    lines = came.written.splitlines(keepends=True)
+    if came.status or came.fault or len(lines) != len(order) + len(objects_of(script)):
+        raise ValueError(came)
+    own = [b"client %d %s" % (place + 1, line.split(b" ", 2)[2]) for place, line in zip(order, lines)]
+    return b"".join(sorted(own, key=lambda line: int(line.split()[1])) + lines[len(order) :])
+
+
+@functools.cache
+def serial_outputs(program, folder):
+    """What serial runs print of the clients and arms of an example in some orders."""
+    chosen, script = random.Random(0), json.loads((folder / "script.json").read_text())
+    order = list(range(len(script["clients"])))
+    outputs = {serial_output(program, script, order)}
+    if outputs != {(folder / "ran").read_bytes()}:
+        raise ValueError(outputs)
+    for _ in range(ORDERS):
         chosen.shuffle(order)
-        other = {**other, "clients": [other["clients"][place] for place in order]}
-        came = with_script(other, lambda name: run(program, "run", "--serial", name))
-        lines = came.written.splitlines(keepends=True)
-        own = [b"client %d %s" % (place + 1, line.split(b" ", 2)[2]) for place, line in zip(order, lines)]
-        outputs.add(b"".join(sorted(own, key=lambda line: int(line.split()[1])) + lines[len(order) :]))
+        outputs.add(serial_output(program, permuted(chosen, script), order))
     return outputs
 
 
-def in_threads(program, file):
-    script = json.loads(file.read_text())
-    outputs = serial_outputs(program, script)
+def in_threads(program, folder):
+    outputs = serial_outputs(program, folder)
     for _ in range(RUNS):
-        came = run(program, "run", file)
+        came = run(program, "run", folder / "script.json")
         if came.status or came.fault or came.written not in outputs:
             return f"{came}; wanted one of {len(outputs)} outputs, such as {min(outputs)[-200:]!r}"
     return None
 
 
 def orders(given):
-    for file in script_files():
-        if run(given.program, "check", file).written == b"ok\n":
-            yield f"{file.parent.name}: {RUNS} runs in threads", in_threads, given.program, file
+    folders = [folder for folder in script_folders() if (folder / "ran").exists()]
+    for number, folder in ((number, folder) for number in itertools.count(1) for folder in folders):
+        yield f"{folder.name}: {RUNS} runs in threads, time {number}", in_threads, given.program, folder
 
 
 # ---- random scripts in threads
-
-SCRIPTS = 200
 
 
 def made(trace):
@@ -122,7 +131,11 @@ def in_steps(program, folder, script, events, printed):
     steps, answers = ("".join(f"{part}\n" for part in parts).encode() for parts in zip(*events))
     came = run(program, "steps", "--store", folder / "stores", folder / "setup.json", "-", given=steps)
     bases = {name: json.loads(content) for name, content in (line.split(" ", 1) for line in printed)}
-    return compared(came, Came(0, answers, b"")) or compared(bases, bases_of(folder / "stores", setup))
+    return (
+        compared(bases, contents_of(setup, events))
+        or compared(came, Came(0, answers, b""))
+        or compared(bases, bases_of(folder / "stores", setup))
+    )
 
 
 def wrong_run(program, folder, script, came):
@@ -154,7 +167,7 @@ def with_random_script(program, script, ran, wrong):
 
 
 def scripts(given):
-    for seed in range(given.seed, given.seed + SCRIPTS):
+    for seed in itertools.count(given.seed):
         yield f"random_scripts.py {seed}", random_script, given.program, seed
 
 
@@ -233,13 +246,14 @@ def load(given):
 
 # ---- clients that wait for each other
 
-TRIALS = 20
+TRIES = 20
 TURNS = 40_000
 ARMS = 64
+TIME = Came(2, b"", b"fault time\n")
 
 
 def opposite_orders():
-    """A script of two clients, each of which writes an object, idles, and writes the object of the other."""
+    """A script of two clients, each of which writes its number to an object, idles, and writes it to that of the other."""
 
     def client(first, second):
         write = [[{"op": [number, "set", "n", first]}] for number in (first, second)]
@@ -249,17 +263,33 @@ def opposite_orders():
     return {"guardians": [guardian], "clients": [client(1, 2), client(2, 1)]}
 
 
+def committed(*numbers):
+    return b"".join(b"client %d committed\n" % number for number in numbers)
+
+
+def both_hold(number):
+    return b'1/1 {"record":{"n":%d}}\n1/2 {"record":{"n":%d}}\n' % (number, number)
+
+
+# What may come of the clients in opposite orders, and what both objects then hold: nothing is saved, or one client was last.
+ENDS = {TIME: 0} | {Came(0, committed(1, 2) + both_hold(last), b""): last for last in (1, 2)}
+
+
 def wait_for_each_other(program, script):
     idle = {**script, "clients": [{"home": 1, "body": []}]}
     with tempfile.TemporaryDirectory() as folder:
         stored = lambda it, *words: with_script(it, lambda name: run(program, "run", *words, "--store", folder, name))
         came = stored(script, "--seconds", "1")
         left = stored(idle, "--serial")
-    if not came.status and not came.fault and came.written in serial_outputs(program, script):
-        return None
-    return compared(came, Came(2, b"", b"fault time\n")) or compared(
-        left, Came(0, b'client 1 committed\n1/1 {"record":{"n":0}}\n1/2 {"record":{"n":0}}\n', b"")
-    )
+    if came not in ENDS:
+        return f"{came}; wanted one of {[str(end) for end in ENDS]}"
+    return compared(left, Came(0, committed(1) + both_hold(ENDS[came]), b""))
+
+
+def wait_at_last(program, script):
+    """Clients in opposite orders wait for each other in some run."""
+    runs = (with_script(script, lambda name: run(program, "run", "--seconds", "1", name)) for _ in range(TRIES))
+    return None if TIME in runs else f"the clients did not wait in {TRIES} runs"
 
 
 def many_arms(clients, depth):
@@ -273,19 +303,19 @@ def many_arms(clients, depth):
 
 def all_arms_count(program, clients):
     came = with_script(many_arms(clients, 1), lambda name: run(program, "run", name))
-    ends = b"".join(b"client %d committed\n" % number for number in range(1, clients + 1))
+    ends = committed(*range(1, clients + 1))
     return compared(came, Came(0, ends + b'1/1 {"counter":%d}\n' % (clients * ARMS), b""))
 
 
 def time_ends_arms(program, seconds):
     came = with_script(many_arms(1, 4), lambda name: run(program, "run", "--seconds", str(seconds), name))
-    return compared(came, Came(2, b"", b"fault time\n"))
+    return compared(came, TIME)
 
 
 def waiting(given):
-    for number in range(TRIALS):
-        yield f"clients that wait for each other, trial {number}", wait_for_each_other, given.program, opposite_orders()
-    for clients in 1, 8, 64:
-        yield f"{clients} clients of {ARMS} arms", all_arms_count, given.program, clients
-    for seconds in 1, 3:
-        yield f"{ARMS}^4 arms, {seconds} seconds", time_ends_arms, given.program, seconds
+    yield "clients wait for each other at last", wait_at_last, given.program, opposite_orders()
+    for number in itertools.count(1):
+        yield f"clients that wait for each other, {number}", wait_for_each_other, given.program, opposite_orders()
+        clients, seconds = (1, 8, 64)[number % 3], 1 + number % 3
+        yield f"{clients} clients of {ARMS} arms, {number}", all_arms_count, given.program, clients
+        yield f"{ARMS}^4 arms, {seconds} seconds, {number}", time_ends_arms, given.program, seconds
