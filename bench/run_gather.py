@@ -49,12 +49,13 @@ def row_of(name, count, rounds, program):
     return f"| {name} | {events:,} | {size / 1e6:.1f} | {gathered:.2f} | {made:.2f} | {gathered / made:.2f} | {peak / size:.2f} |"
 
 
-def main():
-    program = sys.argv[1]
-    count, rounds = [int(word) for word in sys.argv[2:]] + [250_000, 5][len(sys.argv) - 2 :]
+def main(words):
+    if not 1 <= len(words) <= 3:
+        sys.exit(__doc__)
+    program, (count, rounds) = words[0], [*map(int, words[1:]), *(250_000, 5)[len(words) - 1 :]]
     print("| workload | events | MB | CPU seconds of the trace | of the steps | ratio | memory, times the file |\n|---|---|---|---|---|---|---|")
     for name in WORKLOADS:
         print(row_of(name, count, rounds, program), flush=True)
 
 
-main()
+main(sys.argv[1:])
