@@ -4,8 +4,8 @@ use crate::accounts::{Account, Outcome, Payment};
 use crate::fault::BankFault;
 use run_model::{Name, Reply, Setup, Value};
 use service::{Service, get, set};
-use std::alloc::Global;
-use world::{PlainStable, World};
+use std::alloc::{AllocError, Global};
+use world::{PlainStable, Stable, World};
 
 /// Two branches with two accounts each.
 const SETUP: &str = "{\"guardians\":[\
@@ -73,6 +73,29 @@ impl Bank {
     /// is committed.
     pub(crate) fn commit(&mut self, top: &Name) -> Result<bool, BankFault> {
         Ok(self.service.commit_top(top, &BRANCHES)?)
+    }
+
+    /// Closes the top action of a payment, and lets both branches vote. Each keeps what it will have to write.
+    pub(crate) fn prepare(&mut self, top: &Name) -> Result<(), BankFault> {
+        self.service.close(top)?;
+        for branch in BRANCHES {
+            self.service.prepare(branch, top)?;
+        }
+        Ok(())
+    }
+
+    /// The whole bank stops, and is opened again from what its stores hold. What was not decided is undone.
+    pub(crate) fn restart(self) -> Result<Bank, BankFault> {
+        let Bank { alloc, service } = self;
+        let Service { world } = service;
+        let setup = world.setup().copy()?;
+        let stores = stores_of(alloc, &world)?;
+        if stores.len() != setup.guardians() {
+            return Err(BankFault::Setup);
+        }
+        let world = World::reopen(alloc, setup, stores).map_err(|(refused, _stores)| refused)?;
+        let service = Service::over(world);
+        Ok(Bank { alloc, service })
     }
 
     /// The balance of an account, read by a handler call of the top action.
@@ -146,4 +169,19 @@ impl Bank {
             _ => Err(BankFault::NoAccount),
         }
     }
+}
+
+/// Stores that hold what those of the branches do.
+fn stores_of(alloc: Global, world: &World<PlainStable>) -> Result<Vec<PlainStable>, BankFault> {
+    let mut stores = Vec::new(alloc);
+    for branch in BRANCHES {
+        let Some(guardian) = world.guardian(branch) else {
+            return Err(BankFault::Setup);
+        };
+        if let Some(kept) = guardian.store().kept() {
+            let store = PlainStable::from(kept.copy(alloc)?);
+            stores.push(store).map_err(AllocError::from)?;
+        }
+    }
+    Ok(stores)
 }

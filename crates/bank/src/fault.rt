@@ -6,7 +6,7 @@ use std::alloc::AllocError;
 use std::io;
 use thiserror::Error;
 use values::ValueFault;
-use world::Fault;
+use world::{Fault, Refused};
 
 /// Why the bank stops.
 #[derive(Clone, Copy, Debug, PartialEq, Eq, Drop, Error)]
@@ -39,6 +39,16 @@ impl From<CallFault> for BankFault {
             CallFault::Refused(_) | CallFault::Waits(_) => BankFault::Refused,
             CallFault::Failed(Fault::Memory) => BankFault::Memory,
             CallFault::Failed(Fault::Stable) => BankFault::Store,
+        }
+    }
+}
+
+impl From<Refused> for BankFault {
+    fn from(refused: Refused) -> BankFault {
+        match refused {
+            Refused::Memory => BankFault::Memory,
+            Refused::Stable => BankFault::Store,
+            Refused::NotOurs => BankFault::Setup,
         }
     }
 }

@@ -1,5 +1,5 @@
-//! `bank`, a service over a world: payments between two branches, one of which lacks money at first and one of which is cut by a
-//! crash. It prints how each payment ended, and then the balances.
+//! `bank`, a service over a world: payments between two branches. One lacks money at first, a crash cuts one, and a stop
+//! of the whole system another. It prints how each payment ended, and then the balances.
 #![tactic(auto)]
 
 mod accounts;
@@ -52,6 +52,7 @@ fn run(rt: &HostRuntime) -> Result<(), BankFault> {
     pay(rt, &mut bank, payment(BEN, DAN, 45))?;
     pay_over_a_crash(rt, &mut bank, payment(CLEO, BEN, 25))?;
     pay(rt, &mut bank, payment(CLEO, BEN, 25))?;
+    let mut bank = stop_within(rt, bank, payment(BEN, DAN, 45))?;
     pay(rt, &mut bank, payment(BEN, DAN, 45))?;
     show_balances(rt, &mut bank)
 }
@@ -76,6 +77,16 @@ fn pay_over_a_crash(rt: &impl Print, bank: &mut Bank, payment: Payment) -> Resul
     let outcome = bank.settle(moved)?;
     println!(rt; "{payment}: {outcome}")?;
     Ok(())
+}
+
+/// Stops the whole bank when both branches have voted on the payment, and opens it again.
+fn stop_within(rt: &impl Print, bank: Bank, payment: Payment) -> Result<Bank, BankFault> {
+    let mut bank = bank;
+    if let Some(top) = bank.move_money(payment)? {
+        bank.prepare(&top)?;
+    }
+    println!(rt; "the bank stops before {payment} is decided, and opens again")?;
+    bank.restart()
 }
 
 /// Prints the balances once the top action that reads them is committed.
