@@ -133,7 +133,8 @@ def content_of(file):
 
 
 def spoilt_file(program, folder, number, spoil, again, allowed):
-    """What is wrong where the file of a guardian was spoilt, or nothing. A file that is refused stays as it is."""
+    """What is wrong where the file of a guardian was spoilt, or nothing. Files stay as they are if one is refused, but a
+    file that was empty or missing may be a new store then."""
 
     def use(stores):
         file = stores / f"g{number}.db"
@@ -143,7 +144,8 @@ def spoilt_file(program, folder, number, spoil, again, allowed):
         came = again(program, folder, stores)
         if came not in allowed and not (None in allowed and came.status == 0 and not came.fault):
             return f"{came}; wanted one of {[it and str(it) for it in allowed]}"
-        return "the file that was refused has changed" if came == REFUSED and content_of(file) != before else None
+        has_changed = before and content_of(file) != before
+        return "a file was refused, and this one has changed" if came == REFUSED and has_changed else None
 
     return with_stores(program, folder, use)
 
@@ -195,13 +197,13 @@ SPOILT = [
     ("with a base that is no JSON", changed_by("INSERT INTO base VALUES (1000, '{')")),
     ("with a base of object 0", changed_by("INSERT INTO base VALUES (0, '{\"counter\":1}')")),
     ("with a part of no record", changed_by("INSERT INTO prepared_delta VALUES (77, 1, 5)")),
-    ("with a column more", changed_by("ALTER TABLE decided ADD COLUMN x INTEGER")),
     ("that is no database", replaced_by(b"Not a database, but a letter of some length.\n" * 200)),
     ("of zeros", replaced_by(bytes(8192))),
 ] + [(f"without {name}", changed_by(f"DROP TABLE {name}")) for name in TABLES]  # fmt: skip
 OTHERS = [
     ("of another program", new_database("CREATE TABLE other(x INTEGER)", "INSERT INTO other VALUES (5)"), {None, REFUSED}),
     ("with another table", changed_by("CREATE TABLE other(x INTEGER)"), {None}),
+    ("with a column more", changed_by("ALTER TABLE decided ADD COLUMN x INTEGER"), {None}),
     ("of no table", new_database("VACUUM"), {None, REFUSED}),
     ("that is empty", cut_to(0), {None, REFUSED}),
     ("that is missing", pathlib.Path.unlink, {None, REFUSED}),
