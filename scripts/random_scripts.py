@@ -7,7 +7,8 @@ one has 16 clients over 8 guardians, and aborts more often. Clients and arms wai
 - A client first takes the objects that it will use, in rising order of guardian and number. It takes each by the
   strongest operation that it will make of it. Then it uses them in any order.
 - The arms of a coenter use objects that their top action has taken, and sums. If an arm writes an object, the other
-  arms do not use it. One object at most is an exception, which all arms of the coenter share.
+  arms do not use it. One object at most is an exception, which all arms of the coenter share: each writes it first. If
+  two arms could read it and then write it, each would wait for the other.
 - A nested top action takes objects as a client does. They come after all that the top actions around it have taken.
   Then it may write one object that these have taken: it waits for its starter, and aborts.
 
@@ -236,7 +237,9 @@ class Maker:
     def arm(self, place, own, shared):
         if self.chance(25):
             return {"arm": "top", "body": self.top(place.within(gives=None))}
-        return {"arm": "sub", "body": self.body(place.within(own=own, shared=shared))}
+        inner = place.within(own=own, shared=shared)
+        takes = [self.take(inner, shared, True)] if shared else []
+        return {"arm": "sub", "body": takes + self.body(inner)}
 
     def nested(self, place):
         signals = self.signals(place) if self.chance(40) else {}
