@@ -299,29 +299,26 @@ def wait_at_last(program, script):
     return None if TIME in runs else f"the clients did not wait in {TRIES} runs"
 
 
-def arms_of(body):
-    return [{"coenter": [{"arm": "sub", "body": body}] * ARMS}]
-
-
-def many_arms(clients, depth):
-    """A script whose clients each begin 64 arms. Each arm calls a handler of 64 arms, and so on. The innermost arms count."""
-    handlers, body = {}, arms_of([{"op": [1, "add", 1]}])
-    for level in range(1, depth):
-        handlers[f"h{level}"] = {"params": [], "gives": "none", "body": body}
-        body = arms_of([{"call": [1, f"h{level}", []]}])
-    guardian = {"objects": [{"counter": 0}], "handlers": handlers}
-    return {"guardians": [guardian], "clients": [{"home": 1, "body": body}] * clients}
+def arms_of(*bodies):
+    return [{"coenter": [{"arm": "sub", "body": body} for body in bodies]}]
 
 
 def all_arms_count(program, clients):
-    came = with_script(many_arms(clients, 1), lambda name: run(program, "run", name))
+    """Each client begins 64 arms, which add one each."""
+    body = arms_of(*[[{"op": [1, "add", 1]}]] * ARMS)
+    guardian = {"objects": [{"counter": 0}], "handlers": {}}
+    script = {"guardians": [guardian], "clients": [{"home": 1, "body": body}] * clients}
+    came = with_script(script, lambda name: run(program, "run", name))
     ends = committed(*range(1, clients + 1))
     return compared(came, Came(0, ends + b'1/1 {"counter":%d}\n' % (clients * ARMS), b""))
 
 
 def time_ends_arms(program, seconds):
-    came = with_script(many_arms(1, 4), lambda name: run(program, "run", "--seconds", str(seconds), name))
-    return compared(came, TIME)
+    """A client begins 64 arms, and each of these 64 that write two objects in opposite orders."""
+    orders = [client["body"] for client in opposite_orders()["clients"]]
+    body = arms_of(*[arms_of(*orders * (ARMS // 2))] * ARMS)
+    script = {**opposite_orders(), "clients": [{"home": 1, "body": body}]}
+    return compared(with_script(script, lambda name: run(program, "run", "--seconds", str(seconds), name)), TIME)
 
 
 def waiting(given):
@@ -330,4 +327,4 @@ def waiting(given):
         yield f"clients that wait for each other, {number}", wait_for_each_other, given.program, opposite_orders()
         clients, seconds = (1, 8, 64)[number % 3], 1 + number % 3
         yield f"{clients} clients of {ARMS} arms, {number}", all_arms_count, given.program, clients
-        yield f"{ARMS}^4 arms, {seconds} seconds, {number}", time_ends_arms, given.program, seconds
+        yield f"{ARMS}^2 arms, {seconds} seconds, {number}", time_ends_arms, given.program, seconds
