@@ -10,7 +10,7 @@ use Rattle.stable_store.specs.Stored.{Record, Stored, after_bump, after_discard,
 use Rattle.stable_store.specs.declared.fault.StoreFault.{StoreFault}
 use Rattle.stable_store.specs.declared.fault.StoreFault.TheVariants as call
 use Rattle.store_recovery.specs.Settling.{IsSettledInPart, bases_then, contents, is_decided, settled}
-use Rattle.store_recovery.specs.Steps.{Called, GoesOn, HasFirst, HasNoRecord, IsBumpedAtMost, KeepsBases, KeepsItself, OneHasCounted, OpensItself, SettlesOne, all_hold}
+use Rattle.store_recovery.specs.Steps.{Called, GoesOn, HasFirst, HasNoRecord, IsBumpedAtMost, KeepsBases, KeepsItself, NoneHasCounted, OneHasCounted, OpensItself, SettlesOne, all_hold}
 use Rattle.store_recovery.specs.Faults.{refused_by}
 use Rattle.store_recovery.specs.declared.refused.Refused.{Refused}
 use Rattle.store_recovery.specs.declared.refused.Refused.TheVariants.{Memory, Stable, NotOurs}
@@ -19,7 +19,7 @@ use Rattle.store_recovery.proofs.InPart.{all_none_in_part, in_part_then}
 use Rattle.store_recovery.proofs.Promised.{go_on, moves_by}
 use Rattle.store_recovery.proofs.Entries.{first_removed}
 use Rattle.store_recovery.proofs.Settled.{by, one_less, settled_alike, settled_with}
-use Rattle.store_recovery.proofs.Stops.{called_then, contents_among, each_among, goes_all_then, goes_itself, goes_on, itself, keeps_then, one_counts, stay_so, stop_at, stops_then, trusted_before}
+use Rattle.store_recovery.proofs.Stops.{called_then, contents_among, each_among, goes_all_then, goes_itself, goes_on, itself, keeps_then, none_counts, one_counts, stay_so, stop_at, stops_then, trusted_before}
 
 -- ---- a recovery counted changes nothing of what is settled
 
@@ -71,6 +71,12 @@ counted_by excuse before now call.Memory cause other = absurd (other refl)
 counted_by excuse before now call.Failed cause other = cause.1
 counted_by excuse before now call.NotOurs cause other = cause
 
+-- memory that ran out is not counted
+uncounted_by : (excuse : Type 0) (before now : ℕ) (fault : StoreFault) → IsExcused excuse before now fault → refused_by fault ≡ Memory → now ≡ before
+uncounted_by excuse before now call.Memory cause is = cause
+uncounted_by excuse before now call.Failed cause is = absurd cc
+uncounted_by excuse before now call.NotOurs cause is = absurd cc
+
 -- what holds of an error
 pub error_by : {U : Type 0} (q : Result U Refused) (why : Refused) (P : Refused → Type 0) → q ≡ Err why → P why → IfErr q P
 error_by {U} q why P is h = subst (λ (r : Result U Refused). IfErr r P) (sym is) h
@@ -90,7 +96,7 @@ module _ {S : Type 0} (seen : S → View) where
   pub called_well : {T : Type 0} (Keeps : S → S → Type 0) (old new : List S) (x : T) → AllZip Keeps old new → AllZip (GoesOn seen) old new
       → bases_then (contents seen new) ≡ bases_then (contents seen old) → Called seen Keeps old new (Ok x)
   called_well Keeps old new x kept goes same =
-      record { kept = kept; goes = goes; stops = stops_then seen old new new goes (with_itself new) same (stay_so seen new); counted = tt }
+      record { kept = kept; goes = goes; stops = stops_then seen old new new goes (with_itself new) same (stay_so seen new); counted = tt; memory = tt }
     where
       with_itself : (ss : List S) → AllZip (λ m n. IsTrusted (seen n) → IsTrusted (seen m)) ss ss
       with_itself [] = tt
@@ -188,6 +194,9 @@ module _ {S : Type 0} (seen : S → View) where
           counted = λ other.
               subst₂ (λ a b. OneHasCounted seen a b) (sym stores_are) (sym put_are)
               (one_counts seen before store made behind (counted_by excuse (seen store).failures (seen made).failures fault makes.cause other));
+          memory = λ out.
+              subst₂ (λ a b. NoneHasCounted seen a b) (sym stores_are) (sym put_are)
+              (none_counts seen before store made behind (uncounted_by excuse (seen store).failures (seen made).failures fault makes.cause out));
         } in
         subst (λ r. Called seen (KeepsItself seen) stores (set stores i made) r) (sym is) failed
 
@@ -409,10 +418,10 @@ module _ {S : Type 0} (seen : S → View) where
 
   -- a call more that was refused
   pub settle_refused : {U : Type 0} (old now new : List S) (why : Refused) (q : Result U Refused) → AreSettled old now → AllZip (KeepsItself seen) now new
-      → KeepsBases seen now new → (why ≡ Stable → OneHasCounted seen now new) → why ≢ NotOurs → q ≡ Err why → Called seen (KeepsItself seen) old new q
-  settle_refused {U} old now new why q a kept stops counted ours is =
+      → KeepsBases seen now new → (why ≡ Stable → OneHasCounted seen now new) → (why ≡ Memory → NoneHasCounted seen now new) → why ≢ NotOurs → q ≡ Err why → Called seen (KeepsItself seen) old new q
+  settle_refused {U} old now new why q a kept stops counted memory ours is =
       let refused : Result U Refused = Err why in
-      let failed : Called seen (KeepsItself seen) now new refused = record { kept = kept; goes = tt; stops = stops; counted = λ other. counted (the_rest why other ours) } in
+      let failed : Called seen (KeepsItself seen) now new refused = record { kept = kept; goes = tt; stops = stops; counted = λ other. counted (the_rest why other ours); memory = memory } in
       called_then seen (KeepsItself seen) (KeepsItself seen) (KeepsItself seen) (keeps_then seen) (λ y z k. k.trusted) old now new q a.kept a.goes
       (same_bases_of old now a) (subst (λ r. Called seen (KeepsItself seen) now new r) (sym is) failed)
     where

@@ -7,7 +7,7 @@ use Rattle.stable_store.specs.Stored.{Stored, after_discard, after_install}
 use Rattle.stable_store.specs.declared.fault.StoreFault.{StoreFault}
 use Rattle.stable_store.specs.declared.fault.StoreFault.TheVariants as call
 use Rattle.store_recovery.specs.Settling.{bases_then, contents, is_decided, settled, settled_by}
-use Rattle.store_recovery.specs.Steps.{GoesOn, HasFirst, KeepsBases, KeepsItself, OneHasCounted, SettlesFirst, SettlesOne, all_hold}
+use Rattle.store_recovery.specs.Steps.{GoesOn, HasFirst, KeepsBases, KeepsItself, NoneHasCounted, OneHasCounted, SettlesFirst, SettlesOne, all_hold}
 use Rattle.store_recovery.specs.Finding.{IsFirstLeft}
 use Rattle.store_recovery.specs.Faults.{refused_by}
 use Rattle.store_recovery.specs.declared.refused.Refused.{Refused}
@@ -15,7 +15,7 @@ use Rattle.store_recovery.specs.declared.refused.Refused.TheVariants.{Memory, No
 use Rattle.store_recovery.proofs.InPart.{MovesOn}
 use Rattle.store_recovery.proofs.Places.{zip_but_one, zip_with_itself}
 use Rattle.store_recovery.proofs.Settled.{same_count, same_decided, same_next_top, settled_among}
-use Rattle.store_recovery.proofs.Stops.{contents_among, either_content, goes_itself, goes_on, itself, one_counts, stop_at, trusted_before}
+use Rattle.store_recovery.proofs.Stops.{contents_among, either_content, goes_itself, goes_on, itself, none_counts, one_counts, stop_at, trusted_before}
 
 both_hold : (a b : Bool) → (a && b) ≡ true → (a ≡ true) × (b ≡ true)
 both_hold true b is = (refl, is)
@@ -163,3 +163,11 @@ module _ {S : Type 0} (seen : S → View) where
   pub counts : (may_fail : S → S → Type 0) (old new : List S) (r : Result Bool Refused) → SettlesOne seen may_fail old new r → r ≡ Err Stable
       → OneHasCounted seen old new
   counts may_fail old new r one is = failed_counts may_fail old new (subst (λ q. SettlesOne seen may_fail old new q) is one)
+
+  out_of_memory : (may_fail : S → S → Type 0) (old new : List S) → SettlesFirst seen may_fail old new (Err call.Memory) → NoneHasCounted seen old new
+  out_of_memory may_fail old new k =
+      subst₂ (λ a b. NoneHasCounted seen a b) (sym k.were) (sym k.are) (none_counts seen k.before k.store k.made k.behind k.makes.cause)
+
+  pub counts_none : (may_fail : S → S → Type 0) (old new : List S) (why : Refused) → SettlesOne seen may_fail old new (Err why) → why ≡ Memory
+      → NoneHasCounted seen old new
+  counts_none may_fail old new why one is = out_of_memory may_fail old new (subst (λ e. SettlesOne seen may_fail old new (Err e)) is one)

@@ -15,7 +15,7 @@ use Rattle.store_recovery.proofs.InPart.{all_in_part, all_none_in_part, in_part_
 use Rattle.store_recovery.proofs.InTurn.{keeps_opens, opens_itself}
 use Rattle.store_recovery.proofs.Places.{zip_then, zip_with_itself}
 use Rattle.store_recovery.proofs.Settled.{by, settled_with}
-use Rattle.store_recovery.proofs.Stops.{called_then, keeps_then, stay_so}
+use Rattle.store_recovery.proofs.Stops.{called_then, keeps_then, none_of, stay_so}
 
 -- ---- stores without records
 
@@ -67,6 +67,7 @@ module _ {S : Type 0} (seen : S → View) where
     kept = zip_with_itself (OpensItself seen) (opens_itself seen) stores;
     stops = stay_so seen stores;
     counted = λ is. absurd cc;
+    memory = λ is. absurd cc;
     settled_first = inr (zip_with_itself (CountsNone seen) (λ s. refl) stores);
     empty = λ _. (refl, refl);
     strange = λ _. refl;
@@ -82,6 +83,7 @@ module _ {S : Type 0} (seen : S → View) where
     kept = opens_of old new called.kept;
     stops = called.stops;
     counted = λ is. called.counted (λ memory. absurd cc);
+    memory = called.memory;
     settled_first = inr (count_none old new called.kept);
     empty = λ empty. absurd (true≢false (sym hold ∙ empty));
     strange = λ _. same;
@@ -97,6 +99,7 @@ module _ {S : Type 0} (seen : S → View) where
     kept = opens_of old new called.kept;
     stops = called.stops;
     counted = λ is. absurd cc;
+    memory = λ is. absurd cc;
     settled_first = inr (count_none old new called.kept);
     empty = λ empty. absurd (true≢false (sym hold ∙ empty));
     strange = λ _. same;
@@ -130,6 +133,7 @@ module _ {S : Type 0} (seen : S → View) where
           kept = whole.kept;
           stops = whole.stops;
           counted = λ is. whole.counted (λ memory. absurd cc);
+          memory = whole.memory;
           settled_first = first;
           empty = λ empty. absurd (true≢false (sym hold ∙ empty));
           strange = λ strange. absurd (true≢false (sym belonged_before ∙ strange));
@@ -142,7 +146,7 @@ module _ {S : Type 0} (seen : S → View) where
     pub not_settled : (new : List S) (why : Refused) → settled (contents seen new) ≡ settled (contents seen mid) → ArePart mid new
         → Called seen {T = Unit {0}} (KeepsItself seen) mid new (Err why) → why ≢ NotOurs → AreRefused seen setup old new why
     not_settled new why settles part called ours =
-        late new why (record { kept = opens_of mid new called.kept; goes = tt; stops = called.stops; counted = called.counted }) (same_bases_by new settles) part
+        late new why (record { kept = opens_of mid new called.kept; goes = tt; stops = called.stops; counted = called.counted; memory = called.memory }) (same_bases_by new settles) part
         (inr (count_none old new (zip_then (KeepsItself seen) (KeepsItself seen) (KeepsItself seen) (keeps_then seen) old mid new read.kept called.kept))) ours
 
     module _ (ready : List S) (settles : settled (contents seen ready) ≡ settled (contents seen mid)) (none : AllByRecursion HasNoRecord (contents seen ready))
@@ -217,6 +221,7 @@ module _ {S : Type 0} (seen : S → View) where
     kept = a.kept;
     stops = a.stops;
     counted = λ is. absurd cc;
+    memory = λ _. none_of seen old new a.goes;
     settled_first = inl a.none;
     empty = λ empty. absurd (true≢false (sym a.held ∙ empty));
     strange = λ strange. absurd (true≢false (sym a.belonged ∙ strange));

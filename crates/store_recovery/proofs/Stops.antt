@@ -6,10 +6,10 @@ use Rattle.stable_store.specs.Calls.{Changes, HasCounted, IsTrusted, Makes, View
 use Rattle.stable_store.specs.Stored.{Stored}
 use Rattle.stable_store.specs.declared.fault.StoreFault.{StoreFault}
 use Rattle.store_recovery.specs.Settling.{bases_then, contents}
-use Rattle.store_recovery.specs.Steps.{Called, GoesOn, IsPromised, KeepsBases, KeepsItself, LeavesBases, OneHasCounted}
+use Rattle.store_recovery.specs.Steps.{Called, GoesOn, IsPromised, KeepsBases, KeepsItself, LeavesBases, NoneHasCounted, OneHasCounted}
 use Rattle.store_recovery.specs.declared.refused.Refused.{Refused}
 use Rattle.store_recovery.specs.declared.refused.Refused.TheVariants.{Memory}
-use Rattle.store_recovery.proofs.Places.{zip_about, zip_among, zip_then, zip_three}
+use Rattle.store_recovery.proofs.Places.{zip_about, zip_among, zip_but_one, zip_then, zip_three, zip_with_itself}
 
 -- a call leaves the content before it or the one after it
 pub either_content : {T : Type 0} (r : Result T StoreFault) (before after now : Stored) → Changes before after now r → (now ≡ before) ⊎ (now ≡ after)
@@ -94,7 +94,21 @@ module _ {S : Type 0} (seen : S → View) where
   one_counts [] store made behind counts = inl counts
   one_counts (s ∷ ss) store made behind counts = inr (one_counts ss store made behind counts)
 
+  -- as many failures were counted
+  abbrev SameFailures : S → S → Type 0
+  SameFailures old new = (seen new).failures ≡ (seen old).failures
+
+  pub none_counts : (before : List S) (store made : S) (behind : List S) → (seen made).failures ≡ (seen store).failures
+      → NoneHasCounted seen (before ++ store ∷ behind) (before ++ made ∷ behind)
+  none_counts before store made behind same = zip_but_one SameFailures (λ s. refl) before store made behind same
+
   -- ---- calls in turn
+
+  pub none_on : (old mid new : List S) → AllZip (GoesOn seen) old mid → NoneHasCounted seen mid new → NoneHasCounted seen old new
+  none_on = zip_then (GoesOn seen) SameFailures SameFailures (λ x y z goes same. same ∙ goes.failures)
+
+  pub none_of : (old new : List S) → AllZip (GoesOn seen) old new → NoneHasCounted seen old new
+  none_of old new goes = none_on old new new goes (zip_with_itself SameFailures (λ s. refl) new)
 
   pub counts_on : (old mid new : List S) → AllZip (GoesOn seen) old mid → OneHasCounted seen mid new → OneHasCounted seen old new
   counts_on [] [] new goes one = absurd one
@@ -144,6 +158,7 @@ module _ {S : Type 0} (seen : S → View) where
     goes = on_ok r called.goes;
     stops = stops_then old mid new goes (mapped mid new called.kept) same called.stops;
     counted = on_err r called.counted;
+    memory = on_memory r called.memory;
   }
     where
       on_ok : {T : Type 0} (r : Result T Refused) → OnOk r (AllZip (GoesOn seen) mid new) → OnOk r (AllZip (GoesOn seen) old new)
@@ -153,6 +168,11 @@ module _ {S : Type 0} (seen : S → View) where
       on_err : {T : Type 0} (r : Result T Refused) → IfErr r (λ why. why ≢ Memory → OneHasCounted seen mid new) → IfErr r (λ why. why ≢ Memory → OneHasCounted seen old new)
       on_err (Ok x) h = tt
       on_err (Err e) h = λ other. counts_on old mid new goes (h other)
+
+      on_memory : {T : Type 0} (r : Result T Refused) → IfErr r (λ why. why ≡ Memory → NoneHasCounted seen mid new)
+          → IfErr r (λ why. why ≡ Memory → NoneHasCounted seen old new)
+      on_memory (Ok x) h = tt
+      on_memory (Err e) h = λ is. none_on old mid new goes (h is)
 
       mapped : (ms ns : List S) → AllZip Q ms ns → AllZip (λ m n. IsTrusted (seen n) → IsTrusted (seen m)) ms ns
       mapped [] [] all = tt

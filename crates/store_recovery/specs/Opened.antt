@@ -8,9 +8,9 @@ use Rattle.stable_store.specs.Calls.{Rests, View}
 use Rattle.stable_store.specs.Stored.{Stored, after_bump}
 use Rattle.store_recovery.specs.Belonging.{all_belong}
 use Rattle.store_recovery.specs.Settling.{IsSettledInPart, bases_then, contents, settled, store_of}
-use Rattle.store_recovery.specs.Steps.{GoesOn, HasNoRecord, KeepsBases, OneHasCounted, OpensItself, all_hold}
+use Rattle.store_recovery.specs.Steps.{GoesOn, HasNoRecord, KeepsBases, NoneHasCounted, OneHasCounted, OpensItself, all_hold}
 use Rattle.store_recovery.specs.declared.refused.Refused.{Refused}
-use Rattle.store_recovery.specs.declared.refused.Refused.TheVariants.{Stable, NotOurs}
+use Rattle.store_recovery.specs.declared.refused.Refused.TheVariants.{Memory, Stable, NotOurs}
 
 -- The store holds what the opening says that it held, and nothing is prepared there.
 pub record IsOpenedFrom (opening : Opening) (g : ℕ) (s : Stored) : Type 0 where
@@ -60,13 +60,14 @@ module _ {S : Type 0} (seen : S → View) where
 
   -- The stores were not opened. They are those of others (`NotOurs`) where one holds no content, or what one contains does not belong there, or what its
   -- device returned is none, which is counted; then each contains what it did. A recovery was counted at one of them only once none had a record.
-  -- Each holds what it held, with some of its records settled.
+  -- Each holds what it held, with some of its records settled. None counted a failure if memory ran out (`Memory`).
   pub record AreRefused (setup : Setup) (old new : List S) (why : Refused) : Type 0 where
     pub bases : bases_then (contents seen new) ≡ bases_then (contents seen old)
     pub in_part : AllZip (IsSettledInPart (contents seen old)) (contents seen old) (contents seen new)
     pub kept : AllZip (OpensItself seen) old new
     pub stops : KeepsBases seen old new
     pub counted : why ≡ Stable → OneHasCounted seen old new
+    pub memory : why ≡ Memory → NoneHasCounted seen old new
     pub settled_first : AllByRecursion HasNoRecord (contents seen new) ⊎ AllZip CountsNone old new
     pub empty : all_hold seen old ≡ false → (why ≡ NotOurs) × (new ≡ old)
     pub strange : all_belong setup (contents seen old) ≡ false → contents seen new ≡ contents seen old

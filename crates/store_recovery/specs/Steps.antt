@@ -50,6 +50,10 @@ module _ {S : Type 0} (seen : S → View) where
   OneHasCounted (old ∷ olds) (new ∷ news) = HasCounted (seen old).failures (seen new).failures ⊎ OneHasCounted olds news
   OneHasCounted _ _ = ⊥
 
+  -- none of the stores has counted a failure
+  abbrev pub NoneHasCounted : List S → List S → Type 0
+  NoneHasCounted old new = AllZip (λ o n. (seen n).failures ≡ (seen o).failures) old new
+
   -- a store of which something is promised: it can be trusted now, and it was up and at rest before
   pub record IsPromised (old new : S) : Type 0 where
     pub trusted : IsTrusted (seen new)
@@ -96,9 +100,10 @@ module _ {S : Type 0} (seen : S → View) where
     pub rests : Rests (seen old) → Rests (seen new)
 
   -- What calls of the stores leave, the last of which may be refused: what each store keeps, that those that were not refused go on, what a stop
-  -- leaves, and that a refusal other than out of memory is counted.
+  -- leaves, and that a refusal is counted exactly if it is another than out of memory.
   pub record Called {T : Type 0} (Keeps : S → S → Type 0) (old new : List S) (result : Result T Refused) : Type 0 where
     pub kept : AllZip Keeps old new
     pub goes : OnOk result (AllZip GoesOn old new)
     pub stops : KeepsBases old new
     pub counted : IfErr result (λ why. why ≢ Memory → OneHasCounted old new)
+    pub memory : IfErr result (λ why. why ≡ Memory → NoneHasCounted old new)

@@ -1,9 +1,9 @@
 //! The stores of a system that begins.
-ghost use Rattle.std.specs.Prelude.{◌≡◌, ◌≢◌, ◌↔◌, true, IfErr, IsErrOf, IsTrue, OnOk};
+ghost use Rattle.std.specs.Prelude.{◌≡◌, ◌≢◌, ◌↔◌, false, true, IfErr, IsErrOf, IsTrue, OnOk};
 ghost use Rattle.std.specs.List.{AllZip};
 ghost use Rattle.store_recovery.specs.Beginning.{AreEmpty, AreNew, HasNothing};
 ghost use Rattle.store_recovery.specs.Settling.{contents};
-ghost use Rattle.store_recovery.specs.Steps.{KeepsItself, OneHasCounted, all_hold};
+ghost use Rattle.store_recovery.specs.Steps.{GoesOn, KeepsItself, NoneHasCounted, OneHasCounted, all_hold};
 
 use crate::calls::load_all;
 use crate::refused::Refused;
@@ -20,9 +20,12 @@ pub fn begin_stores<S: Stable>(alloc: Global, stores: &mut [S]) -> Result<(), Re
     ensures new { OnOk result (AreNew S.seen stores.new) }
     ensures same { contents S.seen stores.new ≡ contents S.seen stores.old }
     ensures kept { AllZip (KeepsItself S.seen) stores.old stores.new }
+    ensures goes { OnOk result (AllZip (GoesOn S.seen) stores.old stores.new) }
+    ensures empty { all_hold S.seen stores.old ≡ false → IsErrOf result Refused.NotOurs × (stores.new ≡ stores.old) }
     ensures cause { all_hold S.seen stores.old ≡ true → AreEmpty S.seen stores.old
         → IfErr result (λ why. why ≢ Refused.Memory → OneHasCounted S.seen stores.old stores.new) }
     ensures counted { IsErrOf result Refused.Stable → OneHasCounted S.seen stores.old stores.new }
+    ensures memory { IsErrOf result Refused.Memory → NoneHasCounted S.seen stores.old stores.new }
 {
     if !all_hold(stores) {
         return Err(Refused::NotOurs);

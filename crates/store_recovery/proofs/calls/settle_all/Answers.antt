@@ -2,6 +2,7 @@ use Rattle.std.proofs.Common.{ap, subst, sym, true≢false, Err, Ok, ◌∙◌, 
 use Rattle.store_recovery.specs.Steps.{SettlesOne}
 use Rattle.store_recovery.specs.declared.refused.Refused.TheVariants.{NotOurs}
 use Rattle.store_recovery.proofs.InTurn.{all_settled, error_by, fewer, hold_on, none_settled, one_settled, part_settled, settle_refused}
+use Rattle.store_recovery.proofs.Promised.{counts_none}
 use Rattle.store_recovery.proofs.Stops.{error_is}
 use Rattle.store_recovery.proofs.calls.settle_all.Goals as goal
 use Rattle.store_recovery.proofs.calls.settle_all.Goals.{After-from_residual}
@@ -45,7 +46,8 @@ pub returns-in_err-settle-clause-called : goal.returns-in_err-settle-clause-call
 returns-in_err-settle-clause-called g c =
     let why = c.in_err-settle.field-0.0 in
     settle_refused g.S.Stable.seen c.args.stores.now c.loop.stores c.settle.new.stores why c.from_residual.result c.loop.invariant c.in_err-settle.ensures.kept
-    c.in_err-settle.ensures.stops (λ is. c.in_err-settle.ensures.counted (ap (λ e. Err e) is)) (never_ours g c)
+    c.in_err-settle.ensures.stops (λ is. c.in_err-settle.ensures.counted (ap (λ e. Err e) is))
+    (counts_none g.S.Stable.seen g.S.Stable.may_fail c.loop.stores c.settle.new.stores why c.in_err-settle.ensures.settles) (never_ours g c)
     (error_is c.from_residual.result why c.from_residual.ensures.1)
 
 pub returns-in_err-settle-clause-ours : goal.returns-in_err-settle-clause-ours
