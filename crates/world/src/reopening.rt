@@ -1,9 +1,9 @@
 //! A world over stores of which nothing is known yet: new ones, or those that a stop left.
-ghost use Rattle.std.specs.Prelude.{◌≡◌, ◌≢◌, [], length, map, true, IfErr, IfOk};
+ghost use Rattle.std.specs.Prelude.{◌≡◌, ◌≢◌, [], length, map, false, true, IfErr, IfOk, IsErrAnd};
 ghost use Rattle.run_model.specs.Openings.{fresh, opening_in};
 ghost use Rattle.run_model.specs.Runs.{new_world};
 ghost use Rattle.store_recovery.specs.Beginning.{AreEmpty};
-ghost use Rattle.store_recovery.specs.Steps.{OneHasCounted, all_hold};
+ghost use Rattle.store_recovery.specs.Steps.{NoneHasCounted, OneHasCounted, all_hold};
 ghost use Rattle.store_recovery.specs.Settling.{contents};
 ghost use Rattle.store_recovery.specs.Opened.{AreOpened, AreRefused, IsOpeningOf};
 ghost use Rattle.world.specs.GoingOn.{GoesOnFromStores, HoldAsMuch};
@@ -27,9 +27,12 @@ impl<S: Stable> World<S> {
         ensures fresh { IfOk result (λ world. opening_in world.run.lists ≡ fresh setup) }
         ensures stores { IfOk result (λ world. contents S.seen (map store_in world.guardians) ≡ contents S.seen stores.items) }
         ensures refused { IfErr result (λ refused. contents S.seen refused.1.items ≡ contents S.seen stores.items) }
+        ensures empty { all_hold S.seen stores.items ≡ false
+            → IsErrAnd result (λ refused. (refused.0 ≡ Refused.NotOurs) × (refused.1.items ≡ stores.items)) }
         ensures cause { all_hold S.seen stores.items ≡ true → AreEmpty S.seen stores.items
             → IfErr result (λ refused. refused.0 ≢ Refused.Memory → OneHasCounted S.seen stores.items refused.1.items) }
         ensures counted { IfErr result (λ refused. refused.0 ≡ Refused.Stable → OneHasCounted S.seen stores.items refused.1.items) }
+        ensures memory { IfErr result (λ refused. refused.0 ≡ Refused.Memory → NoneHasCounted S.seen stores.items refused.1.items) }
     {
         let mut stores = stores;
         if let Err(why) = begin_stores(alloc, stores.as_mut_slice()) {
