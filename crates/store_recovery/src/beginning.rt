@@ -21,7 +21,8 @@ pub fn begin_stores<S: Stable>(alloc: Global, stores: &mut [S]) -> Result<(), Re
     ensures same { contents S.seen stores.new ≡ contents S.seen stores.old }
     ensures kept { AllZip (KeepsItself S.seen) stores.old stores.new }
     ensures goes { OnOk result (AllZip (GoesOn S.seen) stores.old stores.new) }
-    ensures empty { all_hold S.seen stores.old ≡ false → IsErrOf result Refused.NotOurs × (stores.new ≡ stores.old) }
+    ensures empty { all_hold S.seen stores.old ≡ false
+        → IsErrOf result Refused.NotOurs × (stores.new ≡ stores.old) }
     ensures cause { all_hold S.seen stores.old ≡ true → AreEmpty S.seen stores.old
         → IfErr result (λ why. why ≢ Refused.Memory → OneHasCounted S.seen stores.old stores.new) }
     ensures counted { IsErrOf result Refused.Stable → OneHasCounted S.seen stores.old stores.new }

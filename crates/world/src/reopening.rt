@@ -28,11 +28,13 @@ impl<S: Stable> World<S> {
         ensures stores { IfOk result (λ world. contents S.seen (map store_in world.guardians) ≡ contents S.seen stores.items) }
         ensures refused { IfErr result (λ refused. contents S.seen refused.1.items ≡ contents S.seen stores.items) }
         ensures empty { all_hold S.seen stores.items ≡ false
-            → IsErrAnd result (λ refused. (refused.0 ≡ Refused.NotOurs) × (refused.1.items ≡ stores.items)) }
+            → IsErrAnd result (λ refused.
+            (refused.0 ≡ Refused.NotOurs) × (refused.1.items ≡ stores.items)) }
         ensures cause { all_hold S.seen stores.items ≡ true → AreEmpty S.seen stores.items
             → IfErr result (λ refused. refused.0 ≢ Refused.Memory → OneHasCounted S.seen stores.items refused.1.items) }
         ensures counted { IfErr result (λ refused. refused.0 ≡ Refused.Stable → OneHasCounted S.seen stores.items refused.1.items) }
-        ensures memory { IfErr result (λ refused. refused.0 ≡ Refused.Memory → NoneHasCounted S.seen stores.items refused.1.items) }
+        ensures memory { IfErr result (λ refused. refused.0 ≡ Refused.Memory
+            → NoneHasCounted S.seen stores.items refused.1.items) }
     {
         let mut stores = stores;
         if let Err(why) = begin_stores(alloc, stores.as_mut_slice()) {
