@@ -1,5 +1,5 @@
 -- Rows with rowids of their own, as rows are put in and taken out.
-use Rattle.std.proofs.Common.{◌≡◌, ◌≢◌, inl, inr, ℕ, ℤ, ◌+◌, ◌≤◌, List, [], ◌∷◌, Bool, true, false, not, cond, sym, ap, ◌∙◌, true≢false, Ordering, Less}
+use Rattle.std.proofs.Common.{◌≡◌, ◌≢◌, inl, inr, ℕ, ℤ, ◌+◌, ◌≤◌, List, [], ◌∷◌, Bool, false, not, cond, sym, ap, ◌∙◌, true≢false, Ordering, Less}
 use Rattle.std.proofs.Common.{Equal, Greater, arith}
 use Rattle.std.specs.List.{count_by}
 use Rattle.std.specs.Ordering.{is_eq, match_ordering}

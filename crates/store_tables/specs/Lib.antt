@@ -9,6 +9,7 @@ pub mod Parts
 pub mod Holds
 pub mod Grown
 pub mod Spellings
+pub mod Unread
 pub mod Answered
 pub mod Rising
 pub mod Changes

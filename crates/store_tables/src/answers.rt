@@ -1,12 +1,12 @@
 //! The content that answers stand for.
-ghost use Rattle.std.specs.Prelude.{◌≡◌, ◌≢◌, ℕ, pos, ◌≤◌, length, IfOk, OnOk, IsErrOf};
+ghost use Rattle.std.specs.Prelude.{◌≡◌, ◌≢◌, ℕ, pos, ◌≤◌, length, IfErr, IfOk, OnOk, IsErrOf};
 ghost use Rattle.sqlite.specs.declared.types.Value.TheVariants.{Int, Text};
 ghost use Rattle.sqlite.specs.Order.{column};
 ghost use Rattle.std.specs.FinMap.{from_entries};
 ghost use Rattle.sqlite_rules.specs.Lists.{Has};
 ghost use Rattle.sqlite_trees.specs.Tree.{IsTable};
 ghost use Rattle.stable_store.specs.Stored.{Stored};
-ghost use Rattle.stable_store.specs.declared.fault.StoreFault.TheVariants.{NotOurs};
+ghost use Rattle.stable_store.specs.declared.fault.StoreFault.TheVariants.{Failed, NotOurs};
 ghost use Rattle.stable_store.specs.Held.{held, records_of};
 ghost use Rattle.store_tables.specs.Listed.{Lists};
 ghost use Rattle.store_tables.specs.Shown.{ShowsHome, ShowsRecord, ShowsNumber, IsValueText, IsAddedBy, IsValue, IsDelta};
@@ -52,6 +52,7 @@ pub fn content_of(alloc: Global, answers: &[Vec<Row>]) -> Result<Kept, StoreFaul
     ensures told { IsErrOf result NotOurs → length answers.now ≡ 6
         → AreKeyed (answered (rows_of answers.now)) → (c : Stored)
         → ¬ Holds 0 (answered (rows_of answers.now)) c }
+    ensures ours { IfErr result (λ f. f ≢ Failed) }
 {
     let [numbers, base, homes, values, deltas, decided] = answers else {
         return Err(StoreFault::NotOurs);
@@ -80,6 +81,7 @@ pub fn one_content_is_held()
 fn number_at(row: &Row, place: u32, name: &str) -> Result<u64, StoreFault>
     ensures number { IfOk result (λ n. ShowsNumber row.now (place, (name.now, n))) }
     ensures told { IsErrOf result NotOurs → (n : ℕ) → ¬ ShowsNumber row.now (place, (name.now, n)) }
+    ensures ours { IfErr result (λ f. f ≢ Failed) }
 {
     check_place(row, place)?;
     check_name(row, name)?;
@@ -93,6 +95,7 @@ fn number_at(row: &Row, place: u32, name: &str) -> Result<u64, StoreFault>
 fn check_place(row: &Row, place: u32) -> Result<(), StoreFault>
     ensures is { OnOk result (column row.now 0 ≡ Int (pos place)) }
     ensures told { IsErrOf result NotOurs → column row.now 0 ≢ Int (pos place) }
+    ensures ours { IfErr result (λ f. f ≢ Failed) }
 {
     match row.get::<u32>(0) {
         Ok(n) if n == place => Ok(()),
@@ -105,6 +108,7 @@ fn check_place(row: &Row, place: u32) -> Result<(), StoreFault>
 fn check_name(row: &Row, name: &str) -> Result<(), StoreFault>
     ensures is { OnOk result (column row.now 1 ≡ Text name.now) }
     ensures told { IsErrOf result NotOurs → column row.now 1 ≢ Text name.now }
+    ensures ours { IfErr result (λ f. f ≢ Failed) }
 {
     match row.get::<String>(1) {
         Ok(text) if text.as_str() == name => Ok(()),
@@ -122,6 +126,7 @@ fn numbers_of(rows: &[Row]) -> Result<Numbers, StoreFault>
     ensures told { IsErrOf result NotOurs → IsTable rows.now → (count next_top : ℕ) → 1 ≤ next_top
         → next_top ≤ greatest_next
         → ¬ Lists ShowsNumber rows.now (Has (three_numbers count next_top)) }
+    ensures ours { IfErr result (λ f. f ≢ Failed) }
 {
     let [version, count, next_top] = rows else {
         return Err(StoreFault::NotOurs);
@@ -155,6 +160,7 @@ fn prepared_of(
         → Lists (ShowsHome 0) homes.now (HasHome prepared)
         → Lists (ShowsRecord IsValueText 0) values.now (λ e. HasPart prepared e × IsValue e.1.1)
         → ¬ Lists (ShowsRecord IsAddedBy 0) deltas.now (λ e. HasPart prepared e × IsDelta e.1.1) }
+    ensures ours { IfErr result (λ f. f ≢ Failed) }
 {
     let mut records = homes_of(alloc, homes)?;
     put_record_parts(alloc, values, Spelling::ValueText, &mut records)?;

@@ -1,13 +1,14 @@
 //! What a column of a row has.
-ghost use Rattle.std.specs.Prelude.{◌≡◌, ◌≢◌, ℕ, IfOk, IsErrOf};
+ghost use Rattle.std.specs.Prelude.{◌≡◌, ◌≢◌, ℕ, IfErr, IfOk, IsErrOf};
 ghost use Rattle.sqlite.specs.Order.{column};
 ghost use Rattle.sqlite.specs.declared.error.Error.TheVariants.{SqliteFailure};
 ghost use Rattle.sqlite.specs.declared.error.ErrorCode.TheVariants.{OutOfMemory};
 ghost use Rattle.atomic_types.specs.declared.part.Part.{Part as Spec};
 ghost use Rattle.atomic_types.specs.declared.part.Part.TheVariants.{Delta};
-ghost use Rattle.stable_store.specs.declared.fault.StoreFault.TheVariants.{NotOurs};
+ghost use Rattle.stable_store.specs.declared.fault.StoreFault.TheVariants.{Failed, NotOurs};
 ghost use Rattle.store_tables.specs.Shown.{IsNumber, IsText, IsAddedBy};
 ghost use Rattle.store_tables.specs.Spellings.{Spells};
+ghost use Rattle.store_tables.specs.Unread.{unread_by};
 
 use crate::part_from_text;
 use atomic_types::Part;
@@ -29,7 +30,8 @@ pub(crate) enum Spelling {
 
 /// The fault where a column does not read as what it should be.
 pub(crate) fn unread(error: Error) -> StoreFault
-    ensures { result ≡ NotOurs → error ≢ SqliteFailure OutOfMemory }
+    ensures fault { result ≡ unread_by error }
+    ensures told { result ≡ NotOurs → error ≢ SqliteFailure OutOfMemory }
 {
     match error {
         Error::SqliteFailure(ErrorCode::OutOfMemory) => StoreFault::Memory,
@@ -41,6 +43,7 @@ pub(crate) fn unread(error: Error) -> StoreFault
 pub(crate) fn number_in(row: &Row, at: usize) -> Result<u32, StoreFault>
     ensures number { IfOk result (λ n. IsNumber (column row.now at) n) }
     ensures told { IsErrOf result NotOurs → (n : ℕ) → ¬ IsNumber (column row.now at) n }
+    ensures ours { IfErr result (λ f. f ≢ Failed) }
 {
     match row.get::<u32>(at) {
         Ok(0) => Err(StoreFault::NotOurs),
@@ -53,6 +56,7 @@ pub(crate) fn number_in(row: &Row, at: usize) -> Result<u32, StoreFault>
 pub(crate) fn text_part(alloc: Global, row: &Row, at: usize) -> Result<Part, StoreFault>
     ensures part { IfOk result (λ part. IsText (column row.now at) part) }
     ensures told { IsErrOf result NotOurs → (part : Spec) → ¬ IsText (column row.now at) part }
+    ensures ours { IfErr result (λ f. f ≢ Failed) }
 {
     let text = match row.get::<String>(at) {
         Ok(text) => text,
@@ -69,6 +73,7 @@ pub(crate) fn text_part(alloc: Global, row: &Row, at: usize) -> Result<Part, Sto
 fn added_part(row: &Row, at: usize) -> Result<Part, StoreFault>
     ensures part { IfOk result (λ part. IsAddedBy (column row.now at) part) }
     ensures told { IsErrOf result NotOurs → (part : Spec) → ¬ IsAddedBy (column row.now at) part }
+    ensures ours { IfErr result (λ f. f ≢ Failed) }
 {
     match row.get::<i64>(at) {
         Ok(by) => Ok(Part::Delta(by)),
@@ -86,6 +91,7 @@ pub(crate) fn spelled_part(
     ensures part { IfOk result (λ part. Spells spelling (column row.now at) part) }
     ensures told { IsErrOf result NotOurs → (part : Spec)
         → ¬ Spells spelling (column row.now at) part }
+    ensures ours { IfErr result (λ f. f ≢ Failed) }
 {
     match spelling {
         Spelling::Text => text_part(alloc, row, at),

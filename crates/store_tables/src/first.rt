@@ -1,10 +1,10 @@
 //! The content of tables of version 1.
-ghost use Rattle.std.specs.Prelude.{◌≡◌, ◌⊎◌, ◌+◌, ℕ, length, IfOk, IsErrOf};
+ghost use Rattle.std.specs.Prelude.{◌≡◌, ◌≢◌, ◌⊎◌, ◌+◌, ℕ, length, IfErr, IfOk, IsErrOf};
 ghost use Rattle.std.specs.FinMap.{from_entries};
 ghost use Rattle.std.specs.FinSet as set;
 ghost use Rattle.stable_store.specs.Stored.{Stored};
 ghost use Rattle.stable_store.specs.Held.{held, records_of};
-ghost use Rattle.stable_store.specs.declared.fault.StoreFault.TheVariants.{NotOurs};
+ghost use Rattle.stable_store.specs.declared.fault.StoreFault.TheVariants.{Failed, NotOurs};
 ghost use Rattle.store_tables.specs.Answered.{rows_of};
 ghost use Rattle.store_tables.specs.Listed.{Lists};
 ghost use Rattle.store_tables.specs.Shown.{ShowsHome, ShowsRecord, IsText};
@@ -35,6 +35,7 @@ pub fn first_content_of(alloc: Global, answers: &[Vec<Row>], count: u64) -> Resu
     ensures told { IsErrOf result NotOurs → length answers.now ≡ 4
         → AreKeyedFirst (first_answered (rows_of answers.now)) → (c : Stored)
         → ¬ HoldsFirst 0 (first_answered (rows_of answers.now)) count c }
+    ensures ours { IfErr result (λ f. f ≢ Failed) }
 {
     let [base, homes, parts, decided] = answers else {
         return Err(StoreFault::NotOurs);
@@ -67,6 +68,7 @@ fn prepared_of(
     ensures told { IsErrOf result NotOurs → KeysDiffer homes.now → PartsDiffer parts.now
         → (prepared : Records) → Lists (ShowsHome 0) homes.now (HasHome prepared)
         → ¬ Lists (ShowsRecord IsText 0) parts.now (HasPart prepared) }
+    ensures ours { IfErr result (λ f. f ≢ Failed) }
 {
     let mut records = homes_of(alloc, homes)?;
     put_record_parts(alloc, parts, Spelling::Text, &mut records)?;

@@ -1,11 +1,11 @@
 //! What the rows of answers stand for, in maps.
-ghost use Rattle.std.specs.Prelude.{ℕ, OnOk, IfOk, IsErrOf, IsSome};
+ghost use Rattle.std.specs.Prelude.{◌≢◌, ℕ, OnOk, IfErr, IfOk, IsErrOf, IsSome};
 ghost use Rattle.std.specs.Ordering.{nat_cmp};
 ghost use Rattle.std.specs.FinMap.{from_entries, get, find};
 ghost use Rattle.std.specs.FinSet as set;
 ghost use Rattle.atomic_types.specs.declared.part.Part.{Part as Spec};
 ghost use Rattle.stable_store.specs.Held.{parts_in, records_of};
-ghost use Rattle.stable_store.specs.declared.fault.StoreFault.TheVariants.{NotOurs};
+ghost use Rattle.stable_store.specs.declared.fault.StoreFault.TheVariants.{Failed, NotOurs};
 ghost use Rattle.store_tables.specs.Listed.{Lists};
 ghost use Rattle.store_tables.specs.Shown.{ShowsPart, ShowsHome, ShowsRecord, ShowsTop};
 ghost use Rattle.store_tables.specs.Parts.{HasBase, HasHome, HasPart, IsDecided, HaveNoParts, AreRising};
@@ -26,6 +26,7 @@ fn put_part(alloc: Global, row: &Row, base: &mut BTreeMap<u32, Part>) -> Result<
     ensures adds { OnOk result (AddsShown (ShowsPart 0) row.now (HasBase (parts_in base.old)) (HasBase (parts_in base.new))) }
     ensures told { IsErrOf result NotOurs → (e : ℕ × Spec) → ShowsPart 0 row.now e
         → IsSome (get (parts_in base.old) e.0) }
+    ensures ours { IfErr result (λ f. f ≢ Failed) }
 {
     let object = number_in(row, 0)?;
     let part = text_part(alloc, row, 1)?;
@@ -41,6 +42,7 @@ pub(crate) fn base_of(alloc: Global, rows: &[Row]) -> Result<BTreeMap<u32, Part>
     ensures listed { IfOk result (λ base. Lists (ShowsPart 0) rows.now (HasBase (parts_in base))) }
     ensures told { IsErrOf result NotOurs → EachShows (ShowsPart 0) rows.now
         → ¬ KeysDiffer rows.now }
+    ensures ours { IfErr result (λ f. f ≢ Failed) }
 {
     let mut base = BTreeMap::new(alloc);
     for row in rows {
@@ -61,6 +63,7 @@ fn put_home(
         → HaveNoParts (from_entries (records_of records.new.entries))) }
     ensures told { IsErrOf result NotOurs → (e : ℕ × ℕ) → ShowsHome 0 row.now e
         → IsPrepared (from_entries (records_of records.old.entries)) e.0 }
+    ensures ours { IfErr result (λ f. f ≢ Failed) }
 {
     let top = number_in(row, 0)?;
     let record = Prepared {
@@ -80,6 +83,7 @@ pub(crate) fn homes_of(alloc: Global, rows: &[Row]) -> Result<BTreeMap<u32, Prep
     ensures empty { IfOk result (λ records. HaveNoParts (from_entries (records_of records.entries))) }
     ensures told { IsErrOf result NotOurs → EachShows (ShowsHome 0) rows.now
         → ¬ KeysDiffer rows.now }
+    ensures ours { IfErr result (λ f. f ≢ Failed) }
 {
     let mut records = BTreeMap::new(alloc);
     for row in rows {
@@ -92,6 +96,7 @@ pub(crate) fn homes_of(alloc: Global, rows: &[Row]) -> Result<BTreeMap<u32, Prep
 fn put_into(parts: &mut BTreeMap<u32, Part>, object: u32, part: Part) -> Result<(), StoreFault>
     ensures takes { OnOk result (TakesOne object part parts.old.entries parts.new.entries) }
     ensures told { IsErrOf result NotOurs → IsSome (find nat_cmp object parts.old.entries) }
+    ensures ours { IfErr result (λ f. f ≢ Failed) }
 {
     let replaced = parts.insert(object, part)?;
     if replaced.is_some() {
@@ -115,6 +120,7 @@ fn put_record_part(
         → ShowsRecord (Spells spelling) 0 row.now e
         → IsPrepared (from_entries (records_of records.old.entries)) e.0
         → IsTaken (from_entries (records_of records.old.entries)) e.0 e.1.0 }
+    ensures ours { IfErr result (λ f. f ≢ Failed) }
 {
     let top = number_in(row, 0)?;
     let object = number_in(row, 1)?;
@@ -139,6 +145,7 @@ pub(crate) fn put_record_parts(
     ensures told { IsErrOf result NotOurs
         → AreNew (Spells spelling) rows.now (from_entries (records_of records.old.entries))
         → ¬ PartsDiffer rows.now }
+    ensures ours { IfErr result (λ f. f ≢ Failed) }
 {
     for row in rows {
         put_record_part(alloc, row, spelling, records)?;
@@ -150,6 +157,7 @@ pub(crate) fn put_record_parts(
 pub(crate) fn tops_of(alloc: Global, rows: &[Row]) -> Result<BTreeSet<u32>, StoreFault>
     ensures listed { IfOk result (λ tops. Lists ShowsTop rows.now (IsDecided (set.from_list tops.keys))) }
     ensures told { IsErrOf result NotOurs → ¬ EachShows ShowsTop rows.now }
+    ensures ours { IfErr result (λ f. f ≢ Failed) }
 {
     let mut tops = BTreeSet::new(alloc);
     for row in rows {

@@ -30,7 +30,7 @@ pub fn part_text(alloc: Global, part: &Part) -> Result<String, AllocError>
     }
 }
 
-/// The part whose one spelling this is. `Unfit` comes exactly where no part is spelled so.
+/// The part whose one spelling this is. `Unfit` comes only where no part is spelled so.
 pub fn part_from_text(alloc: Global, text: &str) -> Result<Part, ValueFault>
     ensures found { IfOk result (λ part. IsStoredPart part × (text.now ≡ text_of part)) }
     ensures refused { IsErrOf result Unfit → (part : Spec) → IsStoredPart part → text.now ≢ text_of part }
@@ -77,7 +77,7 @@ fn finished(out: Writer) -> String
     String::from_utf8(out.into_inner()).unwrap()
 }
 
-/// The delta whose one spelling this is. `Unfit` comes exactly where no delta is spelled so.
+/// The delta whose one spelling this is. `Unfit` comes only where no delta is spelled so.
 fn delta_from_text(alloc: Global, text: &str) -> Result<Counter, ValueFault>
     ensures found { IfOk result (λ by. text.now ≡ compact_text (delta_data by)) }
     ensures refused { IsErrOf result Unfit → (by : ℤ) → IsCounter by → text.now ≢ compact_text (delta_data by) }
@@ -89,7 +89,7 @@ fn delta_from_text(alloc: Global, text: &str) -> Result<Counter, ValueFault>
     Ok(by)
 }
 
-/// The delta that this text is, however it is spelled. `Unfit` comes exactly where no delta is this text.
+/// The delta that this text is, however it is spelled. `Unfit` comes only where no delta is this text.
 fn read_delta(alloc: Global, text: &str) -> Result<Counter, ValueFault>
     ensures found { IfOk result (λ by. read text.now ≡ Some (delta_data by)) }
     ensures refused { IsErrOf result Unfit → (by : ℤ) → IsCounter by → read text.now ≢ Some (delta_data by) }
@@ -98,7 +98,7 @@ fn read_delta(alloc: Global, text: &str) -> Result<Counter, ValueFault>
     delta_of(&json)
 }
 
-/// The delta that this document is. `Unfit` comes exactly where no delta is this document.
+/// The delta that this document is. `Unfit` comes only where no delta is this document.
 fn delta_of(json: &Json) -> Result<Counter, ValueFault>
     ensures found { IfOk result (λ by. view json.now ≡ delta_data by) }
     ensures refused { IsErrOf result Unfit → (by : ℤ) → IsCounter by → view json.now ≢ delta_data by }
