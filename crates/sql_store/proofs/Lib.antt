@@ -16,6 +16,7 @@ mod Works
 mod Schemas
 mod TableTexts
 mod Outside
+mod Failing
 mod Layouts
 mod Numbers
 mod Found

@@ -1,15 +1,17 @@
 //! Reading the tables.
-ghost use Rattle.std.specs.Prelude.{◌≡◌, ◌<◌, false, IsErrOf, IsTrue, length, map};
+ghost use Rattle.std.specs.Prelude.{◌≡◌, ◌<◌, ◌∷◌, ◌++◌, false, IsErrOf, IsTrue, length, map};
 ghost use Rattle.sqlite.specs.Held.{state};
 ghost use Rattle.sqlite.specs.Schema.{Schema};
 ghost use Rattle.sqlite.specs.State.{HasCleanDisk};
 ghost use Rattle.stable_store.specs.Stored.{Stored};
 ghost use Rattle.stable_store.specs.Held.{held};
-ghost use Rattle.stable_store.specs.declared.fault.StoreFault.TheVariants.{NotOurs};
-ghost use Rattle.store_tables.specs.Answered.{rows_of};
+ghost use Rattle.stable_store.specs.declared.fault.StoreFault.TheVariants.{Failed, NotOurs};
+ghost use Rattle.store_tables.specs.Answered.{queries, rows_of};
 ghost use Rattle.store_tables.specs.Holds.{Holds, IsLaidOut, tables_of};
 ghost use Rattle.store_tables.specs.Rows.{HaveRowids};
 ghost use Rattle.sql_store.specs.Reading.{IsQueryOf, IsAnswerOf, AreQueriesOf, AreAnswersOf, Quiets, QuietsWith, LooksUp, StaysOut, Recognizes};
+ghost use Rattle.sql_store.specs.Failing.{HasFailed, KeepsTrack, OneFailed};
+ghost use Rattle.sql_store.specs.Failing.{count_query, first_queries, rowid_queries};
 ghost use Rattle.sql_store.specs.First.{IsFirst, RecognizesFirst};
 ghost use Rattle.sql_store.specs.Beside.{IsBeside, RecognizesBeside};
 
@@ -34,6 +36,9 @@ pub(crate) fn answer<A: Alter>(
         → LooksUp (state A.Store conn.old) (state A.Store conn.new)
         (λ d rows. IsAnswerOf tables d query.now rows.items) result }
     ensures told { IsErrOf result NotOurs → ⊥ }
+    ensures track { KeepsTrack (state A.Store conn.old) (state A.Store conn.new) }
+    ensures failed { IsErrOf result Failed → HasCleanDisk (state A.Store conn.new)
+        → HasFailed query.now (state A.Store conn.old) (state A.Store conn.new) }
 {
     match conn.query_all(query, &[]) {
         Ok(rows) => Ok(rows),
@@ -55,6 +60,10 @@ fn answers<A: Alter>(
         (λ d answers. AreAnswersOf tables d (map (λ q. q.now) queries.now) (rows_of answers.items))
         result }
     ensures told { IsErrOf result NotOurs → ⊥ }
+    ensures track { KeepsTrack (state A.Store conn.old) (state A.Store conn.new) }
+    ensures failed { IsErrOf result Failed → HasCleanDisk (state A.Store conn.new)
+        → OneFailed A.Store (map (λ q. q.now) queries.now) (state A.Store conn.old)
+        (state A.Store conn.new) }
 {
     let mut answers = Vec::new(alloc);
     for query in queries {
@@ -77,6 +86,8 @@ pub(crate) fn read_content<A: Alter>(
         (λ _ kept. held kept ≡ c) result }
     ensures recognized_beside { RecognizesBeside (state A.Store conn.old) (state A.Store conn.new)
         result }
+    ensures failed { IsErrOf result Failed → HasCleanDisk (state A.Store conn.new)
+        → OneFailed A.Store queries (state A.Store conn.old) (state A.Store conn.new) }
 {
     one_content_is_held();
     content_of(alloc, &answers(conn, alloc, &QUERIES)?)
@@ -88,6 +99,9 @@ fn check_rowids<A: Alter>(conn: &mut Connection<A>, alloc: Global) -> Result<(),
     ensures looks { Quiets (state A.Store conn.old)
         → LooksUp (state A.Store conn.old) (state A.Store conn.new) (λ d _. HaveRowids d.trees) result }
     ensures recognized { Recognizes (state A.Store conn.old) (state A.Store conn.new) result }
+    ensures track { KeepsTrack (state A.Store conn.old) (state A.Store conn.new) }
+    ensures failed { IsErrOf result Failed → HasCleanDisk (state A.Store conn.new)
+        → OneFailed A.Store rowid_queries (state A.Store conn.old) (state A.Store conn.new) }
 {
     match all_rise(&answers(conn, alloc, &ROWIDS)?) {
         true => Ok(()),
@@ -111,6 +125,9 @@ pub(crate) fn read_store<A: Alter>(
         (λ _ kept. held kept ≡ c) result }
     ensures recognized_beside { is_known ≡ false
         → RecognizesBeside (state A.Store conn.old) (state A.Store conn.new) result }
+    ensures failed { IsErrOf result Failed → HasCleanDisk (state A.Store conn.new)
+        → OneFailed A.Store (rowid_queries ++ queries) (state A.Store conn.old)
+        (state A.Store conn.new) }
 {
     if !is_known {
         return read_content(conn, alloc);
@@ -130,6 +147,9 @@ pub(crate) fn read_first<A: Alter>(
         → LooksUp (state A.Store conn.old) (state A.Store conn.new)
         (λ _ kept. held kept ≡ c) result }
     ensures recognized { RecognizesFirst (state A.Store conn.old) (state A.Store conn.new) result }
+    ensures failed { IsErrOf result Failed → HasCleanDisk (state A.Store conn.new)
+        → OneFailed A.Store (count_query ∷ first_queries) (state A.Store conn.old)
+        (state A.Store conn.new) }
 {
     one_part_spelling();
     let count = number_named(conn, READ_COUNT)?;

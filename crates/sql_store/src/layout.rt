@@ -1,11 +1,12 @@
 //! Which tables a database has, and the numbers of `meta` by name.
-ghost use Rattle.std.specs.Prelude.{◌≡◌, ℕ, ◌∷◌, false, IfOk, IsErrOf, IsTrue, map, Err};
+ghost use Rattle.std.specs.Prelude.{◌≡◌, ◌≢◌, ℕ, ◌∷◌, false, IfErr, IfOk, IsErrOf, IsTrue, map, Err};
 ghost use Rattle.sqlite.specs.Held.{state};
 ghost use Rattle.sqlite.specs.Schema.{Schema};
 ghost use Rattle.sqlite.specs.State.{HasCleanDisk};
-ghost use Rattle.stable_store.specs.declared.fault.StoreFault.TheVariants.{NotOurs};
+ghost use Rattle.stable_store.specs.declared.fault.StoreFault.TheVariants.{Failed, NotOurs};
 ghost use Rattle.store_tables.specs.Tables.{stable_schema};
-ghost use Rattle.sql_store.specs.Reading.{IsAlone, IsSettled, IsQueryOf, QuietsWith, IsOnlyNumber, IsNumberOf, IsCounted, LooksUp};
+ghost use Rattle.sql_store.specs.Reading.{IsAlone, IsSettled, IsQueryOf, QuietsWith, IsOnlyNumber, IsNumberOf, IsCounted, LooksUp, StaysOut};
+ghost use Rattle.sql_store.specs.Failing.{HasFailed, KeepsTrack};
 ghost use Rattle.sql_store.specs.Layouts.{presence, presence_in, IsAbsence, IsPresence, IsLayout};
 ghost use Rattle.sql_store.specs.declared.layout.Layout.TheVariants.{Nothing, First, Second};
 ghost use Rattle.sql_store.specs.declared.layout.Presence.TheVariants.{Missing, There};
@@ -168,6 +169,10 @@ pub(crate) fn number_named<A: Alter>(
         → IsQueryOf tables query.now → QuietsWith tables (state A.Store conn.old)
         → ¬ (IsTrue (state A.Store conn.old).is_open
         → IsCounted tables query.now (state A.Store conn.old).now) }
+    ensures track { KeepsTrack (state A.Store conn.old) (state A.Store conn.new) }
+    ensures failed { IsErrOf result Failed → HasCleanDisk (state A.Store conn.new)
+        → HasFailed query.now (state A.Store conn.old) (state A.Store conn.new) }
+    ensures outside { StaysOut (state A.Store conn.old) (state A.Store conn.new) result }
 {
     let rows = answer(conn, query)?;
     only_number(&rows)
@@ -177,6 +182,7 @@ pub(crate) fn number_named<A: Alter>(
 fn only_number(rows: &[Row]) -> Result<u64, StoreFault>
     ensures number { IfOk result (IsOnlyNumber rows.now) }
     ensures told { IsErrOf result NotOurs → (n : ℕ) → ¬ IsOnlyNumber rows.now n }
+    ensures ours { IfErr result (λ f. f ≢ Failed) }
 {
     let [row] = rows else {
         return Err(StoreFault::NotOurs);

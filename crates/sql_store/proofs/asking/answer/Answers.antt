@@ -1,6 +1,8 @@
 use Rattle.sqlite.specs.Held.{state}
 use Rattle.sql_store.proofs.Looking.{clean_before, shown_schema}
 use Rattle.sql_store.proofs.Queries.{looked_up, not_looked_up}
+use Rattle.std.proofs.Common.{◌≡◌, sym, ◌∙◌}
+use Rattle.stable_store.specs.declared.fault.StoreFault.TheVariants.{Failed}
 use Rattle.sql_store.proofs.asking.answer.Goals as goal
 
 pub returns-in-Ok-clause-looks : goal.returns-in-Ok-clause-looks
@@ -30,3 +32,14 @@ returns-in-Err-clause-outside g c =
     let old = state g.A.Store c.args.conn.now in
     let new = state g.A.Store c.query_all.new.self in
     record { clean = clean_before old new _ c.query_all.ensures.survives; mode = c.query_all.ensures.mode; schema = λ clean. tt }
+
+pub returns-in-Err-clause-failed : goal.returns-in-Err-clause-failed
+returns-in-Err-clause-failed g c is clean =
+    let same : c.fault_of.result ≡ Failed = cc in
+    record { error = c.in-Err.error; fails = c.in-Err.ensures.err clean; failure = sym c.fault_of.ensures.fault ∙ same }
+
+pub returns-in-Ok-clause-track : goal.returns-in-Ok-clause-track
+returns-in-Ok-clause-track g c = record { counts = c.query_all.ensures.survives.counts; limit = c.query_all.ensures.survives.limit }
+
+pub returns-in-Err-clause-track : goal.returns-in-Err-clause-track
+returns-in-Err-clause-track g c = record { counts = c.query_all.ensures.survives.counts; limit = c.query_all.ensures.survives.limit }

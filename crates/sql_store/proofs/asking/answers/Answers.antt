@@ -8,6 +8,7 @@ use Rattle.sql_store.specs.Reading.{AreAnswersOf, IsAnswerOf, LooksUp}
 use Rattle.sql_store.proofs.Sequences.{weaker_reads}
 use Rattle.sql_store.proofs.Asked.{Asked, quiet_mid, one_asked, none_asked, next_text, text_at, no_text, given_up, all_asked}
 use Rattle.sql_store.proofs.Outside.{stays_self, stays_then, stays_any, stays_err}
+use Rattle.sql_store.proofs.Failing.{failed_by, lacks_memory, failed_at, tracks_self, tracks_then}
 use Rattle.sql_store.proofs.asking.answers.Goals as goal
 
 abbrev texts_of : List (Bor (List ℕ)) → List (List ℕ)
@@ -16,7 +17,7 @@ texts_of qs = map (λ (b : Bor (List ℕ)). b.now) qs
 pub loop-query-init : goal.loop-query-init
 loop-query-init g c =
     let none : c.new-answers.result.items ≡ [] = search rules in
-    record { asked = λ tables texts quiet. inl (refl, refl, ap rows_of none); outside = stays_self (state g.A.Store c.args.conn.now) tt }
+    record { asked = λ tables texts quiet. inl (refl, refl, ap rows_of none); outside = stays_self (state g.A.Store c.args.conn.now) tt; track = tracks_self (state g.A.Store c.args.conn.now) }
 
 pub returns-in_err-answer-clause-looks : goal.returns-in_err-answer-clause-looks
 returns-in_err-answer-clause-looks g c tables texts quiet =
@@ -69,6 +70,7 @@ loop-query-preserved g c =
           (subst (λ rs. Asked tables at first (texts_of (take i qs) ++ q.now ∷ []) last rs) (sym (map-append (λ (it : Vec Row Global). it.items) c.loop-query.answers.items (rows ∷ [])))
           (one_asked tables at first quiet (texts_of (take i qs)) mid last shown q.now so_far rows one)));
       outside = stays_any (state at first) (state at last) rows (Ok tt) (stays_then (state at first) (state at mid) (state at last) tt (Ok rows) c.loop-query.invariant.outside c.in_ok-answer.ensures.outside);
+      track = tracks_then (state at first) (state at mid) (state at last) c.loop-query.invariant.track c.answer.ensures.track;
     }
 
 pub returns-clause-looks : goal.returns-clause-looks
@@ -96,3 +98,24 @@ returns-in_err-push-clause-outside g c =
 
 pub returns-clause-outside : goal.returns-clause-outside
 returns-clause-outside g c = stays_any (state g.A.Store c.args.conn.now) (state g.A.Store c.loop-query.conn) tt (Ok c.loop-query.answers) c.loop-query.invariant.outside
+
+pub returns-in_err-answer-clause-failed : goal.returns-in_err-answer-clause-failed
+returns-in_err-answer-clause-failed g c is clean =
+    let first = state g.A.Store c.args.conn.now in
+    let last = state g.A.Store c.answer.new.conn in
+    failed_at g.A.Store c.args.queries.now c.loop-query.query-index no_text c.loop-query-test.true first c.loop-query.conn last c.loop-query.invariant.outside c.loop-query.invariant.track
+    (c.in_err-answer.ensures.failed (failed_by c.from_residual.result c.in_err-answer.field-0.0 c.from_residual.ensures.1 is) clean)
+
+pub returns-in_err-push-clause-failed : goal.returns-in_err-push-clause-failed
+returns-in_err-push-clause-failed g c is clean = absurd (lacks_memory c.from_residual-in_err-push.result c.from_residual-in_err-push.ensures.1 is)
+
+pub returns-in_err-answer-clause-track : goal.returns-in_err-answer-clause-track
+returns-in_err-answer-clause-track g c =
+    tracks_then (state g.A.Store c.args.conn.now) (state g.A.Store c.loop-query.conn) (state g.A.Store c.answer.new.conn) c.loop-query.invariant.track c.answer.ensures.track
+
+pub returns-in_err-push-clause-track : goal.returns-in_err-push-clause-track
+returns-in_err-push-clause-track g c =
+    tracks_then (state g.A.Store c.args.conn.now) (state g.A.Store c.loop-query.conn) (state g.A.Store c.answer.new.conn) c.loop-query.invariant.track c.answer.ensures.track
+
+pub returns-clause-track : goal.returns-clause-track
+returns-clause-track g c = c.loop-query.invariant.track

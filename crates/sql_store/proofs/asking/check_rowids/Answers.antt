@@ -16,6 +16,7 @@ use Rattle.sql_store.proofs.Outside.{stays_any, stays_err}
 use Rattle.store_tables.proofs.Told.{told_by}
 use Rattle.sql_store.proofs.Loads.{quiets}
 use Rattle.sql_store.proofs.Recognized.{rowids_told}
+use Rattle.sql_store.proofs.Failing.{failed_by}
 use Rattle.sql_store.proofs.asking.check_rowids.Goals as goal
 
 pub returns-in_err-answers-clause-looks : goal.returns-in_err-answers-clause-looks
@@ -63,3 +64,7 @@ returns-clause-recognized g c is clean k stands =
     let new = state g.A.Store c.answers.new.conn in
     let rise = rowids_told old new k c.in_ok-answers.field-0 c.deref.result.now same clean stands (c.in_ok-answers.ensures.looks stable_schema are_rowids_queries (quiets old k stands)) in
     true≢false (sym (c.all_rise.ensures.found rise) ∙ c.in-false.is)
+
+pub returns-in_err-answers-clause-failed : goal.returns-in_err-answers-clause-failed
+returns-in_err-answers-clause-failed g c is clean =
+    c.in_err-answers.ensures.failed (failed_by c.from_residual.result c.in_err-answers.field-0.0 c.from_residual.ensures.1 is) clean

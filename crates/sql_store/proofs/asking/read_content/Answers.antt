@@ -16,6 +16,7 @@ use Rattle.sql_store.proofs.Loads.{quiets}
 use Rattle.sql_store.proofs.Recognized.{content_told}
 use Rattle.sql_store.specs.Reading.{AreAnswersOf}
 use Rattle.sql_store.proofs.Beside.{quiets_beside, beside_read, beside_told}
+use Rattle.sql_store.proofs.Failing.{failed_by, no_failure}
 use Rattle.sql_store.proofs.asking.read_content.Goals as goal
 
 pub returns-in_err-answers-clause-looks : goal.returns-in_err-answers-clause-looks
@@ -83,3 +84,12 @@ returns-clause-recognized_beside g c is clean k it =
     let new = state g.A.Store c.answers.new.conn in
     beside_told old new k it c.in_ok-answers.field-0 (c.in_ok-answers.ensures.looks it.tables it.beside.asked (quiets_beside old k it)) c.deref.result.now same clean
     (λ six keyed. c.content_of.ensures.told is six keyed k)
+
+-- ---- failures
+
+pub returns-in_err-answers-clause-failed : goal.returns-in_err-answers-clause-failed
+returns-in_err-answers-clause-failed g c is clean =
+    c.in_err-answers.ensures.failed (failed_by c.from_residual.result c.in_err-answers.field-0.0 c.from_residual.ensures.1 is) clean
+
+pub returns-clause-failed : goal.returns-clause-failed
+returns-clause-failed g c is clean = absurd (no_failure c.content_of.result c.content_of.ensures.ours is)

@@ -13,6 +13,9 @@ use Rattle.sql_store.proofs.Sequences.{failed_reads, and_reads}
 use Rattle.sql_store.proofs.FirstQueries.{first_queries, are_first_queries, first_text, first_count, number_there}
 use Rattle.sql_store.proofs.Numbers.{count_text}
 use Rattle.sql_store.proofs.FirstRead.{first_quiets, first_still, content_read, first_told}
+use Rattle.std.specs.Prelude.{[], ◌∷◌}
+use Rattle.sql_store.specs.Failing.{count_query}
+use Rattle.sql_store.proofs.Failing.{failed_by, no_failure, first_failed, failed_later}
 use Rattle.sql_store.proofs.asking.read_first.Goals as goal
 
 abbrev answered : Database → Vec (Vec Row Global) Global → Type 0
@@ -72,3 +75,19 @@ returns-clause-recognized g c is clean k first =
     first_told a b d k first n number c.in_ok-answers.field-0 c.deref.result.now same clean
     (c.in_ok-answers.ensures.looks first_schema are_first_queries (first_quiets b k mid))
     (λ four keyed. c.first_content_of.ensures.told is four keyed k)
+
+-- ---- failures
+
+pub returns-in_err-count-clause-failed : goal.returns-in_err-count-clause-failed
+returns-in_err-count-clause-failed g c is clean =
+    first_failed g.A.Store count_query first_queries c.args.conn.now (state g.A.Store c.number_named.new.conn)
+    (c.in_err-count.ensures.failed (failed_by c.from_residual.result c.in_err-count.field-0.0 c.from_residual.ensures.1 is) clean)
+
+pub returns-in_err-answers-clause-failed : goal.returns-in_err-answers-clause-failed
+returns-in_err-answers-clause-failed g c is clean =
+    failed_later g.A.Store (count_query ∷ []) first_queries (state g.A.Store c.args.conn.now) (state g.A.Store c.number_named.new.conn) (state g.A.Store c.answers.new.conn) c.in_ok-count.count
+    c.in_ok-count.ensures.outside c.number_named.ensures.track
+    (c.in_err-answers.ensures.failed (failed_by c.from_residual-in_err-answers.result c.in_err-answers.field-0.0 c.from_residual-in_err-answers.ensures.1 is) clean)
+
+pub returns-clause-failed : goal.returns-clause-failed
+returns-clause-failed g c is clean = absurd (no_failure c.first_content_of.result c.first_content_of.ensures.ours is)

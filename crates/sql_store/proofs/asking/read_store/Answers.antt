@@ -6,10 +6,13 @@ use Rattle.stable_store.specs.Held.{held}
 use Rattle.store_tables.specs.Holds.{Holds, IsLaidOut, tables_of}
 use Rattle.store_tables.specs.Rows.{HaveRowids}
 use Rattle.sql_store.proofs.Sequences.{weaker_reads, and_checks, failed_reads}
-use Rattle.sql_store.proofs.Outside.{stays_then, stays_err}
+use Rattle.sql_store.proofs.Outside.{stays_self, stays_then, stays_err}
 use Rattle.store_tables.proofs.Told.{told_by}
 use Rattle.sql_store.proofs.Loads.{quiets}
 use Rattle.sql_store.proofs.Found.{stands_still}
+use Rattle.store_tables.specs.Answered.{queries}
+use Rattle.sql_store.specs.Failing.{rowid_queries}
+use Rattle.sql_store.proofs.Failing.{failed_by, failed_early, failed_later, tracks_self}
 use Rattle.sql_store.proofs.asking.read_store.Goals as goal
 
 pub returns-in_err-check_rowids-clause-looks : goal.returns-in_err-check_rowids-clause-looks
@@ -63,3 +66,20 @@ returns-in_err-check_rowids-clause-recognized_beside g c other is clean k it = a
 
 pub returns-clause-recognized_beside : goal.returns-clause-recognized_beside
 returns-clause-recognized_beside g c other is clean k it = absurd (true≢false (sym c.if-not-is_known.false ∙ other))
+
+-- ---- failures
+
+pub returns-in_err-check_rowids-clause-failed : goal.returns-in_err-check_rowids-clause-failed
+returns-in_err-check_rowids-clause-failed g c is clean =
+    failed_early g.A.Store rowid_queries queries (state g.A.Store c.args.conn.now) (state g.A.Store c.check_rowids.new.conn)
+    (c.in_err-check_rowids.ensures.failed (failed_by c.from_residual.result c.in_err-check_rowids.field-0.0 c.from_residual.ensures.1 is) clean)
+
+pub returns-clause-failed : goal.returns-clause-failed
+returns-clause-failed g c is clean =
+    failed_later g.A.Store rowid_queries queries (state g.A.Store c.args.conn.now) (state g.A.Store c.check_rowids.new.conn) (state g.A.Store c.read_content-2.new.conn) c.in_ok-check_rowids.field-0
+    c.in_ok-check_rowids.ensures.outside c.check_rowids.ensures.track (c.read_content-2.ensures.failed is clean)
+
+pub returns-then-not-is_known-clause-failed : goal.returns-then-not-is_known-clause-failed
+returns-then-not-is_known-clause-failed g c is clean =
+    let old = state g.A.Store c.args.conn.now in
+    failed_later g.A.Store {T = Unit {0}} rowid_queries queries old old (state g.A.Store c.read_content.new.conn) tt (stays_self old tt) (tracks_self old) (c.read_content.ensures.failed is clean)

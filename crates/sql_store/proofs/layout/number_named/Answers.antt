@@ -5,6 +5,9 @@ use Rattle.sqlite.specs.Order.{Row}
 use Rattle.store_tables.proofs.Told.{told_by}
 use Rattle.sql_store.specs.Reading.{IsAnswerOf, IsOnlyNumber, IsNumberOf}
 use Rattle.sql_store.proofs.Sequences.{failed_reads, then_reads, ok_leads}
+use Rattle.std.proofs.Common.{Err}
+use Rattle.sql_store.proofs.Outside.{stays_any, stays_err}
+use Rattle.sql_store.proofs.Failing.{failed_by, no_failure}
 use Rattle.sql_store.proofs.layout.number_named.Goals as goal
 
 pub returns-in_err-rows-clause-looks : goal.returns-in_err-rows-clause-looks
@@ -33,3 +36,18 @@ returns-clause-told g c is clean tables text quiet counted =
     let looked = (c.in_ok-rows.ensures.looks tables text quiet).ok clean in
     let one = counted looked.0.was_open c.in_ok-rows.rows.items looked.1 in
     c.only_number.ensures.told is one.0 (subst (λ xs. IsOnlyNumber xs one.0) (sym same) one.1)
+
+pub returns-in_err-rows-clause-outside : goal.returns-in_err-rows-clause-outside
+returns-in_err-rows-clause-outside g c =
+    let p = err_from_is_err_and c.from_residual.result c.from_residual.ensures.1 in
+    stays_err (state g.A.Store c.args.conn.now) (state g.A.Store c.answer.new.conn) (Err c.in_err-rows.field-0.0) p.0 c.from_residual.result p.1 c.in_err-rows.ensures.outside
+
+pub returns-clause-outside : goal.returns-clause-outside
+returns-clause-outside g c = stays_any (state g.A.Store c.args.conn.now) (state g.A.Store c.answer.new.conn) c.in_ok-rows.rows c.only_number.result c.in_ok-rows.ensures.outside
+
+pub returns-in_err-rows-clause-failed : goal.returns-in_err-rows-clause-failed
+returns-in_err-rows-clause-failed g c is clean =
+    c.in_err-rows.ensures.failed (failed_by c.from_residual.result c.in_err-rows.field-0.0 c.from_residual.ensures.1 is) clean
+
+pub returns-clause-failed : goal.returns-clause-failed
+returns-clause-failed g c is clean = absurd (no_failure c.only_number.result c.only_number.ensures.ours is)
