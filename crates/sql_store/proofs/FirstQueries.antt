@@ -30,8 +30,9 @@ use Rattle.store_tables.proofs.Keys.{equal_word}
 use Rattle.store_tables.proofs.Listed.{looked}
 use Rattle.sql_store.specs.Reading.{IsQueryOf, IsAnswerOf, AreQueriesOf, AreAnswersOf, IsOnlyNumber, IsCounted}
 use Rattle.sql_store.specs.First.{Names}
+use Rattle.sql_store.specs.Failing.{count_query, first_queries}
 use Rattle.sql_store.proofs.Queries.{ordered_query, viewed, has_permuted}
-use Rattle.sql_store.proofs.Numbers.{version_text, count_text}
+use Rattle.sql_store.proofs.Numbers.{version_text}
 
 -- what is known of a text that is such a query of version 1
 pub record IsFirstQuery (sql : List ℕ) (q : Query) : Type 0 where
@@ -66,14 +67,6 @@ first_parts = record { names = codes "top" ∷ codes "obj" ∷ codes "val" ∷ [
 pub first_decided : IsFirstQuery (codes "SELECT top FROM decided") (ordered_query [] 6 (col 1 0 ∷ []))
 unfolding understood everything
 first_decided = record { names = codes "top" ∷ []; is = refl; plain = (refl, refl); unlisted = refl }
-
-abbrev pub first_queries : List (List ℕ)
-first_queries =
-    codes "SELECT obj, val FROM base"
-    ∷ codes "SELECT top, home FROM prepared"
-    ∷ codes "SELECT top, obj, val FROM prepared_val"
-    ∷ codes "SELECT top FROM decided"
-    ∷ []
 
 pub are_first_queries : AreQueriesOf first_schema first_queries
 are_first_queries = (first_text _ _ first_base, (first_text _ _ first_homes, (first_text _ _ first_parts, (first_text _ _ first_decided, tt))))
@@ -165,7 +158,7 @@ pub first_version : IsFirstQuery version_text (number_query (codes "version"))
 unfolding understood everything
 first_version = record { names = codes "v" ∷ []; is = refl; plain = (refl, refl); unlisted = refl }
 
-pub first_count : IsFirstQuery count_text (number_query (codes "count"))
+pub first_count : IsFirstQuery count_query (number_query (codes "count"))
 unfolding understood everything
 first_count = record { names = codes "v" ∷ []; is = refl; plain = (refl, refl); unlisted = refl }
 

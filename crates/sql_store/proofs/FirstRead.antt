@@ -28,13 +28,14 @@ use Rattle.sql_store.specs.declared.layout.Layout.TheVariants.{First}
 use Rattle.sql_store.specs.Layouts.{IsLayout}
 use Rattle.sql_store.specs.Reading.{QuietsWith, ShowsTheSame, LooksUp, AreAnswersOf, IsNumberOf}
 use Rattle.sql_store.specs.First.{IsFirstStore, IsFirst}
+use Rattle.sql_store.specs.Failing.{count_query, first_queries}
 use Rattle.sql_store.proofs.Sequences.{ok_leads, and_reads}
 use Rattle.sql_store.proofs.Found.{same_still}
-use Rattle.sql_store.proofs.Numbers.{version_text, count_text}
+use Rattle.sql_store.proofs.Numbers.{version_text}
 use Rattle.sql_store.proofs.Rowids.{as_many}
 use Rattle.sql_store.proofs.Recognized.{not_true, numbers_in, comes_once, as_many_answers}
 use Rattle.sql_store.proofs.FirstContent.{OneSpelling, one_first}
-use Rattle.sql_store.proofs.FirstQueries.{first_answer, first_base, first_homes, first_parts, first_queries, first_views, first_held_by, first_stands_for}
+use Rattle.sql_store.proofs.FirstQueries.{first_answer, first_base, first_homes, first_parts, first_views, first_held_by, first_stands_for}
 use Rattle.sql_store.proofs.FirstQueries.{first_version, first_count, number_query, number_shown, one_number}
 
 -- ---- what stays over a look
@@ -75,10 +76,10 @@ version_is d c n store seen =
     one_number seen.0 n 1 seen.2
     (number_shown (codes "version") (overlay d.trees []) seen.0 1 (first_answer version_text (number_query (codes "version")) first_version d seen.0 seen.1) store.version)
 
-pub count_is : (d : Database) (c : Stored) (n : ℕ) → IsFirstStore d.trees c → IsNumberOf first_schema count_text d n → n ≡ c.count
+pub count_is : (d : Database) (c : Stored) (n : ℕ) → IsFirstStore d.trees c → IsNumberOf first_schema count_query d n → n ≡ c.count
 count_is d c n store seen =
     one_number seen.0 n c.count seen.2
-    (number_shown (codes "count") (overlay d.trees []) seen.0 c.count (first_answer count_text (number_query (codes "count")) first_count d seen.0 seen.1) store.count)
+    (number_shown (codes "count") (overlay d.trees []) seen.0 c.count (first_answer count_query (number_query (codes "count")) first_count d seen.0 seen.1) store.count)
 
 -- ---- its answers have no key twice
 
@@ -104,15 +105,15 @@ module _ (d : Database) (c : Stored) (store : IsFirstStore d.trees c) where
 
 -- ---- its content, by its count and its answers
 
-module _ (a b d : State) (c : Stored) (first : IsFirst a c) (n : ℕ) (number : LooksUp a b (IsNumberOf first_schema count_text) (Ok n)) (all : Vec (Vec Row Global) Global) where
+module _ (a b d : State) (c : Stored) (first : IsFirst a c) (n : ℕ) (number : LooksUp a b (IsNumberOf first_schema count_query) (Ok n)) (all : Vec (Vec Row Global) Global) where
   abbrev Shown : Database → Vec (Vec Row Global) Global → Type 0
   Shown x v = AreAnswersOf first_schema x first_queries (rows_of v.items)
 
   pub content_read : OneSpelling → (r : Result Kept StoreFault) → LooksUp b d Shown (Ok all)
       → IfOk r (λ kept. HoldsFirst 0 (first_answered (rows_of all.items)) n (held kept)) → LooksUp a d (λ _ kept. held kept ≡ c) r
   content_read spelling r answers found =
-      then_seen a d (λ x v. ShowsTheSame a b × (IsNumberOf first_schema count_text x n × Shown x v)) (λ _ kept. held kept ≡ c) all r
-      (and_reads a b d (IsNumberOf first_schema count_text) Shown n (Ok all) number answers)
+      then_seen a d (λ x v. ShowsTheSame a b × (IsNumberOf first_schema count_query x n × Shown x v)) (λ _ kept. held kept ≡ c) all r
+      (and_reads a b d (IsNumberOf first_schema count_query) Shown n (Ok all) number answers)
       (λ clean up seen.
       let rest = first clean up in
       let views = first_views a.now (rows_of all.items) seen.1.1 in
@@ -125,7 +126,7 @@ module _ (a b d : State) (c : Stored) (first : IsFirst a c) (n : ℕ) (number : 
   first_told xs same clean answers never =
       let looked = answers.ok clean in
       let before = answers.clean clean in
-      let rest = first_still a b c (IsNumberOf first_schema count_text) (Ok n) first number before looked.0.was_open in
+      let rest = first_still a b c (IsNumberOf first_schema count_query) (Ok n) first number before looked.0.was_open in
       let counted = number.ok before in
       let began = first (number.clean before) counted.0.was_open in
       let count : c.count ≡ n = sym (count_is a.now c n began.store counted.1) in

@@ -3,12 +3,10 @@ use Rattle.std.proofs.Common.{ℕ, List, codes, refl}
 use Rattle.sqlite_tied.specs.Compute.{everything}
 use Rattle.sqlite.specs.Listing.{understood}
 use Rattle.sql_store.specs.Reading.{IsQueryText}
+use Rattle.sql_store.specs.Failing.{count_query}
 
 abbrev pub version_text : List ℕ
 version_text = codes "SELECT v FROM meta WHERE k = 'version'"
-
-abbrev pub count_text : List ℕ
-count_text = codes "SELECT v FROM meta WHERE k = 'count'"
 
 abbrev pub next_text : List ℕ
 next_text = codes "SELECT v FROM meta WHERE k = 'next_top'"
@@ -16,7 +14,7 @@ next_text = codes "SELECT v FROM meta WHERE k = 'next_top'"
 abbrev pub numbers_text : List ℕ
 numbers_text = codes "SELECT count(*) FROM meta"
 
-pub count_asked : IsQueryText count_text
+pub count_asked : IsQueryText count_query
 unfolding understood everything
 count_asked = record { plain = (refl, refl); unlisted = refl }
 

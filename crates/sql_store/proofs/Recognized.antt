@@ -50,8 +50,9 @@ use Rattle.store_tables.proofs.Queries.{base_query, homes_query, values_query, d
 use Rattle.store_tables.proofs.Viewed.{stands_for}
 use Rattle.store_writing.specs.Steps.{Stands}
 use Rattle.sql_store.specs.Reading.{AreAnswersOf, AreAnswered, LooksUp}
+use Rattle.sql_store.specs.Failing.{rowid_queries}
 use Rattle.sql_store.proofs.Queries.{ordered_query, viewed, answer_of, has_permuted, numbers_query, views}
-use Rattle.sql_store.proofs.Rowids.{rowids_query, rowids_queries, as_many, meta_rowids, base_rowids, homes_rowids, values_rowids, decided_rowids, deltas_rowids}
+use Rattle.sql_store.proofs.Rowids.{rowids_query, as_many, meta_rowids, base_rowids, homes_rowids, values_rowids, decided_rowids, deltas_rowids}
 
 pub not_true : (b : Bool) → not b ≡ true → b ≡ false
 not_true true h = absurd (true≢false (sym h))
@@ -236,7 +237,7 @@ module _ (d : Database) (c : Stored) (store : IsStore d.trees c) where
   answers_keyed (a ∷ b ∷ k ∷ e ∷ f ∷ g ∷ l ∷ more) h = absurd h.1.1.1.1.1.1
 
   -- each answer of rowids rises
-  pub rowids_rise : (answers : List (List Row)) → AreAnswered d rowids_queries answers → AllByRecursion (IsShaped Table) answers
+  pub rowids_rise : (answers : List (List Row)) → AreAnswered d rowid_queries answers → AllByRecursion (IsShaped Table) answers
   rowids_rise [] h = absurd h
   rowids_rise (a ∷ []) h = absurd h.1
   rowids_rise (a ∷ b ∷ []) h = absurd h.1.1
@@ -289,7 +290,7 @@ module _ (old new : State) (c : Stored) (all : Vec (Vec Row Global) Global) (xs 
       (answers_keyed old.now c store (rows_of all.items) shown)
       (stands_for (answered (rows_of all.items)) old.now.trees c (views old.now (rows_of all.items) shown) store.holds)) never
 
-  pub rowids_told : Shows rowids_queries → AllByRecursion (IsShaped Table) (rows_of xs)
+  pub rowids_told : Shows rowid_queries → AllByRecursion (IsShaped Table) (rows_of xs)
   rowids_told looked =
       subst (λ l. AllByRecursion (IsShaped Table) (rows_of l)) (sym same)
-      (rowids_rise old.now c (store_of rowids_queries looked) (rows_of all.items) (looked.ok clean).1)
+      (rowids_rise old.now c (store_of rowid_queries looked) (rows_of all.items) (looked.ok clean).1)

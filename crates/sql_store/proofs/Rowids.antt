@@ -28,6 +28,7 @@ use Rattle.store_tables.proofs.Counts.{counts_here, counts_past, counts_none, co
 use Rattle.store_tables.proofs.Keys.{equal_is}
 use Rattle.store_tables.proofs.Queries.{IsQuery}
 use Rattle.sql_store.specs.Reading.{IsAnswered, AreQueryTexts, AreAnswered}
+use Rattle.sql_store.specs.Failing.{rowid_queries}
 use Rattle.sql_store.proofs.Queries.{ordered_query, viewed, answer_of, text_of}
 
 -- ---- how often a rowid comes
@@ -78,17 +79,8 @@ unfolding understood everything
 deltas_rowids = record { names = codes "rowid" ∷ []; is = refl; plain = (refl, refl); unlisted = refl }
 
 -- the queries of the rowids of each table
-abbrev pub rowids_queries : List (List ℕ)
-rowids_queries =
-    codes "SELECT rowid FROM meta ORDER BY rowid"
-    ∷ codes "SELECT rowid FROM base ORDER BY rowid"
-    ∷ codes "SELECT rowid FROM prepared ORDER BY rowid"
-    ∷ codes "SELECT rowid FROM prepared_val ORDER BY rowid"
-    ∷ codes "SELECT rowid FROM decided ORDER BY rowid"
-    ∷ codes "SELECT rowid FROM prepared_delta ORDER BY rowid"
-    ∷ []
 
-pub are_rowids_queries : AreQueryTexts rowids_queries
+pub are_rowids_queries : AreQueryTexts rowid_queries
 are_rowids_queries = (
   text_of _ _ meta_rowids,
   (text_of _ _ base_rowids, (text_of _ _ homes_rowids, (text_of _ _ values_rowids, (text_of _ _ decided_rowids, (text_of _ _ deltas_rowids, tt))))),
@@ -121,7 +113,7 @@ keyed_by : (sql : List ℕ) (tree : ℕ) → IsQuery sql (rowids_query tree) →
 keyed_by sql tree it d rows h up = keyed tree (overlay d.trees []) rows (answer_of sql (rowids_query tree) it d rows h) up
 
 -- six answers that rise show that each table has rowids
-pub all_keyed : (d : Database) (answers : List (List Row)) → AreAnswered d rowids_queries answers → AllByRecursion (IsShaped Table) answers → HaveRowids d.trees
+pub all_keyed : (d : Database) (answers : List (List Row)) → AreAnswered d rowid_queries answers → AllByRecursion (IsShaped Table) answers → HaveRowids d.trees
 all_keyed d [] h up = absurd h
 all_keyed d (a ∷ []) h up = absurd h.1
 all_keyed d (a ∷ b ∷ []) h up = absurd h.1.1

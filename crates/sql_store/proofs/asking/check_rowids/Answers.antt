@@ -10,10 +10,11 @@ use Rattle.store_tables.specs.Tables.{stable_schema}
 use Rattle.store_tables.specs.Answered.{rows_of}
 use Rattle.store_tables.specs.Rows.{HaveRowids}
 use Rattle.sql_store.specs.Reading.{AreAnswered}
-use Rattle.sql_store.proofs.Rowids.{rowids_queries, are_rowids_queries, all_keyed}
+use Rattle.sql_store.proofs.Rowids.{are_rowids_queries, all_keyed}
 use Rattle.sql_store.proofs.Sequences.{then_reads, failed_reads}
 use Rattle.sql_store.proofs.Outside.{stays_any, stays_err}
 use Rattle.store_tables.proofs.Told.{told_by}
+use Rattle.sql_store.specs.Failing.{rowid_queries}
 use Rattle.sql_store.proofs.Loads.{quiets}
 use Rattle.sql_store.proofs.Recognized.{rowids_told}
 use Rattle.sql_store.proofs.Failing.{failed_by}
@@ -22,7 +23,7 @@ use Rattle.sql_store.proofs.asking.check_rowids.Goals as goal
 pub returns-in_err-answers-clause-looks : goal.returns-in_err-answers-clause-looks
 returns-in_err-answers-clause-looks g c quiet =
     let p = err_from_is_err_and c.from_residual.result c.from_residual.ensures.1 in
-    failed_reads (state g.A.Store c.args.conn.now) (state g.A.Store c.answers.new.conn) (λ d (all : Vec (Vec Row Global) Global). AreAnswered d rowids_queries (rows_of all.items))
+    failed_reads (state g.A.Store c.args.conn.now) (state g.A.Store c.answers.new.conn) (λ d (all : Vec (Vec Row Global) Global). AreAnswered d rowid_queries (rows_of all.items))
     (λ d _. HaveRowids d.trees) _ p.0 c.from_residual.result p.1 (c.in_err-answers.ensures.looks stable_schema are_rowids_queries quiet)
 
 pub returns-in-true-clause-looks : goal.returns-in-true-clause-looks
@@ -30,7 +31,7 @@ returns-in-true-clause-looks g c quiet =
     let same : c.deref.result.now ≡ c.in_ok-answers.field-0.items = search rules in
     let old = state g.A.Store c.args.conn.now in
     let new = state g.A.Store c.answers.new.conn in
-    then_reads old new (λ d (all : Vec (Vec Row Global) Global). AreAnswered d rowids_queries (rows_of all.items)) (λ d _. HaveRowids d.trees)
+    then_reads old new (λ d (all : Vec (Vec Row Global) Global). AreAnswered d rowid_queries (rows_of all.items)) (λ d _. HaveRowids d.trees)
     c.in_ok-answers.field-0 (Ok tt) quiet (c.in_ok-answers.ensures.looks stable_schema are_rowids_queries quiet)
     (λ q shown. all_keyed old.now (rows_of c.in_ok-answers.field-0.items) shown
     (subst (λ xs. AllByRecursion (IsShaped Table) (rows_of xs)) same (c.all_rise.ensures.rises c.in-true.is)))
@@ -39,7 +40,7 @@ pub returns-clause-looks : goal.returns-clause-looks
 returns-clause-looks g c quiet =
     let old = state g.A.Store c.args.conn.now in
     let new = state g.A.Store c.answers.new.conn in
-    then_reads old new (λ d (all : Vec (Vec Row Global) Global). AreAnswered d rowids_queries (rows_of all.items)) (λ d (_ : Unit {0}). HaveRowids d.trees)
+    then_reads old new (λ d (all : Vec (Vec Row Global) Global). AreAnswered d rowid_queries (rows_of all.items)) (λ d (_ : Unit {0}). HaveRowids d.trees)
     c.in_ok-answers.field-0 (Err NotOurs) quiet (c.in_ok-answers.ensures.looks stable_schema are_rowids_queries quiet) (λ q shown. tt)
 
 pub returns-in_err-answers-clause-outside : goal.returns-in_err-answers-clause-outside

@@ -11,9 +11,10 @@ use Rattle.stable_store.specs.Held.{held}
 use Rattle.store_tables.specs.Answered.{answered, queries, rows_of}
 use Rattle.store_tables.specs.Holds.{Holds, IsLaidOut}
 use Rattle.sql_store.specs.Reading.{AreAnswered, Looks}
+use Rattle.sql_store.specs.Failing.{rowid_queries}
 use Rattle.sql_store.proofs.Looking.{clean_before, looks_err, then_looks}
 use Rattle.sql_store.proofs.Queries.{are_queries}
-use Rattle.sql_store.proofs.Rowids.{rowids_queries, are_rowids_queries}
+use Rattle.sql_store.proofs.Rowids.{are_rowids_queries}
 use Rattle.sql_store.proofs.ReadBack.{laid_seen}
 use Rattle.sql_store.proofs.Schemas.{on_ok}
 use Rattle.sql_store.proofs.building.read_back.Goals as goal
@@ -25,14 +26,14 @@ returns-in_err-answers-clause-looks g c clean within =
     let laid : Kept → Type 0 = λ kept. IsLaidOut b.now.trees (held kept) in
     let p = err_from_is_err_and c.from_residual.result c.from_residual.ensures.1 in
     subst (Looks a b laid) (sym p.1)
-    (looks_err a b (λ (all : Vec (Vec Row Global) Global). AreAnswered a.now rowids_queries (rows_of all.items)) laid (Err c.in_err-answers.field-0.0) p.0
+    (looks_err a b (λ (all : Vec (Vec Row Global) Global). AreAnswered a.now rowid_queries (rows_of all.items)) laid (Err c.in_err-answers.field-0.0) p.0
     (c.in_err-answers.ensures.looks clean within are_rowids_queries))
 
 pub returns-then-not-all_rise-clause-looks : goal.returns-then-not-all_rise-clause-looks
 returns-then-not-all_rise-clause-looks g c clean within =
     let a = state g.A.Store c.args.tx.now.conn.now in
     let b = state g.A.Store c.answers.new.tx.conn.now in
-    looks_err a b (λ (all : Vec (Vec Row Global) Global). AreAnswered a.now rowids_queries (rows_of all.items)) (λ kept. IsLaidOut b.now.trees (held kept)) _ NotOurs
+    looks_err a b (λ (all : Vec (Vec Row Global) Global). AreAnswered a.now rowid_queries (rows_of all.items)) (λ kept. IsLaidOut b.now.trees (held kept)) _ NotOurs
     (c.in_ok-answers.ensures.looks clean within are_rowids_queries)
 
 pub returns-in_err-answers-2-clause-looks : goal.returns-in_err-answers-2-clause-looks
@@ -43,10 +44,10 @@ returns-in_err-answers-2-clause-looks g c clean within =
     let laid : Kept → Type 0 = λ kept. IsLaidOut d.now.trees (held kept) in
     let p = err_from_is_err_and c.from_residual-in_err-answers-2.result c.from_residual-in_err-answers-2.ensures.1 in
     subst (Looks a d laid) (sym p.1)
-    (then_looks a b d (λ (all : Vec (Vec Row Global) Global). AreAnswered a.now rowids_queries (rows_of all.items)) laid c.in_ok-answers.field-0 (Err p.0) within
+    (then_looks a b d (λ (all : Vec (Vec Row Global) Global). AreAnswered a.now rowid_queries (rows_of all.items)) laid c.in_ok-answers.field-0 (Err p.0) within
     (c.in_ok-answers.ensures.looks (clean_before b d _ c.answers-2.ensures.survives clean) within are_rowids_queries)
     (λ w. looks_err b d (λ (all : Vec (Vec Row Global) Global). AreAnswered b.now queries (rows_of all.items))
-    (λ kept. b.now ≡ a.now → AreAnswered a.now rowids_queries (rows_of c.in_ok-answers.field-0.items) → laid kept) (Err c.in_err-answers-2.field-0.0) p.0
+    (λ kept. b.now ≡ a.now → AreAnswered a.now rowid_queries (rows_of c.in_ok-answers.field-0.items) → laid kept) (Err c.in_err-answers-2.field-0.0) p.0
     (c.in_err-answers-2.ensures.looks clean w are_queries)))
 
 pub returns-clause-looks : goal.returns-clause-looks
