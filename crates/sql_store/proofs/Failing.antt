@@ -1,10 +1,9 @@
 -- Faults that are failures of the store.
-use Rattle.std.proofs.Common.{◌≡◌, inl, inr, ℕ, ◌<◌, ◌≤◌, arith, List, ◌∷◌, ◌++◌, map, length, get_or, Result, Ok, Err, IsErrAnd, Bor, refl, sym, ap, ◌∙◌}
+use Rattle.std.proofs.Common.{◌≡◌, inl, ℕ, ◌<◌, arith, List, ◌∷◌, ◌++◌, map, length, get_or, Result, Ok, Err, IsErrAnd, Bor, refl, sym, ap, ◌∙◌}
 use Rattle.std.specs.Prelude.{◌≢◌, IfErr}
 use Rattle.sqlite.specs.Held.{Held, state}
 use Rattle.sqlite.specs.State.{State}
 use Rattle.sqlite_trees.specs.declared.store.Store.{Ghosts}
-use Rattle.sqlite_rules.specs.Lists.{Has}
 use Rattle.sqlite_rules.proofs.ListLemmas.{has_left, has_right}
 use Rattle.sqlite_rules.proofs.ProbeLemmas.{mapped_has}
 use Rattle.stable_store.specs.declared.fault.StoreFault.{StoreFault}
