@@ -4,5 +4,6 @@ pub mod Progressed
 pub mod Bytes
 pub mod Explanations
 pub mod Judgements
+pub mod GivenUp
 pub mod Stepped
 pub mod Verdicts

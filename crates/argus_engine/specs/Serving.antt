@@ -9,12 +9,13 @@ use Rattle.run_model.specs.Transcripts.{IsAnswered, BeginsWithStep, line_feed}
 use Rattle.argus_engine.specs.declared.engine.Ended.{Ended}
 use Rattle.argus_engine.specs.declared.engine.Ended.TheVariants.{Done, Stopped}
 use Rattle.argus_engine.specs.declared.engine.Fault.{Fault}
-use Rattle.argus_engine.specs.declared.engine.Fault.TheVariants.{Memory, Output, Store}
+use Rattle.argus_engine.specs.declared.engine.Fault.TheVariants.{Memory, Store, Input, Output, Stamps, Receipts, Open, Time}
 use Rattle.stable_store.specs.declared.fault.StoreFault.{StoreFault}
 use Rattle.run_model.specs.Openings.{opening_in}
 use Rattle.stable_store.specs.declared.fault.StoreFault.TheVariants as store
 use Rattle.layer_contracts.specs.declared.guardian.Fault.{Fault as StepFault}
 use Rattle.layer_contracts.specs.declared.guardian.Fault.TheVariants as of_step
+use Rattle.stepping.specs.Stepping.{FailsAtStore, HasMade, Leaves}
 
 -- the bytes of a reader, where they are known, are this text
 abbrev pub Gives : Option (List ℕ) → List ℕ → Type 0
@@ -93,3 +94,23 @@ pub record BeginsAnswers (input : Option (List ℕ)) (old : World) (written : Li
   pub answers : List ℕ
   pub answered : IsAnswered (opening_in old.lists) old.past 1 read answers
   pub is_part : Begins written answers
+
+-- After some steps one ran out of memory; the run is as those steps left it, and the stores are left as by that failure.
+pub record FailsOfMemory {M : Type 0} (run : M → World) (leaves : Leaves M) (old new : M) : Type 0 where
+  pub before : M
+  pub made : HasMade run leaves old before
+  pub step : Step
+  pub same : run new ≡ run before
+  pub stores : leaves step (Some of_step.Memory) before new
+
+-- What was done where the engine gives up by a fault. Memory ran out in a step or beside the steps; a step failed at a store; or the
+-- reader or the writer failed, and each step was made. By no other fault it gives up.
+abbrev pub GaveUp : {M : Type 0} → (M → World) → Leaves M → M → M → Fault → Type 0
+GaveUp run leaves old new Memory = HasMade run leaves old new ⊎ FailsOfMemory run leaves old new
+GaveUp run leaves old new Store = FailsAtStore run leaves old new
+GaveUp run leaves old new Input = HasMade run leaves old new
+GaveUp run leaves old new Output = HasMade run leaves old new
+GaveUp run leaves old new Stamps = ⊥
+GaveUp run leaves old new Receipts = ⊥
+GaveUp run leaves old new Open = ⊥
+GaveUp run leaves old new Time = ⊥

@@ -1,5 +1,5 @@
 -- What the command writes about the bytes of a trace: whether its histories are those of one run.
-use Rattle.std.specs.Prelude.{ℕ, ◌≡◌, ◌⊎◌, List, [], ◌∷◌, ◌++◌, length, codes, decimal, Option, Some, None, Result, IfOk}
+use Rattle.std.specs.Prelude.{ℕ, ◌≡◌, ◌⊎◌, List, [], ◌∷◌, ◌++◌, length, codes, decimal, Option, Some, None, Result, Err, IfOk}
 use Rattle.run_model.specs.Gathering.{Histories, IsGathered, least_failing}
 use Rattle.run_model.specs.Openings.{Setup, fresh, fresh_lists}
 use Rattle.run_model.specs.Runs.{World, new_world}
@@ -7,6 +7,8 @@ use Rattle.run_model.specs.Transcripts.{error_text, line_feed}
 use Rattle.run_laws.specs.Serving.{IsServed}
 use Rattle.traces.specs.Traces.{HasBadLine, IsTrace, LacksSetup}
 use Rattle.argus_engine.specs.declared.engine.Fault.{Fault}
+use Rattle.argus_engine.specs.declared.engine.Fault.TheVariants.{Output}
+use Rattle.argus_engine.specs.Reading.{IsOfReader, IsOfStep}
 use Rattle.argus_engine.specs.Serving.{Begins, Gives}
 
 -- ---- lines
@@ -68,6 +70,14 @@ BeginsVerdict input written = (written ≡ []) ⊎ ((world : Option World) × (l
 -- whoever was asked for a world of a setup gave a new one, or a fault
 abbrev pub GivesNewWorlds : {M : Type 0} → (M → World) → (Setup → Result M Fault → Type 0) → Type 0
 GivesNewWorlds {M} run post = (setup : Setup) (made : Result M Fault) → post setup made → IfOk made (λ world. run world ≡ new_world setup)
+
+-- a fault of a step, or one that was given in place of a world
+abbrev pub IsOfMaking : {M : Type 0} → (Setup → Result M Fault → Type 0) → Fault → Type 0
+IsOfMaking post fault = IsOfStep fault ⊎ ((setup : Setup) × post setup (Err fault))
+
+-- or one of the reader or of the writer
+abbrev pub IsOfTrace : {M : Type 0} → (Setup → Result M Fault → Type 0) → Fault → Type 0
+IsOfTrace post fault = IsOfReader fault ⊎ (IsOfMaking post fault ⊎ (fault ≡ Output))
 
 -- Bytes have one verdict: its line is determined, and so is the run.
 abbrev pub OneVerdict : Type 0

@@ -1,7 +1,9 @@
 //! What the program says of a script.
 
-ghost use Rattle.std.specs.Prelude.{◌≡◌, ℕ, List, IfOk, IfErr, OnErr, string_bytes};
+ghost use Rattle.std.specs.Prelude.{◌≡◌, ℕ, List, IfOk, IfErr, IsErrOf, OnErr, string_bytes};
+ghost use Rattle.std.specs.Io.KnownBytes.{Keeps};
 ghost use Rattle.argus_engine.specs.declared.engine.Ended.TheVariants.{Stopped};
+ghost use Rattle.argus_engine.specs.declared.engine.Fault.TheVariants.{Memory};
 ghost use Rattle.argus_engine.specs.Judging.{BeginsFault, BeginsJudgement, IsFaultOf, IsJudged, IsRead, IsScriptIn};
 ghost use Rattle.argus_engine.specs.Serving.{IsOfWriter, Writes};
 
@@ -12,13 +14,14 @@ use std::alloc::{AllocError, Global};
 use std::io::Write;
 
 /// Writes `ok` where the bytes are a script, and else `fault`, the number of the first fault, from 1 to 12, and the
-/// JSON pointer of its place, which is `/` for the whole document; then it has `Stopped`. After a fault of memory or of
-/// the writer a beginning of that line was written.
+/// JSON pointer of its place, which is `/` for the whole document; then it has `Stopped`. After a fault of the writer
+/// a beginning of that line was written, and none where memory ran out.
 pub fn check_script<W: Write>(alloc: Global, bytes: &[u8], writer: &mut W) -> Result<Ended, Fault>
     ensures ok { IfOk result (λ ended. Writes (W.contents writer.old) (W.contents writer.new) (IsJudged bytes.now ended)) }
     // also after a fault
     ensures begun { Writes (W.contents writer.old) (W.contents writer.new) (BeginsJudgement bytes.now) }
     ensures fault { IfErr result IsOfWriter }
+    ensures silent { IsErrOf result Memory → Keeps (W.contents writer.old) (W.contents writer.new) }
 {
     let (ended, line) = judgement(alloc, bytes)?;
     finish(writer, line.as_str())?;
@@ -27,7 +30,7 @@ pub fn check_script<W: Write>(alloc: Global, bytes: &[u8], writer: &mut W) -> Re
 
 /// The script that the bytes are. Where they are none, it writes `fault`, the number of the first fault, from 1 to 12,
 /// and the JSON pointer of its place, which is `/` for the whole document; then it gives `None`. After a fault of
-/// memory or of the writer a beginning of that line was written.
+/// the writer a beginning of that line was written, and none where memory ran out.
 pub fn read_script<W: Write>(
     alloc: Global,
     bytes: &[u8],
@@ -36,6 +39,7 @@ pub fn read_script<W: Write>(
     ensures read { IfOk result (IsRead bytes.now (W.contents writer.old) (W.contents writer.new)) }
     ensures begun { OnErr result (Writes (W.contents writer.old) (W.contents writer.new) (BeginsFault bytes.now)) }
     ensures fault { IfErr result IsOfWriter }
+    ensures silent { IsErrOf result Memory → Keeps (W.contents writer.old) (W.contents writer.new) }
 {
     match script_in(alloc, bytes) {
         Ok(script) => Ok(Some(script)),

@@ -1,7 +1,7 @@
 ghost use Rattle.std.specs.Prelude.{◌≡◌, IfErr, IfOk, IsErrOf, OnOk, OnErr, string_bytes, ◌++◌, ◌∷◌, []};
 ghost use Rattle.run_model.specs.Texts.{answer_text};
 ghost use Rattle.run_model.specs.Transcripts.{error_text, line_feed};
-ghost use Rattle.argus_engine.specs.Serving.{Answers, BeginsAnswers, MakesFirst, Writes};
+ghost use Rattle.argus_engine.specs.Serving.{Answers, BeginsAnswers, GaveUp, MakesFirst, Writes};
 ghost use Rattle.argus_engine.specs.Reading.{AnswersLine, GoesOn, IsOfReaderOrStep, IsOfStep, MayGoOn, MayMake, MayMakeNext};
 ghost use Rattle.stepping.specs.Stepping.{FailsAtStore, HasMade};
 ghost use Rattle.argus_engine.specs.declared.engine.Fault.TheVariants.{Store};
@@ -116,7 +116,9 @@ pub(crate) enum Next {
 /// has at most 8,192 bytes before it. After a fault a beginning was written of the answers that belong to the input,
 /// and of those that belong to some beginning of it. The steps of some first lines were made then, and no other; their
 /// answers may not all be written. `Store` comes only where a step failed at the store of a guardian, which then has
-/// counted one failure more; the world and the contents of the stores are as the steps before left them.
+/// counted one failure more; the world and the contents of the stores are as the steps before left them. `Memory` comes
+/// where memory ran out in a step or beside the steps, and `Input` and `Output` where each step was made. No other fault
+/// comes.
 pub fn steps<M: MakesSteps, R: Read, W: Write>(
     alloc: Global,
     world: &mut M,
@@ -129,7 +131,9 @@ pub fn steps<M: MakesSteps, R: Read, W: Write>(
     ensures begun { Writes (W.contents writer.old) (W.contents writer.new)
         (λ written. BeginsAnswers (R.remaining reader.old) (M.run world.old) written) }
     ensures steps { MakesFirst (R.remaining reader.old) (M.run world.old) (M.run world.new) }
+    ensures made { OnOk result (HasMade M.run M.leaves world.old world.new) }
     ensures cause { IsErrOf result Store → FailsAtStore M.run M.leaves world.old world.new }
+    ensures left { IfErr result (GaveUp M.run M.leaves world.old world.new) }
 {
     let Ok(mut buffered) = BufReader::new(alloc, reader) else {
         return Err(Fault::Memory);
@@ -156,7 +160,9 @@ fn answer_all<M: MakesSteps, R: BufRead, W: Write>(
     ensures begun { Writes (W.contents writer.old) (W.contents writer.new)
         (λ sent. BeginsAnswers (R.remaining reader.old) (M.run world.old) (sent ++ string_bytes answers.new)) }
     ensures steps { MakesFirst (R.remaining reader.old) (M.run world.old) (M.run world.new) }
+    ensures made { OnOk result (HasMade M.run M.leaves world.old world.new) }
     ensures cause { IsErrOf result Store → FailsAtStore M.run M.leaves world.old world.new }
+    ensures left { IfErr result (GaveUp M.run M.leaves world.old world.new) }
 {
     let mut line = Vec::new(alloc);
     for number in 1..u64::MAX {
@@ -188,6 +194,7 @@ fn answer_next<M: MakesSteps, R: BufRead>(
     ensures made { OnOk result (HasMade M.run M.leaves world.old world.new) }
     ensures fault { IfErr result IsOfReaderOrStep }
     ensures cause { IsErrOf result Store → FailsAtStore M.run M.leaves world.old world.new }
+    ensures left { IfErr result (GaveUp M.run M.leaves world.old world.new) }
 {
     match answer_ready(alloc, world, reader, answers)? {
         Some(next) => Ok(next),
@@ -211,6 +218,7 @@ fn answer_ready<M: MakesSteps, R: BufRead>(
     ensures made { OnOk result (HasMade M.run M.leaves world.old world.new) }
     ensures fault { IfErr result IsOfReaderOrStep }
     ensures cause { IsErrOf result Store → FailsAtStore M.run M.leaves world.old world.new }
+    ensures left { IfErr result (GaveUp M.run M.leaves world.old world.new) }
 {
     let ready = match reader.fill_buf() {
         Ok(ready) => ready,
@@ -248,6 +256,7 @@ fn answer_read<M: MakesSteps, R: BufRead>(
     ensures made { OnOk result (HasMade M.run M.leaves world.old world.new) }
     ensures fault { IfErr result IsOfReaderOrStep }
     ensures cause { IsErrOf result Store → FailsAtStore M.run M.leaves world.old world.new }
+    ensures left { IfErr result (GaveUp M.run M.leaves world.old world.new) }
 {
     match read_line(reader, line)? {
         Line::Whole => match answer_line(alloc, world, line, answers)? {
@@ -273,6 +282,7 @@ fn answer_line<M: MakesSteps>(
     ensures made { OnOk result (HasMade M.run M.leaves world.old world.new) }
     ensures fault { IfErr result IsOfStep }
     ensures cause { IsErrOf result Store → FailsAtStore M.run M.leaves world.old world.new }
+    ensures left { IfErr result (GaveUp M.run M.leaves world.old world.new) }
 {
     let Some(step) = Step::read(alloc, line)? else {
         return Ok(false);

@@ -1,8 +1,10 @@
 //! What the program says of one action, after the answers.
 
-ghost use Rattle.std.specs.Prelude.{◌≡◌, ℕ, List, IfErr, IfOk, string_bytes};
+ghost use Rattle.std.specs.Prelude.{◌≡◌, ℕ, List, IfErr, IfOk, IsErrOf, string_bytes};
+ghost use Rattle.std.specs.Io.KnownBytes.{Keeps};
 ghost use Rattle.run_model.specs.Explaining.{IsExplained};
 ghost use Rattle.argus_engine.specs.declared.engine.Ended.TheVariants.{Done};
+ghost use Rattle.argus_engine.specs.declared.engine.Fault.TheVariants.{Memory};
 ghost use Rattle.argus_engine.specs.Serving.{Begins, IsOfWriter, Writes};
 
 use crate::engine::{Ended, Fault};
@@ -14,8 +16,8 @@ use tracer::{Explained, explain};
 
 /// Writes what the action whose name the word is sees of the history: a line an operation, by place in the serial
 /// order, as in `5.4.3 1.1 2/1 get n -> 0`, with `*` for a closing step that has not come; or `orphan` alone; or
-/// `refused 2` alone where no such action was begun, also where the word is no name. After a fault a beginning of these
-/// lines was written.
+/// `refused 2` alone where no such action was begun, also where the word is no name. After a fault of the
+/// writer a beginning of these lines was written, and none where memory ran out.
 #[tactic(auto, using(crate::proofs::Explanations::front_written, crate::proofs::Explanations::nothing_written))]
 pub fn explain_text<W: Write>(
     alloc: Global,
@@ -29,6 +31,7 @@ pub fn explain_text<W: Write>(
     ensures begun { Writes (W.contents writer.old) (W.contents writer.new)
         (λ written. (lines : List ℕ) → IsExplained word.now history.now lines → Begins written lines) }
     ensures fault { IfErr result IsOfWriter }
+    ensures silent { IsErrOf result Memory → Keeps (W.contents writer.old) (W.contents writer.new) }
 {
     let lines = explained_lines(alloc, history, word)?;
     finish(writer, lines.as_str())?;

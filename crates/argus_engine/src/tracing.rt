@@ -1,10 +1,13 @@
 //! What the program writes about a trace.
 
-ghost use Rattle.std.specs.Prelude.{◌≡◌, ℕ, List, Result, IfErr, IfOk, option_map, string_bytes};
+ghost use Rattle.std.specs.Prelude.{◌≡◌, ◌⊎◌, ℕ, List, Result, IfErr, IfOk, option_map, string_bytes};
+ghost use Rattle.std.specs.Io.KnownBytes.{Keeps};
 ghost use Rattle.traces.specs.Faults.{IsFaultOf};
 ghost use Rattle.traces.specs.Traces.{IsTrace, histories_in};
 ghost use Rattle.argus_engine.specs.Serving.{Gives, Writes};
-ghost use Rattle.argus_engine.specs.Tracing.{BeginsVerdict, GivesNewWorlds, IsDenied, IsVerdict, OneVerdict, TellsTrace};
+ghost use Rattle.argus_engine.specs.Reading.{IsOfReader};
+ghost use Rattle.argus_engine.specs.Tracing.{BeginsVerdict, GivesNewWorlds, IsDenied, IsOfMaking, IsOfTrace, IsVerdict, OneVerdict, TellsTrace};
+ghost use Rattle.argus_engine.specs.declared.engine.Fault.TheVariants.{Output};
 
 use crate::engine::Fault;
 use crate::writing::finish;
@@ -17,8 +20,9 @@ use traces::{Trace, TraceFault};
 
 /// Reads a trace, makes its events as steps in a new world of its setup, and writes `yes` with the number of events,
 /// or `no` with the least stamp at which the histories fail. If the bytes are no trace, it writes `error setup`, or
-/// `error` with the number of the first bad line. The world comes with `yes` alone. After a fault a beginning of that
-/// line was written.
+/// `error` with the number of the first bad line. The world comes with `yes` alone. After a fault of the writer
+/// a beginning of that line was written; each other fault comes before anything is written. Such a fault is of memory,
+/// of the reader, of a store, or the one that was given in place of a world.
 pub fn trace_file<M, B, R, W>(
     alloc: Global,
     begin: B,
@@ -37,6 +41,9 @@ where
     // also after a fault
     ensures begun { Writes (W.contents writer.old) (W.contents writer.new)
         (BeginsVerdict (R.remaining reader.old)) }
+    ensures fault { IfErr result (IsOfTrace (B.post begin)) }
+    ensures silent { IfErr result (λ fault. (fault ≡ Output)
+        ⊎ Keeps (W.contents writer.old) (W.contents writer.new)) }
 {
     let bytes = read_whole(alloc, reader)?;
     let (world, line) = verdict(alloc, begin, bytes)?;
@@ -45,7 +52,8 @@ where
 }
 
 fn read_whole<R: Read>(alloc: Global, reader: &mut R) -> Result<Vec<u8>, Fault>
-    ensures { IfOk result (λ bytes. Gives (R.remaining reader.old) bytes.items) }
+    ensures given { IfOk result (λ bytes. Gives (R.remaining reader.old) bytes.items) }
+    ensures fault { IfErr result IsOfReader }
 {
     let mut bytes = Vec::new(alloc);
     match reader.read_to_end(&mut bytes) {
@@ -54,7 +62,9 @@ fn read_whole<R: Read>(alloc: Global, reader: &mut R) -> Result<Vec<u8>, Fault>
     }
 }
 
-fn read_fault(error: &io::Error) -> Fault {
+fn read_fault(error: &io::Error) -> Fault
+    ensures { IsOfReader result }
+{
     match error.kind() {
         ErrorKind::OutOfMemory => Fault::Memory,
         _ => Fault::Input,
@@ -68,7 +78,8 @@ where
     B: FnOnce(Setup) -> Result<M, Fault>,
     requires callable { B.IsAlwaysCallable begin }
     requires begins { GivesNewWorlds M.run (B.post begin) }
-    ensures { IfOk result (λ said. IsVerdict bytes.items (option_map M.run said.0) (string_bytes said.1)) }
+    ensures said { IfOk result (λ said. IsVerdict bytes.items (option_map M.run said.0) (string_bytes said.1)) }
+    ensures fault { IfErr result (IsOfMaking (B.post begin)) }
 {
     let read = Trace::read(alloc, bytes.as_slice());
     drop(bytes);
@@ -85,9 +96,10 @@ where
     B: FnOnce(Setup) -> Result<M, Fault>,
     requires callable { B.IsAlwaysCallable begin }
     requires begins { GivesNewWorlds M.run (B.post begin) }
-    ensures { (bytes : List ℕ)
+    ensures said { (bytes : List ℕ)
         → IsTrace bytes trace.setup (histories_in trace.registry.items trace.guardians.items)
         → IfOk result (λ said. IsVerdict bytes (option_map M.run said.0) (string_bytes said.1)) }
+    ensures fault { IfErr result (IsOfMaking (B.post begin)) }
 {
     let Trace {
         setup,

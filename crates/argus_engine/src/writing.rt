@@ -1,6 +1,6 @@
 //! Writing answers whole, or a beginning of them where the writer fails.
 
-ghost use Rattle.std.specs.Prelude.{◌≡◌, ◌≤◌, [], length, take, IfErr, IfOk, OnOk, OnErr, string_bytes};
+ghost use Rattle.std.specs.Prelude.{◌≡◌, ◌≤◌, ◌<◌, [], length, take, IfErr, IfOk, OnOk, OnErr, string_bytes};
 ghost use Rattle.std.specs.Io.KnownBytes.{Appends, Keeps};
 ghost use Rattle.argus_engine.specs.declared.engine.Fault.TheVariants.{Output};
 ghost use Rattle.argus_engine.specs.Reading.{Moves};
@@ -19,6 +19,8 @@ pub(crate) fn send_if_full<W: Write>(writer: &mut W, text: &mut String) -> Resul
     ensures ok { OnOk result (Moves (W.contents writer.old) (W.contents writer.new) (string_bytes text.old) (string_bytes text.new)) }
     ensures err { OnErr result (TakesFront (W.contents writer.old) (W.contents writer.new) (string_bytes text.old)
         × (string_bytes text.new ≡ [])) }
+    ensures small { OnOk result (length (string_bytes text.new) < 8192) }
+    ensures kept { length (string_bytes text.old) < 8192 → string_bytes text.new ≡ string_bytes text.old }
     ensures fault { IfErr result (λ fault. fault ≡ Output) }
 {
     if text.len() < BUFFER_SIZE {

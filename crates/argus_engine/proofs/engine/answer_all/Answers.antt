@@ -1,5 +1,7 @@
 use Rattle.std.proofs.Common.{inl, inr, string_bytes, refl}
 use Rattle.stepping.proofs.Making.{made_more, made_none}
+use Rattle.argus_engine.specs.Serving.{GaveUp}
+use Rattle.argus_engine.proofs.GivenUp.{gave_up_later, gave_up_writing, passed_on}
 use Rattle.argus_engine.proofs.Stepped.{failed_later}
 use Rattle.argus_engine.proofs.Progressed.{started, went_on, sent_some, begun, begun_part, done, stopped, begun_of_answers, kept_at_no_step, made_no_more, makes_first, may_make_next}
 use Rattle.argus_engine.proofs.engine.answer_all.Goals as goal
@@ -80,3 +82,41 @@ returns-in_err-send_if_full-clause-steps g c =
 
 pub returns-clause-steps : goal.returns-clause-steps
 returns-clause-steps g c = makes_first (g.M.MakesSteps.run c.loop-number.world) c.loop-number.invariant.running refl
+
+pub returns-in_err-answer_next-clause-left : goal.returns-in_err-answer_next-clause-left
+returns-in_err-answer_next-clause-left g c =
+    let run = g.M.MakesSteps.run in
+    let leaves = g.M.MakesSteps.leaves in
+    passed_on (GaveUp run leaves c.args.world.now c.answer_next.new.world) _ c.from_residual.result c.from_residual.ensures.1
+    (gave_up_later run leaves c.args.world.now c.loop-number.world c.answer_next.new.world c.loop-number.invariant.made c.in_err-answer_next.field-0.0
+    c.in_err-answer_next.ensures.left)
+
+pub returns-in_err-push_error-in-NoStep-clause-left : goal.returns-in_err-push_error-in-NoStep-clause-left
+returns-in_err-push_error-in-NoStep-clause-left g c =
+    let run = g.M.MakesSteps.run in
+    let leaves = g.M.MakesSteps.leaves in
+    passed_on (GaveUp run leaves c.args.world.now c.answer_next.new.world) _ c.from_residual-in_err-push_error-in-NoStep.result
+    c.from_residual-in_err-push_error-in-NoStep.ensures.1
+    (inl (made_more run leaves c.args.world.now c.loop-number.world c.answer_next.new.world c.loop-number.invariant.made c.in_ok-answer_next.ensures.made))
+
+pub returns-in-NoStep-clause-made : goal.returns-in-NoStep-clause-made
+returns-in-NoStep-clause-made g c =
+    let run = g.M.MakesSteps.run in
+    let leaves = g.M.MakesSteps.leaves in
+    made_more run leaves c.args.world.now c.loop-number.world c.answer_next.new.world c.loop-number.invariant.made c.in_ok-answer_next.ensures.made
+
+pub returns-in-End-clause-made : goal.returns-in-End-clause-made
+returns-in-End-clause-made g c =
+    let run = g.M.MakesSteps.run in
+    let leaves = g.M.MakesSteps.leaves in
+    made_more run leaves c.args.world.now c.loop-number.world c.answer_next.new.world c.loop-number.invariant.made c.in_ok-answer_next.ensures.made
+
+pub returns-in_err-send_if_full-clause-left : goal.returns-in_err-send_if_full-clause-left
+returns-in_err-send_if_full-clause-left g c =
+    let run = g.M.MakesSteps.run in
+    let leaves = g.M.MakesSteps.leaves in
+    passed_on (GaveUp run leaves c.args.world.now c.answer_next.new.world) _ c.from_residual-in_err-send_if_full.result
+    c.from_residual-in_err-send_if_full.ensures.1
+    (gave_up_writing run leaves c.args.world.now c.answer_next.new.world _
+    (made_more run leaves c.args.world.now c.loop-number.world c.answer_next.new.world c.loop-number.invariant.made c.in_ok-answer_next.ensures.made)
+    c.in_err-send_if_full.ensures.fault)

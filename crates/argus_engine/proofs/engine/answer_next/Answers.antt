@@ -1,6 +1,7 @@
 use Rattle.std.proofs.Common.{string_bytes, subst}
 use Rattle.argus_engine.specs.Reading.{MayGoOn}
 use Rattle.argus_engine.proofs.Bytes.{goes_on_after, made_after_none}
+use Rattle.argus_engine.proofs.GivenUp.{answers_later}
 use Rattle.stepping.proofs.Making.{fails_after, made_after}
 use Rattle.argus_engine.proofs.engine.answer_next.Goals as goal
 
@@ -35,3 +36,8 @@ returns-in-None-clause-once g c =
     let held = string_bytes c.answer_ready.new.answers in
     let idle = subst (MayGoOn old mid world now pending held) c.in-None.is c.in_ok-next.ensures.ok in
     made_after_none old mid world now (g.M.MakesSteps.run c.answer_read.new.world) pending held idle c.answer_read.result c.answer_read.ensures.once
+
+pub returns-in-None-clause-left : goal.returns-in-None-clause-left
+returns-in-None-clause-left g c =
+    answers_later g.M.MakesSteps.run g.M.MakesSteps.leaves c.args.world.now c.answer_ready.new.world c.answer_read.new.world c.in_ok-next.ensures.made c.answer_read.result
+    c.answer_read.ensures.left

@@ -6,8 +6,8 @@ use Rattle.tracer.specs.Gathered.{Says}
 use Rattle.argus_engine.proofs.Verdicts.{fails, gathers}
 use Rattle.argus_engine.proofs.tracing.gathered.Goals as goal
 
-pub returns-in-Yes : goal.returns-in-Yes
-returns-in-Yes g c = λ bytes trace.
+pub returns-in-Yes-clause-said : goal.returns-in-Yes-clause-said
+returns-in-Yes-clause-said g c = λ bytes trace.
     let run = g.M.MakesSteps.run in
     let hs = histories_in c.args.trace.registry.items c.args.trace.guardians.items in
     let said : Says c.in_ok-count.field-0 (opening_in (run c.in_ok-world.world).lists) hs (run c.gather.new.maker).past =
@@ -17,8 +17,8 @@ returns-in-Yes g c = λ bytes trace.
     gathers bytes _ c.args.trace.setup hs (run c.in_ok-world.world) (run c.gather.new.maker) trace (c.requires.begins _ (Ok c.in_ok-world.world) c.in_ok-world.ensures)
     c.in-Yes.count good.0 good.2 c.in_ok-count.ensures.served c.in_ok-count.ensures.opening c.in_ok-format-in-Yes.ensures.ok
 
-pub returns : goal.returns
-returns g c = λ bytes trace.
+pub returns-clause-said : goal.returns-clause-said
+returns-clause-said g c = λ bytes trace.
     let run = g.M.MakesSteps.run in
     let hs = histories_in c.args.trace.registry.items c.args.trace.guardians.items in
     let said : Says c.in_ok-count.field-0 (opening_in (run c.in_ok-world.world).lists) hs (run c.gather.new.maker).past =
