@@ -1,6 +1,5 @@
 -- What was done where the engine gives up, seen from a world before the steps that were made.
-use Rattle.std.proofs.Common.{◌≡◌, Result, Ok, Err, Some, IsErrAnd, IfErr, inl, inr, refl, subst, sym}
-use Rattle.std.specs.Prelude.{OnErr}
+use Rattle.std.proofs.Common.{◌≡◌, Result, Ok, Err, Some, IsErrAnd, IfErr, inl, inr, subst, sym}
 use Rattle.run_model.specs.declared.step.Step.{Step}
 use Rattle.run_model.specs.Runs.{World}
 use Rattle.layer_contracts.specs.declared.guardian.Fault.{Fault as StepFault}

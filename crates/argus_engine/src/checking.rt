@@ -1,9 +1,9 @@
 //! What the program says of a script.
 
-ghost use Rattle.std.specs.Prelude.{◌≡◌, ℕ, List, IfOk, IfErr, IsErrOf, OnErr, string_bytes};
+ghost use Rattle.std.specs.Prelude.{◌≡◌, ◌≢◌, ℕ, List, IfOk, IfErr, OnErr, string_bytes};
 ghost use Rattle.std.specs.Io.KnownBytes.{Keeps};
 ghost use Rattle.argus_engine.specs.declared.engine.Ended.TheVariants.{Stopped};
-ghost use Rattle.argus_engine.specs.declared.engine.Fault.TheVariants.{Memory};
+ghost use Rattle.argus_engine.specs.declared.engine.Fault.TheVariants.{Output};
 ghost use Rattle.argus_engine.specs.Judging.{BeginsFault, BeginsJudgement, IsFaultOf, IsJudged, IsRead, IsScriptIn};
 ghost use Rattle.argus_engine.specs.Serving.{IsOfWriter, Writes};
 
@@ -21,7 +21,8 @@ pub fn check_script<W: Write>(alloc: Global, bytes: &[u8], writer: &mut W) -> Re
     // also after a fault
     ensures begun { Writes (W.contents writer.old) (W.contents writer.new) (BeginsJudgement bytes.now) }
     ensures fault { IfErr result IsOfWriter }
-    ensures silent { IsErrOf result Memory → Keeps (W.contents writer.old) (W.contents writer.new) }
+    ensures silent { IfErr result (λ fault. fault ≢ Output
+        → Keeps (W.contents writer.old) (W.contents writer.new)) }
 {
     let (ended, line) = judgement(alloc, bytes)?;
     finish(writer, line.as_str())?;
@@ -39,7 +40,8 @@ pub fn read_script<W: Write>(
     ensures read { IfOk result (IsRead bytes.now (W.contents writer.old) (W.contents writer.new)) }
     ensures begun { OnErr result (Writes (W.contents writer.old) (W.contents writer.new) (BeginsFault bytes.now)) }
     ensures fault { IfErr result IsOfWriter }
-    ensures silent { IsErrOf result Memory → Keeps (W.contents writer.old) (W.contents writer.new) }
+    ensures silent { IfErr result (λ fault. fault ≢ Output
+        → Keeps (W.contents writer.old) (W.contents writer.new)) }
 {
     match script_in(alloc, bytes) {
         Ok(script) => Ok(Some(script)),

@@ -1,10 +1,10 @@
 //! What the program says of one action, after the answers.
 
-ghost use Rattle.std.specs.Prelude.{◌≡◌, ℕ, List, IfErr, IfOk, IsErrOf, string_bytes};
+ghost use Rattle.std.specs.Prelude.{◌≡◌, ◌≢◌, ℕ, List, IfErr, IfOk, string_bytes};
 ghost use Rattle.std.specs.Io.KnownBytes.{Keeps};
 ghost use Rattle.run_model.specs.Explaining.{IsExplained};
 ghost use Rattle.argus_engine.specs.declared.engine.Ended.TheVariants.{Done};
-ghost use Rattle.argus_engine.specs.declared.engine.Fault.TheVariants.{Memory};
+ghost use Rattle.argus_engine.specs.declared.engine.Fault.TheVariants.{Output};
 ghost use Rattle.argus_engine.specs.Serving.{Begins, IsOfWriter, Writes};
 
 use crate::engine::{Ended, Fault};
@@ -31,7 +31,8 @@ pub fn explain_text<W: Write>(
     ensures begun { Writes (W.contents writer.old) (W.contents writer.new)
         (λ written. (lines : List ℕ) → IsExplained word.now history.now lines → Begins written lines) }
     ensures fault { IfErr result IsOfWriter }
-    ensures silent { IsErrOf result Memory → Keeps (W.contents writer.old) (W.contents writer.new) }
+    ensures silent { IfErr result (λ fault. fault ≢ Output
+        → Keeps (W.contents writer.old) (W.contents writer.new)) }
 {
     let lines = explained_lines(alloc, history, word)?;
     finish(writer, lines.as_str())?;

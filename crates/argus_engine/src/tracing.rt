@@ -1,6 +1,6 @@
 //! What the program writes about a trace.
 
-ghost use Rattle.std.specs.Prelude.{◌≡◌, ◌⊎◌, ℕ, List, Result, IfErr, IfOk, option_map, string_bytes};
+ghost use Rattle.std.specs.Prelude.{◌≡◌, ◌≢◌, ℕ, List, Result, IfErr, IfOk, option_map, string_bytes};
 ghost use Rattle.std.specs.Io.KnownBytes.{Keeps};
 ghost use Rattle.traces.specs.Faults.{IsFaultOf};
 ghost use Rattle.traces.specs.Traces.{IsTrace, histories_in};
@@ -42,8 +42,8 @@ where
     ensures begun { Writes (W.contents writer.old) (W.contents writer.new)
         (BeginsVerdict (R.remaining reader.old)) }
     ensures fault { IfErr result (IsOfTrace (B.post begin)) }
-    ensures silent { IfErr result (λ fault. (fault ≡ Output)
-        ⊎ Keeps (W.contents writer.old) (W.contents writer.new)) }
+    ensures silent { IfErr result (λ fault. fault ≢ Output
+        → Keeps (W.contents writer.old) (W.contents writer.new)) }
 {
     let bytes = read_whole(alloc, reader)?;
     let (world, line) = verdict(alloc, begin, bytes)?;
