@@ -1,6 +1,7 @@
 -- What is said of a run is written, or a beginning of it; and the bases that it leaves are saved, or the first of them.
 use Rattle.std.proofs.Common.{◌≢◌, IfErr, IsErrAnd, Result, Ok, Err, List, None, Some, map, [], Option, ap, append-nil, drop, inl, inr, length, subst, sym, take, take-append-drop, ℕ, ◌∙◌, ◌≡◌, arith, refl}
 use Rattle.std.proofs.lemmas.List.{take_all}
+use Rattle.std.proofs.KnownBytes.{Keeps-trans}
 use Rattle.std.specs.Prelude.{IsSome}
 use Rattle.std.specs.BTreeMap.{BTreeMap}
 use Rattle.std.specs.Io.KnownBytes.{Appends, Keeps}
@@ -180,6 +181,17 @@ kept_same (Some bytes) = refl
 pub silent : {A : Type 0} (result : Result A Fault) (o : Option (List ℕ)) → IfErr result (λ fault. fault ≢ Output → Keeps o o)
 silent (Ok a) o = tt
 silent (Err fault) o = λ other. kept_same o
+
+-- the fault of a writer says nothing of what was kept
+pub never_silent : {A : Type 0} (So : Type 0) (result : Result A Fault) → IfErr result (λ fault. fault ≡ Output) → IfErr result (λ fault. fault ≢ Output → So)
+never_silent So (Ok a) is = tt
+never_silent So (Err fault) is = λ other. absurd (other is)
+
+-- what is kept by a fault that is passed on was kept before
+pub silent_later : {A : Type 0} (before now after : Option (List ℕ)) (passed : Fault) (result : Result A Fault) → IsErrAnd result (λ fault. fault ≡ passed)
+    → Keeps before now → (passed ≢ Output → Keeps now after) → IfErr result (λ fault. fault ≢ Output → Keeps before after)
+silent_later before now after passed (Ok a) is kept later = tt
+silent_later before now after passed (Err fault) is kept later = λ other. Keeps-trans before now after kept (later (λ output. other (is ∙ output)))
 
 -- ---- which fault it is
 

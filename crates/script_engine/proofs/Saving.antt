@@ -1,8 +1,15 @@
 -- Bases saved one after another.
-use Rattle.std.proofs.Common.{List, [], ap, arith, get_or, length, map, refl, set, suc, sym, take, zero, ℕ, ◌+◌, ◌<◌, ◌∙◌, ◌∷◌, ◌≡◌}
+use Rattle.std.proofs.Common.{Err, IsErrAnd, List, Ok, Result, [], ap, arith, get_or, inl, inr, length, map, refl, set, suc, sym, take, zero, ℕ, ◌+◌, ◌<◌, ◌∙◌, ◌∷◌, ◌≡◌}
+use Rattle.std.specs.Prelude.{IsErrOf, ◌⊎◌}
 use Rattle.std.proofs.lemmas.List.{get_or-map, map-set, set-get_or}
 use Rattle.values.specs.declared.content.Content.{Content}
 use Rattle.stable_store.specs.Stored.{Stored, after_save}
+use Rattle.stable_store.specs.Calls.{IsExcused}
+use Rattle.stable_store.specs.declared.fault.StoreFault.{StoreFault}
+use Rattle.stable_store.specs.declared.fault.StoreFault.TheVariants as store
+use Rattle.argus_engine.specs.declared.engine.Fault.{Fault}
+use Rattle.argus_engine.specs.declared.engine.Fault.TheVariants.{Store}
+use Rattle.argus_engine.specs.Serving.{fault_of}
 use Rattle.script_engine.specs.Storing.{saved}
 
 abbrev Bases : Type 0
@@ -40,14 +47,15 @@ none_saved (b ∷ bases) stores = refl
 
 -- ---- seen as what they contain
 
-module _ {S : Type 0} (view : S → Stored) (stores : List S) (i : ℕ) (d after : S) where
-  -- a store that contains what it did
+-- of a store that is seen as it was
+module _ {S T : Type 0} (view : S → T) (stores : List S) (i : ℕ) (d after : S) where
   pub none_changed : i < length stores → view after ≡ view (get_or stores i d) → map view (set stores i after) ≡ map view stores
   none_changed lt same =
       map-set view stores i after
       ∙ ap (set (map view stores) i) (same ∙ sym (get_or-map view stores i d (view d) lt))
       ∙ set-get_or (map view stores) i (view d)
 
+module _ {S : Type 0} (view : S → Stored) (stores : List S) (i : ℕ) (d after : S) where
   -- a store that was saved
   pub one_saved : (bases : List Bases) (old : List Stored) (base : Bases) → i < length stores → i < length bases → i < length old
       → base ≡ get_or bases i base → view after ≡ after_save base (view (get_or stores i d))
@@ -56,3 +64,13 @@ module _ {S : Type 0} (view : S → Stored) (stores : List S) (i : ℕ) (d after
       map-set view stores i after
       ∙ ap (set (map view stores) i) (is ∙ ap (after_save base) (sym (get_or-map view stores i d (view d) lt)))
       ∙ one_more_saved i bases old (map view stores) base (view d) lt' lt'' base_is so_far
+
+-- ---- how many failures were counted
+
+-- a call that a store refused is a fault of the store, or none was counted
+pub refused_or_calm : {A So : Type 0} (excuse : Type 0) {before now : ℕ} (why : StoreFault) (result : Result A Fault) → IsErrAnd result (λ fault. fault ≡ fault_of why)
+    → IsExcused excuse before now why → (now ≡ before → So) → IsErrOf result Store ⊎ So
+refused_or_calm excuse why (Ok a) is counts so = absurd is
+refused_or_calm excuse store.Memory (Err fault) is counts so = inr (so counts)
+refused_or_calm excuse store.Failed (Err fault) is counts so = inl (ap (λ e. Err e) is)
+refused_or_calm excuse store.NotOurs (Err fault) is counts so = inl (ap (λ e. Err e) is)

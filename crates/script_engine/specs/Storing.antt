@@ -36,6 +36,13 @@ module _ {S : Type 0} (seen : S → View) where
   abbrev pub all_held : List S → List Stored
   all_held stores = map held_in stores
 
+  -- how many failures it has counted, and each has
+  abbrev pub failures_in : S → ℕ
+  failures_in store = (seen store).failures
+
+  abbrev pub all_failures : List S → List ℕ
+  all_failures stores = map failures_in stores
+
 -- what objects hold under what a store has of them: their own contents where it has nothing, and where it has a delta that on them;
 -- the first object has number n
 abbrev pub laid_over : FinMap nat_cmp Part → ℕ → List Content → List Content

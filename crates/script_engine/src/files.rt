@@ -1,6 +1,8 @@
 //! Running the script that the bytes of a file are.
 
-ghost use Rattle.std.specs.Prelude.{IfErr, IfOk};
+ghost use Rattle.std.specs.Prelude.{◌≢◌, IfErr, IfOk};
+ghost use Rattle.std.specs.Io.KnownBytes.{Keeps};
+ghost use Rattle.argus_engine.specs.declared.engine.Fault.TheVariants.{Output};
 ghost use Rattle.script_engine.specs.Files.{BeginsFile, TellsFile};
 ghost use Rattle.script_engine.specs.Running.{IsOfRun, WriteBoth, known};
 
@@ -12,8 +14,8 @@ use std::io::Write;
 
 /// Runs the clients of the script that the bytes are, in a new system of its objects, writes what `run_script` does,
 /// and has `Done`. Where they are no script it writes no trace, but `fault`, the number of the first fault, from 1 to
-/// 12, and the JSON pointer of its place, which is `/` for the whole document; then it has `Stopped`. After a fault a
-/// beginning of that was written.
+/// 12, and the JSON pointer of its place, which is `/` for the whole document; then it has `Stopped`. After a fault of a
+/// writer a beginning of that was written, and after another fault nothing.
 pub fn run_file<R: RunsClients, T: Write, W: Write>(
     alloc: Global,
     runner: &mut R,
@@ -27,6 +29,10 @@ pub fn run_file<R: RunsClients, T: Write, W: Write>(
         (W.contents writer.old) (W.contents writer.new) (TellsFile R.comes bytes.now ended)) }
     ensures begun { WriteBoth (known T.contents out.old) (known T.contents out.new)
         (W.contents writer.old) (W.contents writer.new) (BeginsFile R.comes bytes.now) }
+    ensures silent { IfErr result (λ fault. fault ≢ Output
+        → Keeps (W.contents writer.old) (W.contents writer.new)) }
+    ensures untraced { IfErr result (λ fault. fault ≢ Output
+        → Keeps (known T.contents out.old) (known T.contents out.new)) }
     ensures fault { IfErr result (IsOfRun R.faults) }
 {
     let Some(script) = read_script(alloc, bytes, writer)? else {

@@ -1,9 +1,11 @@
 //! Running a script, and what the program says of that.
 
-ghost use Rattle.std.specs.Prelude.{◌≡◌, ◌<◌, ◌++◌, ◌∷◌, [], length, map, string_bytes};
+ghost use Rattle.std.specs.Prelude.{◌≡◌, ◌≢◌, ◌<◌, ◌++◌, ◌∷◌, [], length, map, string_bytes};
 ghost use Rattle.std.specs.Prelude.{IfErr, IfOk, OnOk};
+ghost use Rattle.std.specs.Io.KnownBytes.{Keeps};
 ghost use Rattle.script_model.specs.Laws.{HasFewObjects};
 ghost use Rattle.limits.specs.Limits.{max_guardians};
+ghost use Rattle.argus_engine.specs.declared.engine.Fault.TheVariants.{Output};
 ghost use Rattle.script_engine.specs.Running.{BeginsRun, IsFit, IsOfRun, TellsRun, WriteBoth};
 ghost use Rattle.script_engine.specs.Running.{base_lines, end_line, end_text, known, run_text};
 
@@ -38,6 +40,10 @@ pub fn run_script<R: RunsClients, T: Write, W: Write>(
     ensures begun { WriteBoth (known T.contents out.old) (known T.contents out.new)
         (W.contents writer.old) (W.contents writer.new)
         (BeginsRun R.comes script.now script.now.guardians) }
+    ensures silent { IfErr result (λ fault. fault ≢ Output
+        → Keeps (W.contents writer.old) (W.contents writer.new)) }
+    ensures untraced { IfErr result (λ fault. fault ≢ Output
+        → Keeps (known T.contents out.old) (known T.contents out.new)) }
     ensures fault { IfErr result (IsOfRun R.faults) }
 {
     let outcome = runner.run_clients(alloc, setup_of(alloc, script)?, script)?;

@@ -2,17 +2,17 @@
 
 ghost use Rattle.std.specs.Prelude.{◌≡◌, ◌≢◌, ◌≤◌, ◌<◌, ◌⊎◌, ℕ, List, Some};
 ghost use Rattle.std.specs.Prelude.{get_or, length, map, option_copied, take};
-ghost use Rattle.std.specs.Prelude.{IfErr, IfOk, MatchBool, MatchOption, OnErr, OnOk};
+ghost use Rattle.std.specs.Prelude.{IfErr, IfOk, IsErrOf, MatchBool, MatchOption, OnErr, OnOk};
 ghost use Rattle.std.specs.FinMap.{get};
 ghost use Rattle.std.specs.Io.KnownBytes.{Keeps};
 ghost use Rattle.values.specs.declared.content.Content.{Content};
 ghost use Rattle.atomic_types.specs.Parts.{laid_where};
 ghost use Rattle.stable_store.specs.Held.{held, parts_in};
 ghost use Rattle.script_model.specs.Laws.{HasFewObjects};
-ghost use Rattle.argus_engine.specs.declared.engine.Fault.TheVariants.{Output};
+ghost use Rattle.argus_engine.specs.declared.engine.Fault.TheVariants.{Output, Store};
 ghost use Rattle.script_engine.specs.Running.{IsFit, WriteBoth, known};
 ghost use Rattle.script_engine.specs.Storing.{CanOpen, HasOnly, IsOpened, IsOpening, Opens};
-ghost use Rattle.script_engine.specs.Storing.{all_found, all_held, found_in, saved};
+ghost use Rattle.script_engine.specs.Storing.{all_failures, all_found, all_held, found_in, saved};
 ghost use Rattle.script_engine.specs.Storing.{ArePartlySaved, BeginsStoredRun, IsOfStore, IsOfStoredRun, IsStoredRun};
 ghost use Rattle.script_engine.specs.Storing.{LeavesStoredRun};
 
@@ -70,6 +70,9 @@ pub fn run_stored<R: RunsClients, S: Stable, T: Write, W: Write>(
     ensures untold { IfErr result (λ fault. fault ≡ Output → ¬ R.faults Output
         → LeavesStoredRun R.comes script.now (all_found S.seen stores.old)
         (all_held S.seen stores.old) (all_held S.seen stores.new)) }
+    // so no other fault hides that of a store
+    ensures calm { IsErrOf result Store
+        ⊎ (all_failures S.seen stores.new ≡ all_failures S.seen stores.old) }
     ensures fault { IfErr result (IsOfStoredRun R.faults) }
 {
     let Some(setup) = open_setup(alloc, script, stores)? else {
@@ -184,6 +187,8 @@ fn save_all<S: Stable>(
         ≡ saved (map (λ base. base.entries) bases.now) (all_held S.seen stores.old)) }
     ensures err { OnErr result ((count : ℕ) × (all_held S.seen stores.new
         ≡ saved (take count (map (λ base. base.entries) bases.now)) (all_held S.seen stores.old))) }
+    ensures calm { IsErrOf result Store
+        ⊎ (all_failures S.seen stores.new ≡ all_failures S.seen stores.old) }
     ensures fault { IfErr result IsOfStore }
 {
     for (index, store) in stores.iter_mut().enumerate() {

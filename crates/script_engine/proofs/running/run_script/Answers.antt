@@ -2,7 +2,7 @@ use Rattle.std.proofs.Common.{refl, string_bytes}
 use Rattle.std.proofs.lemmas.Result.{on_ok_weaker}
 use Rattle.script_engine.specs.Running.{BeginsRun, known}
 use Rattle.script_engine.proofs.Limits.{resolved}
-use Rattle.script_engine.proofs.Runs.{lines_begun, run_begins, run_not_begun, run_told, told_by, trace_begun, wanted_front, wanted_whole}
+use Rattle.script_engine.proofs.Runs.{lines_begun, never_silent, run_begins, run_not_begun, run_told, silent, told_by, trace_begun, wanted_front, wanted_whole}
 use Rattle.script_engine.proofs.running.run_script.Goals as goal
 
 pub run_clients-requires-clause-script : goal.run_clients-requires-clause-script
@@ -70,3 +70,33 @@ returns-clause-begun g c =
     (wanted_whole g.T.Write.contents (known g.T.Write.contents c.write_wanted.new.out) c.as_str.result.now _ (told_by system) c.as_str.ensures.value c.args.out.now
     c.in_ok-trace.ensures c.in_ok-write_wanted.ensures.ok)
     c.finish.ensures.front
+
+pub returns-in_err-setup_of-clause-silent : goal.returns-in_err-setup_of-clause-silent
+returns-in_err-setup_of-clause-silent g c = silent c.from_residual.result (g.W.Write.contents c.args.writer.now)
+
+pub returns-in_err-setup_of-clause-untraced : goal.returns-in_err-setup_of-clause-untraced
+returns-in_err-setup_of-clause-untraced g c = silent c.from_residual.result (known g.T.Write.contents c.args.out.now)
+
+pub returns-in_err-outcome-clause-silent : goal.returns-in_err-outcome-clause-silent
+returns-in_err-outcome-clause-silent g c = silent c.from_residual-in_err-outcome.result (g.W.Write.contents c.args.writer.now)
+
+pub returns-in_err-outcome-clause-untraced : goal.returns-in_err-outcome-clause-untraced
+returns-in_err-outcome-clause-untraced g c = silent c.from_residual-in_err-outcome.result (known g.T.Write.contents c.args.out.now)
+
+pub returns-in_err-text-clause-silent : goal.returns-in_err-text-clause-silent
+returns-in_err-text-clause-silent g c = silent c.from_residual-in_err-text.result (g.W.Write.contents c.args.writer.now)
+
+pub returns-in_err-text-clause-untraced : goal.returns-in_err-text-clause-untraced
+returns-in_err-text-clause-untraced g c = silent c.from_residual-in_err-text.result (known g.T.Write.contents c.args.out.now)
+
+pub returns-in_err-trace-clause-silent : goal.returns-in_err-trace-clause-silent
+returns-in_err-trace-clause-silent g c = silent c.from_residual-in_err-trace.result (g.W.Write.contents c.args.writer.now)
+
+pub returns-in_err-trace-clause-untraced : goal.returns-in_err-trace-clause-untraced
+returns-in_err-trace-clause-untraced g c = silent c.from_residual-in_err-trace.result (known g.T.Write.contents c.args.out.now)
+
+pub returns-clause-silent : goal.returns-clause-silent
+returns-clause-silent g c = never_silent _ c.finish.result c.finish.ensures.fault
+
+pub returns-clause-untraced : goal.returns-clause-untraced
+returns-clause-untraced g c = never_silent _ c.finish.result c.finish.ensures.fault
