@@ -104,7 +104,7 @@ pub record FailsOfMemory {M : Type 0} (run : M → World) (leaves : Leaves M) (o
   pub stores : leaves step (Some of_step.Memory) before new
 
 -- What was done where the engine gives up by a fault. Memory ran out in a step or beside the steps; a step failed at a store; or the
--- reader or the writer failed, and each step was made. By no other fault it gives up.
+-- reader or the writer failed, and each step was made. No other fault comes.
 abbrev pub GaveUp : {M : Type 0} → (M → World) → Leaves M → M → M → Fault → Type 0
 GaveUp run leaves old new Memory = HasMade run leaves old new ⊎ FailsOfMemory run leaves old new
 GaveUp run leaves old new Store = FailsAtStore run leaves old new

@@ -6,7 +6,8 @@ ghost use Rattle.traces.specs.Faults.{IsFaultOf};
 ghost use Rattle.traces.specs.Traces.{IsTrace, histories_in};
 ghost use Rattle.argus_engine.specs.Serving.{Gives, Writes};
 ghost use Rattle.argus_engine.specs.Reading.{IsOfReader};
-ghost use Rattle.argus_engine.specs.Tracing.{BeginsVerdict, GivesNewWorlds, IsDenied, IsOfMaking, IsOfTrace, IsVerdict, OneVerdict, TellsTrace};
+ghost use Rattle.argus_engine.specs.Tracing.{BeginsVerdict, GivesNewWorlds, IsDenied, IsVerdict, OneVerdict, TellsTrace};
+ghost use Rattle.argus_engine.specs.Tracing.{IsOfMaking, IsOfTrace};
 ghost use Rattle.argus_engine.specs.declared.engine.Fault.TheVariants.{Output};
 
 use crate::engine::Fault;

@@ -20,7 +20,8 @@ pub(crate) fn send_if_full<W: Write>(writer: &mut W, text: &mut String) -> Resul
     ensures err { OnErr result (TakesFront (W.contents writer.old) (W.contents writer.new) (string_bytes text.old)
         × (string_bytes text.new ≡ [])) }
     ensures small { OnOk result (length (string_bytes text.new) < 8192) }
-    ensures kept { length (string_bytes text.old) < 8192 → string_bytes text.new ≡ string_bytes text.old }
+    ensures kept { length (string_bytes text.old) < 8192
+        → string_bytes text.new ≡ string_bytes text.old }
     ensures fault { IfErr result (λ fault. fault ≡ Output) }
 {
     if text.len() < BUFFER_SIZE {
