@@ -1,7 +1,8 @@
 -- Arms that run apart: which names they have, and that they may be run.
-use Rattle.std.proofs.Common.{IsTrue, None, List, Some, [], ap, arith, inl, inr, length, slice_get, subst, suc, sym, take, zero, ℕ, ◌++◌, ◌+◌, ◌∙◌, ◌∷◌, ◌≡◌, ◌≤◌, refl}
+use Rattle.std.proofs.Common.{IsTrue, None, List, Some, [], ap, arith, inl, inr, length, map, refl, reverse, slice_get, subst, suc, sym, take, zero, ℕ, ◌++◌, ◌+◌, ◌-◌, ◌<◌, ◌∙◌, ◌∷◌, ◌≡◌, ◌≤◌}
 use Rattle.std.proofs.lemmas.Bool.{false≢true, or_cases, or_left, or_right}
-use Rattle.std.proofs.lemmas.List.{length-map, length-take, map-append}
+use Rattle.std.proofs.lemmas.List.{get_or-reverse, length-map, length-reverse, length-take, map-append}
+use Rattle.std.proofs.lemmas.Option.{get_or_from_slice_get, slice_get_read}
 use Rattle.action_names.specs.Names.{Name, has_name, same_name}
 use Rattle.run_laws.proofs.Names.{has_name_append, same_name_self}
 use Rattle.run_model.specs.Runs.{World}
@@ -10,8 +11,8 @@ use Rattle.script_model.specs.declared.statement.Arm.{Arm}
 use Rattle.script_model.specs.declared.statement.Statement.{Statement}
 use Rattle.activities.specs.declared.apart.BegunArm.{BegunArm}
 use Rattle.activities.specs.declared.apart.EndedArm.{EndedArm}
-use Rattle.activities.specs.Apart.{AllRunnable, IsRunnable, begun_names, ended_names}
-use Rattle.activities.specs.Bodies.{IsBody, body_of, sizes}
+use Rattle.activities.specs.Apart.{AllRunnable, IsRunnable, are_subs, begun_names, ended_names}
+use Rattle.activities.specs.Bodies.{IsBody, body_of, is_sub, sizes}
 use Rattle.activities.specs.Making.{Makes}
 use Rattle.frames.specs.Bound.{Bound}
 use Rattle.activities.proofs.Going.{alone}
@@ -55,6 +56,37 @@ one_among begun arm waiting i f at a h =
       | inl e ↦ f a e
       | inr e ↦ subst (λ n. IsTrue (has_name waiting n)) (alone arm.action.name a e) (has_at waiting i arm.action.name at)
     ]
+
+-- the first so many, and one more
+take_more : {A : Type 0} (xs : List A) (i : ℕ) (x : A) → slice_get xs i ≡ Some x → take (suc i) xs ≡ take i xs ++ x ∷ []
+take_more [] i x e = absurd (none_is e)
+  where
+    none_is : None ≡ Some x → ⊥
+    none_is h = cc
+take_more (y ∷ xs) zero x e = let same : y ≡ x = cc in ap (λ z. z ∷ []) same
+take_more (y ∷ xs) (suc i) x e = ap (λ l. y ∷ l) (take_more xs i x e)
+
+-- the last of the names is that of the first arm
+turned : {A : Type 0} (xs : List A) (k : ℕ) (x : A) → k < length xs → slice_get xs (length xs - 1 - k) ≡ Some x → slice_get (reverse xs) k ≡ Some x
+turned xs k x less e =
+    slice_get_read (reverse xs) (length xs) k x (sym (length-reverse xs)) less
+    (sym (get_or_from_slice_get xs (length xs - 1 - k) x x e) ∙ sym (get_or-reverse xs k x less))
+
+-- one more has begun, in the order of the arms
+pub one_named : (begun : List BegunArm) (one : BegunArm) (waiting : List Name) (i n : ℕ) → begun_names begun ≡ take i (reverse waiting) → n ≡ i + 1
+    → i < length waiting → slice_get waiting (length waiting - 1 - i) ≡ Some one.action.name
+    → begun_names (begun ++ one ∷ []) ≡ take n (reverse waiting)
+one_named begun one waiting i n h next less at =
+    let more : n ≡ suc i = omega arith in
+    map-append (λ b. b.action.name) begun (one ∷ []) ∙ ap (λ l. l ++ one.action.name ∷ []) h
+    ∙ sym (take_more (reverse waiting) i one.action.name (turned waiting i one.action.name less at)) ∙ sym (ap (λ m. take m (reverse waiting)) more)
+
+pub one_sub : (begun : List BegunArm) (one : BegunArm) (arms : List Arm) (arm : Arm) (i n : ℕ) → are_subs begun ≡ map is_sub (take i arms) → n ≡ i + 1
+    → one.is_sub ≡ is_sub arm → slice_get arms i ≡ Some arm → are_subs (begun ++ one ∷ []) ≡ map is_sub (take n arms)
+one_sub begun one arms arm i n h next same at =
+    let more : n ≡ suc i = omega arith in
+    map-append (λ b. b.is_sub) begun (one ∷ []) ∙ ap (λ l. l ++ one.is_sub ∷ []) h ∙ ap (λ s. map is_sub (take i arms) ++ s ∷ []) same
+    ∙ sym (map-append is_sub (take i arms) (arm ∷ [])) ∙ ap (map is_sub) (sym (take_more arms i arm at) ∙ sym (ap (λ m. take m arms) more))
 
 pub longer : (begun : List BegunArm) (arm : BegunArm) → length (begun ++ arm ∷ []) ≡ length begun + 1
 longer [] arm = refl

@@ -1,5 +1,6 @@
 pub mod Alone
 pub mod ArmsApart
+pub mod ArmsGone
 pub mod ArmNames
 pub mod Clients
 pub mod ClientSteps

@@ -1,10 +1,16 @@
--- Arms that run apart: what is known of one that has begun, and who it is.
-use Rattle.std.specs.Prelude.{◌≡◌, ℕ, List, Some, map, slice_get}
+-- Arms that run apart: what is known of one that has begun, who it is, and what its starter learns of it.
+use Rattle.std.specs.Prelude.{◌≡◌, ℕ, Bool, true, false, List, [], ◌∷◌, Some, Result, Ok, Err, map, slice_get, if◌then◌else◌}
 use Rattle.action_names.specs.Names.{Name}
 use Rattle.script_model.specs.declared.checked.Checked.{Checked}
 use Rattle.activities.specs.declared.apart.BegunArm.{BegunArm}
 use Rattle.activities.specs.declared.apart.EndedArm.{EndedArm}
+use Rattle.activities.specs.declared.flow.Flow.{Flow}
+use Rattle.activities.specs.declared.flow.Flow.TheVariants.{Ended, Outwards, Returned}
+use Rattle.activities.specs.declared.flow.Reach.TheVariants.{TopAction}
+use Rattle.activities.specs.Acting.{acting}
 use Rattle.activities.specs.Bodies.{IsBody, sizes}
+use Rattle.activities.specs.Ends.{has_committed}
+use Rattle.activities.specs.Serial.{Acting, taken_in}
 
 -- whatever the arm's body names is there
 abbrev pub IsRunnable : Checked → BegunArm → Type 0
@@ -32,3 +38,45 @@ begun_names arms = map begun_name arms
 
 abbrev pub ended_names : List EndedArm → List Name
 ended_names arms = map ended_name arms
+
+abbrev pub are_subs : List BegunArm → List Bool
+are_subs arms = map (λ arm. arm.is_sub) arms
+
+-- ---- how a `coenter` goes on
+
+-- an arm that ends so leaves its `coenter`
+abbrev pub leaves : Flow → Bool
+leaves (Returned value) = true
+leaves (Outwards TopAction) = true
+leaves _ = false
+
+abbrev pub has_left : {E : Type 0} → Result Flow E → Bool
+has_left (Ok flow) = leaves flow
+has_left (Err fault) = false
+
+-- the first arm that leaves it says how it goes on
+abbrev pub flow_beside : Flow → Flow → Flow
+flow_beside Ended other = if leaves other then other else Ended
+flow_beside flow other = flow
+
+-- how arms go on after one more of them; of several faults the first counts
+abbrev pub gone_beside : {E : Type 0} → Result Flow E → Result Flow E → Result Flow E
+gone_beside (Err fault) arm = Err fault
+gone_beside (Ok flow) (Err fault) = Err fault
+gone_beside (Ok flow) (Ok other) = Ok (flow_beside flow other)
+
+-- so of one arm after another
+abbrev pub all_gone : {E : Type 0} → Result Flow E → List (Result Flow E) → Result Flow E
+all_gone arms [] = arms
+all_gone arms (one ∷ more) = all_gone (gone_beside arms one) more
+
+-- ---- what a starter learns
+
+-- a nested top action tells its starter nothing
+abbrev pub arm_taken_in : Acting → EndedArm → Acting
+arm_taken_in a arm = if arm.is_sub then taken_in a (acting arm.action) (has_committed arm.ended) else a
+
+-- so of one arm after another
+abbrev pub arms_taken_in : Acting → List EndedArm → Acting
+arms_taken_in a [] = a
+arms_taken_in a (arm ∷ arms) = arms_taken_in (arm_taken_in a arm) arms

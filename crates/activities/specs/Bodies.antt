@@ -1,5 +1,5 @@
 -- A body that the interpreter goes through, and the variables that it leaves bound.
-use Rattle.std.specs.Prelude.{◌≡◌, ◌≤◌, Bool, ◌&&◌, IsTrue, List, map, Option, Some, None}
+use Rattle.std.specs.Prelude.{◌≡◌, ◌≤◌, Bool, true, false, ◌&&◌, IsTrue, List, map, Option, Some, None}
 use Rattle.run_model.specs.declared.step.ArmKind.{ArmKind}
 use Rattle.run_model.specs.declared.step.ArmKind.TheVariants as kind
 use Rattle.script_model.specs.declared.statement.Arm.{Arm, out-Arm}
@@ -59,8 +59,16 @@ abbrev pub opened_body : Arm-F Arm Statement → List Statement
 opened_body (Arm-F.Sub body) = body
 opened_body (Arm-F.Top body) = body
 
+abbrev pub opened_is_sub : Arm-F Arm Statement → Bool
+opened_is_sub (Arm-F.Sub body) = true
+opened_is_sub (Arm-F.Top body) = false
+
 abbrev pub kind_of : Arm → ArmKind
 kind_of arm = opened_kind (out-Arm arm)
+
+-- whether it runs as a subaction, and else as a nested top action
+abbrev pub is_sub : Arm → Bool
+is_sub arm = opened_is_sub (out-Arm arm)
 
 abbrev pub body_of : Arm → List Statement
 body_of arm = opened_body (out-Arm arm)

@@ -1,10 +1,14 @@
 //! Arms that run apart: each is handed over once it has begun, and comes back once it has ended.
-ghost use Rattle.std.specs.Prelude.{◌≡◌, [], ◌∷◌, ◌++◌, IfOk, IsTrue, OnOk, length};
+ghost use Rattle.std.specs.Prelude.{◌≡◌, [], ◌∷◌, ◌++◌, Ok, Err, IfErr, IfOk, IsTrue, OnOk, length, map, reverse, if◌then◌else◌};
 ghost use Rattle.action_names.specs.Names.{Name as Named, has_name};
 ghost use Rattle.script_model.specs.declared.checked.Checked.{Checked as Script};
-ghost use Rattle.activities.specs.Apart.{AllRunnable, IsRunnable, begun_name, begun_names, ended_name};
-ghost use Rattle.activities.specs.Bodies.{AreArms, IsOf, body_of, sizes};
+ghost use Rattle.activities.specs.Acting.{acting};
+ghost use Rattle.activities.specs.Apart.{AllRunnable, IsRunnable, all_gone, are_subs, arm_taken_in, arms_taken_in};
+ghost use Rattle.activities.specs.Apart.{begun_name, begun_names, ended_name, gone_beside, has_left, leaves};
+ghost use Rattle.activities.specs.Bodies.{AreArms, IsOf, body_of, is_sub, sizes};
+ghost use Rattle.activities.specs.Ends.{commits};
 ghost use Rattle.activities.specs.Making.{Makes};
+ghost use Rattle.activities.specs.declared.flow.Flow.TheVariants.{Ended};
 
 use crate::activity::{Activity, has_committed};
 use crate::activity_steps::ActivitySteps;
@@ -93,7 +97,9 @@ fn end_arm<W: ActivitySteps>(
     action: &OpenAction,
     ran: Result<Flow, Fault>,
 ) -> Result<Flow, Fault>
-    ensures { Makes (action.now.name ∷ []) (action.now.name ∷ []) (W.run world.old) (W.run world.new) }
+    ensures makes { Makes (action.now.name ∷ []) (action.now.name ∷ []) (W.run world.old) (W.run world.new) }
+    ensures wanted { IfOk result (λ end. IsTrue (commits end) → ran ≡ Ok end) }
+    ensures fault { IfErr ran (λ fault. result ≡ Err fault) }
 {
     match ran {
         Ok(flow) if is_left_by(&flow) => leave(world, action, flow),
@@ -108,7 +114,8 @@ fn end_arm<W: ActivitySteps>(
 /// Ends an arm that leaves its `coenter`, unless another has left it.
 #[tactic(auto, using(crate::proofs::Making::steps))]
 fn leave<W: ActivitySteps>(world: &mut W, action: &OpenAction, flow: Flow) -> Result<Flow, Fault>
-    ensures { Makes (action.now.name ∷ []) (action.now.name ∷ []) (W.run world.old) (W.run world.new) }
+    ensures makes { Makes (action.now.name ∷ []) (action.now.name ∷ []) (W.run world.old) (W.run world.new) }
+    ensures wanted { IfOk result (λ end. IsTrue (commits end) → end ≡ flow) }
 {
     if !world.claim() {
         action.abort(world)?;
@@ -129,6 +136,8 @@ pub(crate) fn begun_arms(
 ) -> Result<Vec<BegunArm>, AllocError>
     requires each { length waiting.now ≡ length arms.now }
     ensures each { IfOk result (λ begun. length begun.items ≡ length arms.now) }
+    ensures named { IfOk result (λ begun. begun_names begun.items ≡ reverse waiting.now) }
+    ensures subs { IfOk result (λ begun. are_subs begun.items ≡ map is_sub arms.now) }
     ensures among { IfOk result (λ begun. (a : Named)
         → IsTrue (has_name (begun_names begun.items) a) → IsTrue (has_name waiting.now a)) }
     ensures runnable { IfOk result (λ begun. (script : Script)
@@ -151,6 +160,12 @@ fn begun_arm(
     name: &Name,
 ) -> Result<BegunArm, AllocError>
     ensures name { IfOk result (λ begun. begun.action.name ≡ name.now) }
+    ensures home { IfOk result (λ begun. begun.action.home ≡ action.now.home) }
+    ensures sub { IfOk result (λ begun. begun.is_sub ≡ is_sub arm.now) }
+    ensures homes { IfOk result (λ begun. begun.action.reached.homes.keys ≡ action.now.home ∷ []) }
+    ensures participants { IfOk result (λ begun. begun.action.reached.participants.keys ≡ action.now.home ∷ []) }
+    ensures starters { IfOk result (λ begun. begun.action.reached.starters ≡ (if is_sub arm.now
+        then action.now.reached.starters else action.now.reached.starters ++ action.now.name ∷ [])) }
     ensures frames { IfOk result (λ begun. begun.frames ≡ frames.now) }
     ensures body { IfOk result (λ begun. begun.body ≡ body_of arm.now) }
 {
@@ -175,6 +190,8 @@ fn add(begun: &mut Vec<BegunArm>, one: BegunArm) -> Result<(), AllocError>
 pub(crate) fn flow_of(action: &mut OpenAction, arms: Vec<EndedArm>) -> Result<Flow, Fault>
     ensures name { action.new.name ≡ action.old.name }
     ensures home { action.new.home ≡ action.old.home }
+    ensures flow { IfOk result (λ flow. Ok flow ≡ all_gone (Ok Ended) (map (λ arm. arm.ended) arms.items)) }
+    ensures taken { OnOk result (acting action.new ≡ arms_taken_in (acting action.old) arms.items) }
 {
     let mut flow = Ok(Flow::Ended);
     for arm in arms {
@@ -187,6 +204,9 @@ pub(crate) fn flow_of(action: &mut OpenAction, arms: Vec<EndedArm>) -> Result<Fl
 fn learn(action: &mut OpenAction, arm: EndedArm) -> Result<Flow, Fault>
     ensures name { action.new.name ≡ action.old.name }
     ensures home { action.new.home ≡ action.old.home }
+    ensures taken { OnOk result (acting action.new ≡ arm_taken_in (acting action.old) arm) }
+    ensures flow { IfOk result (λ flow. arm.ended ≡ Ok flow) }
+    ensures fault { IfErr arm.ended (λ fault. result ≡ Err fault) }
 {
     let EndedArm {
         action: child,
@@ -203,7 +223,9 @@ fn learn(action: &mut OpenAction, arm: EndedArm) -> Result<Flow, Fault>
 }
 
 /// How arms go on after one more of them.
-fn beside(arms: Result<Flow, Fault>, arm: Result<Flow, Fault>) -> Result<Flow, Fault> {
+fn beside(arms: Result<Flow, Fault>, arm: Result<Flow, Fault>) -> Result<Flow, Fault>
+    ensures { result ≡ gone_beside arms arm }
+{
     let flow = arms?;
     let other = arm?;
     if matches!(flow, Flow::Ended) && is_left_by(&other) {
@@ -214,7 +236,9 @@ fn beside(arms: Result<Flow, Fault>, arm: Result<Flow, Fault>) -> Result<Flow, F
 }
 
 /// Whether an arm that ended so has left its `coenter`.
-pub(crate) fn has_left(ended: &Result<Flow, Fault>) -> bool {
+pub(crate) fn has_left(ended: &Result<Flow, Fault>) -> bool
+    ensures { result ≡ has_left ended.now }
+{
     match ended {
         Ok(flow) => is_left_by(flow),
         Err(_) => false,
@@ -222,6 +246,8 @@ pub(crate) fn has_left(ended: &Result<Flow, Fault>) -> bool {
 }
 
 /// Whether an arm that ends so leaves its `coenter`.
-pub(crate) fn is_left_by(flow: &Flow) -> bool {
+pub(crate) fn is_left_by(flow: &Flow) -> bool
+    ensures { result ≡ leaves flow.now }
+{
     matches!(flow, Flow::Returned(_) | Flow::Outwards(Reach::TopAction))
 }

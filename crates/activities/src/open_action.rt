@@ -1,4 +1,4 @@
-ghost use Rattle.std.specs.Prelude.{◌≡◌, [], ◌∷◌, ◌++◌, List, IsTrue, length, reverse, IfOk, OnOk, OnErr};
+ghost use Rattle.std.specs.Prelude.{◌≡◌, [], ◌∷◌, ◌++◌, List, IsTrue, length, reverse, IfOk, OnOk, OnErr, if◌then◌else◌};
 ghost use Rattle.action_names.specs.Names.{Name, is_top};
 ghost use Rattle.run_model.specs.declared.answer.Answer.TheVariants.{Began};
 ghost use Rattle.run_model.specs.declared.step.Step.TheVariants.{Abort, Call, NestedTop, Prepare, Tell};
@@ -14,6 +14,7 @@ ghost use Rattle.activities.specs.Serial.{aborted, after, arms_aborted, asked, b
 ghost use Rattle.activities.specs.Serial.{committed, end_tried, ended, joined, once_told, or_aborted, outwards};
 ghost use Rattle.activities.specs.Serial.{taken_in, two_phases};
 ghost use Rattle.activities.specs.Acting.{acting};
+ghost use Rattle.activities.specs.Bodies.{is_sub};
 
 use crate::activity_steps::ActivitySteps;
 use crate::flow::{Flow, Reach};
@@ -109,6 +110,8 @@ impl OpenAction {
     pub(crate) fn reached_by_arm(&self, alloc: Global, arm: &Arm) -> Result<Reached, AllocError>
         ensures homes { IfOk result (λ reached. reached.homes.keys ≡ self.now.home ∷ []) }
         ensures participants { IfOk result (λ reached. reached.participants.keys ≡ self.now.home ∷ []) }
+        ensures starters { IfOk result (λ reached. reached.starters ≡ (if is_sub arm.now then self.now.reached.starters
+            else self.now.reached.starters ++ self.now.name ∷ [])) }
     {
         match arm {
             Arm::Sub(_) => self.reached_by_call(alloc, self.home),
@@ -196,6 +199,7 @@ impl OpenAction {
         ensures told { IfOk result (λ end. Tells (commits end) self.now.name (W.run world.old) (W.run world.new)) }
         ensures means { IfOk result (λ end. W.alone → record { world = W.run world.new; flow = end }
             ≡ ended (acting self.now) flow (W.run world.old)) }
+        ensures wanted { IfOk result (λ end. IsTrue (commits end) → end ≡ flow) }
     {
         match self.try_end(world, wants_commit(&flow)) {
             Ok(true) => Ok(flow),

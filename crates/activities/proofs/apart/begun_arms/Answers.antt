@@ -2,9 +2,9 @@ use Rattle.std.proofs.Common.{IsTrue, Some, ap, arith, length, refl, subst, sym,
 use Rattle.std.proofs.lemmas.Option.{slice_get_read}
 use Rattle.std.specs.Prelude.{slice_get}
 use Rattle.action_names.specs.Names.{Name, has_name}
-use Rattle.activities.specs.Apart.{AllRunnable, begun_names}
+use Rattle.activities.specs.Apart.{AllRunnable, are_subs, begun_names}
 use Rattle.activities.specs.Bodies.{sizes}
-use Rattle.activities.proofs.ArmsApart.{longer, one_among, one_runnable, runnable_as}
+use Rattle.activities.proofs.ArmsApart.{longer, one_among, one_named, one_runnable, one_sub, runnable_as}
 use Rattle.activities.proofs.Resolving.{arm_of}
 use Rattle.activities.proofs.apart.begun_arms.Goals as goal
 
@@ -22,6 +22,10 @@ loop-arm-preserved c =
     let there = slice_get_read arms (length arms) l.arm-index arm refl (omega arith) c.arm-item.is in
     record {
       each = let e = ap length c.in_ok-add.ensures in omega (arith, e, longer l.begun.items one, l.invariant.each);
+      named = ap begun_names c.in_ok-add.ensures
+          ∙ one_named l.begun.items one waiting l.arm-index _ l.invariant.named refl (omega arith)
+          (subst (λ n. slice_get waiting (length waiting - 1 - n) ≡ Some one.action.name) (omega (arith, l.invariant.each)) at);
+      subs = ap are_subs c.in_ok-add.ensures ∙ one_sub l.begun.items one arms arm l.arm-index _ l.invariant.subs refl c.in_ok-one.ensures.sub there;
       among = subst (λ (all : _). (a : Name) → IsTrue (has_name (begun_names all) a) → IsTrue (has_name waiting a)) (sym c.in_ok-add.ensures)
           (one_among l.begun.items one waiting i l.invariant.among at);
       runnable = λ script are. subst (AllRunnable script) (sym c.in_ok-add.ensures)
