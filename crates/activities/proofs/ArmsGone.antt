@@ -2,14 +2,11 @@
 use Rattle.std.proofs.Common.{Err, IfOk, List, Ok, OnOk, Result, [], ap, arith, length, refl, sym, ℕ, ◌∙◌, ◌∷◌, ◌≡◌}
 use Rattle.activities.specs.declared.apart.EndedArm.{EndedArm}
 use Rattle.activities.specs.declared.flow.Flow.{Flow}
-use Rattle.activities.specs.Apart.{all_gone, arm_taken_in, arms_taken_in, flow_beside, gone_beside}
+use Rattle.activities.specs.Apart.{all_gone, arm_taken_in, arms_taken_in, gone_beside}
 use Rattle.activities.specs.Serial.{Acting}
 
 ok_no_err : {A E : Type 0} (r : Result A E) (x : A) (e : E) → r ≡ Ok x → r ≡ Err e → ⊥
 ok_no_err r x e h k = cc
-
-ok_inside : {A E : Type 0} (x y : A) (r s : Result A E) → r ≡ Ok x → s ≡ Ok y → r ≡ s → x ≡ y
-ok_inside x y r s h k e = cc
 
 pub none_left : {A : Type 0} (xs : List A) (n : ℕ) → n ≡ length xs → n ≡ 0 → xs ≡ []
 none_left [] n l z = refl

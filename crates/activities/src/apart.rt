@@ -7,7 +7,7 @@ ghost use Rattle.activities.specs.Apart.{AllRunnable, IsRunnable, all_gone, are_
 ghost use Rattle.activities.specs.Apart.{begun_name, begun_names, ended_name, gone_beside, has_left, leaves};
 ghost use Rattle.activities.specs.Bodies.{AreArms, IsOf, body_of, is_sub, sizes};
 ghost use Rattle.activities.specs.Ends.{commits};
-ghost use Rattle.activities.specs.Making.{Makes};
+ghost use Rattle.activities.specs.Making.{Makes, Tells};
 ghost use Rattle.activities.specs.declared.flow.Flow.TheVariants.{Ended};
 
 use crate::activity::{Activity, has_committed};
@@ -71,6 +71,9 @@ pub fn run_arm<W: ActivitySteps>(
     ensures name { ended_name result ≡ begun_name arm }
     ensures makes { Makes (begun_name arm ∷ []) (begun_name arm ∷ [])
         (W.run world.old) (W.run world.new) }
+    ensures told { IfOk result.ended (λ end. Tells (commits end) (begun_name arm)
+        (W.run world.old) (W.run world.new)) }
+    ensures sub { result.is_sub ≡ arm.is_sub }
 {
     let BegunArm {
         action,
@@ -98,6 +101,7 @@ fn end_arm<W: ActivitySteps>(
     ran: Result<Flow, Fault>,
 ) -> Result<Flow, Fault>
     ensures makes { Makes (action.now.name ∷ []) (action.now.name ∷ []) (W.run world.old) (W.run world.new) }
+    ensures told { IfOk result (λ end. Tells (commits end) action.now.name (W.run world.old) (W.run world.new)) }
     ensures wanted { IfOk result (λ end. IsTrue (commits end) → ran ≡ Ok end) }
     ensures fault { IfErr ran (λ fault. result ≡ Err fault) }
 {
@@ -115,6 +119,7 @@ fn end_arm<W: ActivitySteps>(
 #[tactic(auto, using(crate::proofs::Making::steps))]
 fn leave<W: ActivitySteps>(world: &mut W, action: &OpenAction, flow: Flow) -> Result<Flow, Fault>
     ensures makes { Makes (action.now.name ∷ []) (action.now.name ∷ []) (W.run world.old) (W.run world.new) }
+    ensures told { IfOk result (λ end. Tells (commits end) action.now.name (W.run world.old) (W.run world.new)) }
     ensures wanted { IfOk result (λ end. IsTrue (commits end) → end ≡ flow) }
 {
     if !world.claim() {
