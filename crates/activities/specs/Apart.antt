@@ -1,5 +1,5 @@
 -- Arms that run apart: what is known of one that has begun, who it is, and what its starter learns of it.
-use Rattle.std.specs.Prelude.{◌≡◌, ℕ, Bool, true, false, List, [], ◌∷◌, Some, Result, Ok, Err, map, slice_get, if◌then◌else◌}
+use Rattle.std.specs.Prelude.{◌≡◌, ℕ, Bool, true, false, List, [], ◌∷◌, Some, Result, Ok, Err, IfErr, IfOk, map, slice_get, if◌then◌else◌}
 use Rattle.action_names.specs.Names.{Name}
 use Rattle.script_model.specs.declared.checked.Checked.{Checked}
 use Rattle.activities.specs.declared.apart.BegunArm.{BegunArm}
@@ -69,6 +69,15 @@ gone_beside (Ok flow) (Ok other) = Ok (flow_beside flow other)
 abbrev pub all_gone : {E : Type 0} → Result Flow E → List (Result Flow E) → Result Flow E
 all_gone arms [] = arms
 all_gone arms (one ∷ more) = all_gone (gone_beside arms one) more
+
+-- what is said of an arm that ended so: that, or a fault where it ended well
+abbrev pub IsSaid : {E : Type 0} → Result Flow E → Result Flow E → Type 0
+IsSaid ended said = IfOk said (λ flow. ended ≡ Ok flow) × IfErr ended (λ fault. said ≡ Err fault)
+
+-- arms that ended so are gone through in order, and then this is how they go on
+abbrev pub GoOn : {E : Type 0} → Result Flow E → List (Result Flow E) → Result Flow E → Type 0
+GoOn {E} arms [] last = last ≡ arms
+GoOn {E} arms (one ∷ more) last = (said : Result Flow E) × IsSaid one said × GoOn (gone_beside arms said) more last
 
 -- ---- what a starter learns
 

@@ -3,7 +3,7 @@ ghost use Rattle.std.specs.Prelude.{◌≡◌, [], ◌∷◌, ◌++◌, Ok, Err,
 ghost use Rattle.action_names.specs.Names.{Name as Named, has_name};
 ghost use Rattle.script_model.specs.declared.checked.Checked.{Checked as Script};
 ghost use Rattle.activities.specs.Acting.{acting};
-ghost use Rattle.activities.specs.Apart.{AllRunnable, IsRunnable, all_gone, are_subs, arm_taken_in, arms_taken_in};
+ghost use Rattle.activities.specs.Apart.{AllRunnable, GoOn, IsRunnable, all_gone, are_subs, arm_taken_in, arms_taken_in};
 ghost use Rattle.activities.specs.Apart.{begun_name, begun_names, ended_name, gone_beside, has_left, leaves};
 ghost use Rattle.activities.specs.Bodies.{AreArms, IsOf, body_of, is_sub, sizes};
 ghost use Rattle.activities.specs.Ends.{commits};
@@ -196,6 +196,7 @@ pub(crate) fn flow_of(action: &mut OpenAction, arms: Vec<EndedArm>) -> Result<Fl
     ensures name { action.new.name ≡ action.old.name }
     ensures home { action.new.home ≡ action.old.home }
     ensures flow { IfOk result (λ flow. Ok flow ≡ all_gone (Ok Ended) (map (λ arm. arm.ended) arms.items)) }
+    ensures goes_on { GoOn (Ok Ended) (map (λ arm. arm.ended) arms.items) result }
     ensures taken { OnOk result (acting action.new ≡ arms_taken_in (acting action.old) arms.items) }
 {
     let mut flow = Ok(Flow::Ended);
