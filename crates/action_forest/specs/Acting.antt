@@ -5,4 +5,5 @@ use Rattle.action_forest.specs.Trees.{Action}
 
 -- what refusals ask of an action
 abbrev pub actor_of : Action → Actor
-actor_of action = record { home = action.home; status = action.status; busy = nat_lt 0 action.unended }
+actor_of action =
+    record { home = action.home; status = action.status; busy = nat_lt 0 action.unended }

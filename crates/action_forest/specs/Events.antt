@@ -51,15 +51,18 @@ pub record IsUnended (past : List Event) (a : Name) : Type 0 where
 
 -- the event of a step that begins nothing
 abbrev pub done : ℕ → Step → RegistryEvent
-done stamp step = record { stamp = stamp; event = record { step = step; answer = Done 0 }; begun = [] }
+done stamp step =
+    record { stamp = stamp; event = record { step = step; answer = Done 0 }; begun = [] }
 
 -- on which guardians an action depends that begins at this home in this life of it
 abbrev pub first_entries : Opening → List RegistryEvent → ℕ → ℕ → Name → List (ℕ × ℕ)
 first_entries opening registry home life b =
-    entries_of opening (λ h. lesser (inherited (is_top b) b (λ c. dependency_there c h registry)) (own_entry home h life))
+    entries_of opening (λ h.
+    lesser (inherited (is_top b) b (λ c. dependency_there c h registry)) (own_entry home h life))
 
 abbrev pub first_action : Opening → List RegistryEvent → ℕ → ℕ → Name → NewAction
-first_action opening registry home life b = record { name = b; home = home; incarnation = life; dependencies = first_entries opening registry home life b }
+first_action opening registry home life b =
+    record { name = b; home = home; incarnation = life; dependencies = first_entries opening registry home life b }
 
 -- the event of a step that begins these names at this home in this life of it
 abbrev pub beginning : Opening → List RegistryEvent → ℕ → Step → List Name → ℕ → ℕ → RegistryEvent
@@ -69,13 +72,16 @@ beginning opening registry stamp step names home life = record {
   begun = map (λ b. first_action opening registry home life b) names;
 }
 
--- names that are given one after another: each is that of the next child of its parent, where next has the next numbers before
+-- names that are given one after another: each is that of the next child of its parent, where next has the next
+-- numbers before
 abbrev pub AreNext : (Name → ℕ) → List Name → Type 0
 AreNext next [] = Unit {0}
 AreNext next (a ∷ names) =
-    (a ≡ child_of (parent_of a) (next (parent_of a))) × AreNext (λ b. if same_name b (parent_of a) then suc (next b) else next b) names
+    (a ≡ child_of (parent_of a) (next (parent_of a)))
+    × AreNext (λ b. if same_name b (parent_of a) then suc (next b) else next b) names
 
 -- each of the names is that of a top action, or of a child of the maker
 abbrev pub AreUnder : Option Name → List Name → Type 0
 AreUnder maker [] = Unit {0}
-AreUnder maker (a ∷ names) = (IsTrue (is_top a) ⊎ (maker ≡ Some (parent_of a))) × AreUnder maker names
+AreUnder maker (a ∷ names) = (IsTrue (is_top a) ⊎ (maker ≡ Some (parent_of a)))
+    × AreUnder maker names

@@ -13,8 +13,8 @@ use Rattle.step_answers.specs.declared.actor.Status.TheVariants.{Active}
 use Rattle.action_forest.specs.Events.{children_there, first_entries, life_there, status_there, unended_there}
 use Rattle.action_forest.specs.Trees.{Action, Trees, action_of, children_of, depends_at, home_at, life_at, maker_at, name_at, place_of, said, status_at, unended_at}
 
--- What does not change once an action has begun. Each action that was begun stands at one place, under its name, with its home and its maker. An
--- action is made once, and a subaction by its parent.
+-- What does not change once an action has begun. Each action that was begun stands at one place, under its name, with
+-- its home and its maker. An action is made once, and a subaction by its parent.
 pub record IsTree (registry : List RegistryEvent) (forest : Trees) : Type 0 where
   pub count : length forest.actions ≡ length (begun (events_there registry))
   pub found : (a : Name) → is_some (place_of forest a) ≡ is_begun a (events_there registry)
@@ -22,14 +22,19 @@ pub record IsTree (registry : List RegistryEvent) (forest : Trees) : Type 0 wher
   pub placed : (a : Name) (i : ℕ) → name_at forest i ≡ Some a → place_of forest a ≡ Some i
   pub home : (a : Name) → home_at forest a ≡ home_of a (events_there registry)
   pub life : (a : Name) → life_at forest a ≡ life_there a registry
-  pub makers : (a : Name) (j : ℕ) → said (λ action. action.maker) None (action_of forest a) ≡ Some j → j < length forest.actions
+  pub makers : (a : Name) (j : ℕ) → said (λ action. action.maker) None (action_of forest a) ≡ Some j
+      → j < length forest.actions
   pub maker : (a : Name) → maker_at forest a ≡ maker_of a (events_there registry)
-  pub children : (a : Name) → length (children_of forest a) ≡ children_there a (events_there registry)
-  pub made : (a m : Name) → count_by (λ b. same_name b a) (made_by m (events_there registry)) ≡ (if is_exactly (maker_of a (events_there registry)) m then 1 else 0)
-  pub parents : (a : Name) → IsTrue (is_begun a (events_there registry)) → IsFalse (is_top a) → maker_of a (events_there registry) ≡ Some (parent_of a)
+  pub children : (a : Name)
+      → length (children_of forest a) ≡ children_there a (events_there registry)
+  pub made : (a m : Name) → count_by (λ b. same_name b a) (made_by m (events_there registry))
+      ≡ (if is_exactly (maker_of a (events_there registry)) m then 1 else 0)
+  pub parents : (a : Name) → IsTrue (is_begun a (events_there registry)) → IsFalse (is_top a)
+      → maker_of a (events_there registry) ≡ Some (parent_of a)
 
 -- The forest says what the registry's history says.
-pub record IsForest (opening : Opening) (registry : List RegistryEvent) (forest : Trees) : Type 0 where
+pub record IsForest (opening : Opening) (registry : List RegistryEvent)
+    (forest : Trees) : Type 0 where
   pub first : forest.first_top ≡ suc (given_before opening [])
   pub setup : forest.guardians ≡ length opening.setup
   pub tree : IsTree registry forest
@@ -37,19 +42,23 @@ pub record IsForest (opening : Opening) (registry : List RegistryEvent) (forest 
   pub depends : (a : Name) (g : ℕ) → depends_at forest a g ≡ dependency_there a g registry
   pub unended : (a : Name) → unended_at forest a ≡ unended_there a (events_there registry)
   -- whom an action depends on is of the setup
-  pub inside : (a : Name) (g : ℕ) → IsSome (dependency_there a g registry) → (1 ≤ g) × (g ≤ length opening.setup)
+  pub inside : (a : Name) (g : ℕ) → IsSome (dependency_there a g registry)
+      → (1 ≤ g) × (g ≤ length opening.setup)
 
 -- at each opening and registry's history of which the forest says what they say
 abbrev pub AtEach : Trees → (Opening → List RegistryEvent → Type 0) → Type 0
-AtEach forest holds = (opening : Opening) (registry : List RegistryEvent) → IsForest opening registry forest → holds opening registry
+AtEach forest holds = (opening : Opening) (registry : List RegistryEvent)
+    → IsForest opening registry forest → holds opening registry
 
 -- the plan commits this action of the forest: its parent is left with the lesser of each dependency
 pub record IsCommitmentOf (forest : Trees) (a : Name) (plan : Commitment) : Type 0 where
   pub action : plan.action ≡ a
-  pub depends : (g : ℕ) → tree.get plan.depends g ≡ lesser (depends_at forest (parent_of a) g) (depends_at forest a g)
+  pub depends : (g : ℕ)
+      → tree.get plan.depends g ≡ lesser (depends_at forest (parent_of a) g) (depends_at forest a g)
 
 -- the action is as it begins with this name, made by m if by any, at home at h in its incarnation n
-pub record IsBorn (opening : Opening) (registry : List RegistryEvent) (m : Option Name) (h n : ℕ) (forest : Trees) (b : Name) (x : Action) : Type 0 where
+pub record IsBorn (opening : Opening) (registry : List RegistryEvent) (m : Option Name) (h n : ℕ)
+    (forest : Trees) (b : Name) (x : Action) : Type 0 where
   pub name : x.name ≡ b
   pub home : x.home ≡ h
   pub life : x.life ≡ n

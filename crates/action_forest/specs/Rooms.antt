@@ -24,7 +24,8 @@ HasRoomBelow forest n (Some at) =
 abbrev pub HasRoomAt : List Node → ℕ → ℕ → Option ℕ → Type 0
 HasRoomAt nodes n k None = Unit {0}
 HasRoomAt nodes n k (Some at) =
-    MatchOption (slice_get nodes at) ⊥ (λ node. (vec_len node.children + n ≤ vec_capacity node.children) × (node.unended + k < 2 ^ 64))
+    MatchOption (slice_get nodes at) ⊥
+    (λ node. (vec_len node.children + n ≤ vec_capacity node.children) × (node.unended + k < 2 ^ 64))
 
 -- the forest has room for so many actions more that are made by the action at the place
 pub record HasRoom (forest : Forest) (n : ℕ) (maker : Option ℕ) : Type 0 where
@@ -38,20 +39,24 @@ pub record FitsBegun (forest : Forest) (plan : Begun) : Type 0 where
   pub same : All (λ node. node.maker ≡ plan.maker) plan.nodes.items
 
 -- these actions are as they begin with these names
-abbrev pub AllBorn : Opening → List RegistryEvent → Option Name → ℕ → ℕ → Trees → List Name → List Action → Type 0
+abbrev pub AllBorn : Opening → List RegistryEvent → Option Name → ℕ → ℕ → Trees → List Name
+    → List Action → Type 0
 AllBorn opening registry maker home life forest [] [] = Unit {0}
 AllBorn opening registry maker home life forest [] (x ∷ actions) = ⊥
 AllBorn opening registry maker home life forest (b ∷ names) [] = ⊥
 AllBorn opening registry maker home life forest (b ∷ names) (x ∷ actions) =
-    IsBorn opening registry maker home life forest b x × AllBorn opening registry maker home life forest names actions
+    IsBorn opening registry maker home life forest b x
+    × AllBorn opening registry maker home life forest names actions
 
-abbrev pub AreBorn : Opening → List RegistryEvent → Option Name → ℕ → ℕ → Trees → List Name → Begun → Type 0
+abbrev pub AreBorn : Opening → List RegistryEvent → Option Name → ℕ → ℕ → Trees
+    → List Name → Begun → Type 0
 AreBorn opening registry maker home life forest names plan =
     AllBorn opening registry maker home life forest names (map action_in plan.nodes.items)
 
--- What an accepted step has that begins these names at this home: their numbers come next, and each is a top action or a child of the maker,
--- which was begun.
-pub record IsBeginning (opening : Opening) (registry : List RegistryEvent) (step : Step) (names : List Name) (home : ℕ) : Type 0 where
+-- What an accepted step has that begins these names at this home: their numbers come next, and each is a top action
+-- or a child of the maker, which was begun.
+pub record IsBeginning (opening : Opening) (registry : List RegistryEvent) (step : Step)
+    (names : List Name) (home : ℕ) : Type 0 where
   pub still : IsTrue (is_still step)
   pub next : AreNext (λ a. next_number opening a (events_there registry)) names
   pub under : AreUnder (maker_in step) names

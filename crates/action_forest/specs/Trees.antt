@@ -1,5 +1,5 @@
--- What a forest keeps, without the room that its lists have, and how an action is found in it: its number leads to it among the children of its
--- parent.
+-- What a forest keeps, without the room that its lists have, and how an action is found in it: its number leads to it
+-- among the children of its parent.
 use Rattle.std.specs.Prelude.{ℕ, zero, suc, ◌+◌, ◌-◌, nat_lt, Bool, true, false, List, [], ◌∷◌, ◌++◌, length, map, if◌then◌else◌, Option, Some, None, slice_get}
 use Rattle.std.specs.Option.{option_and_then}
 use Rattle.std.specs.FinMap as tree
@@ -21,7 +21,8 @@ pub record Action : Type 0 where
   pub unended : ℕ
   pub children : List ℕ
 
--- actions in the order in which they began, with the places of the top actions, of which the first has the number first_top
+-- actions in the order in which they began, with the places of the top actions, of which the first has the number
+-- first_top
 pub record Trees : Type 0 where
   pub first_top : ℕ
   pub guardians : ℕ
@@ -63,12 +64,14 @@ children_in action = said (λ action. action.children) [] action
 -- the place to which a path leads from a place
 abbrev pub place_below : List Action → Name → Option ℕ → Option ℕ
 place_below actions [] at = at
-place_below actions (n ∷ path) at = place_below actions path (option_and_then (λ i. numbered (children_in (slice_get actions i)) 1 n) at)
+place_below actions (n ∷ path) at = place_below actions path
+    (option_and_then (λ i. numbered (children_in (slice_get actions i)) 1 n) at)
 
 -- the place of an action, if it is there
 abbrev pub place_of : Trees → Name → Option ℕ
 place_of forest [] = None
-place_of forest (n ∷ path) = place_below forest.actions path (numbered forest.tops forest.first_top n)
+place_of forest (n ∷ path) =
+    place_below forest.actions path (numbered forest.tops forest.first_top n)
 
 abbrev pub action_of : Trees → Name → Option Action
 action_of forest a = option_and_then (λ i. slice_get forest.actions i) (place_of forest a)
@@ -83,7 +86,8 @@ abbrev pub life_at : Trees → Name → ℕ
 life_at forest a = said (λ action. action.life) 0 (action_of forest a)
 
 abbrev pub maker_at : Trees → Name → Option Name
-maker_at forest a = said (λ action. option_and_then (λ i. name_at forest i) action.maker) None (action_of forest a)
+maker_at forest a =
+    said (λ action. option_and_then (λ i. name_at forest i) action.maker) None (action_of forest a)
 
 abbrev pub status_at : Trees → Name → Status
 status_at forest a = said (λ action. action.status) Active (action_of forest a)
@@ -140,11 +144,13 @@ maker_place forest i = said (λ action. action.maker) None (slice_get forest.act
 
 -- the action at the place ends with this status, and its maker has one less that has not
 abbrev pub ended : Status → ℕ → Trees → Trees
-ended status i forest = changed_at one_less (maker_place forest i) (changed (with_status status) i forest)
+ended status i forest =
+    changed_at one_less (maker_place forest i) (changed (with_status status) i forest)
 
 -- it commits: its maker, which is its parent, is left with these dependencies
 abbrev pub committed : Deps → ℕ → Trees → Trees
-committed depends i forest = changed_at (with_depends depends) (maker_place forest i) (ended Committed i forest)
+committed depends i forest =
+    changed_at (with_depends depends) (maker_place forest i) (ended Committed i forest)
 
 abbrev pub one_more : Action → Action
 one_more action = record action { unended = action.unended + 1 }
@@ -163,7 +169,8 @@ hung false maker place forest = changed_at (with_child place) maker forest
 
 -- the forest with one action more, that is a top action or a child of its maker
 abbrev pub grown : Action → Trees → Trees
-grown action forest = hung (is_top action.name) action.maker (length forest.actions) (pushed action forest)
+grown action forest =
+    hung (is_top action.name) action.maker (length forest.actions) (pushed action forest)
 
 -- and that counts at its maker
 abbrev pub added : Action → Trees → Trees

@@ -101,14 +101,16 @@ impl Forest {
 
     /// Whether the action has committed.
     pub fn is_committed(&self, path: &[u32]) -> bool
-        ensures { AtEach (trees self.now) (λ opening registry. result ≡ is_committed path.now (events_there registry)) }
+        ensures { AtEach (trees self.now)
+            (λ opening registry. result ≡ is_committed path.now (events_there registry)) }
     {
         matches!(self.standing(path), Status::Committed)
     }
 
     /// The home of the action, and 0 where there is no such action.
     pub fn home(&self, path: &[u32]) -> u32
-        ensures { AtEach (trees self.now) (λ opening registry. result ≡ home_of path.now (events_there registry)) }
+        ensures { AtEach (trees self.now)
+            (λ opening registry. result ≡ home_of path.now (events_there registry)) }
     {
         match self.node(path) {
             Some(node) => node.home,
@@ -118,17 +120,19 @@ impl Forest {
 
     /// Who made the action.
     pub fn maker(&self, path: &[u32]) -> Option<&Name>
-        ensures { AtEach (trees self.now) (λ opening registry. MatchOption result (maker_of path.now (events_there registry) ≡ None)
+        ensures { AtEach (trees self.now) (λ opening registry.
+            MatchOption result (maker_of path.now (events_there registry) ≡ None)
             (λ maker. maker_of path.now (events_there registry) ≡ Some maker.now)) }
     {
         let maker = self.node(path)?.maker?;
         Some(&self.nodes.get(maker)?.name)
     }
 
-    /// The number of the next child of the action, and for the empty path that of the next top action. All numbers above 4294967295 count as
-    /// 4294967296.
+    /// The number of the next child of the action, and for the empty path that of the next top action. All numbers
+    /// above 4294967295 count as 4294967296.
     pub fn next(&self, path: &[u32]) -> u64
-        ensures { AtEach (trees self.now) (λ opening registry. result ≡ min (next_number opening path.now (events_there registry)) (suc max_number)) }
+        ensures { AtEach (trees self.now) (λ opening registry. result
+            ≡ min (next_number opening path.now (events_there registry)) (suc max_number)) }
     {
         let first = if path.is_empty() { self.first_top } else { 1 };
         let given = self.children(path).len() as u64;
@@ -137,28 +141,35 @@ impl Forest {
 
     /// The least incarnation of the guardian on which the action depends, if it depends on it.
     pub fn dependency(&self, path: &[u32], guardian: u32) -> Option<u64>
-        ensures { AtEach (trees self.now) (λ opening registry. result ≡ dependency_there path.now guardian registry) }
+        ensures { AtEach (trees self.now)
+            (λ opening registry. result ≡ dependency_there path.now guardian registry) }
     {
         self.node(path)?.depends.get(guardian)
     }
 
     /// On which guardians the action depends, with the least incarnation of each.
     pub fn depends(&self, path: &[u32]) -> Option<&Deps>
-        ensures { AtEach (trees self.now) (λ opening registry. (g : ℕ) → option_and_then (λ depends. map.get depends.now g) result ≡ dependency_there path.now g registry) }
+        ensures { AtEach (trees self.now)
+            (λ opening registry. (g : ℕ) → option_and_then (λ depends. map.get depends.now g) result
+            ≡ dependency_there path.now g registry) }
     {
         Some(&self.node(path)?.depends)
     }
 
     /// On which guardians the action depends, with the least incarnation of each, in a copy.
     pub fn dependencies(&self, path: &[u32]) -> Result<Deps, AllocError>
-        ensures { AtEach (trees self.now) (λ opening registry. IfOk result (λ depends. map.entries depends ≡ entries_of opening (λ h. dependency_there path.now h registry))) }
+        ensures { AtEach (trees self.now)
+            (λ opening registry. IfOk result (λ depends. map.entries depends
+            ≡ entries_of opening (λ h. dependency_there path.now h registry))) }
     {
         self.depends_of(path)
     }
 
     /// On which guardians an action depends that begins at this home in this life of it.
     pub fn new_dependencies(&self, action: &Name, home: u32, life: u64) -> Result<Deps, AllocError>
-        ensures { AtEach (trees self.now) (λ opening registry. IfOk result (λ depends. map.entries depends ≡ first_entries opening registry home life action.now)) }
+        ensures { AtEach (trees self.now)
+            (λ opening registry. IfOk result (λ depends. map.entries depends
+            ≡ first_entries opening registry home life action.now)) }
     {
         let path = action.components();
         let mut depends = self.depends_of(&path[..path.len() - 1])?;
@@ -181,7 +192,8 @@ impl Forest {
 
     /// A top action commits.
     pub fn decide(&mut self, top: &Name)
-        ensures { AtEach (trees self.old) (λ opening registry. (stamp : ℕ) → IsUnended (events_there registry) top.now →
+        ensures { AtEach (trees self.old)
+            (λ opening registry. (stamp : ℕ) → IsUnended (events_there registry) top.now →
             IsForest opening (done stamp (Decide top.now) ∷ registry) (trees self.new)) }
     {
         if let Some(at) = self.place(top.components()) {
@@ -191,7 +203,8 @@ impl Forest {
 
     /// An action aborts.
     pub fn abort(&mut self, action: &Name)
-        ensures { AtEach (trees self.old) (λ opening registry. (stamp : ℕ) → IsUnended (events_there registry) action.now →
+        ensures { AtEach (trees self.old)
+            (λ opening registry. (stamp : ℕ) → IsUnended (events_there registry) action.now →
             IsForest opening (done stamp (Abort action.now) ∷ registry) (trees self.new)) }
     {
         if let Some(at) = self.place(action.components()) {
@@ -230,8 +243,9 @@ impl Forest {
         }
     }
 
-    /// What a step needs that begins actions of these names, at this home in this life of it, made by this action if by any. This one pair of
-    /// calls serves top actions, nested ones, calls and arms. Whatever comes of it, the forest keeps what it kept.
+    /// What a step needs that begins actions of these names, at this home in this life of it, made by this action if
+    /// by any. This one pair of calls serves top actions, nested ones, calls and arms. Whatever comes of it, the
+    /// forest keeps what it kept.
     pub fn plan_begin(
         &mut self,
         names: &Names,
@@ -241,7 +255,9 @@ impl Forest {
     ) -> Result<Begun, AllocError>
         ensures kept { trees self.new ≡ trees self.old }
         ensures room { IfOk result (FitsBegun self.new) }
-        ensures born { AtEach (trees self.old) (λ opening registry. IfOk result (AreBorn opening registry (option_map (λ name. name.now) maker.entry) home life (trees self.old) names.now)) }
+        ensures born { AtEach (trees self.old)
+            (λ opening registry. IfOk result (AreBorn opening registry
+            (option_map (λ name. name.now) maker.entry) home life (trees self.old) names.now)) }
     {
         let count = names.len();
         self.nodes.reserve(count)?;
@@ -260,9 +276,12 @@ impl Forest {
     /// Begins the actions of a plan that was made of this forest. This cannot fail.
     pub fn begin(&mut self, plan: Begun)
         requires { FitsBegun self.old plan }
-        ensures { AtEach (trees self.old) (λ opening registry. (stamp : ℕ) (step : Step) (names : List (List ℕ)) (home life : ℕ) →
-            IsBeginning opening registry step names home → AreBorn opening registry (maker_in step) home life (trees self.old) names plan →
-            IsForest opening (beginning opening registry stamp step names home life ∷ registry) (trees self.new)) }
+        ensures { AtEach (trees self.old)
+            (λ opening registry. (stamp : ℕ) (step : Step) (names : List (List ℕ)) (home life : ℕ) →
+            IsBeginning opening registry step names home
+            → AreBorn opening registry (maker_in step) home life (trees self.old) names plan →
+            IsForest opening (beginning opening registry stamp step names home life ∷ registry)
+            (trees self.new)) }
     {
         let Begun {
             maker: _,
@@ -299,7 +318,8 @@ impl Forest {
 
     // A copy of what the action depends on.
     fn depends_of(&self, path: &[u32]) -> Result<Deps, AllocError>
-        ensures { IfOk result (λ depends. (g : ℕ) → map.get depends g ≡ depends_at (trees self.now) path.now g) }
+        ensures { IfOk result
+            (λ depends. (g : ℕ) → map.get depends g ≡ depends_at (trees self.now) path.now g) }
     {
         match self.node(path) {
             Some(node) => node.depends.copy(),
@@ -315,8 +335,11 @@ impl Forest {
         home: u32,
         life: u64,
     ) -> Result<Node, AllocError>
-        ensures made { IfOk result (λ node. action_in node ≡ fresh_action name.now maker home life node.depends) }
-        ensures depends { AtEach (trees self.now) (λ opening registry. IfOk result (λ node. map.entries node.depends ≡ first_entries opening registry home life name.now)) }
+        ensures made { IfOk result
+            (λ node. action_in node ≡ fresh_action name.now maker home life node.depends) }
+        ensures depends { AtEach (trees self.now)
+            (λ opening registry. IfOk result (λ node. map.entries node.depends
+            ≡ first_entries opening registry home life name.now)) }
     {
         Ok(Node {
             name: name.copy()?,
@@ -341,7 +364,9 @@ impl Forest {
         ensures capacity { vec_capacity self.new.nodes ≡ vec_capacity self.old.nodes }
         ensures tops { self.new.tops ≡ self.old.tops }
         ensures room { IfOk result (HasRoomBelow self.new count) }
-        ensures place { AtEach (trees self.old) (λ opening registry. IfOk result (λ at. at ≡ option_and_then (λ a. place_of (trees self.old) a) (option_map (λ name. name.now) maker.entry))) }
+        ensures place { AtEach (trees self.old) (λ opening registry. IfOk result
+            (λ at. at ≡ option_and_then (λ a. place_of (trees self.old) a)
+            (option_map (λ name. name.now) maker.entry))) }
     {
         let Some(maker) = maker else {
             return Ok(None);
@@ -361,7 +386,8 @@ impl Forest {
     fn add(&mut self, node: Node)
         requires { HasRoom self.old 1 node.maker }
         ensures added { trees self.new ≡ added (action_in node) (trees self.old) }
-        ensures room { (n : ℕ) → HasRoom self.old (n + 1) node.maker → HasRoom self.new n node.maker }
+        ensures room { (n : ℕ) → HasRoom self.old (n + 1) node.maker
+            → HasRoom self.new n node.maker }
     {
         let place = self.nodes.len();
         let maker = node.maker;
@@ -378,7 +404,8 @@ impl Forest {
         ensures len { vec_len self.new.nodes ≡ vec_len self.old.nodes }
         ensures capacity { vec_capacity self.new.nodes ≡ vec_capacity self.old.nodes }
         ensures tops { self.new.tops ≡ self.old.tops }
-        ensures room { (n k : ℕ) → HasRoomAt self.old.nodes.items n (k + 1) maker → HasRoomAt self.new.nodes.items n k maker }
+        ensures room { (n k : ℕ) → HasRoomAt self.old.nodes.items n (k + 1) maker
+            → HasRoomAt self.new.nodes.items n k maker }
     {
         let Some(at) = maker else {
             return;
@@ -397,7 +424,8 @@ impl Forest {
         ensures capacity { vec_capacity self.new.nodes ≡ vec_capacity self.old.nodes }
         ensures tops_len { vec_len self.new.tops ≤ vec_len self.old.tops + 1 }
         ensures tops_capacity { vec_capacity self.new.tops ≡ vec_capacity self.old.tops }
-        ensures room { (n k : ℕ) → HasRoomAt self.old.nodes.items (n + 1) k maker → HasRoomAt self.new.nodes.items n k maker }
+        ensures room { (n k : ℕ) → HasRoomAt self.old.nodes.items (n + 1) k maker
+            → HasRoomAt self.new.nodes.items n k maker }
     {
         if top {
             self.tops.push_reserved(place);
@@ -476,7 +504,8 @@ impl Forest {
 
     // What is kept of the action.
     fn node(&self, path: &[u32]) -> Option<&Node>
-        ensures { option_map (λ node. action_in node.now) result ≡ action_of (trees self.now) path.now }
+        ensures { option_map (λ node. action_in node.now) result
+            ≡ action_of (trees self.now) path.now }
     {
         self.nodes.get(self.place(path)?)
     }

@@ -29,8 +29,9 @@ impl Forest {
         path: &[u32],
         hearer: &H,
     ) -> Result<Vec<(Name, bool)>, AllocError>
-        ensures { (told : List ℕ → Bool) → H.hears hearer.now told → AtEach (trees self.now) (λ opening registry.
-            IfOk result (λ outcomes. outcomes.items ≡ untold_below path.now told (events_there registry))) }
+        ensures { (told : List ℕ → Bool) → H.hears hearer.now told
+            → AtEach (trees self.now) (λ opening registry. IfOk result
+            (λ outcomes. outcomes.items ≡ untold_below path.now told (events_there registry))) }
     {
         let places = self.descendants(path)?;
         let mut outcomes = self.outcomes_at(&places, hearer)?;
@@ -40,7 +41,8 @@ impl Forest {
 
     // The places of the action's descendants, level by level.
     fn descendants(&self, path: &[u32]) -> Result<Vec<usize>, AllocError>
-        ensures { AtEach (trees self.now) (λ opening registry. IfOk result (λ places. AreBelow (trees self.now) path.now (events_there registry) places.items)) }
+        ensures { AtEach (trees self.now) (λ opening registry. IfOk result
+            (λ places. AreBelow (trees self.now) path.now (events_there registry) places.items)) }
     {
         let mut below = Vec::new(*self.nodes.allocator());
         let Some(start) = self.place(path) else {
@@ -62,8 +64,9 @@ impl Forest {
         places: &[usize],
         hearer: &H,
     ) -> Result<Vec<(Name, bool)>, AllocError>
-        ensures { (told : List ℕ → Bool) → H.hears hearer.now told → AtEach (trees self.now) (λ opening registry.
-            IfOk result (λ outcomes. outcomes.items ≡ untold_at (trees self.now) told (events_there registry) places.now)) }
+        ensures { (told : List ℕ → Bool) → H.hears hearer.now told
+            → AtEach (trees self.now) (λ opening registry. IfOk result (λ outcomes. outcomes.items
+            ≡ untold_at (trees self.now) told (events_there registry) places.now)) }
     {
         let mut outcomes = Vec::new(*self.nodes.allocator());
         for place in places {
@@ -80,8 +83,9 @@ impl Forest {
         at: usize,
         hearer: &H,
     ) -> Result<Option<(Name, bool)>, AllocError>
-        ensures { (told : List ℕ → Bool) → H.hears hearer.now told → AtEach (trees self.now) (λ opening registry.
-            IfOk result (λ outcome. outcome ≡ untold_outcome told (events_there registry) (name_there (trees self.now) at))) }
+        ensures { (told : List ℕ → Bool) → H.hears hearer.now told
+            → AtEach (trees self.now) (λ opening registry. IfOk result (λ outcome. outcome
+            ≡ untold_outcome told (events_there registry) (name_there (trees self.now) at))) }
     {
         let Some(node) = self.nodes.get(at) else {
             return Ok(None);

@@ -1,5 +1,5 @@
--- The laws of the two comparisons of names: `same_name` is an equivalence, and `name_cmp` a total order that agrees with it. What a name feeds
--- a hasher, which for the same names is the same.
+-- The laws of the two comparisons of names: `same_name` is an equivalence, and `name_cmp` a total order that agrees
+-- with it. What a name feeds a hasher, which for the same names is the same.
 use Rattle.std.specs.Prelude.{◌≡◌, [], ◌∷◌, ◌&&◌, ◌==◌, IsTrue, nat_eq, refl}
 use Rattle.std.specs.Ordering.{eq_by_cmp, as_partial_cmp}
 use Rattle.std.specs.Cmp.{IsEquivalence, IsPartialEquivalence, IsTotalOrder, IsPartialOrder, partial_equiv_from_equiv, po}

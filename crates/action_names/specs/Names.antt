@@ -42,7 +42,8 @@ is_prefix [] b = true
 is_prefix (m ∷ a) [] = false
 is_prefix (m ∷ a) (n ∷ b) = (m == n) && is_prefix a b
 
--- whether a is an ancestor of b: a beginning of its name that is not empty, b included (Lynch, Merritt, Weihl and Fekete)
+-- whether a is an ancestor of b: a beginning of its name that is not empty, b included (Lynch, Merritt, Weihl and
+-- Fekete)
 abbrev pub is_ancestor : Name → Name → Bool
 is_ancestor [] b = false
 is_ancestor (n ∷ a) b = is_prefix (n ∷ a) b
@@ -102,7 +103,8 @@ has_name (b ∷ bs) a = same_name b a || has_name bs a
 -- a name put into its place among rising names, if it is not there yet
 abbrev pub insert_name : Name → List Name → List Name
 insert_name a [] = a ∷ []
-insert_name a (b ∷ bs) = if same_name a b then b ∷ bs else (if name_lt a b then a ∷ b ∷ bs else b ∷ insert_name a bs)
+insert_name a (b ∷ bs) =
+    if same_name a b then b ∷ bs else (if name_lt a b then a ∷ b ∷ bs else b ∷ insert_name a bs)
 
 -- the names of a list, each once, rising
 abbrev pub rising_names : List Name → List Name

@@ -15,4 +15,5 @@ array_at (Deep many) = arc_value many
 abbrev pub IsPlaceOf : ℕ → Place → Type 0
 IsPlaceOf count (Here few) = (count ≤ 8) × (length few ≡ 8)
 IsPlaceOf count (Shared some) = (8 < count) × (count ≤ 16) × (length (arc_value some) ≡ 16)
-IsPlaceOf count (Deep many) = (8 < count) × (count ≤ max_depth) × (length (arc_value many) ≡ max_depth)
+IsPlaceOf count (Deep many) = (8 < count) × (count ≤ max_depth)
+    × (length (arc_value many) ≡ max_depth)

@@ -9,7 +9,8 @@ use smallvec::SmallVec;
 use std::alloc::{AllocError, Global};
 use std::marker::Model;
 
-/// On which incarnation of each guardian an action depends, the least. Most actions depend on one guardian or two, whose entries lie in the value itself.
+/// On which incarnation of each guardian an action depends, the least. Most actions depend on one guardian or two,
+/// whose entries lie in the value itself.
 #[derive(Debug, Drop)]
 pub struct Deps {
     least: SmallVec<(u32, u64), 2>,
@@ -55,7 +56,8 @@ impl Deps {
     /// This takes memory only for a guardian that is new. Where memory runs out, nothing changes.
     pub fn lower(&mut self, guardian: u32, incarnation: u64) -> Result<(), AllocError>
         ensures ok { OnOk result
-            (self.new ≡ map.insert self.old guardian (lowered (map.get self.old guardian) incarnation)) }
+            (self.new
+            ≡ map.insert self.old guardian (lowered (map.get self.old guardian) incarnation)) }
         ensures err { OnErr result (self.new ≡ self.old) }
         ensures known { IsSome (map.get self.old guardian) → IsOk result }
     {
@@ -68,7 +70,8 @@ impl Deps {
         ensures ok { OnOk result
             ((g : ℕ) → map.get self.new g ≡ lesser (map.get self.old g) (map.get other.now g)) }
         ensures err { OnErr result (self.new ≡ self.old) }
-        ensures known { ((g : ℕ) → IsSome (map.get other.now g) → IsSome (map.get self.old g)) → IsOk result }
+        ensures known { ((g : ℕ) → IsSome (map.get other.now g) → IsSome (map.get self.old g))
+            → IsOk result }
     {
         merge_in(&mut self.least, other.least.as_slice())
     }
@@ -115,7 +118,8 @@ fn search(least: &[(u32, u64)], guardian: u32) -> Result<usize, usize>
     least.binary_search_by_key(&guardian, |&(known, _)| known)
 }
 
-// Whether the guardian comes after all that have an entry. Dependencies that are built in order are found so without a search.
+// Whether the guardian comes after all that have an entry. Dependencies that are built in order are found so without
+// a search.
 fn is_past(least: &[(u32, u64)], guardian: u32) -> bool
     requires { IsRising least.now }
     ensures { IsTrue result → IsGapFor least.now guardian (length least.now) }
@@ -160,7 +164,8 @@ fn is_known(least: &[(u32, u64)], guess: usize, guardian: u32) -> bool
     search_near(least, guess, guardian).is_ok()
 }
 
-// Adds one dependency, whose entry may well be at the place that is guessed. It takes memory only for a new guardian for whom no room is left.
+// Adds one dependency, whose entry may well be at the place that is guessed. It takes memory only for a new guardian
+// for whom no room is left.
 fn lower_in(
     least: &mut SmallVec<(u32, u64), 2>,
     guess: usize,
@@ -170,7 +175,8 @@ fn lower_in(
     requires { IsRising least.old.items }
     ensures rising { IsRising least.new.items }
     ensures ok { OnOk result (least.new.items
-        ≡ with_least least.old.items guardian (lowered (least_at least.old.items guardian) incarnation)) }
+        ≡ with_least least.old.items guardian
+        (lowered (least_at least.old.items guardian) incarnation)) }
     ensures err { OnErr result (least.new.items ≡ least.old.items) }
     ensures known { IsSome (least_at least.old.items guardian) → IsOk result }
     ensures room { small_vec_len least.old < least.old.capacity → IsOk result }
@@ -186,13 +192,15 @@ fn lower_in(
     }
 }
 
-// Adds the dependencies of the others, once there is room for those on new guardians. Mostly both have the same guardians, in the same places.
+// Adds the dependencies of the others, once there is room for those on new guardians. Mostly both have the same
+// guardians, in the same places.
 fn merge_in(least: &mut SmallVec<(u32, u64), 2>, others: &[(u32, u64)]) -> Result<(), AllocError>
     requires own { IsRising least.old.items }
     requires others { IsRising others.now }
     ensures rising { IsRising least.new.items }
     ensures ok { OnOk result
-        ((g : ℕ) → least_at least.new.items g ≡ lesser (least_at least.old.items g) (least_at others.now g)) }
+        ((g : ℕ) → least_at least.new.items g
+        ≡ lesser (least_at least.old.items g) (least_at others.now g)) }
     ensures err { OnErr result (least.new.items ≡ least.old.items) }
     ensures known { count_new least.old.items others.now ≡ 0 → IsOk result }
 {

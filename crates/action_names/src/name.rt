@@ -73,9 +73,11 @@ impl Name {
     /// `NotAName` comes exactly where no name has the text. This takes no memory up to 8 numbers.
     pub fn parse(alloc: Global, text: &str) -> Result<Name, NameFault>
         ensures found { IfOk result (λ a. IsName a × (text.now ≡ name_text a)) }
-        ensures refused { IsErrOf result NameFault.NotAName → (a : List ℕ) → IsName a → text.now ≢ name_text a }
+        ensures refused { IsErrOf result NameFault.NotAName → (a : List ℕ) → IsName a
+            → text.now ≢ name_text a }
         ensures never_deep { IsErrOf result NameFault.TooDeep → ⊥ }
-        ensures inline { (a : List ℕ) → IsName a → length a ≤ 8 → text.now ≡ name_text a → IsOk result }
+        ensures inline { (a : List ℕ) → IsName a → length a ≤ 8
+            → text.now ≡ name_text a → IsOk result }
     {
         let (name, rest) = Name::at_front(alloc, text.as_bytes())?;
         if !rest.is_empty() {
@@ -84,13 +86,15 @@ impl Name {
         Ok(name)
     }
 
-    /// The name that the bytes begin with, and the bytes that follow it: it goes on up to a byte that is neither a digit nor a dot.
-    /// `NotAName` comes exactly where they begin with none. This takes no memory up to 8 numbers.
+    /// The name that the bytes begin with, and the bytes that follow it: it goes on up to a byte that is neither a
+    /// digit nor a dot. `NotAName` comes exactly where they begin with none. This takes no memory up to 8 numbers.
     pub fn at_front(alloc: Global, bytes: &[u8]) -> Result<(Name, &[u8]), NameFault>
         ensures found { IfOk result (λ r. BeginsWithName bytes.now r.0 r.1.now) }
-        ensures refused { IsErrOf result NameFault.NotAName → (a : List ℕ) (rest : List ℕ) → BeginsWithName bytes.now a rest → ⊥ }
+        ensures refused { IsErrOf result NameFault.NotAName → (a : List ℕ) (rest : List ℕ)
+            → BeginsWithName bytes.now a rest → ⊥ }
         ensures never_deep { IsErrOf result NameFault.TooDeep → ⊥ }
-        ensures inline { (a : List ℕ) (rest : List ℕ) → BeginsWithName bytes.now a rest → length a ≤ 8 → IsOk result }
+        ensures inline { (a : List ℕ) (rest : List ℕ) → BeginsWithName bytes.now a rest
+            → length a ≤ 8 → IsOk result }
     {
         let mut few = [0; FEW];
         let mut left = bytes;
@@ -120,7 +124,8 @@ impl Name {
         requires so_far { _bytes.now ≡ dotted few behind_few.now }
         requires components { AllByRecursion IsComponent few }
         ensures found { IfOk result (λ r. BeginsWithName _bytes.now r.0 r.1.now) }
-        ensures refused { IsErrOf result NameFault.NotAName → (a : List ℕ) (rest : List ℕ) → BeginsWithName _bytes.now a rest → ⊥ }
+        ensures refused { IsErrOf result NameFault.NotAName → (a : List ℕ) (rest : List ℕ)
+            → BeginsWithName _bytes.now a rest → ⊥ }
         ensures never_deep { IsErrOf result NameFault.TooDeep → ⊥ }
     {
         let mut numbers = ArrayVec::<u32, MAX_DEPTH>::new();
@@ -144,7 +149,8 @@ impl Name {
         }
     }
 
-    /// The name of the top action with this number. `NotAName` comes exactly where the number is 0. This takes no memory.
+    /// The name of the top action with this number. `NotAName` comes exactly where the number is 0. This takes no
+    /// memory.
     pub fn top(alloc: Global, number: u32) -> Result<Name, NameFault>
         ensures ok { IfOk result (λ a. IsName a × (a ≡ number ∷ [])) }
         ensures found { IsOk result ↔ (0 < number) }
@@ -162,7 +168,8 @@ impl Name {
     pub fn child(&self, number: u32) -> Result<Name, NameFault>
         ensures ok { IfOk result (λ a. IsName a × (a ≡ child_of self.now number)) }
         ensures not_a_name { IsErrOf result NameFault.NotAName ↔ (number ≡ 0) }
-        ensures too_deep { IsErrOf result NameFault.TooDeep ↔ ((0 < number) × (length self.now ≡ max_depth)) }
+        ensures too_deep { IsErrOf result NameFault.TooDeep
+            ↔ ((0 < number) × (length self.now ≡ max_depth)) }
         ensures inline { 0 < number → length self.now < 8 → IsOk result }
     {
         if number == 0 {
@@ -245,7 +252,8 @@ impl Name {
 
     /// Appends the name to the text. Where memory runs out, the text stays as it was.
     pub fn write_to(&self, text: &mut String) -> Result<(), AllocError>
-        ensures ok { OnOk result (string_bytes text.new ≡ string_bytes text.old ++ name_text self.now) }
+        ensures ok { OnOk result
+            (string_bytes text.new ≡ string_bytes text.old ++ name_text self.now) }
         ensures err { OnErr result (string_bytes text.new ≡ string_bytes text.old) }
     {
         let len = text.as_str().len();
@@ -259,7 +267,8 @@ impl Name {
     // Where memory runs out, a part of the name may stand at the end.
     #[tactic(auto, using(crate::proofs::Growing::grown_same, crate::proofs::Growing::grown_then))]
     fn append_to(&self, text: &mut String) -> Result<(), AllocError>
-        ensures ok { OnOk result (string_bytes text.new ≡ string_bytes text.old ++ name_text self.now) }
+        ensures ok { OnOk result
+            (string_bytes text.new ≡ string_bytes text.old ++ name_text self.now) }
         ensures err { OnErr result (IsGrown (string_bytes text.old) (string_bytes text.new)) }
     {
         if let [first, rest @ ..] = self.parts.as_slice() {
@@ -286,8 +295,8 @@ fn append_number(number: u32, text: &mut String) -> Result<(), AllocError>
     text.push_str(Buffer::new().format(number))
 }
 
-/// The number of a name that the bytes begin with, from 1 to 4294967295 without leading zeros, and the bytes that follow its digits.
-/// `None` comes exactly where they begin with none.
+/// The number of a name that the bytes begin with, from 1 to 4294967295 without leading zeros, and the bytes that
+/// follow its digits. `None` comes exactly where they begin with none.
 pub fn number_at_front(bytes: &[u8]) -> Option<(u32, &[u8])>
     ensures { MatchOption result
         ((n : ℕ) (rest : List ℕ) → BeginsWithNumber bytes.now n rest → ⊥)
@@ -318,7 +327,8 @@ fn with_digits(mut number: u32, bytes: &[u8]) -> Option<(u32, &[u8])>
 fn with_digit(number: u32, digit: u8) -> Option<u32>
     requires low { 48 ≤ digit }
     requires high { digit ≤ 57 }
-    ensures { MatchOption result (2 ^ 32 ≤ 10 * number + (digit - 48)) (λ more. more ≡ 10 * number + (digit - 48)) }
+    ensures { MatchOption result (2 ^ 32 ≤ 10 * number + (digit - 48))
+        (λ more. more ≡ 10 * number + (digit - 48)) }
 {
     number.checked_mul(10)?.checked_add(u32::from(digit - b'0'))
 }

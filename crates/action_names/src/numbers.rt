@@ -13,7 +13,8 @@ pub(crate) const FEW: usize = 8;
 /// How many numbers the smaller of the shared arrays has.
 const SOME: usize = 16;
 
-/// At most 32 numbers, which never change. A copy takes no memory: up to 8 numbers are copied in one piece, and more are shared.
+/// At most 32 numbers, which never change. A copy takes no memory: up to 8 numbers are copied in one piece, and more
+/// are shared.
 #[derive(Drop)]
 pub(crate) struct Numbers {
     alloc: Global,

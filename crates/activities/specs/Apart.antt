@@ -18,7 +18,8 @@ IsRunnable script arm = IsBody script (sizes arm.frames) arm.body
 
 -- so of each arm
 abbrev pub AllRunnable : Checked → List BegunArm → Type 0
-AllRunnable script arms = (i : ℕ) (arm : BegunArm) → slice_get arms i ≡ Some arm → IsRunnable script arm
+AllRunnable script arms = (i : ℕ) (arm : BegunArm) → slice_get arms i ≡ Some arm
+    → IsRunnable script arm
 
 -- so of each arm, in one of these scripts
 pub record AreRunnable (scripts : Checked → Type 0) (arms : List BegunArm) : Type 0 where
@@ -77,13 +78,15 @@ IsSaid ended said = IfOk said (λ flow. ended ≡ Ok flow) × IfErr ended (λ fa
 -- arms that ended so are gone through in order, and then this is how they go on
 abbrev pub GoOn : {E : Type 0} → Result Flow E → List (Result Flow E) → Result Flow E → Type 0
 GoOn {E} arms [] last = last ≡ arms
-GoOn {E} arms (one ∷ more) last = (said : Result Flow E) × IsSaid one said × GoOn (gone_beside arms said) more last
+GoOn {E} arms (one ∷ more) last = (said : Result Flow E) × IsSaid one said
+    × GoOn (gone_beside arms said) more last
 
 -- ---- what a starter learns
 
 -- a nested top action tells its starter nothing
 abbrev pub arm_taken_in : Acting → EndedArm → Acting
-arm_taken_in a arm = if arm.is_sub then taken_in a (acting arm.action) (has_committed arm.ended) else a
+arm_taken_in a arm =
+    if arm.is_sub then taken_in a (acting arm.action) (has_committed arm.ended) else a
 
 -- so of one arm after another
 abbrev pub arms_taken_in : Acting → List EndedArm → Acting

@@ -38,13 +38,15 @@ abbrev pub IsBody : Checked → resolved.Frames → List Statement → Type 0
 IsBody script frames body = Somewhere script (λ at. resolved.is_resolved_body at frames body)
 
 abbrev pub IsStatement : Checked → resolved.Frames → Statement → Type 0
-IsStatement script frames statement = Somewhere script (λ at. (resolved.asked statement).holds at frames)
+IsStatement script frames statement =
+    Somewhere script (λ at. (resolved.asked statement).holds at frames)
 
 abbrev pub IsCall : Checked → resolved.Frames → HandlerCall → Type 0
 IsCall script frames call = Somewhere script (λ at. resolved.call_is_resolved at frames call)
 
 abbrev pub IsOp : resolved.Frames → ObjectCall → Type 0
-IsOp frames call = IsTrue (resolved.operation_is_bound frames call.operation && resolved.binding_is_bound frames call.binding)
+IsOp frames call = IsTrue (resolved.operation_is_bound frames call.operation
+    && resolved.binding_is_bound frames call.binding)
 
 -- the arms of a `coenter`
 abbrev pub AreArms : Checked → resolved.Frames → List Arm → Type 0
@@ -83,7 +85,8 @@ SignalsHold script frames (Some body) = IsBody script frames body
 -- the same beside a binding, which binds nothing newly there: after a signal the variables are as they were
 abbrev pub SignalsFollow : Checked → resolved.Frames → Binding → Option (List Statement) → Type 0
 SignalsFollow script frames binding None = Unit {0}
-SignalsFollow script frames binding (Some body) = IsBody script frames body × (resolved.frames_after frames binding ≡ frames)
+SignalsFollow script frames binding (Some body) = IsBody script frames body
+    × (resolved.frames_after frames binding ≡ frames)
 
 -- what is so where a body ended well
 abbrev pub WhereEnded : Flow → Type 0 → Type 0

@@ -22,7 +22,8 @@ tops_begun (e ∷ past) = tops_begun past ++ tops_by e.step e.answer
 
 -- each action that was begun since then has ended
 abbrev pub EndsAll : World → World → Type 0
-EndsAll old new = (a : Name) → IsTrue (is_begun a new.past) → (is_begun a old.past ≡ false) → IsTrue (is_ended a new.past)
+EndsAll old new = (a : Name) → IsTrue (is_begun a new.past) → (is_begun a old.past ≡ false)
+    → IsTrue (is_ended a new.past)
 
 -- the world was left by one step
 abbrev pub IsAfter : Step → World → World → Type 0

@@ -63,7 +63,8 @@ named_by (Some a) = a ∷ []
 
 -- the `top` step at this guardian began the action, or was refused
 abbrev pub IsTopAt : ℕ → World → Option Name → Type 0
-IsTopAt home w None = (why : Refusal) × (answer_of (opening_in w.lists) (Top home) w.past ≡ answer.Refused why)
+IsTopAt home w None = (why : Refusal)
+    × (answer_of (opening_in w.lists) (Top home) w.past ≡ answer.Refused why)
 IsTopAt home w (Some a) = answer_of (opening_in w.lists) (Top home) w.past ≡ answer.Began (a ∷ [])
 
 -- a client of this home was run: a `top` step began the action that its end names, and each step was of its own actions
@@ -80,7 +81,8 @@ RanInTurn (client ∷ clients) old new [] = ⊥
 RanInTurn (client ∷ clients) old new (end ∷ ends) =
     (next : World) × ClientRan client.home old next end × RanInTurn clients next new ends
 
--- these clients were run: their ends name, in order, exactly the actions that `top` steps began, and each step was of their own actions
+-- these clients were run: their ends name, in order, exactly the actions that `top` steps began, and each step was of
+-- their own actions
 pub record AreRun (clients : List Client) (old new : World) (ends : List ClientEnd) : Type 0 where
   pub in_turn : RanInTurn clients old new ends
   pub is_run : IsRun (opening_in new.lists) new.past
@@ -113,12 +115,14 @@ pub record ClientCut (home : ℕ) (old new : World) : Type 0 where
 -- a client of this home was run to its end, or until a fault ended it
 abbrev pub ClientTried : ℕ → World → World → Type 0
 ClientTried home old new =
-    ((end : ClientEnd) × IsTopAt home old (top_of end) × ClientMade home end old new) ⊎ ClientCut home old new
+    ((end : ClientEnd) × IsTopAt home old (top_of end) × ClientMade home end old new)
+    ⊎ ClientCut home old new
 
 -- clients were tried one after another, each from where the one before it had ended
 abbrev pub TriedInTurn : List Client → World → World → Type 0
 TriedInTurn [] old new = new ≡ old
-TriedInTurn (client ∷ clients) old new = (next : World) × ClientTried client.home old next × TriedInTurn clients next new
+TriedInTurn (client ∷ clients) old new = (next : World) × ClientTried client.home old next
+    × TriedInTurn clients next new
 
 -- the first so many of the clients were tried, and each step was of their own actions
 pub record AreTried (clients : List Client) (old new : World) : Type 0 where

@@ -28,7 +28,8 @@ IsKnown names events a = IsTrue (has_name names a) ⊎ IsTrue (is_begun a events
 
 -- the step is of an action that is known
 abbrev pub IsOfKnown : List Name → List Event → Step → Type 0
-IsOfKnown names before step = IsOfAction step × ((a : Name) → IsTrue (has_name (about step) a) → IsKnown names before a)
+IsOfKnown names before step = IsOfAction step
+    × ((a : Name) → IsTrue (has_name (about step) a) → IsKnown names before a)
 
 -- each step is of one of these actions, or of one that the events before it began
 abbrev pub AreOwn : List Name → List Event → Type 0
@@ -41,8 +42,8 @@ CommitOnly names events = (a : Name) → IsTrue (is_committed a events) → IsKn
 
 -- ---- worlds
 
--- the world went on by steps of the actors and of actions that these steps began; what they committed is one of the second list, or began
--- since
+-- the world went on by steps of the actors and of actions that these steps began; what they committed is one of the
+-- second list, or began since
 pub record Makes (actors committing : List Name) (old new : World) : Type 0 where
   pub same_opening : new.lists ≡ old.lists
   pub later : List Event
@@ -107,5 +108,5 @@ ClientMakes home (Some a) old new = Makes (a ∷ []) (a ∷ []) (with_top home a
 
 -- clients leave alone what began before them
 abbrev pub EarlierIsLeftAlone : Type 0
-EarlierIsLeftAlone = (tops : List Name) (old new : World) → IsRun (opening_in new.lists) new.past → ClientsMake tops old new
-    → LeavesAlone old new
+EarlierIsLeftAlone = (tops : List Name) (old new : World) → IsRun (opening_in new.lists) new.past
+    → ClientsMake tops old new → LeavesAlone old new

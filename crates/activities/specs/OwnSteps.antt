@@ -27,9 +27,13 @@ IsOfAction (Crash g) = ⊥
 IsOfAction (Recover g) = ⊥
 IsOfAction _ = Unit {0}
 
--- what was begun before is left alone: it has committed, aborted or closed exactly where it had; and a guardian is down exactly where it was
+-- what was begun before is left alone: it has committed, aborted or closed exactly where it had; and a guardian is
+-- down exactly where it was
 pub record LeavesAlone (old new : World) : Type 0 where
-  pub committed : (a : Name) → IsTrue (is_begun a old.past) → is_committed a new.past ≡ is_committed a old.past
-  pub aborted : (a : Name) → IsTrue (is_begun a old.past) → is_aborted a new.past ≡ is_aborted a old.past
-  pub closed : (a : Name) → IsTrue (is_begun a old.past) → is_closed a new.past ≡ is_closed a old.past
+  pub committed : (a : Name) → IsTrue (is_begun a old.past)
+      → is_committed a new.past ≡ is_committed a old.past
+  pub aborted : (a : Name) → IsTrue (is_begun a old.past)
+      → is_aborted a new.past ≡ is_aborted a old.past
+  pub closed : (a : Name) → IsTrue (is_begun a old.past)
+      → is_closed a new.past ≡ is_closed a old.past
   pub down : (g : ℕ) → is_down g new.past ≡ is_down g old.past

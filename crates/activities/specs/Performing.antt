@@ -26,7 +26,8 @@ op_step name home object wanted = Op name (record { guardian = home; number = ob
 
 -- the step that an operation of a script asks for; none where one of its arguments has no value
 abbrev pub step_for : Name → ℕ → Bound → ObjectCall → Option Step
-step_for name home before call = option_map (op_step name home call.object) (op_of before call.operation)
+step_for name home before call =
+    option_map (op_step name home call.object) (op_of before call.operation)
 
 -- the world was left by the step, or by nothing where there is none
 abbrev pub IsAfterAny : Option Step → World → World → Type 0
@@ -52,4 +53,5 @@ by_answer before binding _ = (outcome.Refused, before)
 -- what comes of the step and what is bound then; where there is no step, it is as if it was refused
 abbrev pub outcome_of : World → Bound → Binding → Option Step → Outcome × Bound
 outcome_of w before binding None = (outcome.Refused, before)
-outcome_of w before binding (Some step) = by_answer before binding (answer_of (opening_in w.lists) step w.past)
+outcome_of w before binding (Some step) =
+    by_answer before binding (answer_of (opening_in w.lists) step w.past)

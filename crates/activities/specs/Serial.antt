@@ -70,7 +70,8 @@ and_then t next = if t.done then next t.world else t
 
 -- ---- an action that runs
 
--- an action that was begun; the guardians that are home to it or to a descendant of it, and those that take part in its vote, rising
+-- an action that was begun; the guardians that are home to it or to a descendant of it, and those that take part in
+-- its vote, rising
 pub record Acting : Type 0 where
   pub name : Name
   pub home : ℕ
@@ -107,18 +108,21 @@ aborted a w = once_told a.name a.homes (after (Abort a.name) w)
 abbrev pub voted : Name → List ℕ → World → Tried
 voted a [] w = record { world = w; done = true }
 voted a (g ∷ gs) w =
-    and_then (record { world = after (Prepare g a) w; done = is_yes (asked (Prepare g a) w) }) (voted a gs)
+    and_then (record { world = after (Prepare g a) w; done = is_yes (asked (Prepare g a) w) })
+    (voted a gs)
 
 -- a top action commits by two phases, and another action by one step
 abbrev pub two_phases : Acting → World → Tried
-two_phases a w = and_then (and_then (tried (Close a.name) w) (voted a.name a.participants)) (tried (Decide a.name))
+two_phases a w = and_then (and_then (tried (Close a.name) w) (voted a.name a.participants))
+    (tried (Decide a.name))
 
 abbrev pub commit_tried : Acting → World → Tried
 commit_tried a w = if is_top a.name then two_phases a w else tried (Commit a.name) w
 
 -- and then tells so
 abbrev pub committed : Acting → World → Tried
-committed a w = and_then (commit_tried a w) (λ next. record { world = once_told a.name a.homes next; done = true })
+committed a w = and_then (commit_tried a w)
+    (λ next. record { world = once_told a.name a.homes next; done = true })
 
 -- where aborts go on from an action that has aborted
 abbrev pub outwards : Bool → Flow → Flow
@@ -136,18 +140,21 @@ abbrev pub or_aborted : Acting → Tried → Tried
 or_aborted a t = if t.done then t else record { world = aborted a t.world; done = false }
 
 abbrev pub end_tried : Acting → Bool → World → Tried
-end_tried a wanted w = if wanted then or_aborted a (committed a w) else record { world = aborted a w; done = false }
+end_tried a wanted w =
+    if wanted then or_aborted a (committed a w) else record { world = aborted a w; done = false }
 
 -- it ends as its body ended
 abbrev pub by_try : Acting → Flow → Tried → Left
-by_try a flow t = record { world = t.world; flow = if t.done then flow else outwards (is_top a.name) flow }
+by_try a flow t =
+    record { world = t.world; flow = if t.done then flow else outwards (is_top a.name) flow }
 
 abbrev pub ended : Acting → Flow → World → Left
 ended a flow w = by_try a flow (end_tried a (commits flow) w)
 
 -- ---- bodies
 
--- an activity under way: its world, how many statements and turns it may still begin, the action in which it is, and its variables
+-- an activity under way: its world, how many statements and turns it may still begin, the action in which it is, and
+-- its variables
 pub record Doing : Type 0 where
   pub world : World
   pub left : ℕ
@@ -172,13 +179,15 @@ beside d inside = record d { world = inside.world; left = inside.left }
 
 -- a body within another: what it binds newly is forgotten
 abbrev pub inner : Through → List Statement → Doing → Done
-inner go body d = let r = go body d in record r { doing = record r.doing { bound = cut_back (sizes d.bound) r.doing.bound } }
+inner go body d = let r = go body d in
+    record r { doing = record r.doing { bound = cut_back (sizes d.bound) r.doing.bound } }
 
 -- the body of an action, and its end
 abbrev pub run : Through → Acting → Bound → List Statement → Doing → Done
 run go a b body d =
     let r = go body (record d { acting = a; bound = b }) in
-    let l = ended r.doing.acting r.flow r.doing.world in record { doing = with_world r.doing l.world; flow = l.flow }
+    let l = ended r.doing.acting r.flow r.doing.world in
+    record { doing = with_world r.doing l.world; flow = l.flow }
 
 -- what is done where something signals; without a body for that, the innermost action aborts
 abbrev pub on_signal : Through → Option (List Statement) → Doing → Done
@@ -204,7 +213,8 @@ op_done go call signals d =
     let came = outcome_of d.world d.bound call.binding step in
     by_outcome go signals (record d { world = after_any step d.world; bound = came.1 }) came.0
 
--- a handler call: the handler's body as a subaction. What it gave back is bound; where it does not fit, the innermost action aborts
+-- a handler call: the handler's body as a subaction. What it gave back is bound; where it does not fit, the innermost
+-- action aborts
 abbrev pub reply_of : Option Value → Reply
 reply_of None = reply.Done
 reply_of (Some v) = reply.Gives v
@@ -226,7 +236,8 @@ by_end go binding signals d Aborted = on_signal go signals d
 by_end go binding signals d (Outwards r) = record { doing = d; flow = Outwards r }
 
 abbrev pub taking_in : Doing → Done → Doing
-taking_in d r = record (beside d r.doing) { acting = taken_in d.acting r.doing.acting (commits r.flow) }
+taking_in d r =
+    record (beside d r.doing) { acting = taken_in d.acting r.doing.acting (commits r.flow) }
 
 -- what came of a call: where its guardian is down, or it would be nested too deeply, it signals
 abbrev pub called_by : Answer → Called
@@ -235,16 +246,20 @@ called_by (answer.Refused refusal.Down) = called.Signalled
 called_by (answer.Refused refusal.TooDeep) = called.Signalled
 called_by _ = called.Refused
 
-abbrev pub by_called : Through → Handler → Bound → Binding → Option (List Statement) → Doing → Called → Done
+abbrev pub by_called : Through → Handler → Bound → Binding → Option (List Statement)
+    → Doing → Called → Done
 by_called go h inside binding signals d (called.Began a) =
-    let r = run go (begun_at h.guardian a) inside h.body d in by_end go binding signals (taking_in d r) r.flow
+    let r = run go (begun_at h.guardian a) inside h.body d in
+    by_end go binding signals (taking_in d r) r.flow
 by_called go h inside binding signals d called.Signalled = on_signal go signals d
 by_called go h inside binding signals d called.Refused = record { doing = d; flow = Aborted }
 
-abbrev pub call_done : Through → Option Handler → HandlerCall → Option (List Statement) → Option Bound → Doing → Done
+abbrev pub call_done : Through → Option Handler → HandlerCall → Option (List Statement)
+    → Option Bound → Doing → Done
 call_done go (Some h) call signals (Some inside) d =
     let step = Call d.acting.name h.guardian in
-    by_called go h inside call.binding signals (with_world d (after step d.world)) (called_by (asked step d.world))
+    by_called go h inside call.binding signals (with_world d (after step d.world))
+    (called_by (asked step d.world))
 call_done go _ call signals _ d = record { doing = d; flow = Aborted }
 
 -- a nested top action, over a copy of the variables
@@ -260,14 +275,16 @@ begun_by _ = None
 abbrev pub by_nested : Through → List Statement → List Statement → Doing → Option Name → Done
 by_nested go body signals d None = record { doing = d; flow = Aborted }
 by_nested go body signals d (Some a) =
-    let r = run go (begun_at d.acting.home a) d.bound body d in by_nested_end go signals (beside d r.doing) r.flow
+    let r = run go (begun_at d.acting.home a) d.bound body d in
+    by_nested_end go signals (beside d r.doing) r.flow
 
 abbrev pub nested_done : Through → List Statement → List Statement → Doing → Done
 nested_done go body signals d =
     let step = NestedTop d.acting.name in
     by_nested go body signals (with_world d (after step d.world)) (begun_by (asked step d.world))
 
--- arms are run in order, each over a copy of the variables, to the first that returns or is left; what is done, and which have not run
+-- arms are run in order, each over a copy of the variables, to the first that returns or is left; what is done, and
+-- which have not run
 abbrev pub is_past : Flow → Bool
 is_past Ended = true
 is_past Aborted = true
@@ -331,7 +348,8 @@ budgeted d next = by_budget d next d.left
 
 abbrev pub repeated : Through → ℕ → List Statement → Doing → Done
 repeated go zero body d = record { doing = d; flow = Ended }
-repeated go (suc turns) body d = budgeted d (λ next. where_ended (inner go body next) (repeated go turns body))
+repeated go (suc turns) body d =
+    budgeted d (λ next. where_ended (inner go body next) (repeated go turns body))
 
 -- how a body ends that returns: with the value, if one is named
 abbrev pub by_value : Option Value → Flow
@@ -348,7 +366,8 @@ opened_done handlers go (Statement-F.Call call signals) d =
     call_done go (slice_get handlers call.handler) call signals (given d.bound call) d
 opened_done handlers go (Statement-F.Coenter arms) d = coenter_done go arms d
 opened_done handlers go (Statement-F.TopAction body signals) d = nested_done go body signals d
-opened_done handlers go (Statement-F.If test first second) d = by_truth go first second d (truth_of d.bound test)
+opened_done handlers go (Statement-F.If test first second) d =
+    by_truth go first second d (truth_of d.bound test)
 opened_done handlers go (Statement-F.Repeat turns body) d = repeated go turns body d
 opened_done handlers go Statement-F.Abort d = record { doing = d; flow = Aborted }
 opened_done handlers go (Statement-F.Return e) d = record { doing = d; flow = returned d.bound e }
@@ -361,7 +380,9 @@ abbrev pub body_done : List Handler → ℕ → List Statement → Doing → Don
 body_done handlers most [] d = record { doing = d; flow = Ended }
 body_done handlers zero (statement ∷ rest) d = record { doing = d; flow = Outwards reach.Client }
 body_done handlers (suc most) (statement ∷ rest) d =
-    budgeted d (λ next. where_ended (statement_done handlers (body_done handlers most) statement next) (body_done handlers most rest))
+    budgeted d
+    (λ next. where_ended (statement_done handlers (body_done handlers most) statement next)
+    (body_done handlers most rest))
 
 -- ---- clients
 
@@ -377,8 +398,10 @@ pub record Ran : Type 0 where
 abbrev pub by_top : List Handler → Client → World → Option Name → World × ClientEnd
 by_top handlers c w None = (w, client.Aborted None)
 by_top handlers c w (Some a) =
-    let start : Doing = record { world = w; left = budget; acting = begun_at c.home a; bound = nothing_bound } in
-    let r = run (body_done handlers budget) (begun_at c.home a) nothing_bound c.body start in (r.doing.world, end_of a r.flow)
+    let start : Doing =
+    record { world = w; left = budget; acting = begun_at c.home a; bound = nothing_bound } in
+    let r = run (body_done handlers budget) (begun_at c.home a) nothing_bound c.body start in
+    (r.doing.world, end_of a r.flow)
 
 abbrev pub client_ran : List Handler → Client → World → World × ClientEnd
 client_ran handlers c w = by_top handlers c (after (Top c.home) w) (begun_by (asked (Top c.home) w))
@@ -387,7 +410,8 @@ abbrev pub clients_ran : List Handler → List Client → World → Ran
 clients_ran handlers [] w = record { world = w; ends = [] }
 clients_ran handlers (c ∷ clients) w =
     let one = client_ran handlers c w in
-    let others = clients_ran handlers clients one.0 in record { world = others.world; ends = one.1 ∷ others.ends }
+    let others = clients_ran handlers clients one.0 in
+    record { world = others.world; ends = one.1 ∷ others.ends }
 
 -- the clients of a script, one after another
 abbrev pub serial_run : Checked → World → Ran

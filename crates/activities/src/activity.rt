@@ -76,8 +76,10 @@ impl<'s> Activity<'s> {
     ) -> Result<Flow, Fault>
         requires script { IsOf W.scripts self.old.script.now }
         requires body { IsBody self.old.script.now (sizes frames.old) body.now }
-        ensures makes { Makes (action.old.name ∷ []) (action.old.name ∷ []) (W.run world.old) (W.run world.new) }
-        ensures told { IfOk result (λ flow. Tells (commits flow) action.old.name (W.run world.old) (W.run world.new)) }
+        ensures makes { Makes (action.old.name ∷ []) (action.old.name ∷ [])
+            (W.run world.old) (W.run world.new) }
+        ensures told { IfOk result
+            (λ flow. Tells (commits flow) action.old.name (W.run world.old) (W.run world.new)) }
         ensures left { self.new.left ≤ self.old.left }
         ensures script { self.new.script.now ≡ self.old.script.now }
         ensures name { action.new.name ≡ action.old.name }
@@ -108,7 +110,8 @@ impl<'s> Activity<'s> {
         requires script { IsOf W.scripts self.old.script.now }
         requires body { IsBody self.old.script.now (sizes frames.old) body.now }
         ensures makes { Makes (action.old.name ∷ []) [] (W.run world.old) (W.run world.new) }
-        ensures frames { IfOk result (λ flow. WhereEnded flow (Within (sizes frames.old) (sizes frames.new))) }
+        ensures frames { IfOk result
+            (λ flow. WhereEnded flow (Within (sizes frames.old) (sizes frames.new))) }
         ensures left { self.new.left ≤ self.old.left }
         ensures script { self.new.script.now ≡ self.old.script.now }
         ensures name { action.new.name ≡ action.old.name }
@@ -145,7 +148,8 @@ impl<'s> Activity<'s> {
         requires script { IsOf W.scripts self.old.script.now }
         requires body { IsBody self.old.script.now (sizes frames.old) body.now }
         ensures makes { Makes (action.old.name ∷ []) [] (W.run world.old) (W.run world.new) }
-        ensures frames { IfOk result (λ flow. WhereEnded flow (sizes frames.new ≡ sizes frames.old)) }
+        ensures frames { IfOk result
+            (λ flow. WhereEnded flow (sizes frames.new ≡ sizes frames.old)) }
         ensures left { self.new.left ≤ self.old.left }
         ensures script { self.new.script.now ≡ self.old.script.now }
         ensures name { action.new.name ≡ action.old.name }
@@ -173,7 +177,8 @@ impl<'s> Activity<'s> {
         requires script { IsOf W.scripts self.old.script.now }
         requires statement { IsStatement self.old.script.now (sizes frames.old) statement.now }
         ensures makes { Makes (action.old.name ∷ []) [] (W.run world.old) (W.run world.new) }
-        ensures frames { IfOk result (λ flow. WhereEnded flow (sizes frames.new ≡ (asked statement.now).after (sizes frames.old))) }
+        ensures frames { IfOk result (λ flow.
+            WhereEnded flow (sizes frames.new ≡ (asked statement.now).after (sizes frames.old))) }
         ensures left { self.new.left ≤ self.old.left }
         ensures script { self.new.script.now ≡ self.old.script.now }
         ensures name { action.new.name ≡ action.old.name }
@@ -221,7 +226,8 @@ impl<'s> Activity<'s> {
         requires script { IsOf W.scripts self.old.script.now }
         requires signals { SignalsHold self.old.script.now (sizes frames.old) signals.now }
         ensures makes { Makes (action.old.name ∷ []) [] (W.run world.old) (W.run world.new) }
-        ensures frames { IfOk result (λ flow. WhereEnded flow (sizes frames.new ≡ sizes frames.old)) }
+        ensures frames { IfOk result
+            (λ flow. WhereEnded flow (sizes frames.new ≡ sizes frames.old)) }
         ensures unheard { signals.now ≡ None → IfOk result (λ flow. flow ≡ Aborted) }
         ensures left { self.new.left ≤ self.old.left }
         ensures script { self.new.script.now ≡ self.old.script.now }
@@ -251,7 +257,8 @@ impl<'s> Activity<'s> {
         requires script { IsOf W.scripts self.old.script.now }
         requires body { IsBody self.old.script.now (sizes frames.old) body.now }
         ensures makes { Makes (action.old.name ∷ []) [] (W.run world.old) (W.run world.new) }
-        ensures frames { IfOk result (λ flow. WhereEnded flow (sizes frames.new ≡ sizes frames.old)) }
+        ensures frames { IfOk result
+            (λ flow. WhereEnded flow (sizes frames.new ≡ sizes frames.old)) }
         ensures left { self.new.left ≤ self.old.left }
         ensures script { self.new.script.now ≡ self.old.script.now }
         ensures name { action.new.name ≡ action.old.name }
@@ -286,17 +293,19 @@ impl<'s> Activity<'s> {
     ) -> Result<Flow, Fault>
         requires script { IsOf W.scripts self.old.script.now }
         requires call { IsCall self.old.script.now (sizes frames.old) call.now }
-        requires signals { SignalsFollow self.old.script.now (sizes frames.old) call.now.binding signals.now }
+        requires signals { SignalsFollow self.old.script.now (sizes frames.old)
+            call.now.binding signals.now }
         ensures makes { Makes (action.old.name ∷ []) [] (W.run world.old) (W.run world.new) }
-        ensures frames { IfOk result (λ flow. WhereEnded flow (sizes frames.new ≡ frames_after (sizes frames.old) call.now.binding)) }
+        ensures frames { IfOk result (λ flow.
+            WhereEnded flow (sizes frames.new ≡ frames_after (sizes frames.old) call.now.binding)) }
         ensures left { self.new.left ≤ self.old.left }
         ensures script { self.new.script.now ≡ self.old.script.now }
         ensures name { action.new.name ≡ action.old.name }
         ensures home { action.new.home ≡ action.old.home }
         ensures means { IfOk result (λ flow. W.alone → ComesSo self.old.script.now self.old.left
             (done (W.run world.new) self.new.left action.new frames.new flow)
-            (λ go. call_done go (slice_get self.old.script.now.handlers call.now.handler) call.now signals.now
-            (given frames.old call.now)
+            (λ go. call_done go (slice_get self.old.script.now.handlers call.now.handler) call.now
+            signals.now (given frames.old call.now)
             (doing (W.run world.old) self.old.left action.old frames.old))) }
     {
         let script = self.script;
@@ -338,7 +347,8 @@ impl<'s> Activity<'s> {
         requires body { IsBody self.old.script.now (sizes frames.old) body.now }
         requires signals { IsBody self.old.script.now (sizes frames.old) signals.now }
         ensures makes { Makes (action.old.name ∷ []) [] (W.run world.old) (W.run world.new) }
-        ensures frames { IfOk result (λ flow. WhereEnded flow (sizes frames.new ≡ sizes frames.old)) }
+        ensures frames { IfOk result
+            (λ flow. WhereEnded flow (sizes frames.new ≡ sizes frames.old)) }
         ensures left { self.new.left ≤ self.old.left }
         ensures script { self.new.script.now ≡ self.old.script.now }
         ensures name { action.new.name ≡ action.old.name }
@@ -373,7 +383,8 @@ impl<'s> Activity<'s> {
         requires script { IsOf W.scripts self.old.script.now }
         requires arms { AreArms self.old.script.now (sizes frames.old) arms.now }
         ensures makes { Makes (action.old.name ∷ []) [] (W.run world.old) (W.run world.new) }
-        ensures frames { IfOk result (λ flow. WhereEnded flow (sizes frames.new ≡ sizes frames.old)) }
+        ensures frames { IfOk result
+            (λ flow. WhereEnded flow (sizes frames.new ≡ sizes frames.old)) }
         ensures left { self.new.left ≤ self.old.left }
         ensures script { self.new.script.now ≡ self.old.script.now }
         ensures name { action.new.name ≡ action.old.name }
@@ -407,8 +418,10 @@ impl<'s> Activity<'s> {
         requires script { IsOf W.scripts self.old.script.now }
         requires arms { AreArms self.old.script.now (sizes frames.old) arms.now }
         requires each { length waiting.old.items ≡ length arms.now }
-        ensures makes { Makes waiting.old.items waiting.old.items (W.run world.old) (W.run world.new) }
-        ensures rest { (a : Name) → IsTrue (has_name waiting.new.items a) → IsTrue (has_name waiting.old.items a) }
+        ensures makes { Makes waiting.old.items waiting.old.items
+            (W.run world.old) (W.run world.new) }
+        ensures rest { (a : Name) → IsTrue (has_name waiting.new.items a)
+            → IsTrue (has_name waiting.old.items a) }
         ensures frames { sizes frames.new ≡ sizes frames.old }
         ensures left { self.new.left ≤ self.old.left }
         ensures script { self.new.script.now ≡ self.old.script.now }
@@ -433,8 +446,8 @@ impl<'s> Activity<'s> {
         }
     }
 
-    /// Runs the arms in order, to the first that returns or is left. Each is over a copy of the variables. Of the names that are waiting
-    /// the last is that of the next arm.
+    /// Runs the arms in order, to the first that returns or is left. Each is over a copy of the variables. Of the
+    /// names that are waiting the last is that of the next arm.
     #[cycle(activity)]
     #[tactic(auto, using(crate::proofs::Making::turns))]
     fn run_arms<W: ActivitySteps>(
@@ -448,8 +461,10 @@ impl<'s> Activity<'s> {
         requires script { IsOf W.scripts self.old.script.now }
         requires arms { AreArms self.old.script.now (sizes frames.old) arms.now }
         requires each { length waiting.old.items ≡ length arms.now }
-        ensures makes { Makes waiting.old.items waiting.old.items (W.run world.old) (W.run world.new) }
-        ensures rest { (a : Name) → IsTrue (has_name waiting.new.items a) → IsTrue (has_name waiting.old.items a) }
+        ensures makes { Makes waiting.old.items waiting.old.items
+            (W.run world.old) (W.run world.new) }
+        ensures rest { (a : Name) → IsTrue (has_name waiting.new.items a)
+            → IsTrue (has_name waiting.old.items a) }
         ensures frames { sizes frames.new ≡ sizes frames.old }
         ensures left { self.new.left ≤ self.old.left }
         ensures script { self.new.script.now ≡ self.old.script.now }
@@ -486,7 +501,8 @@ fn wait() -> Flow
     Flow::Outwards(Reach::TopAction)
 }
 
-/// How a body ends that returns: with the value, if the statement names one. A sum or a difference out of 64 bits aborts.
+/// How a body ends that returns: with the value, if the statement names one. A sum or a difference out of 64 bits
+/// aborts.
 fn returned(frames: &Frames, expr: &Option<Expr>) -> Result<Flow, AllocError>
     requires { IfSome expr.now (λ expr. IsTrue (expr_is_bound (sizes frames.now) expr)) }
     ensures { IfOk result (λ flow. flow ≡ returned frames.now expr.now) }
@@ -500,7 +516,8 @@ fn returned(frames: &Frames, expr: &Option<Expr>) -> Result<Flow, AllocError>
     }
 }
 
-/// Binds what a handler gave back, a value if it gave one. Where that does not fit the binding, the innermost action aborts.
+/// Binds what a handler gave back, a value if it gave one. Where that does not fit the binding, the innermost action
+/// aborts.
 #[tactic(auto, using(frames::proofs::Counting::sizes_after, crate::proofs::Meaning::values_back))]
 fn bind_value(
     frames: &mut Frames,
@@ -508,7 +525,8 @@ fn bind_value(
     value: Option<Value>,
 ) -> Result<Flow, AllocError>
     requires { IsTrue (binding_is_bound (sizes frames.old) binding) }
-    ensures sizes { IfOk result (λ flow. WhereEnded flow (sizes frames.new ≡ frames_after (sizes frames.old) binding)) }
+    ensures sizes { IfOk result
+        (λ flow. WhereEnded flow (sizes frames.new ≡ frames_after (sizes frames.old) binding)) }
     ensures means { IfOk result (λ flow. (flow, frames.new) ≡ given_back frames.old binding value) }
 {
     let reply = match value {

@@ -25,16 +25,17 @@ pub trait ActivitySteps: Sized {
     /// The scripts whose activities it makes steps for.
     ghost scripts: { Checked → Type 0 };
 
-    /// Makes one step and gives its answer. The event of an accepted step is the activity's. A step that is refused or waits
-    /// changes nothing. After an error all is as it was.
+    /// Makes one step and gives its answer. The event of an accepted step is the activity's. A step that is refused
+    /// or waits changes nothing. After an error all is as it was.
     fn make_step(&mut self, step: &Step) -> Result<Answer, Fault>
         ensures answered { IfOk result (IsAnswered (run self.old).lists step.now) }
         ensures alone { IfOk result (λ answer. alone → answer ≡ asked step.now (run self.old)) }
-        ensures after { IfOk result (λ answer. run self.new ≡ world_after (run self.old) step.now answer) }
+        ensures after { IfOk result
+            (λ answer. run self.new ≡ world_after (run self.old) step.now answer) }
         ensures err { OnErr result (run self.new ≡ run self.old) };
 
-    /// Makes an operation of the action, as `make_step` does. Where others make steps too, it may sleep while the operation
-    /// waits, unless it waits for one of the starters or for an ancestor of one.
+    /// Makes an operation of the action, as `make_step` does. Where others make steps too, it may sleep while the
+    /// operation waits, unless it waits for one of the starters or for an ancestor of one.
     fn operate(
         &mut self,
         action: &Name,
@@ -42,7 +43,8 @@ pub trait ActivitySteps: Sized {
         operation: Op,
         starters: &[Name],
     ) -> Result<Answer, Fault>
-        ensures answered { IfOk result (IsAnswered (run self.old).lists (Op action.now object operation)) }
+        ensures answered { IfOk result
+            (IsAnswered (run self.old).lists (Op action.now object operation)) }
         ensures alone { IfOk result (λ answer. alone
             → answer ≡ asked (Op action.now object operation) (run self.old)) }
         ensures after { IfOk result (λ answer. run self.new
@@ -53,8 +55,8 @@ pub trait ActivitySteps: Sized {
     fn has_arms_apart(&self) -> bool
         ensures { alone → result ≡ false };
 
-    /// Runs arms, each by steps of its own, and gives what they came to: the first so many. The others were not run. The
-    /// events of those that were run are the activity's.
+    /// Runs arms, each by steps of its own, and gives what they came to: the first so many. The others were not run.
+    /// The events of those that were run are the activity's.
     fn run_arms(&mut self, arms: Vec<BegunArm>) -> Result<Vec<EndedArm>, Fault>
         requires { AreRunnable scripts arms.items }
         ensures makes { Makes (begun_names arms.items) (begun_names arms.items)
@@ -66,7 +68,8 @@ pub trait ActivitySteps: Sized {
     fn is_called_off(&self) -> bool
         ensures { alone → result ≡ false };
 
-    /// Claims for the arm that runs to leave its `coenter`, and waits while another claims so. False if another has left it.
+    /// Claims for the arm that runs to leave its `coenter`, and waits while another claims so. False if another has
+    /// left it.
     fn claim(&mut self) -> bool
         ensures { run self.new ≡ run self.old };
 

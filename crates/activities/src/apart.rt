@@ -57,8 +57,9 @@ impl EndedArm {
     }
 }
 
-/// Runs an arm of a script and ends it. It may begin so many statements and turns of `repeat` as a client. An arm that
-/// would leave its `coenter` after another has left it aborts. After an error the arm has ended, or its abort failed too.
+/// Runs an arm of a script and ends it. It may begin so many statements and turns of `repeat` as a client. An arm
+/// that would leave its `coenter` after another has left it aborts. After an error the arm has ended, or its abort
+/// failed too.
 #[tactic(auto, using(crate::proofs::Making::steps))]
 pub fn run_arm<W: ActivitySteps>(
     alloc: Global,
@@ -100,8 +101,10 @@ fn end_arm<W: ActivitySteps>(
     action: &OpenAction,
     ran: Result<Flow, Fault>,
 ) -> Result<Flow, Fault>
-    ensures makes { Makes (action.now.name ∷ []) (action.now.name ∷ []) (W.run world.old) (W.run world.new) }
-    ensures told { IfOk result (λ end. Tells (commits end) action.now.name (W.run world.old) (W.run world.new)) }
+    ensures makes { Makes (action.now.name ∷ []) (action.now.name ∷ [])
+        (W.run world.old) (W.run world.new) }
+    ensures told { IfOk result
+        (λ end. Tells (commits end) action.now.name (W.run world.old) (W.run world.new)) }
     ensures wanted { IfOk result (λ end. IsTrue (commits end) → ran ≡ Ok end) }
     ensures fault { IfErr ran (λ fault. result ≡ Err fault) }
 {
@@ -118,8 +121,10 @@ fn end_arm<W: ActivitySteps>(
 /// Ends an arm that leaves its `coenter`, unless another has left it.
 #[tactic(auto, using(crate::proofs::Making::steps))]
 fn leave<W: ActivitySteps>(world: &mut W, action: &OpenAction, flow: Flow) -> Result<Flow, Fault>
-    ensures makes { Makes (action.now.name ∷ []) (action.now.name ∷ []) (W.run world.old) (W.run world.new) }
-    ensures told { IfOk result (λ end. Tells (commits end) action.now.name (W.run world.old) (W.run world.new)) }
+    ensures makes { Makes (action.now.name ∷ []) (action.now.name ∷ [])
+        (W.run world.old) (W.run world.new) }
+    ensures told { IfOk result
+        (λ end. Tells (commits end) action.now.name (W.run world.old) (W.run world.new)) }
     ensures wanted { IfOk result (λ end. IsTrue (commits end) → end ≡ flow) }
 {
     if !world.claim() {
@@ -168,9 +173,11 @@ fn begun_arm(
     ensures home { IfOk result (λ begun. begun.action.home ≡ action.now.home) }
     ensures sub { IfOk result (λ begun. begun.is_sub ≡ is_sub arm.now) }
     ensures homes { IfOk result (λ begun. begun.action.reached.homes.keys ≡ action.now.home ∷ []) }
-    ensures participants { IfOk result (λ begun. begun.action.reached.participants.keys ≡ action.now.home ∷ []) }
+    ensures participants { IfOk result
+        (λ begun. begun.action.reached.participants.keys ≡ action.now.home ∷ []) }
     ensures starters { IfOk result (λ begun. begun.action.reached.starters ≡ (if is_sub arm.now
-        then action.now.reached.starters else action.now.reached.starters ++ action.now.name ∷ [])) }
+        then action.now.reached.starters
+        else action.now.reached.starters ++ action.now.name ∷ [])) }
     ensures frames { IfOk result (λ begun. begun.frames ≡ frames.now) }
     ensures body { IfOk result (λ begun. begun.body ≡ body_of arm.now) }
 {
@@ -190,12 +197,13 @@ fn add(begun: &mut Vec<BegunArm>, one: BegunArm) -> Result<(), AllocError>
     Ok(())
 }
 
-/// What the action learns of arms that have ended, and how its `coenter` goes on: as the arm that has left it says. Of several faults the
-/// lowest arm's is answered.
+/// What the action learns of arms that have ended, and how its `coenter` goes on: as the arm that has left it says.
+/// Of several faults the lowest arm's is answered.
 pub(crate) fn flow_of(action: &mut OpenAction, arms: Vec<EndedArm>) -> Result<Flow, Fault>
     ensures name { action.new.name ≡ action.old.name }
     ensures home { action.new.home ≡ action.old.home }
-    ensures flow { IfOk result (λ flow. Ok flow ≡ all_gone (Ok Ended) (map (λ arm. arm.ended) arms.items)) }
+    ensures flow { IfOk result
+        (λ flow. Ok flow ≡ all_gone (Ok Ended) (map (λ arm. arm.ended) arms.items)) }
     ensures goes_on { GoOn (Ok Ended) (map (λ arm. arm.ended) arms.items) result }
     ensures taken { OnOk result (acting action.new ≡ arms_taken_in (acting action.old) arms.items) }
 {

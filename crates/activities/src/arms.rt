@@ -22,10 +22,13 @@ pub(crate) fn begin_arms<W: ActivitySteps>(
     ensures makes { Makes (action.now.name ∷ []) [] (W.run world.old) (W.run world.new) }
     ensures together { OnOk result (W.alone
         → W.run world.new ≡ after (Arms action.now.name (kinds arms.now)) (W.run world.old)) }
-    ensures each { IfOk result (λ found. IfSome found (λ names. length names.items ≡ length arms.now)) }
+    ensures each { IfOk result
+        (λ found. IfSome found (λ names. length names.items ≡ length arms.now)) }
     ensures began { IfOk result (λ found. IfSome found
-        (λ names. Begins (action.now.name ∷ []) [] names.items (W.run world.old) (W.run world.new))) }
-    ensures waiting { IfOk result (λ found. W.alone → option_map (λ names. reverse names.items) found
+        (λ names. Begins (action.now.name ∷ []) [] names.items (W.run world.old)
+        (W.run world.new))) }
+    ensures waiting { IfOk result
+        (λ found. W.alone → option_map (λ names. reverse names.items) found
         ≡ waiting_by (asked (Arms action.now.name (kinds arms.now)) (W.run world.old))) }
 {
     let kinds = arm_kinds(alloc, arms)?;

@@ -1,8 +1,8 @@
 //! Runs the clients of a checked script as actions of a world, over stores of any kind.
 //!
-//! A client is an activity: one top action, whose body is gone through statement by statement. The world is changed by its
-//! steps alone. Here the clients run one after another, and the arms of a `coenter` too, unless who makes the steps
-//! runs arms apart.
+//! A client is an activity: one top action, whose body is gone through statement by statement. The world is changed
+//! by its steps alone. Here the clients run one after another, and the arms of a `coenter` too, unless who makes the
+//! steps runs arms apart.
 #![tactic(auto)]
 
 mod activity;

@@ -98,8 +98,10 @@ impl OpenAction {
     /// What a nested top action that it starts has to do with when that begins.
     pub(crate) fn reached_by_nested(&self, alloc: Global) -> Result<Reached, AllocError>
         ensures homes { IfOk result (λ reached. reached.homes.keys ≡ self.now.home ∷ []) }
-        ensures participants { IfOk result (λ reached. reached.participants.keys ≡ self.now.home ∷ []) }
-        ensures starters { IfOk result (λ reached. reached.starters ≡ self.now.reached.starters ++ self.now.name ∷ []) }
+        ensures participants { IfOk result
+            (λ reached. reached.participants.keys ≡ self.now.home ∷ []) }
+        ensures starters { IfOk result
+            (λ reached. reached.starters ≡ self.now.reached.starters ++ self.now.name ∷ []) }
     {
         let mut starters = self.reached.starters.copy()?;
         starters.push(self.name.copy()?)?;
@@ -109,8 +111,10 @@ impl OpenAction {
     /// What an arm of it has to do with when it begins.
     pub(crate) fn reached_by_arm(&self, alloc: Global, arm: &Arm) -> Result<Reached, AllocError>
         ensures homes { IfOk result (λ reached. reached.homes.keys ≡ self.now.home ∷ []) }
-        ensures participants { IfOk result (λ reached. reached.participants.keys ≡ self.now.home ∷ []) }
-        ensures starters { IfOk result (λ reached. reached.starters ≡ (if is_sub arm.now then self.now.reached.starters
+        ensures participants { IfOk result
+            (λ reached. reached.participants.keys ≡ self.now.home ∷ []) }
+        ensures starters { IfOk result
+            (λ reached. reached.starters ≡ (if is_sub arm.now then self.now.reached.starters
             else self.now.reached.starters ++ self.now.name ∷ [])) }
     {
         match arm {
@@ -126,7 +130,8 @@ impl OpenAction {
         guardian: u32,
     ) -> Result<Called, Fault>
         ensures makes { Makes (self.now.name ∷ []) [] (W.run world.old) (W.run world.new) }
-        ensures began { IfOk result (λ c. Begins (self.now.name ∷ []) [] (called c) (W.run world.old) (W.run world.new)) }
+        ensures began { IfOk result
+            (λ c. Begins (self.now.name ∷ []) [] (called c) (W.run world.old) (W.run world.new)) }
         ensures made { OnOk result (W.alone
             → W.run world.new ≡ after (Call self.now.name guardian) (W.run world.old)) }
         ensures called { IfOk result (λ c. W.alone
@@ -142,7 +147,8 @@ impl OpenAction {
         world: &mut W,
     ) -> Result<Option<Name>, Fault>
         ensures makes { Makes (self.now.name ∷ []) [] (W.run world.old) (W.run world.new) }
-        ensures began { IfOk result (λ found. Begins (self.now.name ∷ []) [] (named_by found) (W.run world.old)
+        ensures began { IfOk result
+            (λ found. Begins (self.now.name ∷ []) [] (named_by found) (W.run world.old)
             (W.run world.new)) }
         ensures made { OnOk result (W.alone
             → W.run world.new ≡ after (NestedTop self.now.name) (W.run world.old)) }
@@ -162,9 +168,11 @@ impl OpenAction {
     ) -> Result<Answer, Fault>
         ensures makes { Makes (self.now.name ∷ []) [] (W.run world.old) (W.run world.new) }
         ensures after { OnOk result (W.alone
-            → W.run world.new ≡ after (op_step self.now.name self.now.home object operation) (W.run world.old)) }
+            → W.run world.new
+            ≡ after (op_step self.now.name self.now.home object operation) (W.run world.old)) }
         ensures answer { IfOk result (λ answer. W.alone
-            → answer ≡ asked (op_step self.now.name self.now.home object operation) (W.run world.old)) }
+            → answer
+            ≡ asked (op_step self.now.name self.now.home object operation) (W.run world.old)) }
         ensures err { OnErr result (W.run world.new ≡ W.run world.old) }
     {
         let object = ObjectId {
@@ -179,11 +187,13 @@ impl OpenAction {
         )
     }
 
-    /// Learns where a subaction of it, which has ended, and the descendants of that had their homes, and where it committed from.
+    /// Learns where a subaction of it, which has ended, and the descendants of that had their homes, and where it
+    /// committed from.
     pub(crate) fn take_in(&mut self, child: &OpenAction, committed: bool) -> Result<(), AllocError>
         ensures name { self.new.name ≡ self.old.name }
         ensures home { self.new.home ≡ self.old.home }
-        ensures taken { OnOk result (acting self.new ≡ taken_in (acting self.old) (acting child.now) committed) }
+        ensures taken { OnOk result
+            (acting self.new ≡ taken_in (acting self.old) (acting child.now) committed) }
     {
         add_all(&mut self.reached.homes, &child.reached.homes)?;
         if committed {
@@ -192,11 +202,13 @@ impl OpenAction {
         Ok(())
     }
 
-    /// Ends it as its body ended, and says how: where it cannot commit it aborts. After an error it has ended, or its abort
-    /// failed too.
+    /// Ends it as its body ended, and says how: where it cannot commit it aborts. After an error it has ended, or its
+    /// abort failed too.
     pub(crate) fn end<W: ActivitySteps>(&self, world: &mut W, flow: Flow) -> Result<Flow, Fault>
-        ensures makes { Makes (self.now.name ∷ []) (self.now.name ∷ []) (W.run world.old) (W.run world.new) }
-        ensures told { IfOk result (λ end. Tells (commits end) self.now.name (W.run world.old) (W.run world.new)) }
+        ensures makes { Makes (self.now.name ∷ []) (self.now.name ∷ [])
+            (W.run world.old) (W.run world.new) }
+        ensures told { IfOk result
+            (λ end. Tells (commits end) self.now.name (W.run world.old) (W.run world.new)) }
         ensures means { IfOk result (λ end. W.alone → record { world = W.run world.new; flow = end }
             ≡ ended (acting self.now) flow (W.run world.old)) }
         ensures wanted { IfOk result (λ end. IsTrue (commits end) → end ≡ flow) }
@@ -213,10 +225,13 @@ impl OpenAction {
 
     /// Commits it where that is wanted; where it cannot, and else, aborts it. Whether it has committed.
     fn try_end<W: ActivitySteps>(&self, world: &mut W, wanted: bool) -> Result<bool, Fault>
-        ensures makes { Makes (self.now.name ∷ []) (self.now.name ∷ []) (W.run world.old) (W.run world.new) }
-        ensures told { IfOk result (λ done. Tells done self.now.name (W.run world.old) (W.run world.new)) }
+        ensures makes { Makes (self.now.name ∷ []) (self.now.name ∷ [])
+            (W.run world.old) (W.run world.new) }
+        ensures told { IfOk result
+            (λ done. Tells done self.now.name (W.run world.old) (W.run world.new)) }
         ensures wanted { IfOk result (λ done. IsTrue done → IsTrue wanted) }
-        ensures means { IfOk result (λ done. W.alone → record { world = W.run world.new; done = done }
+        ensures means { IfOk result
+            (λ done. W.alone → record { world = W.run world.new; done = done }
             ≡ end_tried (acting self.now) wanted (W.run world.old)) }
     {
         if wanted {
@@ -228,9 +243,12 @@ impl OpenAction {
     }
 
     fn commit_or_abort<W: ActivitySteps>(&self, world: &mut W) -> Result<bool, Fault>
-        ensures makes { Makes (self.now.name ∷ []) (self.now.name ∷ []) (W.run world.old) (W.run world.new) }
-        ensures told { IfOk result (λ done. Tells done self.now.name (W.run world.old) (W.run world.new)) }
-        ensures means { IfOk result (λ done. W.alone → record { world = W.run world.new; done = done }
+        ensures makes { Makes (self.now.name ∷ []) (self.now.name ∷ [])
+            (W.run world.old) (W.run world.new) }
+        ensures told { IfOk result
+            (λ done. Tells done self.now.name (W.run world.old) (W.run world.new)) }
+        ensures means { IfOk result
+            (λ done. W.alone → record { world = W.run world.new; done = done }
             ≡ or_aborted (acting self.now) (committed (acting self.now) (W.run world.old))) }
     {
         if self.commit(world)? {
@@ -256,9 +274,12 @@ impl OpenAction {
 
     /// Commits it, and tells so; whether that succeeded.
     fn commit<W: ActivitySteps>(&self, world: &mut W) -> Result<bool, Fault>
-        ensures makes { Makes (self.now.name ∷ []) (self.now.name ∷ []) (W.run world.old) (W.run world.new) }
-        ensures told { IfOk result (λ done. Tells done self.now.name (W.run world.old) (W.run world.new)) }
-        ensures means { IfOk result (λ done. W.alone → record { world = W.run world.new; done = done }
+        ensures makes { Makes (self.now.name ∷ []) (self.now.name ∷ [])
+            (W.run world.old) (W.run world.new) }
+        ensures told { IfOk result
+            (λ done. Tells done self.now.name (W.run world.old) (W.run world.new)) }
+        ensures means { IfOk result
+            (λ done. W.alone → record { world = W.run world.new; done = done }
             ≡ committed (acting self.now) (W.run world.old)) }
     {
         if !self.try_commit(world)? {
@@ -270,9 +291,12 @@ impl OpenAction {
 
     /// Commits it; whether that succeeded.
     fn try_commit<W: ActivitySteps>(&self, world: &mut W) -> Result<bool, Fault>
-        ensures makes { Makes (self.now.name ∷ []) (self.now.name ∷ []) (W.run world.old) (W.run world.new) }
-        ensures told { IfOk result (λ done. Tells done self.now.name (W.run world.old) (W.run world.new)) }
-        ensures means { IfOk result (λ done. W.alone → record { world = W.run world.new; done = done }
+        ensures makes { Makes (self.now.name ∷ []) (self.now.name ∷ [])
+            (W.run world.old) (W.run world.new) }
+        ensures told { IfOk result
+            (λ done. Tells done self.now.name (W.run world.old) (W.run world.new)) }
+        ensures means { IfOk result
+            (λ done. W.alone → record { world = W.run world.new; done = done }
             ≡ commit_tried (acting self.now) (W.run world.old)) }
     {
         if self.name.is_top() {
@@ -284,9 +308,12 @@ impl OpenAction {
 
     /// Commits it by two phases; false at the first participant that does not vote yes.
     fn commit_top<W: ActivitySteps>(&self, world: &mut W) -> Result<bool, Fault>
-        ensures makes { Makes (self.now.name ∷ []) (self.now.name ∷ []) (W.run world.old) (W.run world.new) }
-        ensures told { IfOk result (λ done. Tells done self.now.name (W.run world.old) (W.run world.new)) }
-        ensures means { IfOk result (λ done. W.alone → record { world = W.run world.new; done = done }
+        ensures makes { Makes (self.now.name ∷ []) (self.now.name ∷ [])
+            (W.run world.old) (W.run world.new) }
+        ensures told { IfOk result
+            (λ done. Tells done self.now.name (W.run world.old) (W.run world.new)) }
+        ensures means { IfOk result
+            (λ done. W.alone → record { world = W.run world.new; done = done }
             ≡ two_phases (acting self.now) (W.run world.old)) }
     {
         if !try_step(world, Step::Close(self.name.copy()?))? {
@@ -310,8 +337,8 @@ impl OpenAction {
         tell(world, &self.name, &self.reached.homes)
     }
 
-    /// Aborts its arms that have not run, the last one first, and tells so. After an error the other arms are aborted all the
-    /// same.
+    /// Aborts its arms that have not run, the last one first, and tells so. After an error the other arms are aborted
+    /// all the same.
     pub(crate) fn abort_arms<W: ActivitySteps>(
         &self,
         world: &mut W,
@@ -439,10 +466,12 @@ fn only(names: Names) -> Name
 pub(crate) fn make<W: ActivitySteps>(world: &mut W, step: Step) -> Result<Answer, Fault>
     requires step { IsOfAction step }
     ensures makes { Makes (about step) (commits_of step) (W.run world.old) (W.run world.new) }
-    ensures began { IfOk result (λ answer. Begins (about step) (commits_of step) (names_begun answer)
+    ensures began { IfOk result
+        (λ answer. Begins (about step) (commits_of step) (names_begun answer)
         (W.run world.old) (W.run world.new)) }
     ensures answered { IfOk result (IsAnswered (W.run world.old).lists step) }
-    ensures after { IfOk result (λ answer. W.run world.new ≡ world_after (W.run world.old) step answer) }
+    ensures after { IfOk result
+        (λ answer. W.run world.new ≡ world_after (W.run world.old) step answer) }
     ensures alone { IfOk result (λ answer. W.alone → answer ≡ asked step (W.run world.old)) }
     ensures err { OnErr result (W.run world.new ≡ W.run world.old) }
 {

@@ -22,8 +22,8 @@ pub(crate) enum Outcome {
     Waits,
 }
 
-/// Makes an operation, and binds what it replies. After an error the variables are as they were. The world is as it was too, unless
-/// memory ran out for a variable: then the step was made.
+/// Makes an operation, and binds what it replies. After an error the variables are as they were. The world is as it
+/// was too, unless memory ran out for a variable: then the step was made.
 #[tactic(auto, using(crate::proofs::Performing::comings))]
 pub(crate) fn perform<W: ActivitySteps>(
     world: &mut W,
@@ -33,15 +33,18 @@ pub(crate) fn perform<W: ActivitySteps>(
 ) -> Result<Outcome, Fault>
     requires call { IsOp (sizes frames.old) call.now }
     ensures makes { Makes (action.now.name ∷ []) [] (W.run world.old) (W.run world.new) }
-    ensures frames { IfOk result (λ done. IsOutcome done call.now.binding (sizes frames.old) (sizes frames.new)) }
+    ensures frames { IfOk result
+        (λ done. IsOutcome done call.now.binding (sizes frames.old) (sizes frames.new)) }
     ensures made { OnOk result (W.alone → IsAfterAny
-        (step_for action.now.name action.now.home frames.old call.now) (W.run world.old) (W.run world.new)) }
+        (step_for action.now.name action.now.home frames.old call.now) (W.run world.old)
+        (W.run world.new)) }
     ensures outcome { IfOk result (λ done. W.alone → (done, frames.new)
         ≡ outcome_of (W.run world.old) frames.old call.now.binding
         (step_for action.now.name action.now.home frames.old call.now)) }
     ensures unbound { OnErr result (frames.new ≡ frames.old) }
     ensures err { OnErr result (W.alone → (W.run world.new ≡ W.run world.old)
-        ⊎ IsAfterAny (step_for action.now.name action.now.home frames.old call.now) (W.run world.old) (W.run world.new)) }
+        ⊎ IsAfterAny (step_for action.now.name action.now.home frames.old call.now)
+        (W.run world.old) (W.run world.new)) }
 {
     let Some(operation) = frames.operation(&call.operation)? else {
         return Ok(Outcome::Refused);
@@ -56,7 +59,8 @@ pub(crate) fn perform<W: ActivitySteps>(
 #[tactic(auto, using(frames::proofs::Counting::sizes_after, crate::proofs::Performing::replies))]
 fn bind(frames: &mut Frames, binding: Binding, reply: Reply) -> Result<Outcome, AllocError>
     requires { IsTrue (binding_is_bound (sizes frames.old) binding) }
-    ensures sizes { IfOk result (λ done. IsOutcome done binding (sizes frames.old) (sizes frames.new)) }
+    ensures sizes { IfOk result
+        (λ done. IsOutcome done binding (sizes frames.old) (sizes frames.new)) }
     ensures outcome { IfOk result (λ done. (done, frames.new) ≡ by_reply frames.old binding reply) }
     ensures err { OnErr result (frames.new ≡ frames.old) }
 {

@@ -19,11 +19,13 @@ use script_model::{Checked, Client};
 use std::alloc::Global;
 use stepping::{Fault, MakesSteps};
 
-/// Runs the clients of a script one after another, each to its end, and gives how they ended, in their order. The arms of a
-/// `coenter` are begun together and run in order. An operation that would wait aborts the enclosing top action.
+/// Runs the clients of a script one after another, each to its end, and gives how they ended, in their order. The
+/// arms of a `coenter` are begun together and run in order. An operation that would wait aborts the enclosing top
+/// action.
 ///
-/// `Err` comes if memory runs out, or if the store of a guardian fails. A client to which that happens aborts its open actions,
-/// outwards, as far as that succeeds, and the others are run all the same; the lowest such client's fault is answered.
+/// `Err` comes if memory runs out, or if the store of a guardian fails. A client to which that happens aborts its
+/// open actions, outwards, as far as that succeeds, and the others are run all the same; the lowest such client's
+/// fault is answered.
 pub fn run_serial<W: MakesSteps>(
     alloc: Global,
     world: &mut W,
@@ -59,11 +61,14 @@ pub fn run_client<W: ActivitySteps>(
 ) -> Result<ClientEnd, Fault>
     requires script { IsOf W.scripts script.now }
     requires client { IsTrue (is_resolved_client script.now client.now) }
-    ensures made { IfOk result (λ end. ClientMade client.now.home end (W.run world.old) (W.run world.new)) }
-    ensures top { IfOk result (λ end. W.alone → IsTopAt client.now.home (W.run world.old) (top_of end)) }
+    ensures made { IfOk result
+        (λ end. ClientMade client.now.home end (W.run world.old) (W.run world.new)) }
+    ensures top { IfOk result
+        (λ end. W.alone → IsTopAt client.now.home (W.run world.old) (top_of end)) }
     ensures ok { IfOk result (λ end. W.alone
         → (W.run world.new, end) ≡ client_ran script.now.handlers client.now (W.run world.old)) }
-    ensures cut { OnErr result ((top : Option Name) × ClientMakes client.now.home top (W.run world.old) (W.run world.new)
+    ensures cut { OnErr result
+        ((top : Option Name) × ClientMakes client.now.home top (W.run world.old) (W.run world.new)
         × (W.alone → IsTopOrNothing client.now.home (W.run world.old) top)) }
 {
     let reached = Reached::new(alloc, client.home, Names::new(alloc))?;
@@ -79,10 +84,12 @@ pub fn run_client<W: ActivitySteps>(
 
 /// Begins a top action at a guardian; none if that is refused.
 fn begin_top<W: ActivitySteps>(world: &mut W, home: u32) -> Result<Option<Name>, Fault>
-    ensures left { IfOk result (λ found. W.run world.new ≡ once_begun home found (W.run world.old)) }
+    ensures left { IfOk result
+        (λ found. W.run world.new ≡ once_begun home found (W.run world.old)) }
     ensures top { IfOk result (λ found. W.alone → IsTopAt home (W.run world.old) found) }
     ensures after { OnOk result (W.alone → W.run world.new ≡ after (Top home) (W.run world.old)) }
-    ensures begun { IfOk result (λ found. W.alone → found ≡ begun_by (asked (Top home) (W.run world.old))) }
+    ensures begun { IfOk result
+        (λ found. W.alone → found ≡ begun_by (asked (Top home) (W.run world.old))) }
     ensures err { OnErr result (W.run world.new ≡ W.run world.old) }
 {
     let answer = world.make_step(&Step::Top(home))?;

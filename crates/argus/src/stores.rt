@@ -47,7 +47,8 @@ pub fn open_stores<O: Opens>(
     folder: &str,
     script: &Checked,
 ) -> Result<Option<Vec<O::Store>>, Fault>
-    ensures { IfOk result (λ found. IfSome found (λ stores. length stores.items ≡ length script.now.guardians)) }
+    ensures { IfOk result
+        (λ found. IfSome found (λ stores. length stores.items ≡ length script.now.guardians)) }
 {
     let mut stores = Vec::new(alloc);
     for (index, objects) in script.guardians.as_slice().iter().enumerate() {

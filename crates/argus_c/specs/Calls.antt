@@ -38,7 +38,8 @@ IsLeft (Some old) (Some new) = IsUnmade old new
 IsLeft _ _ = ⊥
 
 -- A call that makes a step answers this code: where it makes one, it is so, and it is bad for this reason alone.
-pub record Answers (Is : Step → Type 0) (IsBad : Type 0) (old new : Handle) (code : ℕ) : Type 0 where
+pub record Answers (Is : Step → Type 0) (IsBad : Type 0) (old new : Handle)
+    (code : ℕ) : Type 0 where
   pub made : code ≡ done → MakesStep Is (session_of old) (session_of new)
   pub none : code ≡ bad → IsBad
   pub same : code ≡ bad → session_of new ≡ session_of old
@@ -58,7 +59,8 @@ abbrev pub AnswersRead : Result Step Unread → Handle → Handle → ℕ → Ty
 AnswersRead read old new code = Answers (λ step. read ≡ Ok step) (read ≡ Err Bad) old new code
 
 -- what is said of a text of the session
-pub record Says (Text : Session → List ℕ → Type 0) (old : Option Session) (Is : List ℕ → Type 0) : Type 0 where
+pub record Says (Text : Session → List ℕ → Type 0) (old : Option Session)
+    (Is : List ℕ → Type 0) : Type 0 where
   pub session : Session
   pub text : List ℕ
   pub was : old ≡ Some session
@@ -71,10 +73,14 @@ pub record Place : Type 0 where
   pub len : ℕ
 
 -- A call that tells a text of the session answers this code. The session stays as it is.
-pub record TellsText (Text : Session → List ℕ → Type 0) (old new : Handle) (before after : Place) (code : ℕ) : Type 0 where
-  pub written : code ≡ done → Says Text (session_of old) (λ text. IsWritten text before.bytes after.bytes after.len)
-  pub too_small : code ≡ small → Says Text (session_of old) (λ text. IsTooSmall text before.bytes after.len)
-  pub none : code ≡ nothing → IsSomeAnd (session_of old) (λ session. (text : List ℕ) → Text session text → ⊥)
+pub record TellsText (Text : Session → List ℕ → Type 0) (old new : Handle) (before after : Place)
+    (code : ℕ) : Type 0 where
+  pub written : code ≡ done
+      → Says Text (session_of old) (λ text. IsWritten text before.bytes after.bytes after.len)
+  pub too_small : code ≡ small
+      → Says Text (session_of old) (λ text. IsTooSmall text before.bytes after.len)
+  pub none : code ≡ nothing
+      → IsSomeAnd (session_of old) (λ session. (text : List ℕ) → Text session text → ⊥)
   pub was_closed : code ≡ closed → session_of old ≡ None
   pub closed_then : session_of old ≡ None → code ≡ closed
   pub unwritten : code ≢ done → after.bytes ≡ before.bytes

@@ -13,5 +13,6 @@ pub record IsTooSmall (text old : List ℕ) (len : ℕ) : Type 0 where
   pub length_told : len ≡ length text
 
 -- a text was found, of which this is said
-abbrev pub IsFound : {E : Type 0} → Result (Option (String Global)) E → (String Global → Type 0) → Type 0
+abbrev pub IsFound : {E : Type 0} → Result (Option (String Global)) E
+    → (String Global → Type 0) → Type 0
 IsFound found Is = IsOkAnd found (λ told. IsSomeAnd told Is)

@@ -38,20 +38,24 @@ abbrev pub ok_line : List ℕ
 ok_line = codes "ok" ++ line_feed ∷ []
 
 abbrev pub fault_line : FaultKind → List ℕ → List ℕ
-fault_line why place = codes "fault " ++ (decimal (fault_number why) ++ (codes " " ++ (printed place ++ line_feed ∷ [])))
+fault_line why place = codes "fault "
+    ++ (decimal (fault_number why) ++ (codes " " ++ (printed place ++ line_feed ∷ [])))
 
 -- `ok` for a script, and for all else its first fault
 abbrev pub IsJudged : List ℕ → Ended → List ℕ → Type 0
 IsJudged bytes Done line = IsScript bytes × (line ≡ ok_line)
-IsJudged bytes Stopped line = (why : FaultKind) × (place : List ℕ) × HasFirstFault bytes why place × (line ≡ fault_line why place)
+IsJudged bytes Stopped line = (why : FaultKind) × (place : List ℕ) × HasFirstFault bytes why place
+    × (line ≡ fault_line why place)
 
 -- nothing was said, or a beginning of what is to be said
 abbrev pub BeginsJudgement : List ℕ → List ℕ → Type 0
-BeginsJudgement bytes written = (written ≡ []) ⊎ ((ended : Ended) × (line : List ℕ) × IsJudged bytes ended line × Begins written line)
+BeginsJudgement bytes written = (written ≡ [])
+    ⊎ ((ended : Ended) × (line : List ℕ) × IsJudged bytes ended line × Begins written line)
 
 -- nothing was written, or a beginning of the line of the first fault
 abbrev pub BeginsFault : List ℕ → List ℕ → Type 0
-BeginsFault bytes written = (written ≡ []) ⊎ ((line : List ℕ) × IsJudged bytes Stopped line × Begins written line)
+BeginsFault bytes written = (written ≡ [])
+    ⊎ ((line : List ℕ) × IsJudged bytes Stopped line × Begins written line)
 
 -- what was read is the script, and nothing was said; or the first fault was said
 abbrev pub IsRead : List ℕ → Option (List ℕ) → Option (List ℕ) → Option Checked → Type 0

@@ -52,7 +52,8 @@ pub record MakesFirst (input : Option (List ℕ)) (old new : World) : Type 0 whe
   pub made : Made old new text rest
 
 -- All that the reader gave was answered, and the steps before its end were made.
-pub record Answers (input : Option (List ℕ)) (old new : World) (written : List ℕ) (ended : Ended) : Type 0 where
+pub record Answers (input : Option (List ℕ)) (old new : World) (written : List ℕ)
+    (ended : Ended) : Type 0 where
   pub text : List ℕ
   pub given : Gives input text
   pub answered : IsAnswered (opening_in old.lists) old.past 1 text written
@@ -83,28 +84,31 @@ abbrev pub fault_of_step : StepFault → Fault
 fault_of_step of_step.Memory = Memory
 fault_of_step of_step.Stable = Store
 
--- What was written is a beginning of what belongs to all that the reader gives; and it is a beginning of what belongs to some
--- beginning of it.
+-- What was written is a beginning of what belongs to all that the reader gives; and it is a beginning of what belongs
+-- to some beginning of it.
 pub record BeginsAnswers (input : Option (List ℕ)) (old : World) (written : List ℕ) : Type 0 where
   pub text : List ℕ
   pub given : Gives input text
-  pub each : (answers : List ℕ) → IsAnswered (opening_in old.lists) old.past 1 text answers → Begins written answers
+  pub each : (answers : List ℕ) → IsAnswered (opening_in old.lists) old.past 1 text answers
+      → Begins written answers
   pub read : List ℕ
   pub is_read : Begins read text
   pub answers : List ℕ
   pub answered : IsAnswered (opening_in old.lists) old.past 1 read answers
   pub is_part : Begins written answers
 
--- After some steps one ran out of memory; the run is as those steps left it, and the stores are left as by that failure.
-pub record FailsOfMemory {M : Type 0} (run : M → World) (leaves : Leaves M) (old new : M) : Type 0 where
+-- After some steps one ran out of memory; the run is as those steps left it, and the stores are left as by that
+-- failure.
+pub record FailsOfMemory {M : Type 0} (run : M → World) (leaves : Leaves M)
+    (old new : M) : Type 0 where
   pub before : M
   pub made : HasMade run leaves old before
   pub step : Step
   pub same : run new ≡ run before
   pub stores : leaves step (Some of_step.Memory) before new
 
--- What was done where the engine gives up by a fault. Memory ran out in a step or beside the steps; a step failed at a store; or the
--- reader or the writer failed, and each step was made. No other fault comes.
+-- What was done where the engine gives up by a fault. Memory ran out in a step or beside the steps; a step failed at
+-- a store; or the reader or the writer failed, and each step was made. No other fault comes.
 abbrev pub GaveUp : {M : Type 0} → (M → World) → Leaves M → M → M → Fault → Type 0
 GaveUp run leaves old new Memory = HasMade run leaves old new ⊎ FailsOfMemory run leaves old new
 GaveUp run leaves old new Store = FailsAtStore run leaves old new

@@ -26,8 +26,8 @@ setup_error = codes "error setup" ++ line_feed ∷ []
 
 -- ---- bytes
 
--- The bytes are a trace whose histories fail nowhere. The world began with new guardians of its setup, and has made the run that is
--- gathered from them.
+-- The bytes are a trace whose histories fail nowhere. The world began with new guardians of its setup, and has made
+-- the run that is gathered from them.
 pub record IsGatheredFrom (bytes : List ℕ) (world : World) : Type 0 where
   pub setup : Setup
   pub histories : Histories
@@ -52,7 +52,8 @@ IsDenied bytes line =
 
 -- The line for bytes. A world comes if a run is gathered from them.
 abbrev pub IsVerdict : List ℕ → Option World → List ℕ → Type 0
-IsVerdict bytes (Some world) line = IsGatheredFrom bytes world × (line ≡ yes_line (length world.past))
+IsVerdict bytes (Some world) line = IsGatheredFrom bytes world
+    × (line ≡ yes_line (length world.past))
 IsVerdict bytes None line = IsDenied bytes line
 
 -- ---- a reader
@@ -63,13 +64,15 @@ TellsTrace input world line = (bytes : List ℕ) × Gives input bytes × IsVerdi
 
 -- nothing was written, or a beginning of that line
 abbrev pub BeginsVerdict : Option (List ℕ) → List ℕ → Type 0
-BeginsVerdict input written = (written ≡ []) ⊎ ((world : Option World) × (line : List ℕ) × TellsTrace input world line × Begins written line)
+BeginsVerdict input written = (written ≡ [])
+    ⊎ ((world : Option World) × (line : List ℕ) × TellsTrace input world line × Begins written line)
 
 -- ---- worlds
 
 -- whoever was asked for a world of a setup gave a new one, or a fault
 abbrev pub GivesNewWorlds : {M : Type 0} → (M → World) → (Setup → Result M Fault → Type 0) → Type 0
-GivesNewWorlds {M} run post = (setup : Setup) (made : Result M Fault) → post setup made → IfOk made (λ world. run world ≡ new_world setup)
+GivesNewWorlds {M} run post = (setup : Setup) (made : Result M Fault) → post setup made
+    → IfOk made (λ world. run world ≡ new_world setup)
 
 -- a fault of a step, or one that was given in place of a world
 abbrev pub IsOfMaking : {M : Type 0} → (Setup → Result M Fault → Type 0) → Fault → Type 0
@@ -81,5 +84,5 @@ IsOfTrace post fault = IsOfReader fault ⊎ (IsOfMaking post fault ⊎ (fault �
 
 -- Bytes have one verdict: its line is determined, and so is the run.
 abbrev pub OneVerdict : Type 0
-OneVerdict = (bytes : List ℕ) (world other : Option World) (line more : List ℕ) → IsVerdict bytes world line → IsVerdict bytes other more
-    → (line ≡ more) × (world ≡ other)
+OneVerdict = (bytes : List ℕ) (world other : Option World) (line more : List ℕ)
+    → IsVerdict bytes world line → IsVerdict bytes other more → (line ≡ more) × (world ≡ other)

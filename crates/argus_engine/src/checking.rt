@@ -17,9 +17,11 @@ use std::io::Write;
 /// JSON pointer of its place, which is `/` for the whole document; then it has `Stopped`. After a fault of the writer
 /// a beginning of that line was written, and none where memory ran out.
 pub fn check_script<W: Write>(alloc: Global, bytes: &[u8], writer: &mut W) -> Result<Ended, Fault>
-    ensures ok { IfOk result (λ ended. Writes (W.contents writer.old) (W.contents writer.new) (IsJudged bytes.now ended)) }
+    ensures ok { IfOk result (λ ended.
+        Writes (W.contents writer.old) (W.contents writer.new) (IsJudged bytes.now ended)) }
     // also after a fault
-    ensures begun { Writes (W.contents writer.old) (W.contents writer.new) (BeginsJudgement bytes.now) }
+    ensures begun { Writes (W.contents writer.old) (W.contents writer.new)
+        (BeginsJudgement bytes.now) }
     ensures fault { IfErr result IsOfWriter }
     ensures silent { IfErr result (λ fault. fault ≢ Output
         → Keeps (W.contents writer.old) (W.contents writer.new)) }
@@ -38,7 +40,8 @@ pub fn read_script<W: Write>(
     writer: &mut W,
 ) -> Result<Option<Checked>, Fault>
     ensures read { IfOk result (IsRead bytes.now (W.contents writer.old) (W.contents writer.new)) }
-    ensures begun { OnErr result (Writes (W.contents writer.old) (W.contents writer.new) (BeginsFault bytes.now)) }
+    ensures begun { OnErr result
+        (Writes (W.contents writer.old) (W.contents writer.new) (BeginsFault bytes.now)) }
     ensures fault { IfErr result IsOfWriter }
     ensures silent { IfErr result (λ fault. fault ≢ Output
         → Keeps (W.contents writer.old) (W.contents writer.new)) }
@@ -65,7 +68,8 @@ fn judgement(alloc: Global, bytes: &[u8]) -> Result<(Ended, String), AllocError>
 
 /// The line of a fault.
 fn fault_line(alloc: Global, fault: ScriptFault) -> Result<String, AllocError>
-    ensures { IfOk result (λ line. (bytes : List ℕ) → IsFaultOf bytes fault → IsJudged bytes Stopped (string_bytes line)) }
+    ensures { IfOk result (λ line. (bytes : List ℕ) → IsFaultOf bytes fault
+        → IsJudged bytes Stopped (string_bytes line)) }
 {
     match fault {
         ScriptFault::Bad(why, place) => format!(in alloc; "fault {why} {place}\n"),

@@ -114,11 +114,11 @@ pub(crate) enum Next {
 /// Reads steps to the end or to the first line that is no step, makes each in the world, and writes the line of each
 /// answer, or `error` with the line's number, after which nothing more is written. A line is ended by a line feed and
 /// has at most 8,192 bytes before it. After a fault a beginning was written of the answers that belong to the input,
-/// and of those that belong to some beginning of it. The steps of some first lines were made then, and no other; their
-/// answers may not all be written. `Store` comes only where a step failed at the store of a guardian, which then has
-/// counted one failure more; the world and the contents of the stores are as the steps before left them. `Memory` comes
-/// where memory ran out in a step or beside the steps, and `Input` and `Output` where each step was made. No other fault
-/// comes.
+/// and of those that belong to some beginning of it. The steps of some first lines were made then, and no other;
+/// their answers may not all be written. `Store` comes only where a step failed at the store of a guardian, which
+/// then has counted one failure more; the world and the contents of the stores are as the steps before left them.
+/// `Memory` comes where memory ran out in a step or beside the steps, and `Input` and `Output` where each step was
+/// made. No other fault comes.
 pub fn steps<M: MakesSteps, R: Read, W: Write>(
     alloc: Global,
     world: &mut M,
@@ -126,7 +126,8 @@ pub fn steps<M: MakesSteps, R: Read, W: Write>(
     writer: &mut W,
 ) -> Result<Ended, Fault>
     ensures ok { IfOk result (λ ended. Writes (W.contents writer.old) (W.contents writer.new)
-        (λ written. Answers (R.remaining reader.old) (M.run world.old) (M.run world.new) written ended)) }
+        (λ written. Answers (R.remaining reader.old) (M.run world.old)
+        (M.run world.new) written ended)) }
     // also after a fault
     ensures begun { Writes (W.contents writer.old) (W.contents writer.new)
         (λ written. BeginsAnswers (R.remaining reader.old) (M.run world.old) written) }
@@ -156,9 +157,11 @@ fn answer_all<M: MakesSteps, R: BufRead, W: Write>(
 ) -> Result<Ended, Fault>
     requires { string_bytes answers.old ≡ [] }
     ensures ok { IfOk result (λ ended. Writes (W.contents writer.old) (W.contents writer.new)
-        (λ sent. Answers (R.remaining reader.old) (M.run world.old) (M.run world.new) (sent ++ string_bytes answers.new) ended)) }
+        (λ sent. Answers (R.remaining reader.old) (M.run world.old) (M.run world.new)
+        (sent ++ string_bytes answers.new) ended)) }
     ensures begun { Writes (W.contents writer.old) (W.contents writer.new)
-        (λ sent. BeginsAnswers (R.remaining reader.old) (M.run world.old) (sent ++ string_bytes answers.new)) }
+        (λ sent. BeginsAnswers (R.remaining reader.old) (M.run world.old)
+        (sent ++ string_bytes answers.new)) }
     ensures steps { MakesFirst (R.remaining reader.old) (M.run world.old) (M.run world.new) }
     ensures made { OnOk result (HasMade M.run M.leaves world.old world.new) }
     ensures cause { IsErrOf result Store → FailsAtStore M.run M.leaves world.old world.new }
@@ -187,10 +190,12 @@ fn answer_next<M: MakesSteps, R: BufRead>(
     line: &mut Vec<u8>,
     answers: &mut String,
 ) -> Result<Next, Fault>
-    ensures ok { IfOk result (λ next. GoesOn (R.remaining reader.old) (R.remaining reader.new) (M.run world.old) (M.run world.new)
+    ensures ok { IfOk result (λ next.
+        GoesOn (R.remaining reader.old) (R.remaining reader.new) (M.run world.old) (M.run world.new)
         (string_bytes answers.old) (string_bytes answers.new) next) }
     ensures err { OnErr result (string_bytes answers.new ≡ string_bytes answers.old) }
-    ensures once { OnErr result (MayMakeNext (R.remaining reader.old) (M.run world.old) (M.run world.new)) }
+    ensures once { OnErr result
+        (MayMakeNext (R.remaining reader.old) (M.run world.old) (M.run world.new)) }
     ensures made { OnOk result (HasMade M.run M.leaves world.old world.new) }
     ensures fault { IfErr result IsOfReaderOrStep }
     ensures cause { IsErrOf result Store → FailsAtStore M.run M.leaves world.old world.new }
@@ -211,10 +216,11 @@ fn answer_ready<M: MakesSteps, R: BufRead>(
     reader: &mut R,
     answers: &mut String,
 ) -> Result<Option<Next>, Fault>
-    ensures ok { IfOk result (MayGoOn (R.remaining reader.old) (R.remaining reader.new) (M.run world.old) (M.run world.new)
-        (string_bytes answers.old) (string_bytes answers.new)) }
+    ensures ok { IfOk result (MayGoOn (R.remaining reader.old) (R.remaining reader.new)
+        (M.run world.old) (M.run world.new) (string_bytes answers.old) (string_bytes answers.new)) }
     ensures err { OnErr result (string_bytes answers.new ≡ string_bytes answers.old) }
-    ensures once { OnErr result (MayMakeNext (R.remaining reader.old) (M.run world.old) (M.run world.new)) }
+    ensures once { OnErr result
+        (MayMakeNext (R.remaining reader.old) (M.run world.old) (M.run world.new)) }
     ensures made { OnOk result (HasMade M.run M.leaves world.old world.new) }
     ensures fault { IfErr result IsOfReaderOrStep }
     ensures cause { IsErrOf result Store → FailsAtStore M.run M.leaves world.old world.new }
@@ -249,10 +255,12 @@ fn answer_read<M: MakesSteps, R: BufRead>(
     line: &mut Vec<u8>,
     answers: &mut String,
 ) -> Result<Next, Fault>
-    ensures ok { IfOk result (λ next. GoesOn (R.remaining reader.old) (R.remaining reader.new) (M.run world.old) (M.run world.new)
+    ensures ok { IfOk result (λ next.
+        GoesOn (R.remaining reader.old) (R.remaining reader.new) (M.run world.old) (M.run world.new)
         (string_bytes answers.old) (string_bytes answers.new) next) }
     ensures err { OnErr result (string_bytes answers.new ≡ string_bytes answers.old) }
-    ensures once { OnErr result (MayMakeNext (R.remaining reader.old) (M.run world.old) (M.run world.new)) }
+    ensures once { OnErr result
+        (MayMakeNext (R.remaining reader.old) (M.run world.old) (M.run world.new)) }
     ensures made { OnOk result (HasMade M.run M.leaves world.old world.new) }
     ensures fault { IfErr result IsOfReaderOrStep }
     ensures cause { IsErrOf result Store → FailsAtStore M.run M.leaves world.old world.new }
@@ -276,7 +284,8 @@ fn answer_line<M: MakesSteps>(
     line: &[u8],
     answers: &mut String,
 ) -> Result<bool, Fault>
-    ensures ok { IfOk result (AnswersLine line.now (M.run world.old) (M.run world.new) (string_bytes answers.old) (string_bytes answers.new)) }
+    ensures ok { IfOk result (AnswersLine line.now (M.run world.old) (M.run world.new)
+        (string_bytes answers.old) (string_bytes answers.new)) }
     ensures err { OnErr result (string_bytes answers.new ≡ string_bytes answers.old) }
     ensures once { OnErr result (MayMake line.now (M.run world.old) (M.run world.new)) }
     ensures made { OnOk result (HasMade M.run M.leaves world.old world.new) }
@@ -293,7 +302,8 @@ fn answer_line<M: MakesSteps>(
 }
 
 fn push_answer(answer: &Answer, answers: &mut String) -> Result<(), AllocError>
-    ensures ok { OnOk result (string_bytes answers.new ≡ string_bytes answers.old ++ (answer_text answer.now ++ line_feed ∷ [])) }
+    ensures ok { OnOk result (string_bytes answers.new
+        ≡ string_bytes answers.old ++ (answer_text answer.now ++ line_feed ∷ [])) }
     ensures err { OnErr result (string_bytes answers.new ≡ string_bytes answers.old) }
 {
     let len = answers.as_str().len();
@@ -306,7 +316,8 @@ fn push_answer(answer: &Answer, answers: &mut String) -> Result<(), AllocError>
 }
 
 fn push_error(alloc: Global, number: u64, answers: &mut String) -> Result<(), AllocError>
-    ensures ok { OnOk result (string_bytes answers.new ≡ string_bytes answers.old ++ error_text number) }
+    ensures ok { OnOk result
+        (string_bytes answers.new ≡ string_bytes answers.old ++ error_text number) }
     ensures err { OnErr result (string_bytes answers.new ≡ string_bytes answers.old) }
 {
     let line = format!(in alloc; "error {number}\n")?;

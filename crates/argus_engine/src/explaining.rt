@@ -26,10 +26,12 @@ pub fn explain_text<W: Write>(
     writer: &mut W,
 ) -> Result<Ended, Fault>
     ensures ok { IfOk result (λ ended. (ended ≡ Done)
-        × Writes (W.contents writer.old) (W.contents writer.new) (IsExplained word.now history.now)) }
+        × Writes (W.contents writer.old) (W.contents writer.new)
+        (IsExplained word.now history.now)) }
     // also after a fault
     ensures begun { Writes (W.contents writer.old) (W.contents writer.new)
-        (λ written. (lines : List ℕ) → IsExplained word.now history.now lines → Begins written lines) }
+        (λ written. (lines : List ℕ) → IsExplained word.now history.now lines
+        → Begins written lines) }
     ensures fault { IfErr result IsOfWriter }
     ensures silent { IfErr result (λ fault. fault ≢ Output
         → Keeps (W.contents writer.old) (W.contents writer.new)) }
@@ -42,7 +44,8 @@ pub fn explain_text<W: Write>(
 /// The lines that explain the action whose name the word is.
 fn explained_lines(alloc: Global, history: &History, word: &str) -> Result<String, AllocError>
     ensures explained { IfOk result (λ text. IsExplained word.now history.now (string_bytes text)) }
-    ensures only { IfOk result (λ text. (lines : List ℕ) → IsExplained word.now history.now lines → lines ≡ string_bytes text) }
+    ensures only { IfOk result (λ text. (lines : List ℕ) → IsExplained word.now history.now lines
+        → lines ≡ string_bytes text) }
 {
     match Name::parse(alloc, word) {
         Ok(action) => explain(alloc, history, &action)?.text(alloc),

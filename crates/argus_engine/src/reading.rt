@@ -44,7 +44,8 @@ pub(crate) struct Front {
 /// it may have is read.
 #[tactic(auto, using(crate::proofs::Bytes::nothing_was, crate::proofs::Bytes::at_end_gives, crate::proofs::Bytes::cut_is_no_step, crate::proofs::Bytes::long_is_no_step))]
 pub(crate) fn read_line<R: BufRead>(reader: &mut R, line: &mut Vec<u8>) -> Result<Line, Fault>
-    ensures found { IfOk result (λ found. ReadsLine (R.remaining reader.old) (R.remaining reader.new) line.new.items found) }
+    ensures found { IfOk result (λ found.
+        ReadsLine (R.remaining reader.old) (R.remaining reader.new) line.new.items found) }
     ensures fault { IfErr result IsOfReader }
 {
     line.clear();
@@ -67,7 +68,8 @@ pub(crate) fn read_line<R: BufRead>(reader: &mut R, line: &mut Vec<u8>) -> Resul
 /// taken too and not appended. Nothing is taken where a signal interrupts.
 fn take_some<R: BufRead>(reader: &mut R, room: usize, line: &mut Vec<u8>) -> Result<Met, Fault>
     requires { 1 ≤ room }
-    ensures taken { IfOk result (TakesSome (R.remaining reader.old) (R.remaining reader.new) line.old.items line.new.items) }
+    ensures taken { IfOk result (TakesSome (R.remaining reader.old) (R.remaining reader.new)
+        line.old.items line.new.items) }
     ensures room { IfOk result (λ met. length line.new.items ≤ length line.old.items + room) }
     ensures fault { IfErr result IsOfReader }
 {

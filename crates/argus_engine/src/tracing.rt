@@ -79,7 +79,8 @@ where
     B: FnOnce(Setup) -> Result<M, Fault>,
     requires callable { B.IsAlwaysCallable begin }
     requires begins { GivesNewWorlds M.run (B.post begin) }
-    ensures said { IfOk result (λ said. IsVerdict bytes.items (option_map M.run said.0) (string_bytes said.1)) }
+    ensures said { IfOk result
+        (λ said. IsVerdict bytes.items (option_map M.run said.0) (string_bytes said.1)) }
     ensures fault { IfErr result (IsOfMaking (B.post begin)) }
 {
     let read = Trace::read(alloc, bytes.as_slice());

@@ -16,8 +16,10 @@ const BUFFER_SIZE: usize = 8192;
 /// written.
 #[tactic(auto, using(crate::proofs::Progressed::moves_all, crate::proofs::Progressed::moves_none))]
 pub(crate) fn send_if_full<W: Write>(writer: &mut W, text: &mut String) -> Result<(), Fault>
-    ensures ok { OnOk result (Moves (W.contents writer.old) (W.contents writer.new) (string_bytes text.old) (string_bytes text.new)) }
-    ensures err { OnErr result (TakesFront (W.contents writer.old) (W.contents writer.new) (string_bytes text.old)
+    ensures ok { OnOk result (Moves (W.contents writer.old) (W.contents writer.new)
+        (string_bytes text.old) (string_bytes text.new)) }
+    ensures err { OnErr result
+        (TakesFront (W.contents writer.old) (W.contents writer.new) (string_bytes text.old)
         × (string_bytes text.new ≡ [])) }
     ensures small { OnOk result (length (string_bytes text.new) < 8192) }
     ensures kept { length (string_bytes text.old) < 8192
@@ -50,7 +52,8 @@ pub fn finish<W: Write>(writer: &mut W, text: &str) -> Result<(), Fault>
 #[tactic(auto, using(crate::proofs::Bytes::wrote_all, crate::proofs::Bytes::wrote_more, crate::proofs::Bytes::within_more, crate::proofs::Bytes::wrote_none, crate::proofs::Bytes::wrote_front))]
 fn write_bytes<W: Write>(writer: &mut W, bytes: &[u8]) -> Result<(), Fault>
     ensures ok { OnOk result (Appends (W.contents writer.old) (W.contents writer.new) bytes.now) }
-    ensures err { OnErr result (TakesFront (W.contents writer.old) (W.contents writer.new) bytes.now) }
+    ensures err { OnErr result
+        (TakesFront (W.contents writer.old) (W.contents writer.new) bytes.now) }
     ensures fault { IfErr result (λ fault. fault ≡ Output) }
 {
     let mut count = 0;
@@ -67,7 +70,8 @@ fn write_bytes<W: Write>(writer: &mut W, bytes: &[u8]) -> Result<(), Fault>
 #[tactic(auto, using(crate::proofs::Bytes::took_none, crate::proofs::Bytes::gave_none))]
 fn write_some<W: Write>(writer: &mut W, bytes: &[u8]) -> Result<usize, Fault>
     ensures within { IfOk result (λ count. count ≤ length bytes.now) }
-    ensures ok { IfOk result (λ count. Appends (W.contents writer.old) (W.contents writer.new) (take count bytes.now)) }
+    ensures ok { IfOk result
+        (λ count. Appends (W.contents writer.old) (W.contents writer.new) (take count bytes.now)) }
     ensures err { OnErr result (Keeps (W.contents writer.old) (W.contents writer.new)) }
     ensures fault { IfErr result (λ fault. fault ≡ Output) }
 {

@@ -51,19 +51,23 @@ KeepsRoom old new = (b : Name) → IsTrue (has_room old b) → IsTrue (has_room 
 
 -- all others that had rows have them still
 abbrev pub KeepsOthersRows : Kept → Kept → Name → Type 0
-KeepsOthersRows old new a = (b : Name) → IsTrue (not (same_name a b) && has_rows old b) → IsTrue (has_rows new b)
+KeepsOthersRows old new a = (b : Name) → IsTrue (not (same_name a b) && has_rows old b)
+    → IsTrue (has_rows new b)
 
 -- all others that had room have it still
 abbrev pub KeepsOthersRoom : Kept → Kept → Name → Type 0
-KeepsOthersRoom old new a = (b : Name) → IsTrue (not (same_name a b) && has_room old b) → IsTrue (has_room new b)
+KeepsOthersRoom old new a = (b : Name) → IsTrue (not (same_name a b) && has_room old b)
+    → IsTrue (has_room new b)
 
 -- all but an action and its descendants that had room have it still
 abbrev pub KeepsRoomBeside : Kept → Kept → Name → Type 0
-KeepsRoomBeside old new a = (b : Name) → IsTrue (not (is_ancestor a b) && has_room old b) → IsTrue (has_room new b)
+KeepsRoomBeside old new a = (b : Name) → IsTrue (not (is_ancestor a b) && has_room old b)
+    → IsTrue (has_room new b)
 
 -- the next holder adds nothing where it owns a version
 abbrev pub AddsNothing : Seen → Option Name → Type 0
-AddsNothing object to = IfSome to (λ next. IsTrue (owns object next) → delta_at object.deltas next ≡ None)
+AddsNothing object to =
+    IfSome to (λ next. IsTrue (owns object next) → delta_at object.deltas next ≡ None)
 
 -- the owner of the lowest version stays
 abbrev pub lowest_stays : (Name → Bool) → List (Name × Content) → Bool
@@ -72,7 +76,8 @@ lowest_stays stays (v ∷ vs) = stays v.0
 
 -- the reply to an operation that is granted: a read sees what is added beside the version on top
 abbrev pub replied : Seen → Op → Reply
-replied object wanted = if is_read wanted then reply_of (total_of object) wanted else reply_of (top_of object.stack) wanted
+replied object wanted = if is_read wanted then reply_of (total_of object) wanted
+    else reply_of (top_of object.stack) wanted
 
 -- the number that a reply gives, if it gives one
 abbrev pub number_in : Reply → Option ℤ

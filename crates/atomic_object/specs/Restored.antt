@@ -9,7 +9,8 @@ use Rattle.object_model.specs.Objects.{Seen}
 use Rattle.object_laws.specs.Laws.{AreApart}
 use Rattle.overlays.specs.ContentOverlays.{HaveSameOps}
 
--- A value may be given back where nobody owns a version, and has the base's operations; a delta where the action adds nothing yet.
+-- A value may be given back where nobody owns a version, and has the base's operations; a delta where the action adds
+-- nothing yet.
 abbrev pub MayTake : Seen → Name → Part → Type 0
 MayTake object a (Value v) = (object.stack.versions ≡ []) × HaveSameOps object.stack.base v
 MayTake object a (Delta z) = delta_at object.deltas a ≡ None

@@ -59,17 +59,19 @@ impl Object {
         self.versions.base()
     }
 
-    /// What the top action will hold, to be prepared, once the outcomes of its descendants are told, which rise by name: nothing is changed.
-    /// That is the version of the last owner that stays of its tree, with what is added below it; where no owner stays, what is added in its
-    /// tree. Fails only if memory runs out.
+    /// What the top action will hold, to be prepared, once the outcomes of its descendants are told, which rise by
+    /// name: nothing is changed. That is the version of the last owner that stays of its tree, with what is added
+    /// below it; where no owner stays, what is added in its tree. Fails only if memory runs out.
     pub fn part_once_told(
         &self,
         top: &Name,
         outcomes: &[(Name, bool)],
     ) -> Result<Option<Part>, AllocError>
         requires { OutcomesRise outcomes.now }
-        ensures { IfOk result (λ part. (c : Content) (s : Standing) → Shows c s (seen self.now) → IsTrue (is_top top.now) → IsFalse (s.told top.now)
-            → AreOutcomesBelow s top.now outcomes.now → HoldsItsTree (told_of outcomes.now s) top.now
+        ensures { IfOk result (λ part. (c : Content) (s : Standing) → Shows c s (seen self.now)
+            → IsTrue (is_top top.now) → IsFalse (s.told top.now)
+            → AreOutcomesBelow s top.now outcomes.now
+            → HoldsItsTree (told_of outcomes.now s) top.now
             → part ≡ part_held c (told_of outcomes.now s) top.now) }
     {
         self.part_to_hold(top, outcomes)
@@ -101,7 +103,8 @@ impl Object {
         outcomes: &[(Name, bool)],
     ) -> Result<Option<Part>, AllocError>
         requires { OutcomesRise outcomes.now }
-        ensures { IfOk result (λ part. (top : Name) → part ≡ part_over outcomes.now top (seen self.now) (Some owner.now)) }
+        ensures { IfOk result (λ part. (top : Name)
+            → part ≡ part_over outcomes.now top (seen self.now) (Some owner.now)) }
     {
         let Some(version) = self.versions.only(owner) else {
             return Ok(None);
@@ -117,11 +120,13 @@ impl Object {
         Ok(Some(Part::Value(content)))
     }
 
-    /// Makes room for this holder, so that it can be handed what a descendant holds now: none is made where nobody holds anything, so that an operation
-    /// that is granted later may ask for room anew. What is held of the object stays, with memory and without.
+    /// Makes room for this holder, so that it can be handed what a descendant holds now: none is made where nobody
+    /// holds anything, so that an operation that is granted later may ask for room anew. What is held of the object
+    /// stays, with memory and without.
     pub fn make_room(&mut self, holder: &Name) -> Result<(), AllocError>
         ensures same { seen self.new ≡ seen self.old }
-        ensures room { OnOk result ((b : Name) → has_room self.new b ≡ (same_name holder.now b || has_room self.old b)) }
+        ensures room { OnOk result
+            ((b : Name) → has_room self.new b ≡ (same_name holder.now b || has_room self.old b)) }
         ensures err { OnErr result (KeepsRoom self.old self.new) }
     {
         self.make_delta_room(holder)?;
@@ -131,8 +136,10 @@ impl Object {
     // Makes room for what this holder is to add, unless nobody adds anything.
     fn make_delta_room(&mut self, holder: &Name) -> Result<(), AllocError>
         ensures held { self.new.deltas.held ≡ self.old.deltas.held }
-        ensures room { OnOk result ((b : Name) → may_be_handed self.new.deltas.held self.new.deltas.room b
-            ≡ (same_name holder.now b || may_be_handed self.old.deltas.held self.old.deltas.room b)) }
+        ensures room { OnOk result
+            ((b : Name) → may_be_handed self.new.deltas.held self.new.deltas.room b
+            ≡ (same_name holder.now b
+            || may_be_handed self.old.deltas.held self.old.deltas.room b)) }
         ensures stack { self.new.stack ≡ self.old.stack }
         ensures locks { self.new.locks ≡ self.old.locks }
         ensures err { OnErr result (self.new ≡ self.old) }
@@ -143,10 +150,11 @@ impl Object {
         self.deltas.make_room(holder)
     }
 
-    /// Whether a telling of the outcome changes the object: that the action committed, where it holds anything; that it aborted, where it or a
-    /// descendant does. This takes no memory.
+    /// Whether a telling of the outcome changes the object: that the action committed, where it holds anything; that
+    /// it aborted, where it or a descendant does. This takes no memory.
     pub fn is_concerned(&self, action: &Name, committed: bool) -> bool
-        ensures shown { (c : Content) (s : Standing) → Shows c s (seen self.now) → IsFalse (s.told action.now) → result ≡ is_concerned_by committed s action.now }
+        ensures shown { (c : Content) (s : Standing) → Shows c s (seen self.now)
+            → IsFalse (s.told action.now) → result ≡ is_concerned_by committed s action.now }
         ensures held { result ≡ is_concerned committed (seen self.now).locks action.now }
     {
         self.is_held(action, committed)

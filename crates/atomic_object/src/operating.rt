@@ -25,14 +25,15 @@ use std::alloc::AllocError;
 use values::Value;
 
 impl Object {
-    /// Keeps an operation of an action that waits for nobody, so that it is granted; what it is answered, `answer` says. If memory runs out,
-    /// what is held of the object stays.
+    /// Keeps an operation of an action that waits for nobody, so that it is granted; what it is answered, `answer`
+    /// says. If memory runs out, what is held of the object stays.
     pub fn grant(&mut self, action: &Name, op: &Op) -> Result<(), AllocError>
         requires named { IsTrue (is_ancestor action.now action.now) }
         requires shown { IsShown (seen self.old) }
         requires known { IsTrue (knows (seen self.old).stack.base op.now) }
         requires free { IsFalse (must_wait (seen self.old).locks action.now (class_of op.now)) }
-        ensures operates { OnOk result ((r : Reply) → Operates action.now op.now (Granted r) (seen self.old) (seen self.new)) }
+        ensures operates { OnOk result
+            ((r : Reply) → Operates action.now op.now (Granted r) (seen self.old) (seen self.new)) }
         ensures rows { KeepsOthersRows self.old self.new action.now }
         ensures err { OnErr result (seen self.new ≡ seen self.old) }
     {
@@ -44,7 +45,8 @@ impl Object {
         requires named { IsTrue (is_ancestor action.now action.now) }
         requires shown { IsShown (seen self.now) }
         requires known { IsTrue (knows (seen self.now).stack.base op.now) }
-        ensures { IfOk result (λ answer. (c : Content) (s : Standing) → Shows c s (seen self.now) → answer ≡ operated_by c s action.now op.now) }
+        ensures { IfOk result (λ answer. (c : Content) (s : Standing) → Shows c s (seen self.now)
+            → answer ≡ operated_by c s action.now op.now) }
     {
         match self.waited_for(action, op)? {
             Some(names) => Ok(Answer::Waits(names)),
@@ -54,8 +56,10 @@ impl Object {
 
     // For whom the operation has to wait, if for anybody.
     fn waited_for(&self, action: &Name, op: &Op) -> Result<Option<Names>, AllocError>
-        ensures waits { IfOk result (λ waited. IfSome waited (λ names. (c : Content) (s : Standing) → Shows c s (seen self.now) → Waits names ≡ operated_by c s action.now op.now)) }
-        ensures free { IfOk result (λ waited. IfNone waited (IsFalse (must_wait (seen self.now).locks action.now (class_of op.now)))) }
+        ensures waits { IfOk result (λ waited. IfSome waited (λ names. (c : Content) (s : Standing)
+            → Shows c s (seen self.now) → Waits names ≡ operated_by c s action.now op.now)) }
+        ensures free { IfOk result (λ waited. IfNone waited
+            (IsFalse (must_wait (seen self.now).locks action.now (class_of op.now)))) }
     {
         if self.locks.must_wait(action, op.class()) {
             let names = self.locks.blockers(action, op.class())?;
@@ -77,8 +81,10 @@ impl Object {
 
     // Keeps an operation for which nobody is waited for.
     fn granted(&mut self, action: &Name, op: &Op) -> Result<(), AllocError>
-        requires above { IsFalse (is_read op.now) → AreAbove (seen self.old).stack.versions action.now }
-        requires owned { IsTrue (is_add op.now) → IsTrue (owns (seen self.old) action.now) → IsTrue (is_on_top (owners_of (seen self.old).stack.versions) action.now) }
+        requires above { IsFalse (is_read op.now)
+            → AreAbove (seen self.old).stack.versions action.now }
+        requires owned { IsTrue (is_add op.now) → IsTrue (owns (seen self.old) action.now)
+            → IsTrue (is_on_top (owners_of (seen self.old).stack.versions) action.now) }
         requires known { IsTrue (knows (top_of (seen self.old).stack) op.now) }
         requires rising { NamesRise (seen self.old).deltas }
         ensures ok { OnOk result (IsOperated action.now op.now (seen self.old) (seen self.new)) }
@@ -136,7 +142,8 @@ impl Object {
     // An add to the action's version, or else to its delta.
     fn add(&mut self, action: &Name, op: &Op) -> Result<(), AllocError>
         requires above { AreAbove (seen self.old).stack.versions action.now }
-        requires owned { IsTrue (owns (seen self.old) action.now) → IsTrue (is_on_top (owners_of (seen self.old).stack.versions) action.now) }
+        requires owned { IsTrue (owns (seen self.old) action.now)
+            → IsTrue (is_on_top (owners_of (seen self.old).stack.versions) action.now) }
         requires known { IsTrue (knows (top_of (seen self.old).stack) op.now) }
         requires adds { IsTrue (is_add op.now) }
         requires rising { NamesRise (seen self.old).deltas }
@@ -155,13 +162,16 @@ impl Object {
     // Adds to the action's version, or else to its delta.
     fn add_up(&mut self, action: &Name, op: &Op) -> Result<(), AllocError>
         requires above { AreAbove (seen self.old).stack.versions action.now }
-        requires owned { IsTrue (owns (seen self.old) action.now) → IsTrue (is_on_top (owners_of (seen self.old).stack.versions) action.now) }
+        requires owned { IsTrue (owns (seen self.old) action.now)
+            → IsTrue (is_on_top (owners_of (seen self.old).stack.versions) action.now) }
         requires known { IsTrue (knows (top_of (seen self.old).stack) op.now) }
         requires adds { IsTrue (is_add op.now) }
         requires rising { NamesRise (seen self.old).deltas }
-        ensures ok { OnOk result (AddsBy (owns (seen self.old) action.now) (seen self.old) (seen self.new) action.now op.now) }
+        ensures ok { OnOk result (AddsBy (owns (seen self.old) action.now) (seen self.old)
+            (seen self.new) action.now op.now) }
         ensures rising { OnOk result (NamesRise (seen self.new).deltas) }
-        ensures rows { (b : Name) → IsTrue (has_name self.old.deltas.room b) → IsTrue (has_name self.new.deltas.room b) }
+        ensures rows { (b : Name) → IsTrue (has_name self.old.deltas.room b)
+            → IsTrue (has_name self.new.deltas.room b) }
         ensures locks { self.new.locks ≡ self.old.locks }
         ensures err { OnErr result (seen self.new ≡ seen self.old) }
     {
@@ -176,7 +186,8 @@ impl Object {
     fn take_back(&mut self, action: &Name, class: Class, is_new: bool)
         ensures stack { self.new.stack ≡ self.old.stack }
         ensures deltas { self.new.deltas ≡ self.old.deltas }
-        ensures locks { self.new.locks.locks ≡ (if is_new then revoked self.old.locks.locks action.now class else self.old.locks.locks) }
+        ensures locks { self.new.locks.locks ≡ (if is_new
+            then revoked self.old.locks.locks action.now class else self.old.locks.locks) }
         ensures rows { KeepsOthersRows self.old self.new action.now }
     {
         if is_new {
@@ -187,8 +198,8 @@ impl Object {
 
 /// The reply to a read once so much is added to what answered it.
 fn with_sum(reply: Reply, op: &Op, sum: i64) -> Reply
-    ensures added { (c : Content) → reply ≡ reply_of c op.now → IsTrue (knows c op.now) → IsTrue (is_read op.now)
-        → result ≡ reply_of (content_after c (Add (Int sum))) op.now }
+    ensures added { (c : Content) → reply ≡ reply_of c op.now → IsTrue (knows c op.now)
+        → IsTrue (is_read op.now) → result ≡ reply_of (content_after c (Add (Int sum))) op.now }
     ensures none { sum ≡ pos 0 → result ≡ reply }
 {
     match number_in(&reply) {

@@ -14,12 +14,13 @@ use overlays::ContentOverlay;
 use std::alloc::AllocError;
 
 impl Object {
-    /// Gives a top action back what a store held of the object for it: a value, where nobody else is given anything, or a delta. If memory runs out,
-    /// the object is not to be used any more.
+    /// Gives a top action back what a store held of the object for it: a value, where nobody else is given anything,
+    /// or a delta. If memory runs out, the object is not to be used any more.
     pub fn give_back(&mut self, holder: &Name, part: Part) -> Result<(), AllocError>
         requires named { IsTrue (is_ancestor holder.now holder.now) }
         requires fits { MayTake (seen self.old) holder.now part }
-        ensures { OnOk result ((c : Content) (parts : List (Name × Part)) → IsRestored c parts (seen self.old) → MayStandToo parts holder.now part
+        ensures { OnOk result ((c : Content) (parts : List (Name × Part))
+            → IsRestored c parts (seen self.old) → MayStandToo parts holder.now part
             → IsRestored c ((holder.now, part) ∷ parts) (seen self.new)) }
     {
         match part {

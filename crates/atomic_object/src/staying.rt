@@ -31,7 +31,9 @@ impl<'a> Survivors for Staying<'a> {
 
 /// The last of the first owners that all stay.
 pub(crate) fn last_staying<'a>(owners: &'a [Name], staying: &Staying<'_>) -> Option<&'a Name>
-    ensures { name_of result ≡ last_in_front (is_left_below staying.now.outcomes.now staying.now.from.now) None owners.entry.now }
+    ensures { name_of result
+        ≡ last_in_front (is_left_below staying.now.outcomes.now staying.now.from.now)
+        None owners.entry.now }
 {
     let mut last = None;
     for owner in owners {

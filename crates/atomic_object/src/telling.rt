@@ -14,8 +14,8 @@ use action_names::Name;
 use holders::Survivors;
 
 impl Object {
-    /// The guardian is told that the action committed: what it held goes to the next holder, the nearest ancestor that was not told so, for
-    /// which there is room; without one to the base (Moss 1981).
+    /// The guardian is told that the action committed: what it held goes to the next holder, the nearest ancestor
+    /// that was not told so, for which there is room; without one to the base (Moss 1981).
     pub fn told_commit(&mut self, action: &Name, to: Option<Name>)
         requires named { IsTrue (is_ancestor action.now action.now) }
         requires shown { HandsTo (seen self.old) action.now to }
@@ -63,7 +63,8 @@ impl Object {
         requires beside { AddsNothing (seen self.old) to }
         requires room { MayBeHandedDeltas self.old to }
         ensures stack { self.new.stack ≡ passed_stack (seen self.old) action.now to }
-        ensures deltas { (b : Name) → delta_at self.new.deltas.held b ≡ passed_delta (seen self.old) action.now to b }
+        ensures deltas { (b : Name)
+            → delta_at self.new.deltas.held b ≡ passed_delta (seen self.old) action.now to b }
         ensures rising { NamesRise self.new.deltas.held }
         ensures room { HasLessRoom self.old.deltas.room self.new.deltas.room action.now }
         ensures locks { self.new.locks ≡ self.old.locks }
@@ -83,7 +84,8 @@ impl Object {
         requires room { MayBeHandedDeltas self.old to }
         requires rising { NamesRise self.old.deltas.held }
         ensures stack { self.new.stack ≡ inherited self.old.stack action.now to }
-        ensures deltas { (b : Name) → delta_at self.new.deltas.held b ≡ (if is_next to b then None else delta_at self.old.deltas.held b) }
+        ensures deltas { (b : Name) → delta_at self.new.deltas.held b
+            ≡ (if is_next to b then None else delta_at self.old.deltas.held b) }
         ensures rising { NamesRise self.new.deltas.held }
         ensures room { self.new.deltas.room ≡ self.old.deltas.room }
         ensures locks { self.new.locks ≡ self.old.locks }
@@ -114,7 +116,9 @@ impl Object {
         requires room { HasDeltaRoom self.old to }
         requires rising { NamesRise self.old.deltas.held }
         ensures stack { self.new.stack ≡ added content_after self.old.stack to amount }
-        ensures deltas { (b : Name) → delta_at self.new.deltas.held b ≡ (if is_next to b && not (owns (seen self.old) b) then more_at self.old.deltas.held b amount else delta_at self.old.deltas.held b) }
+        ensures deltas { (b : Name)
+            → delta_at self.new.deltas.held b ≡ (if is_next to b && not (owns (seen self.old) b)
+            then more_at self.old.deltas.held b amount else delta_at self.old.deltas.held b) }
         ensures rising { NamesRise self.new.deltas.held }
         ensures room { self.new.deltas.room ≡ self.old.deltas.room }
         ensures locks { self.new.locks ≡ self.old.locks }
@@ -149,7 +153,8 @@ impl Object {
 
     // Whether the owner of the lowest version survives.
     fn keeps_lowest<S: Survivors>(&self, survivors: &S) -> bool
-        ensures stays { result ≡ lowest_stays (S.stays survivors.now) (seen self.now).stack.versions }
+        ensures stays { result
+            ≡ lowest_stays (S.stays survivors.now) (seen self.now).stack.versions }
         ensures rising { RisesByAncestry (seen self.now).stack.versions }
     {
         match self.versions.lowest() {

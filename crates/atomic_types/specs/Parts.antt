@@ -17,7 +17,8 @@ abbrev pub laid_where : Option Part → Content → Content
 laid_where None c = c
 laid_where (Some p) c = laid p c
 
--- what is installed over what was: a value takes its place, a delta is added to the value or delta, or stands there itself
+-- what is installed over what was: a value takes its place, a delta is added to the value or delta, or stands there
+-- itself
 abbrev pub over : Part → Option Part → Part
 over (Value v) old = Value v
 over (Delta z) None = Delta z

@@ -24,7 +24,8 @@ impl Part {
         })
     }
 
-    /// What an object holds under this part that held this content before. A delta changes counters alone. Fails only if memory runs out.
+    /// What an object holds under this part that held this content before. A delta changes counters alone. Fails only
+    /// if memory runs out.
     #[tactic(auto, using(crate::specs::TypeLaws::wrapped))]
     pub fn laid_on(&self, content: &Content) -> Result<Content, AllocError>
         ensures { IfOk result (λ under. under ≡ laid self.now content.now) }

@@ -40,8 +40,8 @@ impl Bank {
         self.settle(moved)
     }
 
-    /// Begins the top action of a payment and moves the money in it by two handler calls. If money is lacking, the top action
-    /// is aborted, and there is none.
+    /// Begins the top action of a payment and moves the money in it by two handler calls. If money is lacking, the
+    /// top action is aborted, and there is none.
     pub(crate) fn move_money(&mut self, payment: Payment) -> Result<Option<Name>, BankFault> {
         let top = self.begin(payment.from.branch)?;
         if self.withdraw(&top, payment)? && self.deposit(&top, payment)? {
@@ -69,8 +69,8 @@ impl Bank {
         Ok(self.service.begin(branch)?)
     }
 
-    /// Commits a top action by two phases, in which both branches vote. If one votes no, the action is aborted. Says whether it
-    /// is committed.
+    /// Commits a top action by two phases, in which both branches vote. If one votes no, the action is aborted. Says
+    /// whether it is committed.
     pub(crate) fn commit(&mut self, top: &Name) -> Result<bool, BankFault> {
         Ok(self.service.commit_top(top, &BRANCHES)?)
     }

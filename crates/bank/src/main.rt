@@ -1,5 +1,5 @@
-//! `bank`, a service over a world: payments between two branches. One lacks money at first, a crash cuts one, and a stop
-//! of the whole system another. It prints how each payment ended, and then the balances.
+//! `bank`, a service over a world: payments between two branches. One lacks money at first, a crash cuts one, and a
+//! stop of the whole system another. It prints how each payment ended, and then the balances.
 #![tactic(auto)]
 
 mod accounts;

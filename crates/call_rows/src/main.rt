@@ -1,7 +1,7 @@
 //! Tests of printed texts, of the limits of documents, and of public calls that no example reaches, as rows of data.
 //!
-//! The first word of a section's name is the crate that its rows call. A name with no crate stands for `run_model`, `packed_history` and
-//! `traces`.
+//! The first word of a section's name is the crate that its rows call. A name with no crate stands for `run_model`,
+//! `packed_history` and `traces`.
 #![tactic(auto)]
 
 mod answers;

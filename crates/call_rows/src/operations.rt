@@ -72,7 +72,8 @@ fn read_arguments(
     })
 }
 
-/// Writes what a copy of the object replies to the operation. Then the object itself performs it, and must reply the same.
+/// Writes what a copy of the object replies to the operation. Then the object itself performs it, and must reply the
+/// same.
 fn perform_on<T: AtomicType>(
     alloc: Global,
     object: &mut T,
@@ -115,7 +116,8 @@ fn describe(alloc: Global, mut words: Words<'_>, answer: &mut String) -> Result<
     Ok(write_description(&op, answer)?)
 }
 
-/// Writes the operation's name and class, the form of its arguments, whether it gives a value, and whether its copy equals it.
+/// Writes the operation's name and class, the form of its arguments, whether it gives a value, and whether its copy
+/// equals it.
 fn write_description(op: &Op, answer: &mut String) -> Result<(), AllocError> {
     let name = op.name();
     write!(

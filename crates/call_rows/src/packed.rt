@@ -4,7 +4,8 @@ use rows::{RowFault, again};
 use run_model::{Event, EventRef, History};
 use std::alloc::{AllocError, Global};
 
-/// `packed`: how many events a packed history of these has, and the lines of each. The newest is recorded twice and taken back once.
+/// `packed`: how many events a packed history of these has, and the lines of each. The newest is recorded twice and
+/// taken back once.
 pub(crate) fn write(alloc: Global, history: &History, answer: &mut String) -> Result<(), RowFault> {
     let packed = packed(alloc, history)?;
     write!(

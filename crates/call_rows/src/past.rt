@@ -4,7 +4,8 @@ use rows::{RowFault, Words};
 use run_model::{Event, History};
 use std::alloc::{AllocError, Global};
 
-/// What has happened so far, and an event that came back because memory was refused. It stays until the row is answered again.
+/// What has happened so far, and an event that came back because memory was refused. It stays until the row is
+/// answered again.
 #[derive(Drop)]
 pub(crate) struct Past {
     history: History,
@@ -35,8 +36,8 @@ impl Past {
         }
     }
 
-    /// `push STEP -> ANSWER`: records the event. If memory is refused, the event comes back. It is recorded when the row is
-    /// answered again.
+    /// `push STEP -> ANSWER`: records the event. If memory is refused, the event comes back. It is recorded when the
+    /// row is answered again.
     fn push(&mut self, alloc: Global, text: &str, answer: &mut String) -> Result<(), RowFault> {
         answer.push_str("pushed")?;
         let event = match self.returned.take() {

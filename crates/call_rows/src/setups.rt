@@ -79,8 +79,8 @@ fn copy(setup: &mut Setup, answer: &mut String) -> Result<(), RowFault> {
     Ok(())
 }
 
-/// `add CONTENTS`: adds a guardian with these objects; so does `add_arrays COUNT`, with so many arrays. Before it is added there is room
-/// for what is written then.
+/// `add CONTENTS`: adds a guardian with these objects; so does `add_arrays COUNT`, with so many arrays. Before it is
+/// added there is room for what is written then.
 fn add(setup: &mut Setup, contents: Vec<Content>, answer: &mut String) -> Result<(), RowFault> {
     answer.reserve(64)?;
     write!(answer, "{} objects ", contents.len())?;
@@ -128,8 +128,8 @@ fn array(alloc: Global) -> Result<Array, RowFault> {
     Array::from_items(Kind::Int, 1, Vec::new(alloc)).map_err(|_| RowFault::Unread)
 }
 
-/// `fill`: adds guardians of no objects to the limit. If memory is refused for one of them, the row goes on with it when
-/// it is answered again.
+/// `fill`: adds guardians of no objects to the limit. If memory is refused for one of them, the row goes on with it
+/// when it is answered again.
 fn fill(alloc: Global, setup: &mut Setup, answer: &mut String) -> Result<(), RowFault> {
     answer.push_str("filled")?;
     for there in setup.guardians()..MAX_GUARDIANS {

@@ -23,7 +23,8 @@ IsToldBy (Committed a value) events = IsTrue (is_committed a events)
 IsToldBy (Aborted (Some a)) events = CommitOnly [] events
 IsToldBy (Aborted None) events = Unit {0}
 
--- The client's top action began by its first event; each later event is of it or of what these events began, and what they commit too.
+-- The client's top action began by its first event; each later event is of it or of what these events began, and what
+-- they commit too.
 pub record BeganTop (home : ℕ) (a : Name) (end : ClientEnd) (events : List Event) : Type 0 where
   pub later : List Event
   pub events_are : events ≡ later ++ top_event home a ∷ []
@@ -44,8 +45,8 @@ abbrev pub AllDid : List Client → List ClientEnd → List (List Event) → Typ
 AllDid [] ends receipts = (ends ≡ []) × (receipts ≡ [])
 AllDid (client ∷ clients) [] receipts = ⊥
 AllDid (client ∷ clients) (end ∷ ends) receipts =
-    (own others : List (List Event)) × (receipts ≡ own ++ others) × ClientDid client.home end (events_of own)
-    × AllDid clients ends others
+    (own others : List (List Event)) × (receipts ≡ own ++ others)
+    × ClientDid client.home end (events_of own) × AllDid clients ends others
 
 -- unless it met a fault, the client did what its end says
 abbrev pub IsDone : {K : Type 0} → Client → DoneClient K → Type 0
@@ -53,7 +54,8 @@ IsDone client one = IfOk one.end (λ end. ClientDid client.home end (events_of o
 
 -- so of the client at this place, if there is one
 abbrev pub IsDoneAt : {K : Type 0} → List Client → ℕ → DoneClient K → Type 0
-IsDoneAt clients place one = (client : Client) → slice_get clients place ≡ Some client → IsDone client one
+IsDoneAt clients place one = (client : Client)
+    → slice_get clients place ≡ Some client → IsDone client one
 
 -- so of each client
 abbrev pub AreDone : {K : Type 0} → List Client → List (DoneClient K) → Type 0

@@ -15,7 +15,9 @@ events_of [] = []
 events_of (receipt ∷ receipts) = events_of receipts ++ event_of receipt
 
 -- the answer came, and its receipt was kept if it has one; or there was a fault, and nothing more is kept
-abbrev pub IsKept : {K E F : Type 0} → Result (Answered K) E → Result Answer F → List (List Event) → List (List Event) → Type 0
-IsKept (Ok answered) (Ok answer) old new = (answer ≡ answered.answer) × (new ≡ old ++ option_to_list answered.receipt)
+abbrev pub IsKept : {K E F : Type 0} → Result (Answered K) E → Result Answer F → List (List Event)
+    → List (List Event) → Type 0
+IsKept (Ok answered) (Ok answer) old new = (answer ≡ answered.answer)
+    × (new ≡ old ++ option_to_list answered.receipt)
 IsKept (Err fault) (Err other) old new = new ≡ old
 IsKept _ _ old new = ⊥

@@ -194,7 +194,8 @@ impl<'a, K: OfRun, S: OfScript, R: Forest, G: Guardian, P: Gate, H: Wait> Caller
     fn learn(&mut self, arm: DoneArm<K>) -> Result<EndedArm, AllocError>
         ensures calls { self.new.calls.now ≡ self.old.calls.now }
         ensures arm { IfOk result (λ ended. ended ≡ arm.arm) }
-        ensures receipts { OnOk result (self.new.receipts.items ≡ self.old.receipts.items ++ arm.receipts.items) }
+        ensures receipts { OnOk result
+            (self.new.receipts.items ≡ self.old.receipts.items ++ arm.receipts.items) }
         ensures err { OnErr result (self.new.receipts.items ≡ self.old.receipts.items) }
     {
         let DoneArm {

@@ -34,12 +34,15 @@ flag id = record (new_rule id) { long = Some id; action = Some SetTrue }
 
 -- `[--picture OUT] [--from EVENT] [--to EVENT]` as well
 abbrev pub with_picture : App → App
-with_picture app = with_rule (with_rule (with_rule app (optional (codes "picture"))) (counted (codes "from"))) (counted (codes "to"))
+with_picture app =
+    with_rule (with_rule (with_rule app (optional (codes "picture"))) (counted (codes "from")))
+    (counted (codes "to"))
 
 -- `steps [--explain ACTION] [--store DIR] [--reopen] SETUP FILE`, and a picture
 abbrev pub steps_app : App
 steps_app = with_picture
-    (with_rule (with_rule (with_rule (with_rule (with_rule (new_app (codes "steps")) (needed (codes "SETUP"))) (needed (codes "FILE")))
+    (with_rule (with_rule (with_rule (with_rule
+    (with_rule (new_app (codes "steps")) (needed (codes "SETUP"))) (needed (codes "FILE")))
     (optional (codes "explain"))) (optional (codes "store"))) (flag (codes "reopen")))
 
 -- `check SCRIPT`
@@ -48,20 +51,26 @@ check_app = with_rule (new_app (codes "check")) (needed (codes "SCRIPT"))
 
 -- `run [--serial] [--store DIR] [--trace OUT] [--seconds N] SCRIPT`
 abbrev pub run_app : App
-run_app = with_rule (with_rule (with_rule (with_rule (with_rule (new_app (codes "run")) (needed (codes "SCRIPT"))) (flag (codes "serial")))
+run_app = with_rule
+    (with_rule (with_rule (with_rule (with_rule (new_app (codes "run")) (needed (codes "SCRIPT")))
+    (flag (codes "serial")))
     (optional (codes "store"))) (optional (codes "trace"))) (optional (codes "seconds"))
 
 -- `trace [--explain ACTION] FILE`, and a picture
 abbrev pub trace_app : App
-trace_app = with_picture (with_rule (with_rule (new_app (codes "trace")) (needed (codes "FILE"))) (optional (codes "explain")))
+trace_app = with_picture (with_rule (with_rule (new_app (codes "trace")) (needed (codes "FILE")))
+    (optional (codes "explain")))
 
 -- `argus`, which has a version, whose words come without its own name, and which shows help where there are none
 abbrev pub bare_app : App
 bare_app =
-    on_top (λ s. record s { has_version = true; no_binary_name = true; arg_required_else_help = true; subcommand_required = true }) (new_app (codes "argus"))
+    on_top (λ s.
+    record s { has_version = true; no_binary_name = true; arg_required_else_help = true; subcommand_required = true })
+    (new_app (codes "argus"))
 
 abbrev pub argus_app : App
-argus_app = with_subcommand (with_subcommand (with_subcommand (with_subcommand bare_app steps_app.top) check_app.top) run_app.top) trace_app.top
+argus_app = with_subcommand (with_subcommand (with_subcommand
+    (with_subcommand bare_app steps_app.top) check_app.top) run_app.top) trace_app.top
 
 -- the flag is set where its value is `true`
 abbrev pub IsFlag : Text → List Row → Bool → Type 0
@@ -70,7 +79,8 @@ IsFlag id rows is_set = IsTrue is_set ↔ (one_of id rows ≡ Some (codes "true"
 -- the number is what the text under the id parses to, if there is one
 pub record IsNumber (id : Text) (rows : List Row) (given : Option ℕ) : Type 0 where
   pub none : one_of id rows ≡ None → given ≡ None
-  pub value : (text : Text) → one_of id rows ≡ Some text → ReadsOne (λ (bs : Text) (r : Result ℕ ParseIntError). ParsesUnsigned 64 10 bs r) text given
+  pub value : (text : Text) → one_of id rows ≡ Some text
+      → ReadsOne (λ (bs : Text) (r : Result ℕ ParseIntError). ParsesUnsigned 64 10 bs r) text given
 
 pub record IsPictureGiven (rows : List Row) (given : Picture) : Type 0 where
   pub file : first_of (codes "picture") rows ≡ option_map (λ word. word.now) given.file
@@ -103,10 +113,14 @@ pub record IsTraceGiven (rows : List Row) (given : Trace) : Type 0 where
 
 -- the command is the subcommand that was found, with what it is given
 abbrev pub IsFound : Option (Text × List Row) → Command → Type 0
-IsFound found (command.Steps given) = (rows : List Row) × (found ≡ Some (codes "steps", rows)) × IsStepsGiven rows given
-IsFound found (command.Check given) = (rows : List Row) × (found ≡ Some (codes "check", rows)) × IsCheckGiven rows given
-IsFound found (command.Run given) = (rows : List Row) × (found ≡ Some (codes "run", rows)) × IsRunGiven rows given
-IsFound found (command.Trace given) = (rows : List Row) × (found ≡ Some (codes "trace", rows)) × IsTraceGiven rows given
+IsFound found (command.Steps given) = (rows : List Row) × (found ≡ Some (codes "steps", rows))
+    × IsStepsGiven rows given
+IsFound found (command.Check given) = (rows : List Row) × (found ≡ Some (codes "check", rows))
+    × IsCheckGiven rows given
+IsFound found (command.Run given) = (rows : List Row) × (found ≡ Some (codes "run", rows))
+    × IsRunGiven rows given
+IsFound found (command.Trace given) = (rows : List Row) × (found ≡ Some (codes "trace", rows))
+    × IsTraceGiven rows given
 
 -- the words are this command
 abbrev pub IsCommand : List Text → Command → Type 0

@@ -40,7 +40,8 @@ pub fn command<'a>(
 /// The command of what clap found.
 fn taken<'a>(matches: &ArgMatches<'a>) -> Option<request::Command<'a>>
     ensures found { IfSome result (IsFound (subcommand_rows_of matches.now)) }
-    ensures none { IsNone result → (command : Command) → IsFound (subcommand_rows_of matches.now) command → ⊥ }
+    ensures none { IsNone result → (command : Command)
+        → IsFound (subcommand_rows_of matches.now) command → ⊥ }
 {
     match matches.subcommand() {
         Some(("steps", found)) => Some(request::Command::Steps(steps_given(found)?)),
@@ -54,7 +55,8 @@ fn taken<'a>(matches: &ArgMatches<'a>) -> Option<request::Command<'a>>
 #[tactic(auto, using(crate::proofs::Finding::word_is, crate::proofs::Finding::no_word, crate::proofs::Finding::no_setup, crate::proofs::Finding::no_file))]
 fn steps_given<'a>(found: &ArgMatches<'a>) -> Option<request::Steps<'a>>
     ensures found { IfSome result (IsStepsGiven (rows_of (found_of found.now))) }
-    ensures none { IsNone result → (given : Steps) → IsStepsGiven (rows_of (found_of found.now)) given → ⊥ }
+    ensures none { IsNone result → (given : Steps)
+        → IsStepsGiven (rows_of (found_of found.now)) given → ⊥ }
 {
     Some(request::Steps {
         setup: found.get_str("SETUP")?,
@@ -69,7 +71,8 @@ fn steps_given<'a>(found: &ArgMatches<'a>) -> Option<request::Steps<'a>>
 #[tactic(auto, using(crate::proofs::Finding::word_is, crate::proofs::Finding::no_word, crate::proofs::Finding::no_script_to_check))]
 fn check_given<'a>(found: &ArgMatches<'a>) -> Option<request::Check<'a>>
     ensures found { IfSome result (IsCheckGiven (rows_of (found_of found.now))) }
-    ensures none { IsNone result → (given : Check) → IsCheckGiven (rows_of (found_of found.now)) given → ⊥ }
+    ensures none { IsNone result → (given : Check)
+        → IsCheckGiven (rows_of (found_of found.now)) given → ⊥ }
 {
     Some(request::Check {
         script: found.get_str("SCRIPT")?,
@@ -79,7 +82,8 @@ fn check_given<'a>(found: &ArgMatches<'a>) -> Option<request::Check<'a>>
 #[tactic(auto, using(crate::proofs::Finding::word_is, crate::proofs::Finding::no_word, crate::proofs::Finding::no_script_to_run))]
 fn run_given<'a>(found: &ArgMatches<'a>) -> Option<request::Run<'a>>
     ensures found { IfSome result (IsRunGiven (rows_of (found_of found.now))) }
-    ensures none { IsNone result → (given : Run) → IsRunGiven (rows_of (found_of found.now)) given → ⊥ }
+    ensures none { IsNone result → (given : Run)
+        → IsRunGiven (rows_of (found_of found.now)) given → ⊥ }
 {
     Some(request::Run {
         script: found.get_str("SCRIPT")?,
@@ -93,7 +97,8 @@ fn run_given<'a>(found: &ArgMatches<'a>) -> Option<request::Run<'a>>
 #[tactic(auto, using(crate::proofs::Finding::word_is, crate::proofs::Finding::no_word, crate::proofs::Finding::no_trace))]
 fn trace_given<'a>(found: &ArgMatches<'a>) -> Option<request::Trace<'a>>
     ensures found { IfSome result (IsTraceGiven (rows_of (found_of found.now))) }
-    ensures none { IsNone result → (given : Trace) → IsTraceGiven (rows_of (found_of found.now)) given → ⊥ }
+    ensures none { IsNone result → (given : Trace)
+        → IsTraceGiven (rows_of (found_of found.now)) given → ⊥ }
 {
     let file = found.get_str("FILE")?;
     let explain = found.get_str("explain");

@@ -15,7 +15,10 @@ bound_at xs (Some place) x = if place == length xs then xs ++ x ∷ [] else slic
 -- the variables after the reply was bound; none where it is of another kind than the binding asks
 abbrev pub bound_after : Bound → Binding → Reply → Option Bound
 bound_after b binding.Nothing reply.Done = Some b
-bound_after b (binding.Int place) (reply.Gives (value.Int n)) = Some (record b { ints = bound_at b.ints place n })
-bound_after b (binding.Text place) (reply.Gives (value.Text s)) = Some (record b { texts = bound_at b.texts place s })
-bound_after b (binding.Truth place) (reply.Truth t) = Some (record b { truths = bound_at b.truths place t })
+bound_after b (binding.Int place) (reply.Gives (value.Int n)) =
+    Some (record b { ints = bound_at b.ints place n })
+bound_after b (binding.Text place) (reply.Gives (value.Text s)) =
+    Some (record b { texts = bound_at b.texts place s })
+bound_after b (binding.Truth place) (reply.Truth t) =
+    Some (record b { truths = bound_at b.truths place t })
 bound_after b _ _ = None

@@ -18,4 +18,5 @@ sizes b = record { ints = length b.ints; texts = length b.texts; truths = length
 
 -- what is left once all is forgotten that was bound after there were so many
 abbrev pub cut_back : resolved.Frames → Bound → Bound
-cut_back n b = record { ints = take n.ints b.ints; texts = take n.texts b.texts; truths = take n.truths b.truths }
+cut_back n b =
+    record { ints = take n.ints b.ints; texts = take n.texts b.texts; truths = take n.truths b.truths }

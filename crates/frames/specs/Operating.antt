@@ -12,7 +12,8 @@ use Rattle.frames.specs.Bound.{Bound}
 use Rattle.frames.specs.Evaluating.{int_value, text_value, together, value_of}
 
 -- an operation's arguments with the values of their expressions; none where one of them has no value
-abbrev pub arguments_by : Bound → Arguments (List ℕ) IntExpr Expr → Option (Arguments (List ℕ) ℤ Value)
+abbrev pub arguments_by : Bound → Arguments (List ℕ) IntExpr Expr
+    → Option (Arguments (List ℕ) ℤ Value)
 arguments_by b with.Nothing = Some with.Nothing
 arguments_by b (with.Word w) = Some (with.Word w)
 arguments_by b (with.WordValue w e) = option_map (with.WordValue w) (value_of b e)
@@ -32,5 +33,5 @@ each f (x ∷ xs) = together ◌∷◌ (f x) (each f xs)
 -- the variables with which a handler's body begins: the ints and the texts that the call gives, in order, and no truths
 abbrev pub given : Bound → HandlerCall → Option Bound
 given b call =
-    together (λ ints texts. record { ints = ints; texts = texts; truths = [] }) (each (int_value b.ints) call.ints)
-    (each (text_value b.texts) call.texts)
+    together (λ ints texts. record { ints = ints; texts = texts; truths = [] })
+    (each (int_value b.ints) call.ints) (each (text_value b.texts) call.texts)

@@ -26,7 +26,8 @@ impl Model for Frames {
 
     ghost Value = { Bound };
 
-    ghost view = { λ a. record { ints = a.ints.items; texts = a.texts.items; truths = a.truths.items } };
+    ghost view = { λ a.
+        record { ints = a.ints.items; texts = a.texts.items; truths = a.truths.items } };
 }
 
 /// How many variables of each kind are bound.
@@ -133,10 +134,13 @@ impl Frames {
         }
     }
 
-    /// The frames with which the handler's body begins; none where a sum or a difference is out of 64 bits. Fails only if memory runs out.
+    /// The frames with which the handler's body begins; none where a sum or a difference is out of 64 bits. Fails
+    /// only if memory runs out.
     pub fn arguments(&self, alloc: Global, call: &HandlerCall) -> Result<Option<Frames>, AllocError>
-        requires ints { IsTrue (list_all (λ e. int_is_bound (sizes self.now).ints e) call.now.ints) }
-        requires texts { IsTrue (list_all (λ e. text_is_bound (sizes self.now).texts e) call.now.texts) }
+        requires ints { IsTrue
+            (list_all (λ e. int_is_bound (sizes self.now).ints e) call.now.ints) }
+        requires texts { IsTrue
+            (list_all (λ e. text_is_bound (sizes self.now).texts e) call.now.texts) }
         ensures { IfOk result (λ found. found ≡ given self.now call.now) }
     {
         let Some(ints) = int_values(alloc, &self.ints, call.ints.as_slice())? else {
@@ -149,12 +153,14 @@ impl Frames {
         }))
     }
 
-    /// Binds a reply, and says whether it is of the kind that the binding asks; one of another kind binds nothing. Fails only if memory
-    /// runs out, and then binds nothing either.
+    /// Binds a reply, and says whether it is of the kind that the binding asks; one of another kind binds nothing.
+    /// Fails only if memory runs out, and then binds nothing either.
     pub fn bind(&mut self, binding: Binding, reply: Reply) -> Result<bool, AllocError>
         requires { IsTrue (binding_is_bound (sizes self.old) binding) }
-        ensures fits { IfOk result (λ fits. IsTrue fits → bound_after self.old binding reply ≡ Some self.new) }
-        ensures unfit { IfOk result (λ fits. fits ≡ false → bound_after self.old binding reply ≡ None) }
+        ensures fits { IfOk result
+            (λ fits. IsTrue fits → bound_after self.old binding reply ≡ Some self.new) }
+        ensures unfit { IfOk result
+            (λ fits. fits ≡ false → bound_after self.old binding reply ≡ None) }
         ensures kept { IfOk result (λ fits. fits ≡ false → self.new ≡ self.old) }
         ensures err { OnErr result (self.new ≡ self.old) }
     {
@@ -173,8 +179,8 @@ impl Frames {
     }
 }
 
-/// Puts a value at a place of a frame, if there is a place: that of a bound variable, or the one after the last. Fails only if memory
-/// runs out, and then leaves the frame as it was.
+/// Puts a value at a place of a frame, if there is a place: that of a bound variable, or the one after the last.
+/// Fails only if memory runs out, and then leaves the frame as it was.
 fn put<T: Drop>(frame: &mut Vec<T>, place: Option<u32>, value: T) -> Result<(), AllocError>
     requires { IsTrue (is_place (length frame.old.items) place) }
     ensures ok { OnOk result (frame.new.items ≡ bound_at frame.old.items place value) }

@@ -12,7 +12,8 @@ use std::alloc::AllocError;
 use values::{Identifier, Value};
 
 impl Frames {
-    /// The operation with its arguments computed; none where a sum or a difference is out of 64 bits. Fails only if memory runs out.
+    /// The operation with its arguments computed; none where a sum or a difference is out of 64 bits. Fails only if
+    /// memory runs out.
     pub fn operation(&self, operation: &Operation) -> Result<Option<Op>, AllocError>
         requires { IsTrue (operation_is_bound (sizes self.now) operation.now) }
         ensures { IfOk result (λ found. found ≡ op_of self.now operation.now) }
@@ -29,7 +30,8 @@ impl Frames {
         operation: &Operation,
     ) -> Result<Option<Arguments<Identifier, i64, Value>>, AllocError>
         requires { IsTrue (operation_is_bound (sizes self.now) operation.now) }
-        ensures { IfOk result (λ found. found ≡ arguments_by self.now (arguments_of operation.now)) }
+        ensures { IfOk result
+            (λ found. found ≡ arguments_by self.now (arguments_of operation.now)) }
     {
         match operation.arguments() {
             Arguments::Nothing => Ok(Some(Arguments::Nothing)),
@@ -54,7 +56,8 @@ impl Frames {
     ) -> Result<Option<Arguments<Identifier, i64, Value>>, AllocError>
         requires index { IsTrue (int_is_bound (sizes self.now).ints index.now) }
         requires value { IsTrue (expr_is_bound (sizes self.now) expr.now) }
-        ensures { IfOk result (λ found. found ≡ arguments_by self.now (IndexValue index.now expr.now)) }
+        ensures { IfOk result
+            (λ found. found ≡ arguments_by self.now (IndexValue index.now expr.now)) }
     {
         let Some(index) = self.int(index) else {
             return Ok(None);

@@ -22,8 +22,8 @@ pub record InParts (S : Type 0) : Type 0 where
   pub plan : Plan
   pub store : S
 
--- The guardian stands in this state: its memory does, its store is that of this history, and each reply, own vote and count of the history is the one of
--- the events before it.
+-- The guardian stands in this state: its memory does, its store is that of this history, and each reply, own vote and
+-- count of the history is the one of the events before it.
 pub record IsWhole {S : Type 0} (seen : S → View) (g : InParts S) (s : GuardianState) : Type 0 where
   pub memory : IsSound g.memory s
   pub store : IsStoreOf s (seen g.store)
@@ -35,11 +35,14 @@ IsWholeOfSome seen g = (s : GuardianState) × IsWhole seen g s
 
 -- the plan is for this event, in some state in which memory and store stand
 abbrev pub IsPlannedHere : {S : Type 0} → (S → View) → InParts S → Event → Type 0
-IsPlannedHere seen g e = (s : GuardianState) × (news : News) × IsWhole seen g s × IsPlanOf g.plan g.memory s news × (news.event ≡ e)
+IsPlannedHere seen g e = (s : GuardianState) × (news : News) × IsWhole seen g s
+    × IsPlanOf g.plan g.memory s news × (news.event ≡ e)
 
 -- of each such state and what the plan is for there
-abbrev pub WhereverPlanned : {S : Type 0} → (S → View) → InParts S → Event → (GuardianState → News → Type 0) → Type 0
-WhereverPlanned seen g e holds = (s : GuardianState) (news : News) → IsWhole seen g s → IsPlanOf g.plan g.memory s news → news.event ≡ e → holds s news
+abbrev pub WhereverPlanned : {S : Type 0} → (S → View) → InParts S → Event
+    → (GuardianState → News → Type 0) → Type 0
+WhereverPlanned seen g e holds = (s : GuardianState) (news : News) → IsWhole seen g s
+    → IsPlanOf g.plan g.memory s news → news.event ≡ e → holds s news
 
 -- a crash finds in the store what the history says
 abbrev pub IsRecordedAt : Step → Stored → GuardianState → Type 0

@@ -29,7 +29,8 @@ written Recover s = after_bump s
 -- of a top action with a record, whose outcome is told
 abbrev pub told_stored : Name → Bool → Stored → Stored
 told_stored a committed s =
-    if has_record s a then (if committed then after_install (last_of a) s else after_discard (last_of a) s) else s
+    if has_record s a
+    then (if committed then after_install (last_of a) s else after_discard (last_of a) s) else s
 
 -- the top action has a record in what is kept, if anything is
 abbrev pub is_recorded : Option Kept → Name → Bool

@@ -120,10 +120,12 @@ fn keep<S: Stable>(
     stamp: u64,
 )
     requires fits { FitsPlan plan.old memory.old }
-    requires planned { IsPlannedWhere (IsRecordedAt event.now.step (S.seen store.now).content) plan.old memory.old event.now }
+    requires planned { IsPlannedWhere (IsRecordedAt event.now.step (S.seen store.now).content)
+        plan.old memory.old event.now }
     requires other { IsFalse (is_operation event.now.step) }
     requires found { (S.seen store.now).holds_content ≡ true }
-    ensures { FollowsWhere (IsRecordedAt event.now.step (S.seen store.now).content) plan.old memory.old event.now stamp memory.new }
+    ensures { FollowsWhere (IsRecordedAt event.now.step (S.seen store.now).content) plan.old
+        memory.old event.now stamp memory.new }
 {
     match event.step {
         Step::Crash(_) => memory.crash(plan, event, stamp, &recorded_in(store)),
@@ -139,8 +141,10 @@ fn write<S: Stable>(
     store: &mut S,
     event: &EventRef<'_>,
 ) -> Result<(), Fault>
-    requires { IsPlannedHere S.seen (record { memory = memory.now; plan = plan.now; store = store.old }) event.now }
-    ensures leaves { WhereverPlanned S.seen (record { memory = memory.now; plan = plan.now; store = store.old }) event.now
+    requires { IsPlannedHere S.seen
+        (record { memory = memory.now; plan = plan.now; store = store.old }) event.now }
+    ensures leaves { WhereverPlanned S.seen
+        (record { memory = memory.now; plan = plan.now; store = store.old }) event.now
         (λ s news. LeavesStore s news (S.seen store.old) (S.seen store.new) (fault_in result)) }
     ensures cause { IsErrOf result Stable → CountsFailure (S.seen store.old) (S.seen store.new) }
 {

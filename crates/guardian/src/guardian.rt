@@ -37,16 +37,19 @@ impl<S: Stable> Model for Guardian<S> {
 
     ghost Value = { InParts S };
 
-    ghost coded = { Prim.hlevel (codes, of_tellings.the_row.coded, of_lists.the_row.coded, of_roster.the_row.coded, of_plan.the_row.coded) };
+    ghost coded = { Prim.hlevel
+        (codes, of_tellings.the_row.coded, of_lists.the_row.coded, of_roster.the_row.coded, of_plan.the_row.coded) };
 
     ghost view = { λ a. record { memory = a.memory; plan = a.plan; store = a.store } };
 
-    ghost invariant = { λ a. IsWholeOfSome S.seen (record { memory = a.memory; plan = a.plan; store = a.store }) };
+    ghost invariant = { λ a.
+        IsWholeOfSome S.seen (record { memory = a.memory; plan = a.plan; store = a.store }) };
 }
 
 impl<S: Stable> Guardian<S> {
-    /// The guardian of this number, to which nothing has happened since the opening. Its store holds what the opening says that it held, and nothing is
-    /// prepared there. Fails only if memory runs out, and then gives the store back.
+    /// The guardian of this number, to which nothing has happened since the opening. Its store holds what the opening
+    /// says that it held, and nothing is prepared there. Fails only if memory runs out, and then gives the store
+    /// back.
     pub fn new(
         alloc: Global,
         opening: Arc<Opening, Global>,
@@ -56,8 +59,10 @@ impl<S: Stable> Guardian<S> {
         requires number { 1 ≤ number }
         requires found { (S.seen store).holds_content ≡ true }
         requires rests { Rests (S.seen store) }
-        requires settled { IsSettled (opening_in (arc_value opening)) number (S.seen store).content }
-        ensures state { IfOk result (λ guardian. IsWhole S.seen guardian (record { opening = opening_in (arc_value opening); number = number; past = [] })) }
+        requires settled { IsSettled (opening_in (arc_value opening)) number
+            (S.seen store).content }
+        ensures state { IfOk result (λ guardian. IsWhole S.seen guardian
+            (record { opening = opening_in (arc_value opening); number = number; past = [] })) }
         ensures store { IfOk result (λ guardian. guardian.store ≡ store) }
         ensures back { IfErr result (λ refused. refused.1 ≡ store) }
     {
@@ -69,10 +74,12 @@ impl<S: Stable> Guardian<S> {
 
     /// The same, where the memory of the guardian is there. This takes no memory.
     pub fn over(alloc: Global, memory: Memory, store: S) -> Guardian<S>
-        requires first { (s : GuardianState) × IsSound memory s × (s.past ≡ []) × IsSettled s.opening s.number (S.seen store).content }
+        requires first { (s : GuardianState) × IsSound memory s × (s.past ≡ [])
+            × IsSettled s.opening s.number (S.seen store).content }
         requires found { (S.seen store).holds_content ≡ true }
         requires rests { Rests (S.seen store) }
-        ensures state { (s : GuardianState) → IsSound memory s → s.past ≡ [] → IsSettled s.opening s.number (S.seen store).content → IsWhole S.seen result s }
+        ensures state { (s : GuardianState) → IsSound memory s → s.past ≡ []
+            → IsSettled s.opening s.number (S.seen store).content → IsWhole S.seen result s }
         ensures store { result.store ≡ store }
     {
         Guardian {
@@ -93,9 +100,10 @@ impl<S: Stable> Guardian<S> {
     /// What belongs to the base of the object of this number; none where there is no such object. This takes no memory.
     pub fn base(&self, number: u32) -> Option<View<'_, Content>>
         ensures base { (s : GuardianState) → IsWhole S.seen self.now s → IfSome result (λ base. base
-            ≡ base_by (first_content s.opening (own_object s number)) (standing_here s.past (own_object s number))) }
-        ensures none { (s : GuardianState) → IsWhole S.seen self.now s → IsNone result → (1 ≤ number)
-            → (number ≤ length (objects_at s.opening.setup s.number)) → ⊥ }
+            ≡ base_by (first_content s.opening (own_object s number))
+            (standing_here s.past (own_object s number))) }
+        ensures none { (s : GuardianState) → IsWhole S.seen self.now s → IsNone result
+            → (1 ≤ number) → (number ≤ length (objects_at s.opening.setup s.number)) → ⊥ }
     {
         self.memory.base(number)
     }

@@ -32,7 +32,8 @@ impl<'a> Survivors for Records<'a> {
 /// Those of this store, which has a content.
 pub(crate) fn recorded_in<S: Stable>(store: &S) -> Records<'_>
     requires found { (S.seen store.now).holds_content ≡ true }
-    ensures { (a : Name) → is_recorded (option_map (λ kept. kept.now) result.kept) a ≡ has_record (S.seen store.now).content a }
+    ensures { (a : Name) → is_recorded (option_map (λ kept. kept.now) result.kept) a
+        ≡ has_record (S.seen store.now).content a }
 {
     Records { kept: store.kept() }
 }

@@ -46,11 +46,16 @@ impl Write {
         store: &S,
         event: &EventRef<'_>,
     ) -> Result<Write, AllocError>
-        requires { IsPlannedHere S.seen (record { memory = memory.now; plan = plan.now; store = store.now }) event.now }
-        ensures written { WhereverPlanned S.seen (record { memory = memory.now; plan = plan.now; store = store.now }) event.now (λ s news. IfOk result (λ write.
-            written write (S.seen store.now).content ≡ after_event s.opening s.number (stamped 0 news) s.past (S.seen store.now).content)) }
-        ensures asked { WhereverPlanned S.seen (record { memory = memory.now; plan = plan.now; store = store.now }) event.now (λ s news. IfOk result (λ write.
-            is_nothing write ≡ not (asks_store s.number (stamped 0 news) (S.seen store.now).content))) }
+        requires { IsPlannedHere S.seen
+            (record { memory = memory.now; plan = plan.now; store = store.now }) event.now }
+        ensures written { WhereverPlanned S.seen
+            (record { memory = memory.now; plan = plan.now; store = store.now }) event.now
+            (λ s news. IfOk result (λ write. written write (S.seen store.now).content
+            ≡ after_event s.opening s.number (stamped 0 news) s.past (S.seen store.now).content)) }
+        ensures asked { WhereverPlanned S.seen
+            (record { memory = memory.now; plan = plan.now; store = store.now }) event.now
+            (λ s news. IfOk result (λ write. is_nothing write
+            ≡ not (asks_store s.number (stamped 0 news) (S.seen store.now).content))) }
     {
         let number = memory.number();
         match event.step {
@@ -73,10 +78,13 @@ impl Write {
         answer: &Answer,
         top: &Name,
     ) -> Result<Write, AllocError>
-        requires { (s : GuardianState) × (news : News) × IsSound memory.now s × IsPlanOf plan.now memory.now s news }
-        ensures written { (s : GuardianState) (news : News) → IsSound memory.now s → IsPlanOf plan.now memory.now s news
-            → news.event ≡ record { step = steps.Prepare s.number top.now; answer = answer.now } → (held : Stored)
-            → IfOk result (λ write. written write held ≡ after_event s.opening s.number (stamped 0 news) s.past held) }
+        requires { (s : GuardianState) × (news : News) × IsSound memory.now s
+            × IsPlanOf plan.now memory.now s news }
+        ensures written { (s : GuardianState) (news : News) → IsSound memory.now s
+            → IsPlanOf plan.now memory.now s news
+            → news.event ≡ record { step = steps.Prepare s.number top.now; answer = answer.now }
+            → (held : Stored) → IfOk result (λ write. written write held
+            ≡ after_event s.opening s.number (stamped 0 news) s.past held) }
         ensures asked { IfOk result (λ write. is_nothing write ≡ not (is_yes answer.now)) }
     {
         match answer {
@@ -93,7 +101,9 @@ impl Write {
     fn of_telling<S: Stable>(store: &S, plan: &Plan, action: &Name) -> Write
         requires found { (S.seen store.now).holds_content ≡ true }
         ensures written { written result (S.seen store.now).content
-            ≡ told_stored action.now (says_committed (outcome_in plan.now.outcomes.items action.now)) (S.seen store.now).content }
+            ≡ told_stored action.now
+            (says_committed (outcome_in plan.now.outcomes.items action.now))
+            (S.seen store.now).content }
         ensures asked { is_nothing result ≡ not (has_record (S.seen store.now).content action.now) }
     {
         if !recorded_in(store).stays(action) {
@@ -109,7 +119,8 @@ impl Write {
     /// Makes the call of the store, if there is one. It makes its whole change or none.
     pub(crate) fn perform<S: Stable>(self, alloc: Global, store: &mut S) -> Result<(), StoreFault>
         ensures none { IsTrue (is_nothing self) → (store.new ≡ store.old) × IsOk result }
-        ensures makes { IsFalse (is_nothing self) → Makes (S.seen store.old) (S.seen store.new) (Unit {0}) (written self (S.seen store.old).content) result }
+        ensures makes { IsFalse (is_nothing self) → Makes (S.seen store.old) (S.seen store.new)
+            (Unit {0}) (written self (S.seen store.old).content) result }
     {
         match self {
             Write::Nothing => Ok(()),
@@ -124,7 +135,8 @@ impl Write {
 
 // Reads the content, and then counts the recovery.
 fn recover<S: Stable>(alloc: Global, store: &mut S) -> Result<(), StoreFault>
-    ensures { Makes (S.seen store.old) (S.seen store.new) (Unit {0}) (after_bump (S.seen store.old).content) result }
+    ensures { Makes (S.seen store.old) (S.seen store.new) (Unit {0})
+        (after_bump (S.seen store.old).content) result }
 {
     match store.load(alloc) {
         Ok(content) => {

@@ -55,10 +55,11 @@ impl FewRows {
         }
     }
 
-    /// At which objects the action and its descendants hold something, rising, each once. It looks at their rows and one more. Fails only if memory
-    /// runs out.
+    /// At which objects the action and its descendants hold something, rising, each once. It looks at their rows and
+    /// one more. Fails only if memory runs out.
     pub fn objects_below(&self, action: &Name) -> Result<Vec<u32>, AllocError>
-        ensures objects { IfOk result (λ objects. (n : ℕ) → IsTrue (has_number objects.items n) ↔ HoldsBelow self.now action.now n) }
+        ensures objects { IfOk result (λ objects. (n : ℕ)
+            → IsTrue (has_number objects.items n) ↔ HoldsBelow self.now action.now n) }
         ensures rising { IfOk result (λ objects. IsRising objects.items) }
     {
         let mut below = Vec::new(self.alloc);
@@ -69,11 +70,13 @@ impl FewRows {
         Ok(below)
     }
 
-    /// Whether the answer is yes of the action and of each descendant that holds something. It looks at their rows and one more. Fails only if memory
-    /// runs out.
+    /// Whether the answer is yes of the action and of each descendant that holds something. It looks at their rows
+    /// and one more. Fails only if memory runs out.
     pub fn all_below<A: Asking>(&self, action: &Name, question: &A) -> Result<bool, AllocError>
-        ensures all { IfOk result (λ yes. IsTrue yes → (b : Name) → HoldsSomethingBelow self.now action.now b → A.answers question.now b true) }
-        ensures one { IfOk result (λ yes. IsFalse yes → (b : Name) × HoldsSomethingBelow self.now action.now b × A.answers question.now b false) }
+        ensures all { IfOk result (λ yes. IsTrue yes → (b : Name)
+            → HoldsSomethingBelow self.now action.now b → A.answers question.now b true) }
+        ensures one { IfOk result (λ yes. IsFalse yes → (b : Name)
+            × HoldsSomethingBelow self.now action.now b × A.answers question.now b false) }
     {
         for (holder, objects) in by_name::below(&self.rows, action) {
             if !objects.is_empty() && !question.asks(holder)? {
@@ -83,8 +86,8 @@ impl FewRows {
         Ok(true)
     }
 
-    /// The objects at which somebody holds something: a row for each holder, so that an object at which several do comes once for each. This takes no
-    /// memory.
+    /// The objects at which somebody holds something: a row for each holder, so that an object at which several do
+    /// comes once for each. This takes no memory.
     pub fn rows(&self) -> &[(Name, Vec<u32>)]
         ensures { (n : ℕ) → IsTrue (is_in_row (values_of result.now) n) ↔ IsHeld self.now n }
     {
@@ -105,10 +108,12 @@ impl FewRows {
         by_name::find(&self.rows, holder).is_some()
     }
 
-    /// Makes room for so many more objects of the holder. What is held stays, and so does all room. If memory runs out, nothing is changed.
+    /// Makes room for so many more objects of the holder. What is held stays, and so does all room. If memory runs
+    /// out, nothing is changed.
     pub fn reserve(&mut self, holder: &Name, additional: usize) -> Result<(), AllocError>
         ensures held { (b : Name) → objects_at self.new b ≡ objects_at self.old b }
-        ensures room { OnOk result (length (objects_at self.old holder.now) + additional ≤ room_at self.new holder.now) }
+        ensures room { OnOk result
+            (length (objects_at self.old holder.now) + additional ≤ room_at self.new holder.now) }
         ensures others { (b : Name) → room_at self.old b ≤ room_at self.new b }
         ensures below { (b : Name) → count_below self.new b ≡ count_below self.old b }
         ensures err { OnErr result (self.new ≡ self.old) }
@@ -123,10 +128,12 @@ impl FewRows {
         }
     }
 
-    /// Notes that the holder holds something at the object, for which there is room, or where it was noted before. This takes no memory.
+    /// Notes that the holder holds something at the object, for which there is room, or where it was noted before.
+    /// This takes no memory.
     pub fn insert(&mut self, holder: &Name, object: u32)
         requires { IsTrue (has_object self.old holder.now object || has_room self.old holder.now) }
-        ensures held { (b : Name) (n : ℕ) → has_object self.new b n ≡ ((same_name holder.now b && (object == n)) || has_object self.old b n) }
+        ensures held { (b : Name) (n : ℕ) → has_object self.new b n
+            ≡ ((same_name holder.now b && (object == n)) || has_object self.old b n) }
         ensures room { (b : Name) → room_at self.new b ≡ room_at self.old b }
     {
         if let Ok(at) = by_name::place(&self.rows, holder) {
@@ -134,7 +141,8 @@ impl FewRows {
         }
     }
 
-    /// How many objects the action and its descendants have, each as often as one of them has it, if a number holds that.
+    /// How many objects the action and its descendants have, each as often as one of them has it, if a number holds
+    /// that.
     pub fn count_below(&self, action: &Name) -> Option<usize>
         ensures { IfSome result (λ count. count ≡ count_below self.now action.now) }
     {
@@ -145,14 +153,16 @@ impl FewRows {
         Some(count)
     }
 
-    /// Hands on what the action has to a proper ancestor that has room for it, or gives it up where there is none. The action's room goes. This takes
-    /// no memory.
+    /// Hands on what the action has to a proper ancestor that has room for it, or gives it up where there is none.
+    /// The action's room goes. This takes no memory.
     pub fn hand_on(&mut self, action: &Name, to: Option<&Name>)
         requires above { IfSome (name_of to) (λ h. IsTrue (is_proper_ancestor h action.now)) }
         requires room { IfSome (name_of to) (λ h. HasRoomFrom self.old h action.now) }
         ensures held { (b : Name) (n : ℕ) → has_object self.new b n
-            ≡ (not (same_name action.now b) && (has_object self.old b n || (is_name_of (name_of to.entry) b && has_object self.old action.now n))) }
-        ensures room { (b : Name) → same_name action.now b ≡ false → HasRoomBelow self.old b → HasRoomBelow self.new b }
+            ≡ (not (same_name action.now b) && (has_object self.old b n
+            || (is_name_of (name_of to.entry) b && has_object self.old action.now n))) }
+        ensures room { (b : Name) → same_name action.now b ≡ false → HasRoomBelow self.old b
+            → HasRoomBelow self.new b }
     {
         let Some(objects) = by_name::remove(&mut self.rows, action) else {
             return;
@@ -163,17 +173,21 @@ impl FewRows {
         self.insert_all(to, &objects);
     }
 
-    /// Drops what the action and its descendants have, and their room. It looks at their rows and one more. This takes no memory.
+    /// Drops what the action and its descendants have, and their room. It looks at their rows and one more. This
+    /// takes no memory.
     pub fn drop_below(&mut self, action: &Name)
-        ensures held { (b : Name) (n : ℕ) → has_object self.new b n ≡ (not (is_ancestor action.now b) && has_object self.old b n) }
+        ensures held { (b : Name) (n : ℕ) → has_object self.new b n
+            ≡ (not (is_ancestor action.now b) && has_object self.old b n) }
         ensures room { (b : Name) → HasRoomBelow self.old b → HasRoomBelow self.new b }
     {
         by_name::drop_below(&mut self.rows, action);
     }
 
-    /// Keeps of what is noted what is held still, and drops the room of those that hold nothing. It looks at all. This takes no memory.
+    /// Keeps of what is noted what is held still, and drops the room of those that hold nothing. It looks at all.
+    /// This takes no memory.
     pub fn retain<H: Holding>(&mut self, holding: &H)
-        ensures { (b : Name) (n : ℕ) → has_object self.new b n ≡ (has_object self.old b n && H.holds holding.now b n) }
+        ensures { (b : Name) (n : ℕ)
+            → has_object self.new b n ≡ (has_object self.old b n && H.holds holding.now b n) }
     {
         self.rows
             .retain_mut(|row| retain_held(&row.0, &mut row.1, holding));
@@ -195,10 +209,13 @@ impl FewRows {
 impl FewRows {
     // Gives the holder these objects too, for which there is room.
     fn insert_all(&mut self, holder: &Name, objects: &[u32])
-        requires { length (objects_at self.old holder.now) + length objects.now ≤ room_at self.old holder.now }
-        ensures held { (b : Name) (n : ℕ) → has_object self.new b n ≡ ((same_name holder.now b && has_number objects.now n) || has_object self.old b n) }
+        requires { length (objects_at self.old holder.now) + length objects.now
+            ≤ room_at self.old holder.now }
+        ensures held { (b : Name) (n : ℕ) → has_object self.new b n
+            ≡ ((same_name holder.now b && has_number objects.now n) || has_object self.old b n) }
         ensures room { (b : Name) → room_at self.new b ≡ room_at self.old b }
-        ensures below { (b : Name) → count_below self.new b ≤ count_below self.old b + (if is_ancestor b holder.now then length objects.now else 0) }
+        ensures below { (b : Name) → count_below self.new b ≤ count_below self.old b
+            + (if is_ancestor b holder.now then length objects.now else 0) }
     {
         if let Ok(at) = by_name::place(&self.rows, holder) {
             rising::insert_all(&mut self.rows[at].1, objects);

@@ -14,7 +14,8 @@ pub trait Holding {
 
 /// Keeps the objects at which the holder holds something still, and says if there are any.
 pub(crate) fn retain_held<H: Holding>(holder: &Name, objects: &mut Vec<u32>, holding: &H) -> bool
-    ensures objects { objects.new.items ≡ filter (H.holds holding.now holder.now) objects.old.items }
+    ensures objects { objects.new.items
+        ≡ filter (H.holds holding.now holder.now) objects.old.items }
     ensures any { result ≡ false → objects.new.items ≡ [] }
 {
     objects.retain(|object| holding.holds(holder, *object));

@@ -1,4 +1,5 @@
-//! At which objects each holder holds something: in a vector while there are few holders, as nearly always, and in a tree from then on.
+//! At which objects each holder holds something: in a vector while there are few holders, as nearly always, and in a
+//! tree from then on.
 ghost use Rattle.std.specs.Prelude.{◌≡◌, ◌↔◌, ◌||◌, ◌&&◌, ◌==◌, ◌≤◌, ◌+◌, ℕ, not, true, false, [], length, IsTrue, IsFalse, IfOk, OnOk, OnErr, IfSome};
 ghost use Rattle.std.specs.Option.{option_copied as name_of};
 ghost use Rattle.action_names.specs.Names.{Name, same_name, is_ancestor, is_proper_ancestor};
@@ -67,10 +68,11 @@ impl HeldObjects {
         }
     }
 
-    /// At which objects the action and its descendants hold something, rising, each once. It looks at their rows and one more. Fails only if memory
-    /// runs out.
+    /// At which objects the action and its descendants hold something, rising, each once. It looks at their rows and
+    /// one more. Fails only if memory runs out.
     pub fn objects_below(&self, action: &Name) -> Result<Vec<u32>, AllocError>
-        ensures objects { IfOk result (λ objects. (n : ℕ) → IsTrue (has_number objects.items n) ↔ HoldsBelow self.now action.now n) }
+        ensures objects { IfOk result (λ objects. (n : ℕ)
+            → IsTrue (has_number objects.items n) ↔ HoldsBelow self.now action.now n) }
         ensures rising { IfOk result (λ objects. IsRising objects.items) }
     {
         match &self.kept {
@@ -79,11 +81,13 @@ impl HeldObjects {
         }
     }
 
-    /// Whether the answer is yes of the action and of each descendant that holds something. It looks at their rows and one more. Fails only if memory
-    /// runs out.
+    /// Whether the answer is yes of the action and of each descendant that holds something. It looks at their rows
+    /// and one more. Fails only if memory runs out.
     pub fn all_below<A: Asking>(&self, action: &Name, question: &A) -> Result<bool, AllocError>
-        ensures all { IfOk result (λ yes. IsTrue yes → (b : Name) → HoldsSomethingBelow self.now action.now b → A.answers question.now b true) }
-        ensures one { IfOk result (λ yes. IsFalse yes → (b : Name) × HoldsSomethingBelow self.now action.now b × A.answers question.now b false) }
+        ensures all { IfOk result (λ yes. IsTrue yes → (b : Name)
+            → HoldsSomethingBelow self.now action.now b → A.answers question.now b true) }
+        ensures one { IfOk result (λ yes. IsFalse yes → (b : Name)
+            × HoldsSomethingBelow self.now action.now b × A.answers question.now b false) }
     {
         match &self.kept {
             Kept::Few(few) => few.all_below(action, question),
@@ -91,8 +95,8 @@ impl HeldObjects {
         }
     }
 
-    /// The objects at which somebody holds something: a row for each holder, so that an object at which several do comes once for each. This takes no
-    /// memory.
+    /// The objects at which somebody holds something: a row for each holder, so that an object at which several do
+    /// comes once for each. This takes no memory.
     pub fn rows(&self) -> HeldRows<'_>
         ensures { (n : ℕ) → IsTrue (is_in_rows result n) ↔ IsHeld self.now n }
     {
@@ -102,7 +106,8 @@ impl HeldObjects {
         }
     }
 
-    /// Makes room for one more object of the holder. What is held stays, and so does all room. If memory runs out, nothing is changed.
+    /// Makes room for one more object of the holder. What is held stays, and so does all room. If memory runs out,
+    /// nothing is changed.
     pub fn make_room(&mut self, holder: &Name) -> Result<(), AllocError>
         ensures held { (b : Name) → objects_at self.new b ≡ objects_at self.old b }
         ensures room { OnOk result (IsTrue (has_room self.new holder.now)) }
@@ -113,10 +118,12 @@ impl HeldObjects {
         self.reserve(holder, 1)
     }
 
-    /// Makes room for so many more objects of the holder. What is held stays, and so does all room. If memory runs out, nothing is changed.
+    /// Makes room for so many more objects of the holder. What is held stays, and so does all room. If memory runs
+    /// out, nothing is changed.
     pub fn make_room_for(&mut self, holder: &Name, count: usize) -> Result<(), AllocError>
         ensures held { (b : Name) → objects_at self.new b ≡ objects_at self.old b }
-        ensures room { OnOk result (length (objects_at self.old holder.now) + count ≤ room_at self.new holder.now) }
+        ensures room { OnOk result
+            (length (objects_at self.old holder.now) + count ≤ room_at self.new holder.now) }
         ensures others { (b : Name) → room_at self.old b ≤ room_at self.new b }
         ensures below { (b : Name) → HasRoomBelow self.old b → HasRoomBelow self.new b }
         ensures err { OnErr result (self.new ≡ self.old) }
@@ -124,10 +131,12 @@ impl HeldObjects {
         self.reserve(holder, count)
     }
 
-    /// Notes that the holder holds something at the object, for which there is room, or where it was noted before. This takes no memory.
+    /// Notes that the holder holds something at the object, for which there is room, or where it was noted before.
+    /// This takes no memory.
     pub fn insert(&mut self, holder: &Name, object: u32)
         requires { IsTrue (has_object self.old holder.now object || has_room self.old holder.now) }
-        ensures held { (b : Name) (n : ℕ) → has_object self.new b n ≡ ((same_name holder.now b && (object == n)) || has_object self.old b n) }
+        ensures held { (b : Name) (n : ℕ) → has_object self.new b n
+            ≡ ((same_name holder.now b && (object == n)) || has_object self.old b n) }
         ensures room { (b : Name) → room_at self.new b ≡ room_at self.old b }
     {
         match &mut self.kept {
@@ -136,8 +145,8 @@ impl HeldObjects {
         }
     }
 
-    /// Makes room for all that the holder and its descendants have. What is held stays, and so does all room. It looks at their rows and one
-    /// more. If memory runs out, nothing is changed.
+    /// Makes room for all that the holder and its descendants have. What is held stays, and so does all room. It
+    /// looks at their rows and one more. If memory runs out, nothing is changed.
     pub fn make_room_below(&mut self, holder: &Name) -> Result<(), AllocError>
         ensures held { (b : Name) → objects_at self.new b ≡ objects_at self.old b }
         ensures room { OnOk result (HasRoomBelow self.new holder.now) }
@@ -152,14 +161,16 @@ impl HeldObjects {
         self.reserve(holder, below.saturating_sub(own))
     }
 
-    /// Hands on what the action has to a proper ancestor that has room for it, or gives it up where there is none. The action's room goes. This takes
-    /// no memory.
+    /// Hands on what the action has to a proper ancestor that has room for it, or gives it up where there is none.
+    /// The action's room goes. This takes no memory.
     pub fn hand_on(&mut self, action: &Name, to: Option<&Name>)
         requires above { IfSome (name_of to) (λ h. IsTrue (is_proper_ancestor h action.now)) }
         requires room { IfSome (name_of to) (λ h. HasRoomFrom self.old h action.now) }
         ensures held { (b : Name) (n : ℕ) → has_object self.new b n
-            ≡ (not (same_name action.now b) && (has_object self.old b n || (is_name_of (name_of to.entry) b && has_object self.old action.now n))) }
-        ensures room { (b : Name) → same_name action.now b ≡ false → HasRoomBelow self.old b → HasRoomBelow self.new b }
+            ≡ (not (same_name action.now b) && (has_object self.old b n
+            || (is_name_of (name_of to.entry) b && has_object self.old action.now n))) }
+        ensures room { (b : Name) → same_name action.now b ≡ false → HasRoomBelow self.old b
+            → HasRoomBelow self.new b }
     {
         match &mut self.kept {
             Kept::Few(few) => few.hand_on(action, to),
@@ -167,9 +178,11 @@ impl HeldObjects {
         }
     }
 
-    /// Drops what the action and its descendants have, and their room. It looks at their rows and one more. This takes no memory.
+    /// Drops what the action and its descendants have, and their room. It looks at their rows and one more. This
+    /// takes no memory.
     pub fn drop_below(&mut self, action: &Name)
-        ensures held { (b : Name) (n : ℕ) → has_object self.new b n ≡ (not (is_ancestor action.now b) && has_object self.old b n) }
+        ensures held { (b : Name) (n : ℕ) → has_object self.new b n
+            ≡ (not (is_ancestor action.now b) && has_object self.old b n) }
         ensures room { (b : Name) → HasRoomBelow self.old b → HasRoomBelow self.new b }
     {
         match &mut self.kept {
@@ -178,9 +191,11 @@ impl HeldObjects {
         }
     }
 
-    /// Keeps of what is noted what is held still, and drops the room of those that hold nothing. It looks at all. This takes no memory.
+    /// Keeps of what is noted what is held still, and drops the room of those that hold nothing. It looks at all.
+    /// This takes no memory.
     pub fn retain<H: Holding>(&mut self, holding: &H)
-        ensures { (b : Name) (n : ℕ) → has_object self.new b n ≡ (has_object self.old b n && H.holds holding.now b n) }
+        ensures { (b : Name) (n : ℕ)
+            → has_object self.new b n ≡ (has_object self.old b n && H.holds holding.now b n) }
     {
         match &mut self.kept {
             Kept::Few(few) => few.retain(holding),
@@ -193,7 +208,8 @@ impl HeldObjects {
     // Makes room for so many more objects of the holder.
     fn reserve(&mut self, holder: &Name, additional: usize) -> Result<(), AllocError>
         ensures held { (b : Name) → objects_at self.new b ≡ objects_at self.old b }
-        ensures room { OnOk result (length (objects_at self.old holder.now) + additional ≤ room_at self.new holder.now) }
+        ensures room { OnOk result
+            (length (objects_at self.old holder.now) + additional ≤ room_at self.new holder.now) }
         ensures others { (b : Name) → room_at self.old b ≤ room_at self.new b }
         ensures below { (b : Name) → count_below self.new b ≡ count_below self.old b }
         ensures err { OnErr result (self.new ≡ self.old) }
@@ -205,7 +221,8 @@ impl HeldObjects {
         }
     }
 
-    // How many objects the action and its descendants have, each as often as one of them has it, if a number holds that.
+    // How many objects the action and its descendants have, each as often as one of them has it, if a number holds
+    // that.
     fn count_below(&self, action: &Name) -> Option<usize>
         ensures { IfSome result (λ count. count ≡ count_below self.now action.now) }
     {
@@ -215,7 +232,8 @@ impl HeldObjects {
         }
     }
 
-    // Goes over to a tree where the vector has as many rows as it is to have, and none of the holder. Fails only if memory runs out.
+    // Goes over to a tree where the vector has as many rows as it is to have, and none of the holder. Fails only if
+    // memory runs out.
     fn make_tree(&mut self, holder: &Name) -> Result<(), AllocError>
         ensures { self.new ≡ self.old }
     {

@@ -30,9 +30,11 @@ pub(crate) fn copy(alloc: Global, objects: &Vec<u32>) -> Result<Vec<u32>, AllocE
 /// Puts the object into its place, if it is not there yet. There is room for it.
 pub(crate) fn insert(objects: &mut Vec<u32>, object: u32)
     requires rising { IsRising objects.old.items }
-    requires room { IsTrue (has_number objects.old.items object || nat_lt (vec_len objects.old) (vec_capacity objects.old)) }
+    requires room { IsTrue (has_number objects.old.items object
+        || nat_lt (vec_len objects.old) (vec_capacity objects.old)) }
     ensures rising { IsRising objects.new.items }
-    ensures numbers { (n : ℕ) → has_number objects.new.items n ≡ ((object == n) || has_number objects.old.items n) }
+    ensures numbers { (n : ℕ)
+        → has_number objects.new.items n ≡ ((object == n) || has_number objects.old.items n) }
     ensures len { vec_len objects.new ≤ vec_len objects.old + 1 }
     ensures capacity { vec_capacity objects.new ≡ vec_capacity objects.old }
 {
@@ -46,7 +48,8 @@ pub(crate) fn insert_all(objects: &mut Vec<u32>, others: &[u32])
     requires rising { IsRising objects.old.items }
     requires room { vec_len objects.old + length others.now ≤ vec_capacity objects.old }
     ensures rising { IsRising objects.new.items }
-    ensures numbers { (n : ℕ) → has_number objects.new.items n ≡ (has_number others.now n || has_number objects.old.items n) }
+    ensures numbers { (n : ℕ) → has_number objects.new.items n
+        ≡ (has_number others.now n || has_number objects.old.items n) }
     ensures len { vec_len objects.new ≤ vec_len objects.old + length others.now }
     ensures capacity { vec_capacity objects.new ≡ vec_capacity objects.old }
 {

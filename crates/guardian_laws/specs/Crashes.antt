@@ -18,5 +18,9 @@ is_safe opening g here (Some a) = is_some (prepared_here opening g a here)
 -- A crash would leave of an object just what was written and added and is safe.
 pub record LeavesSafe (opening : Opening) (here : List LocalEvent) (x : ObjectId) : Type 0 where
   pub kept : AllByRecursion (λ o. outlives_crash o (events_here here)
-      ≡ (not (is_read o.operation) && is_safe opening x.guardian here (holder_at (standing_here here x) o))) (standing_here here x).kept
-  pub restored : AllByRecursion (λ r. IsTrue (is_safe opening x.guardian here (holder_by (standing_here here x).told r.0))) (standing_here here x).restored
+      ≡ (not (is_read o.operation)
+      && is_safe opening x.guardian here (holder_at (standing_here here x) o)))
+      (standing_here here x).kept
+  pub restored : AllByRecursion
+      (λ r. IsTrue (is_safe opening x.guardian here (holder_by (standing_here here x).told r.0)))
+      (standing_here here x).restored

@@ -10,7 +10,8 @@ use Rattle.guardian_laws.specs.Outcomes.{AgreesOnOutcomes, AgreesOnVotes}
 use Rattle.guardian_laws.specs.Crashes.{LeavesSafe}
 
 -- The event agrees with the history of g before it.
-pub record Agrees (opening : Opening) (g : ℕ) (c : LocalEvent) (here : List LocalEvent) : Type 0 where
+pub record Agrees (opening : Opening) (g : ℕ) (c : LocalEvent)
+    (here : List LocalEvent) : Type 0 where
   pub actions : AgreesOnActions g c here
   pub outcomes : AgreesOnOutcomes c here
   pub votes : AgreesOnVotes g c
@@ -20,10 +21,11 @@ pub record Agrees (opening : Opening) (g : ℕ) (c : LocalEvent) (here : List Lo
 
 -- the event as g keeps it
 abbrev pub kept_event : Opening → Stamped → List Stamped → ℕ → LocalEvent
-kept_event opening s run g = record { stamp = s.0; event = s.1; carried = carried opening s.1 g (events_of run) (λ h. local_history opening run h) }
+kept_event opening s run g =
+    record { stamp = s.0; event = s.1; carried = carried opening s.1 g (events_of run) (λ h. local_history opening run h) }
 
 -- In a run each event of a guardian agrees with the history before it.
 abbrev pub RunsAgree : Type 0
-RunsAgree = (opening : Opening) (s : Stamped) (run : List Stamped) (g : ℕ) → IsRun opening (events_of (s ∷ run))
-    → names_guardian s.1.step (events_of run) g ≡ true
+RunsAgree = (opening : Opening) (s : Stamped) (run : List Stamped) (g : ℕ)
+    → IsRun opening (events_of (s ∷ run)) → names_guardian s.1.step (events_of run) g ≡ true
     → Agrees opening g (kept_event opening s run g) (local_history opening run g)

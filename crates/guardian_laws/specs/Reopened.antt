@@ -18,7 +18,8 @@ held_by s = record {
   next_top = s.next_top;
 }
 
--- Its records, with the names of their top actions. Nothing tells in which order these were prepared: the greatest number is taken to be the oldest.
+-- Its records, with the names of their top actions. Nothing tells in which order these were prepared: the greatest
+-- number is taken to be the oldest.
 abbrev pub records_in : Stored → List (Name × Prepared)
 records_in s = each (λ e. (e.0 ∷ [], prepared_of e.1)) (map.entries s.prepared)
 

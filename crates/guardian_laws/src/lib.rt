@@ -1,4 +1,5 @@
-//! What a guardian may rest on: in a run each event agrees with the guardian's own history, and its store follows that history.
+//! What a guardian may rest on: in a run each event agrees with the guardian's own history, and its store follows
+//! that history.
 //!
 //! Each law is the contract of a function without a body. The calls of a guardian (`layer_contracts`) ask that an event
 //! agrees; a world gives it by `runs_agree`.

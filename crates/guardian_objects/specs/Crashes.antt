@@ -13,5 +13,6 @@ HasCrashed stays k l = Survives stays (seen k) (seen l)
 -- each at which somebody holds something has crashed, and the others are as they were
 pub record HaveCrashed (stays : Name → Bool) (held : Rows) (old new : List Kept) : Type 0 where
   pub count : length new ≡ length old
-  pub crashed : (n : ℕ) (k l : Kept) → IsHeld held n → object_at old n ≡ Some k → object_at new n ≡ Some l → HasCrashed stays k l
+  pub crashed : (n : ℕ) (k l : Kept) → IsHeld held n → object_at old n ≡ Some k
+      → object_at new n ≡ Some l → HasCrashed stays k l
   pub others : (n : ℕ) → ¬ IsHeld held n → object_at new n ≡ object_at old n

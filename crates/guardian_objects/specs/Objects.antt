@@ -31,8 +31,8 @@ abbrev pub object_at : List Kept → ℕ → Option Kept
 object_at objects zero = None
 object_at objects (suc n) = slice_get objects n
 
--- the action, or where that is asked a descendant of it, holds something of the object; the first is what a telling of its commit concerns, the
--- second one of its abort
+-- the action, or where that is asked a descendant of it, holds something of the object; the first is what a telling
+-- of its commit concerns, the second one of its abort
 abbrev pub holds_of : Bool → Option Kept → Name → Bool
 holds_of committed None a = false
 holds_of committed (Some k) a = is_concerned committed (seen k).locks a
@@ -45,8 +45,9 @@ holds_at objects a n = holds_of true (object_at objects n) a
 abbrev pub holds_below_at : List Kept → Name → ℕ → Bool
 holds_below_at objects a n = holds_of false (object_at objects n) a
 
--- An outcome concerns the object. A commit that is told alone concerns those at which the action itself holds something. An abort concerns those too at
--- which a descendant does; and so does a commit that is told with others, since the action may be handed something just before.
+-- An outcome concerns the object. A commit that is told alone concerns those at which the action itself holds
+-- something. An abort concerns those too at which a descendant does; and so does a commit that is told with others,
+-- since the action may be handed something just before.
 abbrev pub concerns_at : Bool → List Kept → Name → ℕ → Bool
 concerns_at own objects a n = holds_of own (object_at objects n) a
 
@@ -54,7 +55,8 @@ concerns_at own objects a n = holds_of own (object_at objects n) a
 pub record Stand (opening : Opening) (stands : ObjectId → Standing) (o : Indexed) : Type 0 where
   pub guardian : 1 ≤ o.guardian
   pub count : length o.objects ≡ length (objects_at opening.setup o.guardian)
-  pub shown : (n : ℕ) (k : Kept) → object_at o.objects n ≡ Some k → Shows (first_content opening (object_of o n)) (stands (object_of o n)) (seen k)
+  pub shown : (n : ℕ) (k : Kept) → object_at o.objects n ≡ Some k
+      → Shows (first_content opening (object_of o n)) (stands (object_of o n)) (seen k)
   pub index : (a : Name) (n : ℕ) → has_object o.held a n ≡ holds_at o.objects a n
 
 -- the objects are those of the guardian's own history
@@ -63,7 +65,8 @@ AreObjects opening here o = Stand opening (λ x. standing_here here x) o
 
 -- of whatever history these are the objects, those are too
 abbrev pub Keeps : Indexed → Indexed → Type 0
-Keeps old new = (opening : Opening) (here : List LocalEvent) → AreObjects opening here old → AreObjects opening here new
+Keeps old new = (opening : Opening) (here : List LocalEvent) → AreObjects opening here old
+    → AreObjects opening here new
 
 -- the objects are those of some history
 abbrev pub AreSome : Indexed → Type 0
@@ -73,18 +76,22 @@ AreSome o = (opening : Opening) × (here : List LocalEvent) × AreObjects openin
 abbrev pub IsAsked : Indexed → ℕ → Op → Type 0
 IsAsked o n wanted =
     (opening : Opening) × (here : List LocalEvent) × AreObjects opening here o
-    × (1 ≤ n) × (n ≤ length o.objects) × IsTrue (knows (first_content opening (object_of o n)) wanted)
+    × (1 ≤ n) × (n ≤ length o.objects)
+    × IsTrue (knows (first_content opening (object_of o n)) wanted)
 
 -- the objects are those of some history, by which the operation on the one of this number is granted
 abbrev pub IsGranted : Indexed → ℕ → Name → Op → Type 0
 IsGranted o n a wanted =
     (opening : Opening) × (here : List LocalEvent) × (r : Reply) × AreObjects opening here o
-    × (1 ≤ n) × (n ≤ length o.objects) × IsTrue (knows (first_content opening (object_of o n)) wanted)
-    × (Granted r ≡ operated_by (first_content opening (object_of o n)) (standing_here here (object_of o n)) a wanted)
+    × (1 ≤ n) × (n ≤ length o.objects)
+    × IsTrue (knows (first_content opening (object_of o n)) wanted)
+    × (Granted r ≡ operated_by (first_content opening (object_of o n))
+    (standing_here here (object_of o n)) a wanted)
 
 -- Once an operation was granted to an action that was not told committed: it is kept, as the event says.
 abbrev pub Operates : Name → ℕ → Op → Reply → Indexed → Indexed → Type 0
 Operates a n wanted r old new =
     (opening : Opening) (here : List LocalEvent) (c : LocalEvent) → AreObjects opening here old
-    → c.event.step ≡ steps.Op a (object_of old n) wanted → c.event.answer ≡ Granted r → c.carried.outcomes ≡ [] → c.carried.restored ≡ []
+    → c.event.step ≡ steps.Op a (object_of old n) wanted → c.event.answer ≡ Granted r
+    → c.carried.outcomes ≡ [] → c.carried.restored ≡ []
     → IsFalse (told_committed_here a here) → AreObjects opening (c ∷ here) new

@@ -12,12 +12,14 @@ use Rattle.guardian_objects.specs.Objects.{object_at}
 
 -- there is such an object, it stands in some way, and the operation belongs to it
 abbrev pub IsShownAt : List Kept → ℕ → Op → Type 0
-IsShownAt objects n wanted = (k : Kept) × (object_at objects n ≡ Some k) × IsShown (seen k) × IsTrue (knows (seen k).stack.base wanted)
+IsShownAt objects n wanted = (k : Kept) × (object_at objects n ≡ Some k) × IsShown (seen k)
+    × IsTrue (knows (seen k).stack.base wanted)
 
 -- and the locks let it through
 abbrev pub IsFreeAt : List Kept → ℕ → Name → Op → Type 0
 IsFreeAt objects n a wanted =
-    (k : Kept) × (object_at objects n ≡ Some k) × IsShown (seen k) × IsTrue (knows (seen k).stack.base wanted)
+    (k : Kept) × (object_at objects n ≡ Some k) × IsShown (seen k)
+    × IsTrue (knows (seen k).stack.base wanted)
     × IsFalse (must_wait (seen k).locks a (class_of wanted))
 
 -- the operation was granted with this reply

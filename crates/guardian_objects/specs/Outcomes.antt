@@ -25,14 +25,16 @@ outcomes_of tellings = map (λ t. (t.action, t.committed)) tellings
 -- of one of its objects: the name handed with it is the next holder's, for whom the object has room
 abbrev pub IsReadyAt : Indexed → Telling → ℕ × Option Name → Type 0
 IsReadyAt o t x =
-    (x.1 ≡ t.to) × ((k : Kept) → object_at o.objects x.0 ≡ Some k → IfSome t.to (λ h. IsTrue (has_room k h)))
+    (x.1 ≡ t.to)
+    × ((k : Kept) → object_at o.objects x.0 ≡ Some k → IfSome t.to (λ h. IsTrue (has_room k h)))
 
 -- there is one alone
 abbrev pub is_alone : {X : Type 0} → List X → Bool
 is_alone xs = length xs == 1
 
--- There is room in the index for what the action hands on: where it is told alone, for what it has. Of several that are told together one may hand on
--- what another handed to it; then there is room for all that the next holder and its descendants have.
+-- There is room in the index for what the action hands on: where it is told alone, for what it has. Of several that
+-- are told together one may hand on what another handed to it; then there is room for all that the next holder and
+-- its descendants have.
 abbrev pub HasIndexRoom : Bool → Indexed → Name → Name → Type 0
 HasIndexRoom true o a h = HasRoomFrom o.held h a
 HasIndexRoom false o a h = HasRoomBelow o.held h
@@ -42,7 +44,8 @@ pub record HasRoomFor (alone : Bool) (o : Indexed) (t : Telling) : Type 0 where
   pub index : IfSome t.to (λ h. HasIndexRoom alone o t.action h)
   pub rising : IsRising (map (λ x. x.0) t.at.items)
   pub ready : AllByRecursion (IsReadyAt o t) t.at.items
-  pub below : (n : ℕ) → IsTrue (concerns_at (alone && t.committed) o.objects t.action n) → IsTrue (has_number (map (λ x. x.0) t.at.items) n)
+  pub below : (n : ℕ) → IsTrue (concerns_at (alone && t.committed) o.objects t.action n)
+      → IsTrue (has_number (map (λ x. x.0) t.at.items) n)
   pub there : AllByRecursion (λ x. IsSome (object_at o.objects x.0)) t.at.items
 
 -- they rise by name, and for each there is room
@@ -53,23 +56,28 @@ pub record Fits (o : Indexed) (tellings : List Telling) : Type 0 where
 -- what committed goes to the nearest ancestor that was not told committed, or to the base
 abbrev pub ArePlanned : List LocalEvent → List Telling → Type 0
 ArePlanned here tellings =
-    AllByRecursion (λ t. IsTrue t.committed → t.to ≡ holder_by (λ b. told_committed_here b here) (parent_of t.action)) tellings
+    AllByRecursion (λ t. IsTrue t.committed
+    → t.to ≡ holder_by (λ b. told_committed_here b here) (parent_of t.action))
+    tellings
 
 -- nothing is told aborted that was told committed
 abbrev pub AreSound : List LocalEvent → List Telling → Type 0
-AreSound here tellings = AllByRecursion (λ t. IsFalse t.committed → IsFalse (told_committed_here t.action here)) tellings
+AreSound here tellings =
+    AllByRecursion (λ t. IsFalse t.committed → IsFalse (told_committed_here t.action here)) tellings
 
 -- the objects are those of some history, for which the outcomes were planned
 abbrev pub IsHearing : Indexed → List Telling → Type 0
 IsHearing o tellings =
-    (opening : Opening) × (here : List LocalEvent) × AreObjects opening here o × ArePlanned here tellings × AreSound here tellings
+    (opening : Opening) × (here : List LocalEvent) × AreObjects opening here o
+    × ArePlanned here tellings × AreSound here tellings
 
 -- an operation is granted
 abbrev pub is_granted : Step → Answer → Bool
 is_granted (Op a x wanted) (Granted r) = true
 is_granted _ _ = false
 
--- The event changes objects by the outcomes alone that it brings: it is neither a crash nor a granted operation, and no store gave anything back.
+-- The event changes objects by the outcomes alone that it brings: it is neither a crash nor a granted operation, and
+-- no store gave anything back.
 pub record OnlyTells (c : LocalEvent) (here : List LocalEvent) : Type 0 where
   pub agrees : AgreesOnOutcomes c here
   pub crash : IsFalse (is_crash c.event.step)

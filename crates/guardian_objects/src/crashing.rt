@@ -39,15 +39,17 @@ impl<'a> Holding for Still<'a> {
 }
 
 impl Objects {
-    /// The guardian crashes: of each object what belongs to the base is left, and what the survivors wrote and added, which are the top actions of
-    /// which the store has a record. It looks at all that is held. This cannot fail.
+    /// The guardian crashes: of each object what belongs to the base is left, and what the survivors wrote and added,
+    /// which are the top actions of which the store has a record. It looks at all that is held. This cannot fail.
     pub fn crash<S: Survivors>(&mut self, survivors: &S)
         requires tops { (a : Name) → IsTrue (S.stays survivors.now a) → IsTrue (is_top a) }
-        ensures crashed { (opening : Opening) (here : List LocalEvent) (c : LocalEvent) → AreObjects opening here self.old
+        ensures crashed { (opening : Opening) (here : List LocalEvent) (c : LocalEvent)
+            → AreObjects opening here self.old
             → ((x : ObjectId) → x.guardian ≡ self.old.guardian → LeavesSafe opening here x)
-            → ((a : Name) → S.stays survivors.now a ≡ is_some (prepared_here opening self.old.guardian a here))
-            → c.event.step ≡ steps.Crash self.old.guardian → c.carried.outcomes ≡ [] → c.carried.restored ≡ []
-            → AreObjects opening (c ∷ here) self.new }
+            → ((a : Name)
+            → S.stays survivors.now a ≡ is_some (prepared_here opening self.old.guardian a here))
+            → c.event.step ≡ steps.Crash self.old.guardian → c.carried.outcomes ≡ []
+            → c.carried.restored ≡ [] → AreObjects opening (c ∷ here) self.new }
         ensures guardian { self.new.guardian ≡ self.old.guardian }
         ensures count { length self.new.objects ≡ length self.old.objects }
     {
@@ -58,7 +60,8 @@ impl Objects {
     }
 }
 
-// Each object at which somebody holds something crashes, once for each holder: a crash right after a crash changes nothing.
+// Each object at which somebody holds something crashes, once for each holder: a crash right after a crash changes
+// nothing.
 fn crash_held<S: Survivors>(objects: &mut [Object], held: &HeldObjects, survivors: &S)
     requires tops { (a : Name) → IsTrue (S.stays survivors.now a) → IsTrue (is_top a) }
     ensures { HaveCrashed (S.stays survivors.now) held.now objects.old objects.new }
@@ -90,7 +93,8 @@ fn crash_row<S: Survivors>(objects: &mut [Object], numbers: &[u32], survivors: &
 // The object of this number crashes, if there is one.
 fn crash_at<S: Survivors>(objects: &mut [Object], number: u32, survivors: &S)
     requires tops { (a : Name) → IsTrue (S.stays survivors.now a) → IsTrue (is_top a) }
-    ensures { AreChanged (HasCrashed (S.stays survivors.now)) (number ∷ []) objects.old objects.new }
+    ensures { AreChanged (HasCrashed (S.stays survivors.now)) (number ∷ [])
+        objects.old objects.new }
 {
     let Some(place) = (number as usize).checked_sub(1) else {
         return;

@@ -40,7 +40,8 @@ impl Model for Objects {
 
     ghost Value = { Indexed };
 
-    ghost view = { λ a. record { guardian = a.guardian; objects = a.objects.items; held = a.held } };
+    ghost view = { λ a.
+        record { guardian = a.guardian; objects = a.objects.items; held = a.held } };
 }
 
 impl Objects {
@@ -74,8 +75,10 @@ impl Objects {
 
     /// What belongs to the base of the object of this number; none where there is no such object. This takes no memory.
     pub fn base(&self, number: u32) -> Option<View<'_, Content>>
-        ensures base { IfSome result (λ base. (opening : Opening) (here : List LocalEvent) → AreObjects opening here self.now
-            → base ≡ base_by (first_content opening (object_of self.now number)) (standing_here here (object_of self.now number))) }
+        ensures base { IfSome result
+            (λ base. (opening : Opening) (here : List LocalEvent) → AreObjects opening here self.now
+            → base ≡ base_by (first_content opening (object_of self.now number))
+            (standing_here here (object_of self.now number))) }
         ensures none { IsNone result → (1 ≤ number) → (number ≤ length self.now.objects) → ⊥ }
     {
         Some(self.object(number)?.base())
@@ -89,11 +92,13 @@ impl Objects {
         self.objects.get(place)
     }
 
-    /// How many objects a telling of the outcome changes, of an action that was not told committed. It looks at those alone. Fails only for want
-    /// of memory.
+    /// How many objects a telling of the outcome changes, of an action that was not told committed. It looks at those
+    /// alone. Fails only for want of memory.
     pub fn told_count(&self, action: &Name, committed: bool) -> Result<u64, AllocError>
-        ensures { IfOk result (λ count. (opening : Opening) (here : List LocalEvent) → AreObjects opening here self.now
-            → IsFalse (told_committed_here action.now here) → count ≡ count_here opening self.now.guardian action.now committed here) }
+        ensures { IfOk result (λ count. (opening : Opening) (here : List LocalEvent)
+            → AreObjects opening here self.now
+            → IsFalse (told_committed_here action.now here)
+            → count ≡ count_here opening self.now.guardian action.now committed here) }
     {
         if committed {
             let own = self.held.objects_of(action).len();
@@ -104,22 +109,26 @@ impl Objects {
         Ok(below as u64)
     }
 
-    /// What an operation on the object of this number would be answered, with nothing changed. Fails only if memory runs out.
+    /// What an operation on the object of this number would be answered, with nothing changed. Fails only if memory
+    /// runs out.
     pub fn answer(&self, action: &Name, number: u32, op: &Op) -> Result<Answer, AllocError>
         requires { IsAsked self.now number op.now }
-        ensures { IfOk result (λ answer. (opening : Opening) (here : List LocalEvent) → AreObjects opening here self.now
-            → answer ≡ operated_by (first_content opening (object_of self.now number)) (standing_here here (object_of self.now number)) action.now op.now) }
+        ensures { IfOk result (λ answer. (opening : Opening) (here : List LocalEvent)
+            → AreObjects opening here self.now
+            → answer ≡ operated_by (first_content opening (object_of self.now number))
+            (standing_here here (object_of self.now number)) action.now op.now) }
     {
         // The action has numbers, as the depth of its name says.
         let _depth = action.depth();
         self.objects[number as usize - 1].answer(action, op)
     }
 
-    /// Keeps an operation on the object of this number that is granted; what it is answered, `answer` says. If memory runs out, the objects are those
-    /// of the same history.
+    /// Keeps an operation on the object of this number that is granted; what it is answered, `answer` says. If memory
+    /// runs out, the objects are those of the same history.
     pub fn grant(&mut self, action: &Name, number: u32, op: &Op) -> Result<(), AllocError>
         requires { IsGranted self.old number action.now op.now }
-        ensures operates { OnOk result ((r : Reply) → Operates action.now number op.now r self.old self.new) }
+        ensures operates { OnOk result
+            ((r : Reply) → Operates action.now number op.now r self.old self.new) }
         ensures guardian { self.new.guardian ≡ self.old.guardian }
         ensures count { length self.new.objects ≡ length self.old.objects }
         ensures err { OnErr result (Keeps self.old self.new) }
@@ -134,10 +143,12 @@ impl Objects {
     fn grant_at(&mut self, action: &Name, number: u32, op: &Op) -> Result<(), AllocError>
         requires { IsFreeAt self.old.objects number action.now op.now }
         ensures named { IsTrue (is_ancestor action.now action.now) }
-        ensures granted { OnOk result ((r : Reply) → AreChanged (IsGrantedBy action.now op.now r) (number ∷ []) self.old.objects self.new.objects) }
+        ensures granted { OnOk result ((r : Reply) → AreChanged (IsGrantedBy action.now op.now r)
+            (number ∷ []) self.old.objects self.new.objects) }
         ensures guardian { self.new.guardian ≡ self.old.guardian }
         ensures held { self.new.held ≡ self.old.held }
-        ensures err { OnErr result (AreChanged StaysHeld (number ∷ []) self.old.objects self.new.objects) }
+        ensures err { OnErr result
+            (AreChanged StaysHeld (number ∷ []) self.old.objects self.new.objects) }
     {
         // The action has numbers, as the depth of its name says.
         let _depth = action.depth();

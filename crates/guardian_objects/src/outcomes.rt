@@ -46,8 +46,9 @@ impl Planned {
 }
 
 impl Objects {
-    /// Copies outcomes, which rise by name, in place of those that were to be told, finds the next holders, and makes room for what they are handed.
-    /// Whether or not there is memory for it, the objects are those of the same history.
+    /// Copies outcomes, which rise by name, in place of those that were to be told, finds the next holders, and makes
+    /// room for what they are handed. Whether or not there is memory for it, the objects are those of the same
+    /// history.
     pub fn plan(
         &mut self,
         outcomes: &[(Name, bool)],
@@ -61,7 +62,8 @@ impl Objects {
         ensures count { length self.new.objects ≡ length self.old.objects }
         ensures fits { OnOk result (Fits self.new planned.new.tellings.items) }
         ensures outcomes { OnOk result (outcomes_of planned.new.tellings.items ≡ outcomes.now) }
-        ensures planned { OnOk result ((g : ℕ) (here : List LocalEvent) → AreTold g here told.now → ArePlanned here planned.new.tellings.items) }
+        ensures planned { OnOk result ((g : ℕ) (here : List LocalEvent) → AreTold g here told.now
+            → ArePlanned here planned.new.tellings.items) }
     {
         planned.tellings.clear();
         let alone = is_alone(outcomes);
@@ -73,13 +75,14 @@ impl Objects {
         Ok(())
     }
 
-    /// Tells the objects the outcomes that an event brings, the last of them first, so that descendants come before their ancestors. It looks at the
-    /// objects alone that the outcomes concern. This cannot fail.
+    /// Tells the objects the outcomes that an event brings, the last of them first, so that descendants come before
+    /// their ancestors. It looks at the objects alone that the outcomes concern. This cannot fail.
     pub fn tell(&mut self, planned: &mut Planned)
         requires fits { Fits self.old planned.old.tellings.items }
         requires heard { IsHearing self.old planned.old.tellings.items }
-        ensures told { (opening : Opening) (here : List LocalEvent) (c : LocalEvent) → AreObjects opening here self.old
-            → ArePlanned here planned.old.tellings.items → outcomes_of planned.old.tellings.items ≡ c.carried.outcomes → OnlyTells c here
+        ensures told { (opening : Opening) (here : List LocalEvent) (c : LocalEvent)
+            → AreObjects opening here self.old → ArePlanned here planned.old.tellings.items
+            → outcomes_of planned.old.tellings.items ≡ c.carried.outcomes → OnlyTells c here
             → AreObjects opening (c ∷ here) self.new }
         ensures guardian { self.new.guardian ≡ self.old.guardian }
         ensures count { length self.new.objects ≡ length self.old.objects }
@@ -92,7 +95,8 @@ impl Objects {
 
 // Making room.
 impl Objects {
-    // Copies one outcome, and makes room for what the next holder is handed, where it is told alone or with others, of which this one was planned before.
+    // Copies one outcome, and makes room for what the next holder is handed, where it is told alone or with others,
+    // of which this one was planned before.
     fn plan_one(
         &mut self,
         action: &Name,
@@ -107,7 +111,8 @@ impl Objects {
         ensures room { IfOk result (λ telling. HasRoomFor alone self.new telling) }
         ensures action { IfOk result (λ telling. telling.action ≡ action.now) }
         ensures committed { IfOk result (λ telling. telling.committed ≡ committed) }
-        ensures next { IfOk result (λ telling. (g : ℕ) (here : List LocalEvent) → AreTold g here told.now → IsTrue committed
+        ensures next { IfOk result (λ telling. (g : ℕ) (here : List LocalEvent)
+            → AreTold g here told.now → IsTrue committed
             → telling.to ≡ holder_by (λ b. told_committed_here b here) (parent_of action.now)) }
     {
         let to = next_holder(action, committed, told)?;
@@ -121,7 +126,8 @@ impl Objects {
         })
     }
 
-    // Makes room for what the next holder is handed of what the action holds, and gives the objects that the outcome concerns.
+    // Makes room for what the next holder is handed of what the action holds, and gives the objects that the outcome
+    // concerns.
     fn make_room(
         &mut self,
         action: &Name,
@@ -134,7 +140,8 @@ impl Objects {
         requires before { IfSome (name_of before) (λ t. HasRoomFor alone self.old t) }
         requires next { IsFalse committed → name_of to ≡ None }
         ensures roomier { IsRoomier self.old self.new }
-        ensures room { IfOk result (λ at. HasRoomAt alone committed self.new action.now (name_of to.entry) at.items) }
+        ensures room { IfOk result
+            (λ at. HasRoomAt alone committed self.new action.now (name_of to.entry) at.items) }
     {
         let numbers = self.concerned(action, committed, alone)?;
         self.make_index_room(action, to, alone, before, numbers.len())?;
@@ -145,10 +152,13 @@ impl Objects {
         Ok(at)
     }
 
-    // The objects that the outcome concerns, rising. Where it is a commit that is told alone, nobody else's row is looked at.
+    // The objects that the outcome concerns, rising. Where it is a commit that is told alone, nobody else's row is
+    // looked at.
     fn concerned(&self, action: &Name, committed: bool, alone: bool) -> Result<Vec<u32>, AllocError>
-        ensures has { IfOk result (λ numbers. (n : ℕ) → IsTrue (has_number numbers.items n) ↔ Has (alone && committed) self.now.held action.now n) }
-        ensures own { IfOk result (λ numbers. IsTrue (alone && committed) → numbers.items ≡ objects_at self.now.held action.now) }
+        ensures has { IfOk result (λ numbers. (n : ℕ) → IsTrue (has_number numbers.items n)
+            ↔ Has (alone && committed) self.now.held action.now n) }
+        ensures own { IfOk result (λ numbers. IsTrue (alone && committed)
+            → numbers.items ≡ objects_at self.now.held action.now) }
         ensures rising { IfOk result (λ numbers. IsRising numbers.items) }
     {
         if alone && committed {
@@ -157,8 +167,9 @@ impl Objects {
         self.held.objects_below(action)
     }
 
-    // Makes room in the index for what the next holder is handed. Told alone, the action hands on what it has, of which there is so much. Of those that
-    // are told together, siblings mostly come one after the other, and room is made with their parent once.
+    // Makes room in the index for what the next holder is handed. Told alone, the action hands on what it has, of
+    // which there is so much. Of those that are told together, siblings mostly come one after the other, and room is
+    // made with their parent once.
     fn make_index_room(
         &mut self,
         action: &Name,
@@ -168,10 +179,12 @@ impl Objects {
         count: usize,
     ) -> Result<(), AllocError>
         requires before { IfSome (name_of before) (λ t. HasRoomFor alone self.old t) }
-        requires count { IsTrue alone → IfSome (name_of to) (λ h. count ≡ length (objects_at self.old.held action.now)) }
+        requires count { IsTrue alone
+            → IfSome (name_of to) (λ h. count ≡ length (objects_at self.old.held action.now)) }
         ensures roomier { IsRoomier self.old self.new }
         ensures objects { self.new.objects ≡ self.old.objects }
-        ensures room { OnOk result (IfSome (name_of to.entry) (λ h. HasIndexRoom alone self.new action.now h)) }
+        ensures room { OnOk result
+            (IfSome (name_of to.entry) (λ h. HasIndexRoom alone self.new action.now h)) }
     {
         let Some(next) = to else {
             return Ok(());
@@ -223,7 +236,8 @@ fn goes_to(telling: Option<&Telling>, holder: &Name) -> bool
 // To whom an action that committed hands on what it holds.
 fn next_holder(action: &Name, committed: bool, told: &Tellings) -> Result<Option<Name>, AllocError>
     ensures none { IfOk result (λ to. IsFalse committed → to ≡ None) }
-    ensures next { IfOk result (λ to. (g : ℕ) (here : List LocalEvent) → AreTold g here told.now → IsTrue committed
+    ensures next { IfOk result
+        (λ to. (g : ℕ) (here : List LocalEvent) → AreTold g here told.now → IsTrue committed
         → to ≡ holder_by (λ b. told_committed_here b here) (parent_of action.now)) }
 {
     if !committed {
@@ -277,7 +291,8 @@ impl Objects {
     fn hand_on_at(&mut self, number: u32, action: &Name, to: Option<Name>)
         requires named { IsTrue (is_ancestor action.now action.now) }
         requires there { MayCommitAt self.old.objects action.now to number }
-        ensures objects { AreChanged (Commits action.now to) (number ∷ []) self.old.objects self.new.objects }
+        ensures objects { AreChanged (Commits action.now to) (number ∷ [])
+            self.old.objects self.new.objects }
         ensures guardian { self.new.guardian ≡ self.old.guardian }
         ensures held { self.new.held ≡ self.old.held }
     {
@@ -307,7 +322,8 @@ impl Objects {
     fn drop_below_at(&mut self, number: u32, action: &Name)
         requires named { IsTrue (is_ancestor action.now action.now) }
         requires there { IsSome (object_at self.old.objects number) }
-        ensures objects { AreChanged (Aborts action.now) (number ∷ []) self.old.objects self.new.objects }
+        ensures objects { AreChanged (Aborts action.now) (number ∷ [])
+            self.old.objects self.new.objects }
         ensures guardian { self.new.guardian ≡ self.old.guardian }
         ensures held { self.new.held ≡ self.old.held }
     {

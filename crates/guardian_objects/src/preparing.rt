@@ -20,19 +20,25 @@ use std::alloc::AllocError;
 use std::collections::BTreeMap;
 
 impl Objects {
-    /// What the top action will hold of each object once the outcomes of its descendants are told, which rise by name, by the number of the object:
-    /// nothing is changed. It looks at the objects alone at which the top action or a descendant holds something. Fails only if memory runs out.
+    /// What the top action will hold of each object once the outcomes of its descendants are told, which rise by
+    /// name, by the number of the object: nothing is changed. It looks at the objects alone at which the top action
+    /// or a descendant holds something. Fails only if memory runs out.
     pub fn parts_once_told(
         &self,
         top: &Name,
         outcomes: &[(Name, bool)],
     ) -> Result<BTreeMap<u32, Part>, AllocError>
         requires { OutcomesRise outcomes.now }
-        ensures { IfOk result (λ parts. (opening : Opening) (here : List LocalEvent) (c : LocalEvent) → AreObjects opening here self.now
-            → IsTrue (is_top top.now) → IsFalse (told_committed_here top.now here) → c.carried.outcomes ≡ outcomes.now → OnlyTells c here
+        ensures { IfOk result
+            (λ parts. (opening : Opening) (here : List LocalEvent) (c : LocalEvent)
+            → AreObjects opening here self.now
+            → IsTrue (is_top top.now) → IsFalse (told_committed_here top.now here)
+            → c.carried.outcomes ≡ outcomes.now → OnlyTells c here
             → AllByRecursion (λ x. IsTrue (is_proper_ancestor top.now x.0)) outcomes.now
-            → ((x : ObjectId) → x.guardian ≡ self.now.guardian → HoldsItsTree (standing_here (c ∷ here) x) top.now)
-            → parts.entries ≡ parts_by opening self.now.guardian (λ x. standing_here (c ∷ here) x) top.now) }
+            → ((x : ObjectId) → x.guardian ≡ self.now.guardian
+            → HoldsItsTree (standing_here (c ∷ here) x) top.now)
+            → parts.entries
+            ≡ parts_by opening self.now.guardian (λ x. standing_here (c ∷ here) x) top.now) }
     {
         let mut numbers = self.held.objects_below(top)?;
         let mut parts = BTreeMap::new(self.alloc);
@@ -54,11 +60,15 @@ impl Objects {
         outcomes: &[(Name, bool)],
     ) -> Result<Option<Part>, AllocError>
         requires { OutcomesRise outcomes.now }
-        ensures { IfOk result (λ part. (opening : Opening) (here : List LocalEvent) (c : LocalEvent) → AreObjects opening here self.now
-            → IsTrue (is_top top.now) → IsFalse (told_committed_here top.now here) → c.carried.outcomes ≡ outcomes.now → OnlyTells c here
+        ensures { IfOk result (λ part. (opening : Opening) (here : List LocalEvent) (c : LocalEvent)
+            → AreObjects opening here self.now
+            → IsTrue (is_top top.now) → IsFalse (told_committed_here top.now here)
+            → c.carried.outcomes ≡ outcomes.now → OnlyTells c here
             → AllByRecursion (λ x. IsTrue (is_proper_ancestor top.now x.0)) outcomes.now
-            → HoldsItsTree (standing_here (c ∷ here) (object_of self.now number)) top.now → IsSome (object_at self.now.objects number)
-            → part ≡ part_held (first_content opening (object_of self.now number)) (standing_here (c ∷ here) (object_of self.now number)) top.now) }
+            → HoldsItsTree (standing_here (c ∷ here) (object_of self.now number)) top.now
+            → IsSome (object_at self.now.objects number)
+            → part ≡ part_held (first_content opening (object_of self.now number))
+            (standing_here (c ∷ here) (object_of self.now number)) top.now) }
     {
         match self.object(number) {
             Some(object) => object.part_once_told(top, outcomes),

@@ -1,5 +1,5 @@
-//! Rows in a vector, in the order of their names, whatever a row is: mostly there are one or two. A name is compared with the
-//! last row's first, and a lesser one is looked for among the others by a binary search.
+//! Rows in a vector, in the order of their names, whatever a row is: mostly there are one or two. A name is compared
+//! with the last row's first, and a lesser one is looked for among the others by a binary search.
 //!
 //! `guardian_index` keeps its rows by this too.
 ghost use Rattle.std.specs.Prelude.{◌≡◌, ◌≤◌, ◌&&◌, not, length, drop, filter, is_some, IfOk, IfErr, OnOk, OnErr, if◌then◌else◌};
@@ -29,7 +29,8 @@ pub fn find<'a, R>(rows: &'a [(Name, R)], name: &Name) -> Option<&'a R>
 /// Puts in a row of the name, unless it has one. If memory runs out, nothing is changed.
 pub(crate) fn add<R: Drop>(rows: &mut Vec<(Name, R)>, name: &Name, row: R) -> Result<(), AllocError>
     requires { IsStrictlySortedBy name_cmp (keys_of rows.old.items) }
-    ensures ok { OnOk result (rows.new.items ≡ (if has_name (keys_of rows.old.items) name.now then rows.old.items else insert_entry name_cmp rows.old.items name.now row)) }
+    ensures ok { OnOk result (rows.new.items ≡ (if has_name (keys_of rows.old.items) name.now
+        then rows.old.items else insert_entry name_cmp rows.old.items name.now row)) }
     ensures err { OnErr result (rows.new.items ≡ rows.old.items) }
 {
     match place(rows, name) {
@@ -132,8 +133,9 @@ fn start<R>(rows: &[(Name, R)], name: &Name) -> usize
     }
 }
 
-/// Where the row of the name stands, or would stand. The last row is looked at first: mostly the holder that acts is a descendant of the others. One
-/// comparison tells whether the name has this row, has its place behind it, or is to be searched for among the others.
+/// Where the row of the name stands, or would stand. The last row is looked at first: mostly the holder that acts is
+/// a descendant of the others. One comparison tells whether the name has this row, has its place behind it, or is to
+/// be searched for among the others.
 pub fn place<R>(rows: &[(Name, R)], name: &Name) -> Result<usize, usize>
     requires { IsStrictlySortedBy name_cmp (keys_of rows.now) }
     ensures found { IfOk result (IsRowAt rows.now name.now) }

@@ -90,8 +90,8 @@ impl<V: Drop> FewHolders<V> {
         by_name::remove(&mut self.rows, holder)?
     }
 
-    /// Drops what the action and its descendants hold, and their room. It looks at these and one more, and moves those behind them. This takes no
-    /// memory.
+    /// Drops what the action and its descendants hold, and their room. It looks at these and one more, and moves
+    /// those behind them. This takes no memory.
     pub fn drop_below(&mut self, action: &Name)
         ensures held { self.new.held ≡ without_below self.old.held action.now }
         ensures room { self.new.room ≡ filter (λ b. not (is_ancestor action.now b)) self.old.room }
@@ -109,8 +109,9 @@ impl<V: Drop> FewHolders<V> {
         self.rows.retain(|(holder, _)| survivors.stays(holder));
     }
 
-    /// Whether one that holds is no ancestor of the action. In the order of names those that stand before the first such one are ancestors
-    /// of the action. So it looks at no more holders than the action has ancestors, and one, and at names that have room alone.
+    /// Whether one that holds is no ancestor of the action. In the order of names those that stand before the first
+    /// such one are ancestors of the action. So it looks at no more holders than the action has ancestors, and one,
+    /// and at names that have room alone.
     pub fn has_foreign(&self, action: &Name) -> bool
         ensures { result ≡ list_any (λ b. not (is_ancestor b action.now)) (names_of self.now.held) }
     {
@@ -127,7 +128,8 @@ impl<V: Drop> FewHolders<V> {
     /// Adds those that hold and are no ancestors of the action to the names. Fails only if memory runs out.
     pub fn add_foreign(&self, names: &mut BTreeSet<Name>, action: &Name) -> Result<(), AllocError>
         ensures { OnOk result ((b : Name) → has_name names.new.keys b
-            ≡ (has_name names.old.keys b || (not (is_ancestor b action.now) && has_name (names_of self.now.held) b))) }
+            ≡ (has_name names.old.keys b
+            || (not (is_ancestor b action.now) && has_name (names_of self.now.held) b))) }
     {
         for (holder, row) in &self.rows {
             if by_name::is_foreign(holder, row, action) {

@@ -1,5 +1,5 @@
-//! Holders in the order of their names, so that an action and its descendants stand next to each other: in a vector while they are few, as nearly always,
-//! and in a tree from then on.
+//! Holders in the order of their names, so that an action and its descendants stand next to each other: in a vector
+//! while they are few, as nearly always, and in a tree from then on.
 ghost use Rattle.std.specs.Prelude.{◌≡◌, ◌↔◌, ◌||◌, ◌&&◌, not, [], IsTrue, OnOk, OnErr, filter, length};
 ghost use Rattle.std.specs.List.{list_any};
 ghost use Rattle.std.specs.List.Sorted.{IsStrictlySortedBy};
@@ -115,7 +115,8 @@ impl<V: Drop> Holders<V> {
         }
     }
 
-    /// Drops what the action and its descendants hold, and their room. It looks at these and one more, and at a few others. This takes no memory.
+    /// Drops what the action and its descendants hold, and their room. It looks at these and one more, and at a few
+    /// others. This takes no memory.
     pub fn drop_below(&mut self, action: &Name)
         ensures held { self.new.held ≡ without_below self.old.held action.now }
         ensures room { self.new.room ≡ filter (λ b. not (is_ancestor action.now b)) self.old.room }
@@ -139,8 +140,9 @@ impl<V: Drop> Holders<V> {
         }
     }
 
-    /// Whether one that holds is no ancestor of the action. In the order of names those that stand before the first such one are ancestors
-    /// of the action. So it looks at no more holders than the action has ancestors, and one, and at names that have room alone.
+    /// Whether one that holds is no ancestor of the action. In the order of names those that stand before the first
+    /// such one are ancestors of the action. So it looks at no more holders than the action has ancestors, and one,
+    /// and at names that have room alone.
     pub fn has_foreign(&self, action: &Name) -> bool
         ensures { result ≡ list_any (λ b. not (is_ancestor b action.now)) (names_of self.now.held) }
     {
@@ -174,7 +176,8 @@ impl<V: Drop> Holders<V> {
     /// Adds those that hold and are no ancestors of the action to the names. Fails only if memory runs out.
     pub fn add_foreign(&self, names: &mut BTreeSet<Name>, action: &Name) -> Result<(), AllocError>
         ensures { OnOk result ((b : Name) → has_name names.new.keys b
-            ≡ (has_name names.old.keys b || (not (is_ancestor b action.now) && has_name (names_of self.now.held) b))) }
+            ≡ (has_name names.old.keys b
+            || (not (is_ancestor b action.now) && has_name (names_of self.now.held) b))) }
     {
         match &self.kept {
             Kept::Few(few) => few.add_foreign(names, action),

@@ -9,7 +9,8 @@ use std::alloc::{AllocError, Global};
 use std::collections::HashMap;
 use std::marker::Model;
 
-/// A value for each of some names, and the names for which there is room. Contracts see it as `Holders`, in the order of names.
+/// A value for each of some names, and the names for which there is room. Contracts see it as `Holders`, in the order
+/// of names.
 #[derive(Drop)]
 pub struct Index<V> {
     rows: HashMap<Name, Option<V>>,
@@ -22,7 +23,8 @@ impl<V> Model for Index<V> {
 
     ghost Value = { Rows V };
 
-    ghost view = { λ a. record { held = held_in (ordered a.rows.entries); room = keys_of (ordered a.rows.entries) } };
+    ghost view = { λ a.
+        record { held = held_in (ordered a.rows.entries); room = keys_of (ordered a.rows.entries) } };
 }
 
 impl<V: Drop> Index<V> {
@@ -55,7 +57,8 @@ impl<V: Drop> Index<V> {
 }
 
 impl<V: Copy> Index<V> {
-    /// Makes room for a value of the name, and gives the value that it has, if any. What has a value keeps it; if memory runs out, nothing is changed.
+    /// Makes room for a value of the name, and gives the value that it has, if any. What has a value keeps it; if
+    /// memory runs out, nothing is changed.
     pub fn make_room(&mut self, name: &Name) -> Result<Option<V>, AllocError>
         ensures held { self.new.held ≡ self.old.held }
         ensures room { OnOk result (HasMoreRoom self.old.room self.new.room name.now) }

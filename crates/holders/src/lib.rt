@@ -1,6 +1,7 @@
 //! Holders by name: what each holds, and room for more of them.
 //!
-//! A name may have room and hold nothing. So memory for a holder is taken before something is given to it, and the giving cannot fail.
+//! A name may have room and hold nothing. So memory for a holder is taken before something is given to it, and the
+//! giving cannot fail.
 #![tactic(auto)]
 
 pub mod by_name;

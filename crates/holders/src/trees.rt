@@ -1,5 +1,5 @@
-//! Holders in a tree, in the order of their names, so that an action and its descendants stand next to each other. What a step costs grows with
-//! the logarithm of their number.
+//! Holders in a tree, in the order of their names, so that an action and its descendants stand next to each other.
+//! What a step costs grows with the logarithm of their number.
 ghost use Rattle.std.specs.Prelude.{◌≡◌, ◌↔◌, ◌||◌, ◌&&◌, false, not, [], IsTrue, OnOk, OnErr, IfSome, IsNone, filter, is_some, length};
 ghost use Rattle.std.specs.BTreeMap.{ContainsKey, keys};
 ghost use Rattle.std.specs.List.{list_any};
@@ -99,7 +99,8 @@ impl<V: Drop> TreeHolders<V> {
         self.rows.remove(holder)?
     }
 
-    /// Drops what the action and its descendants hold, and their room. It looks at these and one more. This takes no memory.
+    /// Drops what the action and its descendants hold, and their room. It looks at these and one more. This takes no
+    /// memory.
     pub fn drop_below(&mut self, action: &Name)
         ensures held { self.new.held ≡ without_below self.old.held action.now }
         ensures room { self.new.room ≡ filter (λ b. not (is_ancestor action.now b)) self.old.room }
@@ -117,8 +118,9 @@ impl<V: Drop> TreeHolders<V> {
         self.rows.retain(|holder, _| survivors.stays(holder));
     }
 
-    /// Whether one that holds is no ancestor of the action. In the order of names those that stand before the first such one are ancestors
-    /// of the action. So it looks at no more holders than the action has ancestors, and one, and at names that have room alone.
+    /// Whether one that holds is no ancestor of the action. In the order of names those that stand before the first
+    /// such one are ancestors of the action. So it looks at no more holders than the action has ancestors, and one,
+    /// and at names that have room alone.
     pub fn has_foreign(&self, action: &Name) -> bool
         ensures { result ≡ list_any (λ b. not (is_ancestor b action.now)) (names_of self.now.held) }
     {
@@ -149,7 +151,8 @@ impl<V: Drop> TreeHolders<V> {
     /// Adds those that hold and are no ancestors of the action to the names. Fails only if memory runs out.
     pub fn add_foreign(&self, names: &mut BTreeSet<Name>, action: &Name) -> Result<(), AllocError>
         ensures { OnOk result ((b : Name) → has_name names.new.keys b
-            ≡ (has_name names.old.keys b || (not (is_ancestor b action.now) && has_name (names_of self.now.held) b))) }
+            ≡ (has_name names.old.keys b
+            || (not (is_ancestor b action.now) && has_name (names_of self.now.held) b))) }
     {
         for (holder, row) in self.rows.iter() {
             if is_foreign(holder, row, action) {
@@ -179,7 +182,8 @@ fn any_below<V>(rows: &BTreeMap<Name, Option<V>>, action: &Name) -> bool
 
 // The first name of the action and its descendants that has a row.
 fn first_below<'a, R>(rows: &'a BTreeMap<Name, R>, action: &Name) -> Option<&'a Name>
-    ensures none { IsNone result → list_any (λ r. is_ancestor action.now r.0) rows.now.entries ≡ false }
+    ensures none { IsNone result
+        → list_any (λ r. is_ancestor action.now r.0) rows.now.entries ≡ false }
     ensures below { IfSome result (λ first. IsTrue (is_ancestor action.now first.now)) }
     ensures row { IfSome result (λ first. ContainsKey name_cmp rows.now first.now) }
 {
@@ -191,8 +195,8 @@ fn first_below<'a, R>(rows: &'a BTreeMap<Name, R>, action: &Name) -> Option<&'a 
     }
 }
 
-/// Removes the rows of the action and its descendants, whatever a row is. It looks at these and one more, and at all where a name has too many
-/// copies for one more. This takes no memory.
+/// Removes the rows of the action and its descendants, whatever a row is. It looks at these and one more, and at all
+/// where a name has too many copies for one more. This takes no memory.
 pub fn remove_below<R: Drop>(rows: &mut BTreeMap<Name, R>, action: &Name)
     ensures { rows.new.entries ≡ filter (λ r. not (is_ancestor action.now r.0)) rows.old.entries }
 {

@@ -13,9 +13,11 @@ use Rattle.run_model.specs.Versions.{base_of}
 -- What is installed of an object, laid on its content at the setup, is its base, at every moment of a run.
 abbrev pub BasesAreLaid : Type 0
 BasesAreLaid = (opening : Opening) (past : List Event) (x : ObjectId) → IsRun opening past
-    → laid_where (stable_base opening x.guardian x.number past) (set_up opening.setup x) ≡ base_of opening x past
+    → laid_where (stable_base opening x.guardian x.number past) (set_up opening.setup x)
+    ≡ base_of opening x past
 
 -- A record says what its top action holds, as long as it is there, and not only at the vote that made it.
 abbrev pub RecordsAreHeld : Type 0
-RecordsAreHeld = (opening : Opening) (past : List Event) (g : ℕ) (t : Name) (r : Prepared) → IsRun opening past
-    → stable_prepared opening g t past ≡ Some r → r ≡ record { home = home_of t past; parts = parts_held opening g t past }
+RecordsAreHeld = (opening : Opening) (past : List Event) (g : ℕ) (t : Name) (r : Prepared)
+    → IsRun opening past → stable_prepared opening g t past ≡ Some r
+    → r ≡ record { home = home_of t past; parts = parts_held opening g t past }

@@ -19,12 +19,14 @@ histories_of past g = local_history two_records (numbered past) g
 
 -- the event as g keeps it
 abbrev pub kept_at : ℕ → Event → List Event → LocalEvent
-kept_at g e past = record { stamp = suc (length past); event = e; carried = carried two_records e g past (histories_of past) }
+kept_at g e past =
+    record { stamp = suc (length past); event = e; carried = carried two_records e g past (histories_of past) }
 
 -- what g has is the history of a local run, and with the event it is none
 abbrev pub IsNotOwed : ℕ → Event → List Event → Type 0
 IsNotOwed g e past =
-    IsLocalRun two_records g [] (histories_of past g) × (IsLocalRun two_records g [] (kept_at g e past ∷ histories_of past g) → ⊥)
+    IsLocalRun two_records g [] (histories_of past g)
+    × (IsLocalRun two_records g [] (kept_at g e past ∷ histories_of past g) → ⊥)
 
 -- A reply that ignores what the guardian was told: it reads what an aborted child wrote.
 abbrev pub aborted_write : List Event
@@ -38,7 +40,9 @@ aborted_write = history_of (
 
 abbrev pub ReplyIgnoresTelling : Type 0
 ReplyIgnoresTelling =
-    IsNotOwed 1 (record { step = Op (1 ∷ []) first get; answer = Granted (reply.Gives (Int (pos 5))) }) aborted_write
+    IsNotOwed 1
+    (record { step = Op (1 ∷ []) first get; answer = Granted (reply.Gives (Int (pos 5))) })
+    aborted_write
 
 -- A vote that ignores a crash: yes, though the guardian lost what the subaction wrote there.
 abbrev pub lost_write : List Event
@@ -55,8 +59,8 @@ lost_write = history_of (
 abbrev pub VoteIgnoresCrash : Type 0
 VoteIgnoresCrash = IsNotOwed 2 (record { step = Prepare 2 (1 ∷ []); answer = VoteYes }) lost_write
 
--- Lists that were not carried: a guardian that heard nothing by messages grants an operation of an orphan, where the message of a call
--- brought the abort that makes it one.
+-- Lists that were not carried: a guardian that heard nothing by messages grants an operation of an orphan, where the
+-- message of a call brought the abort that makes it one.
 abbrev pub orphan_called : List Event
 orphan_called = history_of (
     (Top 1, Began ((1 ∷ []) ∷ []))
@@ -75,5 +79,8 @@ abbrev pub ListsNotCarried : Type 0
 ListsNotCarried =
     IsRun two_records orphan_called
     × (answer_of two_records (Op (1 ∷ 1 ∷ 1 ∷ []) second get) orphan_called ≡ Refused Orphan)
-    × (operation_here two_records 2 (1 ∷ 1 ∷ 1 ∷ []) second get (histories_of orphan_called 2) ≡ Refused Orphan)
-    × (operation_here two_records 2 (1 ∷ 1 ∷ 1 ∷ []) second get (map (λ c. without_lists c) (histories_of orphan_called 2)) ≡ gives_zero)
+    × (operation_here two_records 2 (1 ∷ 1 ∷ 1 ∷ []) second get (histories_of orphan_called 2)
+    ≡ Refused Orphan)
+    × (operation_here two_records 2 (1 ∷ 1 ∷ 1 ∷ []) second
+    get (map (λ c. without_lists c) (histories_of orphan_called 2))
+    ≡ gives_zero)

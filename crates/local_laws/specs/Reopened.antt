@@ -24,11 +24,13 @@ parts_of g (p ∷ prepared) x = given_back (Prepare g p.0) p.1.parts x ++ parts_
 abbrev pub is_prepared : List (Name × Prepared) → Name → Bool
 is_prepared prepared t = list_any (λ p. same_name p.0 t) prepared
 
-pub record IsReopened (g : ℕ) (held : Held) (records : List (Name × Prepared)) (life : List LocalEvent) : Type 0 where
+pub record IsReopened (g : ℕ) (held : Held) (records : List (Name × Prepared))
+    (life : List LocalEvent) : Type 0 where
   -- it is down, and has crashed once more than it recovered
   pub down : is_down g (events_here life) ≡ true
   pub crashes : crashes g (events_here life) ≡ suc held.count
-  pub count : (opening : Opening) → stable_count opening g (events_here life) ≡ (opening.stores g).count
+  pub count : (opening : Opening)
+      → stable_count opening g (events_here life) ≡ (opening.stores g).count
   -- it voted yes on each prepared top action, and on no other
   pub voted : (t : Name) → has_voted g t (events_here life) ≡ is_prepared records t
   pub prepared : (t : Name) → has_prepared g t (events_here life) ≡ is_prepared records t
@@ -36,7 +38,8 @@ pub record IsReopened (g : ℕ) (held : Held) (records : List (Name × Prepared)
   pub restored : (x : ObjectId) → restored_here x life ≡ parts_of g records x
   pub kept : (x : ObjectId) → kept_here x life ≡ []
   -- the bases are the store's
-  pub base : (opening : Opening) (n : ℕ) → stable_base_here opening g n life ≡ (opening.stores g).base n
+  pub base : (opening : Opening) (n : ℕ)
+      → stable_base_here opening g n life ≡ (opening.stores g).base n
   -- it was told nothing, and knows of no abort and no crash of others
   pub told : (b : Name) → told_here g b life ≡ false
   pub told_committed : (b : Name) → told_committed_here b life ≡ false
@@ -44,7 +47,8 @@ pub record IsReopened (g : ℕ) (held : Held) (records : List (Name × Prepared)
   pub counts : counts_here g life ≡ []
 
 abbrev pub LifeBefore : Type 0
-LifeBefore = (g : ℕ) (held : Held) (prepared : List (Name × Prepared)) → IsReopened g held prepared (life_before g held prepared)
+LifeBefore = (g : ℕ) (held : Held) (prepared : List (Name × Prepared))
+    → IsReopened g held prepared (life_before g held prepared)
 
 -- the parts rise by the numbers of their objects, which are above n
 abbrev pub AreRising : ℕ → List (ℕ × Part) → Type 0
@@ -75,15 +79,16 @@ pub record AreRecords (setup : Setup) (g : ℕ) (records : List (Name × Prepare
   pub each : AllByRecursion (λ p. IsRecord (length (objects_at setup g)) p.1) records
 
 -- What such a guardian reads: each of the records, and no other.
-pub record AreReadBack (setup : Setup) (g : ℕ) (held : Held) (records : List (Name × Prepared)) : Type 0 where
+pub record AreReadBack (setup : Setup) (g : ℕ) (held : Held)
+    (records : List (Name × Prepared)) : Type 0 where
   pub each : (t : Name) (r : Prepared) → Contains records (t, r)
       → prepared_here (opened_alone setup g held) g t (life_before g held records) ≡ Some r
   pub others : (t : Name) → IsFalse (is_prepared records t)
       → prepared_here (opened_alone setup g held) g t (life_before g held records) ≡ None
 
 abbrev pub RecordsReadBack : Type 0
-RecordsReadBack = (setup : Setup) (g : ℕ) (held : Held) (records : List (Name × Prepared)) → AreRecords setup g records
-    → AreReadBack setup g held records
+RecordsReadBack = (setup : Setup) (g : ℕ) (held : Held) (records : List (Name × Prepared))
+    → AreRecords setup g records → AreReadBack setup g held records
 
 abbrev pub IsDelta : Part → Type 0
 IsDelta (Value v) = ⊥
@@ -95,9 +100,10 @@ MayStand parts = (length parts ≤ 1) ⊎ AllByRecursion (λ r. IsDelta r.1) par
 
 -- of all records a value stands alone on its object
 abbrev pub ValuesAlone : ℕ → List (Name × Prepared) → Type 0
-ValuesAlone g records = (n : ℕ) → MayStand (parts_of g records (record { guardian = g; number = n }))
+ValuesAlone g records = (n : ℕ)
+    → MayStand (parts_of g records (record { guardian = g; number = n }))
 
 -- Where values stand alone, the objects keep Moss's rule, so that what follows keeps it too.
 abbrev pub ReopenedIsOrderly : Type 0
-ReopenedIsOrderly = (g : ℕ) (held : Held) (records : List (Name × Prepared)) (x : ObjectId) → ValuesAlone g records
-    → IsOrderly (standing_here (life_before g held records) x)
+ReopenedIsOrderly = (g : ℕ) (held : Held) (records : List (Name × Prepared)) (x : ObjectId)
+    → ValuesAlone g records → IsOrderly (standing_here (life_before g held records) x)

@@ -42,8 +42,8 @@ with_deltas c (d ∷ ds) = with_deltas (laid (Delta d.1) c) ds
 abbrev pub total_by : Content → Standing → Content
 total_by c s = with_deltas (top_by c s) (deltas_beside s)
 
--- An add of a text belongs to no object, and changes none; but its holder has a delta, of 0, and to add 0 brings a counter's number
--- within 64 bits.
+-- An add of a text belongs to no object, and changes none; but its holder has a delta, of 0, and to add 0 brings a
+-- counter's number within 64 bits.
 abbrev pub adds_text : Op → Bool
 adds_text (Add (Text bytes)) = true
 adds_text _ = false
@@ -54,20 +54,22 @@ NumberFits _ = Unit {0}
 
 -- where such an add is kept, the number on top is within 64 bits already
 abbrev pub TextsAddNothing : Content → Standing → Type 0
-TextsAddNothing c s = IsTrue (list_any (λ o. adds_text o.operation) s.kept) → NumberFits (top_by c s)
+TextsAddNothing c s = IsTrue (list_any (λ o. adds_text o.operation) s.kept)
+    → NumberFits (top_by c s)
 
--- Where Moss's rule is kept, the replay of all that was given back and is kept leaves the version on top, with the deltas beside it. So
--- the reply of a total is that of this content.
+-- Where Moss's rule is kept, the replay of all that was given back and is kept leaves the version on top, with the
+-- deltas beside it. So the reply of a total is that of this content.
 abbrev pub TopWithDeltas : Type 0
 TopWithDeltas = (c : Content) (s : Standing) → IsOrderly s → TextsAddNothing c s
     → left_of (under c (λ b. true) s.restored) s.kept ≡ total_by c s
 
 -- So is the version of an action whose total waits for nobody.
 abbrev pub VersionWithDeltas : Type 0
-VersionWithDeltas = (c : Content) (s : Standing) (a : Name) → IsOrderly s → blockers_by s a Total ≡ [] → TextsAddNothing c s
-    → version_by c s a ≡ total_by c s
+VersionWithDeltas = (c : Content) (s : Standing) (a : Name) → IsOrderly s
+    → blockers_by s a Total ≡ [] → TextsAddNothing c s → version_by c s a ≡ total_by c s
 
 -- No run adds a text, so this is what its kept operations leave.
 abbrev pub TopsOfRuns : Type 0
 TopsOfRuns = (opening : Opening) (past : List Event) (x : ObjectId) → IsRun opening past
-    → left_of (first_content opening x) (kept_on x past) ≡ total_by (first_content opening x) (standing_of x past)
+    → left_of (first_content opening x) (kept_on x past)
+    ≡ total_by (first_content opening x) (standing_of x past)

@@ -1,7 +1,9 @@
-//! The laws of local histories: what a guardian reads in its own history, and the registry in its, is what the whole history says.
+//! The laws of local histories: what a guardian reads in its own history, and the registry in its, is what the whole
+//! history says.
 //!
-//! Each law is the contract of a function without a body. `lent_answers`, `lent_grows` and `unnamed_stay` are what a body whose guardians know
-//! their own histories alone has to cite: by them its answers are `answer_of`, and what it keeps are the histories of the longer run.
+//! Each law is the contract of a function without a body. `lent_answers`, `lent_grows` and `unnamed_stay` are what a
+//! body whose guardians know their own histories alone has to cite: by them its answers are `answer_of`, and what it
+//! keeps are the histories of the longer run.
 #![tactic(auto)]
 
 ghost use Rattle.local_laws.specs.Laws.{ToldSame, ToldCommittedSame};
@@ -64,8 +66,8 @@ pub fn begun_same()
     ensures { BegunSame }
 {}
 
-/// What messages carried, and tellings, give the aborts that the guardian knows by the whole history, though a message has only what its sender had
-/// not sent to this receiver before.
+/// What messages carried, and tellings, give the aborts that the guardian knows by the whole history, though a
+/// message has only what its sender had not sent to this receiver before.
 pub fn aborts_same()
     ensures { AbortsSame }
 {}
@@ -165,7 +167,8 @@ pub fn local_runs()
     ensures { LocalRuns }
 {}
 
-/// What a guardian does by its own history keeps Moss's rule at each object: what is newer stands under what it conflicts with.
+/// What a guardian does by its own history keeps Moss's rule at each object: what is newer stands under what it
+/// conflicts with.
 pub fn local_runs_are_orderly()
     ensures { LocalRunsAreOrderly }
 {}
@@ -190,8 +193,8 @@ pub fn reply_of_version()
     ensures { ReplyOfVersion }
 {}
 
-/// What all that is kept of an object leaves of its content is the version on top, with the deltas beside it: those of all who are no ancestors
-/// of that version's owner.
+/// What all that is kept of an object leaves of its content is the version on top, with the deltas beside it: those
+/// of all who are no ancestors of that version's owner.
 pub fn top_with_deltas()
     ensures { TopWithDeltas }
 {}
@@ -236,7 +239,8 @@ pub fn reopened_is_orderly()
     ensures { ReopenedIsOrderly }
 {}
 
-/// Once an action is told committed, what it held goes to the nearest ancestor above it that was not told so, and nothing else moves.
+/// Once an action is told committed, what it held goes to the nearest ancestor above it that was not told so, and
+/// nothing else moves.
 pub fn holders_move()
     ensures { HoldersMove }
 {}

@@ -104,8 +104,8 @@ fn listed<K: OfRun, H: Wait>(
 ) -> Result<Vec<Answer>, RowFault>
     requires table { start.run.table.shared.table_id ≡ K.table }
     requires opening { opening_in start.run.table.shared.key ≡ K.opening }
-    requires world { IsWorld (λ g s. IsWhole plain_view g s) (λ g. seen_of plain_view g) (StandsIn registry)
-        K.opening [] guardians.items }
+    requires world { IsWorld (λ g s. IsWhole plain_view g s)
+        (λ g. seen_of plain_view g) (StandsIn registry) K.opening [] guardians.items }
 {
     let runtime = Threaded::<K, OpenGate>::new(alloc, start, registry, guardians, OpenGate)?;
     let mut receipts = Vec::new(alloc);

@@ -80,8 +80,8 @@ fn meet_in<K: OfRun + Send + Sync, H: Threads + Wait + Sync>(
 ) -> Result<bool, RowFault>
     requires table { start.run.table.shared.table_id ≡ K.table }
     requires opening { opening_in start.run.table.shared.key ≡ K.opening }
-    requires world { IsWorld (λ g s. IsWhole plain_view g s) (λ g. seen_of plain_view g) (StandsIn registry)
-        K.opening [] guardians.items }
+    requires world { IsWorld (λ g s. IsWhole plain_view g s)
+        (λ g. seen_of plain_view g) (StandsIn registry) K.opening [] guardians.items }
 {
     let runtime = Threaded::<K, &Meeting>::new(alloc, start, registry, guardians, meeting)?;
     let mut receipts = Vec::new(alloc);

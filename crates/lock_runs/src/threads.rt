@@ -86,8 +86,8 @@ fn all_in<K: OfRun + Send + Sync, H: Threads + Wait + Sync>(
 ) -> Result<Vec<Made>, RowFault>
     requires table { start.run.table.shared.table_id ≡ K.table }
     requires opening { opening_in start.run.table.shared.key ≡ K.opening }
-    requires world { IsWorld (λ g s. IsWhole plain_view g s) (λ g. seen_of plain_view g) (StandsIn registry)
-        K.opening [] guardians.items }
+    requires world { IsWorld (λ g s. IsWhole plain_view g s)
+        (λ g. seen_of plain_view g) (StandsIn registry) K.opening [] guardians.items }
 {
     let runtime = Threaded::<K, OpenGate>::new(alloc, start, registry, guardians, OpenGate)?;
     let mut receipts = Vec::new(alloc);

@@ -111,8 +111,8 @@ fn listed_in<K: OfRun, H: Wait + Clock>(
 ) -> Result<u64, RowFault>
     requires table { start.run.table.shared.table_id ≡ K.table }
     requires opening { opening_in start.run.table.shared.key ≡ K.opening }
-    requires world { IsWorld (λ g s. IsWhole plain_view g s) (λ g. seen_of plain_view g) (StandsIn registry)
-        K.opening [] guardians.items }
+    requires world { IsWorld (λ g s. IsWhole plain_view g s)
+        (λ g. seen_of plain_view g) (StandsIn registry) K.opening [] guardians.items }
 {
     let runtime = Threaded::<K, OpenGate>::new(alloc, start, registry, guardians, OpenGate)?;
     let mut receipts = Vec::new(alloc);
@@ -159,8 +159,8 @@ fn workers_in<K: OfRun + Send + Sync, H: Threads + Wait + Sync + Clock>(
 ) -> Result<u64, RowFault>
     requires table { start.run.table.shared.table_id ≡ K.table }
     requires opening { opening_in start.run.table.shared.key ≡ K.opening }
-    requires world { IsWorld (λ g s. IsWhole plain_view g s) (λ g. seen_of plain_view g) (StandsIn registry)
-        K.opening [] guardians.items }
+    requires world { IsWorld (λ g s. IsWhole plain_view g s)
+        (λ g. seen_of plain_view g) (StandsIn registry) K.opening [] guardians.items }
 {
     let runtime = Threaded::<K, OpenGate>::new(alloc, start, registry, guardians, OpenGate)?;
     let begun = Instant::now(rt);

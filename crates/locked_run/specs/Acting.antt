@@ -39,7 +39,8 @@ names_one count step past g =
 
 -- and nobody at all
 abbrev pub names_nobody : ℕ → Step → List Event → Bool
-names_nobody count step past = is_out count (first_named step past) && is_out count (second_named step past)
+names_nobody count step past =
+    is_out count (first_named step past) && is_out count (second_named step past)
 
 -- The guardian makes the step without the registry: an operation of an action at home there, its own
 -- crash, or its own recovery.
@@ -100,7 +101,8 @@ pub record IsLeft {G : Type 0} (opening : Opening) (stored : G → View) (step :
     (old new : InHeld G) : Type 0 where
   pub number : new.number ≡ old.number
   pub since : GoesOn touches (Some (suc old.number)) old.seen (run_before (has_added o) new.seen)
-  pub store : StoreAfter opening step o new.seen old.number (stored old.guardian) (stored new.guardian)
+  pub store :
+      StoreAfter opening step o new.seen old.number (stored old.guardian) (stored new.guardian)
 
 -- what is left of the stamps of the guardian that drew one, if one was drawn
 abbrev pub left_after : Bool → ℕ → ℕ

@@ -12,7 +12,8 @@ stamps = 4294967296
 
 -- a guardian to which nothing has happened, under its lock
 abbrev pub held_first : {G : Type 0} → ℕ → G → InHeld G
-held_first number guardian = record { guardian = guardian; number = number; seen = []; left = stamps }
+held_first number guardian =
+    record { guardian = guardian; number = number; seen = []; left = stamps }
 
 -- such guardians, whose numbers begin with this one
 abbrev pub held_from : {G : Type 0} → ℕ → List G → List (InHeld G)
@@ -25,7 +26,8 @@ AreFirst {G} opening stands guardians =
     (i : ℕ) (x : G) → slice_get guardians i ≡ Some x → stands x (standing opening [] (i + 1))
 
 -- The registry and the guardians of the opening are under locks, and nothing has happened.
-pub record AreBegun {G : Type 0} (opening : Opening) (registry : List Event) (held : List (InHeld G))
+pub record AreBegun {G : Type 0} (opening : Opening)
+    (registry : List Event) (held : List (InHeld G))
     : Type 0 where
   pub registry_seen : registry ≡ []
   pub guardians : List G

@@ -17,7 +17,8 @@ GoesOnFrom None past = Unit {0}
 GoesOnFrom (Some earlier) past = IsBehind earlier past
 
 -- what a look together with a receipt tells: the run so far, which goes on from the receipt's
-pub record LooksBehind (opening : Opening) (earlier : List Event) (v w : List (Piece Event)) : Type 0 where
+pub record LooksBehind (opening : Opening) (earlier : List Event)
+    (v w : List (Piece Event)) : Type 0 where
   pub past : List Event
   pub run : IsRun opening past
   pub fits : AllFit touches past v

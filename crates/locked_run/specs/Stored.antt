@@ -18,11 +18,13 @@ restamped n (s ∷ rest) = (n, s.1) ∷ rest
 
 -- the events of the run that name guardian g, the newest first
 abbrev pub guardian_events : Opening → List Event → ℕ → List Stamped
-guardian_events opening past g = map (λ e. (e.stamp, e.event)) (local_history opening (numbered past) g)
+guardian_events opening past g =
+    map (λ e. (e.stamp, e.event)) (local_history opening (numbered past) g)
 
 -- the events of the run that take the registry
 abbrev pub registry_events : Opening → List Event → List Stamped
-registry_events opening past = map (λ e. (e.stamp, e.event)) (registry_history opening (numbered past))
+registry_events opening past =
+    map (λ e. (e.stamp, e.event)) (registry_history opening (numbered past))
 
 -- the registry's history with this event, if the step takes the registry
 abbrev pub with_taken : Step → Stamped → List Stamped → List Stamped

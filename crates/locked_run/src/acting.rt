@@ -33,13 +33,15 @@ pub fn act_two<K: OfRun, R: Forest, G: Guardian>(
         (IsElsewhere (one.old.number ≡ other.old.number) one.old.left
         (names_two step.now one.new.seen one.old.number other.old.number))
         (λ a. IsAnswered K.opening step.now a.answer a.receipt one.new.seen)) }
-    ensures one { IsLeft K.opening G.stored step.now (outcome_of (λ a. a.receipt) result) one.old one.new }
-    ensures other { IsLeft K.opening G.stored step.now (outcome_of (λ a. a.receipt) result) other.old
-        other.new }
+    ensures one { IsLeft K.opening G.stored step.now
+        (outcome_of (λ a. a.receipt) result) one.old one.new }
+    ensures other { IsLeft K.opening G.stored step.now (outcome_of (λ a. a.receipt) result)
+        other.old other.new }
     ensures registry { IsLeftThere (outcome_of (λ a. a.receipt) result) registry.old registry.new }
     ensures seen { IfOk result (λ r. MatchOption r (Unit {0})
         (λ a. (other.new.seen ≡ one.new.seen) × (registry.new ≡ one.new.seen))) }
-    ensures left { one.new.left ≡ left_after (has_added (outcome_of (λ a. a.receipt) result)) one.old.left }
+    ensures left { one.new.left
+        ≡ left_after (has_added (outcome_of (λ a. a.receipt) result)) one.old.left }
     ensures same_left { other.new.left ≡ other.old.left }
     ensures cause { IsErrOf result Stable → CountsFailure (G.stored one.old.guardian)
         (G.stored one.new.guardian) ⊎ CountsFailure (G.stored other.old.guardian)

@@ -58,7 +58,8 @@ pub fn close_all<K: OfRun, R: Forest, G: Guardian>(
     receipts: Vec<Receipt<K>>,
 ) -> Result<Ends<R, G>, CloseFault<K, R, G>>
     requires all { length guardians.items ≡ length K.opening.setup }
-    ensures closed { IfOk result (λ ends. IsClosed G.stands G.stored R.stands K.opening receipts.items ends) }
+    ensures closed { IfOk result
+        (λ ends. IsClosed G.stands G.stored R.stands K.opening receipts.items ends) }
     ensures unclosed { IfErr result (λ fault. IsUnclosed G.stands G.stored R.stands K.opening
         receipts.items fault) }
 {

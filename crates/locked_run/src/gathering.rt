@@ -69,7 +69,8 @@ pub(crate) fn gather_three<K: OfRun>(
         × (registry.old.token.table_id ≡ K.table) }
     ensures table { result.token.table_id ≡ K.table }
     ensures looks { Looks (IsRun K.opening) touches
-        ((one.old.token.me.0 ++ other.old.token.me.0) ++ registry.old.token.me.0) result.token.me.0 }
+        ((one.old.token.me.0 ++ other.old.token.me.0) ++ registry.old.token.me.0)
+        result.token.me.0 }
 {
     let mut all = shared.run.take(one);
     let second = shared.run.take(other);

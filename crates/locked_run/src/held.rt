@@ -42,7 +42,8 @@ impl<K: OfRun, G: Guardian> Model for Held<K, G> {
       left = h.left;
     } };
 
-    ghost invariant = { λ h. IsHeld K.opening K.table (G.stands h.guardian) h.part h.left h.history };
+    ghost invariant = { λ h.
+        IsHeld K.opening K.table (G.stands h.guardian) h.part h.left h.history };
 }
 
 /// The registry under its lock, which stands where the run leads it. Contracts see the run as it was
@@ -167,7 +168,8 @@ impl<K: OfRun, G: Guardian> Held<K, G> {
         requires { all.old.token.table_id ≡ K.table }
         ensures table { all.new.token.table_id ≡ K.table }
         ensures known { (left : ℕ)
-            × (all.new.token.me.0 ≡ all.old.token.me.0 ++ guardian_part self.number left self.seen ∷ []) }
+            × (all.new.token.me.0
+            ≡ all.old.token.me.0 ++ guardian_part self.number left self.seen ∷ []) }
         ensures run { IsRun K.opening self.seen }
         ensures first { 1 ≤ self.number }
         ensures last { self.number ≤ length K.opening.setup }

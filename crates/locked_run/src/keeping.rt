@@ -41,14 +41,16 @@ pub(crate) fn keep_at_two<K: OfRun, T: Deed, R: Forest, G: Guardian>(
     requires named { AreNamed (R.stands registry.old) event.now.step named }
     requires apart { (low == high) ≡ false }
     requires names { Names (forest_of K.opening (seen_of part.token.me.0)) event.now.step low high }
-    requires locked { AreLocked K.opening (R.stands registry.old) (G.stands one.old) (G.stands other.old)
-        low high part.token.me.0 }
-    requires answered { event.now.answer ≡ answer_of K.opening event.now.step (seen_of part.token.me.0) }
+    requires locked { AreLocked K.opening (R.stands registry.old) (G.stands one.old)
+        (G.stands other.old) low high part.token.me.0 }
+    requires answered { event.now.answer
+        ≡ answer_of K.opening event.now.step (seen_of part.token.me.0) }
     requires accepted { IsTrue (is_accepted event.now.answer) }
     ensures table { result.0.token.table_id ≡ K.table }
     ensures added { IfOk result.1 (λ number. Adds (IsRun K.opening) touches event.now
         part.token.me.0 number result.0.token.me.0) }
-    ensures locked { IfOk result.1 (λ number. AreLocked K.opening (R.stands registry.new) (G.stands one.new)
+    ensures locked { IfOk result.1
+        (λ number. AreLocked K.opening (R.stands registry.new) (G.stands one.new)
         (G.stands other.new) low high (others_of result.0.token.me.0)) }
     ensures same { OnErr result.1 (result.0.token.me.0 ≡ part.token.me.0) }
     ensures err { OnErr result.1 (AreLocked K.opening (R.stands registry.new) (G.stands one.new)
@@ -92,21 +94,25 @@ pub(crate) fn keep_at_one<K: OfRun, T: Deed, R: Forest, G: Guardian>(
     requires left { 0 < first_left part.token.me.0 }
     requires deed { T.event ≡ event.now }
     requires named { AreNamed (R.stands registry.old) event.now.step named }
-    requires names { Names (forest_of K.opening (seen_of part.token.me.0)) event.now.step number number }
+    requires names { Names (forest_of K.opening (seen_of part.token.me.0))
+        event.now.step number number }
     requires locked { AreLocked K.opening (R.stands registry.old) (G.stands guardian.old)
         (G.stands guardian.old) number number part.token.me.0 }
-    requires answered { event.now.answer ≡ answer_of K.opening event.now.step (seen_of part.token.me.0) }
+    requires answered { event.now.answer
+        ≡ answer_of K.opening event.now.step (seen_of part.token.me.0) }
     requires accepted { IsTrue (is_accepted event.now.answer) }
     ensures table { result.0.token.table_id ≡ K.table }
     ensures added { IfOk result.1 (λ stamp. Adds (IsRun K.opening) touches event.now
         part.token.me.0 stamp result.0.token.me.0) }
     ensures locked { IfOk result.1 (λ stamp. AreLocked K.opening (R.stands registry.new)
-        (G.stands guardian.new) (G.stands guardian.new) number number (others_of result.0.token.me.0)) }
+        (G.stands guardian.new) (G.stands guardian.new) number number
+        (others_of result.0.token.me.0)) }
     ensures same { OnErr result.1 (result.0.token.me.0 ≡ part.token.me.0) }
-    ensures err { OnErr result.1 (AreLocked K.opening (R.stands registry.new) (G.stands guardian.new)
+    ensures err { OnErr result.1
+        (AreLocked K.opening (R.stands registry.new) (G.stands guardian.new)
         (G.stands guardian.new) number number part.token.me.0) }
-    ensures store { StoreAfter K.opening event.now.step (kept_outcome result.1) (seen_of result.0.token.me.0)
-        number (G.stored guardian.old) (G.stored guardian.new) }
+    ensures store { StoreAfter K.opening event.now.step (kept_outcome result.1)
+        (seen_of result.0.token.me.0) number (G.stored guardian.old) (G.stored guardian.new) }
     ensures cause { IsErrOf result.1 Stable → CountsFailure (G.stored guardian.old)
         (G.stored guardian.new) }
 {

@@ -28,7 +28,8 @@ pub(crate) fn names_two(named: NamedGuardians, one: u32, other: u32) -> bool
 
 /// Whether none of so many is named but this one.
 pub(crate) fn names_one(named: NamedGuardians, count: usize, guardian: u32) -> bool
-    ensures { result ≡ (is_at_most count guardian named.first && is_at_most count guardian named.second) }
+    ensures { result
+        ≡ (is_at_most count guardian named.first && is_at_most count guardian named.second) }
 {
     is_at_most(count, guardian, named.first) && is_at_most(count, guardian, named.second)
 }

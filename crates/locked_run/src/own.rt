@@ -105,10 +105,12 @@ fn keep_by_itself<G: Guardian, D: Draw>(
     ensures drawn { IfOk result (λ n. D.draws stamp.old n stamp.new) }
     ensures undrawn { OnErr result (stamp.new ≡ stamp.old) }
     ensures kept { IfOk result (λ n. (s : GuardianState) → G.stands guardian.old s
-        → IsNext s (by_itself event.now) → G.stands guardian.new (kept s (stamped n (by_itself event.now)))) }
+        → IsNext s (by_itself event.now)
+        → G.stands guardian.new (kept s (stamped n (by_itself event.now)))) }
     ensures same { OnErr result (StandsStill (G.stands guardian.old) (G.stands guardian.new)) }
     ensures store { (s : GuardianState) → G.stands guardian.old s → IsNext s (by_itself event.now)
-        → LeavesStore s (by_itself event.now) (G.stored guardian.old) (G.stored guardian.new) (fault_in result) }
+        → LeavesStore s (by_itself event.now) (G.stored guardian.old)
+        (G.stored guardian.new) (fault_in result) }
     ensures cause { IsErrOf result Stable → CountsFailure (G.stored guardian.old)
         (G.stored guardian.new) }
 {
@@ -136,7 +138,8 @@ fn keep_own<K: OfRun, T: Deed, G: Guardian>(
     requires deed { T.event ≡ event.now }
     requires own { is_own number event.now.step (seen_of part.token.me.0) ≡ true }
     requires here { HasGuardian K.opening (G.stands guardian.old) number part.token.me.0 }
-    requires answered { event.now.answer ≡ answer_of K.opening event.now.step (seen_of part.token.me.0) }
+    requires answered { event.now.answer
+        ≡ answer_of K.opening event.now.step (seen_of part.token.me.0) }
     requires accepted { IsTrue (is_accepted event.now.answer) }
     ensures table { result.0.token.table_id ≡ K.table }
     ensures added { IfOk result.1 (λ stamp. Adds (IsRun K.opening) touches event.now
@@ -144,9 +147,10 @@ fn keep_own<K: OfRun, T: Deed, G: Guardian>(
     ensures here { IfOk result.1 (λ stamp. HasGuardian K.opening (G.stands guardian.new) number
         (others_of result.0.token.me.0)) }
     ensures same { OnErr result.1 (result.0.token.me.0 ≡ part.token.me.0) }
-    ensures err { OnErr result.1 (HasGuardian K.opening (G.stands guardian.new) number part.token.me.0) }
-    ensures store { StoreAfter K.opening event.now.step (kept_outcome result.1) (seen_of result.0.token.me.0)
-        number (G.stored guardian.old) (G.stored guardian.new) }
+    ensures err { OnErr result.1
+        (HasGuardian K.opening (G.stands guardian.new) number part.token.me.0) }
+    ensures store { StoreAfter K.opening event.now.step (kept_outcome result.1)
+        (seen_of result.0.token.me.0) number (G.stored guardian.old) (G.stored guardian.new) }
     ensures cause { IsErrOf result.1 Stable → CountsFailure (G.stored guardian.old)
         (G.stored guardian.new) }
 {
@@ -184,7 +188,8 @@ pub(crate) fn step_own<K: OfRun, G: Guardian>(
     requires kept { history.old ≡ guardian_events K.opening (seen_of part.token.me.0) number }
     requires store { HasStore (G.stored guardian.old) }
     ensures table { result.0.token.table_id ≡ K.table }
-    ensures moved { HasMoved (outcome_of (λ a. a.receipt) result.1) part.token.me.0 result.0.token.me.0 }
+    ensures moved { HasMoved (outcome_of (λ a. a.receipt) result.1) part.token.me.0
+        result.0.token.me.0 }
     ensures here { HasGuardian K.opening (G.stands guardian.new) number result.0.token.me.0 }
     ensures kept { history.new ≡ guardian_events K.opening (seen_of result.0.token.me.0) number }
     ensures answered { IfOk result.1 (λ r. MatchOption r
@@ -223,7 +228,8 @@ fn finish_own<K: OfRun, G: Guardian>(
     requires answered { answer ≡ answer_of K.opening step.now (seen_of part.token.me.0) }
     requires store { HasStore (G.stored guardian.old) }
     ensures table { result.0.token.table_id ≡ K.table }
-    ensures moved { HasMoved (outcome_of (λ a. a.receipt) result.1) part.token.me.0 result.0.token.me.0 }
+    ensures moved { HasMoved (outcome_of (λ a. a.receipt) result.1) part.token.me.0
+        result.0.token.me.0 }
     ensures here { HasGuardian K.opening (G.stands guardian.new) number result.0.token.me.0 }
     ensures kept { history.new ≡ guardian_events K.opening (seen_of result.0.token.me.0) number }
     ensures answered { IfOk result.1 (λ r. MatchOption r

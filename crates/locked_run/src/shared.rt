@@ -92,7 +92,8 @@ impl<'a, K: OfRun, T: Deed> Draw for Drawing<'a, K, T> {
     ghost may_draw = { λ d. (0 < first_left d.part.token.me.0)
         × MayAdd (IsRun K.opening) touches T.event d.part.token.me.0 };
 
-    ghost draws = { λ d n w. Adds (IsRun K.opening) touches T.event d.part.token.me.0 n w.part.token.me.0 };
+    ghost draws = { λ d n w.
+        Adds (IsRun K.opening) touches T.event d.part.token.me.0 n w.part.token.me.0 };
 
     fn draw(&mut self) -> u64 {
         self.shared.run.add(&mut self.part)

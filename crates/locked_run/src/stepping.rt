@@ -41,16 +41,17 @@ pub(crate) fn step_two<K: OfRun, R: Forest, G: Guardian>(
     requires table { part.token.table_id ≡ K.table }
     requires left { 0 < first_left part.token.me.0 }
     requires apart { (low == high) ≡ false }
-    requires locked { AreLocked K.opening (R.stands registry.old) (G.stands one.old) (G.stands other.old)
-        low high part.token.me.0 }
+    requires locked { AreLocked K.opening (R.stands registry.old) (G.stands one.old)
+        (G.stands other.old) low high part.token.me.0 }
     requires kept { AreKept K.opening low high (seen_of part.token.me.0) records.old.one.now
         records.old.other.now records.old.registry.now }
     requires first_store { HasStore (G.stored one.old) }
     requires second_store { HasStore (G.stored other.old) }
     ensures table { result.0.token.table_id ≡ K.table }
-    ensures moved { HasMoved (outcome_of (λ a. a.receipt) result.1) part.token.me.0 result.0.token.me.0 }
-    ensures locked { AreLocked K.opening (R.stands registry.new) (G.stands one.new) (G.stands other.new)
-        low high result.0.token.me.0 }
+    ensures moved { HasMoved (outcome_of (λ a. a.receipt) result.1) part.token.me.0
+        result.0.token.me.0 }
+    ensures locked { AreLocked K.opening (R.stands registry.new) (G.stands one.new)
+        (G.stands other.new) low high result.0.token.me.0 }
     ensures lent { (records.new.one.ghost_name ≡ records.old.one.ghost_name)
         × (records.new.other.ghost_name ≡ records.old.other.ghost_name)
         × (records.new.registry.ghost_name ≡ records.old.registry.ghost_name) }
@@ -98,17 +99,18 @@ fn finish_two<K: OfRun, R: Forest, G: Guardian>(
     requires named { AreNamed (R.stands registry.old) step.now named }
     requires apart { (low == high) ≡ false }
     requires names { Names (forest_of K.opening (seen_of part.token.me.0)) step.now low high }
-    requires locked { AreLocked K.opening (R.stands registry.old) (G.stands one.old) (G.stands other.old)
-        low high part.token.me.0 }
+    requires locked { AreLocked K.opening (R.stands registry.old) (G.stands one.old)
+        (G.stands other.old) low high part.token.me.0 }
     requires kept { AreKept K.opening low high (seen_of part.token.me.0) records.old.one.now
         records.old.other.now records.old.registry.now }
     requires answered { answer ≡ answer_of K.opening step.now (seen_of part.token.me.0) }
     requires first_store { HasStore (G.stored one.old) }
     requires second_store { HasStore (G.stored other.old) }
     ensures table { result.0.token.table_id ≡ K.table }
-    ensures moved { HasMoved (outcome_of (λ a. a.receipt) result.1) part.token.me.0 result.0.token.me.0 }
-    ensures locked { AreLocked K.opening (R.stands registry.new) (G.stands one.new) (G.stands other.new)
-        low high result.0.token.me.0 }
+    ensures moved { HasMoved (outcome_of (λ a. a.receipt) result.1) part.token.me.0
+        result.0.token.me.0 }
+    ensures locked { AreLocked K.opening (R.stands registry.new) (G.stands one.new)
+        (G.stands other.new) low high result.0.token.me.0 }
     ensures lent { (records.new.one.ghost_name ≡ records.old.one.ghost_name)
         × (records.new.other.ghost_name ≡ records.old.other.ghost_name)
         × (records.new.registry.ghost_name ≡ records.old.registry.ghost_name) }
@@ -167,7 +169,8 @@ pub(crate) fn step_one<K: OfRun, R: Forest, G: Guardian>(
         records.old.guardian.now records.old.guardian.now records.old.registry.now }
     requires store { HasStore (G.stored guardian.old) }
     ensures table { result.0.token.table_id ≡ K.table }
-    ensures moved { HasMoved (outcome_of (λ a. a.receipt) result.1) part.token.me.0 result.0.token.me.0 }
+    ensures moved { HasMoved (outcome_of (λ a. a.receipt) result.1) part.token.me.0
+        result.0.token.me.0 }
     ensures locked { AreLocked K.opening (R.stands registry.new) (G.stands guardian.new)
         (G.stands guardian.new) number number result.0.token.me.0 }
     ensures lent { (records.new.guardian.ghost_name ≡ records.old.guardian.ghost_name)
@@ -210,7 +213,8 @@ fn finish_one<K: OfRun, R: Forest, G: Guardian>(
     requires table { part.token.table_id ≡ K.table }
     requires left { 0 < first_left part.token.me.0 }
     requires named { AreNamed (R.stands registry.old) step.now named }
-    requires names { IsTrue (names_one (length K.opening.setup) step.now (seen_of part.token.me.0) number) }
+    requires names { IsTrue
+        (names_one (length K.opening.setup) step.now (seen_of part.token.me.0) number) }
     requires locked { AreLocked K.opening (R.stands registry.old) (G.stands guardian.old)
         (G.stands guardian.old) number number part.token.me.0 }
     requires kept { AreKept K.opening number number (seen_of part.token.me.0)
@@ -218,7 +222,8 @@ fn finish_one<K: OfRun, R: Forest, G: Guardian>(
     requires answered { answer ≡ answer_of K.opening step.now (seen_of part.token.me.0) }
     requires store { HasStore (G.stored guardian.old) }
     ensures table { result.0.token.table_id ≡ K.table }
-    ensures moved { HasMoved (outcome_of (λ a. a.receipt) result.1) part.token.me.0 result.0.token.me.0 }
+    ensures moved { HasMoved (outcome_of (λ a. a.receipt) result.1) part.token.me.0
+        result.0.token.me.0 }
     ensures locked { AreLocked K.opening (R.stands registry.new) (G.stands guardian.new)
         (G.stands guardian.new) number number result.0.token.me.0 }
     ensures lent { (records.new.guardian.ghost_name ≡ records.old.guardian.ghost_name)

@@ -19,7 +19,8 @@ has_room table b =
 
 -- b has a row of its own in each class
 abbrev pub has_rows : Table → Name → Bool
-has_rows table b = has_name table.room.readers b && has_name table.room.writers b && has_name table.room.adders b
+has_rows table b =
+    has_name table.room.readers b && has_name table.room.writers b && has_name table.room.adders b
 
 -- there is room for the next holder, if there is one
 abbrev pub HasRoomFor : Table → Option Name → Type 0
@@ -35,12 +36,15 @@ KeepsRows old new = (b : Name) → IsTrue (has_rows old b) → IsTrue (has_rows 
 
 -- all others that had rows have them still
 abbrev pub KeepsOthersRows : Table → Table → Name → Type 0
-KeepsOthersRows old new a = (b : Name) → IsTrue (not (same_name a b) && has_rows old b) → IsTrue (has_rows new b)
+KeepsOthersRows old new a = (b : Name) → IsTrue (not (same_name a b) && has_rows old b)
+    → IsTrue (has_rows new b)
 
 -- all others that had room have it still
 abbrev pub KeepsOthersRoom : Table → Table → Name → Type 0
-KeepsOthersRoom old new a = (b : Name) → IsTrue (not (same_name a b) && has_room old b) → IsTrue (has_room new b)
+KeepsOthersRoom old new a = (b : Name) → IsTrue (not (same_name a b) && has_room old b)
+    → IsTrue (has_room new b)
 
 -- all but an action and its descendants that had room have it still
 abbrev pub KeepsRoomBeside : Table → Table → Name → Type 0
-KeepsRoomBeside old new a = (b : Name) → IsTrue (not (is_ancestor a b) && has_room old b) → IsTrue (has_room new b)
+KeepsRoomBeside old new a = (b : Name) → IsTrue (not (is_ancestor a b) && has_room old b)
+    → IsTrue (has_room new b)

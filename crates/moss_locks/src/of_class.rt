@@ -21,7 +21,8 @@ pub(crate) fn are_in_the_way(
     wanted: Class,
     action: &Name,
 ) -> bool
-    ensures { result ≡ (classes_conflict held wanted && has_foreign (names_of holders.now.held) action.now) }
+    ensures { result
+        ≡ (classes_conflict held wanted && has_foreign (names_of holders.now.held) action.now) }
 {
     held.conflicts_with(wanted) && holders.has_foreign(action)
 }
@@ -35,7 +36,8 @@ pub(crate) fn add_in_the_way(
     action: &Name,
 ) -> Result<(), AllocError>
     ensures { OnOk result ((b : Name) → has_name names.new.keys b
-        ≡ (has_name names.old.keys b || (not (is_ancestor b action.now) && (classes_conflict held wanted && has_name (names_of holders.now.held) b)))) }
+        ≡ (has_name names.old.keys b || (not (is_ancestor b action.now)
+        && (classes_conflict held wanted && has_name (names_of holders.now.held) b)))) }
 {
     if !held.conflicts_with(wanted) {
         return Ok(());
@@ -45,8 +47,11 @@ pub(crate) fn add_in_the_way(
 
 /// Adds the holder, unless it is there, and says if it is new.
 pub(crate) fn insert(holders: &mut Holders<()>, holder: &Name) -> Result<bool, AllocError>
-    ensures ok { OnOk result (names_of holders.new.held ≡ insert_key name_cmp (names_of holders.old.held) holder.now) }
-    ensures undone { IfOk result (λ is_new. (if is_new then all_but holder.now (names_of holders.new.held) else names_of holders.new.held) ≡ names_of holders.old.held) }
+    ensures ok { OnOk result
+        (names_of holders.new.held ≡ insert_key name_cmp (names_of holders.old.held) holder.now) }
+    ensures undone { IfOk result (λ is_new. (if is_new
+        then all_but holder.now (names_of holders.new.held) else names_of holders.new.held)
+        ≡ names_of holders.old.held) }
     ensures room { OnOk result (HasMoreRoom holders.old.room holders.new.room holder.now) }
     ensures err { OnErr result (holders.new ≡ holders.old) }
 {
@@ -67,8 +72,10 @@ pub(crate) fn drop_one(holders: &mut Holders<()>, holder: &Name)
 /// Makes room for a holder that is to be handed what others hold. Where nobody holds anything that takes no room.
 pub(crate) fn make_room(holders: &mut Holders<()>, holder: &Name) -> Result<(), AllocError>
     ensures held { holders.new.held ≡ holders.old.held }
-    ensures room { OnOk result ((b : Name) → may_be_handed (names_of holders.new.held) holders.new.room b
-        ≡ (same_name holder.now b || may_be_handed (names_of holders.old.held) holders.old.room b)) }
+    ensures room { OnOk result
+        ((b : Name) → may_be_handed (names_of holders.new.held) holders.new.room b
+        ≡ (same_name holder.now b
+        || may_be_handed (names_of holders.old.held) holders.old.room b)) }
     ensures err { OnErr result (holders.new ≡ holders.old) }
 {
     if holders.is_clear() {
@@ -77,11 +84,15 @@ pub(crate) fn make_room(holders: &mut Holders<()>, holder: &Name) -> Result<(), 
     holders.make_room(holder)
 }
 
-/// Puts the next holder, which may be handed it, in the place of the action; without one nobody holds what the action held.
+/// Puts the next holder, which may be handed it, in the place of the action; without one nobody holds what the action
+/// held.
 pub(crate) fn pass(holders: &mut Holders<()>, action: &Name, to: Option<&Name>)
-    requires { IfSome (name_of to) (λ next. IsTrue (may_be_handed (names_of holders.old.held) holders.old.room next)) }
-    ensures names { names_of holders.new.held ≡ passed action.now (name_of to.entry) (names_of holders.old.held) }
-    ensures room { (b : Name) → IsTrue (not (same_name action.now b) && may_be_handed (names_of holders.old.held) holders.old.room b)
+    requires { IfSome (name_of to)
+        (λ next. IsTrue (may_be_handed (names_of holders.old.held) holders.old.room next)) }
+    ensures names { names_of holders.new.held
+        ≡ passed action.now (name_of to.entry) (names_of holders.old.held) }
+    ensures room { (b : Name) → IsTrue (not (same_name action.now b)
+        && may_be_handed (names_of holders.old.held) holders.old.room b)
         → IsTrue (may_be_handed (names_of holders.new.held) holders.new.room b) }
 {
     if holders.is_clear() {
@@ -96,7 +107,8 @@ pub(crate) fn pass(holders: &mut Holders<()>, action: &Name, to: Option<&Name>)
 // Adds the next holder, which may be handed it, where the action is one of these.
 fn add_beside(holders: &mut Holders<()>, action: &Name, next: &Name)
     requires { IsTrue (may_be_handed (names_of holders.old.held) holders.old.room next.now) }
-    ensures names { names_of holders.new.held ≡ with_next (names_of holders.old.held) action.now (Some next.now) }
+    ensures names { names_of holders.new.held
+        ≡ with_next (names_of holders.old.held) action.now (Some next.now) }
     ensures room { holders.new.room ≡ holders.old.room }
 {
     if holders.holds(action) {

@@ -48,8 +48,8 @@ impl LockTable {
         }
     }
 
-    /// Whether an operation of this class by the action has to wait for somebody. This takes no memory, and looks in each class at no
-    /// more holders than the action has ancestors, and one.
+    /// Whether an operation of this class by the action has to wait for somebody. This takes no memory, and looks in
+    /// each class at no more holders than the action has ancestors, and one.
     pub fn must_wait(&self, action: &Name, class: Class) -> bool
         ensures { result ≡ must_wait self.now.locks action.now class }
     {
@@ -58,12 +58,14 @@ impl LockTable {
             || of_class::are_in_the_way(&self.adders, Class::Add, class, action)
     }
 
-    /// For whom an operation of this class by the action has to wait, each once, in the order of names; none exactly where it need not
-    /// wait. Fails only if memory runs out.
+    /// For whom an operation of this class by the action has to wait, each once, in the order of names; none exactly
+    /// where it need not wait. Fails only if memory runs out.
     pub fn blockers(&self, action: &Name, class: Class) -> Result<Vec<Name>, AllocError>
-        ensures names { IfOk result (λ names. (b : Name) → has_name names.items b ≡ is_in_the_way self.now.locks action.now class b) }
+        ensures names { IfOk result (λ names. (b : Name)
+            → has_name names.items b ≡ is_in_the_way self.now.locks action.now class b) }
         ensures rising { IfOk result (λ names. IsStrictlySortedBy name_cmp names.items) }
-        ensures none { IfOk result (λ names. (names.items ≡ []) ↔ IsFalse (must_wait self.now.locks action.now class)) }
+        ensures none { IfOk result
+            (λ names. (names.items ≡ []) ↔ IsFalse (must_wait self.now.locks action.now class)) }
     {
         let mut names = BTreeSet::new(self.alloc);
         of_class::add_in_the_way(&mut names, &self.readers, Class::Read, class, action)?;
@@ -85,17 +87,22 @@ impl LockTable {
 
     /// Whether the action or a descendant holds anything. This takes no memory.
     pub fn is_held_below(&self, action: &Name) -> bool
-        ensures { result ≡ (has_below self.now.locks.readers action.now || has_below self.now.locks.writers action.now || has_below self.now.locks.adders action.now) }
+        ensures { result ≡ (has_below self.now.locks.readers action.now
+            || has_below self.now.locks.writers action.now
+            || has_below self.now.locks.adders action.now) }
     {
         self.readers.has_below(action)
             || self.writers.has_below(action)
             || self.adders.has_below(action)
     }
 
-    /// Notes that the action holds an operation of this class, and says if that is new. If memory runs out, nothing is changed.
+    /// Notes that the action holds an operation of this class, and says if that is new. If memory runs out, nothing
+    /// is changed.
     pub fn grant(&mut self, action: &Name, class: Class) -> Result<bool, AllocError>
         ensures ok { OnOk result (self.new.locks ≡ granted self.old.locks action.now class) }
-        ensures undone { IfOk result (λ is_new. (if is_new then revoked self.new.locks action.now class else self.new.locks) ≡ self.old.locks) }
+        ensures undone { IfOk result
+            (λ is_new. (if is_new then revoked self.new.locks action.now class else self.new.locks)
+            ≡ self.old.locks) }
         ensures rows { KeepsRows self.old self.new }
         ensures err { OnErr result (self.new ≡ self.old) }
     {
@@ -119,11 +126,13 @@ impl LockTable {
         }
     }
 
-    /// Makes room for this holder, so that `inherit` may give it locks that others hold now: none is made in a class in which nobody holds one, so that
-    /// a lock that is granted later may ask for room anew. The locks stay. If memory runs out, there may be room for it in some classes.
+    /// Makes room for this holder, so that `inherit` may give it locks that others hold now: none is made in a class
+    /// in which nobody holds one, so that a lock that is granted later may ask for room anew. The locks stay. If
+    /// memory runs out, there may be room for it in some classes.
     pub fn make_room(&mut self, holder: &Name) -> Result<(), AllocError>
         ensures locks { self.new.locks ≡ self.old.locks }
-        ensures room { OnOk result ((b : Name) → has_room self.new b ≡ (same_name holder.now b || has_room self.old b)) }
+        ensures room { OnOk result
+            ((b : Name) → has_room self.new b ≡ (same_name holder.now b || has_room self.old b)) }
         ensures err { OnErr result (KeepsRoom self.old self.new) }
     {
         of_class::make_room(&mut self.readers, holder)?;
@@ -131,8 +140,8 @@ impl LockTable {
         of_class::make_room(&mut self.adders, holder)
     }
 
-    /// Gives the next holder, for which there is room, the locks of the action; without one nobody has them. The action's room goes, and
-    /// that of all others stays. This takes no memory.
+    /// Gives the next holder, for which there is room, the locks of the action; without one nobody has them. The
+    /// action's room goes, and that of all others stays. This takes no memory.
     pub fn inherit(&mut self, action: &Name, to: Option<&Name>)
         requires { HasRoomFor self.old (name_of to) }
         ensures locks { self.new.locks ≡ inherited self.old.locks action.now (name_of to.entry) }
@@ -153,9 +162,11 @@ impl LockTable {
         self.adders.drop_below(action);
     }
 
-    /// A crash: the survivors keep what they wrote and added; all other locks are lost, and so is every lock to read. This takes no memory.
+    /// A crash: the survivors keep what they wrote and added; all other locks are lost, and so is every lock to read.
+    /// This takes no memory.
     pub fn crash<S: Survivors>(&mut self, survivors: &S)
-        ensures { self.new.locks ≡ record { readers = []; writers = filter (S.stays survivors.now) self.old.locks.writers; adders = filter (S.stays survivors.now) self.old.locks.adders } }
+        ensures { self.new.locks
+            ≡ record { readers = []; writers = filter (S.stays survivors.now) self.old.locks.writers; adders = filter (S.stays survivors.now) self.old.locks.adders } }
     {
         self.readers = Holders::new(self.alloc);
         self.writers.keep(survivors);

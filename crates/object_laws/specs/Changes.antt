@@ -11,7 +11,8 @@ with_operation o s = record { told = s.told; kept = o ∷ s.kept; restored = s.r
 
 -- these actions more were told committed
 abbrev pub told_too : (Name → Bool) → Standing → Standing
-told_too commits s = record { told = λ b. commits b || s.told b; kept = s.kept; restored = s.restored }
+told_too commits s =
+    record { told = λ b. commits b || s.told b; kept = s.kept; restored = s.restored }
 
 -- what such actions and their descendants did is undone
 abbrev pub undone : (Name → Bool) → Standing → Standing

@@ -1,4 +1,5 @@
--- How each event of a guardian's own history changes the way in which an object stands. No store gives anything back but before an opening.
+-- How each event of a guardian's own history changes the way in which an object stands. No store gives anything back
+-- but before an opening.
 use Rattle.std.specs.Prelude.{◌≡◌, suc, Bool, true, false, IsFalse, List, [], ◌∷◌, length}
 use Rattle.action_names.specs.Names.{Name}
 use Rattle.atomic_types.specs.Operations as op
@@ -24,22 +25,30 @@ is_granted_on x _ _ = false
 
 -- A granted operation is kept, the newest.
 abbrev pub OperationIsKept : Type 0
-OperationIsKept = (c : LocalEvent) (here : List LocalEvent) (x : ObjectId) (a : Name) (wanted : op.Op) (r : Reply)
-    → c.event.step ≡ Op a x wanted → c.event.answer ≡ Granted r → c.carried.outcomes ≡ [] → c.carried.restored ≡ []
-    → standing_here (c ∷ here) x
-    ≡ with_operation (record { number = suc (length here); action = a; object = x; operation = wanted; reply = r }) (standing_here here x)
+OperationIsKept =
+    (c : LocalEvent) (here : List LocalEvent) (x : ObjectId) (a : Name) (wanted : op.Op) (r : Reply)
+    → c.event.step ≡ Op a x wanted → c.event.answer ≡ Granted r → c.carried.outcomes ≡ []
+    → c.carried.restored ≡ [] → standing_here (c ∷ here) x
+    ≡ with_operation
+    (record { number = suc (length here); action = a; object = x; operation = wanted; reply = r })
+    (standing_here here x)
 
 -- Whatever else is no crash changes the object by the outcomes alone that it brings.
 abbrev pub OutcomesAreHeard : Type 0
-OutcomesAreHeard = (c : LocalEvent) (here : List LocalEvent) (x : ObjectId) → IsFalse (is_crash c.event.step)
-    → IsFalse (is_granted_on x c.event.step c.event.answer) → c.carried.restored ≡ []
+OutcomesAreHeard = (c : LocalEvent) (here : List LocalEvent) (x : ObjectId)
+    → IsFalse (is_crash c.event.step) → IsFalse (is_granted_on x c.event.step c.event.answer)
+    → c.carried.restored ≡ []
     → standing_here (c ∷ here) x ≡ heard c.carried.outcomes (standing_here here x)
 
 -- A crash of its guardian leaves of the operations those that outlive it.
 abbrev pub CrashLeaves : Type 0
-CrashLeaves = (c : LocalEvent) (here : List LocalEvent) (x : ObjectId) → c.event.step ≡ Crash x.guardian → c.carried.outcomes ≡ []
-    → c.carried.restored ≡ [] → standing_here (c ∷ here) x ≡ crashed (λ o. outlives_crash o (events_here here)) (standing_here here x)
+CrashLeaves = (c : LocalEvent) (here : List LocalEvent) (x : ObjectId)
+    → c.event.step ≡ Crash x.guardian → c.carried.outcomes ≡ [] → c.carried.restored ≡ []
+    → standing_here (c ∷ here) x
+    ≡ crashed (λ o. outlives_crash o (events_here here)) (standing_here here x)
 
--- Outcomes of different actions may be heard one after another, and then in the order in which descendants come before their ancestors.
+-- Outcomes of different actions may be heard one after another, and then in the order in which descendants come
+-- before their ancestors.
 abbrev pub HeardInTurn : Type 0
-HeardInTurn = (outcomes : List (Name × Bool)) (s : Standing) → AreOfTheirOwn outcomes → heard outcomes s ≡ heard_in_turn outcomes s
+HeardInTurn = (outcomes : List (Name × Bool)) (s : Standing) → AreOfTheirOwn outcomes
+    → heard outcomes s ≡ heard_in_turn outcomes s

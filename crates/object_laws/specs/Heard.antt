@@ -10,8 +10,12 @@ use Rattle.object_laws.specs.Changes.{told_too, undone}
 abbrev pub heard : List (Name × Bool) → Standing → Standing
 heard outcomes s = record {
   told = λ b. says_committed (outcome_in outcomes b) || s.told b;
-  kept = filter (λ o. not (list_any (λ b. says_aborted (outcome_in outcomes b)) (ancestors o.action))) s.kept;
-  restored = filter (λ r. not (list_any (λ b. says_aborted (outcome_in outcomes b)) (ancestors r.0))) s.restored;
+  kept =
+      filter (λ o. not (list_any (λ b. says_aborted (outcome_in outcomes b)) (ancestors o.action)))
+      s.kept;
+  restored =
+      filter (λ r. not (list_any (λ b. says_aborted (outcome_in outcomes b)) (ancestors r.0)))
+      s.restored;
 }
 
 -- one of them

@@ -1,4 +1,5 @@
--- What a top action will hold of an object once the outcomes of its descendants are told, read off the object before that.
+-- What a top action will hold of an object once the outcomes of its descendants are told, read off the object before
+-- that.
 use Rattle.std.specs.Prelude.{◌≡◌, ℤ, Bool, not, ◌&&◌, IsTrue, IsFalse, List, [], ◌∷◌, filter, option_map, Option, Some, None, if◌then◌else◌}
 use Rattle.std.specs.List.{AllByRecursion, list_any}
 use Rattle.action_names.specs.Names.{Name, ancestors, is_ancestor, is_proper_ancestor, is_top, same_name, top_of}
@@ -30,7 +31,8 @@ told_of outcomes s = told_too (commits_in outcomes) (undone (aborts_in outcomes)
 
 -- a is this action or below it, and neither a nor an ancestor of it aborted
 abbrev pub is_left_below : List (Name × Bool) → Name → Name → Bool
-is_left_below outcomes from a = is_ancestor from a && not (list_any (aborts_in outcomes) (ancestors a))
+is_left_below outcomes from a =
+    is_ancestor from a && not (list_any (aborts_in outcomes) (ancestors a))
 
 -- of the names in front that all pass the last, or else o
 abbrev pub last_in_front : (Name → Bool) → Option Name → List Name → Option Name
@@ -49,25 +51,36 @@ sum_part (d ∷ ds) = Some (Delta (delta_sum (d ∷ ds)))
 abbrev pub part_over : List (Name × Bool) → Name → Seen → Option Name → Option Part
 part_over outcomes top object None = sum_part (deltas_left outcomes top object.deltas)
 part_over outcomes top object (Some owner) =
-    option_map (λ v. Value (with_sum v (deltas_left outcomes owner object.deltas))) (version_at object.stack.versions owner)
+    option_map (λ v. Value (with_sum v (deltas_left outcomes owner object.deltas)))
+    (version_at object.stack.versions owner)
 
--- The part that top will hold: owners are a chain, and the last of those in front that are left is the one whose version it will have.
+-- The part that top will hold: owners are a chain, and the last of those in front that are left is the one whose
+-- version it will have.
 abbrev pub part_to_hold : List (Name × Bool) → Name → Seen → Option Part
 part_to_hold outcomes top object =
-    part_over outcomes top object (last_in_front (is_left_below outcomes top) None (owners_of object.stack.versions))
+    part_over outcomes top object
+    (last_in_front (is_left_below outcomes top) None (owners_of object.stack.versions))
 
 -- the outcomes are of descendants of top, and none that aborted was told committed
-pub record AreOutcomesBelow (s : Standing) (top : Name) (outcomes : List (Name × Bool)) : Type 0 where
+pub record AreOutcomesBelow (s : Standing) (top : Name)
+    (outcomes : List (Name × Bool)) : Type 0 where
   pub below : AllByRecursion (λ x. IsTrue (is_proper_ancestor top x.0)) outcomes
   pub aborted : AllByRecursion (λ x. IsFalse x.1 → IsFalse (s.told x.0)) outcomes
 
 -- what was written and added in top's tree is all held by top, or belongs to the base
 pub record HoldsItsTree (s : Standing) (top : Name) : Type 0 where
-  pub kept : AllByRecursion (λ o. IsFalse (is_read o.operation) → IsTrue (same_name (top_of o.action) top) → IsTrue (is_left (λ b. same_name b top) (holder_at s o))) s.kept
-  pub restored : AllByRecursion (λ r. IsTrue (same_name (top_of r.0) top) → IsTrue (is_left (λ b. same_name b top) (holder_by s.told r.0))) s.restored
+  pub kept :
+      AllByRecursion (λ o. IsFalse (is_read o.operation) → IsTrue (same_name (top_of o.action) top)
+      → IsTrue (is_left (λ b. same_name b top) (holder_at s o)))
+      s.kept
+  pub restored : AllByRecursion (λ r. IsTrue (same_name (top_of r.0) top)
+      → IsTrue (is_left (λ b. same_name b top) (holder_by s.told r.0)))
+      s.restored
 
 -- What a top action will hold that was not told committed, once these outcomes are told.
 abbrev pub PartsOnceTold : Type 0
-PartsOnceTold = (c : Content) (s : Standing) (object : Seen) (top : Name) (outcomes : List (Name × Bool)) → Shows c s object
-    → IsTrue (is_top top) → IsFalse (s.told top) → AreOutcomesBelow s top outcomes → HoldsItsTree (told_of outcomes s) top
+PartsOnceTold =
+    (c : Content) (s : Standing) (object : Seen) (top : Name) (outcomes : List (Name × Bool))
+    → Shows c s object → IsTrue (is_top top) → IsFalse (s.told top)
+    → AreOutcomesBelow s top outcomes → HoldsItsTree (told_of outcomes s) top
     → part_held c (told_of outcomes s) top ≡ part_to_hold outcomes top object

@@ -42,7 +42,8 @@ pub fn parts_shown()
     ensures { PartsShown }
 {}
 
-/// What a top action will hold once the outcomes of its descendants are told is said by the versions and the deltas before that.
+/// What a top action will hold once the outcomes of its descendants are told is said by the versions and the deltas
+/// before that.
 pub fn parts_once_told()
     ensures { PartsOnceTold }
 {}

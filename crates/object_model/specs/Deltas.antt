@@ -28,4 +28,5 @@ more_at ds a z = with_more (delta_at ds a) (Some z)
 
 -- an action and its descendants add nothing; all others add what they added
 abbrev pub HasNoneBelow : List (Name × ℤ) → List (Name × ℤ) → Name → Type 0
-HasNoneBelow old new a = (b : Name) → delta_at new b ≡ (if is_ancestor a b then None else delta_at old b)
+HasNoneBelow old new a = (b : Name)
+    → delta_at new b ≡ (if is_ancestor a b then None else delta_at old b)

@@ -7,7 +7,8 @@ use Rattle.atomic_types.specs.declared.op.Class.{Class}
 use Rattle.atomic_types.specs.declared.op.Class.TheVariants.{Read, Write, Add}
 use Rattle.atomic_types.specs.Operations.{classes_conflict}
 
--- Who holds an operation of each class. One that writes may also add: the definitions then do not show its lock to add (`shown_adders`).
+-- Who holds an operation of each class. One that writes may also add: the definitions then do not show its lock to
+-- add (`shown_adders`).
 pub record Locks : Type 0 where
   pub readers : List Name
   pub writers : List Name
@@ -52,9 +53,12 @@ shown_holders locks Add = shown_adders locks
 
 -- the locks with other holders of this class
 abbrev pub with_holders : Locks → Class → List Name → Locks
-with_holders locks Read names = record { readers = names; writers = locks.writers; adders = locks.adders }
-with_holders locks Write names = record { readers = locks.readers; writers = names; adders = locks.adders }
-with_holders locks Add names = record { readers = locks.readers; writers = locks.writers; adders = names }
+with_holders locks Read names =
+    record { readers = names; writers = locks.writers; adders = locks.adders }
+with_holders locks Write names =
+    record { readers = locks.readers; writers = names; adders = locks.adders }
+with_holders locks Add names =
+    record { readers = locks.readers; writers = locks.writers; adders = names }
 
 abbrev pub granted : Locks → Name → Class → Locks
 granted locks a class = with_holders locks class (insert_key name_cmp (holders_of locks class) a)

@@ -32,7 +32,8 @@ NamesRise ds = IsStrictlySortedBy name_cmp (map (λ d. d.0) ds)
 
 -- an object of this content, of which nobody holds anything
 abbrev pub untouched : Content → Seen
-untouched c = record { stack = record { base = c; versions = [] }; deltas = []; locks = record { readers = []; writers = []; adders = [] } }
+untouched c =
+    record { stack = record { base = c; versions = [] }; deltas = []; locks = record { readers = []; writers = []; adders = [] } }
 
 -- how much an operation adds
 abbrev pub amount_of : Op → ℤ
@@ -41,15 +42,19 @@ amount_of _ = pos 0
 
 -- the object once a added: to its version, where it owns one, or else to its delta
 abbrev pub AddsBy : Bool → Seen → Seen → Name → Op → Type 0
-AddsBy true old new a wanted = (new.stack ≡ written old.stack a (content_after (top_of old.stack) wanted)) × (new.deltas ≡ old.deltas)
-AddsBy false old new a wanted = (new.stack ≡ old.stack) × HasDelta old.deltas new.deltas a (more_at old.deltas a (amount_of wanted))
+AddsBy true old new a wanted =
+    (new.stack ≡ written old.stack a (content_after (top_of old.stack) wanted))
+    × (new.deltas ≡ old.deltas)
+AddsBy false old new a wanted = (new.stack ≡ old.stack)
+    × HasDelta old.deltas new.deltas a (more_at old.deltas a (amount_of wanted))
 
--- the object once an operation of a was granted: a read leaves it, a write is a's version on top, and an add belongs to a's version or else
--- to its delta
+-- the object once an operation of a was granted: a read leaves it, a write is a's version on top, and an add belongs
+-- to a's version or else to its delta
 abbrev pub OperatesBy : Class → Seen → Seen → Name → Op → Type 0
 OperatesBy Read old new a wanted = (new.stack ≡ old.stack) × (new.deltas ≡ old.deltas)
 OperatesBy Write old new a wanted =
-    (new.stack ≡ written old.stack a (content_after (top_of old.stack) wanted)) × HasDelta old.deltas new.deltas a None
+    (new.stack ≡ written old.stack a (content_after (top_of old.stack) wanted))
+    × HasDelta old.deltas new.deltas a None
 OperatesBy Add old new a wanted = AddsBy (owns old a) old new a wanted
 
 pub record IsOperated (a : Name) (wanted : Op) (old new : Seen) : Type 0 where
@@ -69,15 +74,18 @@ with_delta s to (Some z) = added content_after s to z
 
 -- the stack once the next holder has what a held: a's version, or what a added
 abbrev pub passed_stack : Seen → Name → Option Name → Stack Content
-passed_stack object a to = if owns object a then inherited object.stack a to else with_delta object.stack to (delta_at object.deltas a)
+passed_stack object a to = if owns object a then inherited object.stack a to
+    else with_delta object.stack to (delta_at object.deltas a)
 
 -- what the next holder adds then: nothing beside a version, which covers what was added below it
 abbrev pub next_delta : Seen → Name → Name → Option ℤ
-next_delta object a p = if owns object a || owns object p then None else with_more (delta_at object.deltas p) (delta_at object.deltas a)
+next_delta object a p = if owns object a || owns object p then None
+    else with_more (delta_at object.deltas p) (delta_at object.deltas a)
 
 abbrev pub passed_delta : Seen → Name → Option Name → Name → Option ℤ
 passed_delta object a to b =
-    if same_name a b then None else (if is_next to b then next_delta object a b else delta_at object.deltas b)
+    if same_name a b then None
+    else (if is_next to b then next_delta object a b else delta_at object.deltas b)
 
 -- the object once the next holder has what a held; without one the base has it
 pub record IsPassed (a : Name) (to : Option Name) (old new : Seen) : Type 0 where
@@ -97,9 +105,11 @@ pub record IsUndone (a : Name) (old new : Seen) : Type 0 where
 pub record IsCrashed (stays : Name → Bool) (old new : Seen) : Type 0 where
   pub base : new.stack.base ≡ old.stack.base
   pub versions : new.stack.versions ≡ filter (λ v. stays v.0) old.stack.versions
-  pub deltas : (b : Name) → delta_at new.deltas b ≡ (if stays b then delta_at old.deltas b else None)
+  pub deltas : (b : Name)
+      → delta_at new.deltas b ≡ (if stays b then delta_at old.deltas b else None)
   pub rising : NamesRise new.deltas
-  pub locks : new.locks ≡ record { readers = []; writers = filter stays old.locks.writers; adders = filter stays old.locks.adders }
+  pub locks : new.locks
+      ≡ record { readers = []; writers = filter stays old.locks.writers; adders = filter stays old.locks.adders }
 
 -- the value and the delta, within 64 bits, that a store gave back of an action
 abbrev pub value_in : List (Name × Part) → Name → Option Content
@@ -110,7 +120,8 @@ value_in ((b, Delta z) ∷ parts) a = value_in parts a
 abbrev pub delta_in : List (Name × Part) → Name → Option ℤ
 delta_in [] a = None
 delta_in ((b, Value v) ∷ parts) a = delta_in parts a
-delta_in ((b, Delta z) ∷ parts) a = if same_name b a then Some (sum_of (pos 0) z) else delta_in parts a
+delta_in ((b, Delta z) ∷ parts) a =
+    if same_name b a then Some (sum_of (pos 0) z) else delta_in parts a
 
 -- an object of this content of which a store gave these parts back
 pub record IsRestored (c : Content) (parts : List (Name × Part)) (object : Seen) : Type 0 where

@@ -47,7 +47,8 @@ module _ {T : Type 0} where
   abbrev pub passed_above : Name × T → List (Name × T) → Name → Name → List (Name × T)
   passed_above v [] a p = v ∷ []
   passed_above v (w ∷ vs) a p =
-      if same_name w.0 a then (if same_name v.0 p then (v.0, w.1) ∷ vs else v ∷ (p, w.1) ∷ vs) else v ∷ passed_above w vs a p
+      if same_name w.0 a then (if same_name v.0 p then (v.0, w.1) ∷ vs else v ∷ (p, w.1) ∷ vs)
+      else v ∷ passed_above w vs a p
 
   abbrev pub passed : List (Name × T) → Name → Name → List (Name × T)
   passed [] a p = []
@@ -56,7 +57,8 @@ module _ {T : Type 0} where
   -- a's version once the base has it
   abbrev pub settled : T → List (Name × T) → Name → Stack T
   settled c [] a = record { base = c; versions = [] }
-  settled c (v ∷ vs) a = if same_name v.0 a then record { base = v.1; versions = vs } else record { base = c; versions = v ∷ vs }
+  settled c (v ∷ vs) a = if same_name v.0 a then record { base = v.1; versions = vs }
+      else record { base = c; versions = v ∷ vs }
 
   -- the stack once the next holder has a's version
   abbrev pub inherited : Stack T → Name → Option Name → Stack T
@@ -66,16 +68,19 @@ module _ {T : Type 0} where
   -- the versions with a's changed
   abbrev pub changed_at : (T → T) → List (Name × T) → Name → List (Name × T)
   changed_at change [] a = []
-  changed_at change (v ∷ vs) a = if same_name v.0 a then (v.0, change v.1) ∷ vs else v ∷ changed_at change vs a
+  changed_at change (v ∷ vs) a =
+      if same_name v.0 a then (v.0, change v.1) ∷ vs else v ∷ changed_at change vs a
 
   -- the stack once a number was added to a's version, or to the base
   abbrev pub added : (T → Op → T) → Stack T → Option Name → ℤ → Stack T
   added after s None z = record { base = after s.base (Add (Int z)); versions = s.versions }
-  added after s (Some a) z = record { base = s.base; versions = changed_at (λ c. after c (Add (Int z))) s.versions a }
+  added after s (Some a) z =
+      record { base = s.base; versions = changed_at (λ c. after c (Add (Int z))) s.versions a }
 
   -- the stack without the versions of a and its descendants
   abbrev pub dropped_below : Stack T → Name → Stack T
-  dropped_below s a = record { base = s.base; versions = filter (λ v. not (is_ancestor a v.0)) s.versions }
+  dropped_below s a =
+      record { base = s.base; versions = filter (λ v. not (is_ancestor a v.0)) s.versions }
 
 -- each owner is an ancestor of the next, and another action
 abbrev pub RiseByAncestry : List Name → Type 0

@@ -8,7 +8,8 @@ use Rattle.run_model.specs.LocalReadings.{most_of}
 
 -- these are the paths of the names, and no others
 abbrev pub IsIndex : List Name → List (Vec ℕ Global) → Type 0
-IsIndex names paths = (a : Name) → list_any (λ path. pointwise nat_eq a path.items) paths ≡ has_name names a
+IsIndex names paths = (a : Name)
+    → list_any (λ path. pointwise nat_eq a path.items) paths ≡ has_name names a
 
 -- what stands beside a guardian is the greatest of its counts
 abbrev pub AreGreatest : (ℕ → Option ℕ) → List (ℕ × ℕ) → Type 0

@@ -16,20 +16,25 @@ guardian_of lists = lists.guardian
 abbrev pub crashes_of : Lists → ℕ
 crashes_of lists = lists.crashes
 
--- The lists are those that the guardian reads in its history; of what a sender sent, up to 2^64 - 1 entries of each list are counted.
+-- The lists are those that the guardian reads in its history; of what a sender sent, up to 2^64 - 1 entries of each
+-- list are counted.
 pub record AreLists (here : List LocalEvent) (lists : Lists) : Type 0 where
   pub crashes : lists.crashes ≡ crashes lists.guardian (events_here here)
   pub aborts : known_names lists.aborts ≡ aborts_here lists.guardian here
   pub counts : known_counts lists.counts ≡ counts_here lists.guardian here
-  pub sent_aborts : (h life : ℕ) → (came_of lists.sent h life).aborts ≡ min (sent_here (λ m. length m.aborts) lists.guardian h life here) most
-  pub sent_counts : (h life : ℕ) → (came_of lists.sent h life).counts ≡ min (sent_here (λ m. length m.counts) lists.guardian h life here) most
+  pub sent_aborts : (h life : ℕ) → (came_of lists.sent h life).aborts
+      ≡ min (sent_here (λ m. length m.aborts) lists.guardian h life here) most
+  pub sent_counts : (h life : ℕ) → (came_of lists.sent h life).counts
+      ≡ min (sent_here (λ m. length m.counts) lists.guardian h life here) most
 
 -- how many crashes of h the lists tell of
 abbrev pub known_count : Lists → ℕ → ℕ
-known_count lists h = if lists.guardian == h then lists.crashes else most_of (known_counts lists.counts) h
+known_count lists h =
+    if lists.guardian == h then lists.crashes else most_of (known_counts lists.counts) h
 
 -- the lesson has this news
-pub record IsLesson (sender : Option ℕ) (life : ℕ) (aborts : List Name) (counts : List (ℕ × ℕ)) (outcomes : List (Name × Bool)) (lesson : Lesson) : Type 0 where
+pub record IsLesson (sender : Option ℕ) (life : ℕ) (aborts : List Name) (counts : List (ℕ × ℕ))
+    (outcomes : List (Name × Bool)) (lesson : Lesson) : Type 0 where
   pub from : lesson.sender ≡ sender
   pub in_life : lesson.life ≡ life
   pub names : names_of lesson.aborts.items ≡ aborts ++ aborted_in outcomes

@@ -76,7 +76,8 @@ impl Counts {
     // Puts a count in, if it raises what is known of the guardian.
     fn put(&mut self, guardian: u32, count: u64)
         requires { HasCountRoom self.old 1 }
-        ensures counts { known_counts self.new ≡ raised ((guardian, count) ∷ []) (known_counts self.old) }
+        ensures counts { known_counts self.new
+            ≡ raised ((guardian, count) ∷ []) (known_counts self.old) }
         ensures room { (n : ℕ) → HasCountRoom self.old (n + 1) → HasCountRoom self.new n }
     {
         if self.greatest(guardian) < count {

@@ -8,8 +8,9 @@ use crate::log::Abort;
 use run_model::{Name, Names};
 use std::alloc::{AllocError, Global};
 
-/// What the messages of an event bring of aborts and crashes: whose lists came and in which life of that guardian (how often it had crashed), what
-/// of them it had not sent before, the newest first, and which actions ended, with whether they committed.
+/// What the messages of an event bring of aborts and crashes: whose lists came and in which life of that guardian
+/// (how often it had crashed), what of them it had not sent before, the newest first, and which actions ended, with
+/// whether they committed.
 #[derive(Clone, Copy)]
 pub struct News<'a> {
     pub sender: Option<u32>,
@@ -19,8 +20,8 @@ pub struct News<'a> {
     pub outcomes: &'a [(Name, bool)],
 }
 
-/// News, in copies. Of the aborts those come first that the message carried, and then those that were told; of the counts the sender's own comes first.
-/// Its room is used again for the next news.
+/// News, in copies. Of the aborts those come first that the message carried, and then those that were told; of the
+/// counts the sender's own comes first. Its room is used again for the next news.
 #[derive(Drop)]
 pub struct Lesson {
     pub(crate) sender: Option<u32>,
@@ -50,7 +51,8 @@ impl Lesson {
 
     // Copies news, in place of what was to be learnt.
     pub(crate) fn fill(&mut self, alloc: Global, news: News<'_>) -> Result<(), AllocError>
-        ensures { OnOk result (IsLesson news.entry.sender news.entry.life news.entry.aborts.now news.entry.counts.now news.entry.outcomes.now self.new) }
+        ensures { OnOk result (IsLesson news.entry.sender news.entry.life news.entry.aborts.now
+            news.entry.counts.now news.entry.outcomes.now self.new) }
     {
         self.sender = news.sender;
         self.life = news.life;

@@ -14,7 +14,8 @@ use crate::sent::Sent;
 use run_model::{Deps, Name, Names, Opening};
 use std::alloc::{AllocError, Global};
 
-/// Which aborts and crashes a guardian knows of since its last crash, how often it crashed itself, and how much each sender has sent.
+/// Which aborts and crashes a guardian knows of since its last crash, how often it crashed itself, and how much each
+/// sender has sent.
 #[derive(Drop)]
 pub struct Lists {
     guardian: u32,
@@ -45,7 +46,8 @@ impl Lists {
     pub fn reopened(alloc: Global, guardian: u32, count: u64) -> Lists
         ensures own { guardian_of result ≡ guardian }
         ensures crashes { crashes_of result ≡ count }
-        ensures lists { (here : List LocalEvent) (c : LocalEvent) → IsTrue (step_crashes c.event.step guardian)
+        ensures lists { (here : List LocalEvent) (c : LocalEvent)
+            → IsTrue (step_crashes c.event.step guardian)
             → count ≡ crashes guardian (events_here (c ∷ here)) → AreLists (c ∷ here) result }
     {
         Lists {
@@ -57,8 +59,8 @@ impl Lists {
         }
     }
 
-    /// Copies news, in place of what was to be learnt, and makes room for learning it. Whether or not there is memory for it, the lists are those of
-    /// the same history.
+    /// Copies news, in place of what was to be learnt, and makes room for learning it. Whether or not there is memory
+    /// for it, the lists are those of the same history.
     pub fn plan_lesson(
         &mut self,
         alloc: Global,
@@ -68,7 +70,8 @@ impl Lists {
         ensures own { guardian_of self.new ≡ guardian_of self.old }
         ensures same { (here : List LocalEvent) → AreLists here self.old → AreLists here self.new }
         ensures fits { OnOk result (FitsLesson self.new lesson.new) }
-        ensures news { OnOk result (IsLesson news.entry.sender news.entry.life news.entry.aborts.now news.entry.counts.now news.entry.outcomes.now lesson.new) }
+        ensures news { OnOk result (IsLesson news.entry.sender news.entry.life news.entry.aborts.now
+            news.entry.counts.now news.entry.outcomes.now lesson.new) }
     {
         lesson.fill(alloc, news)?;
         self.aborts.plan_room(lesson.aborts.len())?;
@@ -80,8 +83,10 @@ impl Lists {
     pub fn learn(&mut self, lesson: &mut Lesson)
         requires { FitsLesson self.old lesson.old }
         ensures own { guardian_of self.new ≡ guardian_of self.old }
-        ensures lists { (here : List LocalEvent) (c : LocalEvent) → AreLists here self.old → IsFalse (step_crashes c.event.step (guardian_of self.old))
-            → IsLesson c.carried.sender c.carried.life c.carried.aborts c.carried.counts c.carried.outcomes lesson.old → AreLists (c ∷ here) self.new }
+        ensures lists { (here : List LocalEvent) (c : LocalEvent) → AreLists here self.old
+            → IsFalse (step_crashes c.event.step (guardian_of self.old)) → IsLesson c.carried.sender
+            c.carried.life c.carried.aborts c.carried.counts c.carried.outcomes lesson.old
+            → AreLists (c ∷ here) self.new }
     {
         self.aborts.learn(&mut lesson.aborts);
         self.counts.learn(&mut lesson.counts);
@@ -101,7 +106,8 @@ impl Lists {
     pub fn crash(&mut self, alloc: Global)
         requires { crashes_of self.old + 1 < 2 ^ 64 }
         ensures own { guardian_of self.new ≡ guardian_of self.old }
-        ensures lists { (here : List LocalEvent) (c : LocalEvent) → AreLists here self.old → IsTrue (step_crashes c.event.step (guardian_of self.old))
+        ensures lists { (here : List LocalEvent) (c : LocalEvent) → AreLists here self.old
+            → IsTrue (step_crashes c.event.step (guardian_of self.old))
             → AreLists (c ∷ here) self.new }
     {
         self.crashes += 1;
@@ -119,8 +125,10 @@ impl Lists {
 
     /// Whether an action with these dependencies is known as an orphan. This takes no memory.
     pub fn is_known_orphan(&self, opening: &Opening, action: &Name, depends: &Deps) -> bool
-        ensures { (here : List LocalEvent) → AreLists here self.now → result ≡ is_orphan_by (opening_in opening.now)
-            (λ b. has_name (aborts_here (guardian_of self.now) here) b) (λ h. known_crashes_here (guardian_of self.now) h here)
+        ensures { (here : List LocalEvent) → AreLists here self.now
+            → result ≡ is_orphan_by (opening_in opening.now)
+            (λ b. has_name (aborts_here (guardian_of self.now) here) b)
+            (λ h. known_crashes_here (guardian_of self.now) h here)
             (λ h. map.get depends.now h) action.now }
     {
         self.knows_abort_above(action.components()) || self.knows_crash_since(opening, depends)
@@ -128,7 +136,8 @@ impl Lists {
 
     /// The aborts that this guardian has not sent to the other in this life, the newest first: copies of these alone.
     pub fn unsent_aborts(&self, to: &Lists) -> Result<Names, AllocError>
-        ensures { IfOk result (λ names. (there here : List LocalEvent) → AreLists there self.now → AreLists here to.now
+        ensures { IfOk result (λ names. (there here : List LocalEvent) → AreLists there self.now
+            → AreLists here to.now
             → names ≡ unsent_aborts (guardian_of self.now) (guardian_of to.now) there here) }
     {
         // Where there is nothing to send, it is not looked up what came.
@@ -142,7 +151,8 @@ impl Lists {
 
     /// The counts of crashes that this guardian has not sent to the other in this life, the newest first.
     pub fn unsent_counts(&self, to: &Lists) -> Result<Vec<(u32, u64)>, AllocError>
-        ensures { IfOk result (λ counts. (there here : List LocalEvent) → AreLists there self.now → AreLists here to.now
+        ensures { IfOk result (λ counts. (there here : List LocalEvent) → AreLists there self.now
+            → AreLists here to.now
             → counts.items ≡ unsent_counts (guardian_of self.now) (guardian_of to.now) there here) }
     {
         if self.counts.len() == 0 {
@@ -173,7 +183,8 @@ impl Lists {
 
     // Whether it knows that an ancestor of the action with this path aborted.
     fn knows_abort_above(&self, path: &[u32]) -> bool
-        ensures { result ≡ list_any (λ b. has_name (known_names self.now.aborts) b) (ancestors path.now) }
+        ensures { result
+            ≡ list_any (λ b. has_name (known_names self.now.aborts) b) (ancestors path.now) }
     {
         // Where none is known, no path is looked up.
         if self.aborts.len() == 0 {
@@ -189,7 +200,8 @@ impl Lists {
 
     // Whether a guardian of the opening crashed since an incarnation among these.
     fn knows_crash_since(&self, opening: &Opening, depends: &Deps) -> bool
-        ensures { result ≡ list_any (λ h. is_below (map.get depends.now h) (known_count self.now h)) (guardians_of (opening_in opening.now)) }
+        ensures { result ≡ list_any (λ h. is_below (map.get depends.now h) (known_count self.now h))
+            (guardians_of (opening_in opening.now)) }
     {
         let guardians = opening.setup().guardians();
         for &(guardian, least) in depends.entries() {

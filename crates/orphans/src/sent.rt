@@ -53,7 +53,8 @@ impl Sent {
     /// Counts what came of the sender, if there is one. This cannot fail.
     pub fn count(&mut self, sender: Option<u32>, life: u64, aborts: u64, counts: u64)
         requires { HasPlace self.old }
-        ensures { (h present : ℕ) → came_of self.new h present ≡ counted sender life aborts counts (came_of self.old) h present }
+        ensures { (h present : ℕ) → came_of self.new h present
+            ≡ counted sender life aborts counts (came_of self.old) h present }
     {
         let Some(sender) = sender else {
             return;

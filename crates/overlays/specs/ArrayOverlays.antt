@@ -74,17 +74,21 @@ abbrev pub AreLimitedWhere : Option Bounds → Type 0
 AreLimitedWhere None = Unit {0}
 AreLimitedWhere (Some b) = AreLimited b
 
--- new bounds are within the limits; in the bounds each index has an item, and only there items were put, of the array's kind
+-- new bounds are within the limits; in the bounds each index has an item, and only there items were put, of the
+-- array's kind
 pub record ArrayFits (a : ArrayContent) (o : ArrayChange) : Type 0 where
   pub limited : AreLimitedWhere o.bounds
-  pub held : (i : ℤ) → is_within (bounds_over a o.bounds) i ≡ true → is_some (item_over a o i) ≡ true
-  pub inside : (i : ℤ) → is_some (changed_at o.items i) ≡ true → is_within (bounds_over a o.bounds) i ≡ true
+  pub held : (i : ℤ) → is_within (bounds_over a o.bounds) i ≡ true
+      → is_some (item_over a o i) ≡ true
+  pub inside : (i : ℤ) → is_some (changed_at o.items i) ≡ true
+      → is_within (bounds_over a o.bounds) i ≡ true
   pub of_kind : (i : ℤ) (v : Value) → changed_at o.items i ≡ Some v → kind_of v ≡ a.kind
 
 -- the changes once other bounds were noted, and at an index that an item was put or taken
 pub record IsNoted (o p : ArrayChange) (i : ℤ) (w : Option Value) (b : Option Bounds) : Type 0 where
   pub bounds : p.bounds ≡ b
-  pub items : (q : ℤ) → changed_at p.items q ≡ (if is_at (int_cmp i) q then w else changed_at o.items q)
+  pub items : (q : ℤ)
+      → changed_at p.items q ≡ (if is_at (int_cmp i) q then w else changed_at o.items q)
 
 -- in what bounds the upper changes leave the lower ones
 abbrev pub lies_in : Option Bounds → ℤ → Bool
@@ -98,7 +102,8 @@ upper_bounds (Some b) lower = Some b
 
 -- the items of the one list, as far as they lie in the bounds, over those of the other
 abbrev pub put_over : Option Bounds → List (ℤ × Value) → List (ℤ × Value) → ℤ → Option Value
-put_over within upper lower i = or_below (if lies_in within i then changed_at upper i else None) (changed_at lower i)
+put_over within upper lower i =
+    or_below (if lies_in within i then changed_at upper i else None) (changed_at lower i)
 
 -- the array with all these items stored, the first of them last
 abbrev pub stored_over : ArrayContent → List (ℤ × Value) → ArrayContent
@@ -112,7 +117,8 @@ AreOfKind a es = AllByRecursion (λ e. kind_of e.1 ≡ a.kind) es
 -- the upper changes joined into the lower ones
 pub record AreJoined (lower upper joined : ArrayChange) : Type 0 where
   pub bounds : joined.bounds ≡ upper_bounds upper.bounds lower.bounds
-  pub items : (i : ℤ) → changed_at joined.items i ≡ or_below (changed_at upper.items i) (if lies_in upper.bounds i then changed_at lower.items i else None)
+  pub items : (i : ℤ) → changed_at joined.items i ≡ or_below (changed_at upper.items i)
+      (if lies_in upper.bounds i then changed_at lower.items i else None)
 
 -- an item more fits above the last, or below the first
 abbrev pub room_above : Bounds → Bool
@@ -146,7 +152,8 @@ end_removed b _ = None
 
 -- this is what the array has there, if it has an item
 abbrev pub IsEnd : ArrayContent → Bounds → Op → Option Value → Type 0
-IsEnd a b op item = (i : ℤ) → end_removed b op ≡ Some i → is_some (item_at a i) ≡ true → item ≡ item_at a i
+IsEnd a b op item = (i : ℤ) → end_removed b op ≡ Some i → is_some (item_at a i) ≡ true
+    → item ≡ item_at a i
 
 pub array_overlays_know : OverlaysKnow array_knows laid_array ArrayFits
 unfolding laid_array

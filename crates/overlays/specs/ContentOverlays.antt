@@ -34,7 +34,8 @@ pub record HaveSameOps (c d : Content) : Type 0 where
   pub alike : are_alike c d ≡ true
   pub knows_same : (op : Op) → knows d op ≡ knows c op
 
--- What an overlay of a type makes of an object. One of another type does not fit: it leaves nothing of the object, whatever that held.
+-- What an overlay of a type makes of an object. One of another type does not fit: it leaves nothing of the object,
+-- whatever that held.
 abbrev pub laid_record : Content → List Field → Content
 laid_record (Record fields) o = Record (laid_fields fields o)
 laid_record c o = Counter (pos 0)
@@ -76,7 +77,8 @@ abbrev pub CounterFits : Content → Option ℤ → Type 0
 CounterFits (Counter n) o = NumberFits n o
 CounterFits c o = ⊥
 
--- the overlay may be laid on the object: it is of the object's type and fits, or it holds a content of the same operations
+-- the overlay may be laid on the object: it is of the object's type and fits, or it holds a content of the same
+-- operations
 abbrev pub ContentFits : Content → ContentOverlay → Type 0
 ContentFits c (over.Nothing alloc) = Unit {0}
 ContentFits c (over.Record o) = RecordFits c o
@@ -101,19 +103,23 @@ IsArray c = (a : ArrayContent) × (c ≡ Array a)
 abbrev pub IsArrayUnder : Content → ArrayChange → Op → Type 0
 IsArrayUnder c o op = (a : ArrayContent) × (c ≡ Array a) × ArrayFits a o × IsTrue (array_knows a op)
 
-record_know : (c : Content) (o : List Field) (op : Op) → RecordFits c o → knows (laid_record c o) op ≡ knows c op
+record_know : (c : Content) (o : List Field) (op : Op) → RecordFits c o
+    → knows (laid_record c o) op ≡ knows c op
 record_know (Record fields) o op h = record_overlays_know fields o op h
 record_know _ o op h = absurd h
 
-items_know : (c : Content) (o : ArrayChange) (op : Op) → ItemsFit c o → knows (laid_items c o) op ≡ knows c op
+items_know : (c : Content) (o : ArrayChange) (op : Op) → ItemsFit c o
+    → knows (laid_items c o) op ≡ knows c op
 items_know (Array a) o op h = array_overlays_know a o op h
 items_know _ o op h = absurd h
 
-variant_know : (c : Content) (o : Option (List ℕ × Value)) (op : Op) → VariantFits c o → knows (laid_variant c o) op ≡ knows c op
+variant_know : (c : Content) (o : Option (List ℕ × Value)) (op : Op) → VariantFits c o
+    → knows (laid_variant c o) op ≡ knows c op
 variant_know (Variant v) o op h = variant_overlays_know v o op h
 variant_know _ o op h = absurd h
 
-counter_know : (c : Content) (o : Option ℤ) (op : Op) → CounterFits c o → knows (laid_counter c o) op ≡ knows c op
+counter_know : (c : Content) (o : Option ℤ) (op : Op) → CounterFits c o
+    → knows (laid_counter c o) op ≡ knows c op
 counter_know (Counter n) o op h = counter_overlays_know n o op h
 counter_know _ o op h = absurd h
 
@@ -154,25 +160,30 @@ alike_added (Counter n) (Array a) z = refl
 alike_added (Counter n) (Variant v) z = refl
 alike_added (Counter n) (Counter m) z = refl
 
-knows_added : (c : Content) (z : ℤ) (op : Op) → knows (content_after c (Add (Int z))) op ≡ knows c op
+knows_added : (c : Content) (z : ℤ) (op : Op)
+    → knows (content_after c (Add (Int z))) op ≡ knows c op
 knows_added (Record fields) z op = refl
 knows_added (Array a) z op = refl
 knows_added (Variant v) z op = refl
 knows_added (Counter n) z op = known_stay (Counter n) (Add (Int z)) op refl
 
-record_stays : (c : Content) (o : List Field) (z : ℤ) → RecordFits c o → RecordFits (content_after c (Add (Int z))) o
+record_stays : (c : Content) (o : List Field) (z : ℤ) → RecordFits c o
+    → RecordFits (content_after c (Add (Int z))) o
 record_stays (Record fields) o z h = h
 record_stays _ o z h = absurd h
 
-items_stay : (c : Content) (o : ArrayChange) (z : ℤ) → ItemsFit c o → ItemsFit (content_after c (Add (Int z))) o
+items_stay : (c : Content) (o : ArrayChange) (z : ℤ) → ItemsFit c o
+    → ItemsFit (content_after c (Add (Int z))) o
 items_stay (Array a) o z h = h
 items_stay _ o z h = absurd h
 
-variant_stays : (c : Content) (o : Option (List ℕ × Value)) (z : ℤ) → VariantFits c o → VariantFits (content_after c (Add (Int z))) o
+variant_stays : (c : Content) (o : Option (List ℕ × Value)) (z : ℤ) → VariantFits c o
+    → VariantFits (content_after c (Add (Int z))) o
 variant_stays (Variant v) o z h = h
 variant_stays _ o z h = absurd h
 
-counter_stays : (c : Content) (o : Option ℤ) (z : ℤ) → CounterFits c o → CounterFits (content_after c (Add (Int z))) o
+counter_stays : (c : Content) (o : Option ℤ) (z : ℤ) → CounterFits c o
+    → CounterFits (content_after c (Add (Int z))) o
 counter_stays (Counter n) o z h = h
 counter_stays _ o z h = absurd h
 

@@ -31,7 +31,8 @@ pub counter_fits_stay : FitsStay counter_after NumberFits
 counter_fits_stay n o z h = h
 
 pub counter_adds_sum : AddsSum counter_after
-counter_adds_sum n y z = int_wrap-add_left w64 (n +ℤ y) z ∙ ap (λ m. int_wrap w64 m) (+ℤ_assoc n y z) ∙ sym (int_wrap-add_right w64 n (y +ℤ z))
+counter_adds_sum n y z = int_wrap-add_left w64 (n +ℤ y) z
+    ∙ ap (λ m. int_wrap w64 m) (+ℤ_assoc n y z) ∙ sym (int_wrap-add_right w64 n (y +ℤ z))
 
 pub counter_writes_cover : WritesCover counter_knows counter_reply counter_after
 counter_writes_cover n z (Put (Int m)) known writes = (refl, refl)
@@ -50,7 +51,8 @@ unfolding int_wrap
 covers_none h = cc (h (pos 0) (pos 1))
 
 -- which operations a counter has does not go by its number
-pub counter_knows_any : (n m : ℤ) (op : Op) → IsTrue (counter_knows n op) → IsTrue (counter_knows m op)
+pub counter_knows_any : (n m : ℤ) (op : Op) → IsTrue (counter_knows n op)
+    → IsTrue (counter_knows m op)
 counter_knows_any n m Total h = h
 counter_knows_any n m (Put v) h = h
 counter_knows_any n m (Add v) h = h
@@ -62,19 +64,23 @@ with_added None v = None
 with_added (Some n) v = Some (added_to n v)
 
 -- where there is a number, this is what adding to the counter under it gives, and it covers what was added below
-pub laid_added : (o : Option ℤ) (n : ℤ) (v : Value) → Covers counter_after laid_number o → laid_number n (with_added o v) ≡ added_to (laid_number n o) v
+pub laid_added : (o : Option ℤ) (n : ℤ) (v : Value) → Covers counter_after laid_number o
+    → laid_number n (with_added o v) ≡ added_to (laid_number n o) v
 laid_added None n v h = absurd (covers_none h)
 laid_added (Some m) n v h = refl
 
-pub added_covers : (o : Option ℤ) (v : Value) → Covers counter_after laid_number o → Covers counter_after laid_number (with_added o v)
+pub added_covers : (o : Option ℤ) (v : Value) → Covers counter_after laid_number o
+    → Covers counter_after laid_number (with_added o v)
 added_covers None v h = absurd (covers_none h)
 added_covers (Some m) v h = λ c y. refl
 
 -- so an overlay in which an add was noted gives what that operation leaves
-pub noted_add : (op : Op) (o p : Option ℤ) (n : ℤ) (v : Value) → op ≡ Add v → p ≡ with_added o v → (IsTrue (is_add op) → Covers counter_after laid_number o)
+pub noted_add : (op : Op) (o p : Option ℤ) (n : ℤ) (v : Value) → op ≡ Add v → p ≡ with_added o v
+    → (IsTrue (is_add op) → Covers counter_after laid_number o)
     → (laid_number n p ≡ counter_after (laid_number n o) op) × Covers counter_after laid_number p
 noted_add op o p n v e d covers =
     let adds : is_add op ≡ true = rw e refl in (
-      ap (λ q. laid_number n q) d ∙ laid_added o n v (covers adds) ∙ ap (λ w. counter_after (laid_number n o) w) (sym e),
+      ap (λ q. laid_number n q) d ∙ laid_added o n v (covers adds)
+          ∙ ap (λ w. counter_after (laid_number n o) w) (sym e),
       subst (Covers counter_after laid_number) (sym d) (added_covers o v (covers adds)),
     )

@@ -9,7 +9,8 @@ use Rattle.atomic_types.specs.Counters.{sum_of}
 
 -- under an overlay the object has the operations that it had
 abbrev pub OverlaysKnow : {S O : Type 0} → (S → Op → Bool) → (S → O → S) → (S → O → Type 0) → Type 0
-OverlaysKnow {S} {O} knows laid fits = (c : S) (o : O) (op : Op) → fits c o → knows (laid c o) op ≡ knows c op
+OverlaysKnow {S} {O} knows laid fits = (c : S) (o : O) (op : Op) → fits c o
+    → knows (laid c o) op ≡ knows c op
 
 -- what may be laid on an object may be laid on it once something was added to it
 abbrev pub FitsStay : {S O : Type 0} → (S → Op → S) → (S → O → Type 0) → Type 0
@@ -17,12 +18,14 @@ FitsStay {S} {O} after fits = (c : S) (o : O) (z : ℤ) → fits c o → fits (a
 
 -- two numbers added one after another are their sum added
 abbrev pub AddsSum : {S : Type 0} → (S → Op → S) → Type 0
-AddsSum {S} after = (s : S) (y z : ℤ) → after (after s (Add (Int y))) (Add (Int z)) ≡ after s (Add (Int (sum_of y z)))
+AddsSum {S} after = (s : S) (y z : ℤ)
+    → after (after s (Add (Int y))) (Add (Int z)) ≡ after s (Add (Int (sum_of y z)))
 
 -- a write that belongs to the object leaves nothing of what was added before, and its reply does not show it
 abbrev pub WritesCover : {S : Type 0} → (S → Op → Bool) → (S → Op → Reply) → (S → Op → S) → Type 0
-WritesCover {S} knows reply after = (s : S) (z : ℤ) (op : Op) → IsTrue (knows s op) → IsTrue (is_write op)
-    → (after (after s (Add (Int z))) op ≡ after s op) × (reply (after s (Add (Int z))) op ≡ reply s op)
+WritesCover {S} knows reply after = (s : S) (z : ℤ) (op : Op) → IsTrue (knows s op)
+    → IsTrue (is_write op) → (after (after s (Add (Int z))) op ≡ after s op)
+    × (reply (after s (Add (Int z))) op ≡ reply s op)
 
 -- the operations that neither give a value nor signal
 abbrev pub is_always_done : Op → Bool

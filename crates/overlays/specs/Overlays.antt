@@ -26,7 +26,8 @@ abbrev pub MayJoin : {S O : Type 0} → (S → O → S) → (S → O → Type 0)
 MayJoin {S} {O} laid fits lower upper = (c : S) × fits c lower × fits (laid c lower) upper
 
 -- what was noted in an overlay of the object gives the operation's reply and what it leaves, and still fits
-pub record IsNotedIn {S O : Type 0} (reply : S → Op → Reply) (after : S → Op → S) (laid : S → O → S) (fits : S → O → Type 0) (c : S) (o p : O) (op : Op) (r : Reply) : Type 0 where
+pub record IsNotedIn {S O : Type 0} (reply : S → Op → Reply) (after : S → Op → S) (laid : S → O → S)
+    (fits : S → O → Type 0) (c : S) (o p : O) (op : Op) (r : Reply) : Type 0 where
   pub replies : r ≡ reply (laid c o) op
   pub leaves : laid c p ≡ after (laid c o) op
   pub fits_still : fits c p

@@ -16,13 +16,15 @@ laid_fields fields (f ∷ changed) = set_field (laid_fields fields changed) f.na
 -- the record has each of them, and with a value of its kind
 abbrev pub FieldsFit : List Field → List Field → Type 0
 FieldsFit fields [] = Unit {0}
-FieldsFit fields (f ∷ changed) = IsTrue (takes (field_value fields f.name) f.value) × FieldsFit fields changed
+FieldsFit fields (f ∷ changed) = IsTrue (takes (field_value fields f.name) f.value)
+    × FieldsFit fields changed
 
 -- the changed fields once one more has a value: it replaces the one that it had
 abbrev pub noted_field : List Field → List ℕ → Value → List Field
 noted_field [] name v = record { name = name; value = v } ∷ []
 noted_field (f ∷ changed) name v =
-    if same_bytes f.name name then record { name = f.name; value = v } ∷ changed else f ∷ noted_field changed name v
+    if same_bytes f.name name then record { name = f.name; value = v } ∷ changed
+    else f ∷ noted_field changed name v
 
 -- the changed fields once the upper ones are noted too, the last of them first
 abbrev pub noted_fields : List Field → List Field → List Field

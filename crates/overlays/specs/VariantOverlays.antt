@@ -31,7 +31,8 @@ is_change (Change tag v) = true
 is_change _ = false
 
 -- what writes to a variant changes it
-pub variant_changes : (v : VariantContent) (op : Op) → IsTrue (variant_knows v op) → IsFalse (is_read op) → IsTrue (is_change op)
+pub variant_changes : (v : VariantContent) (op : Op) → IsTrue (variant_knows v op)
+    → IsFalse (is_read op) → IsTrue (is_change op)
 variant_changes v (Change tag w) known writes = refl
 variant_changes v (Is tag) known writes = absurd (true≢false writes)
 variant_changes v (ValueOf tag) known writes = absurd (true≢false writes)

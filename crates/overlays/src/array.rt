@@ -22,7 +22,8 @@ use std::collections::BTreeMap;
 use std::marker::Model;
 use values::{Array, Value};
 
-/// The items of an array that an action put, and the array's bounds, if it changed them. An item that it removed is in neither.
+/// The items of an array that an action put, and the array's bounds, if it changed them. An item that it removed is
+/// in neither.
 #[derive(Drop)]
 pub struct ArrayOverlay {
     alloc: Global,
@@ -112,7 +113,8 @@ impl Layered for Array {
         Ok(())
     }
 
-    // It copies and stores the items that were put, and goes over the indices that come and go: over no other item of the array.
+    // It copies and stores the items that were put, and goes over the indices that come and go: over no other item of
+    // the array.
     fn lay(&mut self, overlay: &ArrayOverlay) -> Result<(), AllocError> {
         let items = listed_items(overlay)?;
         if let Some(bounds) = overlay.bounds {
@@ -151,8 +153,8 @@ impl ArrayOverlay {
         self.items.get(&index)
     }
 
-    /// Notes an operation that writes. The bounds are those of the array under the overlay, and the end is what the array below it has where
-    /// the operation removes an item. If memory runs out, the overlay is as it was.
+    /// Notes an operation that writes. The bounds are those of the array under the overlay, and the end is what the
+    /// array below it has where the operation removes an item. If memory runs out, the overlay is as it was.
     pub(crate) fn note(
         &mut self,
         bounds: Bounds,
@@ -161,8 +163,10 @@ impl ArrayOverlay {
     ) -> Result<Reply, AllocError>
         requires limited { AreLimited bounds }
         requires writes { IsTrue (is_item_write op.now) }
-        ensures ok { IfOk result (λ r. (a : ArrayContent) → ArrayFits a self.old → bounds ≡ bounds_over a self.old.bounds
-            → IsEnd a bounds op.now (option_copied end.entry) → IsTrue (array_knows a op.now) → IsAnswered a self.old self.new op.now r) }
+        ensures ok { IfOk result
+            (λ r. (a : ArrayContent) → ArrayFits a self.old → bounds ≡ bounds_over a self.old.bounds
+            → IsEnd a bounds op.now (option_copied end.entry) → IsTrue (array_knows a op.now)
+            → IsAnswered a self.old self.new op.now r) }
         ensures err { OnErr result (self.new ≡ self.old) }
     {
         match op {
@@ -177,7 +181,8 @@ impl ArrayOverlay {
 
     // Puts an item at the index, if it lies in the bounds, which are those of the array under the overlay.
     fn store(&mut self, bounds: Bounds, index: i64, item: &Value) -> Result<Reply, AllocError>
-        ensures ok { IfOk result (λ r. (a : ArrayContent) → ArrayFits a self.old → bounds ≡ bounds_over a self.old.bounds
+        ensures ok { IfOk result
+            (λ r. (a : ArrayContent) → ArrayFits a self.old → bounds ≡ bounds_over a self.old.bounds
             → kind_of item.now ≡ a.kind → IsAnswered a self.old self.new (Store index item.now) r) }
         ensures err { OnErr result (self.new ≡ self.old) }
     {
@@ -191,7 +196,8 @@ impl ArrayOverlay {
     // Adds an item above the last, if there is room.
     fn add_high(&mut self, bounds: Bounds, item: &Value) -> Result<Reply, AllocError>
         requires { AreLimited bounds }
-        ensures ok { IfOk result (λ r. (a : ArrayContent) → ArrayFits a self.old → bounds ≡ bounds_over a self.old.bounds
+        ensures ok { IfOk result
+            (λ r. (a : ArrayContent) → ArrayFits a self.old → bounds ≡ bounds_over a self.old.bounds
             → kind_of item.now ≡ a.kind → IsAnswered a self.old self.new (AddHigh item.now) r) }
         ensures err { OnErr result (self.new ≡ self.old) }
     {
@@ -209,7 +215,8 @@ impl ArrayOverlay {
     // Adds an item below the first, if there is room.
     fn add_low(&mut self, bounds: Bounds, item: &Value) -> Result<Reply, AllocError>
         requires { AreLimited bounds }
-        ensures ok { IfOk result (λ r. (a : ArrayContent) → ArrayFits a self.old → bounds ≡ bounds_over a self.old.bounds
+        ensures ok { IfOk result
+            (λ r. (a : ArrayContent) → ArrayFits a self.old → bounds ≡ bounds_over a self.old.bounds
             → kind_of item.now ≡ a.kind → IsAnswered a self.old self.new (AddLow item.now) r) }
         ensures err { OnErr result (self.new ≡ self.old) }
     {
@@ -227,8 +234,10 @@ impl ArrayOverlay {
     // Removes the last item, if there is one.
     fn remove_high(&mut self, bounds: Bounds, end: Option<&Value>) -> Result<Reply, AllocError>
         requires { AreLimited bounds }
-        ensures ok { IfOk result (λ r. (a : ArrayContent) → ArrayFits a self.old → bounds ≡ bounds_over a self.old.bounds
-            → IsEnd a bounds RemoveHigh (option_copied end.entry) → IsAnswered a self.old self.new RemoveHigh r) }
+        ensures ok { IfOk result
+            (λ r. (a : ArrayContent) → ArrayFits a self.old → bounds ≡ bounds_over a self.old.bounds
+            → IsEnd a bounds RemoveHigh (option_copied end.entry)
+            → IsAnswered a self.old self.new RemoveHigh r) }
         ensures err { OnErr result (self.new ≡ self.old) }
     {
         if bounds.size == 0 {
@@ -247,8 +256,10 @@ impl ArrayOverlay {
     // Removes the first item, if there is one.
     fn remove_low(&mut self, bounds: Bounds, end: Option<&Value>) -> Result<Reply, AllocError>
         requires { AreLimited bounds }
-        ensures ok { IfOk result (λ r. (a : ArrayContent) → ArrayFits a self.old → bounds ≡ bounds_over a self.old.bounds
-            → IsEnd a bounds RemoveLow (option_copied end.entry) → IsAnswered a self.old self.new RemoveLow r) }
+        ensures ok { IfOk result
+            (λ r. (a : ArrayContent) → ArrayFits a self.old → bounds ≡ bounds_over a self.old.bounds
+            → IsEnd a bounds RemoveLow (option_copied end.entry)
+            → IsAnswered a self.old self.new RemoveLow r) }
         ensures err { OnErr result (self.new ≡ self.old) }
     {
         if bounds.size == 0 {
@@ -265,7 +276,8 @@ impl ArrayOverlay {
 
     // The item that was put at the index, else the one below.
     fn end_item(&self, index: i64, below: Option<&Value>) -> Result<Reply, AllocError>
-        ensures { IfOk result (λ r. r ≡ gives_or_bounds (or_below (changed_at self.now.items index) (option_copied below.entry))) }
+        ensures { IfOk result (λ r. r ≡ gives_or_bounds
+            (or_below (changed_at self.now.items index) (option_copied below.entry))) }
     {
         match self.item(index).or(below) {
             Some(item) => Ok(Reply::Gives(item.copy()?)),
@@ -306,7 +318,8 @@ impl ArrayOverlay {
     // What it alone shows of the item at the index.
     fn peek_item(&self, index: i64) -> Result<Seen, AllocError>
         ensures { IfOk result (λ seen. (a : ArrayContent) → ArrayFits a self.now
-            → array_reply (laid_array a self.now) (Fetch index) ≡ shown seen (array_reply a (Fetch index))) }
+            → array_reply (laid_array a self.now) (Fetch index)
+            ≡ shown seen (array_reply a (Fetch index))) }
     {
         if !lies_in(self.bounds(), index) {
             return Ok(Seen::Reply(Reply::Signals(Signal::Bounds)));
@@ -321,7 +334,8 @@ impl ArrayOverlay {
     fn peek_bounds(&self, op: &Op) -> Seen
         requires reads { IsTrue (is_read op.now) }
         requires bounds { is_fetch op.now ≡ false }
-        ensures { (a : ArrayContent) → array_reply (laid_array a self.now) op.now ≡ shown result (array_reply a op.now) }
+        ensures { (a : ArrayContent)
+            → array_reply (laid_array a self.now) op.now ≡ shown result (array_reply a op.now) }
     {
         let Some(bounds) = self.bounds else {
             return Seen::Below;
@@ -367,7 +381,8 @@ pub(crate) fn array_bounds(array: &Array) -> Bounds
 fn item_under<'a>(base: &'a Array, below: &'a [ArrayOverlay], index: i64) -> Option<&'a Value>
     requires { AllFit laid_array ArrayFits base.now below.now }
     ensures { is_some (item_at (laid_all laid_array base.entry.now below.entry.now) index) ≡ true
-        → option_copied result ≡ item_at (laid_all laid_array base.entry.now below.entry.now) index }
+        → option_copied result
+        ≡ item_at (laid_all laid_array base.entry.now below.entry.now) index }
 {
     let mut left = below;
     while let Some((top, lower)) = left.split_last() {
@@ -385,7 +400,8 @@ fn put_items(
     from: &BTreeMap<i64, Value>,
     within: Option<Bounds>,
 ) -> Result<(), AllocError>
-    ensures put { OnOk result ((i : ℤ) → changed_at items.new.entries i ≡ put_over within from.now.entries items.old.entries i) }
+    ensures put { OnOk result ((i : ℤ)
+        → changed_at items.new.entries i ≡ put_over within from.now.entries items.old.entries i) }
     ensures ordered { OnOk result (IsOrdered int_cmp items.old → IsOrdered int_cmp items.new) }
     ensures from_ordered { OnOk result (IsOrdered int_cmp from.now) }
 {

@@ -11,13 +11,15 @@ use std::alloc::{AllocError, Global};
 use std::collections::BTreeMap;
 use values::Value;
 
-/// Puts these items over those that are there. It looks up as many as it puts. If memory runs out, all are as they were.
+/// Puts these items over those that are there. It looks up as many as it puts. If memory runs out, all are as they
+/// were.
 pub(crate) fn put_all(
     alloc: Global,
     items: &mut BTreeMap<i64, Value>,
     mut upper: Vec<(i64, Value)>,
 ) -> Result<(), AllocError>
-    ensures put { OnOk result ((i : ℤ) → changed_at items.new.entries i ≡ put_over None upper.items items.old.entries i) }
+    ensures put { OnOk result
+        ((i : ℤ) → changed_at items.new.entries i ≡ put_over None upper.items items.old.entries i) }
     ensures err { OnErr result (items.new.entries ≡ items.old.entries) }
 {
     let mut before = Vec::with_capacity(alloc, upper.len())?;
@@ -37,8 +39,10 @@ fn replace(
     index: i64,
     item: Value,
 ) -> Result<Option<Value>, AllocError>
-    ensures put { OnOk result ((i : ℤ) → changed_at items.new.entries i ≡ (if is_at (int_cmp index) i then Some item else changed_at items.old.entries i)) }
-    ensures back { IfOk result (λ before. put_back_at items.new.entries index before ≡ items.old.entries) }
+    ensures put { OnOk result ((i : ℤ) → changed_at items.new.entries i
+        ≡ (if is_at (int_cmp index) i then Some item else changed_at items.old.entries i)) }
+    ensures back { IfOk result
+        (λ before. put_back_at items.new.entries index before ≡ items.old.entries) }
     ensures err { OnErr result (items.new.entries ≡ items.old.entries) }
 {
     Ok(items.insert(index, item)?)

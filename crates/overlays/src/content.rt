@@ -229,7 +229,8 @@ fn note_items(
     requires below { AllFit laid_content ContentFits base.now below.now }
     requires array { IsArrayUnder (laid_all laid_content base.now below.now) overlay.old op.now }
     requires changes { IsFalse (is_read op.now) }
-    ensures noted { IfOk result (λ r. (a : ArrayContent) → laid_all laid_content base.now below.now ≡ Content.Array a
+    ensures noted { IfOk result
+        (λ r. (a : ArrayContent) → laid_all laid_content base.now below.now ≡ Content.Array a
         → IsAnswered a overlay.old overlay.new op.now r) }
     ensures err { OnErr result (overlay.new ≡ overlay.old) }
 {
@@ -248,7 +249,8 @@ fn note_items(
 fn bounds_under(base: &Content, below: &[ContentOverlay]) -> Bounds
     requires below { AllFit laid_content ContentFits base.now below.now }
     requires array { IsArray (laid_all laid_content base.now below.now) }
-    ensures bounds { (a : ArrayContent) → laid_all laid_content base.now below.now ≡ Content.Array a → result ≡ bounds_of a }
+    ensures bounds { (a : ArrayContent) → laid_all laid_content base.now below.now ≡ Content.Array a
+        → result ≡ bounds_of a }
     ensures limited { AreLimited result }
 {
     let mut left = below;
@@ -268,7 +270,8 @@ fn bounds_under(base: &Content, below: &[ContentOverlay]) -> Bounds
 fn item_under<'a>(base: &'a Content, below: &'a [ContentOverlay], index: i64) -> Option<&'a Value>
     requires below { AllFit laid_content ContentFits base.now below.now }
     requires array { IsArray (laid_all laid_content base.now below.now) }
-    ensures { (a : ArrayContent) → laid_all laid_content base.entry.now below.entry.now ≡ Content.Array a
+    ensures { (a : ArrayContent)
+        → laid_all laid_content base.entry.now below.entry.now ≡ Content.Array a
         → is_some (item_at a index) ≡ true → option_copied result ≡ item_at a index }
 {
     let mut left = below;

@@ -108,7 +108,8 @@ pub(crate) fn note_number(overlay: &mut CounterOverlay, op: &Op) -> Result<Reply
     requires known { IsTrue (counter_knows (pos 0) op.now) }
     requires changes { IsFalse (is_read op.now) }
     requires covers { IsTrue (is_add op.now) → Covers counter_after laid_number overlay.old }
-    ensures noted { IfOk result (λ r. (n : ℤ) → IsNotedIn counter_reply counter_after laid_number NumberFits n overlay.old overlay.new op.now r) }
+    ensures noted { IfOk result (λ r. (n : ℤ) → IsNotedIn counter_reply counter_after laid_number
+        NumberFits n overlay.old overlay.new op.now r) }
     ensures covers { OnOk result (Covers counter_after laid_number overlay.new) }
     ensures err { OnErr result (overlay.new ≡ overlay.old) }
 {

@@ -35,14 +35,17 @@ pub trait Layered: AtomicType {
     fn copy_overlay(overlay: &Self::Overlay) -> Result<Self::Overlay, AllocError>
         ensures { IfOk result (λ copy. copy ≡ overlay.now) };
 
-    /// What the overlay shows of the reply to an operation that reads, of an object that has the operation. Fails only if memory runs out.
+    /// What the overlay shows of the reply to an operation that reads, of an object that has the operation. Fails
+    /// only if memory runs out.
     fn peek(overlay: &Self::Overlay, op: &Op) -> Result<Seen, AllocError>
         requires { IsTrue (is_read op.now) }
         ensures { IfOk result (λ seen. (c : Self) → fits c overlay.now
-            → IsTrue (Self.knows c op.now) → Self.reply (laid c overlay.now) op.now ≡ shown seen (Self.reply c op.now)) };
+            → IsTrue (Self.knows c op.now)
+            → Self.reply (laid c overlay.now) op.now ≡ shown seen (Self.reply c op.now)) };
 
-    /// Notes an operation that writes or adds in an overlay that lies above others, and gives its reply. To add asks for an overlay that
-    /// covers what was added below, as one does in which a write was noted. If memory runs out, the overlay is as it was.
+    /// Notes an operation that writes or adds in an overlay that lies above others, and gives its reply. To add asks
+    /// for an overlay that covers what was added below, as one does in which a write was noted. If memory runs out,
+    /// the overlay is as it was.
     fn note(
         base: &Self,
         below: &[Self::Overlay],
@@ -51,30 +54,38 @@ pub trait Layered: AtomicType {
     ) -> Result<Reply, AllocError>
         requires below { AllFit laid fits base.now below.now }
         requires fits { fits (laid_all laid base.now below.now) overlay.old }
-        requires known { IsTrue (Self.knows (laid (laid_all laid base.now below.now) overlay.old) op.now) }
+        requires known { IsTrue
+            (Self.knows (laid (laid_all laid base.now below.now) overlay.old) op.now) }
         requires changes { IsFalse (is_read op.now) }
         requires covers { IsTrue (is_add op.now) → Covers Self.after laid overlay.old }
-        ensures replies { IfOk result (λ r. let c = laid_all laid base.now below.now in r ≡ Self.reply (laid c overlay.old) op.now) }
-        ensures noted { OnOk result (let c = laid_all laid base.now below.now in laid c overlay.new ≡ Self.after (laid c overlay.old) op.now) }
+        ensures replies { IfOk result (λ r. let c = laid_all laid base.now below.now in
+            r ≡ Self.reply (laid c overlay.old) op.now) }
+        ensures noted { OnOk result (let c = laid_all laid base.now below.now in
+            laid c overlay.new ≡ Self.after (laid c overlay.old) op.now) }
         ensures fits { OnOk result (fits (laid_all laid base.now below.now) overlay.new) }
         ensures covers { OnOk result (Covers Self.after laid overlay.new) }
         ensures err { OnErr result (overlay.new ≡ overlay.old) };
 
-    /// Adds the number to what the overlay gives of an object. The overlay covers what was added below. This cannot fail.
+    /// Adds the number to what the overlay gives of an object. The overlay covers what was added below. This cannot
+    /// fail.
     fn add_in(overlay: &mut Self::Overlay, by: i64)
         requires covers { Covers Self.after laid overlay.old }
-        ensures added { (c : Self) → fits c overlay.old → laid c overlay.new ≡ Self.after (laid c overlay.old) (Add (Int by)) }
+        ensures added { (c : Self) → fits c overlay.old
+            → laid c overlay.new ≡ Self.after (laid c overlay.old) (Add (Int by)) }
         ensures fits { (c : Self) → fits c overlay.old → fits c overlay.new }
         ensures covers { Covers Self.after laid overlay.new };
 
     /// Joins the upper overlay into the lower one. If memory runs out, the lower one is as it was.
     fn join(lower: &mut Self::Overlay, upper: &Self::Overlay) -> Result<(), AllocError>
         requires { MayJoin laid fits lower.old upper.now }
-        ensures joined { OnOk result ((c : Self) → fits c lower.old → fits (laid c lower.old) upper.now
+        ensures joined { OnOk result
+            ((c : Self) → fits c lower.old → fits (laid c lower.old) upper.now
             → laid c lower.new ≡ laid (laid c lower.old) upper.now) }
-        ensures fits { OnOk result ((c : Self) → fits c lower.old → fits (laid c lower.old) upper.now
+        ensures fits { OnOk result
+            ((c : Self) → fits c lower.old → fits (laid c lower.old) upper.now
             → fits c lower.new) }
-        ensures covers { OnOk result (Covers Self.after laid upper.now → Covers Self.after laid lower.new) }
+        ensures covers { OnOk result
+            (Covers Self.after laid upper.now → Covers Self.after laid lower.new) }
         ensures err { OnErr result (lower.new ≡ lower.old) };
 
     /// Lays the overlay on the object. If memory runs out, the object is as it was.

@@ -1,6 +1,7 @@
 //! Overlays: what actions changed of an object, and nothing else of it.
 //!
-//! A version of an object is a content with overlays laid on it one above another. So no version is a copy of the content.
+//! A version of an object is a content with overlays laid on it one above another. So no version is a copy of the
+//! content.
 #![tactic(auto)]
 
 mod array;

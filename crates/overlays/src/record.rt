@@ -123,7 +123,8 @@ pub(crate) fn note_set(overlay: &mut RecordOverlay, op: &Op) -> Result<Reply, Al
     requires { IsTrue (is_set op.now) }
     ensures noted { IfOk result (λ r. (fields : List Field) → FieldsFit fields overlay.old
         → IsTrue (record_knows (laid_fields fields overlay.old) op.now)
-        → IsNotedIn record_reply record_after laid_fields FieldsFit fields overlay.old overlay.new op.now r) }
+        → IsNotedIn record_reply record_after laid_fields FieldsFit fields overlay.old
+        overlay.new op.now r) }
     ensures err { OnErr result (overlay.new ≡ overlay.old) }
 {
     let Op::Set(name, value) = op else {

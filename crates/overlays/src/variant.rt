@@ -112,8 +112,10 @@ impl Layered for Variant {
 /// Notes that a tag and its value were given. If memory runs out, the overlay is as it was.
 pub(crate) fn note_change(overlay: &mut VariantOverlay, op: &Op) -> Result<Reply, AllocError>
     requires { IsTrue (is_change op.now) }
-    ensures noted { IfOk result (λ r. (v : VariantContent) → IsTrue (variant_knows (laid_tag v overlay.old) op.now)
-        → TagFits v overlay.old → IsNotedIn variant_reply variant_after laid_tag TagFits v overlay.old overlay.new op.now r) }
+    ensures noted { IfOk result
+        (λ r. (v : VariantContent) → IsTrue (variant_knows (laid_tag v overlay.old) op.now)
+        → TagFits v overlay.old → IsNotedIn variant_reply variant_after laid_tag TagFits v
+        overlay.old overlay.new op.now r) }
     ensures err { OnErr result (overlay.new ≡ overlay.old) }
 {
     let Op::Change(tag, value) = op else {
@@ -125,7 +127,8 @@ pub(crate) fn note_change(overlay: &mut VariantOverlay, op: &Op) -> Result<Reply
 
 /// The value, if it stands under the tag that is asked for.
 fn value_under(held: &Identifier, value: &Value, tag: &Identifier) -> Result<Reply, AllocError>
-    ensures { IfOk result (λ r. r ≡ (if same_bytes held.now tag.now then Gives value.now else Signals WrongTag)) }
+    ensures { IfOk result
+        (λ r. r ≡ (if same_bytes held.now tag.now then Gives value.now else Signals WrongTag)) }
 {
     if held != tag {
         return Ok(Reply::Signals(Signal::WrongTag));

@@ -39,7 +39,8 @@ reply_by (Some r) = r
 abbrev pub answer_in : Given → Name → ShortAnswer → Answer
 answer_in g a (short.BeganTop n) = answers.Began ((n ∷ []) ∷ [])
 answer_in g a (short.BeganChild n) = answers.Began ((a ++ n ∷ []) ∷ [])
-answer_in g a (short.Began count start) = answers.Began (map (begun_name a) (slice_range g.begun start (start + count)))
+answer_in g a (short.Began count start) =
+    answers.Began (map (begun_name a) (slice_range g.begun start (start + count)))
 answer_in g a short.Performed = answers.Granted replies.Done
 answer_in g a (short.Number n) = answers.Granted (replies.Gives (Int n))
 answer_in g a (short.Truth holds) = answers.Granted (replies.Truth holds)
@@ -51,12 +52,14 @@ answer_in g a (short.Done n) = answers.Done n
 
 -- what was kept before the answer
 abbrev pub answers_before : Given → ShortAnswer → Given
-answers_before g (short.Began count start) = record { begun = take start g.begun; replies = g.replies }
+answers_before g (short.Began count start) =
+    record { begun = take start g.begun; replies = g.replies }
 answers_before g (short.Reply place) = record { begun = g.begun; replies = take place g.replies }
 answers_before g _ = g
 
 -- the answer of a step of a is kept in this short form, behind what was kept before
-pub record IsKeptAnswer (old new : Given) (a : Name) (short : ShortAnswer) (answer : Answer) : Type 0 where
+pub record IsKeptAnswer (old new : Given) (a : Name) (short : ShortAnswer)
+    (answer : Answer) : Type 0 where
   pub has : HasAnswer new short
   pub reads : answer_in new a short ≡ answer
   pub before : answers_before new short ≡ old

@@ -20,7 +20,8 @@ no_parts = record { numbers = []; steps = no_requests; answers = nothing_given; 
 
 -- the parts of a row are there
 abbrev pub HasRow : Parts → Row → Type 0
-HasRow p (Short depth start step answer) = (start + depth ≤ length p.numbers) × HasStep p.steps step × HasAnswer p.answers answer
+HasRow p (Short depth start step answer) = (start + depth ≤ length p.numbers) × HasStep p.steps step
+    × HasAnswer p.answers answer
 HasRow p (Whole place) = place < length p.whole
 
 -- stands for an event that is not there
@@ -45,7 +46,8 @@ parts_before p (Short depth start step answer) = record {
   answers = answers_before p.answers answer;
   whole = p.whole;
 }
-parts_before p (Whole place) = record { numbers = p.numbers; steps = p.steps; answers = p.answers; whole = take place p.whole }
+parts_before p (Whole place) =
+    record { numbers = p.numbers; steps = p.steps; answers = p.answers; whole = take place p.whole }
 
 -- the event is kept in this row, behind what was kept before
 pub record IsKept (old new : Parts) (row : Row) (event : Event) : Type 0 where

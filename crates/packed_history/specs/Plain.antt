@@ -36,7 +36,8 @@ plain_by name w n = op.operation_of name (plain_arguments (op.form_of name) w n)
 -- a plain operation that is kept, if it is one, and on which object
 abbrev pub plain_operation : List ℕ → Option Plain → Option (ObjectId × op.Op)
 plain_operation words None = None
-plain_operation words (Some q) = option_map (λ o. (q.object, o)) (plain_by q.name (slice_range words q.start (q.start + q.len)) q.number)
+plain_operation words (Some q) = option_map (λ o. (q.object, o))
+    (plain_by q.name (slice_range words q.start (q.start + q.len)) q.number)
 
 -- the word of an operation is there
 abbrev pub HasWord : List ℕ → Option Plain → Type 0
@@ -57,7 +58,8 @@ abbrev pub plain_before : Plains → ℕ → Plains
 plain_before p place = before_plain p place (slice_get p.plain place)
 
 -- the operation is kept at this place, behind what was kept before
-pub record IsKeptPlain (old new : Plains) (place : ℕ) (object : ObjectId) (operation : op.Op) : Type 0 where
+pub record IsKeptPlain (old new : Plains) (place : ℕ) (object : ObjectId)
+    (operation : op.Op) : Type 0 where
   pub has : HasPlain new place
   pub reads : plain_operation new.words (slice_get new.plain place) ≡ Some (object, operation)
   pub before : plain_before new place ≡ old

@@ -43,7 +43,8 @@ step_in r a (Top g) = steps.Top g
 step_in r a NestedTop = steps.NestedTop a
 step_in r a (Call g) = steps.Call a g
 step_in r a (Arms count start) = steps.Arms a (slice_range r.kinds start (start + count))
-step_in r a (Plain place) = operation_by a (plain_operation r.plain.words (slice_get r.plain.plain place))
+step_in r a (Plain place) =
+    operation_by a (plain_operation r.plain.words (slice_get r.plain.plain place))
 step_in r a (Op place) = operation_by a (option_map asked (slice_get r.requests place))
 step_in r a Commit = steps.Commit a
 step_in r a Close = steps.Close a
@@ -56,9 +57,12 @@ step_in r a (Recover g) = steps.Recover g
 
 -- what was kept before the step
 abbrev pub steps_before : Requests → ShortStep → Requests
-steps_before r (Arms count start) = record { kinds = take start r.kinds; plain = r.plain; requests = r.requests }
-steps_before r (Plain place) = record { kinds = r.kinds; plain = plain_before r.plain place; requests = r.requests }
-steps_before r (Op place) = record { kinds = r.kinds; plain = r.plain; requests = take place r.requests }
+steps_before r (Arms count start) =
+    record { kinds = take start r.kinds; plain = r.plain; requests = r.requests }
+steps_before r (Plain place) =
+    record { kinds = r.kinds; plain = plain_before r.plain place; requests = r.requests }
+steps_before r (Op place) =
+    record { kinds = r.kinds; plain = r.plain; requests = take place r.requests }
 steps_before r _ = r
 
 -- the action that a step names, if it names one

@@ -56,7 +56,8 @@ impl Answers {
         action: &[u32],
         answer: &Answer,
     ) -> Result<Option<ShortAnswer>, AllocError>
-        ensures ok { IfOk result (λ short. MatchOption short (self.new ≡ self.old) (λ s. IsKeptAnswer self.old self.new action.now s answer.now)) }
+        ensures ok { IfOk result (λ short. MatchOption short (self.new ≡ self.old)
+            (λ s. IsKeptAnswer self.old self.new action.now s answer.now)) }
         ensures err { OnErr result (self.new ≡ self.old) }
     {
         match answer {
@@ -166,7 +167,8 @@ impl Answers {
 
     // The answer of a step of this action that began these.
     fn began(&self, action: &[u32], all: &[Begun]) -> Result<Answer, AllocError>
-        ensures { IfOk result (λ answer. answer ≡ answers.Began (map (begun_name action.now) all.now)) }
+        ensures { IfOk result
+            (λ answer. answer ≡ answers.Began (map (begun_name action.now) all.now)) }
     {
         let alloc = *self.begun.allocator();
         let mut names = Vec::with_capacity(alloc, all.len())?;
@@ -179,7 +181,8 @@ impl Answers {
 
 // The short form where this action alone was begun, if it has one.
 fn short_begun(action: &[u32], name: &Name) -> Option<ShortAnswer>
-    ensures { IfSome result (λ short. (g : Given) → IsKeptAnswer g g action.now short (answers.Began (name.now ∷ []))) }
+    ensures { IfSome result
+        (λ short. (g : Given) → IsKeptAnswer g g action.now short (answers.Began (name.now ∷ []))) }
 {
     Some(match Begun::of(name, action)? {
         Begun::Top(number) => ShortAnswer::BeganTop(number),
@@ -189,7 +192,8 @@ fn short_begun(action: &[u32], name: &Name) -> Option<ShortAnswer>
 
 // The short form of a reply that owns no memory, but for great numbers.
 fn short_reply(reply: &Reply) -> Option<ShortAnswer>
-    ensures { IfSome result (λ short. (g : Given) (a : List ℕ) → IsKeptAnswer g g a short (answers.Granted reply.now)) }
+    ensures { IfSome result
+        (λ short. (g : Given) (a : List ℕ) → IsKeptAnswer g g a short (answers.Granted reply.now)) }
 {
     match reply {
         Reply::Gives(Value::Int(number)) => i32::try_from(*number).ok().map(ShortAnswer::Number),

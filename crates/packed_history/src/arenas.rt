@@ -9,7 +9,8 @@ use run_model::{Event, EventRef, Step};
 use std::alloc::{AllocError, Global};
 use std::marker::Model;
 
-/// An event. In its short form the numbers of the name in the step, if there is one, begin at a place; an event that has no short form is kept whole.
+/// An event. In its short form the numbers of the name in the step, if there is one, begin at a place; an event that
+/// has no short form is kept whole.
 #[derive(Clone, Copy)]
 pub(crate) enum Row {
     Short {
@@ -38,7 +39,8 @@ impl Model for Arenas {
 
     ghost Value = { Parts };
 
-    ghost view = { λ a. record { numbers = a.numbers.items; steps = a.steps; answers = a.answers; whole = a.whole.items } };
+    ghost view = { λ a.
+        record { numbers = a.numbers.items; steps = a.steps; answers = a.answers; whole = a.whole.items } };
 }
 
 impl Arenas {

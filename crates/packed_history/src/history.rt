@@ -78,7 +78,8 @@ impl PackedHistory {
         }
     }
 
-    /// The event at this place, counted from the oldest, which stands at 0; none exactly past the newest. Fails only if memory runs out.
+    /// The event at this place, counted from the oldest, which stands at 0; none exactly past the newest. Fails only
+    /// if memory runs out.
     pub fn event(&self, place: usize) -> Result<Option<Event>, AllocError>
         ensures { IfOk result (λ event. event ≡ slice_get (reverse self.now) place) }
     {

@@ -94,7 +94,9 @@ impl PlainOps {
     /// The operation at this place, and on which object.
     pub(crate) fn operation(&self, place: u32) -> Result<(ObjectId, Op), AllocError>
         requires { HasPlain self.now place }
-        ensures { IfOk result (λ request. plain_operation self.now.words (slice_get self.now.plain place) ≡ Some request) }
+        ensures { IfOk result
+            (λ request. plain_operation self.now.words (slice_get self.now.plain place)
+            ≡ Some request) }
     {
         let plain = self.plain[place as usize];
         let start = plain.start as usize;
@@ -110,7 +112,8 @@ impl PlainOps {
 
 // The word of an operation and its number, where it has no more than these.
 fn word_and_number(operation: &Op) -> Option<(&[u8], i64)>
-    ensures { IfSome result (λ p. plain_arguments (form_of (name_of operation.now)) p.0.now p.1 ≡ arguments_of operation.now) }
+    ensures { IfSome result (λ p. plain_arguments (form_of (name_of operation.now)) p.0.now p.1
+        ≡ arguments_of operation.now) }
 {
     match operation {
         Op::Low | Op::High | Op::Size | Op::RemoveHigh | Op::RemoveLow | Op::Total => {

@@ -49,7 +49,8 @@ impl Model for Steps {
 
     ghost Value = { Requests };
 
-    ghost view = { λ a. record { kinds = a.kinds.items; plain = a.plain; requests = a.requests.items } };
+    ghost view = { λ a.
+        record { kinds = a.kinds.items; plain = a.plain; requests = a.requests.items } };
 }
 
 impl Steps {
@@ -66,7 +67,8 @@ impl Steps {
 
     /// Keeps the step, if it has a short form. Without memory nothing is changed.
     pub(crate) fn keep(&mut self, step: &Step) -> Result<Option<ShortStep>, AllocError>
-        ensures ok { IfOk result (λ short. MatchOption short (self.new ≡ self.old) (λ s. IsKeptStep self.old self.new s step.now)) }
+        ensures ok { IfOk result (λ short. MatchOption short (self.new ≡ self.old)
+            (λ s. IsKeptStep self.old self.new s step.now)) }
         ensures err { OnErr result (self.new ≡ self.old) }
     {
         Ok(Some(match step {
@@ -107,7 +109,8 @@ impl Steps {
         operation: &Op,
     ) -> Result<Option<ShortStep>, AllocError>
         ensures ok { IfOk result (λ short. MatchOption short (self.new ≡ self.old)
-            (λ s. (a : List ℕ) → IsKeptStep self.old self.new s (steps.Op a object operation.now))) }
+            (λ s. (a : List ℕ)
+            → IsKeptStep self.old self.new s (steps.Op a object operation.now))) }
         ensures err { OnErr result (self.new ≡ self.old) }
     {
         match self.plain.keep(object, operation)? {
@@ -123,7 +126,8 @@ impl Steps {
         operation: &Op,
     ) -> Result<Option<ShortStep>, AllocError>
         ensures ok { IfOk result (λ short. MatchOption short (self.new ≡ self.old)
-            (λ s. (a : List ℕ) → IsKeptStep self.old self.new s (steps.Op a object operation.now))) }
+            (λ s. (a : List ℕ)
+            → IsKeptStep self.old self.new s (steps.Op a object operation.now))) }
         ensures err { OnErr result (self.new ≡ self.old) }
     {
         let Ok(place) = u32::try_from(self.requests.len()) else {

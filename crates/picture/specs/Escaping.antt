@@ -16,7 +16,8 @@ replacement = 65533
 
 abbrev pub escaped_char : ℕ → List ℕ
 escaped_char c =
-    if c == 60 then codes "&lt;" else (if c == 62 then codes "&gt;" else (if c == 38 then codes "&amp;"
+    if c == 60 then codes "&lt;"
+    else (if c == 62 then codes "&gt;" else (if c == 38 then codes "&amp;"
     else (if c == 34 then codes "&quot;" else (if c == 39 then codes "&apos;"
     else (if is_allowed c then encode_utf8 c else encode_utf8 replacement)))))
 

@@ -1,4 +1,5 @@
--- What a picture shows of a history, as events and guardians, without a drawing. A history is given with its newest event first.
+-- What a picture shows of a history, as events and guardians, without a drawing. A history is given with its newest
+-- event first.
 use Rattle.std.specs.Prelude.{ℕ, suc, Bool, ◌≡◌, List, [], ◌∷◌, ◌++◌, length, map, if◌then◌else◌, Option, Some, None}
 use Rattle.std.specs.BTreeMap.{get}
 use Rattle.std.specs.Ordering.{nat_cmp}
@@ -32,7 +33,8 @@ use Rattle.picture.specs.Windows.{is_shown, span_of}
 abbrev pub beginning : Name → List Event → Option Begun
 beginning a [] = None
 beginning a (e ∷ past) =
-    if begins e a then Some (record { home = home_in e.step (λ b. home_of b past); number = suc (length past) })
+    if begins e a
+    then Some (record { home = home_in e.step (λ b. home_of b past); number = suc (length past) })
     else beginning a past
 
 -- the number of the newest event whose step passes the test
@@ -46,7 +48,8 @@ committing_step a past = newest (λ step. step_commits step a) past
 abbrev pub aborting_step : Name → List Event → Option ℕ
 aborting_step a past = newest (λ step. step_aborts step a) past
 
--- the bars are those of the history: one for each action that was begun, with its closing step, and how and when it ended
+-- the bars are those of the history: one for each action that was begun, with its closing step, and how and when it
+-- ended
 pub record AreBars (bars : Bars) (past : List Event) : Type 0 where
   pub begun : (q : Name) → get name_cmp bars.begun q ≡ beginning q past
   pub closed : (q : Name) → get name_cmp bars.closed q ≡ closing_step q past
@@ -59,25 +62,30 @@ pub record AreBars (bars : Bars) (past : List Event) : Type 0 where
 abbrev pub of_shown : {X : Type 0} → Span → (ℕ → Event → List Event → List X) → List Event → List X
 of_shown span f [] = []
 of_shown span f (e ∷ past) =
-    of_shown span f past ++ (if is_shown span (suc (length past)) then f (suc (length past)) e past else [])
+    of_shown span f past
+    ++ (if is_shown span (suc (length past)) then f (suc (length past)) e past else [])
 
 -- the operation that a tick stands for
 abbrev pub operation_of : Tick → keeping.Performed
-operation_of t = record { number = t.number; action = t.action; object = t.object; operation = t.operation; reply = t.reply }
+operation_of t =
+    record { number = t.number; action = t.action; object = t.object; operation = t.operation; reply = t.reply }
 
 -- the operation that the event grants
 abbrev pub granted : ℕ → Event → List Event → List keeping.Performed
 granted n e past = performed_by n e.step e.answer
 
 abbrev pub arrow : ℕ → Message → ℕ → ℕ → Name → Arrow
-arrow n message from to a = record { number = n; message = message; from = from; to = to; action = a }
+arrow n message from to a =
+    record { number = n; message = message; from = from; to = to; action = a }
 
--- The messages of a step with this answer, where home has the homes of actions: a call from the caller's home, a prepare from the top
--- action's home and the vote back, and a telling from the home of the action that is told.
+-- The messages of a step with this answer, where home has the homes of actions: a call from the caller's home, a
+-- prepare from the top action's home and the vote back, and a telling from the home of the action that is told.
 abbrev pub messages_by : ℕ → (Name → ℕ) → Step → Answer → List Arrow
 messages_by n home (Call a g) (Began (b ∷ names)) = arrow n message.Call (home a) g b ∷ []
-messages_by n home (Prepare g t) VoteYes = arrow n message.Prepare (home t) g t ∷ arrow n message.VoteYes g (home t) t ∷ []
-messages_by n home (Prepare g t) VoteNo = arrow n message.Prepare (home t) g t ∷ arrow n message.VoteNo g (home t) t ∷ []
+messages_by n home (Prepare g t) VoteYes =
+    arrow n message.Prepare (home t) g t ∷ arrow n message.VoteYes g (home t) t ∷ []
+messages_by n home (Prepare g t) VoteNo =
+    arrow n message.Prepare (home t) g t ∷ arrow n message.VoteNo g (home t) t ∷ []
 messages_by n home (Tell g a) (Done count) = arrow n message.Tell (home a) g a ∷ []
 messages_by n home _ _ = []
 
@@ -91,7 +99,8 @@ messages n e past = messages_by n (λ b. home_of b past) e.step e.answer
 abbrev pub down_since : ℕ → List Event → Option ℕ
 down_since g [] = None
 down_since g (e ∷ past) =
-    if step_crashes e.step g then Some (suc (length past)) else (if step_recovers e.step g then None else down_since g past)
+    if step_crashes e.step g then Some (suc (length past))
+    else (if step_recovers e.step g then None else down_since g past)
 
 abbrev pub gap_from : ℕ → ℕ → Option ℕ → List Gap
 gap_from g n None = []
@@ -105,7 +114,8 @@ gap_ended n down _ = []
 -- the gaps that recoveries have ended, in order of the recoveries
 abbrev pub ended_gaps : List Event → List Gap
 ended_gaps [] = []
-ended_gaps (e ∷ past) = ended_gaps past ++ gap_ended (suc (length past)) (λ g. down_since g past) e.step
+ended_gaps (e ∷ past) =
+    ended_gaps past ++ gap_ended (suc (length past)) (λ g. down_since g past) e.step
 
 pub record AreGaps (gaps : Gaps) (past : List Event) : Type 0 where
   pub ended : gaps.ended.items ≡ ended_gaps past
@@ -122,7 +132,8 @@ pub record IsLaidOut (span : Span) (layout : Layout) (past : List Event) : Type 
   pub gaps : AreGaps layout.gaps past
 
 -- the layout of a history of guardians in a window
-pub record IsLayout (setup : Setup) (window : Window) (layout : Layout) (past : List Event) : Type 0 where
+pub record IsLayout (setup : Setup) (window : Window) (layout : Layout)
+    (past : List Event) : Type 0 where
   pub guardians : layout.guardians ≡ length setup
   pub count : layout.count ≡ length past
   pub laid_out : IsLaidOut (span_of window (length past)) layout past

@@ -31,19 +31,23 @@ exposed_in (Some names) = names.items
 
 -- a crash of g loses b, as far as is kept: b began at g, and g has not prepared its top action
 abbrev pub falls : BTreeSet (ℕ × ℕ) → Bars → ℕ → Name → Bool
-falls prepared bars g b = (kept_home (get name_cmp bars.begun b) == g) && not (contains pair_cmp prepared (g, slice_index b 0))
+falls prepared bars g b = (kept_home (get name_cmp bars.begun b) == g)
+    && not (contains pair_cmp prepared (g, slice_index b 0))
 
 -- the step is a crash that loses b
 abbrev pub is_taken : Losses → Bars → Step → Name → Bool
-is_taken losses bars (Crash g) b = has_name (exposed_in (get nat_cmp losses.exposed g)) b && falls losses.prepared bars g b
+is_taken losses bars (Crash g) b =
+    has_name (exposed_in (get nat_cmp losses.exposed g)) b && falls losses.prepared bars g b
 is_taken losses bars _ b = false
 
 -- What is kept is what the history says. An action that a crash of its home would lose is exposed.
 pub record AreLosses (losses : Losses) (past : List Event) : Type 0 where
   pub lost : (b : Name) → 1 ≤ length b → contains name_cmp losses.lost b ≡ is_lost b past
   pub prepared : (g n : ℕ) → contains pair_cmp losses.prepared (g, n) ≡ has_prepared g (n ∷ []) past
-  pub was_begun : (g : ℕ) (b : Name) → has_name (exposed_in (get nat_cmp losses.exposed g)) b ≡ true → is_begun b past ≡ true
-  pub exposed : (b : Name) → 1 ≤ length b → is_begun b past ≡ true → is_lost b past ≡ false → has_prepared (home_of b past) (top_of b) past ≡ false
+  pub was_begun : (g : ℕ) (b : Name) → has_name (exposed_in (get nat_cmp losses.exposed g)) b ≡ true
+      → is_begun b past ≡ true
+  pub exposed : (b : Name) → 1 ≤ length b → is_begun b past ≡ true → is_lost b past ≡ false
+      → has_prepared (home_of b past) (top_of b) past ≡ false
       → has_name (exposed_in (get nat_cmp losses.exposed (home_of b past))) b ≡ true
 
 -- the nearest ancestor of b that is not among the committed actions, or else its top action
@@ -58,4 +62,5 @@ is_doomed bars stranded c = is_some (get name_cmp bars.aborted c) || contains na
 abbrev pub AreStranded : BTreeSet Name → List Event → Type 0
 AreStranded stranded past = (a : Name) → 1 ≤ length a
     → list_any (λ c. contains name_cmp stranded c) (ancestors a)
-    ≡ list_any (λ b. same_name (top_of b) (top_of a) && (is_lost b past && is_visible b a past)) (begun past)
+    ≡ list_any (λ b. same_name (top_of b) (top_of a) && (is_lost b past && is_visible b a past))
+    (begun past)

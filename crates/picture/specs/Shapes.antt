@@ -57,7 +57,8 @@ abbrev pub box_start : Class → Point → ℕ → ℕ → List ℕ
 box_start c p width height =
     start_text (codes "<rect") c
     ++ (attribute_text (codes "x") p.x ++ (attribute_text (codes "y") p.y
-    ++ (attribute_text (codes "width") width ++ (attribute_text (codes "height") height ++ codes ">"))))
+    ++ (attribute_text (codes "width") width
+    ++ (attribute_text (codes "height") height ++ codes ">"))))
 
 abbrev pub line_start : Class → Point → Point → List ℕ
 line_start c p q =
@@ -71,7 +72,8 @@ dot_start c p =
     ++ (attribute_text (codes "cx") p.x ++ (attribute_text (codes "cy") p.y ++ codes " r=\"3\">"))
 
 abbrev pub words_start : Class → Point → List ℕ
-words_start c p = start_text (codes "<text") c ++ (attribute_text (codes "x") p.x ++ (attribute_text (codes "y") p.y ++ codes ">"))
+words_start c p = start_text (codes "<text") c
+    ++ (attribute_text (codes "x") p.x ++ (attribute_text (codes "y") p.y ++ codes ">"))
 
 -- the text that is shown over a shape
 abbrev pub tip_text : List ℕ → List ℕ
@@ -79,10 +81,13 @@ tip_text tip = codes "<title>" ++ (escaped tip ++ codes "</title>")
 
 -- a shape's element. What a run puts into it is escaped.
 abbrev pub shape_text : Shape → List ℕ
-shape_text (shape.Rect c p width height tip) = box_start c p width height ++ (tip_text (string_bytes tip) ++ codes "</rect>")
-shape_text (shape.Line c p q tip) = line_start c p q ++ (tip_text (string_bytes tip) ++ codes "</line>")
+shape_text (shape.Rect c p width height tip) =
+    box_start c p width height ++ (tip_text (string_bytes tip) ++ codes "</rect>")
+shape_text (shape.Line c p q tip) =
+    line_start c p q ++ (tip_text (string_bytes tip) ++ codes "</line>")
 shape_text (shape.Dot c p tip) = dot_start c p ++ (tip_text (string_bytes tip) ++ codes "</circle>")
-shape_text (shape.Text c p words) = words_start c p ++ (escaped (string_bytes words) ++ codes "</text>")
+shape_text (shape.Text c p words) =
+    words_start c p ++ (escaped (string_bytes words) ++ codes "</text>")
 
 -- a line each
 abbrev pub shapes_text : List Shape → List ℕ

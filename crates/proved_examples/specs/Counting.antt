@@ -68,10 +68,12 @@ one_aborted = prepared_both ++ (
 
 -- a sum that wraps at the greatest number, and at the least
 abbrev pub wraps_above : Example
-wraps_above = (Top 1, began action_1) ∷ adds action_1 (pos 1) ∷ totals action_1 (negsuc 9223372036854775807) ∷ []
+wraps_above = (Top 1, began action_1) ∷ adds action_1 (pos 1)
+    ∷ totals action_1 (negsuc 9223372036854775807) ∷ []
 
 abbrev pub wraps_below : Example
-wraps_below = (Top 1, began action_1) ∷ adds action_1 (negsuc 0) ∷ totals action_1 (pos 9223372036854775807) ∷ []
+wraps_below = (Top 1, began action_1) ∷ adds action_1 (negsuc 0)
+    ∷ totals action_1 (pos 9223372036854775807) ∷ []
 
 -- an add beside a read waits, and so does a read beside an add
 abbrev pub beside_a_reader : Example
@@ -82,11 +84,13 @@ beside_a_reader =
 
 -- a put over one's own adds, and adds over it
 abbrev pub put_over_adds : Example
-put_over_adds = (Top 1, began action_1) ∷ adds action_1 (pos 5) ∷ puts action_1 (pos 3) ∷ adds action_1 (pos 4) ∷ totals action_1 (pos 7) ∷ []
+put_over_adds = (Top 1, began action_1) ∷ adds action_1 (pos 5) ∷ puts action_1 (pos 3)
+    ∷ adds action_1 (pos 4) ∷ totals action_1 (pos 7) ∷ []
 
 -- adds of a child go to its parent
 abbrev pub adds_of_a_child : Example
 adds_of_a_child =
     (Top 1, began action_1) ∷ adds action_1 (pos 1) ∷ (Call action_1 1, began action_1_1)
     ∷ adds action_1_1 (pos 2) ∷ totals action_1_1 (pos 13) ∷ (Commit action_1_1, Done 0)
-    ∷ total_waits action_1 (action_1_1 ∷ []) ∷ (Tell 1 action_1_1, Done 1) ∷ totals action_1 (pos 13) ∷ []
+    ∷ total_waits action_1 (action_1_1 ∷ []) ∷ (Tell 1 action_1_1, Done 1)
+    ∷ totals action_1 (pos 13) ∷ []

@@ -35,7 +35,8 @@ steps_of example = map (λ line. line.0) example
 
 -- the steps, asked one after another from the opening on, are answered as the example says
 abbrev pub AnswersFrom : Opening → Example → Type 0
-AnswersFrom opening example = answers_from opening [] (steps_of example) ≡ map (λ line. line.1) example
+AnswersFrom opening example =
+    answers_from opening [] (steps_of example) ≡ map (λ line. line.1) example
 
 abbrev pub Answers : Example → Type 0
 Answers example = AnswersFrom two_records example
@@ -56,7 +57,8 @@ placed past o = (place_of o past, o.action, o.object, o.operation, o.reply)
 
 -- what is visible to an action after the example, in order of place
 abbrev pub Explains : Example → Name → List Placed → Type 0
-Explains example a lines = let past = history_of example in map (λ o. placed past o) (visible_by_place a past) ≡ lines
+Explains example a lines = let past = history_of example in
+    map (λ o. placed past o) (visible_by_place a past) ≡ lines
 
 abbrev pub action_1 : Name
 action_1 = 1 ∷ []

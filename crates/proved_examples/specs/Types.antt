@@ -37,7 +37,8 @@ none_with v =
 -- guardian 1 holds a record and an array, guardian 2 a record and a variant
 abbrev pub three_types : Opening
 three_types =
-    fresh ((record_of (codes "balance") 100 ∷ no_ints_at (pos 1) ∷ []) ∷ (record_of (codes "n") 0 ∷ none_with 0 ∷ []) ∷ [])
+    fresh ((record_of (codes "balance") 100 ∷ no_ints_at (pos 1) ∷ [])
+    ∷ (record_of (codes "n") 0 ∷ none_with 0 ∷ []) ∷ [])
 
 -- guardian 1 holds an array that begins at the least index
 abbrev pub array_at_the_bound : Opening

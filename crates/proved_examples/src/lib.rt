@@ -65,7 +65,8 @@ pub fn crash_after_yes_vote()
 /// A read lock is lost in a crash even after a yes vote; the read still comes before the write in order of place.
 pub fn prepared_read_lock_lost()
     ensures answers { Answers crashes.prepared_read_lock_lost }
-    ensures explanation { Explains crashes.prepared_read_lock_lost action_2 crashes.read_before_write }
+    ensures explanation { Explains crashes.prepared_read_lock_lost action_2
+        crashes.read_before_write }
 {}
 
 /// A top action whose home crashed is not decided any more, and its abort frees the other guardian.
@@ -130,7 +131,8 @@ pub fn variant_tags()
 
 /// Histories that fit together fail nowhere.
 pub fn histories_gather()
-    ensures { least_failing histories.one_guardian (histories.histories_of histories.transfer) ≡ None }
+    ensures { least_failing histories.one_guardian (histories.histories_of histories.transfer)
+        ≡ None }
 {}
 
 /// A reply that was invented fails at its stamp.
@@ -146,17 +148,25 @@ pub fn missing_event_fails()
 /// A guardian that voted yes and was told the commit has installed what it prepared; its home has decided.
 pub fn stores_after_commit()
     ensures count { stable_count two_records 2 (history_of crashes.crash_after_yes_vote) ≡ 1 }
-    ensures base { stable_base two_records 2 1 (history_of crashes.crash_after_yes_vote) ≡ Some (Value (record_of (codes "n") 4)) }
-    ensures prepared { stable_prepared two_records 2 action_1 (history_of crashes.crash_after_yes_vote) ≡ None }
-    ensures decided { is_stably_decided two_records 1 action_1 (history_of crashes.crash_after_yes_vote) ≡ true }
-    ensures untold { stable_prepared two_records 1 action_1 (history_of crashes.crash_after_yes_vote)
+    ensures base { stable_base two_records 2 1 (history_of crashes.crash_after_yes_vote)
+        ≡ Some (Value (record_of (codes "n") 4)) }
+    ensures prepared { stable_prepared two_records 2
+        action_1 (history_of crashes.crash_after_yes_vote)
+        ≡ None }
+    ensures decided { is_stably_decided two_records 1 action_1
+        (history_of crashes.crash_after_yes_vote)
+        ≡ true }
+    ensures untold { stable_prepared two_records 1 action_1
+        (history_of crashes.crash_after_yes_vote)
         ≡ Some (record { home = 1; parts = [] }) }
 {}
 
 /// A write that was not told to have committed stands above the base, under the lock of the action that made it.
 pub fn versions_before_telling()
-    ensures locks { locks_on balance (history_of telling.committed_not_told) ≡ (action_1_1, Class.Write) ∷ [] }
-    ensures base { base_of two_records balance (history_of telling.committed_not_told) ≡ record_of (codes "balance") 100 }
+    ensures locks { locks_on balance (history_of telling.committed_not_told)
+        ≡ (action_1_1, Class.Write) ∷ [] }
+    ensures base { base_of two_records balance (history_of telling.committed_not_told)
+        ≡ record_of (codes "balance") 100 }
     ensures versions { versions two_records balance (history_of telling.committed_not_told)
         ≡ (action_1_1, record_of (codes "balance") 50) ∷ [] }
 {}
@@ -169,19 +179,28 @@ pub fn two_adders()
 
 /// What is held of the counter while both are prepared, and what the store has.
 pub fn adds_prepared()
-    ensures deltas { deltas counting.counter (counting.history_of counting.prepared_both) ≡ (action_1, pos 5) ∷ (action_2, pos 7) ∷ [] }
-    ensures versions { versions counting.from_ten counting.counter (counting.history_of counting.prepared_both) ≡ [] }
-    ensures locks { locks_on counting.counter (counting.history_of counting.prepared_both) ≡ (action_2, Class.Add) ∷ (action_1, Class.Add) ∷ [] }
-    ensures prepared { stable_prepared counting.from_ten 1 action_2 (counting.history_of counting.prepared_both)
+    ensures deltas { deltas counting.counter (counting.history_of counting.prepared_both)
+        ≡ (action_1, pos 5) ∷ (action_2, pos 7) ∷ [] }
+    ensures versions { versions counting.from_ten
+        counting.counter (counting.history_of counting.prepared_both)
+        ≡ [] }
+    ensures locks { locks_on counting.counter (counting.history_of counting.prepared_both)
+        ≡ (action_2, Class.Add) ∷ (action_1, Class.Add) ∷ [] }
+    ensures prepared { stable_prepared counting.from_ten 1 action_2
+        (counting.history_of counting.prepared_both)
         ≡ Some (record { home = 1; parts = (1, Delta (pos 7)) ∷ [] }) }
-    ensures next { stable_next_top counting.from_ten 1 (counting.history_of counting.prepared_both) ≡ 3 }
-    ensures base { stable_base counting.from_ten 1 1 (counting.history_of counting.both_decided) ≡ Some (Delta (pos 12)) }
+    ensures next { stable_next_top counting.from_ten 1 (counting.history_of counting.prepared_both)
+        ≡ 3 }
+    ensures base { stable_base counting.from_ten 1 1 (counting.history_of counting.both_decided)
+        ≡ Some (Delta (pos 12)) }
 {}
 
 /// Sums wrap at both ends.
 pub fn sums_wrap()
-    ensures above { AnswersFrom (counting.counting_from (pos 9223372036854775807)) counting.wraps_above }
-    ensures below { AnswersFrom (counting.counting_from (negsuc 9223372036854775807)) counting.wraps_below }
+    ensures above { AnswersFrom (counting.counting_from (pos 9223372036854775807))
+        counting.wraps_above }
+    ensures below { AnswersFrom (counting.counting_from (negsuc 9223372036854775807))
+        counting.wraps_below }
 {}
 
 /// An add beside a read waits.
@@ -192,7 +211,9 @@ pub fn add_beside_a_reader()
 /// A put takes the place of adds.
 pub fn put_takes_their_place()
     ensures answers { AnswersFrom counting.from_ten counting.put_over_adds }
-    ensures versions { versions counting.from_ten counting.counter (counting.history_of counting.put_over_adds) ≡ (action_1, Counter (pos 7)) ∷ [] }
+    ensures versions { versions counting.from_ten
+        counting.counter (counting.history_of counting.put_over_adds)
+        ≡ (action_1, Counter (pos 7)) ∷ [] }
     ensures deltas { deltas counting.counter (counting.history_of counting.put_over_adds) ≡ [] }
 {}
 
@@ -206,12 +227,19 @@ pub fn history_goes_on()
     ensures { AnswersFrom opened.opened opened.goes_on }
 {}
 
-/// A guardian that was opened again by itself is down; once it is up, a prepared add stands under its lock until it is told.
+/// A guardian that was opened again by itself is down; once it is up, a prepared add stands under its lock until it
+/// is told.
 pub fn opened_again()
-    ensures waits { operation_here opened.alone 1 opened.seven counting.counter Total opened.up ≡ Waits (action_1 ∷ []) }
-    ensures committed { operation_here opened.alone 1 opened.seven counting.counter Total (opened.told true) ≡ Granted (reply.Gives (Int (pos 18))) }
-    ensures aborted { operation_here opened.alone 1 opened.seven counting.counter Total (opened.told false) ≡ Granted (reply.Gives (Int (pos 15))) }
-    ensures prepared { prepared_here opened.alone 1 action_1 opened.up ≡ Some opened.record_of_three }
+    ensures waits { operation_here opened.alone 1 opened.seven counting.counter Total opened.up
+        ≡ Waits (action_1 ∷ []) }
+    ensures committed { operation_here opened.alone 1 opened.seven counting.counter Total
+        (opened.told true)
+        ≡ Granted (reply.Gives (Int (pos 18))) }
+    ensures aborted { operation_here opened.alone
+        1 opened.seven counting.counter Total (opened.told false)
+        ≡ Granted (reply.Gives (Int (pos 15))) }
+    ensures prepared { prepared_here opened.alone 1 action_1 opened.up
+        ≡ Some opened.record_of_three }
     ensures told { prepared_here opened.alone 1 action_1 (opened.told true) ≡ None }
     ensures base { stable_base_here opened.alone 1 1 (opened.told true) ≡ Some (Delta (pos 8)) }
 {}

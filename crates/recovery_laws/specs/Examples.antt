@@ -16,13 +16,14 @@ use Rattle.run_model.specs.Replay.{store_after}
 use Rattle.run_model.specs.Runs.{history_from}
 use Rattle.recovery_laws.specs.Settled.{settled_base}
 
--- All these steps are accepted. After them what is settled of the object leaves this content, and the top action t, which is new, would
--- see the same there.
+-- All these steps are accepted. After them what is settled of the object leaves this content, and the top action t,
+-- which is new, would see the same there.
 abbrev pub Settles : Opening → List Step → ObjectId → Name → Content → Type 0
 Settles opening steps x t content =
     let past = history_from opening [] steps in
     (length past ≡ length steps) × IsFalse (is_begun t past)
-    × (laid_where (settled_base opening x.guardian x.number past) (set_up opening.setup x) ≡ content)
+    × (laid_where (settled_base opening x.guardian x.number past) (set_up opening.setup x)
+    ≡ content)
     × (store_after (first_content opening) (visible_by_grant t past) x ≡ content)
 
 -- the first top action, the second and the third
@@ -50,7 +51,8 @@ adds a n = Op a counter (Add (Int (pos n)))
 -- two adders, both prepared
 abbrev pub two_prepared : List Step
 two_prepared =
-    Top 1 ∷ Top 1 ∷ adds one 5 ∷ adds two 7 ∷ Close one ∷ Prepare 1 one ∷ Close two ∷ Prepare 1 two ∷ []
+    Top 1 ∷ Top 1 ∷ adds one 5 ∷ adds two 7 ∷ Close one ∷ Prepare 1 one ∷ Close two
+    ∷ Prepare 1 two ∷ []
 
 -- of which one is decided, and the other not yet
 abbrev pub one_decided : List Step
@@ -79,8 +81,8 @@ away = record { guardian = 2; number = 1 }
 -- a top action whose subaction at guardian 2 sets the record; both guardians prepare it
 abbrev pub sets_away : ℕ → ℕ → List Step
 sets_away t n =
-    Top 1 ∷ Call (t ∷ []) 2 ∷ Op (t ∷ 1 ∷ []) away (Set (codes "n") (Int (pos n))) ∷ Commit (t ∷ 1 ∷ []) ∷ Close (t ∷ [])
-    ∷ Prepare 1 (t ∷ []) ∷ Prepare 2 (t ∷ []) ∷ []
+    Top 1 ∷ Call (t ∷ []) 2 ∷ Op (t ∷ 1 ∷ []) away (Set (codes "n") (Int (pos n)))
+    ∷ Commit (t ∷ 1 ∷ []) ∷ Close (t ∷ []) ∷ Prepare 1 (t ∷ []) ∷ Prepare 2 (t ∷ []) ∷ []
 
 -- it is decided, which only its home knows
 abbrev pub set_away : List Step

@@ -7,17 +7,20 @@ use Rattle.guardian_laws.specs.Laws.{kept_event}
 use Rattle.stable_store.specs.Stored.{Stored, empty}
 use Rattle.guardian_laws.specs.Stored.{after_event}
 
--- what g's store holds after the event that follows past: where the event names g, what the call that it asks for leaves
+-- what g's store holds after the event that follows past: where the event names g, what the call that it asks for
+-- leaves
 abbrev pub content_after : Opening → Event → List Event → ℕ → Stored → Stored
 content_after opening e past g s =
     if names_guardian e.step past g
-    then after_event opening g (kept_event opening (0, e) (numbered past) g) (local_history opening (numbered past) g) s
+    then after_event opening g (kept_event opening (0, e) (numbered past) g)
+    (local_history opening (numbered past) g) s
     else s
 
 -- what these stores hold then, of which the first is that of guardian g
 abbrev pub contents_from : Opening → Event → List Event → ℕ → List Stored → List Stored
 contents_from opening e past g [] = []
-contents_from opening e past g (s ∷ stores) = content_after opening e past g s ∷ contents_from opening e past (g + 1) stores
+contents_from opening e past g (s ∷ stores) =
+    content_after opening e past g s ∷ contents_from opening e past (g + 1) stores
 
 -- what the stores of all guardians hold then
 abbrev pub stores_after : Opening → Event → List Event → List Stored → List Stored
@@ -26,7 +29,8 @@ stores_after opening e past stores = contents_from opening e past 1 stores
 -- what they hold after all events, where they held this before
 abbrev pub stores_through : Opening → List Event → List Stored → List Stored
 stores_through opening [] first = first
-stores_through opening (e ∷ past) first = stores_after opening e past (stores_through opening past first)
+stores_through opening (e ∷ past) first =
+    stores_after opening e past (stores_through opening past first)
 
 -- the stores of new guardians
 abbrev pub new_stores : Setup → List Stored

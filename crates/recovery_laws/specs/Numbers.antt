@@ -14,11 +14,14 @@ IsGuardian opening g = (0 < g) × (g ≤ length opening.setup)
 
 -- Each top action that a guardian's store had as decided before has a smaller number than those that begin now.
 abbrev pub DecidedAreOlder : Opening → Type 0
-DecidedAreOlder opening = (g n : ℕ) → IsGuardian opening g → IsTrue ((opening.stores g).decided (n ∷ [])) → n < opening.first_top
+DecidedAreOlder opening = (g n : ℕ) → IsGuardian opening g
+    → IsTrue ((opening.stores g).decided (n ∷ [])) → n < opening.first_top
 
--- the greatest of what the guardians' stores have as the number after that of all top actions on which they voted yes, and at least 1
+-- the greatest of what the guardians' stores have as the number after that of all top actions on which they voted
+-- yes, and at least 1
 abbrev pub next_top_of_all : Opening → List Event → ℕ
-next_top_of_all opening past = fold (λ m g. max m (stable_next_top opening g past)) 1 (guardians_of opening)
+next_top_of_all opening past =
+    fold (λ m g. max m (stable_next_top opening g past)) 1 (guardians_of opening)
 
 -- The stores know the first number of a top action, and have no later one as decided.
 pub record IsNumbered (opening : Opening) : Type 0 where
@@ -31,10 +34,11 @@ FreshAreNumbered = (setup : Setup) → IsNumbered (fresh setup)
 
 -- Each top action that some guardian has prepared has a number below it.
 abbrev pub PreparedAreOlder : Type 0
-PreparedAreOlder = (opening : Opening) (past : List Event) (g : ℕ) (t : Name) → IsRun opening past → IsTrue (has_prepared g t past)
-    → last_of t < next_top_of_all opening past
+PreparedAreOlder = (opening : Opening) (past : List Event) (g : ℕ) (t : Name) → IsRun opening past
+    → IsTrue (has_prepared g t past) → last_of t < next_top_of_all opening past
 
 -- So has each that is decided.
 abbrev pub DecidedStayOlder : Type 0
-DecidedStayOlder = (opening : Opening) (past : List Event) (g n : ℕ) → IsNumbered opening → IsRun opening past → IsGuardian opening g
-    → IsTrue (is_stably_decided opening g (n ∷ []) past) → n < next_top_of_all opening past
+DecidedStayOlder = (opening : Opening) (past : List Event) (g n : ℕ) → IsNumbered opening
+    → IsRun opening past → IsGuardian opening g → IsTrue (is_stably_decided opening g (n ∷ []) past)
+    → n < next_top_of_all opening past

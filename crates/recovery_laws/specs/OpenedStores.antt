@@ -13,7 +13,8 @@ use Rattle.recovery_laws.specs.Runs.{AreOfRun, AreSettled, HoldWhatIsSeen}
 use Rattle.stable_store.specs.Stored.{Stored}
 use Rattle.store_recovery.specs.Settling.{bases_then, settled}
 
--- the greatest of what the stores have as the number after that of all top actions on which they voted yes, and at least 1
+-- the greatest of what the stores have as the number after that of all top actions on which they voted yes, and at
+-- least 1
 abbrev pub next_top_of : List Stored → ℕ
 next_top_of stores = fold (λ m s. max m s.next_top) 1 stores
 
@@ -23,14 +24,15 @@ pub record SaysOf (opening : Opening) (g : ℕ) (s : Stored) : Type 0 where
   pub decided : (n : ℕ) → set.contains s.decided n ≡ (opening.stores g).decided (n ∷ [])
   pub next_top : s.next_top ≡ (opening.stores g).next_top
 
--- The next opening has the same setup, says of each guardian's store what this one holds, and numbers its top actions from the number that all
--- of them know as the next.
+-- The next opening has the same setup, says of each guardian's store what this one holds, and numbers its top actions
+-- from the number that all of them know as the next.
 pub record OpensWith (opening : Opening) (stores : List Stored) (next : Opening) : Type 0 where
   pub setup : next.setup ≡ opening.setup
   pub each : (i : ℕ) (s : Stored) → slice_get stores i ≡ Some s → SaysOf next (i + 1) s
   pub first_top : next.first_top ≡ next_top_of stores
 
--- These stores hold of bases, decisions and next top actions what the others do once settled; of counts nothing is said.
+-- These stores hold of bases, decisions and next top actions what the others do once settled; of counts nothing is
+-- said.
 pub record AreSettledFrom (stores now : List Stored) : Type 0 where
   pub bases : each (λ s. s.base) now ≡ bases_then stores
   pub decided : each (λ s. s.decided) now ≡ each (λ s. s.decided) stores
@@ -42,9 +44,11 @@ DifferInOne old new = (place : ℕ) × ((i : ℕ) → i ≢ place → slice_get 
 
 -- each store is that before the step or that after it
 abbrev pub AreBetween : List Stored → List Stored → List Stored → Type 0
-AreBetween old new left = (i : ℕ) → (slice_get left i ≡ slice_get old i) ⊎ (slice_get left i ≡ slice_get new i)
+AreBetween old new left = (i : ℕ)
+    → (slice_get left i ≡ slice_get old i) ⊎ (slice_get left i ≡ slice_get new i)
 
--- The stores are those of the run: once settled they hold what it settles, and so what a new top action would have seen.
+-- The stores are those of the run: once settled they hold what it settles, and so what a new top action would have
+-- seen.
 pub record AreLeftAfter (opening : Opening) (past : List Event) (left : List Stored) : Type 0 where
   pub stores : AreOfRun opening past left
   pub held : AreSettled opening past (settled left)
@@ -59,11 +63,12 @@ pub record StoredLife : Type 0 where
 abbrev pub lives_of : List StoredLife → List Life
 lives_of lives = each (λ l. l.life) lives
 
--- Runs that stopped, the newest first: each left its stores, and the opening behind it says what was found of these once they were settled. The first
--- of all openings is numbered.
+-- Runs that stopped, the newest first: each left its stores, and the opening behind it says what was found of these
+-- once they were settled. The first of all openings is numbered.
 abbrev pub AreStoredLives : List StoredLife → Opening → Type 0
 AreStoredLives [] next = IsNumbered next
 AreStoredLives (l ∷ older) next =
-    OpensWith l.life.opening l.found next × AreSettledFrom l.left l.found × AreOfRun l.life.opening l.life.past l.left
-    × IsRun l.life.opening l.life.past × IsTrue (is_top l.life.last) × IsFalse (is_begun l.life.last l.life.past)
+    OpensWith l.life.opening l.found next × AreSettledFrom l.left l.found
+    × AreOfRun l.life.opening l.life.past l.left × IsRun l.life.opening l.life.past
+    × IsTrue (is_top l.life.last) × IsFalse (is_begun l.life.last l.life.past)
     × AreStoredLives older l.life.opening

@@ -20,10 +20,11 @@ use Rattle.guardian_laws.specs.Stored.{AreStored}
 -- the stores of all guardians of the run, from the first on, each of which holds what its guardian's own history says
 pub record AreOfRun (opening : Opening) (past : List Event) (stores : List Stored) : Type 0 where
   pub count : length stores ≡ length opening.setup
-  pub each : (i : ℕ) (s : Stored) → slice_get stores i ≡ Some s → AreStored opening (i + 1) (local_history opening (numbered past) (i + 1)) s
+  pub each : (i : ℕ) (s : Stored) → slice_get stores i ≡ Some s
+      → AreStored opening (i + 1) (local_history opening (numbered past) (i + 1)) s
 
--- The store of g holds at each object what is settled of it, and no record; of decisions, recoveries and the next top action it holds what the
--- whole history says.
+-- The store of g holds at each object what is settled of it, and no record; of decisions, recoveries and the next top
+-- action it holds what the whole history says.
 pub record HoldsSettled (opening : Opening) (g : ℕ) (past : List Event) (s : Stored) : Type 0 where
   pub base : (n : ℕ) → map.get s.base n ≡ settled_base opening g n past
   pub prepared : s.prepared ≡ map.empty
@@ -34,10 +35,13 @@ pub record HoldsSettled (opening : Opening) (g : ℕ) (past : List Event) (s : S
 -- so does each of the stores of all guardians
 pub record AreSettled (opening : Opening) (past : List Event) (stores : List Stored) : Type 0 where
   pub count : length stores ≡ length opening.setup
-  pub each : (i : ℕ) (s : Stored) → slice_get stores i ≡ Some s → HoldsSettled opening (i + 1) past s
+  pub each : (i : ℕ) (s : Stored) → slice_get stores i ≡ Some s
+      → HoldsSettled opening (i + 1) past s
 
--- What a guardian's store holds of an object, laid on its content at the setup, is what each top action that has not begun would see there.
+-- What a guardian's store holds of an object, laid on its content at the setup, is what each top action that has not
+-- begun would see there.
 abbrev pub HoldWhatIsSeen : Opening → List Event → List Stored → Type 0
-HoldWhatIsSeen opening past stores = (x : ObjectId) (s : Stored) (t : Name) → store_of stores x.guardian ≡ Some s → IsTrue (is_top t)
-    → IsFalse (is_begun t past)
-    → laid_where (map.get s.base x.number) (set_up opening.setup x) ≡ store_after (first_content opening) (visible_by_place t past) x
+HoldWhatIsSeen opening past stores = (x : ObjectId) (s : Stored) (t : Name)
+    → store_of stores x.guardian ≡ Some s → IsTrue (is_top t) → IsFalse (is_begun t past)
+    → laid_where (map.get s.base x.number) (set_up opening.setup x)
+    ≡ store_after (first_content opening) (visible_by_place t past) x

@@ -17,41 +17,47 @@ use Rattle.store_recovery.specs.Settling.{settled}
 
 -- The stores of a run, settled, hold what its history settles.
 abbrev pub SettledStores : Type 0
-SettledStores = (opening : Opening) (past : List Event) (stores : List Stored) → IsRun opening past → AreOfRun opening past stores
-    → AreSettled opening past (settled stores)
+SettledStores = (opening : Opening) (past : List Event) (stores : List Stored) → IsRun opening past
+    → AreOfRun opening past stores → AreSettled opening past (settled stores)
 
 -- So they hold what a new top action would have seen just before the stop.
 abbrev pub StoresHoldWhatIsSeen : Type 0
-StoresHoldWhatIsSeen = (opening : Opening) (past : List Event) (stores : List Stored) → DecidedAreOlder opening → IsRun opening past
+StoresHoldWhatIsSeen = (opening : Opening) (past : List Event) (stores : List Stored)
+    → DecidedAreOlder opening → IsRun opening past
     → AreOfRun opening past stores → HoldWhatIsSeen opening past (settled stores)
 
 -- An opening with what they hold goes on from the run.
 abbrev pub NextOpeningGoesOn : Type 0
-NextOpeningGoesOn = (opening next : Opening) (past : List Event) (stores : List Stored) → IsRun opening past → AreOfRun opening past stores
+NextOpeningGoesOn = (opening next : Opening) (past : List Event) (stores : List Stored)
+    → IsRun opening past → AreOfRun opening past stores
     → OpensWith opening (settled stores) next → GoesOnFrom opening past next
 
 -- So does one with what is found of them later, where recoveries may have been counted.
 abbrev pub OpenedStoresGoOn : Type 0
-OpenedStoresGoOn = (opening next : Opening) (past : List Event) (stores now : List Stored) → IsRun opening past → AreOfRun opening past stores
+OpenedStoresGoOn = (opening next : Opening) (past : List Event) (stores now : List Stored)
+    → IsRun opening past → AreOfRun opening past stores
     → AreSettledFrom stores now → OpensWith opening now next → GoesOnFrom opening past next
 
 -- Where none were counted, that is the settled stores.
 abbrev pub SettledAreFound : Type 0
 SettledAreFound = (stores : List Stored) → AreSettledFrom stores (settled stores)
 
--- However often the system stopped, where each run begins with what was found of the settled stores of the run before, all its runs are serial
--- together: what was left to see of each that stopped, and then what an action that is no orphan sees in the present one, replayed on one plain
--- store, give exactly the replies that were given.
+-- However often the system stopped, where each run begins with what was found of the settled stores of the run
+-- before, all its runs are serial together: what was left to see of each that stopped, and then what an action that
+-- is no orphan sees in the present one, replayed on one plain store, give exactly the replies that were given.
 abbrev pub SerialThroughStores : Type 0
-SerialThroughStores = (lives : List StoredLife) (next : Opening) (later : List Event) (a : Name) → AreStoredLives lives next → IsRun next later
-    → IsFalse (is_orphan a later)
-    → replayed (first_content (first_opening (lives_of lives) next)) (seen_through (lives_of lives) ++ visible_by_place a later)
+SerialThroughStores = (lives : List StoredLife) (next : Opening) (later : List Event) (a : Name)
+    → AreStoredLives lives next → IsRun next later → IsFalse (is_orphan a later)
+    → replayed (first_content (first_opening (lives_of lives) next))
+    (seen_through (lives_of lives) ++ visible_by_place a later)
     ≡ replies_given (seen_through (lives_of lives) ++ visible_by_place a later)
 
--- A stop within a step, which changes at most one store, leaves the stores of the run with the step or those of the run without it.
+-- A stop within a step, which changes at most one store, leaves the stores of the run with the step or those of the
+-- run without it.
 abbrev pub StopWithinAStep : Type 0
-StopWithinAStep = (opening : Opening) (e : Event) (past : List Event) (old new left : List Stored) → IsRun opening (e ∷ past)
-    → AreOfRun opening past old → AreOfRun opening (e ∷ past) new → DifferInOne old new → AreBetween old new left
+StopWithinAStep = (opening : Opening) (e : Event) (past : List Event) (old new left : List Stored)
+    → IsRun opening (e ∷ past) → AreOfRun opening past old → AreOfRun opening (e ∷ past) new
+    → DifferInOne old new → AreBetween old new left
     → AreLeftAfter opening past left ⊎ AreLeftAfter opening (e ∷ past) left
 
 -- The stores of new guardians are those of a run to which nothing happened.
@@ -60,15 +66,17 @@ NewStores = (setup : Setup) → AreOfRun (fresh setup) [] (new_stores setup)
 
 -- And stores follow the run.
 abbrev pub StoresFollow : Type 0
-StoresFollow = (opening : Opening) (past : List Event) (first : List Stored) → IsRun opening past → AreOfRun opening [] first
-    → AreOfRun opening past (stores_through opening past first)
+StoresFollow = (opening : Opening) (past : List Event) (first : List Stored) → IsRun opening past
+    → AreOfRun opening [] first → AreOfRun opening past (stores_through opening past first)
 
 -- A step calls at most one store.
 abbrev pub OneStoreIsCalled : Type 0
-OneStoreIsCalled = (opening : Opening) (e : Event) (past : List Event) (stores : List Stored) → DifferInOne stores (stores_after opening e past stores)
+OneStoreIsCalled = (opening : Opening) (e : Event) (past : List Event) (stores : List Stored)
+    → DifferInOne stores (stores_after opening e past stores)
 
 -- So a stop within any step leaves the stores of the run with the step or those of the run without it.
 abbrev pub StopWithinAnyStep : Type 0
-StopWithinAnyStep = (opening : Opening) (e : Event) (past : List Event) (stores left : List Stored) → IsRun opening (e ∷ past)
+StopWithinAnyStep = (opening : Opening) (e : Event) (past : List Event) (stores left : List Stored)
+    → IsRun opening (e ∷ past)
     → AreOfRun opening past stores → AreBetween stores (stores_after opening e past stores) left
     → AreLeftAfter opening past left ⊎ AreLeftAfter opening (e ∷ past) left

@@ -19,8 +19,8 @@ pub fn new_tops_are_no_orphans()
     ensures { NewTopsAreNoOrphans }
 {}
 
-/// Once each record of a prepared top action is installed where the top action was decided, and dropped elsewhere, each object has the content
-/// that a new top action would have seen just before.
+/// Once each record of a prepared top action is installed where the top action was decided, and dropped elsewhere,
+/// each object has the content that a new top action would have seen just before.
 pub fn settled_is_seen()
     ensures { SettledIsSeen }
 {}
@@ -55,7 +55,8 @@ pub fn fresh_are_numbered()
     ensures { FreshAreNumbered }
 {}
 
-/// Each top action that some guardian has prepared has a number below the one that all stores together know as the next.
+/// Each top action that some guardian has prepared has a number below the one that all stores together know as the
+/// next.
 pub fn prepared_are_older()
     ensures { PreparedAreOlder }
 {}
@@ -75,7 +76,8 @@ pub fn settles_once()
     ensures { SettlesOnce }
 {}
 
-/// A run that goes on from what was settled begins with what a new top action would have seen at the end of the run before.
+/// A run that goes on from what was settled begins with what a new top action would have seen at the end of the run
+/// before.
 pub fn opens_with_what_was_seen()
     ensures { OpensWithWhatWasSeen }
 {}
@@ -90,7 +92,8 @@ pub fn prepared_never_again()
     ensures { PreparedNeverAgain }
 {}
 
-/// However often the system stopped, the present run began with what a new top action would have seen at the end of each run before.
+/// However often the system stopped, the present run began with what a new top action would have seen at the end of
+/// each run before.
 pub fn contents_through_stops()
     ensures { ContentsThroughStops }
 {}
@@ -102,30 +105,36 @@ pub fn serial_through_stops()
 
 /// Of two adders, both prepared, one is decided.
 pub fn one_decided()
-    ensures { Settles example.from_ten example.one_decided example.counter example.three (Counter (pos 17)) }
+    ensures { Settles example.from_ten example.one_decided example.counter example.three
+        (Counter (pos 17)) }
 {}
 
 /// Of two adders, both prepared, one is decided and the other aborted.
 pub fn one_aborted()
-    ensures { Settles example.from_ten example.one_aborted example.counter example.three (Counter (pos 17)) }
+    ensures { Settles example.from_ten example.one_aborted example.counter example.three
+        (Counter (pos 17)) }
 {}
 
 /// Once both are told, nothing changes.
 pub fn both_told()
-    ensures { Settles example.from_ten example.both_told example.counter example.three (Counter (pos 17)) }
+    ensures { Settles example.from_ten example.both_told example.counter example.three
+        (Counter (pos 17)) }
 {}
 
 /// A subaction sets a record away from home, and its top action is decided, which only the home knows.
 pub fn set_away()
-    ensures { Settles example.two_guardians example.set_away example.away example.three (example.record_of 4) }
+    ensures { Settles example.two_guardians example.set_away example.away example.three
+        (example.record_of 4) }
 {}
 
 /// Before that, the record is as it was.
 pub fn set_in_vain()
-    ensures { Settles example.two_guardians example.set_in_vain example.away example.three (example.record_of 0) }
+    ensures { Settles example.two_guardians example.set_in_vain example.away example.three
+        (example.record_of 0) }
 {}
 
-/// Where a store had a top action of the history as decided before, its record is installed though it was not decided now.
+/// Where a store had a top action of the history as decided before, its record is installed though it was not decided
+/// now.
 pub fn decided_ahead_is_installed()
     ensures { DecidedAheadIsInstalled }
 {}
@@ -155,8 +164,8 @@ pub fn settled_are_found()
     ensures { SettledAreFound }
 {}
 
-/// However often the system stopped, where each run begins with what was found of the settled stores of the run before, all its
-/// runs are serial together.
+/// However often the system stopped, where each run begins with what was found of the settled stores of the run
+/// before, all its runs are serial together.
 pub fn serial_through_stores()
     ensures { SerialThroughStores }
 {}
@@ -188,12 +197,14 @@ pub fn stop_within_any_step()
 
 /// A subaction sets a record away from home, and its top action is decided, which only the home's store knows.
 pub fn stores_set_away()
-    ensures { StoresSettle example.two_guardians example.set_away example.away (example.record_of 4) }
+    ensures { StoresSettle example.two_guardians example.set_away example.away
+        (example.record_of 4) }
 {}
 
 /// Before that, the record is as it was.
 pub fn stores_set_in_vain()
-    ensures { StoresSettle example.two_guardians example.set_in_vain example.away (example.record_of 0) }
+    ensures { StoresSettle example.two_guardians example.set_in_vain example.away
+        (example.record_of 0) }
 {}
 
 /// By hand: the two stores that the steps make of new ones, and what is installed in the second.

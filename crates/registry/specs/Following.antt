@@ -23,7 +23,8 @@ use Rattle.registry.specs.declared.change.Change.{Change}
 use Rattle.registry.specs.declared.change.Change.TheVariants as change
 
 -- the actions and the votes are those of the history
-pub record AreActions (opening : Opening) (registry : List RegistryEvent) (actions : Actions) : Type 0 where
+pub record AreActions (opening : Opening) (registry : List RegistryEvent)
+    (actions : Actions) : Type 0 where
   pub forest : IsForest opening registry (trees actions.forest)
   pub ballots : AreBallots (events_there registry) actions.ballots
 
@@ -33,16 +34,19 @@ AreOfSome opening actions = (registry : List RegistryEvent) × AreActions openin
 
 -- at each opening and registry's history of which the actions and votes are
 abbrev pub AtEachOf : Actions → (Opening → List RegistryEvent → Type 0) → Type 0
-AtEachOf actions holds = (opening : Opening) (registry : List RegistryEvent) → AreActions opening registry actions → holds opening registry
+AtEachOf actions holds = (opening : Opening) (registry : List RegistryEvent)
+    → AreActions opening registry actions → holds opening registry
 
 -- the event that comes after this history, of which what it begins begins at this home in this life of it
 abbrev pub event_after : Opening → List RegistryEvent → ℕ → Event → ℕ → ℕ → RegistryEvent
 event_after opening registry stamp e home life =
-    stamped_there stamp (record { event = e; begun = begun_at (record { opening = opening; registry = registry }) home life e.answer })
+    stamped_there stamp
+    (record { event = e; begun = begun_at (record { opening = opening; registry = registry }) home life e.answer })
 
 -- whether the guardian voted yes on t, if t depends on it
 abbrev pub is_ready_there : Name → List RegistryEvent → ℕ → Bool
-is_ready_there t registry g = is_none (dependency_there t g registry) || has_prepared g t (events_there registry)
+is_ready_there t registry g =
+    is_none (dependency_there t g registry) || has_prepared g t (events_there registry)
 
 -- the event was accepted, with the answer that some guardians' histories have it be
 pub record IsEntered (opening : Opening) (registry : List RegistryEvent) (e : Event) : Type 0 where
@@ -70,23 +74,28 @@ takes_room (step.Prepare g t) = true
 takes_room _ = false
 
 -- these are the actions that the step begins under these names, at its home in this life of it
-pub record AreBegun (opening : Opening) (registry : List RegistryEvent) (step : Step) (names : List Name) (home life : ℕ) (actions : Actions) (begun : Begun) : Type 0 where
+pub record AreBegun (opening : Opening) (registry : List RegistryEvent) (step : Step)
+    (names : List Name) (home life : ℕ) (actions : Actions) (begun : Begun) : Type 0 where
   pub at_home : home ≡ home_in step (λ a. home_of a (events_there registry))
   pub born : AreBorn opening registry (maker_in step) home life (trees actions.forest) names begun
 
-abbrev pub FitsNames : Opening → List RegistryEvent → Step → List Name → ℕ → ℕ → Actions → Change → Type 0
-FitsNames opening registry step names home life actions (change.Begin begun) = AreBegun opening registry step names home life actions begun
+abbrev pub FitsNames : Opening → List RegistryEvent → Step → List Name → ℕ → ℕ
+    → Actions → Change → Type 0
+FitsNames opening registry step names home life actions (change.Begin begun) =
+    AreBegun opening registry step names home life actions begun
 FitsNames opening registry step names home life actions _ = ⊥
 
 -- the change is what the event changes
 abbrev pub FitsChange : Opening → List RegistryEvent → Event → ℕ → ℕ → Actions → Change → Type 0
 FitsChange opening registry e home life actions (change.Begin begun) =
-    (names : List Name) × (e.answer ≡ Began names) × AreBegun opening registry e.step names home life actions begun
+    (names : List Name) × (e.answer ≡ Began names)
+    × AreBegun opening registry e.step names home life actions begun
 FitsChange opening registry e home life actions (change.Commit commitment) =
     (a : Name) × (e.step ≡ step.Commit a) × IsCommitmentOf (trees actions.forest) a commitment
 FitsChange opening registry e home life actions (change.Vote v) =
     (g : ℕ) × (t : Name) × (e.step ≡ step.Prepare g t) × IsVoteOn g t (is_yes e.answer) v
-FitsChange opening registry e home life actions change.Other = IsFalse (takes_room e.step) × (names_begun e.answer ≡ [])
+FitsChange opening registry e home life actions change.Other = IsFalse (takes_room e.step)
+    × (names_begun e.answer ≡ [])
 
 -- there is room for the change
 abbrev pub HasRoomFor : Actions → Change → Type 0

@@ -33,7 +33,8 @@ AreBallots past ballots = AreNoted past ballots.ballots.entries
 
 -- the ballot under the number is there, and has room for the vote
 abbrev pub HasRoomAt : Ballots → ℕ → VotePlan → Type 0
-HasRoomAt ballots n plan = MatchOption (lookup (nat_eq n) ballots.ballots.entries) ⊥ (λ ballot. FitsVote ballot plan)
+HasRoomAt ballots n plan =
+    MatchOption (lookup (nat_eq n) ballots.ballots.entries) ⊥ (λ ballot. FitsVote ballot plan)
 
 -- on what a vote is, whose it is, and whether it is a yes
 abbrev pub top_in : Vote → Name

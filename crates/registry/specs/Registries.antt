@@ -17,7 +17,8 @@ pub record StandsIn (m : InRegistry) (f : ForestState) : Type 0 where
   pub opening : f.opening ≡ opening_in m.opening
   pub actions : AreActions f.opening f.registry m.actions
 
--- The change is what this event changes, which was entered in this state. What it begins begins at one home in one life of it.
+-- The change is what this event changes, which was entered in this state. What it begins begins at one home in one
+-- life of it.
 pub record IsChangeOf (m : InRegistry) (f : ForestState) (news : RegistryNews) : Type 0 where
   pub home : ℕ
   pub life : ℕ

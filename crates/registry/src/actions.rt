@@ -41,8 +41,9 @@ impl Actions {
 
     /// Whether all participants of the top action voted yes.
     pub(crate) fn is_ready(&self, opening: &Opening, top: &Name) -> bool
-        ensures { (registry : List RegistryEvent) → AreActions (opening_in opening.now) registry self.now
-            → result ≡ list_all (is_ready_there top.now registry) (guardians_of (opening_in opening.now)) }
+        ensures { (registry : List RegistryEvent)
+            → AreActions (opening_in opening.now) registry self.now → result
+            ≡ list_all (is_ready_there top.now registry) (guardians_of (opening_in opening.now)) }
     {
         match self.forest.depends(top.components()) {
             Some(participants) => self.ballots.may_commit(opening, participants, top),
@@ -50,17 +51,19 @@ impl Actions {
         }
     }
 
-    /// Makes room for an event and computes what it changes. What it begins begins at this home in this life of it. With memory and without, the
-    /// actions and votes stay what they were.
+    /// Makes room for an event and computes what it changes. What it begins begins at this home in this life of it.
+    /// With memory and without, the actions and votes stay what they were.
     pub(crate) fn plan(
         &mut self,
         event: &EventRef<'_>,
         home: u32,
         life: u64,
     ) -> Result<Change, AllocError>
-        ensures same { AtEachOf self.old (λ opening registry. AreActions opening registry self.new) }
+        ensures same { AtEachOf self.old
+            (λ opening registry. AreActions opening registry self.new) }
         ensures room { IfOk result (HasRoomFor self.new) }
-        ensures fits { AtEachOf self.old (λ opening registry. IfOk result (FitsChange opening registry event.now home life self.new)) }
+        ensures fits { AtEachOf self.old (λ opening registry.
+            IfOk result (FitsChange opening registry event.now home life self.new)) }
     {
         if let Answer::Began(names) = event.answer {
             return self.plan_begin(event.step, names, home, life);
@@ -76,7 +79,8 @@ impl Actions {
         }
     }
 
-    // Makes room for what the step begins. At another home than the step's nothing begins, so there is no room for it there.
+    // Makes room for what the step begins. At another home than the step's nothing begins, so there is no room for it
+    // there.
     fn plan_begin(
         &mut self,
         step: &Step,
@@ -84,9 +88,11 @@ impl Actions {
         home: u32,
         life: u64,
     ) -> Result<Change, AllocError>
-        ensures same { AtEachOf self.old (λ opening registry. AreActions opening registry self.new) }
+        ensures same { AtEachOf self.old
+            (λ opening registry. AreActions opening registry self.new) }
         ensures room { IfOk result (HasRoomFor self.new) }
-        ensures fits { AtEachOf self.old (λ opening registry. IfOk result (FitsNames opening registry step.now names.now home life self.new)) }
+        ensures fits { AtEachOf self.old (λ opening registry.
+            IfOk result (FitsNames opening registry step.now names.now home life self.new)) }
     {
         if home != self.home_by(step) {
             return Err(AllocError);
@@ -97,7 +103,8 @@ impl Actions {
 
     // The home of what the step begins.
     fn home_by(&self, step: &Step) -> u32
-        ensures { AtEach (trees self.now.forest) (λ opening registry. result ≡ home_in step.now (λ a. home_of a (events_there registry))) }
+        ensures { AtEach (trees self.now.forest) (λ opening registry. result
+            ≡ home_in step.now (λ a. home_of a (events_there registry))) }
     {
         match step {
             Step::Top(guardian) | Step::Call(_, guardian) => *guardian,
@@ -112,7 +119,8 @@ impl Actions {
         ensures { AtEachOf self.old (λ opening registry. (stamp : ℕ) (e : Event) (home life : ℕ)
             → IsEntered opening registry e
             → FitsChange opening registry e home life self.old change → step.now ≡ e.step
-            → AreActions opening (event_after opening registry stamp e home life ∷ registry) self.new) }
+            → AreActions opening
+            (event_after opening registry stamp e home life ∷ registry) self.new) }
     {
         match change {
             Change::Begin(begun) => self.forest.begin(begun),
@@ -125,7 +133,8 @@ impl Actions {
     // Closes or ends the action that the step closes or ends, if that takes no room.
     fn end(&mut self, step: &Step)
         ensures ballots { self.new.ballots ≡ self.old.ballots }
-        ensures other { IsFalse (is_ending step.now) → trees self.new.forest ≡ trees self.old.forest }
+        ensures other { IsFalse (is_ending step.now)
+            → trees self.new.forest ≡ trees self.old.forest }
         ensures ended { AtEach (trees self.old.forest) (λ opening registry. (stamp : ℕ)
             → MayEnd registry step.now
             → IsForest opening (done stamp step.now ∷ registry) (trees self.new.forest)) }

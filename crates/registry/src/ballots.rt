@@ -44,7 +44,8 @@ impl Ballots {
 
     /// Whether the guardian voted on the action, either way.
     pub(crate) fn has_voted(&self, guardian: u32, top: &Name) -> bool
-        ensures { (past : List Event) → AreBallots past self.now → result ≡ has_voted guardian top.now past }
+        ensures { (past : List Event) → AreBallots past self.now
+            → result ≡ has_voted guardian top.now past }
     {
         match self.ballot(top) {
             Some(ballot) => ballot.has_voted(guardian),
@@ -55,7 +56,8 @@ impl Ballots {
     /// Whether all these participants voted yes on the action, as far as they are guardians of the opening.
     pub(crate) fn may_commit(&self, opening: &Opening, participants: &Deps, top: &Name) -> bool
         ensures { (past : List Event) → AreBallots past self.now → result
-            ≡ list_all (λ g. is_none (map.get participants.now g) || has_prepared g top.now past) (guardians_of (opening_in opening.now)) }
+            ≡ list_all (λ g. is_none (map.get participants.now g) || has_prepared g top.now past)
+            (guardians_of (opening_in opening.now)) }
     {
         match self.ballot(top) {
             Some(ballot) => ballot.may_commit(opening, participants),
@@ -63,7 +65,8 @@ impl Ballots {
         }
     }
 
-    /// Makes room for a vote of the guardian on the top action. With memory and without, the ballots note what they noted.
+    /// Makes room for a vote of the guardian on the top action. With memory and without, the ballots note what they
+    /// noted.
     pub(crate) fn plan_vote(
         &mut self,
         guardian: u32,
@@ -83,7 +86,8 @@ impl Ballots {
     /// Notes a vote for which there is room. This cannot fail.
     pub(crate) fn note(&mut self, plan: Vote)
         requires { FitsBallots self.old plan }
-        ensures { (past : List Event) → AreBallots past self.old → AreBallots (vote (voter_in plan) (top_in plan) (is_yes_in plan) ∷ past) self.new }
+        ensures { (past : List Event) → AreBallots past self.old
+            → AreBallots (vote (voter_in plan) (top_in plan) (is_yes_in plan) ∷ past) self.new }
     {
         if let Some(ballot) = self.ballots.get_mut(&plan.top) {
             ballot.note_vote(plan.vote);

@@ -14,7 +14,8 @@ pub(crate) struct Told<'a, G> {
 }
 
 impl<'a, G: Guardian> Hearer for Told<'a, G> {
-    ghost hears = { λ x told. (s : GuardianState) × G.stands x.guardian.now s × ((a : List ℕ) → told a ≡ told_here s.number a s.past) };
+    ghost hears = { λ x told. (s : GuardianState) × G.stands x.guardian.now s
+        × ((a : List ℕ) → told a ≡ told_here s.number a s.past) };
 
     fn was_told(&self, action: &Name) -> bool {
         self.guardian.was_told(action)

@@ -14,7 +14,8 @@ use std::mem;
 use std::sync::Arc;
 use step_answers::Actor;
 
-/// The actions of a world and the votes on its top actions: what the registry's history says of them, which it does not keep.
+/// The actions of a world and the votes on its top actions: what the registry's history says of them, which it does
+/// not keep.
 #[derive(Drop)]
 pub struct Registry {
     opening: Arc<Opening, Global>,
@@ -36,7 +37,8 @@ impl Model for Registry {
 
     ghost coded = { Prim.hlevel (codes, of_actions.the_row.coded, of_change.the_row.coded) };
 
-    ghost view = { λ a. record { opening = arc_value a.opening; actions = a.actions; change = a.change } };
+    ghost view = { λ a.
+        record { opening = arc_value a.opening; actions = a.actions; change = a.change } };
 
     ghost invariant = { λ a. AreOfSome (opening_in (arc_value a.opening)) a.actions };
 }
@@ -46,7 +48,8 @@ impl Registry {
 
     /// The registry of a world in which nothing happened. This takes no memory.
     pub fn new(alloc: Global, opening: Arc<Opening, Global>) -> Registry
-        ensures { StandsIn result (record { opening = opening_in (arc_value opening); registry = [] }) }
+        ensures { StandsIn result
+            (record { opening = opening_in (arc_value opening); registry = [] }) }
     {
         let actions = Actions::new(alloc, &opening);
         Registry {

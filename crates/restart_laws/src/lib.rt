@@ -1,8 +1,8 @@
-//! A restart refuses what a run left only if memory runs out or a store counts a failure: the stores of a run belong to its
-//! setup, and they still do once some of their records are settled.
+//! A restart refuses what a run left only if memory runs out or a store counts a failure: the stores of a run belong
+//! to its setup, and they still do once some of their records are settled.
 //!
-//! `World::reopen` answers `NotOurs` if what its stores contain does not belong to the setup. Without these laws a check
-//! that refuses all stores would be proved too. Each law is the contract of a function without a body.
+//! `World::reopen` answers `NotOurs` if what its stores contain does not belong to the setup. Without these laws a
+//! check that refuses all stores would be proved too. Each law is the contract of a function without a body.
 #![tactic(auto)]
 
 ghost use Rattle.restart_laws.specs.Laws.{BelongThroughStops, NextOpensInType, OpensInTypeThroughStops, RefusedByFaultsAlone, RefusedStillBelong, ReopenedOpensInType, RunsBelong, SettledBelong, SettledInPartBelong, StopsBelong};

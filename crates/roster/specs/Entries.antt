@@ -26,7 +26,8 @@ pub record FitsBegun (roster : Roster) (begun : List (Name × Row)) (count : ℕ
 -- the row at the place can count so many things more that its action made
 abbrev pub CanCount : List Row → Option ℕ → ℕ → Type 0
 CanCount rows None n = Unit {0}
-CanCount rows (Some at) n = MatchOption (slice_get rows at) (Unit {0}) (λ row. row.unended + n < 2 ^ 64)
+CanCount rows (Some at) n =
+    MatchOption (slice_get rows at) (Unit {0}) (λ row. row.unended + n < 2 ^ 64)
 
 -- there is room for each of these names
 abbrev pub HaveRoom : List Name → List Name → Type 0
@@ -42,7 +43,8 @@ pub record FitsEntry (roster : Roster) (entry : Entry) : Type 0 where
 abbrev pub IsLeft : Table → Option ℕ → (ℕ → Option ℕ) → Option (ℕ × Deps) → Type 0
 IsLeft t at came None = at ≡ None
 IsLeft t at came (Some m) =
-    (at ≡ Some m.0) × ((h : ℕ) → tree.get m.1 h ≡ lesser (said (λ row. tree.get row.depends h) None (row_at t at)) (came h))
+    (at ≡ Some m.0) × ((h : ℕ)
+    → tree.get m.1 h ≡ lesser (said (λ row. tree.get row.depends h) None (row_at t at)) (came h))
 
 abbrev pub IsMerged : Table → Step → Sent → Option (ℕ × Deps) → Type 0
 IsMerged t (Commit a) came merged = IsLeft t (placed t (above a)) (λ h. least_of came a h) merged
@@ -67,16 +69,19 @@ pub record AreBorn (t : Table) (e : Event) (came : Sent) (begun : List (Name × 
 -- each proper ancestor of b is among them, or something is known from it down
 abbrev pub IsClimbed : Table → List Name → Name → Type 0
 IsClimbed t above b =
-    (a : Name) → IsTrue (is_proper_ancestor a b) → IsTrue (has_name above a) ⊎ ((c : Name) × IsTrue (is_ancestor a c) × IsTrue (is_known t c))
+    (a : Name) → IsTrue (is_proper_ancestor a b)
+    → IsTrue (has_name above a) ⊎ ((c : Name) × IsTrue (is_ancestor a c) × IsTrue (is_known t c))
 
 -- what comes to the names are ancestors of b
 pub record Adds (b : Name) (before now : List Name) : Type 0 where
   pub kept : (a : Name) → IsTrue (has_name before a) → IsTrue (has_name now a)
-  pub added : (a : Name) → IsTrue (has_name now a) → IsTrue (has_name before a) ⊎ IsTrue (is_ancestor a b)
+  pub added : (a : Name) → IsTrue (has_name now a)
+      → IsTrue (has_name before a) ⊎ IsTrue (is_ancestor a b)
 
 -- they are ancestors of what begins, and with them all its ancestors are known
 pub record AreAbove (t : Table) (names : List Name) (above : List Name) : Type 0 where
-  pub within : (a : Name) → IsTrue (has_name above a) → IsTrue (list_any (λ b. is_ancestor a b) names)
+  pub within : (a : Name) → IsTrue (has_name above a)
+      → IsTrue (list_any (λ b. is_ancestor a b) names)
   pub climbed : AllByRecursion (IsClimbed t above) names
 
 -- the entry makes nothing of a roster

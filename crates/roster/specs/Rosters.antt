@@ -13,21 +13,23 @@ use Rattle.roster.specs.declared.roster.Roster.{Roster}
 abbrev pub crashes_of : Roster → ℕ
 crashes_of roster = roster.crashes
 
--- What follows for the events that g keeps where each agrees with those before it: of crashes they have its own; what begins has a name; who is
--- new made nothing; and each action is made once, by its maker.
+-- What follows for the events that g keeps where each agrees with those before it: of crashes they have its own; what
+-- begins has a name; who is new made nothing; and each action is made once, by its maker.
 pub record AreOf (g : ℕ) (past : List Event) : Type 0 where
   pub own : (h : ℕ) → IsFalse (h == g) → crashes h past ≡ 0
   pub named : (a : Name) → IsTrue (is_begun a past) → IsName a
   pub new : (m : Name) → IsTrue (is_new m past) → made_by m past ≡ []
-  pub made : (a m : Name) → count_by (λ b. same_name b a) (made_by m past) ≡ (if is_exactly (maker_of a past) m then 1 else 0)
+  pub made : (a m : Name) → count_by (λ b. same_name b a) (made_by m past)
+      ≡ (if is_exactly (maker_of a past) m then 1 else 0)
 
 -- Each action that has a place has a row there, and no other action.
 pub record IsIndexed (t : Table) : Type 0 where
   pub within : (a : Name) (i : ℕ) → place_of t a ≡ Some i → i < length t.rows
   pub apart : (a b : Name) (i : ℕ) → place_of t a ≡ Some i → place_of t b ≡ Some i → a ≡ b
 
--- The table says what the history of g says: of the guardian, and of each action, also of one that was not begun. How many things that it made
--- have not ended is said of those that were begun here. Known is who was begun, and who has something below it that was.
+-- The table says what the history of g says: of the guardian, and of each action, also of one that was not begun. How
+-- many things that it made have not ended is said of those that were begun here. Known is who was begun, and who has
+-- something below it that was.
 pub record IsRoster (g : ℕ) (here : List LocalEvent) (t : Table) : Type 0 where
   pub events : AreOf g (events_here here)
   pub guardian : t.guardian ≡ g
@@ -35,7 +37,8 @@ pub record IsRoster (g : ℕ) (here : List LocalEvent) (t : Table) : Type 0 wher
   pub down : t.down ≡ is_down g (events_here here)
   pub indexed : IsIndexed t
   pub found : (a : Name) → is_some (place_of t a) ≡ is_begun a (events_here here)
-  pub known : (a : Name) → 1 ≤ length a → is_known t a ≡ list_any (λ c. is_ancestor a c) (begun (events_here here))
+  pub known : (a : Name) → 1 ≤ length a
+      → is_known t a ≡ list_any (λ c. is_ancestor a c) (begun (events_here here))
   pub home : (a : Name) → home_at t a ≡ home_of a (events_here here)
   pub life : (a : Name) → life_at t a ≡ incarnation_of a (events_here here)
   pub maker : (a : Name) → maker_at t a ≡ placed t (maker_of a (events_here here))
@@ -43,4 +46,5 @@ pub record IsRoster (g : ℕ) (here : List LocalEvent) (t : Table) : Type 0 wher
   pub closed : (a : Name) → closed_at t a ≡ is_closed a (events_here here)
   pub depends : (a : Name) (h : ℕ) → depends_at t a h ≡ dependency_here a h here
   pub unended : (a : Name) → IsTrue (is_begun a (events_here here))
-      → unended_at t a ≡ count_by (λ b. not (is_ended b (events_here here))) (made_by a (events_here here))
+      → unended_at t a
+      ≡ count_by (λ b. not (is_ended b (events_here here))) (made_by a (events_here here))

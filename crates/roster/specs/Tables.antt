@@ -11,7 +11,8 @@ use Rattle.roster.specs.declared.entry.Turn.{Turn}
 use Rattle.roster.specs.declared.entry.Turn.TheVariants.{Crashes, Recovers, Stays}
 use Rattle.roster.specs.declared.roster.Roster.{Roster}
 
--- how the guardian stands, the rows of actions in the order in which they began, the places of the rows by name, and who stands above them
+-- how the guardian stands, the rows of actions in the order in which they began, the places of the rows by name, and
+-- who stands above them
 pub record Table : Type 0 where
   pub guardian : ℕ
   pub crashes : ℕ
@@ -138,9 +139,11 @@ turned Recovers t = record t { down = false }
 
 -- the table with what begins, once its maker was counted up
 abbrev pub grown : Entry → Table → Table
-grown entry t = all_added entry.begun.items (changed_at (more_by (length entry.begun.items)) entry.maker t)
+grown entry t =
+    all_added entry.begun.items (changed_at (more_by (length entry.begun.items)) entry.maker t)
 
 -- the table once the rows of the entry are made
 abbrev pub entered : Entry → Table → Table
 entered entry t =
-    turned entry.turn (merged entry.merged (changed_at with_closed entry.closed (ended entry.ended (grown entry t))))
+    turned entry.turn
+    (merged entry.merged (changed_at with_closed entry.closed (ended entry.ended (grown entry t))))

@@ -96,7 +96,8 @@ pub(crate) fn depends_in(
     dependencies: &[(Name, Deps)],
     action: &Name,
 ) -> Result<Deps, AllocError>
-    ensures { IfOk result (λ depends. (h : ℕ) → map.get depends h ≡ least_of (sent_of dependencies.now) action.now h) }
+    ensures { IfOk result (λ depends. (h : ℕ)
+        → map.get depends h ≡ least_of (sent_of dependencies.now) action.now h) }
 {
     for (name, depends) in dependencies {
         if name == action {

@@ -52,8 +52,8 @@ impl Roster {
         }
     }
 
-    /// The roster of a guardian that is opened again by itself: it is down, has crashed once more than recoveries were counted, and no action is at home
-    /// there. This takes no memory.
+    /// The roster of a guardian that is opened again by itself: it is down, has crashed once more than recoveries
+    /// were counted, and no action is at home there. This takes no memory.
     pub fn reopened(alloc: Global, guardian: u32, crashes: u64) -> Roster
         ensures crashes { crashes_of result ≡ crashes }
         ensures roster { (held : Held) (records : List (Name × Prepared)) → crashes ≡ held.count + 1
@@ -72,7 +72,8 @@ impl Roster {
 
     /// Whether the action is at home here. This takes no memory, as no reading below does.
     pub fn is_there(&self, action: &Name) -> bool
-        ensures { (g : ℕ) (here : List LocalEvent) → IsRoster g here (table self.now) → result ≡ is_at_home g action.now here }
+        ensures { (g : ℕ) (here : List LocalEvent) → IsRoster g here (table self.now)
+            → result ≡ is_at_home g action.now here }
     {
         match self.row(action) {
             Some(row) => row.home == self.guardian,
@@ -82,7 +83,8 @@ impl Roster {
 
     /// Whether the action has ended or is closed.
     pub fn is_done(&self, action: &Name) -> bool
-        ensures { (g : ℕ) (here : List LocalEvent) → IsRoster g here (table self.now) → result ≡ is_done action.now (events_here here) }
+        ensures { (g : ℕ) (here : List LocalEvent) → IsRoster g here (table self.now)
+            → result ≡ is_done action.now (events_here here) }
     {
         match self.row(action) {
             Some(row) => row.ended || row.closed,
@@ -92,7 +94,8 @@ impl Roster {
 
     /// Whether something that the action made has not ended, where the action began here.
     pub fn is_busy(&self, action: &Name) -> bool
-        ensures { (g : ℕ) (here : List LocalEvent) → IsRoster g here (table self.now) → IsTrue (is_begun action.now (events_here here))
+        ensures { (g : ℕ) (here : List LocalEvent) → IsRoster g here (table self.now)
+            → IsTrue (is_begun action.now (events_here here))
             → result ≡ is_busy action.now (events_here here) }
     {
         match self.row(action) {
@@ -101,9 +104,11 @@ impl Roster {
         }
     }
 
-    /// Whether the guardian crashed since the action began here, where the action is at home. Of others' crashes a guardian keeps none.
+    /// Whether the guardian crashed since the action began here, where the action is at home. Of others' crashes a
+    /// guardian keeps none.
     pub fn is_gone(&self, action: &Name) -> bool
-        ensures { (g : ℕ) (here : List LocalEvent) → IsRoster g here (table self.now) → result ≡ is_gone action.now (events_here here) }
+        ensures { (g : ℕ) (here : List LocalEvent) → IsRoster g here (table self.now)
+            → result ≡ is_gone action.now (events_here here) }
     {
         // Nothing is looked up where there was no crash.
         if self.crashes == 0 {
@@ -115,14 +120,16 @@ impl Roster {
 
     /// Whether the guardian is down.
     pub fn is_down(&self) -> bool
-        ensures { (g : ℕ) (here : List LocalEvent) → IsRoster g here (table self.now) → result ≡ is_down g (events_here here) }
+        ensures { (g : ℕ) (here : List LocalEvent) → IsRoster g here (table self.now)
+            → result ≡ is_down g (events_here here) }
     {
         self.down
     }
 
     /// How often the guardian has crashed.
     pub fn crashes(&self) -> u64
-        ensures { (g : ℕ) (here : List LocalEvent) → IsRoster g here (table self.now) → result ≡ crashes g (events_here here) }
+        ensures { (g : ℕ) (here : List LocalEvent) → IsRoster g here (table self.now)
+            → result ≡ crashes g (events_here here) }
     {
         self.crashes
     }
@@ -130,20 +137,23 @@ impl Roster {
     /// On which guardians an action depends that began here; nothing is kept of another.
     pub fn dependencies(&self, action: &Name) -> Option<&Deps>
         ensures { (g : ℕ) (here : List LocalEvent) → IsRoster g here (table self.now)
-            → (h : ℕ) → option_and_then (λ depends. map.get depends.now h) result ≡ dependency_here action.now h here }
+            → (h : ℕ) → option_and_then (λ depends. map.get depends.now h) result
+            ≡ dependency_here action.now h here }
     {
         Some(&self.row(action)?.depends)
     }
 
-    /// Copies what an event makes of the roster, with the dependencies that its messages brought, in place of what another made of it, and makes room.
-    /// Whether or not there is memory for it, the roster is that of the same history.
+    /// Copies what an event makes of the roster, with the dependencies that its messages brought, in place of what
+    /// another made of it, and makes room. Whether or not there is memory for it, the roster is that of the same
+    /// history.
     pub fn plan(
         &mut self,
         event: &EventRef<'_>,
         dependencies: &[(Name, Deps)],
         entry: &mut Entry,
     ) -> Result<(), AllocError>
-        ensures same { (g : ℕ) (here : List LocalEvent) → IsRoster g here (table self.old) → IsRoster g here (table self.new) }
+        ensures same { (g : ℕ) (here : List LocalEvent) → IsRoster g here (table self.old)
+            → IsRoster g here (table self.new) }
         ensures crashes { crashes_of self.new ≡ crashes_of self.old }
         ensures fits { OnOk result (FitsEntry self.new entry.new) }
         ensures planned { OnOk result
@@ -169,8 +179,10 @@ impl Roster {
     pub fn enter(&mut self, entry: &mut Entry)
         requires fits { FitsEntry self.old entry.old }
         requires count { crashes_of self.old + 1 < 2 ^ 64 }
-        ensures { (g : ℕ) (here : List LocalEvent) (c : LocalEvent) → IsRoster g here (table self.old) → AgreesOnActions g c here
-            → IsEntry (table self.old) c.event c.carried.dependencies entry.old → IsRoster g (c ∷ here) (table self.new) }
+        ensures { (g : ℕ) (here : List LocalEvent) (c : LocalEvent)
+            → IsRoster g here (table self.old) → AgreesOnActions g c here
+            → IsEntry (table self.old) c.event c.carried.dependencies entry.old
+            → IsRoster g (c ∷ here) (table self.new) }
     {
         self.put_above(&mut entry.above);
         self.count_more(entry.maker, entry.begun.len());
@@ -244,7 +256,8 @@ impl Roster {
         }
     }
 
-    // The home of the action, and how often that had crashed when the action began; 0 and 0 where it did not begin here.
+    // The home of the action, and how often that had crashed when the action began; 0 and 0 where it did not begin
+    // here.
     fn birth(&self, action: &Name) -> (u32, u64)
         ensures home { result.0 ≡ home_at (table self.now) action.now }
         ensures life { result.1 ≡ life_at (table self.now) action.now }
@@ -296,7 +309,8 @@ impl Roster {
         action: &Name,
         dependencies: &[(Name, Deps)],
     ) -> Result<Option<(usize, Deps)>, AllocError>
-        ensures { IfOk result (IsLeft (table self.now) (placed (table self.now) (above action.now)) (λ h. least_of (sent_of dependencies.now) action.now h)) }
+        ensures { IfOk result (IsLeft (table self.now) (placed (table self.now) (above action.now))
+            (λ h. least_of (sent_of dependencies.now) action.now h)) }
     {
         let place = self.parent_place(action)?;
         let Some(at) = place else {
@@ -321,7 +335,8 @@ impl Roster {
     // On what the action at the place depends, once what came is merged into that.
     fn left_with(&self, at: usize, came: Deps) -> Result<Deps, AllocError>
         ensures { IfOk result (λ depends. (h : ℕ) → map.get depends h
-            ≡ lesser (said (λ row. map.get row.depends h) None (row_at (table self.now) (Some at))) (map.get came h)) }
+            ≡ lesser (said (λ row. map.get row.depends h) None (row_at (table self.now) (Some at)))
+            (map.get came h)) }
     {
         let Some(row) = self.row_at(Some(at)) else {
             return Ok(came);
@@ -376,7 +391,8 @@ impl Roster {
         ensures same { table self.new ≡ table self.old }
         ensures rows { self.new.rows ≡ self.old.rows }
         ensures places { self.new.places ≡ self.old.places }
-        ensures fits { OnOk result (HaveRoom self.old.above.room above.old.items → HaveRoom self.new.above.room above.new.items) }
+        ensures fits { OnOk result (HaveRoom self.old.above.room above.old.items
+            → HaveRoom self.new.above.room above.new.items) }
         ensures adds { OnOk result (Adds action.now above.old.items above.new.items) }
         ensures climbed { OnOk result (IsClimbed (table self.old) above.new.items action.now) }
     {
@@ -410,7 +426,8 @@ impl Roster {
         maker: Option<usize>,
     ) -> Result<Row, AllocError>
         requires { maker ≡ placed (table self.now) (maker_in step.now) }
-        ensures { IfOk result (IsBorn (table self.now) step.now (sent_of dependencies.now) action.now) }
+        ensures { IfOk result
+            (IsBorn (table self.now) step.now (sent_of dependencies.now) action.now) }
     {
         let home = self.home_in(step);
         let life = self.life_in(home);
@@ -426,7 +443,8 @@ impl Roster {
         })
     }
 
-    // Sees to it that the action at the place can count so many things more. Fails where they are too many to be counted.
+    // Sees to it that the action at the place can count so many things more. Fails where they are too many to be
+    // counted.
     fn plan_count(&self, at: Option<usize>, more: usize) -> Result<(), AllocError>
         ensures { OnOk result (CanCount self.now.rows.items at more) }
     {
@@ -469,7 +487,8 @@ impl Roster {
         ensures same { table self.new ≡ record (table self.old) { above = self.new.above.held } }
         ensures rows { self.new.rows ≡ self.old.rows }
         ensures places { self.new.places ≡ self.old.places }
-        ensures above { (a : Name) → is_some (value_at self.new.above.held a) ≡ (has_name above.old.items a || is_some (value_at self.old.above.held a)) }
+        ensures above { (a : Name) → is_some (value_at self.new.above.held a)
+            ≡ (has_name above.old.items a || is_some (value_at self.old.above.held a)) }
     {
         while let Some(name) = above.pop() {
             self.above.put(&name, ());

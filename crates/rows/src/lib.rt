@@ -1,4 +1,5 @@
-//! Tests as rows of data. A program of tests reads sections `[NAME]` of rows `CALL ARGUMENTS => ANSWER`, makes each call, and compares.
+//! Tests as rows of data. A program of tests reads sections `[NAME]` of rows `CALL ARGUMENTS => ANSWER`, makes each
+//! call, and compares.
 //!
 //! The program gives a `Subject`, which makes the calls; `run` reads the rows, prints for each section how many there
 //! were, and each row whose answer is another than the row says. Where memory is refused, a call is made once more and

@@ -34,7 +34,8 @@ pub struct Words<'a> {
 }
 
 impl<'a> Row<'a> {
-    /// The row of a line `CALL ARGUMENTS => ANSWER`; `None` where the line has no ` => `. Arguments and answer may be empty.
+    /// The row of a line `CALL ARGUMENTS => ANSWER`; `None` where the line has no ` => `. Arguments and answer may be
+    /// empty.
     pub fn read(line: &'a str) -> Option<Row<'a>> {
         let (asked, answer) = line.split_once(" =>")?;
         let answer = answer.strip_prefix(' ').unwrap_or(answer);

@@ -1,4 +1,5 @@
--- What stands before a history: an opening. It is a setup, what the stores of its guardians held, and the first number of a top action.
+-- What stands before a history: an opening. It is a setup, what the stores of its guardians held, and the first
+-- number of a top action.
 use Rattle.std.specs.Prelude.{ℕ, Bool, false, ◌==◌, List, [], ◌∷◌, ◌-◌, Option, Some, None, find, option_map, unwrap_or, slice_get}
 use Rattle.std.specs.List.{list_any}
 use Rattle.action_names.specs.Names.{Name, same_name}
@@ -43,15 +44,16 @@ set_up setup x = unwrap_or (slice_get (objects_at setup x.guardian) (x.number - 
 
 -- an object's content before the history: the setup's, under what the store held
 abbrev pub first_content : Opening → ObjectId → Content
-first_content opening x = laid_where ((opening.stores x.guardian).base x.number) (set_up opening.setup x)
+first_content opening x =
+    laid_where ((opening.stores x.guardian).base x.number) (set_up opening.setup x)
 
 -- how many numbers under this name were given before the history: under the empty name, those of top actions
 abbrev pub given_before : Opening → Name → ℕ
 given_before opening [] = opening.first_top - 1
 given_before opening (n ∷ a) = 0
 
--- An opening in lists, as a program keeps it: what each store held, guardian by guardian, with the numbers of decided top actions. A
--- guardian with no entry has an empty store.
+-- An opening in lists, as a program keeps it: what each store held, guardian by guardian, with the numbers of decided
+-- top actions. A guardian with no entry has an empty store.
 pub record StoreLists : Type 0 where
   pub base : List (ℕ × Part)
   pub decided : List ℕ
@@ -85,4 +87,5 @@ fresh_lists setup = record { setup = setup; stores = []; first_top = 1 }
 
 -- the opening that the lists say
 abbrev pub opening_in : OpeningLists → Opening
-opening_in lists = record { setup = lists.setup; stores = λ g. held_in (slice_get lists.stores (g - 1)); first_top = lists.first_top }
+opening_in lists =
+    record { setup = lists.setup; stores = λ g. held_in (slice_get lists.stores (g - 1)); first_top = lists.first_top }

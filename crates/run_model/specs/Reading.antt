@@ -36,19 +36,22 @@ abbrev pub IsObject : ObjectId → Type 0
 IsObject x = IsComponent x.guardian × IsComponent x.number
 
 -- what a text is read as that is two texts with a mark between them
-abbrev pub ReadsBoth : {A B : Type 0} → ℕ → (A → Type 0) → (B → Type 0) → (A → List ℕ) → (B → List ℕ) → List ℕ → Option (A × B) → Type 0
+abbrev pub ReadsBoth : {A B : Type 0} → ℕ → (A → Type 0) → (B → Type 0) → (A → List ℕ)
+    → (B → List ℕ) → List ℕ → Option (A × B) → Type 0
 ReadsBoth {A} {B} mark p q s t text None = (a : A) (b : B) → p a → q b → text ≢ s a ++ mark ∷ t b
 ReadsBoth {A} {B} mark p q s t text (Some x) = p x.0 × q x.1 × (text ≡ s x.0 ++ mark ∷ t x.1)
 
 -- what a text is read as that is a name, and the kinds of arms after it
 abbrev pub ReadsArms : List ℕ → Option (Name × List ArmKind) → Type 0
-ReadsArms text None = (a : Name) (kinds : List ArmKind) → IsName a → text ≢ name_text a ++ kinds_text kinds
+ReadsArms text None = (a : Name) (kinds : List ArmKind) → IsName a
+    → text ≢ name_text a ++ kinds_text kinds
 ReadsArms text (Some x) = IsName x.0 × (text ≡ name_text x.0 ++ kinds_text x.1)
 
 -- the front is the text up to its first space, or all of it
 pub record IsFirstWord (text front : List ℕ) : Type 0 where
   pub is_front : (rest : List ℕ) × (text ≡ front ++ rest)
-  pub only : (a b : List ℕ) → Lacks 32 a → text ≡ a ++ b → (b ≡ []) ⊎ (slice_index b 0 ≡ 32) → front ≡ a
+  pub only : (a b : List ℕ) → Lacks 32 a → text ≡ a ++ b
+      → (b ≡ []) ⊎ (slice_index b 0 ≡ 32) → front ≡ a
 
 -- the letter of a kind of arm
 abbrev pub kind_letter : ArmKind → ℕ

@@ -48,9 +48,10 @@ has_sub kinds = list_any (λ k. is_sub k) kinds
 abbrev pub no_guardian : Opening → ℕ → Check
 no_guardian opening g = (why.NoGuardian, (g == 0) || nat_lt (length opening.setup) g)
 
--- What refusals ask of a history: of an action, whether it was begun, has ended, is ended or closed, has closed, is busy, is gone, is a
--- known orphan at its home, and whether all its participants are ready; its home; the next number under it; of a guardian, whether
--- it is down; of both, whether the guardian takes part in the action, has voted on it, and was told of it since its last crash.
+-- What refusals ask of a history: of an action, whether it was begun, has ended, is ended or closed, has closed, is
+-- busy, is gone, is a known orphan at its home, and whether all its participants are ready; its home; the next number
+-- under it; of a guardian, whether it is down; of both, whether the guardian takes part in the action, has voted on
+-- it, and was told of it since its last crash.
 pub record Facts : Type 0 where
   pub begun : Name → Bool
   pub ended : Name → Bool
@@ -90,7 +91,8 @@ abbrev pub no_action : Name → Facts → Check
 no_action a f = (why.NoAction, not (f.begun a))
 
 abbrev pub no_object : Opening → ObjectId → Check
-no_object opening x = (why.NoObject, (x.number == 0) || nat_lt (length (objects_at opening.setup x.guardian)) x.number)
+no_object opening x =
+    (why.NoObject, (x.number == 0) || nat_lt (length (objects_at opening.setup x.guardian)) x.number)
 
 abbrev pub ended : Name → Facts → Check
 ended a f = (why.Ended, f.ended a)
@@ -151,7 +153,8 @@ limit reached = (why.Limit, reached)
 abbrev pub is_past_arms_by : (Name → ℕ) → Name → List ArmKind → Bool
 is_past_arms_by next a kinds =
     (length kinds == 0)
-    || (nat_lt max_arms (length kinds) || list_any (λ b. is_used_up (last_of b)) (arm_names a (next a) (next []) kinds))
+    || (nat_lt max_arms (length kinds)
+    || list_any (λ b. is_used_up (last_of b)) (arm_names a (next a) (next []) kinds))
 
 abbrev pub is_past_arms : Opening → Name → List ArmKind → List Event → Bool
 is_past_arms opening a kinds past = is_past_arms_by (λ b. next_number opening b past) a kinds
@@ -163,7 +166,8 @@ bad_operation opening x wanted = (why.BadOp, not (knows (first_content opening x
 abbrev pub checks_by : Opening → Facts → Step → List Check
 checks_by opening f (Top g) = no_guardian opening g ∷ down g f ∷ limit (is_used_up (f.next [])) ∷ []
 checks_by opening f (NestedTop a) =
-    no_action a f ∷ ended_or_closed a f ∷ busy a f ∷ gone a f ∷ known_orphan a f ∷ limit (is_used_up (f.next [])) ∷ []
+    no_action a f ∷ ended_or_closed a f ∷ busy a f ∷ gone a f ∷ known_orphan a f
+    ∷ limit (is_used_up (f.next [])) ∷ []
 checks_by opening f (Call a g) =
     no_guardian opening g ∷ no_action a f ∷ ended_or_closed a f ∷ busy a f ∷ gone a f ∷ down g f
     ∷ known_orphan a f ∷ too_deep true a ∷ limit (is_used_up (f.next a)) ∷ []
@@ -171,19 +175,20 @@ checks_by opening f (Arms a kinds) =
     no_action a f ∷ ended_or_closed a f ∷ busy a f ∷ gone a f ∷ known_orphan a f
     ∷ too_deep (has_sub kinds) a ∷ limit (is_past_arms_by f.next a kinds) ∷ []
 checks_by opening f (Op a x wanted) =
-    no_guardian opening x.guardian ∷ no_action a f ∷ no_object opening x ∷ ended_or_closed a f ∷ busy a f ∷ gone a f
-    ∷ elsewhere a x f ∷ known_orphan a f ∷ bad_operation opening x wanted ∷ []
+    no_guardian opening x.guardian ∷ no_action a f ∷ no_object opening x ∷ ended_or_closed a f
+    ∷ busy a f ∷ gone a f ∷ elsewhere a x f ∷ known_orphan a f ∷ bad_operation opening x wanted ∷ []
 checks_by opening f (Commit a) =
     no_action a f ∷ ended_or_closed a f ∷ busy a f ∷ gone a f ∷ known_orphan a f ∷ not_sub a ∷ []
 checks_by opening f (Close t) =
     no_action t f ∷ ended_or_closed t f ∷ busy t f ∷ gone t f ∷ known_orphan t f ∷ not_top t ∷ []
 checks_by opening f (Prepare g t) =
-    no_guardian opening g ∷ no_action t f ∷ ended t f ∷ gone t f ∷ down g f ∷ no_participant g t f ∷ not_top t
-    ∷ not_closed t f ∷ voted_already g t f ∷ []
+    no_guardian opening g ∷ no_action t f ∷ ended t f ∷ gone t f ∷ down g f ∷ no_participant g t f
+    ∷ not_top t ∷ not_closed t f ∷ voted_already g t f ∷ []
 checks_by opening f (Decide t) =
     no_action t f ∷ ended t f ∷ gone t f ∷ not_top t ∷ not_closed t f ∷ unready t f ∷ []
 checks_by opening f (Abort a) = no_action a f ∷ ended a f ∷ []
-checks_by opening f (Tell g a) = no_guardian opening g ∷ no_action a f ∷ down g f ∷ not_so a f ∷ told_already g a f ∷ []
+checks_by opening f (Tell g a) =
+    no_guardian opening g ∷ no_action a f ∷ down g f ∷ not_so a f ∷ told_already g a f ∷ []
 checks_by opening f (Crash g) = no_guardian opening g ∷ down g f ∷ []
 checks_by opening f (Recover g) = no_guardian opening g ∷ is_up g f ∷ []
 

@@ -25,11 +25,13 @@ is_accepted _ = true
 -- each event was accepted, with the answer of its step at the events before it
 abbrev pub IsRun : Opening → List Event → Type 0
 IsRun opening [] = Unit {0}
-IsRun opening (e ∷ past) = (e.answer ≡ answer_of opening e.step past) × IsTrue (is_accepted e.answer) × IsRun opening past
+IsRun opening (e ∷ past) = (e.answer ≡ answer_of opening e.step past)
+    × IsTrue (is_accepted e.answer) × IsRun opening past
 
 -- the history after a step with this answer
 abbrev pub history_after : Step → Answer → List Event → List Event
-history_after step answer past = if is_accepted answer then record { step = step; answer = answer } ∷ past else past
+history_after step answer past =
+    if is_accepted answer then record { step = step; answer = answer } ∷ past else past
 
 -- the answers of steps, one after another
 abbrev pub answers_from : Opening → List Event → List Step → List Answer
@@ -41,7 +43,8 @@ answers_from opening past (step ∷ steps) =
 -- the history that they leave
 abbrev pub history_from : Opening → List Event → List Step → List Event
 history_from opening past [] = past
-history_from opening past (step ∷ steps) = history_from opening (history_after step (answer_of opening step past) past) steps
+history_from opening past (step ∷ steps) =
+    history_from opening (history_after step (answer_of opening step past) past) steps
 
 -- the world after a step with this answer
 abbrev pub world_after : World → Step → Answer → World

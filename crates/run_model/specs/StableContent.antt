@@ -19,7 +19,8 @@ use Rattle.run_model.specs.Versions.{part_held}
 
 -- the count: how often g has recovered
 abbrev pub stable_count : Opening → ℕ → List Event → ℕ
-stable_count opening g past = (opening.stores g).count + length (filter (λ e. step_recovers e.step g) past)
+stable_count opening g past =
+    (opening.stores g).count + length (filter (λ e. step_recovers e.step g) past)
 
 abbrev pub step_decides : Step → Name → Bool
 step_decides (Decide t) a = same_name t a
@@ -28,7 +29,8 @@ step_decides _ a = false
 -- t is among the decided top actions: it was decided, and g is its home
 abbrev pub is_stably_decided : Opening → ℕ → Name → List Event → Bool
 is_stably_decided opening g t past =
-    (opening.stores g).decided t || (list_any (λ e. step_decides e.step t) past && (home_of t past == g))
+    (opening.stores g).decided t
+    || (list_any (λ e. step_decides e.step t) past && (home_of t past == g))
 
 -- the greater of the number and of that after t's, where the step is g's yes vote on t
 abbrev pub raised_by : Step → Answer → ℕ → ℕ → ℕ
@@ -40,16 +42,19 @@ abbrev pub stable_next_top : Opening → ℕ → List Event → ℕ
 stable_next_top opening g [] = (opening.stores g).next_top
 stable_next_top opening g (e ∷ past) = raised_by e.step e.answer g (stable_next_top opening g past)
 
--- the record of a prepared top action: its home, and for each object at which it holds a write or an add, its value or its delta
+-- the record of a prepared top action: its home, and for each object at which it holds a write or an add, its value
+-- or its delta
 pub record Prepared : Type 0 where
   pub home : ℕ
   pub parts : List (ℕ × Part)
 
--- the objects at g at which t holds a write or an add, rising, each with what t holds, where this is how each of them stands
+-- the objects at g at which t holds a write or an add, rising, each with what t holds, where this is how each of them
+-- stands
 abbrev pub parts_by : Opening → ℕ → (ObjectId → Standing) → Name → List (ℕ × Part)
 parts_by opening g standing t =
     filter_map (λ n. let x : ObjectId = record { guardian = g; number = n } in
-    option_map (λ p. (n, p)) (part_held (first_content opening x) (standing x) t)) (up_to (length (objects_at opening.setup g)))
+    option_map (λ p. (n, p)) (part_held (first_content opening x) (standing x) t))
+    (up_to (length (objects_at opening.setup g)))
 
 abbrev pub parts_held : Opening → ℕ → Name → List Event → List (ℕ × Part)
 parts_held opening g t past = parts_by opening g (λ x. standing_of x past) t
@@ -62,7 +67,8 @@ step_told _ g t = false
 abbrev pub stable_prepared : Opening → ℕ → Name → List Event → Option Prepared
 stable_prepared opening g t [] = None
 stable_prepared opening g t (e ∷ past) =
-    if votes_yes e.step e.answer g t then Some (record { home = home_of t past; parts = parts_held opening g t (e ∷ past) })
+    if votes_yes e.step e.answer g t
+    then Some (record { home = home_of t past; parts = parts_held opening g t (e ∷ past) })
     else (if step_told e.step g t then None else stable_prepared opening g t past)
 
 abbrev pub part_in : Option Prepared → ℕ → Option Part
@@ -71,7 +77,8 @@ part_in (Some p) n = part_at p.parts n
 
 -- what the telling of a step installs of object n at g: what a top action that has committed prepared of it
 abbrev pub installed_by : Step → ℕ → ℕ → (Name → Option Prepared) → (Name → Bool) → Option Part
-installed_by (Tell h t) g n prepared committed = if (h == g) && committed t then part_in (prepared t) n else None
+installed_by (Tell h t) g n prepared committed =
+    if (h == g) && committed t then part_in (prepared t) n else None
 installed_by _ g n prepared committed = None
 
 -- what stands in the store once this is installed, if anything is
@@ -83,4 +90,6 @@ installed_over (Some p) old = Some (over p old)
 abbrev pub stable_base : Opening → ℕ → ℕ → List Event → Option Part
 stable_base opening g n [] = (opening.stores g).base n
 stable_base opening g n (e ∷ past) =
-    installed_over (installed_by e.step g n (λ t. stable_prepared opening g t past) (λ t. is_committed t past)) (stable_base opening g n past)
+    installed_over
+    (installed_by e.step g n (λ t. stable_prepared opening g t past) (λ t. is_committed t past))
+    (stable_base opening g n past)

@@ -71,7 +71,8 @@ step_text (Top g) = codes "top " ++ decimal g
 step_text (NestedTop a) = codes "nest " ++ name_text a
 step_text (Call a g) = codes "call " ++ name_text a ++ space ∷ decimal g
 step_text (Arms a kinds) = codes "arms " ++ name_text a ++ kinds_text kinds
-step_text (Op a x wanted) = codes "op " ++ name_text a ++ space ∷ object_text x ++ space ∷ op_text wanted
+step_text (Op a x wanted) =
+    codes "op " ++ name_text a ++ space ∷ object_text x ++ space ∷ op_text wanted
 step_text (Commit a) = codes "commit " ++ name_text a
 step_text (Close t) = codes "close " ++ name_text t
 step_text (Prepare g t) = codes "prepare " ++ decimal g ++ space ∷ name_text t
@@ -87,7 +88,8 @@ HasStepParts (Top g) = IsComponent g
 HasStepParts (NestedTop a) = IsName a
 HasStepParts (Call a g) = IsName a × IsComponent g
 HasStepParts (Arms a kinds) = IsName a
-HasStepParts (Op a x wanted) = IsName a × IsComponent x.guardian × IsComponent x.number × IsOp wanted
+HasStepParts (Op a x wanted) = IsName a × IsComponent x.guardian
+    × IsComponent x.number × IsOp wanted
 HasStepParts (Commit a) = IsName a
 HasStepParts (Close t) = IsName t
 HasStepParts (Prepare g t) = IsComponent g × IsName t
@@ -215,7 +217,8 @@ contents_items (c ∷ contents) = item (content_data c) (contents_items contents
 abbrev pub guardians_items : Setup → Items
 guardians_items [] = no_items
 guardians_items (contents ∷ setup) =
-    item (object (member (codes "objects") (array (contents_items contents)) no_members)) (guardians_items setup)
+    item (object (member (codes "objects") (array (contents_items contents)) no_members))
+    (guardians_items setup)
 
 -- the JSON document that a setup is
 abbrev pub setup_data : Setup → Data
@@ -225,8 +228,8 @@ setup_data setup = object (member (codes "guardians") (array (guardians_items se
 abbrev pub setup_text : Setup → List ℕ
 setup_text setup = compact_text (setup_data setup)
 
--- the bytes are a text of the document of a setup with such contents: its white space and the order of its members are free, and of
--- members of one name the last counts
+-- the bytes are a text of the document of a setup with such contents: its white space and the order of its members
+-- are free, and of members of one name the last counts
 pub record IsTextOf (contents : Content → Type 0) (bytes : List ℕ) (setup : Setup) : Type 0 where
   pub fits : IsSetupOf contents setup
   pub utf8 : IsUtf8 bytes

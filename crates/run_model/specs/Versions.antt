@@ -36,15 +36,16 @@ lock_of (Some a) class = Some (a, class)
 -- the holders of kept writes, by name: where each is an ancestor of the next, in order of ancestry
 abbrev pub owners_by : Standing → List Name
 owners_by s =
-    rising_names (filter_map (λ r. if is_write_class (part_class r.1) then holder_by s.told r.0 else None) s.restored
+    rising_names (filter_map
+    (λ r. if is_write_class (part_class r.1) then holder_by s.told r.0 else None) s.restored
     ++ filter_map (λ o. if is_write o.operation then holder_at s o else None) s.kept)
 
 -- the lock is to add, and its holder is an owner
 abbrev pub is_hidden : List Name → Lock → Bool
 is_hidden owners l = is_add_class l.1 && has_name owners l.0
 
--- the holders and classes of what is kept and has a holder, as a list in which one may come twice; an owner has no lock to add, since
--- a value that was given back does not show what was added to it
+-- the holders and classes of what is kept and has a holder, as a list in which one may come twice; an owner has no
+-- lock to add, since a value that was given back does not show what was added to it
 abbrev pub locks_by : Standing → List Lock
 locks_by s =
     filter (λ l. not (is_hidden (owners_by s) l))
@@ -102,7 +103,8 @@ versions opening x past = versions_by (first_content opening x) (standing_of x p
 abbrev pub adders_by : Standing → List Name
 adders_by s =
     rising_names (filter (λ a. not (has_name (owners_by s) a))
-    (filter_map (λ r. if is_add_class (part_class r.1) then holder_by s.told r.0 else None) s.restored
+    (filter_map (λ r. if is_add_class (part_class r.1) then holder_by s.told r.0 else None)
+    s.restored
     ++ filter_map (λ o. if is_add o.operation then holder_at s o else None) s.kept))
 
 -- a sum, with what a part or an operation adds to it
@@ -116,11 +118,13 @@ with_add n _ = n
 
 abbrev pub sum_back : (Name → Bool) → List (Name × Part) → ℤ
 sum_back passes [] = pos 0
-sum_back passes (r ∷ rs) = if passes r.0 then with_part (sum_back passes rs) r.1 else sum_back passes rs
+sum_back passes (r ∷ rs) =
+    if passes r.0 then with_part (sum_back passes rs) r.1 else sum_back passes rs
 
 abbrev pub sum_on : ℤ → (Name → Bool) → List Performed → ℤ
 sum_on n passes [] = n
-sum_on n passes (o ∷ os) = if passes o.action then with_add (sum_on n passes os) o.operation else sum_on n passes os
+sum_on n passes (o ∷ os) =
+    if passes o.action then with_add (sum_on n passes os) o.operation else sum_on n passes os
 
 -- what b did is held by a
 abbrev pub is_held_by : Standing → Name → Name → Bool

@@ -25,14 +25,17 @@ impl Model for Held {
 
     ghost Value = { StoreLists };
 
-    ghost view = { λ a. record { base = a.base.items; decided = a.decided.items; count = a.count; next_top = a.next_top } };
+    ghost view = { λ a.
+        record { base = a.base.items; decided = a.decided.items; count = a.count; next_top = a.next_top } };
 }
 
 impl Held {
-    /// What a store held: parts of objects by their numbers, of which the first under a number counts; the numbers of decided top actions; how
-    /// many recoveries were counted; and the number after the greatest top action on which the guardian voted yes, 1 where it never did.
+    /// What a store held: parts of objects by their numbers, of which the first under a number counts; the numbers of
+    /// decided top actions; how many recoveries were counted; and the number after the greatest top action on which
+    /// the guardian voted yes, 1 where it never did.
     pub fn new(base: Vec<(u32, Part)>, decided: Vec<u32>, count: u64, next_top: u64) -> Held
-        ensures { result ≡ record { base = base.items; decided = decided.items; count = count; next_top = next_top } }
+        ensures { result
+            ≡ record { base = base.items; decided = decided.items; count = count; next_top = next_top } }
     {
         Held {
             base,
@@ -51,8 +54,8 @@ impl Held {
     }
 }
 
-/// What stands before a history: the guardians with their objects, what their stores held, and the first number of a top action. In the stores
-/// nothing was prepared.
+/// What stands before a history: the guardians with their objects, what their stores held, and the first number of a
+/// top action. In the stores nothing was prepared.
 #[derive(Drop)]
 pub struct Opening {
     setup: Setup,
@@ -65,7 +68,8 @@ impl Model for Opening {
 
     ghost Value = { OpeningLists };
 
-    ghost view = { λ a. record { setup = a.setup; stores = a.stores.items; first_top = a.first_top } };
+    ghost view = { λ a.
+        record { setup = a.setup; stores = a.stores.items; first_top = a.first_top } };
 }
 
 impl Opening {
@@ -81,8 +85,8 @@ impl Opening {
         }
     }
 
-    /// The opening of guardians whose stores held this, guardian by guardian from the first; who has no entry has an empty store. The first top
-    /// action has this number, or 1 where it is 0.
+    /// The opening of guardians whose stores held this, guardian by guardian from the first; who has no entry has an
+    /// empty store. The first top action has this number, or 1 where it is 0.
     pub fn new(setup: Setup, stores: Vec<Held>, first_top: u64) -> Opening
         ensures { result ≡ record { setup = setup; stores = stores.items; first_top = first_top } }
     {
@@ -129,7 +133,8 @@ impl Opening {
         }
     }
 
-    /// What the object held before the history: the setup's content, under what the store held. Fails only if memory runs out.
+    /// What the object held before the history: the setup's content, under what the store held. Fails only if memory
+    /// runs out.
     pub fn first_content(&self, object: ObjectId) -> Result<Content, AllocError>
         requires guardian { 1 ≤ object.guardian }
         requires number { 1 ≤ object.number }
@@ -156,7 +161,8 @@ impl Opening {
     /// What the store held of the object, if anything.
     fn part(&self, object: ObjectId) -> Option<&Part>
         requires { 1 ≤ object.guardian }
-        ensures { option_map (λ part. part.now) result ≡ ((opening_in self.now).stores object.guardian).base object.number }
+        ensures { option_map (λ part. part.now) result
+            ≡ ((opening_in self.now).stores object.guardian).base object.number }
     {
         self.stores
             .get(object.guardian as usize - 1)?

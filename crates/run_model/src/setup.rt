@@ -178,12 +178,14 @@ impl Setup {
         }
     }
 
-    /// Adds a guardian with these objects, whose number follows those of the others. `Bad` comes where there are 1,024 guardians
-    /// already, or more objects than 1,024, and nowhere else; after an error the setup is as it was.
+    /// Adds a guardian with these objects, whose number follows those of the others. `Bad` comes where there are
+    /// 1,024 guardians already, or more objects than 1,024, and nowhere else; after an error the setup is as it was.
     pub fn add_guardian(&mut self, contents: Vec<Content>) -> Result<(), SetupFault>
         ensures added { OnOk result (self.new ≡ self.old ++ (contents.items ∷ [])) }
-        ensures refused { IsErrOf result SetupFault.Bad → (max_guardians ≤ length self.old) ⊎ (max_objects < length contents.items) }
-        ensures full { (max_guardians ≤ length self.old) ⊎ (max_objects < length contents.items) → IsErrOf result SetupFault.Bad }
+        ensures refused { IsErrOf result SetupFault.Bad
+            → (max_guardians ≤ length self.old) ⊎ (max_objects < length contents.items) }
+        ensures full { (max_guardians ≤ length self.old) ⊎ (max_objects < length contents.items)
+            → IsErrOf result SetupFault.Bad }
         ensures err { OnErr result (self.new ≡ self.old) }
     {
         if self.guardians.len() >= MAX_GUARDIANS || contents.len() > MAX_OBJECTS {
@@ -216,11 +218,12 @@ impl Setup {
         }
     }
 
-    /// The document of the setup in its one spelling, with each content as `Content::text` writes it. `read_opening` reads it
-    /// as this setup, if there is a guardian. It fails only if memory runs out.
+    /// The document of the setup in its one spelling, with each content as `Content::text` writes it. `read_opening`
+    /// reads it as this setup, if there is a guardian. It fails only if memory runs out.
     pub fn text(&self, alloc: Global) -> Result<String, AllocError>
         ensures text { IfOk result (λ text. string_bytes text ≡ setup_text self.now) }
-        ensures read_back { IfOk result (λ text. IsOpeningSetup self.now → IsOpeningText (string_bytes text) self.now) }
+        ensures read_back { IfOk result
+            (λ text. IsOpeningSetup self.now → IsOpeningText (string_bytes text) self.now) }
     {
         let mut out = Writer::new(Vec::new(alloc));
         self.write_tokens(&mut out)?;
@@ -228,7 +231,8 @@ impl Setup {
     }
 
     fn write_tokens(&self, out: &mut Writer) -> Result<(), AllocError>
-        ensures ok { OnOk result (out.new.tokens ≡ out.old.tokens ++ json_tokens (outline (setup_data self.now))) }
+        ensures ok { OnOk result
+            (out.new.tokens ≡ out.old.tokens ++ json_tokens (outline (setup_data self.now))) }
         ensures before { out.new.before ≡ out.old.before }
     {
         out.begin_object()?;
@@ -271,7 +275,8 @@ impl Objects {
     }
 
     fn write_tokens(&self, out: &mut Writer) -> Result<(), AllocError>
-        ensures ok { OnOk result (out.new.tokens ≡ out.old.tokens ++ json_tokens (outline (guardian_data self.now))) }
+        ensures ok { OnOk result
+            (out.new.tokens ≡ out.old.tokens ++ json_tokens (outline (guardian_data self.now))) }
         ensures before { out.new.before ≡ out.old.before }
     {
         out.begin_object()?;
@@ -292,7 +297,8 @@ impl Objects {
 }
 
 fn write_guardians(guardians: &[Objects], out: &mut Writer) -> Result<(), AllocError>
-    ensures ok { OnOk result (out.new.tokens ≡ out.old.tokens ++ json_tokens (outline (array (guardians_items guardians.now)))) }
+    ensures ok { OnOk result (out.new.tokens
+        ≡ out.old.tokens ++ json_tokens (outline (array (guardians_items guardians.now)))) }
     ensures before { out.new.before ≡ out.old.before }
 {
     out.begin_array()?;
@@ -303,7 +309,8 @@ fn write_guardians(guardians: &[Objects], out: &mut Writer) -> Result<(), AllocE
 }
 
 fn write_contents(contents: &[Content], out: &mut Writer) -> Result<(), AllocError>
-    ensures ok { OnOk result (out.new.tokens ≡ out.old.tokens ++ json_tokens (outline (array (contents_items contents.now)))) }
+    ensures ok { OnOk result (out.new.tokens
+        ≡ out.old.tokens ++ json_tokens (outline (array (contents_items contents.now)))) }
     ensures before { out.new.before ≡ out.old.before }
 {
     out.begin_array()?;
@@ -337,7 +344,8 @@ fn content(alloc: Global, json: &Json, limits: Limits) -> Result<Content, ValueF
 fn only_array<'a>(json: &'a Json, name: &str) -> Option<&'a [Json]>
     ensures { MatchOption result
         ((items : Items) → view json.now ≢ object (member name.now (array items) no_members))
-        (λ items. view json.now ≡ object (member name.now (array (items_view items.now)) no_members)) }
+        (λ items. view json.now
+        ≡ object (member name.now (array (items_view items.now)) no_members)) }
 {
     let members = json.as_object()?;
     if members.len() != 1 {

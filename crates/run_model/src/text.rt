@@ -1,5 +1,5 @@
-//! The pieces of which the texts of steps, answers and explanations are made. Each call appends one; where memory runs out, a part of it
-//! may stand at the end.
+//! The pieces of which the texts of steps, answers and explanations are made. Each call appends one; where memory
+//! runs out, a part of it may stand at the end.
 ghost use Rattle.std.specs.Prelude.{◌≡◌, [], ◌∷◌, ◌++◌, OnOk, OnErr, decimal, string_bytes};
 ghost use Rattle.std.specs.Fmt.{signed_decimal};
 ghost use Rattle.action_names.specs.Names.{name_text};
@@ -56,7 +56,8 @@ pub(crate) fn append_step(step: &Step, text: &mut String) -> Result<(), AllocErr
 #[tactic(auto, using(crate::proofs::Growing::grown_same, crate::proofs::Growing::grown_then))]
 pub fn append_request(object: ObjectId, operation: &Op, text: &mut String) -> Result<(), AllocError>
     ensures ok { OnOk result
-        (string_bytes text.new ≡ string_bytes text.old ++ space ∷ object_text object ++ space ∷ op_text operation.now) }
+        (string_bytes text.new
+        ≡ string_bytes text.old ++ space ∷ object_text object ++ space ∷ op_text operation.now) }
     ensures err { OnErr result (IsGrown (string_bytes text.old) (string_bytes text.new)) }
 {
     append_object(object, text)?;
@@ -67,7 +68,8 @@ pub fn append_request(object: ObjectId, operation: &Op, text: &mut String) -> Re
 /// Appends an operation: its name and its arguments.
 #[tactic(auto, using(crate::proofs::Growing::grown_same, crate::proofs::Growing::grown_then))]
 fn append_op(operation: &Op, text: &mut String) -> Result<(), AllocError>
-    ensures ok { OnOk result (string_bytes text.new ≡ string_bytes text.old ++ op_text operation.now) }
+    ensures ok { OnOk result
+        (string_bytes text.new ≡ string_bytes text.old ++ op_text operation.now) }
     ensures err { OnErr result (IsGrown (string_bytes text.old) (string_bytes text.new)) }
 {
     text.push_str(operation.name().text())?;
@@ -87,7 +89,8 @@ fn append_word_and_value(
     value: &Value,
     text: &mut String,
 ) -> Result<(), AllocError>
-    ensures ok { OnOk result (string_bytes text.new ≡ string_bytes text.old ++ space ∷ word.now ++ space ∷ value_text value.now) }
+    ensures ok { OnOk result (string_bytes text.new
+        ≡ string_bytes text.old ++ space ∷ word.now ++ space ∷ value_text value.now) }
     ensures err { OnErr result (IsGrown (string_bytes text.old) (string_bytes text.new)) }
 {
     append_words(" ", word.as_str(), text)?;
@@ -96,7 +99,8 @@ fn append_word_and_value(
 
 #[tactic(auto, using(crate::proofs::Growing::grown_same, crate::proofs::Growing::grown_then))]
 fn append_index_and_value(index: i64, value: &Value, text: &mut String) -> Result<(), AllocError>
-    ensures ok { OnOk result (string_bytes text.new ≡ string_bytes text.old ++ space ∷ signed_decimal index ++ space ∷ value_text value.now) }
+    ensures ok { OnOk result (string_bytes text.new
+        ≡ string_bytes text.old ++ space ∷ signed_decimal index ++ space ∷ value_text value.now) }
     ensures err { OnErr result (IsGrown (string_bytes text.old) (string_bytes text.new)) }
 {
     append_index(" ", index, text)?;
@@ -106,7 +110,8 @@ fn append_index_and_value(index: i64, value: &Value, text: &mut String) -> Resul
 /// Appends a space, and the object's guardian and its number there, as in `2/7`.
 #[tactic(auto, using(crate::proofs::Growing::grown_same, crate::proofs::Growing::grown_then))]
 fn append_object(object: ObjectId, text: &mut String) -> Result<(), AllocError>
-    ensures ok { OnOk result (string_bytes text.new ≡ string_bytes text.old ++ space ∷ object_text object) }
+    ensures ok { OnOk result
+        (string_bytes text.new ≡ string_bytes text.old ++ space ∷ object_text object) }
     ensures err { OnErr result (IsGrown (string_bytes text.old) (string_bytes text.new)) }
 {
     append_number(" ", object.guardian, text)?;
@@ -116,7 +121,8 @@ fn append_object(object: ObjectId, text: &mut String) -> Result<(), AllocError>
 /// Appends the kinds of arms, a space before each.
 #[tactic(auto, using(crate::proofs::Growing::grown_same, crate::proofs::Growing::grown_then))]
 fn append_kinds(kinds: &[ArmKind], text: &mut String) -> Result<(), AllocError>
-    ensures ok { OnOk result (string_bytes text.new ≡ string_bytes text.old ++ kinds_text kinds.now) }
+    ensures ok { OnOk result
+        (string_bytes text.new ≡ string_bytes text.old ++ kinds_text kinds.now) }
     ensures err { OnErr result (IsGrown (string_bytes text.old) (string_bytes text.new)) }
 {
     for kind in kinds {
@@ -128,7 +134,8 @@ fn append_kinds(kinds: &[ArmKind], text: &mut String) -> Result<(), AllocError>
 /// Appends the names, a space before each.
 #[tactic(auto, using(crate::proofs::Growing::grown_same, crate::proofs::Growing::grown_then))]
 pub(crate) fn append_names(names: &[Name], text: &mut String) -> Result<(), AllocError>
-    ensures ok { OnOk result (string_bytes text.new ≡ string_bytes text.old ++ names_text names.now) }
+    ensures ok { OnOk result
+        (string_bytes text.new ≡ string_bytes text.old ++ names_text names.now) }
     ensures err { OnErr result (IsGrown (string_bytes text.old) (string_bytes text.new)) }
 {
     for name in names {
@@ -141,7 +148,8 @@ pub(crate) fn append_names(names: &[Name], text: &mut String) -> Result<(), Allo
 /// Appends a reply.
 #[tactic(auto, using(crate::proofs::Growing::grown_same, crate::proofs::Growing::grown_then))]
 pub fn append_reply(reply: &Reply, text: &mut String) -> Result<(), AllocError>
-    ensures ok { OnOk result (string_bytes text.new ≡ string_bytes text.old ++ reply_text reply.now) }
+    ensures ok { OnOk result
+        (string_bytes text.new ≡ string_bytes text.old ++ reply_text reply.now) }
     ensures err { OnErr result (IsGrown (string_bytes text.old) (string_bytes text.new)) }
 {
     match reply {
@@ -177,7 +185,8 @@ fn signal_word(signal: Signal) -> &'static str
 
 #[tactic(auto, using(crate::proofs::Growing::grown_same, crate::proofs::Growing::grown_then))]
 fn append_words(words: &str, more: &str, text: &mut String) -> Result<(), AllocError>
-    ensures ok { OnOk result (string_bytes text.new ≡ string_bytes text.old ++ words.now ++ more.now) }
+    ensures ok { OnOk result
+        (string_bytes text.new ≡ string_bytes text.old ++ words.now ++ more.now) }
     ensures err { OnErr result (IsGrown (string_bytes text.old) (string_bytes text.new)) }
 {
     text.push_str(words)?;
@@ -186,7 +195,8 @@ fn append_words(words: &str, more: &str, text: &mut String) -> Result<(), AllocE
 
 #[tactic(auto, using(crate::proofs::Growing::grown_same, crate::proofs::Growing::grown_then))]
 fn append_named(words: &str, action: &Name, text: &mut String) -> Result<(), AllocError>
-    ensures ok { OnOk result (string_bytes text.new ≡ string_bytes text.old ++ words.now ++ name_text action.now) }
+    ensures ok { OnOk result
+        (string_bytes text.new ≡ string_bytes text.old ++ words.now ++ name_text action.now) }
     ensures err { OnErr result (IsGrown (string_bytes text.old) (string_bytes text.new)) }
 {
     text.push_str(words)?;
@@ -195,7 +205,8 @@ fn append_named(words: &str, action: &Name, text: &mut String) -> Result<(), All
 
 #[tactic(auto, using(crate::proofs::Growing::grown_same, crate::proofs::Growing::grown_then))]
 fn append_number(words: &str, number: u32, text: &mut String) -> Result<(), AllocError>
-    ensures ok { OnOk result (string_bytes text.new ≡ string_bytes text.old ++ words.now ++ decimal number) }
+    ensures ok { OnOk result
+        (string_bytes text.new ≡ string_bytes text.old ++ words.now ++ decimal number) }
     ensures err { OnErr result (IsGrown (string_bytes text.old) (string_bytes text.new)) }
 {
     text.push_str(words)?;
@@ -204,7 +215,8 @@ fn append_number(words: &str, number: u32, text: &mut String) -> Result<(), Allo
 
 #[tactic(auto, using(crate::proofs::Growing::grown_same, crate::proofs::Growing::grown_then))]
 fn append_index(words: &str, index: i64, text: &mut String) -> Result<(), AllocError>
-    ensures ok { OnOk result (string_bytes text.new ≡ string_bytes text.old ++ words.now ++ signed_decimal index) }
+    ensures ok { OnOk result
+        (string_bytes text.new ≡ string_bytes text.old ++ words.now ++ signed_decimal index) }
     ensures err { OnErr result (IsGrown (string_bytes text.old) (string_bytes text.new)) }
 {
     text.push_str(words)?;
@@ -214,7 +226,8 @@ fn append_index(words: &str, index: i64, text: &mut String) -> Result<(), AllocE
 /// Appends a space and the value.
 #[tactic(auto, using(crate::proofs::Growing::grown_same, crate::proofs::Growing::grown_then))]
 fn append_value(value: &Value, text: &mut String) -> Result<(), AllocError>
-    ensures ok { OnOk result (string_bytes text.new ≡ string_bytes text.old ++ space ∷ value_text value.now) }
+    ensures ok { OnOk result
+        (string_bytes text.new ≡ string_bytes text.old ++ space ∷ value_text value.now) }
     ensures err { OnErr result (IsGrown (string_bytes text.old) (string_bytes text.new)) }
 {
     text.push(' ')?;

@@ -9,9 +9,11 @@ use Rattle.locked_run.specs.Behind.{GoesOnFrom}
 
 -- The answer is that of the step at a run of the opening, which goes on from that of a receipt, if there
 -- is one. A step that is accepted has a receipt of its own, whose run ends with it; no other step has one.
-abbrev pub IsAnsweredFrom : Opening → Option (List Event) → Step → Answer → Option (List Event) → Type 0
+abbrev pub IsAnsweredFrom : Opening → Option (List Event) → Step → Answer
+    → Option (List Event) → Type 0
 IsAnsweredFrom opening earlier step answer receipt =
-    (seen : List Event) × (at : IsAnswered opening step answer receipt seen) × GoesOnFrom earlier at.past
+    (seen : List Event) × (at : IsAnswered opening step answer receipt seen)
+    × GoesOnFrom earlier at.past
 
 -- behind no receipt
 abbrev pub IsAnsweredOnce : Opening → Step → Answer → Option (List Event) → Type 0
@@ -19,4 +21,5 @@ IsAnsweredOnce opening step answer receipt = IsAnsweredFrom opening None step an
 
 -- behind this receipt, so that the step's own comes behind it
 abbrev pub IsAnsweredBehind : Opening → List Event → Step → Answer → Option (List Event) → Type 0
-IsAnsweredBehind opening earlier step answer receipt = IsAnsweredFrom opening (Some earlier) step answer receipt
+IsAnsweredBehind opening earlier step answer receipt =
+    IsAnsweredFrom opening (Some earlier) step answer receipt

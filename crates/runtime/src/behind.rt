@@ -21,8 +21,8 @@ pub(crate) fn two_behind<K: OfRun, R: Forest, G: Guardian>(
     earlier: &mut Option<Receipt<K>>,
     step: &Step,
 ) -> Result<Option<Answered<K>>, Fault>
-    ensures answered { IfOk result (λ r. IfSome r (λ a. IsAnsweredFrom K.opening earlier.old step.now
-        a.answer a.receipt)) }
+    ensures answered { IfOk result
+        (λ r. IfSome r (λ a. IsAnsweredFrom K.opening earlier.old step.now a.answer a.receipt)) }
     ensures same { earlier.new ≡ earlier.old }
 {
     learn(shared, one, earlier);
@@ -38,8 +38,8 @@ pub(crate) fn one_behind<K: OfRun, R: Forest, G: Guardian>(
     earlier: &mut Option<Receipt<K>>,
     step: &Step,
 ) -> Result<Option<Answered<K>>, Fault>
-    ensures answered { IfOk result (λ r. IfSome r (λ a. IsAnsweredFrom K.opening earlier.old step.now
-        a.answer a.receipt)) }
+    ensures answered { IfOk result
+        (λ r. IfSome r (λ a. IsAnsweredFrom K.opening earlier.old step.now a.answer a.receipt)) }
     ensures same { earlier.new ≡ earlier.old }
 {
     learn(shared, held, earlier);
@@ -54,8 +54,8 @@ pub(crate) fn guardian_behind<K: OfRun, G: Guardian>(
     earlier: &mut Option<Receipt<K>>,
     step: &Step,
 ) -> Result<Option<Answered<K>>, Fault>
-    ensures answered { IfOk result (λ r. IfSome r (λ a. IsAnsweredFrom K.opening earlier.old step.now
-        a.answer a.receipt)) }
+    ensures answered { IfOk result
+        (λ r. IfSome r (λ a. IsAnsweredFrom K.opening earlier.old step.now a.answer a.receipt)) }
     ensures same { earlier.new ≡ earlier.old }
 {
     learn(shared, held, earlier);
@@ -70,8 +70,8 @@ pub(crate) fn registry_behind<K: OfRun, R: Forest>(
     earlier: &mut Option<Receipt<K>>,
     step: &Step,
 ) -> Result<Option<Answered<K>>, Fault>
-    ensures answered { IfOk result (λ r. IfSome r (λ a. IsAnsweredFrom K.opening earlier.old step.now
-        a.answer a.receipt)) }
+    ensures answered { IfOk result
+        (λ r. IfSome r (λ a. IsAnsweredFrom K.opening earlier.old step.now a.answer a.receipt)) }
     ensures same { earlier.new ≡ earlier.old }
 {
     learn_there(shared, registry, earlier);

@@ -6,8 +6,8 @@ pub trait Patience {
     /// What is so once it is over.
     ghost over: { Type 0 };
 
-    /// Whether it is over. This is asked before the operation sleeps, inside the lock of the guardian that it names. It must not
-    /// make steps of the same runtime.
+    /// Whether it is over. This is asked before the operation sleeps, inside the lock of the guardian that it names.
+    /// It must not make steps of the same runtime.
     fn is_over(&self) -> bool
         ensures { IsTrue result → over };
 }

@@ -46,7 +46,8 @@ impl<K: OfRun, R: Forest, G: Guardian, P: Gate> Runtime<K, R, G, P> {
     ) -> Result<Runtime<K, R, G, P>, AllocError>
         requires table { start.run.table.shared.table_id ≡ K.table }
         requires opening { opening_in start.run.table.shared.key ≡ K.opening }
-        requires world { IsWorld G.stands G.stored (R.stands registry) K.opening [] guardians.items }
+        requires world { IsWorld G.stands G.stored (R.stands registry) K.opening
+            [] guardians.items }
     {
         let (shared, registry, held) = match begin(alloc, start, registry, guardians) {
             Ok(begun) => begun,
@@ -78,7 +79,8 @@ impl<K: OfRun, R: Forest, G: Guardian, P: Gate> Runtime<K, R, G, P> {
         earlier: &mut Receipt<K>,
         step: &Step,
     ) -> Result<Answered<K>, StepFault>
-        ensures answered { IfOk result (λ a. IsAnsweredBehind K.opening earlier.old step.now a.answer a.receipt) }
+        ensures answered { IfOk result
+            (λ a. IsAnsweredBehind K.opening earlier.old step.now a.answer a.receipt) }
         ensures same { earlier.new ≡ earlier.old }
     {
         let copy = earlier.copy(&self.shared);
@@ -96,15 +98,16 @@ impl<K: OfRun, R: Forest, G: Guardian, P: Gate> Runtime<K, R, G, P> {
         operation: &Op,
         starters: &[Name],
     ) -> Result<Answered<K>, StepFault>
-        ensures answered { IfOk result (λ a. IsAnsweredOnce K.opening (Op action.now object operation.now)
+        ensures answered { IfOk result
+            (λ a. IsAnsweredOnce K.opening (Op action.now object operation.now)
             a.answer a.receipt) }
         ensures waits { IfOk result (λ a. sleeps a.answer starters.now ≡ false) }
     {
         self.op_wait_while(rt, action, object, operation, starters, &Endless)
     }
 
-    /// Makes an operation of the action, as `op_wait`, but only until the patience is over: then it is answered that it waits.
-    /// Who ends the patience of an operation that sleeps has to `wake` the guardian that it names.
+    /// Makes an operation of the action, as `op_wait`, but only until the patience is over: then it is answered that
+    /// it waits. Who ends the patience of an operation that sleeps has to `wake` the guardian that it names.
     pub fn op_wait_while<H: Wait, U: Patience>(
         &self,
         rt: &H,
@@ -114,7 +117,8 @@ impl<K: OfRun, R: Forest, G: Guardian, P: Gate> Runtime<K, R, G, P> {
         starters: &[Name],
         patience: &U,
     ) -> Result<Answered<K>, StepFault>
-        ensures answered { IfOk result (λ a. IsAnsweredOnce K.opening (Op action.now object operation.now)
+        ensures answered { IfOk result
+            (λ a. IsAnsweredOnce K.opening (Op action.now object operation.now)
             a.answer a.receipt) }
         ensures waits { IfOk result (λ a. (sleeps a.answer starters.now ≡ false) ⊎ U.over) }
     {
@@ -142,7 +146,8 @@ impl<K: OfRun, R: Forest, G: Guardian, P: Gate> Runtime<K, R, G, P> {
     /// it, serially. The registry and the guardians are a world of that run, and each has kept its events. It is
     /// closed exactly if these receipts are those of its events, each once; otherwise they come back.
     pub fn close_all(self, receipts: Vec<Receipt<K>>) -> Result<Ends<R, G>, CloseFault<K, R, G>>
-        ensures closed { IfOk result (λ ends. IsClosed G.stands G.stored R.stands K.opening receipts.items ends) }
+        ensures closed { IfOk result
+            (λ ends. IsClosed G.stands G.stored R.stands K.opening receipts.items ends) }
         ensures unclosed { IfErr result (λ fault. IsUnclosed G.stands G.stored R.stands K.opening
             receipts.items fault) }
     {
@@ -188,7 +193,8 @@ impl<K: OfRun, R: Forest, G: Guardian, P: Gate> Runtime<K, R, G, P> {
         earlier: &mut Option<Receipt<K>>,
         step: &Step,
     ) -> Result<Option<Answered<K>>, StepFault>
-        ensures answered { IfOk result (λ r. IfSome r (λ a. IsAnsweredFrom K.opening earlier.old step.now
+        ensures answered { IfOk result
+            (λ r. IfSome r (λ a. IsAnsweredFrom K.opening earlier.old step.now
             a.answer a.receipt)) }
         ensures same { earlier.new ≡ earlier.old }
     {
@@ -205,7 +211,8 @@ impl<K: OfRun, R: Forest, G: Guardian, P: Gate> Runtime<K, R, G, P> {
         earlier: &mut Option<Receipt<K>>,
         step: &Step,
     ) -> Result<Option<Answered<K>>, StepFault>
-        ensures answered { IfOk result (λ r. IfSome r (λ a. IsAnsweredFrom K.opening earlier.old step.now
+        ensures answered { IfOk result
+            (λ r. IfSome r (λ a. IsAnsweredFrom K.opening earlier.old step.now
             a.answer a.receipt)) }
         ensures same { earlier.new ≡ earlier.old }
     {
@@ -229,7 +236,8 @@ impl<K: OfRun, R: Forest, G: Guardian, P: Gate> Runtime<K, R, G, P> {
         earlier: &mut Option<Receipt<K>>,
         step: &Step,
     ) -> Result<Option<Answered<K>>, StepFault>
-        ensures answered { IfOk result (λ r. IfSome r (λ a. IsAnsweredFrom K.opening earlier.old step.now
+        ensures answered { IfOk result
+            (λ r. IfSome r (λ a. IsAnsweredFrom K.opening earlier.old step.now
             a.answer a.receipt)) }
         ensures same { earlier.new ≡ earlier.old }
     {
@@ -257,7 +265,8 @@ impl<K: OfRun, R: Forest, G: Guardian, P: Gate> Runtime<K, R, G, P> {
         earlier: &mut Option<Receipt<K>>,
         step: &Step,
     ) -> Result<Option<Answered<K>>, StepFault>
-        ensures answered { IfOk result (λ r. IfSome r (λ a. IsAnsweredFrom K.opening earlier.old step.now
+        ensures answered { IfOk result
+            (λ r. IfSome r (λ a. IsAnsweredFrom K.opening earlier.old step.now
             a.answer a.receipt)) }
         ensures same { earlier.new ≡ earlier.old }
     {
@@ -294,7 +303,8 @@ impl<K: OfRun, R: Forest, G: Guardian, P: Gate> Runtime<K, R, G, P> {
         earlier: &mut Option<Receipt<K>>,
         step: &Step,
     ) -> Result<Option<Answered<K>>, StepFault>
-        ensures answered { IfOk result (λ r. IfSome r (λ a. IsAnsweredFrom K.opening earlier.old step.now
+        ensures answered { IfOk result
+            (λ r. IfSome r (λ a. IsAnsweredFrom K.opening earlier.old step.now
             a.answer a.receipt)) }
         ensures same { earlier.new ≡ earlier.old }
     {
@@ -346,8 +356,10 @@ impl<K: OfRun, R: Forest, G: Guardian, P: Gate> Runtime<K, R, G, P> {
         starters: &[Name],
         patience: &U,
     ) -> Result<Option<Answered<K>>, StepFault>
-        ensures answered { IfOk result (λ r. IfSome r (λ a. IsAnsweredOnce K.opening step.now a.answer a.receipt)) }
-        ensures waits { IfOk result (λ r. IfSome r (λ a. (sleeps a.answer starters.now ≡ false) ⊎ U.over)) }
+        ensures answered { IfOk result
+            (λ r. IfSome r (λ a. IsAnsweredOnce K.opening step.now a.answer a.receipt)) }
+        ensures waits { IfOk result
+            (λ r. IfSome r (λ a. (sleeps a.answer starters.now ≡ false) ⊎ U.over)) }
     {
         let number = own_guardian(step);
         let Some(place) = self.at(number) else {
@@ -379,8 +391,10 @@ impl<K: OfRun, R: Forest, G: Guardian, P: Gate> Runtime<K, R, G, P> {
         starters: &[Name],
         patience: &U,
     ) -> Result<Option<Answered<K>>, StepFault>
-        ensures answered { IfOk result (λ r. IfSome r (λ a. IsAnsweredOnce K.opening step.now a.answer a.receipt)) }
-        ensures waits { IfOk result (λ r. IfSome r (λ a. (sleeps a.answer starters.now ≡ false) ⊎ U.over)) }
+        ensures answered { IfOk result
+            (λ r. IfSome r (λ a. IsAnsweredOnce K.opening step.now a.answer a.receipt)) }
+        ensures waits { IfOk result
+            (λ r. IfSome r (λ a. (sleeps a.answer starters.now ≡ false) ⊎ U.over)) }
     {
         let mut nobody: Option<Receipt<K>> = None;
         let Some(answered) = self.try_step(rt, &mut nobody, step)? else {

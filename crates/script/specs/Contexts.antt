@@ -13,7 +13,8 @@ use Rattle.script.specs.Handling.{documents_of}
 use Rattle.script.specs.declared.statements.Context.{Context}
 
 abbrev pub context_of : Context → spec.Context
-context_of cx = record { objects = cx.objects.now; guardians = documents_of cx.handlers.now; gives = cx.gives; in_top = cx.in_top }
+context_of cx =
+    record { objects = cx.objects.now; guardians = documents_of cx.handlers.now; gives = cx.gives; in_top = cx.in_top }
 
 -- the second scope is the first with variables bound after it
 abbrev pub Extends : Scope → Scope → Type 0
@@ -28,4 +29,5 @@ abbrev pub arguments_of : List IntExpr × List TextExpr → Arguments
 arguments_of p = record { ints = p.0; texts = p.1 }
 
 abbrev pub call_of : HandlerCall × Option Sort → CallParts
-call_of p = record { handler = p.0.handler; arguments = record { ints = p.0.ints; texts = p.0.texts }; sort = p.1 }
+call_of p =
+    record { handler = p.0.handler; arguments = record { ints = p.0.ints; texts = p.0.texts }; sort = p.1 }

@@ -7,7 +7,8 @@ use Rattle.limits.specs.Limits.{max_guardians}
 
 -- the number and the document of a guardian's handler of this name
 abbrev pub found_in : Items → ℕ → List ℕ → Option (ℕ × Data)
-found_in guardians n name = option_map (λ d. (handler_number guardians n name, d)) (handler_found guardians n name)
+found_in guardians n name =
+    option_map (λ d. (handler_number guardians n name, d)) (handler_found guardians n name)
 
 -- for each guardian, how many handlers stand before its own
 pub record AreBefore (guardians : Items) (before : List ℕ) : Type 0 where

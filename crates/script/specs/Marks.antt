@@ -46,18 +46,22 @@ pub record AddsRow (row old new : List Bool) (grew : Bool) : Type 0 where
   pub more : grew ≡ true → unmarked new < unmarked old
   pub same : grew ≡ false → new ≡ old
 
--- The old marks stay, and what is new is called by what is marked. Where nothing is new, the marks hold all that their own rows mark.
+-- The old marks stay, and what is new is called by what is marked. Where nothing is new, the marks hold all that
+-- their own rows mark.
 pub record Spreads (rows : List (List Bool)) (old new : List Bool) (grew : Bool) : Type 0 where
   pub same_length : length new ≡ length old
   pub kept : (n : ℕ) → marked old n ≡ true → marked new n ≡ true
-  pub sound : (hs : List Handler) (start : ℕ) → rows ≡ call_rows hs → ((n : ℕ) → marked old n ≡ true → Reaches hs start n)
+  pub sound : (hs : List Handler) (start : ℕ) → rows ≡ call_rows hs
+      → ((n : ℕ) → marked old n ≡ true → Reaches hs start n)
       → (n : ℕ) → marked new n ≡ true → Reaches hs start n
   pub more : grew ≡ true → unmarked new < unmarked old
-  pub closed : grew ≡ false → (a b : ℕ) → marked new a ≡ true → marked (get_or rows a []) b ≡ true → marked new b ≡ true
+  pub closed : grew ≡ false → (a b : ℕ) → marked new a ≡ true → marked (get_or rows a []) b ≡ true
+      → marked new b ≡ true
 
 -- no handler can reach itself, or the first that can is told
 abbrev pub IsAsked : Checked → Result (Unit {0}) ScriptFault → Type 0
 IsAsked c (Ok _) = (n : ℕ) → Reaches c.handlers n n → ⊥
 IsAsked c (Err Memory) = Unit {0}
-IsAsked c (Err (Bad why place)) = (why ≡ Recursion) × ((n : ℕ) × (h : Handler) × (slice_get c.handlers n ≡ Some h) × Reaches c.handlers n n
+IsAsked c (Err (Bad why place)) = (why ≡ Recursion)
+    × ((n : ℕ) × (h : Handler) × (slice_get c.handlers n ≡ Some h) × Reaches c.handlers n n
     × ((m : ℕ) → m < n → Reaches c.handlers m m → ⊥) × (place ≡ handler_place h))

@@ -55,7 +55,8 @@ fn add_parameter<'j>(
     scope: &mut Scope<'j>,
     json: &'j Json,
 ) -> Result<(), ScriptFault>
-    ensures { AnswersBy (λ _. scope.new) (spec.parameter scope.old (view json.now) (pointer place.now)) result }
+    ensures { AnswersBy (λ _. scope.new)
+        (spec.parameter scope.old (view json.now) (pointer place.now)) result }
 {
     let (first, second) = pair(alloc, place, json)?;
     place.ask(alloc, !is_repeated(scope, first), FaultKind::Shape)?;
@@ -113,7 +114,9 @@ impl<'a, 'j> Site<'a, 'j> {
         json: &'j Json,
     ) -> Result<Handler, ScriptFault>
         requires { IsIdentifier name.now }
-        ensures { Answers (spec.handler (site_of self.entry) number name.now (view json.now) (pointer place.now)) result }
+        ensures { Answers
+            (spec.handler (site_of self.entry) number name.now (view json.now) (pointer place.now))
+            result }
     {
         let (params, gives, body) = three_members(
             self.alloc,
@@ -149,7 +152,9 @@ impl<'a, 'j> Site<'a, 'j> {
         handlers: &mut Items<Handler>,
     ) -> Result<(), ScriptFault>
         ensures { AnswersOnto handlers.old handlers.new
-            (spec.handlers (site_of self.entry) (length handlers.old) (view json.now) (pointer place.now)) result }
+            (spec.handlers (site_of self.entry) (length handlers.old) (view json.now)
+            (pointer place.now))
+            result }
     {
         let members = object(self.alloc, place, json)?;
         place.ask(self.alloc, are_named(members), FaultKind::Shape)?;
@@ -191,8 +196,9 @@ impl Guardians {
         json: &'j Json,
     ) -> Result<(), ScriptFault>
         ensures { AnswersBy (λ _. guardians_of self.new)
-            (spec.add_guardian (documents_of documents.now) number (guardians_of self.old) (view json.now)
-            (pointer place.now)) result }
+            (spec.add_guardian (documents_of documents.now) number (guardians_of self.old)
+            (view json.now) (pointer place.now))
+            result }
     {
         let (contents, handlers) = two_members(alloc, place, json, "objects", "handlers")?;
         let contents = objects_in(alloc, &place.member("objects"), contents)?;
@@ -214,7 +220,9 @@ fn guardians_in<'j>(
     signatures: &Handlers<'j>,
 ) -> Result<Guardians, ScriptFault>
     ensures { AnswersBy guardians_of
-        (spec.guardians_in (documents_of signatures.now) (documents_of signatures.now) (pointer place.now)) result }
+        (spec.guardians_in (documents_of signatures.now) (documents_of signatures.now)
+        (pointer place.now))
+        result }
 {
     let mut guardians = Guardians {
         objects: Items::new(alloc),
@@ -245,7 +253,9 @@ fn client_in<'j>(
     handlers: &Handlers<'j>,
     json: &'j Json,
 ) -> Result<Client, ScriptFault>
-    ensures { Answers (spec.client (documents_of handlers.now) objects.now (view json.now) (pointer place.now)) result }
+    ensures { Answers
+        (spec.client (documents_of handlers.now) objects.now (view json.now) (pointer place.now))
+        result }
 {
     let (home, body) = two_members(alloc, place, json, "home", "body")?;
     let index = guardian(alloc, &place.member("home"), handlers.guardians(), home)?;
@@ -271,7 +281,9 @@ fn clients_in<'j>(
     handlers: &Handlers<'j>,
     json: &'j Json,
 ) -> Result<Items<Client>, ScriptFault>
-    ensures { Answers (spec.clients (documents_of handlers.now) objects.now (view json.now) (pointer place.now)) result }
+    ensures { Answers
+        (spec.clients (documents_of handlers.now) objects.now (view json.now) (pointer place.now))
+        result }
 {
     let documents = list(alloc, place, json, 1, MAX_CLIENTS)?;
     let mut clients = Items::new(alloc);

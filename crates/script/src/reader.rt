@@ -20,7 +20,8 @@ pub struct Script {
 /// The document that these bytes are. Fails where they are no JSON, or nest 128 levels deep or more.
 pub fn read(alloc: Global, bytes: &[u8]) -> Result<Script, ScriptFault>
     ensures found { IfOk result (λ s. IsDocument bytes.now (document_of s)) }
-    ensures refused { IfErr result (λ e. e ≢ ScriptFault.Memory → IsNoJson bytes.now × (e ≡ ScriptFault.Bad FaultKind.Shape [])) }
+    ensures refused { IfErr result (λ e. e ≢ ScriptFault.Memory
+        → IsNoJson bytes.now × (e ≡ ScriptFault.Bad FaultKind.Shape [])) }
 {
     match Json::from_slice(alloc, bytes) {
         Ok(document) => Ok(Script { document }),

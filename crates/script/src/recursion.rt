@@ -105,7 +105,8 @@ fn add_row(row: &[bool], marks: &mut [bool]) -> bool
 
 /// Marks what the marked handlers call, and says whether there was more to mark.
 fn spread(table: &[Vec<bool>], marks: &mut [bool]) -> bool
-    requires square { (row : Vec Bool Global) → Contains table.now row → length row.items ≡ length table.now }
+    requires square { (row : Vec Bool Global) → Contains table.now row
+        → length row.items ≡ length table.now }
     requires as_many { length table.now ≡ length marks.old }
     ensures { Spreads (rows_of table.now) marks.old marks.new result }
 {
@@ -121,8 +122,10 @@ fn spread(table: &[Vec<bool>], marks: &mut [bool]) -> bool
 /// Whether the handler of this number can reach itself by calls.
 fn reaches_itself(alloc: Global, table: &[Vec<bool>], start: usize) -> Result<bool, AllocError>
     requires within { start < length table.now }
-    requires square { (row : Vec Bool Global) → Contains table.now row → length row.items ≡ length table.now }
-    ensures { (hs : List Handler) → rows_of table.now ≡ call_rows hs → IfOk result (λ yes. IsTrue yes ↔ Reaches hs start start) }
+    requires square { (row : Vec Bool Global) → Contains table.now row
+        → length row.items ≡ length table.now }
+    ensures { (hs : List Handler) → rows_of table.now ≡ call_rows hs
+        → IfOk result (λ yes. IsTrue yes ↔ Reaches hs start start) }
 {
     let mut reached = vec![in alloc; false; table.len()]?;
     add_row(&table[start], &mut reached);
@@ -133,7 +136,8 @@ fn reaches_itself(alloc: Global, table: &[Vec<bool>], start: usize) -> Result<bo
 /// Where a handler stands in the document.
 fn fault_at(alloc: Global, handler: &Handler) -> ScriptFault
     requires { 1 ≤ handler.now.guardian }
-    ensures { result ≢ ScriptFault.Memory → result ≡ ScriptFault.Bad FaultKind.Recursion (handler_place handler.now) }
+    ensures { result ≢ ScriptFault.Memory
+        → result ≡ ScriptFault.Bad FaultKind.Recursion (handler_place handler.now) }
 {
     let root = Place::Root;
     let guardians = root.member("guardians");

@@ -44,7 +44,8 @@ impl<'j> Model for Handlers<'j> {
 }
 
 fn handlers_in(guardian: &Json) -> Option<&Map<String, Json>>
-    ensures { unwrap_or (option_map (λ m. members_view m.now.entries) result) no_members ≡ spec.handlers_in (view guardian.now) }
+    ensures { unwrap_or (option_map (λ m. members_view m.now.entries) result) no_members
+        ≡ spec.handlers_in (view guardian.now) }
 {
     guardian.get("handlers")?.as_object()
 }
@@ -59,7 +60,8 @@ fn count_handlers(guardian: &Json) -> u32
 }
 
 fn place_among(name: &str, handlers: &Map<String, Json>) -> u32
-    ensures { result ≡ spec.place_among spec.max_handlers name.now (members_view handlers.now.entries) }
+    ensures { result
+        ≡ spec.place_among spec.max_handlers name.now (members_view handlers.now.entries) }
 {
     let mut place = 0;
     for other in handlers.keys() {
@@ -115,7 +117,8 @@ impl<'j> Handlers<'j> {
 
     /// The number and the document of a guardian's handler.
     pub(crate) fn find(&self, guardian: usize, name: &str) -> Option<(u32, &'j Json)>
-        ensures { option_map (λ p. (p.0, view p.1.now)) result ≡ found_in (items_view self.now) guardian name.now }
+        ensures { option_map (λ p. (p.0, view p.1.now)) result
+            ≡ found_in (items_view self.now) guardian name.now }
     {
         let handlers = handlers_in(self.guardians.get(guardian)?)?;
         let handler = member(handlers, name)?;

@@ -76,7 +76,8 @@ pub(crate) fn guardian(
     count: usize,
     json: &Json,
 ) -> Result<usize, ScriptFault>
-    ensures { AnswersBy (λ n. n) (spec.guardian_numbered count (view json.now) (pointer place.now)) result }
+    ensures { AnswersBy (λ n. n)
+        (spec.guardian_numbered count (view json.now) (pointer place.now)) result }
 {
     let number = int(alloc, place, json)?;
     match guardian_index(count, number) {
@@ -173,7 +174,9 @@ impl<'a, 'j> Context<'a, 'j> {
         members: &Map<String, Json>,
         gives_nothing: bool,
     ) -> Result<(), ScriptFault>
-        ensures { Answers (spec.ask_value (members_view members.now.entries) gives_nothing (pointer place.now)) result }
+        ensures { Answers
+            (spec.ask_value (members_view members.now.entries) gives_nothing (pointer place.now))
+            result }
     {
         let fits = !gives_nothing || member(members, "into").is_none();
         place.ask(self.alloc, fits, FaultKind::Flow)
@@ -187,7 +190,9 @@ impl<'a, 'j> Context<'a, 'j> {
         sort: Option<Sort>,
         members: &'j Map<String, Json>,
     ) -> Result<Binding, ScriptFault>
-        ensures read { AnswersWith scope.new (spec.bind scope.old sort (members_view members.now.entries) (pointer place.now)) result }
+        ensures read { AnswersWith scope.new
+            (spec.bind scope.old sort (members_view members.now.entries) (pointer place.now))
+            result }
         ensures extends { OnOk result (Extends scope.old scope.new) }
     {
         let Some(sort) = sort else {
@@ -219,7 +224,9 @@ impl<'a, 'j> Context<'a, 'j> {
         handler: &Json,
         json: &Json,
     ) -> Result<(Items<IntExpr>, Items<TextExpr>), ScriptFault>
-        ensures { AnswersBy arguments_of (spec.arguments_in scope.now (view handler.now) (view json.now) (pointer place.now)) result }
+        ensures { AnswersBy arguments_of
+            (spec.arguments_in scope.now (view handler.now) (view json.now) (pointer place.now))
+            result }
     {
         let documents = array(self.alloc, place, json)?;
         let fits = takes_count(handler, documents.len());
@@ -243,7 +250,9 @@ impl<'a, 'j> Context<'a, 'j> {
         index: usize,
         json: &Json,
     ) -> Result<Expr, ScriptFault>
-        ensures { Answers (spec.argument_in scope.now (wanted_kind (view handler.now) index) (view json.now) (pointer place.now)) result }
+        ensures { Answers (spec.argument_in scope.now (wanted_kind (view handler.now) index)
+            (view json.now) (pointer place.now))
+            result }
     {
         match wanted_kind(handler, index) {
             Some(kind) => expr_of_kind(self.alloc, place, scope, kind, json),
@@ -253,7 +262,8 @@ impl<'a, 'j> Context<'a, 'j> {
 
     /// The document of the handler that is called, where there is one.
     fn callee(&self, json: &Json) -> Option<&'j Json>
-        ensures { option_map (λ d. view d.now) result ≡ spec.callee (context_of self.now).guardians (view json.now) }
+        ensures { option_map (λ d. view d.now) result
+            ≡ spec.callee (context_of self.now).guardians (view json.now) }
     {
         match json.as_array()?.as_slice() {
             [number, name, _] => {
@@ -282,7 +292,9 @@ impl<'a, 'j> Context<'a, 'j> {
         json: &Json,
     ) -> Result<(HandlerCall, Option<Sort>), ScriptFault>
         ensures { AnswersBy call_of
-            (spec.call_sorted (context_of self.now).guardians scope.now (view json.now) (pointer place.now)) result }
+            (spec.call_sorted (context_of self.now).guardians
+            scope.now (view json.now) (pointer place.now))
+            result }
     {
         let (number, name, arguments) = triple(self.alloc, place, json)?;
         let count = self.handlers.guardians();
@@ -317,7 +329,9 @@ impl<'a, 'j> Context<'a, 'j> {
         scope: &Scope<'_>,
         json: &Json,
     ) -> Result<Statement, ScriptFault>
-        ensures { Answers (spec.return_in (context_of self.now) scope.now (view json.now) (pointer place.now)) result }
+        ensures { Answers
+            (spec.return_in (context_of self.now) scope.now (view json.now) (pointer place.now))
+            result }
     {
         if json.is_null() {
             let fits = !self.in_top && may_return_nothing(self.gives);
@@ -339,8 +353,9 @@ impl<'a, 'j> Context<'a, 'j> {
         members: &'j Map<String, Json>,
     ) -> Result<Option<Items<Statement>>, ScriptFault>
         ensures read { Answers
-            (spec.signals (body_at levels) (context_of self.now) scope.old (members_view members.now.entries)
-            (pointer place.now)) result }
+            (spec.signals (body_at levels)
+            (context_of self.now) scope.old (members_view members.now.entries) (pointer place.now))
+            result }
         ensures kept { OnOk result (scope.new ≡ scope.old) }
     {
         match member(members, "signals") {
@@ -364,8 +379,9 @@ impl<'a, 'j> Context<'a, 'j> {
         json: &'j Json,
     ) -> Result<Statement, ScriptFault>
         ensures read { AnswersWith scope.new
-            (spec.op_statement (body_at levels) (context_of self.now) scope.old (members_view members.now.entries)
-            (view json.now) (pointer place.now)) result }
+            (spec.op_statement (body_at levels) (context_of self.now) scope.old
+            (members_view members.now.entries) (view json.now) (pointer place.now))
+            result }
         ensures extends { OnOk result (Extends scope.old scope.new) }
     {
         self.ask_value(place, members, op_gives_nothing(json))?;
@@ -391,8 +407,9 @@ impl<'a, 'j> Context<'a, 'j> {
         json: &'j Json,
     ) -> Result<Statement, ScriptFault>
         ensures read { AnswersWith scope.new
-            (spec.call_statement (body_at levels) (context_of self.now) scope.old (members_view members.now.entries)
-            (view json.now) (pointer place.now)) result }
+            (spec.call_statement (body_at levels) (context_of self.now) scope.old
+            (members_view members.now.entries) (view json.now) (pointer place.now))
+            result }
         ensures extends { OnOk result (Extends scope.old scope.new) }
     {
         self.ask_value(place, members, self.call_gives_nothing(json))?;
@@ -410,7 +427,9 @@ impl<'a, 'j> Context<'a, 'j> {
         scope: &mut Scope<'j>,
         json: &'j Json,
     ) -> Result<Arm, ScriptFault>
-        ensures read { Answers (spec.arm_in (body_at levels) (context_of self.now) scope.old (view json.now) (pointer place.now)) result }
+        ensures read { Answers (spec.arm_in (body_at levels) (context_of self.now) scope.old
+            (view json.now) (pointer place.now))
+            result }
         ensures kept { OnOk result (scope.new ≡ scope.old) }
     {
         let (arm, body) = two_members(self.alloc, place, json, "arm", "body")?;
@@ -432,7 +451,9 @@ impl<'a, 'j> Context<'a, 'j> {
         scope: &mut Scope<'j>,
         json: &'j Json,
     ) -> Result<Statement, ScriptFault>
-        ensures read { Answers (spec.coenter (body_at levels) (context_of self.now) scope.old (view json.now) (pointer place.now)) result }
+        ensures read { Answers (spec.coenter (body_at levels)
+            (context_of self.now) scope.old (view json.now) (pointer place.now))
+            result }
         ensures kept { OnOk result (scope.new ≡ scope.old) }
     {
         let documents = list(self.alloc, place, json, 1, MAX_ARMS)?;
@@ -453,8 +474,9 @@ impl<'a, 'j> Context<'a, 'j> {
         json: &'j Json,
     ) -> Result<Statement, ScriptFault>
         ensures read { Answers
-            (spec.top_action (body_at levels) (context_of self.now) scope.old (members_view members.now.entries)
-            (view json.now) (pointer place.now)) result }
+            (spec.top_action (body_at levels) (context_of self.now)
+            scope.old (members_view members.now.entries) (view json.now) (pointer place.now))
+            result }
         ensures kept { OnOk result (scope.new ≡ scope.old) }
     {
         let inside = (&*place).member("topaction");
@@ -474,7 +496,9 @@ impl<'a, 'j> Context<'a, 'j> {
         scope: &mut Scope<'j>,
         json: &'j Json,
     ) -> Result<Statement, ScriptFault>
-        ensures read { Answers (spec.if_in (body_at levels) (context_of self.now) scope.old (view json.now) (pointer place.now)) result }
+        ensures read { Answers (spec.if_in (body_at levels) (context_of self.now)
+            scope.old (view json.now) (pointer place.now))
+            result }
         ensures kept { OnOk result (scope.new ≡ scope.old) }
     {
         let (test, first, second) = triple(self.alloc, place, json)?;
@@ -493,7 +517,8 @@ impl<'a, 'j> Context<'a, 'j> {
         json: &'j Json,
     ) -> Result<Statement, ScriptFault>
         ensures read { Answers
-            (spec.repeat_in (body_at levels) (context_of self.now) scope.old (view json.now) (pointer place.now))
+            (spec.repeat_in (body_at levels) (context_of self.now) scope.old
+            (view json.now) (pointer place.now))
             result }
         ensures kept { OnOk result (scope.new ≡ scope.old) }
     {
@@ -512,8 +537,9 @@ impl<'a, 'j> Context<'a, 'j> {
         names: &[&str],
     ) -> Result<(), ScriptFault>
         ensures { Answers
-            (ask (has_only (map (λ n. n.now) names.now) (members_view members.now.entries)) FaultKind.Shape
-            (pointer place.now)) result }
+            (ask (has_only (map (λ n. n.now) names.now) (members_view members.now.entries))
+            FaultKind.Shape (pointer place.now))
+            result }
     {
         place.ask(self.alloc, has_only(members, names), FaultKind::Shape)
     }
@@ -527,7 +553,8 @@ impl<'a, 'j> Context<'a, 'j> {
         json: &'j Json,
     ) -> Result<Statement, ScriptFault>
         ensures read { AnswersWith scope.new
-            (spec.statement (body_at levels) (context_of self.now) scope.old (view json.now) (pointer place.now))
+            (spec.statement (body_at levels) (context_of self.now) scope.old
+            (view json.now) (pointer place.now))
             result }
         ensures extends { OnOk result (Extends scope.old scope.new) }
     {
@@ -560,8 +587,9 @@ impl<'a, 'j> Context<'a, 'j> {
         members: &'j Map<String, Json>,
     ) -> Result<Statement, ScriptFault>
         ensures read { AnswersWith scope.new
-            (spec.plain_statement (body_at levels) (context_of self.now) scope.old (members_view members.now.entries)
-            (pointer place.now)) result }
+            (spec.plain_statement (body_at levels) (context_of self.now)
+            scope.old (members_view members.now.entries) (pointer place.now))
+            result }
         ensures extends { OnOk result (Extends scope.old scope.new) }
     {
         if let Some(json) = member(members, "if") {
@@ -592,8 +620,9 @@ impl<'a, 'j> Context<'a, 'j> {
         documents: &'j [Json],
     ) -> Result<Items<Statement>, ScriptFault>
         ensures read { Answers
-            (spec.statements (body_at levels) (context_of self.now) 0 scope.old (items_view documents.now)
-            (pointer place.now)) result }
+            (spec.statements (body_at levels) (context_of self.now) 0 scope.old
+            (items_view documents.now) (pointer place.now))
+            result }
         ensures extends { OnOk result (Extends scope.old scope.new) }
     {
         let mut body = Items::new(self.alloc);
@@ -612,7 +641,9 @@ impl<'a, 'j> Context<'a, 'j> {
         scope: &mut Scope<'j>,
         json: &'j Json,
     ) -> Result<Items<Statement>, ScriptFault>
-        ensures read { Answers (body_at levels (context_of self.now) scope.old (view json.now) (pointer place.now)) result }
+        ensures read { Answers
+            (body_at levels (context_of self.now) scope.old (view json.now) (pointer place.now))
+            result }
         ensures kept { OnOk result (scope.new ≡ scope.old) }
     {
         let documents = array(self.alloc, place, json)?;
@@ -632,7 +663,9 @@ impl<'a, 'j> Context<'a, 'j> {
         scope: &mut Scope<'j>,
         json: &'j Json,
     ) -> Result<Items<Statement>, ScriptFault>
-        ensures read { Answers (spec.body_in (context_of self.now) scope.old (view json.now) (pointer place.now)) result }
+        ensures read { Answers
+            (spec.body_in (context_of self.now) scope.old (view json.now) (pointer place.now))
+            result }
         ensures kept { OnOk result (scope.new ≡ scope.old) }
     {
         self.body_at(MAX_NESTING, place, scope, json)

@@ -40,7 +40,8 @@ end_line n end = codes "client " ++ (decimal n ++ (codes " " ++ (end_text end ++
 
 -- an object at g, and its base
 abbrev pub base_line : ℕ → ℕ × Content → List ℕ
-base_line g base = decimal g ++ (codes "/" ++ (decimal base.0 ++ (codes " " ++ (content_text base.1 ++ line_feed ∷ []))))
+base_line g base = decimal g
+    ++ (codes "/" ++ (decimal base.0 ++ (codes " " ++ (content_text base.1 ++ line_feed ∷ []))))
 
 abbrev pub base_lines : ℕ → List (ℕ × Content) → List ℕ
 base_lines g [] = []
@@ -63,18 +64,21 @@ known contents None = None
 known contents (Some writer) = contents writer
 
 -- two writers took these bytes, of which the fact holds
-abbrev pub WriteBoth : Option (List ℕ) → Option (List ℕ) → Option (List ℕ) → Option (List ℕ) → (List ℕ → List ℕ → Type 0) → Type 0
+abbrev pub WriteBoth : Option (List ℕ) → Option (List ℕ) → Option (List ℕ) → Option (List ℕ)
+    → (List ℕ → List ℕ → Type 0) → Type 0
 WriteBoth first now second after fact =
-    (part : List ℕ) × (written : List ℕ) × Appends first now part × Appends second after written × fact part written
+    (part : List ℕ) × (written : List ℕ) × Appends first now part
+    × Appends second after written × fact part written
 
 -- a beginning of the first text and nothing of the second, or all of the first and a beginning of the second
 abbrev pub BeginBoth : List ℕ → List ℕ → List ℕ → List ℕ → Type 0
-BeginBoth trace text part written = (Begins part trace × (written ≡ [])) ⊎ ((part ≡ trace) × Begins written text)
+BeginBoth trace text part written = (Begins part trace × (written ≡ []))
+    ⊎ ((part ≡ trace) × Begins written text)
 
 -- ---- runs
 
--- which outcomes a run of a script may have in a new system of a setup: how its clients end, the bases that they leave, and what has
--- happened
+-- which outcomes a run of a script may have in a new system of a setup: how its clients end, the bases that they
+-- leave, and what has happened
 abbrev pub Comes : Type 1
 Comes = Checked → Setup → List ClientEnd → Bases → List Event → Type 0
 
@@ -86,19 +90,23 @@ pub record IsTraced (setup : Setup) (past : List Event) (trace : List ℕ) : Typ
 module _ (comes : Comes) where
   -- script and setup have one outcome at most
   abbrev pub IsDetermined : Type 0
-  IsDetermined = (script : Checked) (setup : Setup) (ends others : List ClientEnd) (bases more : Bases) (past other : List Event)
-      → comes script setup ends bases past → comes script setup others more other → (ends ≡ others) × (bases ≡ more) × (past ≡ other)
+  IsDetermined = (script : Checked) (setup : Setup) (ends others : List ClientEnd)
+      (bases more : Bases) (past other : List Event)
+      → comes script setup ends bases past → comes script setup others more other
+      → (ends ≡ others) × (bases ≡ more) × (past ≡ other)
 
   -- the texts of the trace and of the lines of an outcome that may come
   abbrev pub TellsRun : Checked → Setup → List ℕ → List ℕ → Type 0
   TellsRun script setup trace text =
-      (ends : List ClientEnd) × (bases : Bases) × (past : List Event) × comes script setup ends bases past × IsTraced setup past trace
+      (ends : List ClientEnd) × (bases : Bases) × (past : List Event)
+      × comes script setup ends bases past × IsTraced setup past trace
       × (text ≡ run_text ends bases)
 
   -- nothing was written, or a beginning of these texts, no line before all of the trace
   abbrev pub BeginsRun : Checked → Setup → List ℕ → List ℕ → Type 0
   BeginsRun script setup part written =
-      ((part ≡ []) × (written ≡ [])) ⊎ ((trace : List ℕ) × (text : List ℕ) × TellsRun script setup trace text × BeginBoth trace text part written)
+      ((part ≡ []) × (written ≡ [])) ⊎ ((trace : List ℕ) × (text : List ℕ)
+      × TellsRun script setup trace text × BeginBoth trace text part written)
 
 -- a fault of the clients' run, out of memory, or a fault of the writer
 abbrev pub IsOfRun : (Fault → Type 0) → Fault → Type 0
@@ -106,5 +114,6 @@ IsOfRun faults fault = faults fault ⊎ IsOfWriter fault
 
 -- A trace that was written is answered with yes and the number of the events, if it can be read as a trace.
 abbrev pub TracesAreGathered : Type 0
-TracesAreGathered = (setup : Setup) (past : List Event) (trace : List ℕ) → IsTraced setup past trace → IsTrace trace setup (histories_of (fresh setup) past)
-    → IsVerdict trace (Some (record { lists = fresh_lists setup; past = past })) (yes_line (length past))
+TracesAreGathered = (setup : Setup) (past : List Event) (trace : List ℕ) → IsTraced setup past trace
+    → IsTrace trace setup (histories_of (fresh setup) past) → IsVerdict trace
+    (Some (record { lists = fresh_lists setup; past = past })) (yes_line (length past))

@@ -14,8 +14,8 @@ use std::io::Write;
 
 /// Runs the clients of the script that the bytes are, in a new system of its objects, writes what `run_script` does,
 /// and has `Done`. Where they are no script it writes no trace, but `fault`, the number of the first fault, from 1 to
-/// 12, and the JSON pointer of its place, which is `/` for the whole document; then it has `Stopped`. After a fault of a
-/// writer a beginning of that was written, and after another fault nothing.
+/// 12, and the JSON pointer of its place, which is `/` for the whole document; then it has `Stopped`. After a fault
+/// of a writer a beginning of that was written, and after another fault nothing.
 pub fn run_file<R: RunsClients, T: Write, W: Write>(
     alloc: Global,
     runner: &mut R,

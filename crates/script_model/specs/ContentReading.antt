@@ -72,7 +72,8 @@ record_in d = do
 -- whether so many items from this index on lie within the bounds; where there are none, the index itself does
 abbrev pub is_low : ℤ → ℕ → Bool
 is_low low count =
-    (int_le least_index low && int_le low greatest_index) && ((nat_le count 0) || int_le ((low +ℤ pos count) -ℤ pos 1) greatest_index)
+    (int_le least_index low && int_le low greatest_index)
+    && ((nat_le count 0) || int_le ((low +ℤ pos count) -ℤ pos 1) greatest_index)
 
 abbrev pub items_of : Data → ℕ
 items_of (array ds) = items_len ds
@@ -130,7 +131,8 @@ content_member name d =
     if same_bytes name (codes "record") then at (codes "record") (record_in d)
     else (if same_bytes name (codes "array") then at (codes "array") (array_in d)
     else (if same_bytes name (codes "variant") then at (codes "variant") (variant_in d)
-    else (if same_bytes name (codes "counter") then at (codes "counter") (counter_in d) else fault is.Shape)))
+    else (if same_bytes name (codes "counter") then at (codes "counter") (counter_in d)
+    else fault is.Shape)))
 
 abbrev pub content_of : Option (List ℕ × Data) → Read Content
 content_of None = fault is.Shape

@@ -44,7 +44,8 @@ sort_of_variable scope _ = Unknown
 
 abbrev pub sort_of_member : Scope → List ℕ → Data → Sort
 sort_of_member scope name d =
-    if same_bytes name (codes "var") then sort_of_variable scope d else (if is_sum name && is_pair d then Int else Unknown)
+    if same_bytes name (codes "var") then sort_of_variable scope d
+    else (if is_sum name && is_pair d then Int else Unknown)
 
 abbrev pub sort_of_only : Scope → Option (List ℕ × Data) → Sort
 sort_of_only scope None = Unknown
@@ -105,7 +106,8 @@ abbrev pub int_by_name : List ℕ → Read IntExpr → Read (IntExpr × IntExpr)
 int_by_name name bound operands =
     if same_bytes name (codes "var") then bound
     else (if same_bytes name (codes "add") then (at (codes "add") operands >>= sum_of)
-    else (if same_bytes name (codes "sub") then (at (codes "sub") operands >>= difference_of) else fault is.Shape))
+    else (if same_bytes name (codes "sub") then (at (codes "sub") operands >>= difference_of)
+    else fault is.Shape))
 
 -- an expression that is to give an int
 abbrev mutual
@@ -119,7 +121,8 @@ abbrev mutual
 
   pub int_of_members : Scope → Members → Read IntExpr
   int_of_members scope no_members = fault is.Shape
-  int_of_members scope (member name d no_members) = int_by_name name (int_variable scope d) (int_operands scope d)
+  int_of_members scope (member name d no_members) =
+      int_by_name name (int_variable scope d) (int_operands scope d)
   int_of_members scope (member name d (member other e ms)) = fault is.Shape
 
   -- the two operands of a sum or a difference
@@ -150,8 +153,10 @@ no_text is_sum place inside = if is_sum then Bad is.Kind place else Bad is.Shape
 abbrev pub text_member : Scope → List ℕ → Data → Read TextExpr
 text_member scope name d =
     if same_bytes name (codes "var") then text_variable scope d
-    else (if same_bytes name (codes "add") then (λ place. Err (no_text (is_pair d) place (step place (codes "add"))))
-    else (if same_bytes name (codes "sub") then (λ place. Err (no_text (is_pair d) place (step place (codes "sub")))) else fault is.Shape))
+    else (if same_bytes name (codes "add")
+    then (λ place. Err (no_text (is_pair d) place (step place (codes "add"))))
+    else (if same_bytes name (codes "sub")
+    then (λ place. Err (no_text (is_pair d) place (step place (codes "sub")))) else fault is.Shape))
 
 abbrev pub text_of_only : Scope → Option (List ℕ × Data) → Read TextExpr
 text_of_only scope None = fault is.Shape
@@ -201,7 +206,8 @@ equal scope d = do
   let s = sort_of scope p.0
   let t = sort_of scope p.1
   ask (agree s t) is.Kind
-  at (codes "eq") (if same_sort s Text || same_sort t Text then same_texts scope p else same_ints scope p)
+  at (codes "eq")
+      (if same_sort s Text || same_sort t Text then same_texts scope p else same_ints scope p)
 
 abbrev pub less : Scope → Data → Read Condition
 less scope d = do

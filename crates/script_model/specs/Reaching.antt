@@ -61,7 +61,9 @@ pub record Fits (d : Data) (c : Checked) : Type 0 where
 
 -- where a handler stands in the document
 abbrev pub handler_place : Handler → List ℕ
-handler_place h = step (step (step (step [] (codes "guardians")) (decimal (h.guardian - 1))) (codes "handlers")) h.name
+handler_place h =
+    step (step (step (step [] (codes "guardians")) (decimal (h.guardian - 1))) (codes "handlers"))
+    h.name
 
 -- the document is a script but for its first handler that can reach itself, which stands at this place
 pub record IsRecursiveAt (d : Data) (place : List ℕ) : Type 0 where
@@ -77,4 +79,5 @@ pub record IsRecursiveAt (d : Data) (place : List ℕ) : Type 0 where
 -- the fault of a document: the first that reading it meets, else the first recursion
 abbrev pub IsFirstFault : Data → ScriptFault → Type 0
 IsFirstFault d Memory = Unit {0}
-IsFirstFault d (Bad why place) = (script d [] ≡ Err (Bad why place)) ⊎ ((why ≡ is.Recursion) × IsRecursiveAt d place)
+IsFirstFault d (Bad why place) = (script d [] ≡ Err (Bad why place))
+    ⊎ ((why ≡ is.Recursion) × IsRecursiveAt d place)

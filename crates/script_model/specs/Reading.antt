@@ -40,7 +40,8 @@ abbrev pub need : {A : Type 0} → Option A → FaultKind → Read A
 need (Some a) why = reads a
 need None why = fault why
 
--- the place of a part under this name; names that stand in places are made of letters, digits and _, so none has to be escaped
+-- the place of a part under this name; names that stand in places are made of letters, digits and _, so none has to
+-- be escaped
 abbrev pub step : List ℕ → List ℕ → List ℕ
 step place name = place ++ 47 ∷ name
 

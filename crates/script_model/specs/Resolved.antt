@@ -63,8 +63,10 @@ expr_is_bound frames (expr.Int e) = int_is_bound frames.ints e
 expr_is_bound frames (expr.Text e) = text_is_bound frames.texts e
 
 abbrev pub condition_is_bound : Frames → Condition → Bool
-condition_is_bound frames (test.SameInts x y) = int_is_bound frames.ints x && int_is_bound frames.ints y
-condition_is_bound frames (test.SameTexts x y) = text_is_bound frames.texts x && text_is_bound frames.texts y
+condition_is_bound frames (test.SameInts x y) =
+    int_is_bound frames.ints x && int_is_bound frames.ints y
+condition_is_bound frames (test.SameTexts x y) =
+    text_is_bound frames.texts x && text_is_bound frames.texts y
 condition_is_bound frames (test.Less x y) = int_is_bound frames.ints x && int_is_bound frames.ints y
 condition_is_bound frames (test.Truth place) = nat_lt place frames.truths
 
@@ -135,7 +137,8 @@ abbrev pub gives_kind : Option Kind → Binding → Bool
 gives_kind None b = false
 gives_kind (Some k) b = is_of_kind k b
 
--- whether an object has the operation, its values are of the kinds that the object takes, and what is bound is of the kind of its reply
+-- whether an object has the operation, its values are of the kinds that the object takes, and what is bound is of the
+-- kind of its reply
 abbrev pub record_has : List Field → Operation → Binding → Bool
 record_has fields (op.Get name) b = gives_kind (field_kind fields name) b
 record_has fields (op.Set name e) b = takes_expr (field_kind fields name) e && is_nothing b
@@ -176,7 +179,8 @@ arguments_are_bound frames with.Nothing = true
 arguments_are_bound frames (with.Word w) = true
 arguments_are_bound frames (with.WordValue w e) = expr_is_bound frames e
 arguments_are_bound frames (with.Index i) = int_is_bound frames.ints i
-arguments_are_bound frames (with.IndexValue i e) = int_is_bound frames.ints i && expr_is_bound frames e
+arguments_are_bound frames (with.IndexValue i e) =
+    int_is_bound frames.ints i && expr_is_bound frames e
 arguments_are_bound frames (with.Value e) = expr_is_bound frames e
 
 abbrev pub operation_is_bound : Frames → Operation → Bool
@@ -212,7 +216,8 @@ result_is (Some k) b = is_of_kind k b
 
 abbrev pub handler_takes : Option Handler → HandlerCall → Bool
 handler_takes None c = false
-handler_takes (Some h) c = (length c.ints == h.ints) && ((length c.texts == h.texts) && result_is h.gives c.binding)
+handler_takes (Some h) c =
+    (length c.ints == h.ints) && ((length c.texts == h.texts) && result_is h.gives c.binding)
 
 abbrev pub call_is_resolved : Surroundings → Frames → HandlerCall → Bool
 call_is_resolved at frames c =
@@ -261,12 +266,15 @@ asked_step (Statement-F.Call c s) = record {
   after = λ frames. frames_after frames c.binding;
 }
 asked_step (Statement-F.Coenter arms) = plain (all_hold arms)
-asked_step (Statement-F.TopAction body s) = plain (λ at frames. body_holds body (in_top_surroundings at) frames && body_holds s at frames)
+asked_step (Statement-F.TopAction body s) =
+    plain (λ at frames. body_holds body (in_top_surroundings at) frames && body_holds s at frames)
 asked_step (Statement-F.If c first second) =
-    plain (λ at frames. condition_is_bound frames c && (body_holds first at frames && body_holds second at frames))
+    plain (λ at frames. condition_is_bound frames c
+    && (body_holds first at frames && body_holds second at frames))
 asked_step (Statement-F.Repeat n body) = plain (body_holds body)
 asked_step Statement-F.Abort = plain (λ at frames. true)
-asked_step (Statement-F.Return e) = plain (λ at frames. not at.in_top && (returns_as at.gives e && returned_is_bound frames e))
+asked_step (Statement-F.Return e) =
+    plain (λ at frames. not at.in_top && (returns_as at.gives e && returned_is_bound frames e))
 
 abbrev pub asked_arm : Arm-F (Surroundings → Frames → Bool) Asked → Surroundings → Frames → Bool
 asked_arm (Arm-F.Sub body) = body_holds body
@@ -278,7 +286,8 @@ asked = fold-Statement (Surroundings → Frames → Bool) Asked asked_arm asked_
 -- each statement of a body is resolved, with what those before it bound
 abbrev pub is_resolved_body : Surroundings → Frames → List Statement → Bool
 is_resolved_body at frames [] = true
-is_resolved_body at frames (s ∷ ss) = (asked s).holds at frames && is_resolved_body at ((asked s).after frames) ss
+is_resolved_body at frames (s ∷ ss) =
+    (asked s).holds at frames && is_resolved_body at ((asked s).after frames) ss
 
 -- ---- whether a body always ends by a `return` or an `abort`
 
@@ -314,17 +323,21 @@ what_gives (Some k) = gives.Value k
 abbrev pub is_resolved_at : Option (List Content) → Checked → Gives → Frames → List Statement → Bool
 is_resolved_at None c g frames body = false
 is_resolved_at (Some objects) c g frames body =
-    is_resolved_body (record { objects = objects; handlers = c.handlers; gives = g; in_top = false }) frames body
+    is_resolved_body
+    (record { objects = objects; handlers = c.handlers; gives = g; in_top = false })
+    frames body
 
 -- a handler's frames hold its arguments when its body begins
 abbrev pub is_resolved_handler : Checked → Handler → Bool
 is_resolved_handler c h =
-    is_resolved_at (objects_at c h.guardian) c (what_gives h.gives) (record { ints = h.ints; texts = h.texts; truths = 0 }) h.body
+    is_resolved_at (objects_at c h.guardian) c (what_gives h.gives)
+    (record { ints = h.ints; texts = h.texts; truths = 0 }) h.body
     && (if is_some h.gives then body_ends h.body else true)
 
 abbrev pub is_resolved_client : Checked → Client → Bool
 is_resolved_client c client =
-    is_resolved_at (objects_at c client.home) c gives.Anything (record { ints = 0; texts = 0; truths = 0 }) client.body
+    is_resolved_at (objects_at c client.home) c gives.Anything
+    (record { ints = 0; texts = 0; truths = 0 }) client.body
 
 pub record IsResolved (c : Checked) : Type 0 where
   pub handlers : IsTrue (list_all (is_resolved_handler c) c.handlers)

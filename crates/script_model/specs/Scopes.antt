@@ -39,7 +39,8 @@ Scope = List Bound
 -- how many variables of a sort are bound
 abbrev pub count_bound : Sort → Scope → ℕ
 count_bound sort [] = 0
-count_bound sort (b ∷ earlier) = if same_sort b.sort sort then suc (count_bound sort earlier) else count_bound sort earlier
+count_bound sort (b ∷ earlier) =
+    if same_sort b.sort sort then suc (count_bound sort earlier) else count_bound sort earlier
 
 -- a variable's place is the number of variables of its sort that were bound before it
 pub record Variable : Type 0 where
@@ -49,7 +50,8 @@ pub record Variable : Type 0 where
 abbrev pub find : Scope → List ℕ → Option Variable
 find [] name = None
 find (b ∷ earlier) name =
-    if same_bytes b.name name then Some (record { sort = b.sort; place = count_bound b.sort earlier }) else find earlier name
+    if same_bytes b.name name
+    then Some (record { sort = b.sort; place = count_bound b.sort earlier }) else find earlier name
 
 -- a reply of this sort, bound at this place
 abbrev pub binding_of : Sort → Option ℕ → Binding
@@ -60,4 +62,5 @@ binding_of Unknown place = binding.Nothing
 
 -- a reply that is bound to a variable again
 abbrev pub binding_again : Sort → Variable → Binding
-binding_again sort v = if same_sort v.sort Unknown then binding_of sort None else binding_of sort (Some v.place)
+binding_again sort v =
+    if same_sort v.sort Unknown then binding_of sort None else binding_of sort (Some v.place)

@@ -22,7 +22,8 @@ use Rattle.script_model.specs.Signatures.{max_handlers, gives_in}
 
 -- ---- whether a body can end without a value
 
--- Only its last statement counts: a `return`, an `abort`, or an `if` whose two bodies end so, however they are formed otherwise.
+-- Only its last statement counts: a `return`, an `abort`, or an `if` whose two bodies end so, however they are formed
+-- otherwise.
 abbrev mutual
   pub ends : Data → Bool
   ends null = false
@@ -43,12 +44,15 @@ abbrev mutual
   is_end (number n) = false
   is_end (string s) = false
   is_end (array ds) = false
-  is_end (object ms) = (is_some (get_member (codes "return") ms) || is_some (get_member (codes "abort") ms)) || first_if_ends ms
+  is_end (object ms) =
+      (is_some (get_member (codes "return") ms) || is_some (get_member (codes "abort") ms))
+      || first_if_ends ms
 
   -- of members of one name the first counts, as for the reading
   pub first_if_ends : Members → Bool
   first_if_ends no_members = false
-  first_if_ends (member name d ms) = if same_bytes name (codes "if") then branches_end d else first_if_ends ms
+  first_if_ends (member name d ms) =
+      if same_bytes name (codes "if") then branches_end d else first_if_ends ms
 
   pub branches_end : Data → Bool
   branches_end null = false
@@ -122,7 +126,8 @@ pub record Site : Type 0 where
   pub guardians : Items
 
 abbrev pub context_at : Site → Gives → Context
-context_at site gives = record { objects = site.objects; guardians = site.guardians; gives = gives; in_top = false }
+context_at site gives =
+    record { objects = site.objects; guardians = site.guardians; gives = gives; in_top = false }
 
 -- a handler of this name, which is the one of this number in the script
 abbrev pub handler : Site → ℕ → List ℕ → Data → Read Handler
@@ -173,7 +178,8 @@ abbrev pub guardian : Items → ℕ → ℕ → Data → Read (List Content × L
 guardian guardians n first d = do
   parts ← the_two (codes "objects") (codes "handlers") d
   contents ← at (codes "objects") (objects parts.0)
-  hs ← at (codes "handlers") (handlers (record { guardian = n; objects = contents; guardians = guardians }) first parts.1)
+  hs ← at (codes "handlers")
+      (handlers (record { guardian = n; objects = contents; guardians = guardians }) first parts.1)
   reads (contents, hs)
 
 -- those of a guardian of this number after those of the guardians before it
@@ -205,7 +211,9 @@ abbrev pub client : Items → List (List Content) → Data → Read Client
 client guardians all d = do
   parts ← the_two (codes "home") (codes "body") d
   n ← at (codes "home") (the_guardian guardians parts.0)
-  body ← at (codes "body") (body_in (context_at (record { guardian = suc n; objects = objects_of all n; guardians = guardians }) Anything) [] parts.1)
+  body ← at (codes "body") (body_in
+      (context_at (record { guardian = suc n; objects = objects_of all n; guardians = guardians })
+      Anything) [] parts.1)
   reads (record { home = suc n; body = body })
 
 abbrev pub clients : Items → List (List Content) → Data → Read (List Client)

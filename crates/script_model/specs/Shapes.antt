@@ -45,12 +45,15 @@ are_named (member n d ms) = is_identifier n && are_named ms
 -- the members of these names, where an object has these and no other
 abbrev pub two_members : List ℕ → List ℕ → Members → Option (Data × Data)
 two_members m n ms = if has_only (m ∷ n ∷ []) ms
-    then option_and_then (λ d. option_map (λ e. (d, e)) (get_member n ms)) (get_member m ms) else None
+    then option_and_then (λ d. option_map (λ e. (d, e)) (get_member n ms)) (get_member m ms)
+    else None
 
 abbrev pub three_members : List ℕ → List ℕ → List ℕ → Members → Option (Data × Data × Data)
 three_members l m n ms =
     if has_only (l ∷ m ∷ n ∷ []) ms
-    then option_and_then (λ d. option_and_then (λ e. option_map (λ f. (d, e, f)) (get_member n ms)) (get_member m ms)) (get_member l ms)
+    then option_and_then
+    (λ d. option_and_then (λ e. option_map (λ f. (d, e, f)) (get_member n ms)) (get_member m ms))
+    (get_member l ms)
     else None
 
 abbrev pub the_two : List ℕ → List ℕ → Data → Read (Data × Data)
@@ -99,7 +102,8 @@ the_list least most d = do
 -- the kind that is named
 abbrev pub kind_named : List ℕ → Option Kind
 kind_named name =
-    if same_bytes name (kind_name kind.Int) then Some kind.Int else (if same_bytes name (kind_name kind.Text) then Some kind.Text else None)
+    if same_bytes name (kind_name kind.Int) then Some kind.Int
+    else (if same_bytes name (kind_name kind.Text) then Some kind.Text else None)
 
 abbrev pub kind_in : Data → Option Kind
 kind_in d = option_and_then kind_named (as_str d)

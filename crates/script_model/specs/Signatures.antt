@@ -24,22 +24,26 @@ handlers_in d = unwrap_or (option_and_then as_object (get (codes "handlers") d))
 abbrev pub place_among : ℕ → List ℕ → Members → ℕ
 place_among zero name ms = 0
 place_among (suc most) name no_members = 0
-place_among (suc most) name (member n d ms) = if same_bytes n name then 0 else suc (place_among most name ms)
+place_among (suc most) name (member n d ms) =
+    if same_bytes n name then 0 else suc (place_among most name ms)
 
 -- how many handlers the first guardians have, each counted no further than a script may have them
 abbrev pub handlers_before : ℕ → Items → ℕ
 handlers_before zero guardians = 0
 handlers_before (suc n) no_items = 0
-handlers_before (suc n) (item d ds) = min (members_len (handlers_in d)) max_handlers + handlers_before n ds
+handlers_before (suc n) (item d ds) =
+    min (members_len (handlers_in d)) max_handlers + handlers_before n ds
 
 -- the number of a handler among those of the script; a script in which it is counted wrongly has too many handlers
 abbrev pub handler_number : Items → ℕ → List ℕ → ℕ
 handler_number guardians n name =
-    handlers_before n guardians + place_among max_handlers name (unwrap_or (option_map handlers_in (get_item n guardians)) no_members)
+    handlers_before n guardians + place_among max_handlers name
+    (unwrap_or (option_map handlers_in (get_item n guardians)) no_members)
 
 -- the document of a handler of this name
 abbrev pub handler_found : Items → ℕ → List ℕ → Option Data
-handler_found guardians n name = option_and_then (λ d. get_member name (handlers_in d)) (get_item n guardians)
+handler_found guardians n name =
+    option_and_then (λ d. get_member name (handlers_in d)) (get_item n guardians)
 
 -- its parameters' documents, where they are a list
 abbrev pub params_in : Data → Option Items
@@ -51,14 +55,16 @@ param_kind d = option_and_then (λ p. kind_in p.1) (option_and_then two_items (a
 
 -- the kind that the argument at this index is to have, where the handler says it
 abbrev pub wanted_kind : Data → ℕ → Option Kind
-wanted_kind handler i = option_and_then (λ ds. option_and_then param_kind (get_item i ds)) (params_in handler)
+wanted_kind handler i =
+    option_and_then (λ ds. option_and_then param_kind (get_item i ds)) (params_in handler)
 
 -- whether a handler takes so many arguments, as far as it says
 abbrev pub takes_count : Data → ℕ → Bool
 takes_count handler n = unwrap_or (option_map (λ ds. items_len ds == n) (params_in handler)) true
 
 abbrev pub gives_named : List ℕ → Option Gives
-gives_named name = if same_bytes name (codes "none") then Some Nothing else option_map Value (kind_named name)
+gives_named name =
+    if same_bytes name (codes "none") then Some Nothing else option_map Value (kind_named name)
 
 abbrev pub gives_in : Data → Option Gives
 gives_in d = option_and_then gives_named (as_str d)

@@ -55,7 +55,8 @@ bound_to scope may_signal sort name (Some v) = do
   reads (binding_again sort v, scope)
 bound_to scope may_signal sort name None = do
   ask (not may_signal) is.Unbound
-  reads (binding_of sort (Some (count_bound sort scope)), record { name = name; sort = sort } ∷ scope)
+  reads
+      (binding_of sort (Some (count_bound sort scope)), record { name = name; sort = sort } ∷ scope)
 
 abbrev pub the_name : Data → Read (List ℕ)
 the_name d = do
@@ -72,11 +73,13 @@ into_in scope may_signal (Some sort) (Some d) = at (codes "into") (do
 
 -- the `into` of an operation or a call
 abbrev pub bind : Scope → Option Sort → Members → Read (Binding × Scope)
-bind scope sort ms = into_in scope (is_some (get_member (codes "signals") ms)) sort (get_member (codes "into") ms)
+bind scope sort ms =
+    into_in scope (is_some (get_member (codes "signals") ms)) sort (get_member (codes "into") ms)
 
 -- a value is bound only where there is one
 abbrev pub ask_value : Members → Bool → Read (Unit {0})
-ask_value ms gives_nothing = ask (not (gives_nothing && is_some (get_member (codes "into") ms))) is.Flow
+ask_value ms gives_nothing =
+    ask (not (gives_nothing && is_some (get_member (codes "into") ms))) is.Flow
 
 -- the body that runs on a signal, where there is one
 abbrev pub signals_in : (Data → Read Body) → Option Data → Read (Option Body)
@@ -163,8 +166,10 @@ call_sorted guardians scope d = do
 -- the document of the handler that is called, where there is one
 abbrev pub callee : Items → Data → Option Data
 callee guardians d =
-    option_and_then (λ parts. option_and_then (λ z. option_and_then (λ n. option_and_then (λ name. handler_found guardians n name)
-    (as_str parts.1)) (guardian_index (items_len guardians) z)) (int_of parts.0)) (option_and_then three_items (as_array d))
+    option_and_then (λ parts. option_and_then
+    (λ z. option_and_then (λ n. option_and_then (λ name. handler_found guardians n name)
+    (as_str parts.1)) (guardian_index (items_len guardians) z)) (int_of parts.0))
+    (option_and_then three_items (as_array d))
 
 abbrev pub call_says_nothing : Option Data → Bool
 call_says_nothing None = false
@@ -173,19 +178,22 @@ call_says_nothing (Some handler) = is_none (sort_given (handler_gives handler))
 abbrev pub call_gives_nothing : Items → Data → Bool
 call_gives_nothing guardians d = call_says_nothing (callee guardians d)
 
-abbrev pub call_statement : BodyReading → Context → Scope → Members → Data → Read (Statement × Scope)
+abbrev pub call_statement : BodyReading → Context → Scope → Members → Data
+    → Read (Statement × Scope)
 call_statement inner cx scope ms d = do
   ask_value ms (call_gives_nothing cx.guardians d)
   c ← at (codes "call") (call_sorted cx.guardians scope d)
   b ← bind scope c.sort ms
   s ← signals inner cx b.1 ms
-  reads (Call (record { handler = c.handler; ints = c.arguments.ints; texts = c.arguments.texts; binding = b.0 }) s, b.1)
+  reads
+      (Call (record { handler = c.handler; ints = c.arguments.ints; texts = c.arguments.texts; binding = b.0 }) s, b.1)
 
 -- ---- statements with bodies
 
 -- whether an arm is a nested top action
 abbrev pub arm_named : List ℕ → Option Bool
-arm_named name = if same_bytes name (codes "sub") then Some false else (if same_bytes name (codes "top") then Some true else None)
+arm_named name = if same_bytes name (codes "sub") then Some false
+    else (if same_bytes name (codes "top") then Some true else None)
 
 abbrev pub is_top_arm : Data → Option Bool
 is_top_arm d = option_and_then arm_named (as_str d)
@@ -273,7 +281,9 @@ returned scope d = do
 
 abbrev pub return_in : Context → Scope → Data → Read Statement
 return_in cx scope d = do
-  ask (not cx.in_top && (if is_null d then may_return_nothing cx.gives else may_return cx.gives (sort_of scope d))) is.Flow
+  ask (not cx.in_top
+      && (if is_null d then may_return_nothing cx.gives else may_return cx.gives (sort_of scope d)))
+      is.Flow
   e ← at (codes "return") (returned scope d)
   reads (Return e)
 
@@ -294,19 +304,25 @@ by_member names ms (Some d) read otherwise = ask (has_only names ms) is.Shape >>
 -- an object is a statement by one of eight members
 abbrev pub plain_statement : BodyReading → Context → Scope → Members → Read (Statement × Scope)
 plain_statement inner cx scope ms =
-    by_member (codes "if" ∷ []) ms (get_member (codes "if") ms) (λ d. unbinding scope (at (codes "if") (if_in inner cx scope d)))
-    (by_member (codes "repeat" ∷ []) ms (get_member (codes "repeat") ms) (λ d. unbinding scope (at (codes "repeat") (repeat_in inner cx scope d)))
-    (by_member (codes "abort" ∷ []) ms (get_member (codes "abort") ms) (λ d. unbinding scope (at (codes "abort") (abort_in d)))
-    (by_member (codes "return" ∷ []) ms (get_member (codes "return") ms) (λ d. unbinding scope (return_in cx scope d))
-    (fault is.Shape))))
+    by_member (codes "if" ∷ []) ms (get_member (codes "if") ms)
+    (λ d. unbinding scope (at (codes "if") (if_in inner cx scope d)))
+    (by_member (codes "repeat" ∷ []) ms (get_member (codes "repeat") ms)
+    (λ d. unbinding scope (at (codes "repeat") (repeat_in inner cx scope d)))
+    (by_member (codes "abort" ∷ []) ms (get_member (codes "abort") ms)
+    (λ d. unbinding scope (at (codes "abort") (abort_in d)))
+    (by_member (codes "return" ∷ []) ms (get_member (codes "return") ms)
+    (λ d. unbinding scope (return_in cx scope d)) (fault is.Shape))))
 
 abbrev pub statement_of : BodyReading → Context → Scope → Members → Read (Statement × Scope)
 statement_of inner cx scope ms =
-    by_member (codes "op" ∷ codes "into" ∷ codes "signals" ∷ []) ms (get_member (codes "op") ms) (op_statement inner cx scope ms)
-    (by_member (codes "call" ∷ codes "into" ∷ codes "signals" ∷ []) ms (get_member (codes "call") ms) (call_statement inner cx scope ms)
-    (by_member (codes "coenter" ∷ []) ms (get_member (codes "coenter") ms) (λ d. unbinding scope (at (codes "coenter") (coenter inner cx scope d)))
-    (by_member (codes "topaction" ∷ codes "signals" ∷ []) ms (get_member (codes "topaction") ms) (λ d. unbinding scope (top_action inner cx scope ms d))
-    (plain_statement inner cx scope ms))))
+    by_member (codes "op" ∷ codes "into" ∷ codes "signals" ∷ []) ms (get_member (codes "op") ms)
+    (op_statement inner cx scope ms)
+    (by_member (codes "call" ∷ codes "into" ∷ codes "signals" ∷ []) ms
+    (get_member (codes "call") ms) (call_statement inner cx scope ms)
+    (by_member (codes "coenter" ∷ []) ms (get_member (codes "coenter") ms)
+    (λ d. unbinding scope (at (codes "coenter") (coenter inner cx scope d)))
+    (by_member (codes "topaction" ∷ codes "signals" ∷ []) ms (get_member (codes "topaction") ms)
+    (λ d. unbinding scope (top_action inner cx scope ms d)) (plain_statement inner cx scope ms))))
 
 abbrev pub statement : BodyReading → Context → Scope → Data → Read (Statement × Scope)
 statement inner cx scope d = the_object d >>= statement_of inner cx scope

@@ -2,8 +2,8 @@ use crate::statement::Statement;
 use sqlite_items::Items;
 use values::{Content, Identifier, Kind};
 
-/// A handler: its name, the guardian that has it, numbered from 1, how many ints and texts it takes, the kind of what it gives
-/// back, if it gives a value, and its body.
+/// A handler: its name, the guardian that has it, numbered from 1, how many ints and texts it takes, the kind of what
+/// it gives back, if it gives a value, and its body.
 #[derive(Drop)]
 pub struct Handler {
     pub name: Identifier,

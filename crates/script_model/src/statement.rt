@@ -22,9 +22,9 @@ pub struct ObjectCall {
     pub binding: Binding,
 }
 
-/// A call of a handler, which is its number among those of the whole script, from 0. The arguments are as many ints and
-/// texts as the handler takes; what they give stands in its frames when its body begins. The binding is of the kind that
-/// the handler gives, and is `Nothing` where it gives no value.
+/// A call of a handler, which is its number among those of the whole script, from 0. The arguments are as many ints
+/// and texts as the handler takes; what they give stands in its frames when its body begins. The binding is of the
+/// kind that the handler gives, and is `Nothing` where it gives no value.
 #[derive(Drop)]
 pub struct HandlerCall {
     pub handler: u32,

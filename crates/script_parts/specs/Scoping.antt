@@ -1,4 +1,5 @@
--- The variables that are bound, as they are kept: a list of names, the newest last, a map from names to variables, and counts.
+-- The variables that are bound, as they are kept: a list of names, the newest last, a map from names to variables,
+-- and counts.
 use Rattle.std.specs.Prelude.{◌≡◌, ℕ, List, [], ◌∷◌, None, option_map}
 use Rattle.std.specs.Ordering.{nat_cmp}
 use Rattle.std.specs.Cmp.Lexicographic.{slice_cmp}
@@ -42,6 +43,8 @@ Variables = BTreeMap (Bor (List ℕ)) variable.Variable
 
 -- the map and the counts are those of the scope
 pub record IsKept (scope : Scope) (variables : Variables) (counts : Counts) : Type 0 where
-  pub found : (name : List ℕ) → option_map variable_of (get_by (λ k. slice_cmp nat_cmp name k.now) variables) ≡ find scope name
+  pub found : (name : List ℕ)
+      → option_map variable_of (get_by (λ k. slice_cmp nat_cmp name k.now) variables)
+      ≡ find scope name
   pub counted : (sort : Sort) → count_of counts sort ≡ count_bound sort scope
   pub fresh : IsFresh scope

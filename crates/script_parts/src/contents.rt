@@ -95,7 +95,8 @@ fn ask_names(
     most: usize,
     members: &Map<String, Json>,
 ) -> Result<(), ScriptFault>
-    ensures { Answers (spec.ask_names most (members_view members.now.entries) (pointer place.now)) result }
+    ensures { Answers (spec.ask_names most (members_view members.now.entries) (pointer place.now))
+        result }
 {
     place.ask(alloc, are_named(members), FaultKind::Shape)?;
     place.ask(alloc, is_count(members, most), FaultKind::Limit)
@@ -107,7 +108,8 @@ fn fields_in<'x>(
     members: &'x Map<String, Json>,
 ) -> Result<Vec<Field>, ScriptFault>
     requires { are_named (members_view members.now.entries) ≡ true }
-    ensures read { AnswersBy (λ v. v.items) (spec.fields_in (members_view members.now.entries) (pointer place.now)) result }
+    ensures read { AnswersBy (λ v. v.items)
+        (spec.fields_in (members_view members.now.entries) (pointer place.now)) result }
     ensures rising { IfOk result (λ v. HasRisingNames v.items) }
 {
     let mut fields = Vec::with_capacity(alloc, members.len())?;
@@ -155,7 +157,8 @@ fn items_in(
     kind: Kind,
     json: &Json,
 ) -> Result<Vec<Value>, ScriptFault>
-    ensures { AnswersBy (λ v. v.items) (spec.items_in kind (view json.now) (pointer place.now)) result }
+    ensures { AnswersBy (λ v. v.items)
+        (spec.items_in kind (view json.now) (pointer place.now)) result }
 {
     let documents = list(alloc, place, json, 0, MAX_ITEMS)?;
     let mut items = Vec::with_capacity(alloc, documents.len())?;
@@ -183,7 +186,8 @@ fn array_in(alloc: Global, place: &Place<'_>, json: &Json) -> Result<Content, Sc
 }
 
 fn tags_in<'x>(alloc: Global, place: &'x Place<'x>, json: &'x Json) -> Result<Vec<Tag>, ScriptFault>
-    ensures read { AnswersBy (λ v. v.items) (spec.tag_list (view json.now) (pointer place.now)) result }
+    ensures read { AnswersBy (λ v. v.items)
+        (spec.tag_list (view json.now) (pointer place.now)) result }
     ensures form { IfOk result (λ v. HasTagsForm v.items) }
     ensures named { IfOk result (λ v. AllByRecursion (λ t. IsIdentifier t.name) v.items) }
 {

@@ -93,7 +93,8 @@ fn variable(
     scope: &Scope<'_>,
     json: &Json,
 ) -> Result<Variable, ScriptFault>
-    ensures { AnswersBy variable_of (spec.variable scope.now (view json.now) (pointer place.now)) result }
+    ensures { AnswersBy variable_of
+        (spec.variable scope.now (view json.now) (pointer place.now)) result }
 {
     let name = string(alloc, &place.member("var"), json)?;
     match scope.find(name) {
@@ -181,7 +182,8 @@ fn int_member(
     name: &str,
     json: &Json,
 ) -> Result<IntExpr, ScriptFault>
-    ensures { Answers (spec.int_member scope.now name.now (view json.now) (pointer place.now)) result }
+    ensures { Answers (spec.int_member scope.now name.now (view json.now) (pointer place.now))
+        result }
 {
     if name == "var" {
         int_variable(alloc, place, scope, json)
@@ -240,7 +242,8 @@ fn text_member(
     name: &str,
     json: &Json,
 ) -> Result<TextExpr, ScriptFault>
-    ensures { Answers (spec.text_member scope.now name.now (view json.now) (pointer place.now)) result }
+    ensures { Answers (spec.text_member scope.now name.now (view json.now) (pointer place.now))
+        result }
 {
     if name == "var" {
         text_variable(alloc, place, scope, json)
@@ -255,7 +258,8 @@ fn text_member(
 
 /// A sum stands where a text is wanted, or something that is no sum either.
 fn no_text(alloc: Global, place: &Place<'_>, inside: &Place<'_>, operands: &Json) -> ScriptFault
-    ensures { result ≢ ScriptFault.Memory → result ≡ spec.no_text (is_pair (view operands.now)) (pointer place.now) (pointer inside.now) }
+    ensures { result ≢ ScriptFault.Memory → result
+        ≡ spec.no_text (is_pair (view operands.now)) (pointer place.now) (pointer inside.now) }
 {
     if is_pair(operands) {
         place.fault(alloc, FaultKind::Kind)
@@ -274,7 +278,8 @@ pub fn expr_of_kind(
     kind: Kind,
     json: &Json,
 ) -> Result<Expr, ScriptFault>
-    ensures { Answers (spec.expr_of_kind kind scope.now (view json.now) (pointer place.now)) result }
+    ensures { Answers (spec.expr_of_kind kind scope.now (view json.now) (pointer place.now))
+        result }
 {
     match kind {
         Kind::Int => Ok(Expr::Int(int_expr(alloc, place, scope, json)?)),
@@ -319,7 +324,9 @@ fn same_texts(
     first: &Json,
     second: &Json,
 ) -> Result<Condition, ScriptFault>
-    ensures { Answers (spec.same_texts scope.now (view first.now, view second.now) (pointer place.now)) result }
+    ensures { Answers
+        (spec.same_texts scope.now (view first.now, view second.now) (pointer place.now))
+        result }
 {
     let x = text_expr(alloc, &(&*place).item(0), scope, first)?;
     let y = text_expr(alloc, &(&*place).item(1), scope, second)?;
@@ -333,7 +340,9 @@ fn same_ints(
     first: &Json,
     second: &Json,
 ) -> Result<Condition, ScriptFault>
-    ensures { Answers (spec.same_ints scope.now (view first.now, view second.now) (pointer place.now)) result }
+    ensures { Answers
+        (spec.same_ints scope.now (view first.now, view second.now) (pointer place.now))
+        result }
 {
     let x = int_expr(alloc, &(&*place).item(0), scope, first)?;
     let y = int_expr(alloc, &(&*place).item(1), scope, second)?;
@@ -379,7 +388,8 @@ fn condition_member(
     name: &str,
     json: &Json,
 ) -> Result<Condition, ScriptFault>
-    ensures { Answers (spec.condition_member scope.now name.now (view json.now) (pointer place.now)) result }
+    ensures { Answers (spec.condition_member scope.now name.now (view json.now) (pointer place.now))
+        result }
 {
     if name == "var" {
         truth_variable(alloc, place, scope, json)

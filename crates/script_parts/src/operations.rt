@@ -246,7 +246,8 @@ fn object_numbered<'c>(
     objects: &'c [Content],
     json: &Json,
 ) -> Result<(u32, &'c Content), ScriptFault>
-    ensures { AnswersBy (λ p. (p.0, p.1.now)) (spec.the_object_numbered objects.now (view json.now) (pointer place.now)) result }
+    ensures { AnswersBy (λ p. (p.0, p.1.now))
+        (spec.the_object_numbered objects.now (view json.now) (pointer place.now)) result }
 {
     let number = int(alloc, place, json)?;
     if 1 <= number {
@@ -278,7 +279,8 @@ fn has_arity(name: Option<OpName>, count: usize) -> bool
 
 /// The object, the name and the arguments, as they stand in an operation's list.
 fn op_parts(json: &Json) -> Option<(&Json, &Json, &[Json])>
-    ensures { option_map (λ p. (view p.0.now, view p.1.now, items_view p.2.now)) result ≡ spec.op_parts (view json.now) }
+    ensures { option_map (λ p. (view p.0.now, view p.1.now, items_view p.2.now)) result
+        ≡ spec.op_parts (view json.now) }
 {
     match json.as_array()?.as_slice() {
         [object, name, documents @ ..] => Some((object, name, documents)),
@@ -297,7 +299,8 @@ pub fn operation(
     scope: &Scope<'_>,
     json: &Json,
 ) -> Result<(u32, Operation, Option<Sort>), ScriptFault>
-    ensures { AnswersBy (λ p. (p.0, (p.1, p.2))) (spec.operation objects.now scope.now (view json.now) (pointer place.now)) result }
+    ensures { AnswersBy (λ p. (p.0, (p.1, p.2)))
+        (spec.operation objects.now scope.now (view json.now) (pointer place.now)) result }
 {
     let Some((object, name, documents)) = op_parts(json) else {
         return Err(place.fault(alloc, FaultKind::Shape));

@@ -67,7 +67,8 @@ impl Counts {
     }
 
     fn set(&mut self, sort: Sort, count: u32)
-        ensures { (t : Sort) → count_of self.new t ≡ (if same_sort sort t then count else count_of self.old t) }
+        ensures { (t : Sort)
+            → count_of self.new t ≡ (if same_sort sort t then count else count_of self.old t) }
     {
         match sort {
             Sort::Int => self.ints = count,
@@ -121,7 +122,8 @@ impl<'j> Scope<'j> {
     /// binds nothing.
     pub fn bind(&mut self, name: &'j str, sort: Sort) -> Result<u32, AllocError>
         requires { find self.old name.now ≡ None }
-        ensures bound { IfOk result (λ _. self.new ≡ record { name = name.now; sort = sort } ∷ self.old) }
+        ensures bound { IfOk result
+            (λ _. self.new ≡ record { name = name.now; sort = sort } ∷ self.old) }
         ensures place { IfOk result (λ place. place ≡ count_bound sort self.old) }
         ensures refused { OnErr result (self.new ≡ self.old) }
     {

@@ -19,7 +19,8 @@ pub fn object<'j>(
     place: &Place<'_>,
     json: &'j Json,
 ) -> Result<&'j Map<String, Json>, ScriptFault>
-    ensures { AnswersBy (λ m. members_view m.now.entries) (the_object (view json.now) (pointer place.now)) result }
+    ensures { AnswersBy (λ m. members_view m.now.entries)
+        (the_object (view json.now) (pointer place.now)) result }
 {
     match json.as_object() {
         Some(members) => Ok(members),
@@ -33,7 +34,8 @@ pub fn array<'j>(
     place: &Place<'_>,
     json: &'j Json,
 ) -> Result<&'j [Json], ScriptFault>
-    ensures { AnswersBy (λ v. items_view v.now) (the_array (view json.now) (pointer place.now)) result }
+    ensures { AnswersBy (λ v. items_view v.now)
+        (the_array (view json.now) (pointer place.now)) result }
 {
     match json.as_array() {
         Some(items) => Ok(items.as_slice()),
@@ -60,7 +62,8 @@ pub fn int(alloc: Global, place: &Place<'_>, json: &Json) -> Result<i64, ScriptF
 
 /// The member of this name, if there is one.
 pub fn member<'j>(members: &'j Map<String, Json>, name: &str) -> Option<&'j Json>
-    ensures { option_map (λ v. view v.now) result ≡ get_member name.now (members_view members.now.entries) }
+    ensures { option_map (λ v. view v.now) result
+        ≡ get_member name.now (members_view members.now.entries) }
 {
     members.get(name)
 }
@@ -91,7 +94,8 @@ pub fn two_members<'j>(
     first: &str,
     second: &str,
 ) -> Result<(&'j Json, &'j Json), ScriptFault>
-    ensures { AnswersBy (λ p. (view p.0.now, view p.1.now)) (the_two first.now second.now (view json.now) (pointer place.now)) result }
+    ensures { AnswersBy (λ p. (view p.0.now, view p.1.now))
+        (the_two first.now second.now (view json.now) (pointer place.now)) result }
 {
     let members = object(alloc, place, json)?;
     if has_only(members, &[first, second]) {
@@ -111,7 +115,8 @@ pub fn three_members<'j>(
     names: [&str; 3],
 ) -> Result<(&'j Json, &'j Json, &'j Json), ScriptFault>
     ensures { (l m n : List ℕ) → map (λ s. s.now) names.entry ≡ l ∷ m ∷ n ∷ []
-        → AnswersBy (λ p. (view p.0.now, view p.1.now, view p.2.now)) (the_three l m n (view json.now) (pointer place.now)) result }
+        → AnswersBy (λ p. (view p.0.now, view p.1.now, view p.2.now))
+        (the_three l m n (view json.now) (pointer place.now)) result }
 {
     let members = object(alloc, place, json)?;
     if has_only(members, &names) {
@@ -134,7 +139,8 @@ pub fn pair<'j>(
     place: &Place<'_>,
     json: &'j Json,
 ) -> Result<(&'j Json, &'j Json), ScriptFault>
-    ensures { AnswersBy (λ p. (view p.0.now, view p.1.now)) (the_pair (view json.now) (pointer place.now)) result }
+    ensures { AnswersBy (λ p. (view p.0.now, view p.1.now))
+        (the_pair (view json.now) (pointer place.now)) result }
 {
     match array(alloc, place, json)? {
         [first, second] => Ok((first, second)),
@@ -148,7 +154,8 @@ pub fn triple<'j>(
     place: &Place<'_>,
     json: &'j Json,
 ) -> Result<(&'j Json, &'j Json, &'j Json), ScriptFault>
-    ensures { AnswersBy (λ p. (view p.0.now, view p.1.now, view p.2.now)) (the_triple (view json.now) (pointer place.now)) result }
+    ensures { AnswersBy (λ p. (view p.0.now, view p.1.now, view p.2.now))
+        (the_triple (view json.now) (pointer place.now)) result }
 {
     match array(alloc, place, json)? {
         [first, second, third] => Ok((first, second, third)),
@@ -165,7 +172,8 @@ pub fn list<'j>(
     least: usize,
     most: usize,
 ) -> Result<&'j [Json], ScriptFault>
-    ensures { AnswersBy (λ v. items_view v.now) (the_list least most (view json.now) (pointer place.now)) result }
+    ensures { AnswersBy (λ v. items_view v.now)
+        (the_list least most (view json.now) (pointer place.now)) result }
 {
     let items = array(alloc, place, json)?;
     if is_within(items.len(), least, most) {
@@ -183,7 +191,8 @@ pub(crate) fn is_within(count: usize, least: usize, most: usize) -> bool
 
 /// The one member of an object that has no other, if it is such.
 pub(crate) fn only_member(json: &Json) -> Option<(&str, &Json)>
-    ensures { MatchOption result (only_member (view json.now) ≡ None) (λ p. only_member (view json.now) ≡ Some (p.0.now, view p.1.now)) }
+    ensures { MatchOption result (only_member (view json.now) ≡ None)
+        (λ p. only_member (view json.now) ≡ Some (p.0.now, view p.1.now)) }
 {
     let members = json.as_object()?;
     if members.len() != 1 {

@@ -17,7 +17,8 @@ use Rattle.script_engine.specs.Running.{Bases, TellsRun, run_text}
 -- the bases of the first so many objects at g, each by its number
 abbrev pub first_bases : World → ℕ → ℕ → List (ℕ × Content)
 first_bases w g zero = []
-first_bases w g (suc n) = first_bases w g n ++ (suc n, base_of (opening_in w.lists) (record { guardian = g; number = suc n }) w.past) ∷ []
+first_bases w g (suc n) = first_bases w g n
+    ++ (suc n, base_of (opening_in w.lists) (record { guardian = g; number = suc n }) w.past) ∷ []
 
 -- those of all objects at g
 abbrev pub bases_at : World → ℕ → List (ℕ × Content)
@@ -44,11 +45,13 @@ past_of_run script setup = (serial_run script (new_world setup)).world.past
 -- the outcome is that of the serial run
 abbrev pub ComesSerially : Checked → Setup → List ClientEnd → Bases → List Event → Type 0
 ComesSerially script setup ends bases past =
-    (ends ≡ (serial_run script (new_world setup)).ends) × (bases ≡ bases_of_run script setup) × (past ≡ past_of_run script setup)
+    (ends ≡ (serial_run script (new_world setup)).ends) × (bases ≡ bases_of_run script setup)
+    × (past ≡ past_of_run script setup)
 
 -- the text of the serial run: how the clients ended, and these bases
 abbrev pub text_of_run : Checked → Setup → List ℕ
-text_of_run script setup = run_text (serial_run script (new_world setup)).ends (bases_of_run script setup)
+text_of_run script setup =
+    run_text (serial_run script (new_world setup)).ends (bases_of_run script setup)
 
 -- the text of its trace
 abbrev pub trace_of_run : Checked → Setup → List ℕ
@@ -57,4 +60,5 @@ trace_of_run script setup = trace_text setup (histories_of (fresh setup) (past_o
 -- No other texts are written.
 abbrev pub OneText : Type 0
 OneText = (script : Checked) (setup : Setup) (trace text : List ℕ)
-    → TellsRun ComesSerially script setup trace text ↔ ((trace ≡ trace_of_run script setup) × (text ≡ text_of_run script setup))
+    → TellsRun ComesSerially script setup trace text
+    ↔ ((trace ≡ trace_of_run script setup) × (text ≡ text_of_run script setup))

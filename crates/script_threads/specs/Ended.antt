@@ -12,4 +12,5 @@ has_ended_there there a = is_begun a there && is_ended a there
 
 -- so has each that these events began
 abbrev pub have_ended_there : List Event → List Stamped → Bool
-have_ended_there there history = list_all (λ s. list_all (has_ended_there there) (names_begun s.1.answer)) history
+have_ended_there there history =
+    list_all (λ s. list_all (has_ended_there there) (names_begun s.1.answer)) history

@@ -30,7 +30,8 @@ begun_in lists = record { lists = lists; past = [] }
 
 -- All threads made one run, which is served. Each client came to its end by steps of its own, and all steps are of the
 -- clients. Each action that was begun has ended. The bases are those of that run.
-pub record ComesOf (script : Checked) (lists : OpeningLists) (ends : List ClientEnd) (bases : Bases) (past : List Event) : Type 0 where
+pub record ComesOf (script : Checked) (lists : OpeningLists) (ends : List ClientEnd) (bases : Bases)
+    (past : List Event) : Type 0 where
   pub served : IsServed (opening_in lists) past
   pub receipts : List (List Event)
   pub did : AllDid script.clients ends receipts
@@ -60,21 +61,24 @@ pub record StandsAt (w : World) (g : ℕ) (guardian : InParts PlainStable) : Typ
   pub stands : IsWhole plain_view guardian (standing (opening_in w.lists) w.past g)
 
 -- so does each guardian of the setup
-pub record AreAt (w : World) (setup : Setup) (guardians : List (Ended (InParts PlainStable))) : Type 0 where
+pub record AreAt (w : World) (setup : Setup)
+    (guardians : List (Ended (InParts PlainStable))) : Type 0 where
   pub setup_is : w.lists.setup ≡ setup
   pub count : length guardians ≡ length setup
-  pub each : (i : ℕ) (x : Ended (InParts PlainStable)) → slice_get guardians i ≡ Some x → StandsAt w (i + 1) x.value
+  pub each : (i : ℕ) (x : Ended (InParts PlainStable)) → slice_get guardians i ≡ Some x
+      → StandsAt w (i + 1) x.value
 
 abbrev pub ComesInThreads : Checked → Setup → List ClientEnd → Bases → List Event → Type 0
 ComesInThreads script setup ends bases past = ComesOf script (fresh_lists setup) ends bases past
 
--- out of memory, a guardian that has drawn all its stamps, receipts that are not those of all events, an action that has
--- not ended, or a time that is over
+-- out of memory, a guardian that has drawn all its stamps, receipts that are not those of all events, an action that
+-- has not ended, or a time that is over
 abbrev pub IsOfThreads : Fault → Type 0
 IsOfThreads fault =
     (fault ≡ Memory) ⊎ ((fault ≡ Stamps) ⊎ ((fault ≡ Receipts) ⊎ ((fault ≡ Open) ⊎ (fault ≡ Time))))
 
 -- Each client says committed exactly if its top action has committed in that run.
 abbrev pub EndsAreTold : Type 0
-EndsAreTold = (script : Checked) (lists : OpeningLists) (ends : List ClientEnd) (bases : Bases) (past : List Event)
+EndsAreTold = (script : Checked) (lists : OpeningLists) (ends : List ClientEnd) (bases : Bases)
+    (past : List Event)
     → ComesOf script lists ends bases past → AllByRecursion (IsEnd past) ends

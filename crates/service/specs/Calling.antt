@@ -60,8 +60,8 @@ LeavesStores leaves step old new (Waits names) = leaves step None old new
 LeavesStores leaves step old new (Failed fault) = (new ≡ old) ⊎ leaves step (Some fault) old new
 
 -- The call made this step, or it says why the step did not happen, and then nothing has.
-pub record IsCall {T M : Type 0} (run : M → World) (leaves : Leaves M) (step : Step) (Shows : T → Answer → Type 0) (old new : M)
-    (result : Result T CallFault) : Type 0 where
+pub record IsCall {T M : Type 0} (run : M → World) (leaves : Leaves M) (step : Step)
+    (Shows : T → Answer → Type 0) (old new : M) (result : Result T CallFault) : Type 0 where
   pub gives : Gives Shows (answer_of (opening_in (run old).lists) step (run old).past) result
   pub made : OnOk result (IsMade run leaves step old new)
   pub same : OnErr result (run new ≡ run old)

@@ -23,7 +23,8 @@ module _ {M : Type 0} (run : M → World) (leaves : Leaves M) where
   -- so did these, one after another
   abbrev pub HaveHappened : List Step → M → M → Type 0
   HaveHappened [] old new = new ≡ old
-  HaveHappened (step ∷ more) old new = (next : M) × HasHappened step old next × HaveHappened more next new
+  HaveHappened (step ∷ more) old new = (next : M) × HasHappened step old next
+      × HaveHappened more next new
 
   -- Of these steps the first ones happened. The next one did not, for this reason.
   pub record AreCutShort (all : List Step) (old new : M) (fault : CallFault) : Type 0 where
@@ -33,7 +34,8 @@ module _ {M : Type 0} (run : M → World) (leaves : Leaves M) where
     pub parts : all ≡ done ++ next ∷ rest
     pub before : M
     pub happened : HaveHappened done old before
-    pub gives : Gives {T = Unit {0}} (λ _ answer. ⊥) (answer_of (opening_in (run before).lists) next (run before).past) (Err fault)
+    pub gives : Gives {T = Unit {0}} (λ _ answer. ⊥)
+        (answer_of (opening_in (run before).lists) next (run before).past) (Err fault)
     pub same : run new ≡ run before
     pub stores : LeavesStores leaves next before new fault
 
@@ -54,14 +56,16 @@ verdict false top = steps.Abort top
 
 -- the top action closes, these guardians vote, it is decided or aborted, and these are told
 abbrev pub ending : Bool → Name → List ℕ → List ℕ → List Step
-ending committed top polled told = steps.Close top ∷ prepares top polled ++ verdict committed top ∷ tells top told
+ending committed top polled told =
+    steps.Close top ∷ prepares top polled ++ verdict committed top ∷ tells top told
 
 module _ {M : Type 0} (run : M → World) (leaves : Leaves M) where
   -- the vote of this guardian, after these steps, is no
   pub record VotesNo (top : Name) (before : List Step) (g : ℕ) (old : M) : Type 0 where
     pub mid : M
     pub happened : HaveHappened run leaves before old mid
-    pub no : answer_of (opening_in (run mid).lists) (steps.Prepare g top) (run mid).past ≡ answers.VoteNo
+    pub no :
+        answer_of (opening_in (run mid).lists) (steps.Prepare g top) (run mid).past ≡ answers.VoteNo
 
   -- The guardians voted up to the first no, or all of them.
   pub record ArePolled (top : Name) (guardians : List ℕ) (yes : Bool) (old new : M) : Type 0 where
@@ -70,21 +74,25 @@ module _ {M : Type 0} (run : M → World) (leaves : Leaves M) where
     pub parts : guardians ≡ polled ++ rest
     pub all : yes ≡ true → rest ≡ []
     pub happened : HaveHappened run leaves (prepares top polled) old new
-    pub no : yes ≡ false → (front : List ℕ) × (g : ℕ) × (polled ≡ front ++ g ∷ []) × VotesNo top (prepares top front) g old
+    pub no : yes ≡ false → (front : List ℕ) × (g : ℕ) × (polled ≡ front ++ g ∷ [])
+        × VotesNo top (prepares top front) g old
 
   -- The top action was ended: decided if all voted yes, and else aborted. Each participant was told.
-  pub record IsEnded (top : Name) (participants : List ℕ) (committed : Bool) (old new : M) : Type 0 where
+  pub record IsEnded (top : Name) (participants : List ℕ) (committed : Bool)
+      (old new : M) : Type 0 where
     pub polled : List ℕ
     pub rest : List ℕ
     pub parts : participants ≡ polled ++ rest
     pub all : committed ≡ true → rest ≡ []
     pub happened : HaveHappened run leaves (ending committed top polled participants) old new
     pub no : committed ≡ false
-        → (front : List ℕ) × (g : ℕ) × (polled ≡ front ++ g ∷ []) × VotesNo top (steps.Close top ∷ prepares top front) g old
+        → (front : List ℕ) × (g : ℕ) × (polled ≡ front ++ g ∷ [])
+        × VotesNo top (steps.Close top ∷ prepares top front) g old
     pub says : is_committed top (run new).past ≡ committed
 
   -- The ending of the top action was cut short.
-  pub record IsEndingCut (top : Name) (participants : List ℕ) (old new : M) (fault : CallFault) : Type 0 where
+  pub record IsEndingCut (top : Name) (participants : List ℕ) (old new : M)
+      (fault : CallFault) : Type 0 where
     pub committed : Bool
     pub polled : List ℕ
     pub rest : List ℕ

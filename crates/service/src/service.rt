@@ -139,9 +139,9 @@ impl<W: MakesSteps + Drop> Service<W> {
     /// Commits a top action by two phases: closes it, lets the participants vote in this order up to the first no, and
     /// decides it if all vote yes. Else aborts it. Then tells each participant. Whether the action committed.
     ///
-    /// The participants are the homes of the top action and of what was committed into it. If one is missing, `Refused`
-    /// comes of the decision, with `Unready`. After an error the steps so far have happened, and the action can be aborted
-    /// unless it was decided.
+    /// The participants are the homes of the top action and of what was committed into it. If one is missing,
+    /// `Refused` comes of the decision, with `Unready`. After an error the steps so far have happened, and the action
+    /// can be aborted unless it was decided.
     pub fn commit_top(&mut self, top: &Name, participants: &[u32]) -> Result<bool, CallFault>
         ensures ended { IfOk result (λ committed. IsEnded W.run W.leaves
             top.now participants.now committed self.old.world self.new.world) }

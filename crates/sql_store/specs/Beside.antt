@@ -25,7 +25,8 @@ pub record AreBeside (tables : Schema) : Type 0 where
 -- whatever the queries answer holds this content, and no key comes twice in it
 abbrev pub AnswersHold : Schema → Database → Stored → Type 0
 AnswersHold tables d c =
-    (answers : List (List Row)) → AreAnswersOf tables d queries answers → AreKeyed (answered answers) × Holds 0 (answered answers) c
+    (answers : List (List Row)) → AreAnswersOf tables d queries answers
+    → AreKeyed (answered answers) × Holds 0 (answered answers) c
 
 -- and nothing waits for a commit
 pub record IsBesideAtRest (tables : Schema) (s : State) (c : Stored) : Type 0 where
@@ -41,7 +42,8 @@ pub record IsBeside (s : State) (c : Stored) : Type 0 where
 -- It is not told of such tables that their rows hold no content, unless the disk has returned something else than was
 -- written.
 abbrev pub RecognizesBeside : {T : Type 0} → State → State → Result T StoreFault → Type 0
-RecognizesBeside old new result = IsErrOf result NotOurs → HasCleanDisk new → (c : Stored) → ¬ IsBeside old c
+RecognizesBeside old new result = IsErrOf result NotOurs → HasCleanDisk new
+    → (c : Stored) → ¬ IsBeside old c
 
 -- the database shows what it showed, and a stop leaves what one before would have left
 pub record Keeps (old new : State) : Type 0 where

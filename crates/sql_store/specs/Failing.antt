@@ -21,7 +21,8 @@ pub record HasFailed (sql : List ℕ) (old new : State) : Type 0 where
   pub failure : fault_of error ≡ Failed
 
 -- one of the queries failed, and those that were asked before it were answered
-pub record OneFailed {A : Type 0} (at : Ghosts A) (queries : List (List ℕ)) (old new : State) : Type 0 where
+pub record OneFailed {A : Type 0} (at : Ghosts A) (queries : List (List ℕ))
+    (old new : State) : Type 0 where
   pub sql : List ℕ
   pub asked : Has queries sql
   pub mid : Held A

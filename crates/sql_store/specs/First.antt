@@ -39,7 +39,8 @@ pub record IsFirstAtRest (s : State) (c : Stored) : Type 0 where
 abbrev pub IsFirst : State → Stored → Type 0
 IsFirst s c = While s (IsFirstAtRest s c)
 
--- It is not told of a store of version 1 that its rows hold no content, unless the disk has returned something else than
--- was written.
+-- It is not told of a store of version 1 that its rows hold no content, unless the disk has returned something else
+-- than was written.
 abbrev pub RecognizesFirst : {T : Type 0} → State → State → Result T StoreFault → Type 0
-RecognizesFirst old new result = IsErrOf result NotOurs → HasCleanDisk new → (c : Stored) → ¬ IsFirst old c
+RecognizesFirst old new result = IsErrOf result NotOurs → HasCleanDisk new
+    → (c : Stored) → ¬ IsFirst old c

@@ -25,11 +25,13 @@ presence_in schema sql = presence (understood schema sql)
 
 -- the error says that the query was not understood, and this is what the database has then
 abbrev pub IsAbsence : Error → Presence → Type 0
-IsAbsence error found = (fault : CompileError) × (error ≡ SqlInputError fault) × (found ≡ presence (Err fault))
+IsAbsence error found = (fault : CompileError) × (error ≡ SqlInputError fault)
+    × (found ≡ presence (Err fault))
 
 -- where the database has the same of all that the queries name, it is this
 abbrev pub IsPresence : Schema → List (List ℕ) → Presence → Type 0
-IsPresence schema queries found = (all : Presence) → AllByRecursion (λ q. presence_in schema q ≡ all) queries → found ≡ all
+IsPresence schema queries found = (all : Presence)
+    → AllByRecursion (λ q. presence_in schema q ≡ all) queries → found ≡ all
 
 -- the queries that look for the columns of a store
 abbrev pub column_queries : List (List ℕ)

@@ -36,7 +36,8 @@ abbrev pub AreAnswersOf : Schema → Database → List (List ℕ) → List (List
 AreAnswersOf tables d [] [] = Unit {0}
 AreAnswersOf tables d [] (a ∷ shown) = ⊥
 AreAnswersOf tables d (q ∷ qs) [] = ⊥
-AreAnswersOf tables d (q ∷ qs) (a ∷ shown) = IsAnswerOf tables d q a × AreAnswersOf tables d qs shown
+AreAnswersOf tables d (q ∷ qs) (a ∷ shown) = IsAnswerOf tables d q a
+    × AreAnswersOf tables d qs shown
 
 -- so it is with the tables of a store
 abbrev pub IsQueryText : List ℕ → Type 0
@@ -63,7 +64,8 @@ IsNumberOf tables sql d n = (rows : List Row) × IsAnswerOf tables d sql rows ×
 
 -- each answer to the query is a number
 abbrev pub IsCounted : Schema → List ℕ → Database → Type 0
-IsCounted tables sql d = (rows : List Row) → IsAnswerOf tables d sql rows → (n : ℕ) × IsOnlyNumber rows n
+IsCounted tables sql d = (rows : List Row) → IsAnswerOf tables d sql rows
+    → (n : ℕ) × IsOnlyNumber rows n
 
 -- ---- states
 
@@ -103,16 +105,19 @@ pub record ShowsTheSame (old new : State) : Type 0 where
   pub mode : new.in_transaction ≡ old.in_transaction
 
 -- A call read what it answers from the database, and changed nothing.
-pub record LooksUp {T : Type 0} (old new : State) (Shows : Database → T → Type 0) (result : Result T StoreFault) : Type 0 where
+pub record LooksUp {T : Type 0} (old new : State) (Shows : Database → T → Type 0)
+    (result : Result T StoreFault) : Type 0 where
   pub clean : HasCleanDisk new → HasCleanDisk old
   pub ok : HasCleanDisk new → IfOk result (λ x. ShowsTheSame old new × Shows old.now x)
   pub err : HasCleanDisk new → OnErr result (IsTrue new.is_open → ShowsTheSame old new)
-  pub leaves : HasCleanDisk new → IsTrue old.is_open → (db : Trees) → new.may_leave db → old.may_leave db
+  pub leaves : HasCleanDisk new → IsTrue old.is_open → (db : Trees)
+      → new.may_leave db → old.may_leave db
 
 -- A stop leaves what one before the call would have left, or a store with this content.
 abbrev pub StopLeaves : State → State → Stored → Type 0
 StopLeaves old new c =
-    HasCleanDisk new → IsTrue old.is_open → (db : Trees) → new.may_leave db → old.may_leave db ⊎ IsStore db c
+    HasCleanDisk new → IsTrue old.is_open → (db : Trees) → new.may_leave db
+    → old.may_leave db ⊎ IsStore db c
 
 -- Whatever the schema is: outside a transaction none was begun, and what was read left the schema.
 pub record StaysOut {T : Type 0} (old new : State) (result : Result T StoreFault) : Type 0 where
@@ -120,13 +125,16 @@ pub record StaysOut {T : Type 0} (old new : State) (result : Result T StoreFault
   pub mode : old.in_transaction ≡ false → new.in_transaction ≡ false
   pub schema : HasCleanDisk new → OnOk result (new.now.schema ≡ old.now.schema)
 
--- It is not told of a store that its rows hold no content, unless the disk has returned something else than was written.
+-- It is not told of a store that its rows hold no content, unless the disk has returned something else than was
+-- written.
 abbrev pub Recognizes : {T : Type 0} → State → State → Result T StoreFault → Type 0
-Recognizes old new result = IsErrOf result NotOurs → HasCleanDisk new → (c : Stored) → ¬ Stands old c
+Recognizes old new result = IsErrOf result NotOurs → HasCleanDisk new
+    → (c : Stored) → ¬ Stands old c
 
 -- so it was found out whether the database has the tables of a store alone
 abbrev pub Knows : State → Bool → Type 0
-Knows s known = HasCleanDisk s → IsTrue s.is_open → (IsTrue known → s.now.schema ≡ stable_schema) × (s.now.schema ≡ stable_schema → IsTrue known)
+Knows s known = HasCleanDisk s → IsTrue s.is_open
+    → (IsTrue known → s.now.schema ≡ stable_schema) × (s.now.schema ≡ stable_schema → IsTrue known)
 
 -- Within a transaction nothing was committed, and after `Ok` it is still under way.
 pub record RunsInside {T E : Type 0} (old new : State) (result : Result T E) : Type 0 where
@@ -139,6 +147,7 @@ pub record Works {T E : Type 0} (old new : State) (result : Result T E) : Type 0
   pub runs : HasCleanDisk new → RunsInside old new result
 
 -- Within a transaction a call looked at the tables of a store, and left them as they were.
-pub record Looks {T E : Type 0} (old new : State) (Sees : T → Type 0) (result : Result T E) : Type 0 where
+pub record Looks {T E : Type 0} (old new : State) (Sees : T → Type 0)
+    (result : Result T E) : Type 0 where
   pub inside : RunsInside old new result
   pub seen : IfOk result (λ x. new.now.schema ≡ stable_schema → (new.now ≡ old.now) × Sees x)

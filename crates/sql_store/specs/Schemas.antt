@@ -17,11 +17,13 @@ HasTables Others schema = ⊥
 
 -- The database had the tables of this layout and nothing else, and after `Ok` it has those of a store and nothing else.
 abbrev pub LaysOut : {T E : Type 0} → Layout → State → State → Result T E → Type 0
-LaysOut layout old new result = HasCleanDisk new → HasTables layout old.now.schema → OnOk result (new.now.schema ≡ stable_schema)
+LaysOut layout old new result = HasCleanDisk new → HasTables layout old.now.schema
+    → OnOk result (new.now.schema ≡ stable_schema)
 
 -- And after `Ok` the rows obey that schema, and list it.
 abbrev pub LaysSound : {T E : Type 0} → Layout → State → State → Result T E → Type 0
-LaysSound layout old new result = HasCleanDisk new → HasTables layout old.now.schema → OnOk result (IsSound stable_schema new.now.trees)
+LaysSound layout old new result = HasCleanDisk new → HasTables layout old.now.schema
+    → OnOk result (IsSound stable_schema new.now.trees)
 
 -- after `Ok` the schema is what it was
 abbrev pub KeepsSchema : {T E : Type 0} → State → State → Result T E → Type 0

@@ -12,8 +12,8 @@ use Rattle.stable_store.specs.Held.{held}
 use Rattle.stable_store.specs.Calls.{View}
 use Rattle.store_tables.specs.Holds.{IsStore}
 
--- the content in maps, the connection, the failures, whether the schema is that of a store and nothing else, and whether
--- the tables held a content when the store was opened
+-- the content in maps, the connection, the failures, whether the schema is that of a store and nothing else, and
+-- whether the tables held a content when the store was opened
 pub record InTables (A : Type 0) : Type 0 where
   pub kept : Kept
   pub conn : Held A
@@ -24,9 +24,11 @@ pub record InTables (A : Type 0) : Type 0 where
 abbrev pub in_tables_code : {A : Type 0} → Coded A → Coded (InTables A)
 in_tables_code {A} store =
     code_by (Kept × (Held A × (ℕ × (Bool × Bool))))
-    (coded× kept_contract.the_row.coded (coded× (held_code store) (coded× coded_ℕ (coded× coded_bool coded_bool))))
+    (coded× kept_contract.the_row.coded
+    (coded× (held_code store) (coded× coded_ℕ (coded× coded_bool coded_bool))))
     (λ s. (s.kept, (s.conn, (s.failures, (s.is_known, s.holds_content)))))
-    (λ p. record { kept = p.0; conn = p.1.0; failures = p.1.1.0; is_known = p.1.1.1.0; holds_content = p.1.1.1.1 })
+    (λ p.
+    record { kept = p.0; conn = p.1.0; failures = p.1.1.0; is_known = p.1.1.1.0; holds_content = p.1.1.1.1 })
     (λ _. refl)
 
 -- what an opening finds in the trees that a stop left: the content that they hold, or none

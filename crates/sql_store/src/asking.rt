@@ -79,7 +79,8 @@ pub(crate) fn read_content<A: Alter>(
 ) -> Result<Kept, StoreFault>
     ensures outside { StaysOut (state A.Store conn.old) (state A.Store conn.new) result }
     ensures looks { Quiets (state A.Store conn.old)
-        → LooksUp (state A.Store conn.old) (state A.Store conn.new) (λ d kept. Holds 1 (tables_of d.trees) (held kept)) result }
+        → LooksUp (state A.Store conn.old) (state A.Store conn.new)
+        (λ d kept. Holds 1 (tables_of d.trees) (held kept)) result }
     ensures recognized { Recognizes (state A.Store conn.old) (state A.Store conn.new) result }
     ensures beside { (c : Stored) → IsBeside (state A.Store conn.old) c
         → LooksUp (state A.Store conn.old) (state A.Store conn.new)
@@ -97,7 +98,8 @@ pub(crate) fn read_content<A: Alter>(
 fn check_rowids<A: Alter>(conn: &mut Connection<A>, alloc: Global) -> Result<(), StoreFault>
     ensures outside { StaysOut (state A.Store conn.old) (state A.Store conn.new) result }
     ensures looks { Quiets (state A.Store conn.old)
-        → LooksUp (state A.Store conn.old) (state A.Store conn.new) (λ d _. HaveRowids d.trees) result }
+        → LooksUp (state A.Store conn.old) (state A.Store conn.new)
+        (λ d _. HaveRowids d.trees) result }
     ensures recognized { Recognizes (state A.Store conn.old) (state A.Store conn.new) result }
     ensures track { KeepsTrack (state A.Store conn.old) (state A.Store conn.new) }
     ensures failed { IsErrOf result Failed → HasCleanDisk (state A.Store conn.new)
@@ -109,8 +111,8 @@ fn check_rowids<A: Alter>(conn: &mut Connection<A>, alloc: Global) -> Result<(),
     }
 }
 
-/// The content of the tables. `NotOurs` where they hold none, and, in a schema that is known, where a row has no rowid of
-/// its own. The database stays as it is.
+/// The content of the tables. `NotOurs` where they hold none, and, in a schema that is known, where a row has no
+/// rowid of its own. The database stays as it is.
 pub(crate) fn read_store<A: Alter>(
     conn: &mut Connection<A>,
     alloc: Global,
@@ -118,7 +120,8 @@ pub(crate) fn read_store<A: Alter>(
 ) -> Result<Kept, StoreFault>
     ensures outside { StaysOut (state A.Store conn.old) (state A.Store conn.new) result }
     ensures looks { IsTrue is_known → Quiets (state A.Store conn.old)
-        → LooksUp (state A.Store conn.old) (state A.Store conn.new) (λ d kept. IsLaidOut d.trees (held kept)) result }
+        → LooksUp (state A.Store conn.old) (state A.Store conn.new)
+        (λ d kept. IsLaidOut d.trees (held kept)) result }
     ensures recognized { Recognizes (state A.Store conn.old) (state A.Store conn.new) result }
     ensures beside { is_known ≡ false → (c : Stored) → IsBeside (state A.Store conn.old) c
         → LooksUp (state A.Store conn.old) (state A.Store conn.new)
@@ -142,7 +145,8 @@ pub(crate) fn read_first<A: Alter>(
     alloc: Global,
 ) -> Result<Kept, StoreFault>
     ensures clean { HasCleanDisk (state A.Store conn.new) → HasCleanDisk (state A.Store conn.old) }
-    ensures mode { (state A.Store conn.old).in_transaction ≡ false → (state A.Store conn.new).in_transaction ≡ false }
+    ensures mode { (state A.Store conn.old).in_transaction ≡ false
+        → (state A.Store conn.new).in_transaction ≡ false }
     ensures looks { (c : Stored) → IsFirst (state A.Store conn.old) c
         → LooksUp (state A.Store conn.old) (state A.Store conn.new)
         (λ _ kept. held kept ≡ c) result }

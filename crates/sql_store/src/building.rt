@@ -45,10 +45,13 @@ pub(crate) fn build<A: Alter>(
     content: &Kept,
 ) -> Result<Kept, StoreFault>
     ensures same { tx.new.conn.ghost_name ≡ tx.old.conn.ghost_name }
-    ensures survives { Survives (state A.Store tx.old.conn.now) (state A.Store tx.new.conn.now) (λ _. ⊥) }
-    ensures runs { HasCleanDisk (state A.Store tx.new.conn.now) → IsTrue (state A.Store tx.old.conn.now).in_transaction
+    ensures survives { Survives (state A.Store tx.old.conn.now) (state A.Store tx.new.conn.now)
+        (λ _. ⊥) }
+    ensures runs { HasCleanDisk (state A.Store tx.new.conn.now)
+        → IsTrue (state A.Store tx.old.conn.now).in_transaction
         → RunsInside (state A.Store tx.old.conn.now) (state A.Store tx.new.conn.now) result }
-    ensures made { HasCleanDisk (state A.Store tx.new.conn.now) → IsTrue (state A.Store tx.old.conn.now).in_transaction
+    ensures made { HasCleanDisk (state A.Store tx.new.conn.now)
+        → IsTrue (state A.Store tx.old.conn.now).in_transaction
         → IfOk result (λ kept. (state A.Store tx.new.conn.now).now.schema ≡ stable_schema
         → IsLaidOut (state A.Store tx.new.conn.now).now.trees (held kept)) }
     ensures as_given { layout ≢ Second → IfOk result (λ kept. held kept ≡ held content.now) }
@@ -272,9 +275,11 @@ fn run<A: Alter>(
 /// The rows that a query with no parameters answers.
 fn answer<A: Alter>(tx: &mut Transaction<'_, A>, query: &str) -> Result<Vec<Row>, StoreFault>
     ensures same { tx.new.conn.ghost_name ≡ tx.old.conn.ghost_name }
-    ensures survives { Survives (state A.Store tx.old.conn.now) (state A.Store tx.new.conn.now) (λ _. ⊥) }
-    ensures looks { HasCleanDisk (state A.Store tx.new.conn.now) → IsTrue (state A.Store tx.old.conn.now).in_transaction
-        → IsQueryText query.now → Looks (state A.Store tx.old.conn.now) (state A.Store tx.new.conn.now)
+    ensures survives { Survives (state A.Store tx.old.conn.now) (state A.Store tx.new.conn.now)
+        (λ _. ⊥) }
+    ensures looks { HasCleanDisk (state A.Store tx.new.conn.now)
+        → IsTrue (state A.Store tx.old.conn.now).in_transaction → IsQueryText query.now
+        → Looks (state A.Store tx.old.conn.now) (state A.Store tx.new.conn.now)
         (λ rows. IsAnswered (state A.Store tx.old.conn.now).now query.now rows.items) result }
     ensures schema { KeepsSchema (state A.Store tx.old.conn.now)
         (state A.Store tx.new.conn.now) result }
@@ -292,10 +297,15 @@ fn answers<A: Alter>(
     queries: &[&str],
 ) -> Result<Vec<Vec<Row>>, StoreFault>
     ensures same { tx.new.conn.ghost_name ≡ tx.old.conn.ghost_name }
-    ensures survives { Survives (state A.Store tx.old.conn.now) (state A.Store tx.new.conn.now) (λ _. ⊥) }
-    ensures looks { HasCleanDisk (state A.Store tx.new.conn.now) → IsTrue (state A.Store tx.old.conn.now).in_transaction
-        → AreQueryTexts (map (λ q. q.now) queries.now) → Looks (state A.Store tx.old.conn.now) (state A.Store tx.new.conn.now)
-        (λ answers. AreAnswered (state A.Store tx.old.conn.now).now (map (λ q. q.now) queries.now) (rows_of answers.items)) result }
+    ensures survives { Survives (state A.Store tx.old.conn.now) (state A.Store tx.new.conn.now)
+        (λ _. ⊥) }
+    ensures looks { HasCleanDisk (state A.Store tx.new.conn.now)
+        → IsTrue (state A.Store tx.old.conn.now).in_transaction
+        → AreQueryTexts (map (λ q. q.now) queries.now)
+        → Looks (state A.Store tx.old.conn.now) (state A.Store tx.new.conn.now)
+        (λ answers. AreAnswered (state A.Store tx.old.conn.now).now (map (λ q. q.now) queries.now)
+        (rows_of answers.items))
+        result }
     ensures schema { KeepsSchema (state A.Store tx.old.conn.now)
         (state A.Store tx.new.conn.now) result }
 {
@@ -309,8 +319,10 @@ fn answers<A: Alter>(
 /// The content that the tables hold. `NotOurs` where they hold none.
 fn read_back<A: Alter>(tx: &mut Transaction<'_, A>, alloc: Global) -> Result<Kept, StoreFault>
     ensures same { tx.new.conn.ghost_name ≡ tx.old.conn.ghost_name }
-    ensures survives { Survives (state A.Store tx.old.conn.now) (state A.Store tx.new.conn.now) (λ _. ⊥) }
-    ensures looks { HasCleanDisk (state A.Store tx.new.conn.now) → IsTrue (state A.Store tx.old.conn.now).in_transaction
+    ensures survives { Survives (state A.Store tx.old.conn.now) (state A.Store tx.new.conn.now)
+        (λ _. ⊥) }
+    ensures looks { HasCleanDisk (state A.Store tx.new.conn.now)
+        → IsTrue (state A.Store tx.old.conn.now).in_transaction
         → Looks (state A.Store tx.old.conn.now) (state A.Store tx.new.conn.now)
         (λ kept. IsLaidOut (state A.Store tx.new.conn.now).now.trees (held kept)) result }
     ensures schema { KeepsSchema (state A.Store tx.old.conn.now)

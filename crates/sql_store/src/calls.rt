@@ -30,7 +30,8 @@ pub(crate) fn prepare<A: Alter>(
     requires top { 0 < top }
     requires home { 0 < home }
     requires objects { has_zero parts.entries ≡ false }
-    ensures changes { Changes (held kept.old) (after_prepare top home parts.entries (held kept.old)) (held kept.new) result }
+    ensures changes { Changes (held kept.old) (after_prepare top home parts.entries (held kept.old))
+        (held kept.new) result }
     ensures carries { Stands (state A.Store conn.old) (held kept.old)
         → Carries (state A.Store conn.old) (state A.Store conn.new) (held kept.old)
         (after_prepare top home parts.entries (held kept.old)) result }
@@ -60,9 +61,11 @@ pub(crate) fn install<A: Alter>(
     alloc: Global,
     top: u32,
 ) -> Result<(), StoreFault>
-    ensures changes { Changes (held kept.old) (after_install top (held kept.old)) (held kept.new) result }
+    ensures changes { Changes (held kept.old) (after_install top (held kept.old))
+        (held kept.new) result }
     ensures carries { Stands (state A.Store conn.old) (held kept.old)
-        → Carries (state A.Store conn.old) (state A.Store conn.new) (held kept.old) (after_install top (held kept.old)) result }
+        → Carries (state A.Store conn.old) (state A.Store conn.new) (held kept.old)
+        (after_install top (held kept.old)) result }
     ensures told { IsErrOf result NotOurs → ⊥ }
 {
     let Some(record) = kept.prepared.get(&top) else {
@@ -93,9 +96,11 @@ pub(crate) fn save<A: Alter>(
     contents: &BTreeMap<u32, Content>,
 ) -> Result<(), StoreFault>
     requires { has_zero contents.now.entries ≡ false }
-    ensures changes { Changes (held kept.old) (after_save contents.now.entries (held kept.old)) (held kept.new) result }
+    ensures changes { Changes (held kept.old) (after_save contents.now.entries (held kept.old))
+        (held kept.new) result }
     ensures carries { Stands (state A.Store conn.old) (held kept.old)
-        → Carries (state A.Store conn.old) (state A.Store conn.new) (held kept.old) (after_save contents.now.entries (held kept.old)) result }
+        → Carries (state A.Store conn.old) (state A.Store conn.new) (held kept.old)
+        (after_save contents.now.entries (held kept.old)) result }
     ensures told { IsErrOf result NotOurs → ⊥ }
 {
     let Ok(values) = mirror::values_of(alloc, contents) else {
@@ -121,9 +126,11 @@ pub(crate) fn discard<A: Alter>(
     kept: &mut Kept,
     top: u32,
 ) -> Result<(), StoreFault>
-    ensures changes { Changes (held kept.old) (after_discard top (held kept.old)) (held kept.new) result }
+    ensures changes { Changes (held kept.old) (after_discard top (held kept.old))
+        (held kept.new) result }
     ensures carries { Stands (state A.Store conn.old) (held kept.old)
-        → Carries (state A.Store conn.old) (state A.Store conn.new) (held kept.old) (after_discard top (held kept.old)) result }
+        → Carries (state A.Store conn.old) (state A.Store conn.new) (held kept.old)
+        (after_discard top (held kept.old)) result }
     ensures told { IsErrOf result NotOurs → ⊥ }
 {
     match statements::discard(conn, top) {
@@ -141,9 +148,11 @@ pub(crate) fn decide<A: Alter>(
     top: u32,
 ) -> Result<(), StoreFault>
     requires { 0 < top }
-    ensures changes { Changes (held kept.old) (after_decide top (held kept.old)) (held kept.new) result }
+    ensures changes { Changes (held kept.old) (after_decide top (held kept.old))
+        (held kept.new) result }
     ensures carries { Stands (state A.Store conn.old) (held kept.old)
-        → Carries (state A.Store conn.old) (state A.Store conn.new) (held kept.old) (after_decide top (held kept.old)) result }
+        → Carries (state A.Store conn.old) (state A.Store conn.new) (held kept.old)
+        (after_decide top (held kept.old)) result }
     ensures told { IsErrOf result NotOurs → ⊥ }
 {
     let Ok(added) = kept.decided.insert(top) else {
@@ -163,7 +172,8 @@ pub(crate) fn decide<A: Alter>(
 pub(crate) fn bump<A: Alter>(conn: &mut Connection<A>, kept: &mut Kept) -> Result<(), StoreFault>
     ensures changes { Changes (held kept.old) (after_bump (held kept.old)) (held kept.new) result }
     ensures carries { Stands (state A.Store conn.old) (held kept.old)
-        → Carries (state A.Store conn.old) (state A.Store conn.new) (held kept.old) (after_bump (held kept.old)) result }
+        → Carries (state A.Store conn.old) (state A.Store conn.new) (held kept.old)
+        (after_bump (held kept.old)) result }
     ensures told { IsErrOf result NotOurs → ⊥ }
     ensures spent { greatest_count ≤ (held kept.old).count → IsRefused result }
 {
@@ -187,7 +197,8 @@ pub(crate) fn load<A: Alter>(
 ) -> Result<Kept, StoreFault>
     ensures loaded { IfOk result (λ it. held it ≡ held kept.now) }
     ensures carries { Stands (state A.Store conn.old) (held kept.now)
-        → Carries (state A.Store conn.old) (state A.Store conn.new) (held kept.now) (held kept.now) result }
+        → Carries (state A.Store conn.old) (state A.Store conn.new) (held kept.now)
+        (held kept.now) result }
 {
     let found = read_content(conn, alloc)?;
     if !mirror::are_same(alloc, &found, kept)? {

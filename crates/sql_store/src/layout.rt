@@ -58,9 +58,11 @@ enum Presence {
 
 /// Which tables of a store the database has.
 pub(crate) fn layout_of<A: Alter>(conn: &mut Connection<A>) -> Result<Layout, StoreFault>
-    ensures mode { (state A.Store conn.old).in_transaction ≡ false → (state A.Store conn.new).in_transaction ≡ false }
+    ensures mode { (state A.Store conn.old).in_transaction ≡ false
+        → (state A.Store conn.new).in_transaction ≡ false }
     ensures looks { IsSettled (state A.Store conn.old)
-        → LooksUp (state A.Store conn.old) (state A.Store conn.new) (λ d layout. IsLayout d.schema layout) result }
+        → LooksUp (state A.Store conn.old) (state A.Store conn.new)
+        (λ d layout. IsLayout d.schema layout) result }
     ensures told { IsErrOf result NotOurs → ⊥ }
 {
     let first = presence_of_all(conn, META_COLUMNS, &FIRST_COLUMNS)?;
@@ -94,8 +96,10 @@ fn presence_of_all<A: Alter>(
     query: &str,
     others: &[&str],
 ) -> Result<Presence, StoreFault>
-    ensures mode { (state A.Store conn.old).in_transaction ≡ false → (state A.Store conn.new).in_transaction ≡ false }
-    ensures looks { IsSettled (state A.Store conn.old) → LooksUp (state A.Store conn.old) (state A.Store conn.new)
+    ensures mode { (state A.Store conn.old).in_transaction ≡ false
+        → (state A.Store conn.new).in_transaction ≡ false }
+    ensures looks { IsSettled (state A.Store conn.old)
+        → LooksUp (state A.Store conn.old) (state A.Store conn.new)
         (λ d found. IsPresence d.schema (query.now ∷ map (λ q. q.now) others.now) found) result }
     ensures told { IsErrOf result NotOurs → ⊥ }
 {
@@ -111,8 +115,10 @@ fn presence_of_all<A: Alter>(
 
 /// Whether the database has the table and the columns that a query names.
 fn presence_of<A: Alter>(conn: &mut Connection<A>, query: &str) -> Result<Presence, StoreFault>
-    ensures mode { (state A.Store conn.old).in_transaction ≡ false → (state A.Store conn.new).in_transaction ≡ false }
-    ensures looks { IsSettled (state A.Store conn.old) → LooksUp (state A.Store conn.old) (state A.Store conn.new)
+    ensures mode { (state A.Store conn.old).in_transaction ≡ false
+        → (state A.Store conn.new).in_transaction ≡ false }
+    ensures looks { IsSettled (state A.Store conn.old)
+        → LooksUp (state A.Store conn.old) (state A.Store conn.new)
         (λ d found. found ≡ presence_in d.schema query.now) result }
     ensures told { IsErrOf result NotOurs → ⊥ }
 {
@@ -148,7 +154,8 @@ fn absence_by(fault: CompileError) -> Result<Presence, StoreFault>
 /// Whether the database has the tables of a store and nothing else, and no transaction is under way.
 pub(crate) fn is_alone<A: Alter>(conn: &Connection<A>) -> bool
     ensures alone { IsTrue result → IsAlone (state A.Store conn.now) }
-    ensures found { (state A.Store conn.now).in_transaction ≡ false → (state A.Store conn.now).now.schema ≡ stable_schema → IsTrue result }
+    ensures found { (state A.Store conn.now).in_transaction ≡ false
+        → (state A.Store conn.now).now.schema ≡ stable_schema → IsTrue result }
 {
     conn.is_autocommit() && is_known(conn.schema())
 }
@@ -158,7 +165,8 @@ pub(crate) fn number_named<A: Alter>(
     conn: &mut Connection<A>,
     query: &str,
 ) -> Result<u64, StoreFault>
-    ensures mode { (state A.Store conn.old).in_transaction ≡ false → (state A.Store conn.new).in_transaction ≡ false }
+    ensures mode { (state A.Store conn.old).in_transaction ≡ false
+        → (state A.Store conn.new).in_transaction ≡ false }
     ensures clean { HasCleanDisk (state A.Store conn.new) → HasCleanDisk (state A.Store conn.old) }
     ensures looks { (tables : Schema) → IsQueryOf tables query.now
         → QuietsWith tables (state A.Store conn.old)

@@ -24,7 +24,8 @@ pub(crate) fn put_record_back(
 )
     requires { IsSome (get (from_entries {R = nat_cmp} (records_of prepared.old.entries)) top) }
     ensures { from_entries {R = nat_cmp} (records_of prepared.new.entries)
-        ≡ record_back top (option_map record_of before) (from_entries (records_of prepared.old.entries)) }
+        ≡ record_back top (option_map record_of before)
+        (from_entries (records_of prepared.old.entries)) }
 {
     match before {
         Some(record) => {
@@ -41,8 +42,10 @@ pub(crate) fn installed_over(
     parts: &BTreeMap<u32, Part>,
     base: &BTreeMap<u32, Part>,
 ) -> Result<BTreeMap<u32, Part>, AllocError>
-    ensures put { IfOk result (λ installed. all_put installed.entries (parts_in base.now) ≡ laid parts.now.entries (parts_in base.now)) }
-    ensures above { IfOk result (λ installed. has_zero installed.entries ≡ has_zero parts.now.entries) }
+    ensures put { IfOk result (λ installed. all_put installed.entries (parts_in base.now)
+        ≡ laid parts.now.entries (parts_in base.now)) }
+    ensures above { IfOk result
+        (λ installed. has_zero installed.entries ≡ has_zero parts.now.entries) }
 {
     let mut installed = BTreeMap::new(alloc);
     for (&object, part) in parts {
@@ -58,7 +61,8 @@ pub(crate) fn values_of(
     contents: &BTreeMap<u32, Content>,
 ) -> Result<BTreeMap<u32, Part>, AllocError>
     ensures values { IfOk result (λ values. values.entries ≡ values_spec contents.now.entries) }
-    ensures above { IfOk result (λ values. has_zero values.entries ≡ has_zero contents.now.entries) }
+    ensures above { IfOk result
+        (λ values. has_zero values.entries ≡ has_zero contents.now.entries) }
 {
     let mut values = BTreeMap::new(alloc);
     for (&object, content) in contents {
@@ -113,7 +117,8 @@ fn have_same_records(
     a: &BTreeMap<u32, Prepared>,
     b: &BTreeMap<u32, Prepared>,
 ) -> Result<bool, AllocError>
-    ensures { IfOk result (λ same. IsTrue same → records_of a.now.entries ≡ records_of b.now.entries) }
+    ensures { IfOk result
+        (λ same. IsTrue same → records_of a.now.entries ≡ records_of b.now.entries) }
 {
     let mut others = b.iter();
     for (&top, record) in a {

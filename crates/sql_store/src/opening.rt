@@ -45,16 +45,22 @@ pub(crate) struct Opened {
 
 /// Makes the tables, migrates them or takes them. With a fault the database is what it was.
 pub(crate) fn open<A: Alter>(alloc: Global, conn: &mut Connection<A>) -> Result<Opened, StoreFault>
-    ensures stands { IfOk result (λ it. IsTrue it.is_known → IfSome it.kept (λ kept. Stands (state A.Store conn.new) (held kept))) }
+    ensures stands { IfOk result (λ it. IsTrue it.is_known
+        → IfSome it.kept (λ kept. Stands (state A.Store conn.new) (held kept))) }
     ensures known { IfOk result (λ it. Knows (state A.Store conn.new) it.is_known) }
     ensures makes { LaysOut Nothing (state A.Store conn.old) (state A.Store conn.new) result }
-    ensures fresh { HasCleanDisk (state A.Store conn.new) → (state A.Store conn.old).now.schema ≡ no_schema
+    ensures fresh { HasCleanDisk (state A.Store conn.new)
+        → (state A.Store conn.old).now.schema ≡ no_schema
         → IfOk result (λ it. option_map held it.kept ≡ Some empty) }
-    ensures reads { HasCleanDisk (state A.Store conn.new) → (c : Stored) → Stands (state A.Store conn.old) c
-        → LooksUp (state A.Store conn.old) (state A.Store conn.new) (λ _ it. option_map held it.kept ≡ Some c) result }
+    ensures reads { HasCleanDisk (state A.Store conn.new) → (c : Stored)
+        → Stands (state A.Store conn.old) c
+        → LooksUp (state A.Store conn.old) (state A.Store conn.new)
+        (λ _ it. option_map held it.kept ≡ Some c) result }
     ensures recognized { Recognizes (state A.Store conn.old) (state A.Store conn.new) result }
-    ensures refused { HasCleanDisk (state A.Store conn.new) → (state A.Store conn.old).now.schema ≡ no_schema
-        → OnErr result (IsTrue (state A.Store conn.new).is_open → (state A.Store conn.new).now ≡ (state A.Store conn.old).now) }
+    ensures refused { HasCleanDisk (state A.Store conn.new)
+        → (state A.Store conn.old).now.schema ≡ no_schema
+        → OnErr result (IsTrue (state A.Store conn.new).is_open
+        → (state A.Store conn.new).now ≡ (state A.Store conn.old).now) }
     ensures migrates { HasCleanDisk (state A.Store conn.new) → (c : Stored)
         → IsFirst (state A.Store conn.old) c
         → IfOk result (λ it. option_map held it.kept ≡ Some c) }
@@ -91,8 +97,10 @@ pub(crate) fn open<A: Alter>(alloc: Global, conn: &mut Connection<A>) -> Result<
 
 /// Migrates the tables of version 1. If they hold no content of a store they stay as they are.
 fn migrate<A: Alter>(alloc: Global, conn: &mut Connection<A>) -> Result<Opened, StoreFault>
-    ensures stands { IfOk result (λ it. IsTrue it.is_known → IfSome it.kept (λ kept. Stands (state A.Store conn.new) (held kept))) }
-    ensures known { (state A.Store conn.old).in_transaction ≡ false → IfOk result (λ it. Knows (state A.Store conn.new) it.is_known) }
+    ensures stands { IfOk result (λ it. IsTrue it.is_known
+        → IfSome it.kept (λ kept. Stands (state A.Store conn.new) (held kept))) }
+    ensures known { (state A.Store conn.old).in_transaction ≡ false
+        → IfOk result (λ it. Knows (state A.Store conn.new) it.is_known) }
     ensures clean { HasCleanDisk (state A.Store conn.new) → HasCleanDisk (state A.Store conn.old) }
     ensures migrates { HasCleanDisk (state A.Store conn.new) → (c : Stored)
         → IsFirst (state A.Store conn.old) c
@@ -123,11 +131,14 @@ fn migrate<A: Alter>(alloc: Global, conn: &mut Connection<A>) -> Result<Opened, 
 
 /// Takes the tables that are there, and their content.
 fn take<A: Alter>(alloc: Global, conn: &mut Connection<A>) -> Result<Opened, StoreFault>
-    ensures stands { IfOk result (λ it. IsTrue it.is_known → IfSome it.kept (λ kept. Stands (state A.Store conn.new) (held kept))) }
-    ensures known { (state A.Store conn.old).in_transaction ≡ false → IfOk result (λ it. Knows (state A.Store conn.new) it.is_known) }
+    ensures stands { IfOk result (λ it. IsTrue it.is_known
+        → IfSome it.kept (λ kept. Stands (state A.Store conn.new) (held kept))) }
+    ensures known { (state A.Store conn.old).in_transaction ≡ false
+        → IfOk result (λ it. Knows (state A.Store conn.new) it.is_known) }
     ensures clean { HasCleanDisk (state A.Store conn.new) → HasCleanDisk (state A.Store conn.old) }
-    ensures reads { HasCleanDisk (state A.Store conn.new) → IsTrue (state A.Store conn.old).is_open → (c : Stored)
-        → Stands (state A.Store conn.old) c → LooksUp (state A.Store conn.old) (state A.Store conn.new)
+    ensures reads { HasCleanDisk (state A.Store conn.new) → IsTrue (state A.Store conn.old).is_open
+        → (c : Stored) → Stands (state A.Store conn.old) c
+        → LooksUp (state A.Store conn.old) (state A.Store conn.new)
         (λ _ it. option_map held it.kept ≡ Some c) result }
     ensures recognized { Recognizes (state A.Store conn.old) (state A.Store conn.new) result }
     ensures beside { HasCleanDisk (state A.Store conn.new) → (c : Stored)
@@ -151,8 +162,10 @@ fn take<A: Alter>(alloc: Global, conn: &mut Connection<A>) -> Result<Opened, Sto
 
 /// Takes tables whose rows stand for no content as they are. `NotOurs` where they are of another version than 2.
 fn take_others<A: Alter>(alloc: Global, conn: &mut Connection<A>) -> Result<Opened, StoreFault>
-    ensures stands { IfOk result (λ it. IsTrue it.is_known → IfSome it.kept (λ kept. Stands (state A.Store conn.new) (held kept))) }
-    ensures known { (state A.Store conn.old).in_transaction ≡ false → IfOk result (λ it. Knows (state A.Store conn.new) it.is_known) }
+    ensures stands { IfOk result (λ it. IsTrue it.is_known
+        → IfSome it.kept (λ kept. Stands (state A.Store conn.new) (held kept))) }
+    ensures known { (state A.Store conn.old).in_transaction ≡ false
+        → IfOk result (λ it. Knows (state A.Store conn.new) it.is_known) }
     ensures clean { HasCleanDisk (state A.Store conn.new) → HasCleanDisk (state A.Store conn.old) }
 {
     check_numbers(conn)?;
@@ -161,7 +174,8 @@ fn take_others<A: Alter>(alloc: Global, conn: &mut Connection<A>) -> Result<Open
 
 /// `NotOurs` where `meta` has another version than 2, or a number of the next top action that is none.
 fn check_numbers<A: Alter>(conn: &mut Connection<A>) -> Result<(), StoreFault>
-    ensures mode { (state A.Store conn.old).in_transaction ≡ false → (state A.Store conn.new).in_transaction ≡ false }
+    ensures mode { (state A.Store conn.old).in_transaction ≡ false
+        → (state A.Store conn.new).in_transaction ≡ false }
     ensures clean { HasCleanDisk (state A.Store conn.new) → HasCleanDisk (state A.Store conn.old) }
 {
     if number_named(conn, READ_VERSION)? != 2 {
@@ -176,8 +190,10 @@ fn check_numbers<A: Alter>(conn: &mut Connection<A>) -> Result<(), StoreFault>
 
 /// Puts the numbers of `meta` in their places, where they are in others and the tables hold a content of a store then.
 fn put_in_place<A: Alter>(alloc: Global, conn: &mut Connection<A>) -> Result<Opened, StoreFault>
-    ensures stands { IfOk result (λ it. IsTrue it.is_known → IfSome it.kept (λ kept. Stands (state A.Store conn.new) (held kept))) }
-    ensures known { (state A.Store conn.old).in_transaction ≡ false → IfOk result (λ it. Knows (state A.Store conn.new) it.is_known) }
+    ensures stands { IfOk result (λ it. IsTrue it.is_known
+        → IfSome it.kept (λ kept. Stands (state A.Store conn.new) (held kept))) }
+    ensures known { (state A.Store conn.old).in_transaction ≡ false
+        → IfOk result (λ it. Knows (state A.Store conn.new) it.is_known) }
     ensures clean { HasCleanDisk (state A.Store conn.new) → HasCleanDisk (state A.Store conn.old) }
 {
     if have_places(conn)? {
@@ -195,11 +211,15 @@ fn put_in_place<A: Alter>(alloc: Global, conn: &mut Connection<A>) -> Result<Ope
     }
 }
 
-/// Writes the numbers of `meta` anew. `NotOurs` where there are others too or where the tables hold no content then, and they stay as they are.
+/// Writes the numbers of `meta` anew. `NotOurs` where there are others too or where the tables hold no content then,
+/// and they stay as they are.
 fn write_numbers<A: Alter>(alloc: Global, conn: &mut Connection<A>) -> Result<Opened, StoreFault>
-    ensures stands { IfOk result (λ it. IsTrue it.is_known → IfSome it.kept (λ kept. Stands (state A.Store conn.new) (held kept))) }
-    ensures mode { (state A.Store conn.old).in_transaction ≡ false → (state A.Store conn.new).in_transaction ≡ false }
-    ensures known { (state A.Store conn.old).in_transaction ≡ false → IfOk result (λ it. Knows (state A.Store conn.new) it.is_known) }
+    ensures stands { IfOk result (λ it. IsTrue it.is_known
+        → IfSome it.kept (λ kept. Stands (state A.Store conn.new) (held kept))) }
+    ensures mode { (state A.Store conn.old).in_transaction ≡ false
+        → (state A.Store conn.new).in_transaction ≡ false }
+    ensures known { (state A.Store conn.old).in_transaction ≡ false
+        → IfOk result (λ it. Knows (state A.Store conn.new) it.is_known) }
     ensures clean { HasCleanDisk (state A.Store conn.new) → HasCleanDisk (state A.Store conn.old) }
     ensures numbers { HasCleanDisk (state A.Store conn.new) → Quiets (state A.Store conn.old)
         → IfOk result (λ it. IfSome it.kept (λ kept.
@@ -224,14 +244,19 @@ fn lay_out<A: Alter>(
     layout: Layout,
     content: &Kept,
 ) -> Result<Opened, StoreFault>
-    ensures stands { IfOk result (λ it. IsTrue it.is_known → IfSome it.kept (λ kept. Stands (state A.Store conn.new) (held kept))) }
-    ensures mode { (state A.Store conn.old).in_transaction ≡ false → (state A.Store conn.new).in_transaction ≡ false }
-    ensures known { (state A.Store conn.old).in_transaction ≡ false → IfOk result (λ it. Knows (state A.Store conn.new) it.is_known) }
+    ensures stands { IfOk result (λ it. IsTrue it.is_known
+        → IfSome it.kept (λ kept. Stands (state A.Store conn.new) (held kept))) }
+    ensures mode { (state A.Store conn.old).in_transaction ≡ false
+        → (state A.Store conn.new).in_transaction ≡ false }
+    ensures known { (state A.Store conn.old).in_transaction ≡ false
+        → IfOk result (λ it. Knows (state A.Store conn.new) it.is_known) }
     ensures lays_out { LaysOut layout (state A.Store conn.old) (state A.Store conn.new) result }
     ensures clean { HasCleanDisk (state A.Store conn.new) → HasCleanDisk (state A.Store conn.old) }
-    ensures as_given { layout ≢ Second → IfOk result (λ it. option_map held it.kept ≡ Some (held content.now)) }
+    ensures as_given { layout ≢ Second
+        → IfOk result (λ it. option_map held it.kept ≡ Some (held content.now)) }
     ensures told { layout ≢ Second → ¬ IsErrOf result NotOurs }
-    ensures refused { HasCleanDisk (state A.Store conn.new) → OnErr result (IsTrue (state A.Store conn.new).is_open
+    ensures refused { HasCleanDisk (state A.Store conn.new)
+        → OnErr result (IsTrue (state A.Store conn.new).is_open
         → (state A.Store conn.new).now ≡ (state A.Store conn.old).now) }
     ensures leaves { layout ≢ Second → HasTables layout (state A.Store conn.old).now.schema
         → StopLeaves (state A.Store conn.old) (state A.Store conn.new) (held content.now) }
@@ -252,11 +277,14 @@ fn lay_tables<A: Alter>(
     layout: Layout,
     content: &Kept,
 ) -> Result<Kept, StoreFault>
-    ensures mode { (state A.Store conn.old).in_transaction ≡ false → (state A.Store conn.new).in_transaction ≡ false }
+    ensures mode { (state A.Store conn.old).in_transaction ≡ false
+        → (state A.Store conn.new).in_transaction ≡ false }
     ensures lays_out { LaysOut layout (state A.Store conn.old) (state A.Store conn.new) result }
-    ensures made { HasCleanDisk (state A.Store conn.new) → IfOk result (λ kept. (state A.Store conn.new).now.schema ≡ stable_schema
+    ensures made { HasCleanDisk (state A.Store conn.new)
+        → IfOk result (λ kept. (state A.Store conn.new).now.schema ≡ stable_schema
         → IsLaidOut (state A.Store conn.new).now.trees (held kept)) }
-    ensures refused { HasCleanDisk (state A.Store conn.new) → OnErr result (IsTrue (state A.Store conn.new).is_open
+    ensures refused { HasCleanDisk (state A.Store conn.new)
+        → OnErr result (IsTrue (state A.Store conn.new).is_open
         → (state A.Store conn.new).now ≡ (state A.Store conn.old).now) }
     ensures clean { HasCleanDisk (state A.Store conn.new) → HasCleanDisk (state A.Store conn.old) }
     ensures as_given { layout ≢ Second → IfOk result (λ kept. held kept ≡ held content.now) }

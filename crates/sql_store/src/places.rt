@@ -13,7 +13,8 @@ const NUMBERS: &str = "SELECT rowid, k, v FROM meta ORDER BY rowid";
 
 /// Whether each number of `meta` is in the place of its name.
 pub(crate) fn have_places<A: Alter>(conn: &mut Connection<A>) -> Result<bool, StoreFault>
-    ensures mode { (state A.Store conn.old).in_transaction ≡ false → (state A.Store conn.new).in_transaction ≡ false }
+    ensures mode { (state A.Store conn.old).in_transaction ≡ false
+        → (state A.Store conn.new).in_transaction ≡ false }
     ensures clean { HasCleanDisk (state A.Store conn.new) → HasCleanDisk (state A.Store conn.old) }
 {
     let rows = answer(conn, NUMBERS)?;

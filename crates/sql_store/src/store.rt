@@ -43,7 +43,8 @@ impl<A: Alter + Drop> Model for SqlStable<A> {
       holds_content = s.holds_content;
     } };
 
-    ghost invariant = { λ s. IsTrue s.is_known → IsTrue s.holds_content → Stands (state A.Store s.conn) (held s.kept) };
+    ghost invariant = { λ s. IsTrue s.is_known → IsTrue s.holds_content
+        → Stands (state A.Store s.conn) (held s.kept) };
 }
 
 impl<A: Alter + Drop> SqlStable<A> {
@@ -62,10 +63,11 @@ impl<A: Alter + Drop> SqlStable<A> {
     ghost use Rattle.sql_store.specs.Views.{sql_view};
 
     /// A store in this database: in tables that it makes where the database has none of them, and else in those that
-    /// are there. Tables of version 1 are migrated, and the store has the content that they held. `NotOurs` where only some
-    /// tables are there, where they have other columns or are of another version, and where the next top action's number
-    /// is none; `Failed` where the device or the database refuses or does not hold what was written, or a transaction is
-    /// under way; `Memory` if memory runs out. With a fault the connection comes back, and the database is what it was.
+    /// are there. Tables of version 1 are migrated, and the store has the content that they held. `NotOurs` where
+    /// only some tables are there, where they have other columns or are of another version, and where the next top
+    /// action's number is none; `Failed` where the device or the database refuses or does not hold what was written,
+    /// or a transaction is under way; `Memory` if memory runs out. With a fault the connection comes back, and the
+    /// database is what it was.
     ///
     /// Where the tables hold no content of a store, the store answers `NotOurs` to each call, and counts it.
     pub fn new(
@@ -74,17 +76,23 @@ impl<A: Alter + Drop> SqlStable<A> {
     ) -> Result<SqlStable<A>, (StoreFault, Connection<A>)>
         ensures failures { IfOk result (λ s. (sql_view A.Store s).failures ≡ 0) }
         ensures rests { IfOk result (λ s. Rests (sql_view A.Store s)) }
-        ensures known { IfOk result (λ s. Knows (state A.Store s.conn) (sql_view A.Store s).is_known) }
-        ensures fresh { IfOk result (λ s. HasCleanDisk (state A.Store s.conn) → (state A.Store conn).now.schema ≡ no_schema
+        ensures known { IfOk result
+            (λ s. Knows (state A.Store s.conn) (sql_view A.Store s).is_known) }
+        ensures fresh { IfOk result
+            (λ s. HasCleanDisk (state A.Store s.conn) → (state A.Store conn).now.schema ≡ no_schema
             → found (sql_view A.Store s) ≡ Some empty) }
         ensures makes { IfOk result (λ s. HasCleanDisk (state A.Store s.conn)
             → (state A.Store conn).now.schema ≡ no_schema
             → (state A.Store s.conn).now.schema ≡ stable_schema) }
-        ensures refused { IfErr result (λ e. HasCleanDisk (state A.Store e.1) → (state A.Store conn).now.schema ≡ no_schema
-            → IsTrue (state A.Store e.1).is_open → (state A.Store e.1).now ≡ (state A.Store conn).now) }
-        ensures held { IfOk result (λ s. HasCleanDisk (state A.Store s.conn) → (c : Stored) → Stands (state A.Store conn) c
+        ensures refused { IfErr result
+            (λ e. HasCleanDisk (state A.Store e.1) → (state A.Store conn).now.schema ≡ no_schema
+            → IsTrue (state A.Store e.1).is_open
+            → (state A.Store e.1).now ≡ (state A.Store conn).now) }
+        ensures held { IfOk result
+            (λ s. HasCleanDisk (state A.Store s.conn) → (c : Stored) → Stands (state A.Store conn) c
             → found (sql_view A.Store s) ≡ Some c) }
-        ensures recognized { IfErr result (λ e. e.0 ≡ NotOurs → HasCleanDisk (state A.Store e.1) → (c : Stored)
+        ensures recognized { IfErr result
+            (λ e. e.0 ≡ NotOurs → HasCleanDisk (state A.Store e.1) → (c : Stored)
             → ¬ Stands (state A.Store conn) c) }
         ensures migrates { IfOk result (λ s. HasCleanDisk (state A.Store s.conn) → (c : Stored)
             → IsFirst (state A.Store conn) c → found (sql_view A.Store s) ≡ Some c) }
@@ -98,9 +106,11 @@ impl<A: Alter + Drop> SqlStable<A> {
             → IsFirst (state A.Store conn) c
             → IsTrue (state A.Store e.1).is_open
             → (state A.Store e.1).now ≡ (state A.Store conn).now) }
-        ensures carries { IfOk result (λ s. HasCleanDisk (state A.Store s.conn) → (c : Stored) → Stands (state A.Store conn) c
+        ensures carries { IfOk result
+            (λ s. HasCleanDisk (state A.Store s.conn) → (c : Stored) → Stands (state A.Store conn) c
             → Carries (state A.Store conn) (state A.Store s.conn) c c result) }
-        ensures carries_back { IfErr result (λ e. HasCleanDisk (state A.Store e.1) → (c : Stored) → Stands (state A.Store conn) c
+        ensures carries_back { IfErr result
+            (λ e. HasCleanDisk (state A.Store e.1) → (c : Stored) → Stands (state A.Store conn) c
             → Carries (state A.Store conn) (state A.Store e.1) c c result) }
         ensures stands { IfOk result (λ s. (state A.Store conn).now.schema ≡ no_schema
             → Stands (state A.Store s.conn) empty) }
@@ -135,12 +145,15 @@ impl<A: Alter + Drop> SqlStable<A> {
     }
 
     fn over(alloc: Global, conn: Connection<A>, opened: Opened) -> SqlStable<A>
-        requires { IsTrue opened.is_known → IfSome opened.kept (λ kept. Stands (state A.Store conn) (held kept)) }
+        requires { IsTrue opened.is_known
+            → IfSome opened.kept (λ kept. Stands (state A.Store conn) (held kept)) }
         ensures conn { result.conn ≡ conn }
         ensures failures { result.failures ≡ 0 }
         ensures is_known { result.is_known ≡ opened.is_known }
-        ensures content { (if result.holds_content then Some (held result.kept) else None) ≡ option_map held opened.kept }
-        ensures known { IsTrue result.is_known → IsTrue result.holds_content → Stands (state A.Store conn) (held result.kept) }
+        ensures content { (if result.holds_content then Some (held result.kept) else None)
+            ≡ option_map held opened.kept }
+        ensures known { IsTrue result.is_known → IsTrue result.holds_content
+            → Stands (state A.Store conn) (held result.kept) }
     {
         let Opened { kept, is_known } = opened;
         let (kept, holds_content) = match kept {

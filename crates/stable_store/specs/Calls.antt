@@ -66,7 +66,8 @@ module _ {T : Type 0} where
 
 -- The call made of the content what is stated, or nothing, and counted a failure only with this excuse.
 -- A stop leaves the content before the call or the one after it; and while the store is up, its own.
-pub record Makes {T : Type 0} (old new : View) (excuse : Type 0) (after : Stored) (result : Result T StoreFault) : Type 0 where
+pub record Makes {T : Type 0} (old new : View) (excuse : Type 0) (after : Stored)
+    (result : Result T StoreFault) : Type 0 where
   -- the content is the one after at `Ok`, and else that before
   pub changes : Changes old.content after new.content result
   -- at `Ok` and if memory runs out no failure is counted
@@ -79,7 +80,8 @@ pub record Makes {T : Type 0} (old new : View) (excuse : Type 0) (after : Stored
   -- a device that is honest now was honest before
   pub honest : new.is_honest → old.is_honest
   -- a stop within the call leaves the content before it or the one after it
-  pub stop : IsTrusted new → old.is_up → (left : Option Stored) → new.may_leave left → (left ≡ Some old.content) ⊎ (left ≡ Some after)
+  pub stop : IsTrusted new → old.is_up → (left : Option Stored) → new.may_leave left
+      → (left ≡ Some old.content) ⊎ (left ≡ Some after)
   -- a stop after the call leaves the content of the store
   pub rest : Rests new
   -- `Ok` comes only of a store that was up, and stays so

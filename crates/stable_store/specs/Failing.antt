@@ -19,13 +19,15 @@ counted f = record f {
 
 -- what is seen of it is what is seen of the inner store, with its own failures counted too
 abbrev pub failing_view : {S : Type 0} → (S → View) → Failing S → View
-failing_view seen f = record (seen f.inner) { failures = min ((seen f.inner).failures + f.failed) most_failures }
+failing_view seen f =
+    record (seen f.inner) { failures = min ((seen f.inner).failures + f.failed) most_failures }
 
 -- the inner store's failure is excused, or this was the call that fails
 abbrev pub IsFailing : {S : Type 0} → (S → S → Type 0) → Failing S → Failing S → Type 0
 IsFailing may_fail old new = may_fail old.inner new.inner ⊎ (old.calls_left ≡ 1)
 
 -- the call was counted, and failed if it was the one
-pub record TakesTurn {S T : Type 0} (old new : Failing S) (result : Result T StoreFault) : Type 0 where
+pub record TakesTurn {S T : Type 0} (old new : Failing S)
+    (result : Result T StoreFault) : Type 0 where
   pub counts : new.calls_left ≡ old.calls_left - 1
   pub fails : old.calls_left ≡ 1 → IsErrOf result Failed

@@ -8,7 +8,8 @@ use Rattle.atomic_types.specs.declared.part.Part.{Part}
 use Rattle.atomic_types.specs.declared.part.Part.TheVariants.{Value}
 use Rattle.atomic_types.specs.Parts.{over}
 
--- the record of a prepared top action: its home, and the values and deltas that it would install, by rising object number
+-- the record of a prepared top action: its home, and the values and deltas that it would install, by rising object
+-- number
 pub record Record : Type 0 where
   pub home : ℕ
   pub parts : List (ℕ × Part)
@@ -24,7 +25,8 @@ pub record Stored : Type 0 where
 
 -- before any call
 abbrev pub empty : Stored
-empty = record { base = map.empty; prepared = map.empty; decided = set.empty; count = 0; next_top = 1 }
+empty =
+    record { base = map.empty; prepared = map.empty; decided = set.empty; count = 0; next_top = 1 }
 
 -- one part installed: a value takes the place of what the base had, a delta is added to it
 abbrev pub put_over : ℕ → Part → map.FinMap nat_cmp Part → map.FinMap nat_cmp Part
@@ -46,7 +48,8 @@ after_prepare top home parts s = record s {
 }
 
 abbrev pub after_install : ℕ → Stored → Stored
-after_install top s = record s { base = installed (map.get s.prepared top) s.base; prepared = map.remove s.prepared top }
+after_install top s =
+    record s { base = installed (map.get s.prepared top) s.base; prepared = map.remove s.prepared top }
 
 abbrev pub after_discard : ℕ → Stored → Stored
 after_discard top s = record s { prepared = map.remove s.prepared top }

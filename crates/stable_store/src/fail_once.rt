@@ -80,7 +80,8 @@ impl<S: Stable> Stable for FailOnce<S> {
         parts: BTreeMap<u32, Part>,
     ) -> Result<(), StoreFault>
         ensures makes { Makes (failing_view S.seen self.old) (failing_view S.seen self.new)
-            (IsFailing S.may_fail self.old self.new ⊎ IsTrue (is_misnumbered top home parts.entries))
+            (IsFailing S.may_fail self.old self.new
+            ⊎ IsTrue (is_misnumbered top home parts.entries))
             (after_prepare top home parts.entries (S.seen self.old.inner).content) result }
         ensures numbers { IsTrue (is_misnumbered top home parts.entries) → IsRefused result }
         ensures ours { IsErrOf result NotOurs → (S.seen self.old.inner).holds_content ≡ false }
@@ -134,7 +135,8 @@ impl<S: Stable> Stable for FailOnce<S> {
 
     fn bump(&mut self) -> Result<(), StoreFault>
         ensures makes { Makes (failing_view S.seen self.old) (failing_view S.seen self.new)
-            (IsFailing S.may_fail self.old self.new ⊎ (greatest_count ≤ (S.seen self.old.inner).content.count))
+            (IsFailing S.may_fail self.old self.new
+            ⊎ (greatest_count ≤ (S.seen self.old.inner).content.count))
             (after_bump (S.seen self.old.inner).content) result }
         ensures spent { greatest_count ≤ (S.seen self.old.inner).content.count → IsRefused result }
         ensures ours { IsErrOf result NotOurs → (S.seen self.old.inner).holds_content ≡ false }

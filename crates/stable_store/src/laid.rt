@@ -75,7 +75,8 @@ pub fn lay_values(
     base: &mut BTreeMap<u32, Part>,
     contents: &BTreeMap<u32, Content>,
 ) -> Result<Replaced, AllocError>
-    ensures ok { OnOk result (parts_in base.new ≡ laid (values_of contents.now.entries) (parts_in base.old)) }
+    ensures ok { OnOk result
+        (parts_in base.new ≡ laid (values_of contents.now.entries) (parts_in base.old)) }
     ensures back { IfOk result (λ replaced. CanUndo replaced.items (parts_in base.new)
         × (undone replaced.items (parts_in base.new) ≡ parts_in base.old)) }
     ensures err { OnErr result (parts_in base.new ≡ parts_in base.old) }

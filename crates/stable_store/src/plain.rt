@@ -47,7 +47,8 @@ impl From<Kept> for PlainStable {
     ghost use Rattle.stable_store.specs.Held.{held};
     ghost use Rattle.stable_store.specs.Plain.{plain_view};
 
-    ghost from_gives = { λ kept store. ((plain_view store).content ≡ held kept) × ((plain_view store).failures ≡ 0) };
+    ghost from_gives = { λ kept store. ((plain_view store).content ≡ held kept)
+        × ((plain_view store).failures ≡ 0) };
 
     /// A store with this content, which has counted no failure. This takes no memory.
     fn from(kept: Kept) -> PlainStable {

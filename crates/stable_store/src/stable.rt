@@ -15,11 +15,11 @@ use values::Content;
 /// The count that is not raised any more.
 pub const GREATEST_COUNT: u64 = 9_223_372_036_854_775_807;
 
-/// What a guardian keeps through a crash. A call makes its whole change or none: where it answers an error the content
-/// is what it was, and what it was handed by value is dropped. `Memory` is out of memory; every other error is counted.
-/// Where the device is laid out as the store knows it and returns what was written to it, and no failure has shut the
-/// store, an opening after a stop in the midst of a call finds the content before the call or the one after it; after an `Ok` it
-/// finds the one after it.
+/// What a guardian keeps through a crash. A call makes its whole change or none: where it answers an error the
+/// content is what it was, and what it was handed by value is dropped. `Memory` is out of memory; every other error
+/// is counted. Where the device is laid out as the store knows it and returns what was written to it, and no failure
+/// has shut the store, an opening after a stop in the midst of a call finds the content before the call or the one
+/// after it; after an `Ok` it finds the one after it.
 ///
 /// Objects, top actions and guardians go by their numbers, from 1: a number 0 is refused as `Failed`. A store on whose
 /// device no content was found when it was opened answers `NotOurs` to each call.
@@ -45,8 +45,9 @@ pub trait Stable: Drop {
         ensures numbers { IsTrue (is_misnumbered top home parts.entries) → IsRefused result }
         ensures ours { IsErrOf result NotOurs → (seen self.old).holds_content ≡ false };
 
-    /// Installs what the top action's record has, and forgets the record: a value takes the place of what was installed, a
-    /// delta is added to it, or stands there itself where nothing was. With no record it changes nothing.
+    /// Installs what the top action's record has, and forgets the record: a value takes the place of what was
+    /// installed, a delta is added to it, or stands there itself where nothing was. With no record it changes
+    /// nothing.
     fn install(&mut self, alloc: Global, top: u32) -> Result<(), StoreFault>
         ensures makes { Makes (seen self.old) (seen self.new) (may_fail self.old self.new)
             (after_install top (seen self.old).content) result }
@@ -60,7 +61,8 @@ pub trait Stable: Drop {
 
     /// Keeps that the top action was decided.
     fn decide(&mut self, top: u32) -> Result<(), StoreFault>
-        ensures makes { Makes (seen self.old) (seen self.new) (may_fail self.old self.new ⊎ (top ≡ 0))
+        ensures makes { Makes (seen self.old)
+            (seen self.new) (may_fail self.old self.new ⊎ (top ≡ 0))
             (after_decide top (seen self.old).content) result }
         ensures numbers { top ≡ 0 → IsRefused result }
         ensures ours { IsErrOf result NotOurs → (seen self.old).holds_content ≡ false };
@@ -68,27 +70,32 @@ pub trait Stable: Drop {
     /// Counts one recovery more. At `GREATEST_COUNT` it is refused as `Failed`.
     fn bump(&mut self) -> Result<(), StoreFault>
         ensures makes { Makes (seen self.old) (seen self.new)
-            (may_fail self.old self.new ⊎ (greatest_count ≤ (seen self.old).content.count)) (after_bump (seen self.old).content) result }
+            (may_fail self.old self.new ⊎ (greatest_count ≤ (seen self.old).content.count))
+            (after_bump (seen self.old).content) result }
         ensures spent { greatest_count ≤ (seen self.old).content.count → IsRefused result }
         ensures ours { IsErrOf result NotOurs → (seen self.old).holds_content ≡ false };
 
-    /// Puts these contents in place of those of their objects, and leaves nothing decided. The prepared top actions, the
-    /// count and the next top action's number stay, and so does what is installed of objects with no content here.
+    /// Puts these contents in place of those of their objects, and leaves nothing decided. The prepared top actions,
+    /// the count and the next top action's number stay, and so does what is installed of objects with no content
+    /// here.
     fn save(&mut self, alloc: Global, contents: &BTreeMap<u32, Content>) -> Result<(), StoreFault>
-        ensures makes { Makes (seen self.old) (seen self.new) (may_fail self.old self.new ⊎ IsTrue (has_zero contents.now.entries))
+        ensures makes { Makes (seen self.old) (seen self.new)
+            (may_fail self.old self.new ⊎ IsTrue (has_zero contents.now.entries))
             (after_save contents.now.entries (seen self.old).content) result }
         ensures numbers { IsTrue (has_zero contents.now.entries) → IsRefused result }
         ensures ours { IsErrOf result NotOurs → (seen self.old).holds_content ≡ false };
 
-    /// The content, as maps, read from the device. `NotOurs` where what the device returns is none; that is counted as a
-    /// failure.
+    /// The content, as maps, read from the device. `NotOurs` where what the device returns is none; that is counted
+    /// as a failure.
     fn load(&mut self, alloc: Global) -> Result<Kept, StoreFault>
-        ensures makes { Makes (seen self.old) (seen self.new) (may_fail self.old self.new) (seen self.old).content result }
+        ensures makes { Makes (seen self.old) (seen self.new) (may_fail self.old self.new)
+            (seen self.old).content result }
         ensures loaded { IfOk result (λ kept. held kept ≡ (seen self.old).content) };
 
     /// The content, as the store has it in memory; none where none was found on the device when the store was opened.
     fn kept(&self) -> Option<&Kept>
-        ensures { MatchOption result (found (seen self.now) ≡ None) (λ kept. found (seen self.now) ≡ Some (held kept.now)) };
+        ensures { MatchOption result (found (seen self.now) ≡ None)
+            (λ kept. found (seen self.now) ≡ Some (held kept.now)) };
 
     /// How many calls were refused for another cause than out of memory. At 18,446,744,073,709,551,615 it stays.
     fn failures(&self) -> u64

@@ -27,8 +27,8 @@ worker_of actor = record {
   busy = actor.busy;
 }
 
--- The action is at home at h, has ended or not, is closed or not, and busy or not. Once it has ended its status does not say whether it
--- was closed.
+-- The action is at home at h, has ended or not, is closed or not, and busy or not. Once it has ended its status does
+-- not say whether it was closed.
 pub record IsActor (h : ℕ) (over shut is_busy : Bool) (actor : Actor) : Type 0 where
   pub home : actor.home ≡ h
   pub ended : has_ended actor.status ≡ over
@@ -37,7 +37,8 @@ pub record IsActor (h : ℕ) (over shut is_busy : Bool) (actor : Actor) : Type 0
 
 -- so it is after these events
 abbrev pub IsActorOf : Name → List Event → Actor → Type 0
-IsActorOf a past = IsActor (actions.home_of a past) (actions.is_ended a past) (actions.is_closed a past) (actions.is_busy a past)
+IsActorOf a past = IsActor (actions.home_of a past) (actions.is_ended a past)
+    (actions.is_closed a past) (actions.is_busy a past)
 
 -- it is at home at h, done or not, and busy or not
 pub record IsWorker (h : ℕ) (is_done is_busy : Bool) (worker : Worker) : Type 0 where

@@ -9,4 +9,5 @@ worker_checks a facts = ended_or_closed a facts ∷ busy a facts ∷ gone a fact
 
 -- why an action may take no step of its own, wherever it is
 abbrev pub actor_checks : Name → Facts → List Check
-actor_checks a facts = no_action a facts ∷ ended_or_closed a facts ∷ busy a facts ∷ gone a facts ∷ known_orphan a facts ∷ []
+actor_checks a facts = no_action a facts ∷ ended_or_closed a facts ∷ busy a facts ∷ gone a facts
+    ∷ known_orphan a facts ∷ []

@@ -1,6 +1,8 @@
-//! The answer of a step, written once for every reading of what happened: the table of refusals, and what is answered where none applies.
+//! The answer of a step, written once for every reading of what happened: the table of refusals, and what is answered
+//! where none applies.
 //!
-//! A reading is a record of facts. The flat history is one, a guardian's own history another, and what a step is lent a third.
+//! A reading is a record of facts. The flat history is one, a guardian's own history another, and what a step is lent
+//! a third.
 #![tactic(auto)]
 
 ghost use Rattle.std.specs.Prelude.{◌≡◌, IfOk};
@@ -24,7 +26,8 @@ use std::alloc::AllocError;
 /// The answer of a step by this reading: its first refusal, or what comes of it.
 pub fn answer_of<A: Reads>(reads: &A, step: &Step) -> Result<Answer, AllocError>
     requires { (s : Said) × A.says reads.now s }
-    ensures { (s : Said) → A.says reads.now s → IfOk result (λ answer. answer ≡ answer_by s.opening s.facts s.results step.now) }
+    ensures { (s : Said) → A.says reads.now s
+        → IfOk result (λ answer. answer ≡ answer_by s.opening s.facts s.results step.now) }
 {
     match refusal_of(reads, step)? {
         Some(why) => Ok(Answer::Refused(why)),
@@ -40,7 +43,8 @@ pub fn operation_of<A: ReadsAction>(
     operation: &Op,
 ) -> Result<Answer, AllocError>
     requires { (s : Said) × A.says reads.now s }
-    ensures { (s : Said) → A.says reads.now s → IfOk result (λ answer. answer ≡ answer_by s.opening s.facts s.results
+    ensures { (s : Said)
+        → A.says reads.now s → IfOk result (λ answer. answer ≡ answer_by s.opening s.facts s.results
         (steps.Op action.now object operation.now)) }
 {
     match refusal_of_operation(reads, action, object, operation)? {

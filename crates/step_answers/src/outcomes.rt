@@ -15,8 +15,10 @@ use std::alloc::{AllocError, Global};
 /// The answer of a step that nothing refuses.
 pub(crate) fn outcome_of<A: Reads>(reads: &A, step: &Step) -> Result<Answer, AllocError>
     requires some { (s : Said) × A.says reads.now s }
-    requires accepted { (s : Said) → A.says reads.now s → first_refusal (checks_by s.opening s.facts step.now) ≡ None }
-    ensures { (s : Said) → A.says reads.now s → IfOk result (λ answer. answer ≡ outcome_by s.facts.next s.results step.now) }
+    requires accepted { (s : Said) → A.says reads.now s
+        → first_refusal (checks_by s.opening s.facts step.now) ≡ None }
+    ensures { (s : Said) → A.says reads.now s
+        → IfOk result (λ answer. answer ≡ outcome_by s.facts.next s.results step.now) }
 {
     match step {
         Step::Top(_) => begin_top(reads),
@@ -53,7 +55,8 @@ fn began(alloc: Global, name: Name) -> Result<Answer, AllocError>
 fn begin_top<A: Reads>(reads: &A) -> Result<Answer, AllocError>
     requires some { (s : Said) × A.says reads.now s }
     requires left { (s : Said) → A.says reads.now s → s.facts.next [] ≤ max_number }
-    ensures { (s : Said) → A.says reads.now s → IfOk result (λ answer. answer ≡ Began ((s.facts.next [] ∷ []) ∷ [])) }
+    ensures { (s : Said) → A.says reads.now s
+        → IfOk result (λ answer. answer ≡ Began ((s.facts.next [] ∷ []) ∷ [])) }
 {
     let name = top_name(reads.alloc(), reads.next(&[]))?;
     began(reads.alloc(), name)
@@ -62,7 +65,8 @@ fn begin_top<A: Reads>(reads: &A) -> Result<Answer, AllocError>
 fn begin_child<A: Reads>(reads: &A, parent: &Name) -> Result<Answer, AllocError>
     requires some { (s : Said) × A.says reads.now s }
     requires left { (s : Said) → A.says reads.now s → s.facts.next parent.now ≤ max_number }
-    ensures { (s : Said) → A.says reads.now s → IfOk result (λ answer. answer ≡ Began (child_of parent.now (s.facts.next parent.now) ∷ [])) }
+    ensures { (s : Said) → A.says reads.now s → IfOk result
+        (λ answer. answer ≡ Began (child_of parent.now (s.facts.next parent.now) ∷ [])) }
 {
     let name = child_name(parent, reads.next(parent.components()))?;
     began(reads.alloc(), name)
@@ -70,8 +74,10 @@ fn begin_child<A: Reads>(reads: &A, parent: &Name) -> Result<Answer, AllocError>
 
 fn begin_arms<A: Reads>(reads: &A, parent: &Name, kinds: &ArmKinds) -> Result<Answer, AllocError>
     requires some { (s : Said) × A.says reads.now s }
-    requires left { (s : Said) → A.says reads.now s → is_past_arms_by s.facts.next parent.now kinds.now ≡ false }
-    ensures { (s : Said) → A.says reads.now s → IfOk result (λ answer. answer ≡ Began (arm_names parent.now
+    requires left { (s : Said) → A.says reads.now s
+        → is_past_arms_by s.facts.next parent.now kinds.now ≡ false }
+    ensures { (s : Said) → A.says reads.now s
+        → IfOk result (λ answer. answer ≡ Began (arm_names parent.now
         (s.facts.next parent.now) (s.facts.next []) kinds.now)) }
 {
     let child = reads.next(parent.components());

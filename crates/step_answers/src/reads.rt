@@ -9,8 +9,9 @@ use crate::actor::{Actor, Worker};
 use run_model::{Answer, Name, ObjectId, Op, Opening};
 use std::alloc::{AllocError, Global};
 
-/// What an operation is judged by: the facts of actions that its refusals ask for, and what comes of one that nothing refuses. A guardian by
-/// itself is such a reading. Of an action that was begun it is told the home again, so that the action is looked up once.
+/// What an operation is judged by: the facts of actions that its refusals ask for, and what comes of one that nothing
+/// refuses. A guardian by itself is such a reading. Of an action that was begun it is told the home again, so that
+/// the action is looked up once.
 ///
 /// What is read may be that of many histories. So a clause is said of whatever the reading says.
 pub trait ReadsAction {
@@ -34,7 +35,8 @@ pub trait ReadsAction {
     fn is_orphan(&self, action: &Name, home: u32) -> Result<bool, AllocError>
         requires begun { (s : Said) → says self.now s → IsTrue (s.facts.begun action.now) }
         requires home { (s : Said) → says self.now s → home ≡ s.facts.home action.now }
-        ensures { (s : Said) → says self.now s → IfOk result (λ orphan. orphan ≡ s.facts.orphan action.now) };
+        ensures { (s : Said) → says self.now s
+            → IfOk result (λ orphan. orphan ≡ s.facts.orphan action.now) };
 
     /// What an operation that nothing refuses is answered.
     fn operated(
@@ -44,12 +46,15 @@ pub trait ReadsAction {
         operation: &Op,
     ) -> Result<Answer, AllocError>
         requires some { (s : Said) × says self.now s }
-        requires accepted { (s : Said) → says self.now s → first_refusal (checks_by s.opening s.facts (steps.Op action.now object operation.now)) ≡ None }
-        ensures { (s : Said) → says self.now s → IfOk result (λ answer. answer ≡ s.results.operation action.now object operation.now) };
+        requires accepted { (s : Said) → says self.now s
+            → first_refusal (checks_by s.opening s.facts (steps.Op action.now object operation.now))
+            ≡ None }
+        ensures { (s : Said) → says self.now s → IfOk result
+            (λ answer. answer ≡ s.results.operation action.now object operation.now) };
 }
 
-/// What a step is judged by: the facts that refusals ask for, and the results of steps that nothing refuses. A reading of a whole history is
-/// one, and so is what a step is lent.
+/// What a step is judged by: the facts that refusals ask for, and the results of steps that nothing refuses. A
+/// reading of a whole history is one, and so is what a step is lent.
 pub trait Reads: ReadsAction {
     fn alloc(&self) -> Global;
 
@@ -64,13 +69,15 @@ pub trait Reads: ReadsAction {
 
     /// All numbers above 4294967295 count as 4294967296.
     fn next(&self, path: &[u32]) -> u64
-        ensures { (s : Said) → Self.says self.now s → result ≡ min (s.facts.next path.now) (suc max_number) };
+        ensures { (s : Said) → Self.says self.now s
+            → result ≡ min (s.facts.next path.now) (suc max_number) };
 
     fn is_down(&self, guardian: u32) -> bool
         ensures { (s : Said) → Self.says self.now s → result ≡ s.facts.down guardian };
 
     fn takes_part(&self, guardian: u32, top: &Name) -> bool
-        ensures { (s : Said) → Self.says self.now s → result ≡ s.facts.takes_part guardian top.now };
+        ensures { (s : Said) → Self.says self.now s
+            → result ≡ s.facts.takes_part guardian top.now };
 
     fn has_voted(&self, guardian: u32, top: &Name) -> bool
         ensures { (s : Said) → Self.says self.now s → result ≡ s.facts.voted guardian top.now };
@@ -84,6 +91,8 @@ pub trait Reads: ReadsAction {
 
     /// What a telling that nothing refuses counts.
     fn told_count(&self, guardian: u32, action: &Name) -> Result<u64, AllocError>
-        requires accepted { (s : Said) → Self.says self.now s → first_refusal (checks_by s.opening s.facts (steps.Tell guardian action.now)) ≡ None }
-        ensures { (s : Said) → Self.says self.now s → IfOk result (λ count. count ≡ s.results.count guardian action.now) };
+        requires accepted { (s : Said) → Self.says self.now s
+            → first_refusal (checks_by s.opening s.facts (steps.Tell guardian action.now)) ≡ None }
+        ensures { (s : Said) → Self.says self.now s
+            → IfOk result (λ count. count ≡ s.results.count guardian action.now) };
 }

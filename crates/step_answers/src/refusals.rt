@@ -21,7 +21,8 @@ const MAX_NUMBER: u64 = 4294967295;
 /// The first refusal of the step that applies.
 pub(crate) fn refusal_of<A: Reads>(reads: &A, step: &Step) -> Result<Option<Refusal>, AllocError>
     requires { (s : Said) × A.says reads.now s }
-    ensures { (s : Said) → A.says reads.now s → IfOk result (λ why. why ≡ first_refusal (checks_by s.opening s.facts step.now)) }
+    ensures { (s : Said) → A.says reads.now s
+        → IfOk result (λ why. why ≡ first_refusal (checks_by s.opening s.facts step.now)) }
 {
     match step {
         Step::Top(guardian) => Ok(of_top(reads, *guardian)),
@@ -52,7 +53,8 @@ fn of_worker<A: ReadsAction>(reads: &A, name: &Name, worker: Worker) -> Option<R
     requires begun { (s : Said) → A.says reads.now s → IsTrue (s.facts.begun name.now) }
     requires worker { (s : Said) → A.says reads.now s
         → IsWorker (s.facts.home name.now) (s.facts.done name.now) (s.facts.busy name.now) worker }
-    ensures { (s : Said) → A.says reads.now s → result ≡ first_refusal (worker_checks name.now s.facts) }
+    ensures { (s : Said) → A.says reads.now s
+        → result ≡ first_refusal (worker_checks name.now s.facts) }
 {
     if worker.done {
         return Some(Refusal::Ended);
@@ -68,7 +70,8 @@ fn of_worker<A: ReadsAction>(reads: &A, name: &Name, worker: Worker) -> Option<R
 
 /// Why the action may take no step of its own, wherever it is.
 fn of_actor<A: ReadsAction>(reads: &A, name: &Name) -> Result<Option<Refusal>, AllocError>
-    ensures { (s : Said) → A.says reads.now s → IfOk result (λ why. why ≡ first_refusal (actor_checks name.now s.facts)) }
+    ensures { (s : Said) → A.says reads.now s
+        → IfOk result (λ why. why ≡ first_refusal (actor_checks name.now s.facts)) }
 {
     let Some(worker) = reads.worker(name) else {
         return Ok(Some(Refusal::NoAction));
@@ -83,7 +86,8 @@ fn of_actor<A: ReadsAction>(reads: &A, name: &Name) -> Result<Option<Refusal>, A
 }
 
 fn of_top<A: Reads>(reads: &A, guardian: u32) -> Option<Refusal>
-    ensures { (s : Said) → A.says reads.now s → result ≡ first_refusal (checks_by s.opening s.facts (Top guardian)) }
+    ensures { (s : Said) → A.says reads.now s
+        → result ≡ first_refusal (checks_by s.opening s.facts (Top guardian)) }
 {
     if is_no_guardian(reads.opening(), guardian) {
         return Some(Refusal::NoGuardian);
@@ -98,7 +102,8 @@ fn of_top<A: Reads>(reads: &A, guardian: u32) -> Option<Refusal>
 }
 
 fn of_nested_top<A: Reads>(reads: &A, name: &Name) -> Result<Option<Refusal>, AllocError>
-    ensures { (s : Said) → A.says reads.now s → IfOk result (λ why. why ≡ first_refusal (checks_by s.opening s.facts (NestedTop name.now))) }
+    ensures { (s : Said) → A.says reads.now s → IfOk result
+        (λ why. why ≡ first_refusal (checks_by s.opening s.facts (NestedTop name.now))) }
 {
     if let Some(why) = of_actor(reads, name)? {
         return Ok(Some(why));
@@ -110,7 +115,8 @@ fn of_nested_top<A: Reads>(reads: &A, name: &Name) -> Result<Option<Refusal>, Al
 }
 
 fn of_call<A: Reads>(reads: &A, name: &Name, guardian: u32) -> Result<Option<Refusal>, AllocError>
-    ensures { (s : Said) → A.says reads.now s → IfOk result (λ why. why ≡ first_refusal (checks_by s.opening s.facts (Call name.now guardian))) }
+    ensures { (s : Said) → A.says reads.now s → IfOk result
+        (λ why. why ≡ first_refusal (checks_by s.opening s.facts (Call name.now guardian))) }
 {
     if is_no_guardian(reads.opening(), guardian) {
         return Ok(Some(Refusal::NoGuardian));
@@ -137,7 +143,8 @@ fn of_call<A: Reads>(reads: &A, name: &Name, guardian: u32) -> Result<Option<Ref
 }
 
 fn of_commit<A: Reads>(reads: &A, name: &Name) -> Result<Option<Refusal>, AllocError>
-    ensures { (s : Said) → A.says reads.now s → IfOk result (λ why. why ≡ first_refusal (checks_by s.opening s.facts (Commit name.now))) }
+    ensures { (s : Said) → A.says reads.now s
+        → IfOk result (λ why. why ≡ first_refusal (checks_by s.opening s.facts (Commit name.now))) }
 {
     if let Some(why) = of_actor(reads, name)? {
         return Ok(Some(why));
@@ -149,7 +156,8 @@ fn of_commit<A: Reads>(reads: &A, name: &Name) -> Result<Option<Refusal>, AllocE
 }
 
 fn of_close<A: Reads>(reads: &A, name: &Name) -> Result<Option<Refusal>, AllocError>
-    ensures { (s : Said) → A.says reads.now s → IfOk result (λ why. why ≡ first_refusal (checks_by s.opening s.facts (Close name.now))) }
+    ensures { (s : Said) → A.says reads.now s
+        → IfOk result (λ why. why ≡ first_refusal (checks_by s.opening s.facts (Close name.now))) }
 {
     if let Some(why) = of_actor(reads, name)? {
         return Ok(Some(why));
@@ -161,7 +169,8 @@ fn of_close<A: Reads>(reads: &A, name: &Name) -> Result<Option<Refusal>, AllocEr
 }
 
 fn of_prepare<A: Reads>(reads: &A, guardian: u32, name: &Name) -> Option<Refusal>
-    ensures { (s : Said) → A.says reads.now s → result ≡ first_refusal (checks_by s.opening s.facts (Prepare guardian name.now)) }
+    ensures { (s : Said) → A.says reads.now s
+        → result ≡ first_refusal (checks_by s.opening s.facts (Prepare guardian name.now)) }
 {
     if is_no_guardian(reads.opening(), guardian) {
         return Some(Refusal::NoGuardian);
@@ -194,7 +203,8 @@ fn of_prepare<A: Reads>(reads: &A, guardian: u32, name: &Name) -> Option<Refusal
 }
 
 fn of_decide<A: Reads>(reads: &A, name: &Name) -> Option<Refusal>
-    ensures { (s : Said) → A.says reads.now s → result ≡ first_refusal (checks_by s.opening s.facts (Decide name.now)) }
+    ensures { (s : Said) → A.says reads.now s
+        → result ≡ first_refusal (checks_by s.opening s.facts (Decide name.now)) }
 {
     let Some(actor) = reads.actor(name) else {
         return Some(Refusal::NoAction);
@@ -218,7 +228,8 @@ fn of_decide<A: Reads>(reads: &A, name: &Name) -> Option<Refusal>
 }
 
 fn of_abort<A: Reads>(reads: &A, name: &Name) -> Option<Refusal>
-    ensures { (s : Said) → A.says reads.now s → result ≡ first_refusal (checks_by s.opening s.facts (Abort name.now)) }
+    ensures { (s : Said) → A.says reads.now s
+        → result ≡ first_refusal (checks_by s.opening s.facts (Abort name.now)) }
 {
     let Some(actor) = reads.actor(name) else {
         return Some(Refusal::NoAction);
@@ -230,7 +241,8 @@ fn of_abort<A: Reads>(reads: &A, name: &Name) -> Option<Refusal>
 }
 
 fn of_tell<A: Reads>(reads: &A, guardian: u32, name: &Name) -> Option<Refusal>
-    ensures { (s : Said) → A.says reads.now s → result ≡ first_refusal (checks_by s.opening s.facts (Tell guardian name.now)) }
+    ensures { (s : Said) → A.says reads.now s
+        → result ≡ first_refusal (checks_by s.opening s.facts (Tell guardian name.now)) }
 {
     if is_no_guardian(reads.opening(), guardian) {
         return Some(Refusal::NoGuardian);
@@ -251,7 +263,8 @@ fn of_tell<A: Reads>(reads: &A, guardian: u32, name: &Name) -> Option<Refusal>
 }
 
 fn of_crash<A: Reads>(reads: &A, guardian: u32) -> Option<Refusal>
-    ensures { (s : Said) → A.says reads.now s → result ≡ first_refusal (checks_by s.opening s.facts (Crash guardian)) }
+    ensures { (s : Said) → A.says reads.now s
+        → result ≡ first_refusal (checks_by s.opening s.facts (Crash guardian)) }
 {
     if is_no_guardian(reads.opening(), guardian) {
         return Some(Refusal::NoGuardian);
@@ -263,7 +276,8 @@ fn of_crash<A: Reads>(reads: &A, guardian: u32) -> Option<Refusal>
 }
 
 fn of_recover<A: Reads>(reads: &A, guardian: u32) -> Option<Refusal>
-    ensures { (s : Said) → A.says reads.now s → result ≡ first_refusal (checks_by s.opening s.facts (Recover guardian)) }
+    ensures { (s : Said) → A.says reads.now s
+        → result ≡ first_refusal (checks_by s.opening s.facts (Recover guardian)) }
 {
     if is_no_guardian(reads.opening(), guardian) {
         return Some(Refusal::NoGuardian);
@@ -280,7 +294,8 @@ fn of_arms<A: Reads>(
     kinds: &ArmKinds,
 ) -> Result<Option<Refusal>, AllocError>
     requires { (s : Said) × A.says reads.now s }
-    ensures { (s : Said) → A.says reads.now s → IfOk result (λ why. why ≡ first_refusal (checks_by s.opening s.facts (Arms name.now kinds.now))) }
+    ensures { (s : Said) → A.says reads.now s → IfOk result
+        (λ why. why ≡ first_refusal (checks_by s.opening s.facts (Arms name.now kinds.now))) }
 {
     if let Some(why) = of_actor(reads, name)? {
         return Ok(Some(why));
@@ -303,7 +318,8 @@ fn has_sub(kinds: &[ArmKind]) -> bool
 /// Whether there are no arms, too many, or no numbers for them.
 fn is_past_arms<A: Reads>(reads: &A, name: &Name, kinds: &ArmKinds) -> bool
     requires { (s : Said) × A.says reads.now s }
-    ensures { (s : Said) → A.says reads.now s → result ≡ is_past_arms_by s.facts.next name.now kinds.now }
+    ensures { (s : Said) → A.says reads.now s
+        → result ≡ is_past_arms_by s.facts.next name.now kinds.now }
 {
     if kinds.is_empty() || kinds.len() > MAX_ARMS {
         return true;

@@ -22,7 +22,8 @@ pub trait MakesSteps {
     fn step(&mut self, step: &Step) -> Result<Answer, Fault>
         ensures answer { IfOk result (λ answer. answer
             ≡ answer_of (opening_in (run self.old).lists) step.now (run self.old).past) }
-        ensures after { IfOk result (λ answer. run self.new ≡ world_after (run self.old) step.now answer) }
+        ensures after { IfOk result
+            (λ answer. run self.new ≡ world_after (run self.old) step.now answer) }
         ensures err { OnErr result (run self.new ≡ run self.old) }
         ensures stores { leaves step.now (fault_in result) self.old self.new };
 

@@ -70,17 +70,20 @@ all_suit objects parts = list_all (λ p. suits (object_at objects p.0) p.1) part
 
 -- the home is a guardian of the setup, and the parts suit these objects
 abbrev pub record_belongs : Setup → List Content → Record → Bool
-record_belongs setup objects r = nat_le 1 r.home && (nat_le r.home (length setup) && all_suit objects r.parts)
+record_belongs setup objects r =
+    nat_le 1 r.home && (nat_le r.home (length setup) && all_suit objects r.parts)
 
 -- what a store contains may stand in the store of this guardian of the setup
 abbrev pub belongs : Setup → ℕ → Stored → Bool
 belongs setup guardian s =
-    all_suit (objects_at setup guardian) (map.entries s.base) && list_all (λ e. record_belongs setup (objects_at setup guardian) e.1) (map.entries s.prepared)
+    all_suit (objects_at setup guardian) (map.entries s.base)
+    && list_all (λ e. record_belongs setup (objects_at setup guardian) e.1) (map.entries s.prepared)
 
 -- the stores of the guardians from this one on
 abbrev pub belong_from : Setup → ℕ → List Stored → Bool
 belong_from setup guardian [] = true
-belong_from setup guardian (s ∷ stores) = belongs setup guardian s && belong_from setup (guardian + 1) stores
+belong_from setup guardian (s ∷ stores) =
+    belongs setup guardian s && belong_from setup (guardian + 1) stores
 
 -- each store's content may stand in the store of its guardian
 abbrev pub all_belong : Setup → List Stored → Bool

@@ -11,7 +11,8 @@ abbrev pub IsLeast : Stored → ℕ → ℕ → Type 0
 IsLeast s top home = (r : Record) × (r.home ≡ home) × HasFirst s (top, r)
 
 -- the store at this place is the first with a record, and this is its least top action
-pub record IsFirstLeft {S : Type 0} (seen : S → View) (stores : List S) (place top home : ℕ) : Type 0 where
+pub record IsFirstLeft {S : Type 0} (seen : S → View) (stores : List S)
+    (place top home : ℕ) : Type 0 where
   pub before : List S
   pub store : S
   pub behind : List S

@@ -24,7 +24,8 @@ pub record IsOpenedFrom (opening : Opening) (g : ℕ) (s : Stored) : Type 0 wher
 abbrev pub opened : List Stored → List Stored
 opened stores = each after_bump (settled stores)
 
--- a number above those of all top actions that the stores ever prepared: the greatest that one of them gives, and 1 at least
+-- a number above those of all top actions that the stores ever prepared: the greatest that one of them gives, and 1
+-- at least
 abbrev pub first_number : List Stored → ℕ
 first_number stores = fold (λ n s. max n s.next_top) 1 stores
 
@@ -43,7 +44,8 @@ module _ {S : Type 0} (seen : S → View) where
   abbrev pub CountsNone : S → S → Type 0
   CountsNone old new = (seen new).content.count ≡ (seen old).content.count
 
-  -- The stores of the setup's guardians were opened, and none of their calls was refused. Each holds a content, in which nothing is prepared, and rests.
+  -- The stores of the setup's guardians were opened, and none of their calls was refused. Each holds a content, in
+  -- which nothing is prepared, and rests.
   pub record AreOpened (setup : Setup) (old new : List S) : Type 0 where
     pub held : all_hold seen old ≡ true
     pub belonged : all_belong setup (contents seen old) ≡ true
@@ -58,18 +60,22 @@ module _ {S : Type 0} (seen : S → View) where
     pub goes : AllZip (GoesOn seen) old new
     pub stops : KeepsBases seen old new
 
-  -- The stores were not opened. They are those of others (`NotOurs`) where one holds no content, or what one contains does not belong there, or what its
-  -- device returned is none, which is counted; then each contains what it did. A recovery was counted at one of them only once none had a record.
-  -- Each holds what it held, with some of its records settled. None counted a failure if memory ran out (`Memory`).
+  -- The stores were not opened. They are those of others (`NotOurs`) where one holds no content, or what one contains
+  -- does not belong there, or what its device returned is none, which is counted; then each contains what it did. A
+  -- recovery was counted at one of them only once none had a record. Each holds what it held, with some of its
+  -- records settled. None counted a failure if memory ran out (`Memory`).
   pub record AreRefused (setup : Setup) (old new : List S) (why : Refused) : Type 0 where
     pub bases : bases_then (contents seen new) ≡ bases_then (contents seen old)
-    pub in_part : AllZip (IsSettledInPart (contents seen old)) (contents seen old) (contents seen new)
+    pub in_part :
+        AllZip (IsSettledInPart (contents seen old)) (contents seen old) (contents seen new)
     pub kept : AllZip (OpensItself seen) old new
     pub stops : KeepsBases seen old new
     pub counted : why ≡ Stable → OneHasCounted seen old new
     pub memory : why ≡ Memory → NoneHasCounted seen old new
     pub settled_first : AllByRecursion HasNoRecord (contents seen new) ⊎ AllZip CountsNone old new
     pub empty : all_hold seen old ≡ false → (why ≡ NotOurs) × (new ≡ old)
-    pub strange : all_belong setup (contents seen old) ≡ false → contents seen new ≡ contents seen old
+    pub strange : all_belong setup (contents seen old) ≡ false
+        → contents seen new ≡ contents seen old
     pub others : why ≡ NotOurs → (contents seen new ≡ contents seen old)
-        × ((all_hold seen old ≡ false) ⊎ ((all_belong setup (contents seen old) ≡ false) ⊎ OneHasCounted seen old new))
+        × ((all_hold seen old ≡ false)
+        ⊎ ((all_belong setup (contents seen old) ≡ false) ⊎ OneHasCounted seen old new))

@@ -8,7 +8,8 @@ use Rattle.stable_store.specs.declared.kept.Kept.{Kept}
 
 -- what is kept, in lists
 abbrev pub lists_of : Kept → StoreLists
-lists_of kept = record { base = kept.base.entries; decided = kept.decided.keys; count = kept.count; next_top = kept.next_top }
+lists_of kept =
+    record { base = kept.base.entries; decided = kept.decided.keys; count = kept.count; next_top = kept.next_top }
 
 -- they say what the store contains beside its records
 pub record Says (s : Stored) (lists : StoreLists) : Type 0 where

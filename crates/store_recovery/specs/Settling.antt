@@ -27,7 +27,8 @@ is_decided stores home top = has_decided (store_of stores home) top
 
 -- a store once a top action's record is settled: it is installed where its home has decided, and else discarded
 abbrev pub settled_by : List Stored → ℕ × Record → Stored → Stored
-settled_by stores entry s = if is_decided stores entry.1.home entry.0 then after_install entry.0 s else after_discard entry.0 s
+settled_by stores entry s = if is_decided stores entry.1.home entry.0 then after_install entry.0 s
+    else after_discard entry.0 s
 
 -- a store once all its records are settled, from the least top action on
 abbrev pub settled_store : List Stored → Stored → Stored

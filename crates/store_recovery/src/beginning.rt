@@ -11,11 +11,11 @@ use crate::settling::{all_hold, kept_in};
 use stable_store::{Kept, Stable};
 use std::alloc::Global;
 
-/// Sees that the stores are new: each is read from its device, and nothing was ever kept there, so it has no base, no record, nothing decided, no
-/// recovery and no top action.
+/// Sees that the stores are new: each is read from its device, and nothing was ever kept there, so it has no base, no
+/// record, nothing decided, no recovery and no top action.
 ///
-/// After an error each contains what it did. `NotOurs` comes where a store holds no content or not that of a new one, and where its device
-/// returned none; `Stable` of a store that counted a failure, `Memory` of memory that ran out.
+/// After an error each contains what it did. `NotOurs` comes where a store holds no content or not that of a new one,
+/// and where its device returned none; `Stable` of a store that counted a failure, `Memory` of memory that ran out.
 pub fn begin_stores<S: Stable>(alloc: Global, stores: &mut [S]) -> Result<(), Refused>
     ensures new { OnOk result (AreNew S.seen stores.new) }
     ensures same { contents S.seen stores.new ≡ contents S.seen stores.old }

@@ -40,11 +40,14 @@ pub(crate) fn settle_all<S: Stable>(alloc: Global, stores: &mut [S]) -> Result<(
 /// Counts a recovery more at each store.
 pub(crate) fn count_all<S: Stable>(stores: &mut [S]) -> Result<(), Refused>
     requires { all_hold S.seen stores.old ≡ true }
-    ensures counts { OnOk result (contents S.seen stores.new ≡ each after_bump (contents S.seen stores.old)) }
+    ensures counts { OnOk result
+        (contents S.seen stores.new ≡ each after_bump (contents S.seen stores.old)) }
     ensures bumped { AllZip (IsBumpedAtMost S.seen) stores.old stores.new }
-    ensures none { AllByRecursion HasNoRecord (contents S.seen stores.old) → AllByRecursion HasNoRecord (contents S.seen stores.new) }
+    ensures none { AllByRecursion HasNoRecord (contents S.seen stores.old)
+        → AllByRecursion HasNoRecord (contents S.seen stores.new) }
     ensures rest { OnOk result (AllByRecursion (λ s. Rests (S.seen s)) stores.new) }
-    ensures bases { bases_then (contents S.seen stores.new) ≡ bases_then (contents S.seen stores.old) }
+    ensures bases { bases_then (contents S.seen stores.new)
+        ≡ bases_then (contents S.seen stores.old) }
     ensures called { Called S.seen (OpensItself S.seen) stores.old stores.new result }
     ensures ours { IfErr result (λ why. why ≢ Refused.NotOurs) }
 {

@@ -41,8 +41,9 @@ fn store_belongs<S: Stable>(setup: &Setup, guardian: u32, store: &S) -> bool
     belongs(setup, guardian, kept_in(store))
 }
 
-/// Whether a content may stand in the store of this guardian: its parts are of the objects that the guardian was set up with, a value of its object's
-/// type, a delta only for a counter, and the home of each record is a guardian of the setup. This takes no memory.
+/// Whether a content may stand in the store of this guardian: its parts are of the objects that the guardian was set
+/// up with, a value of its object's type, a delta only for a counter, and the home of each record is a guardian of
+/// the setup. This takes no memory.
 pub fn belongs(setup: &Setup, guardian: u32, kept: &Kept) -> bool
     requires { 1 ≤ guardian }
     ensures { result ≡ belongs setup.now guardian (held kept.now) }
@@ -53,8 +54,10 @@ pub fn belongs(setup: &Setup, guardian: u32, kept: &Kept) -> bool
 
 // Whether each record's home is a guardian, and its parts suit these objects.
 fn records_belong(setup: &Setup, objects: &[Content], records: &BTreeMap<u32, Prepared>) -> bool
-    ensures belong { result ≡ list_all (λ r. record_belongs setup.now objects.now (record_of r)) (tree.values records.now) }
-    ensures rising { map.entries (map.from_entries {R = nat_cmp} (records_of records.now.entries)) ≡ records_of records.now.entries }
+    ensures belong { result ≡ list_all (λ r. record_belongs setup.now objects.now (record_of r))
+        (tree.values records.now) }
+    ensures rising { map.entries (map.from_entries {R = nat_cmp} (records_of records.now.entries))
+        ≡ records_of records.now.entries }
 {
     records
         .values()

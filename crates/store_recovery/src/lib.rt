@@ -1,7 +1,7 @@
 //! What opens the stores of one system, new ones or those that a stop left.
 //!
-//! A record that is left is installed where the store of its home has decided, and else discarded. Of one store alone it says whether its content may be that
-//! of a guardian of the setup (`belongs`).
+//! A record that is left is installed where the store of its home has decided, and else discarded. Of one store alone
+//! it says whether its content may be that of a guardian of the setup (`belongs`).
 #![tactic(auto)]
 
 mod beginning;

@@ -17,15 +17,16 @@ use stable_store::{Kept, Stable};
 use std::alloc::{AllocError, Global};
 use std::collections::{BTreeMap, BTreeSet};
 
-/// Opens the stores of the setup's guardians again, the first guardian's first. Each is read from its device, and what it contains is
-/// checked; then all records are settled, and a recovery is counted at each store. The opening is what the stores hold then, and its
-/// first top action has a number above those of all that were ever prepared.
+/// Opens the stores of the setup's guardians again, the first guardian's first. Each is read from its device, and
+/// what it contains is checked; then all records are settled, and a recovery is counted at each store. The opening is
+/// what the stores hold then, and its first top action has a number above those of all that were ever prepared.
 ///
-/// After an error the setup and the stores come back. `NotOurs` comes before anything is changed: where a store holds no content, where
-/// its device returned none, or where what it contains does not fit the objects of its guardian or the guardians of the setup. `Stable`
-/// comes of a store that counted a failure, `Memory` of memory that ran out. What was settled by then stays so, and a recovery may have been
-/// counted at some stores once no record was left. What is installed once all records are settled is what it was. Each
-/// store holds what it held, with some of its records settled. So the stores can be opened again.
+/// After an error the setup and the stores come back. `NotOurs` comes before anything is changed: where a store holds
+/// no content, where its device returned none, or where what it contains does not fit the objects of its guardian or
+/// the guardians of the setup. `Stable` comes of a store that counted a failure, `Memory` of memory that ran out.
+/// What was settled by then stays so, and a recovery may have been counted at some stores once no record was left.
+/// What is installed once all records are settled is what it was. Each store holds what it held, with some of its
+/// records settled. So the stores can be opened again.
 pub fn open_stores<S: Stable>(
     alloc: Global,
     setup: Setup,
@@ -33,8 +34,10 @@ pub fn open_stores<S: Stable>(
 ) -> Result<(Opening, Vec<S>), (Refused, Setup, Vec<S>)>
     requires { vec_len stores ≡ length setup }
     ensures opened { IfOk result (λ opened. AreOpened S.seen setup stores.items opened.1.items) }
-    ensures opening { IfOk result (λ opened. IsOpeningOf setup (contents S.seen opened.1.items) (opening_in opened.0)) }
-    ensures refused { IfErr result (λ refused. AreRefused S.seen setup stores.items refused.2.items refused.0) }
+    ensures opening { IfOk result
+        (λ opened. IsOpeningOf setup (contents S.seen opened.1.items) (opening_in opened.0)) }
+    ensures refused { IfErr result
+        (λ refused. AreRefused S.seen setup stores.items refused.2.items refused.0) }
     ensures setup { IfErr result (λ refused. refused.1 ≡ setup) }
 {
     match open_all(alloc, &setup, stores.as_mut_slice()) {

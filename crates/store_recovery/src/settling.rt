@@ -14,16 +14,17 @@ use crate::refused::Refused;
 use stable_store::{Kept, Stable, StoreFault};
 use std::alloc::Global;
 
-/// Settles one record, if one is left: at the first store with one, that of the least top action. It is installed where the store of
-/// its home has the top action among its decided ones, and else discarded. `Ok(false)` comes where no store has a record, and then
-/// all stores are as they were.
+/// Settles one record, if one is left: at the first store with one, that of the least top action. It is installed
+/// where the store of its home has the top action among its decided ones, and else discarded. `Ok(false)` comes where
+/// no store has a record, and then all stores are as they were.
 ///
-/// After an error each store contains what it did: `Memory` comes if memory ran out, and `Stable` of a store that counted a failure.
-/// `NotOurs` comes exactly where a store holds no content, and then no store is called.
+/// After an error each store contains what it did: `Memory` comes if memory ran out, and `Stable` of a store that
+/// counted a failure. `NotOurs` comes exactly where a store holds no content, and then no store is called.
 pub fn settle<S: Stable>(alloc: Global, stores: &mut [S]) -> Result<bool, Refused>
     ensures settles { SettlesOne S.seen S.may_fail stores.old stores.new result }
     ensures settled { settled (contents S.seen stores.new) ≡ settled (contents S.seen stores.old) }
-    ensures bases { bases_then (contents S.seen stores.new) ≡ bases_then (contents S.seen stores.old) }
+    ensures bases { bases_then (contents S.seen stores.new)
+        ≡ bases_then (contents S.seen stores.old) }
     ensures kept { AllZip (KeepsItself S.seen) stores.old stores.new }
     ensures stops { KeepsBases S.seen stores.old stores.new }
     ensures counted { IsErrOf result Refused.Stable → OneHasCounted S.seen stores.old stores.new }
@@ -79,7 +80,8 @@ fn first_left<S: Stable>(stores: &[S]) -> Option<Left>
 // The least top action with a record, and the record's home.
 fn least_record<S: Stable>(store: &S) -> Option<(u32, u32)>
     requires { (S.seen store.now).holds_content ≡ true }
-    ensures { MatchOption result (HasNoRecord (S.seen store.now).content) (λ least. IsLeast (S.seen store.now).content least.0 least.1) }
+    ensures { MatchOption result (HasNoRecord (S.seen store.now).content)
+        (λ least. IsLeast (S.seen store.now).content least.0 least.1) }
 {
     let (&top, record) = kept_in(store).prepared.iter().next()?;
     Some((top, record.home))
@@ -126,7 +128,9 @@ fn settle_one<S: Stable>(
     decided: bool,
 ) -> Result<(), StoreFault>
     ensures makes { Makes (S.seen store.old) (S.seen store.new) (S.may_fail store.old store.new)
-        (if decided then after_install top (S.seen store.old).content else after_discard top (S.seen store.old).content) result }
+        (if decided then after_install top (S.seen store.old).content
+        else after_discard top (S.seen store.old).content)
+        result }
     ensures ours { IsErrOf result NotOurs → (S.seen store.old).holds_content ≡ false }
 {
     if decided {

@@ -5,7 +5,8 @@ ghost use Rattle.store_recovery.specs.Belonging.{alike_each, is_array, is_record
 use atomic_types::Part;
 use values::{Content, Field, Kind, Tag};
 
-/// Whether a part may stand for an object that was set up with this content: a value of its type, or a delta for a counter.
+/// Whether a part may stand for an object that was set up with this content: a value of its type, or a delta for a
+/// counter.
 pub(crate) fn suits(content: &Content, part: &Part) -> bool
     ensures { result ≡ suits (Some content.now) part.now }
 {
@@ -15,7 +16,8 @@ pub(crate) fn suits(content: &Content, part: &Part) -> bool
     }
 }
 
-/// Whether the contents are records of the same fields, arrays of the same kind, variants of the same tags, or counters.
+/// Whether the contents are records of the same fields, arrays of the same kind, variants of the same tags, or
+/// counters.
 fn same_type(content: &Content, other: &Content) -> bool
     ensures { result ≡ same_type content.now other.now }
 {

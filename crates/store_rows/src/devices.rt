@@ -20,7 +20,8 @@ pub(crate) fn open_store<M: Machine>(
     }
 }
 
-/// A copy of the device with its store open. One of its files fails after so many calls. `Memory` if it can't be opened.
+/// A copy of the device with its store open. One of its files fails after so many calls. `Memory` if it can't be
+/// opened.
 pub(crate) fn open_copy<M: Machine>(
     alloc: Global,
     machine: &M,
@@ -31,8 +32,8 @@ pub(crate) fn open_copy<M: Machine>(
     open_store(alloc, copy, failing.log_frames)
 }
 
-/// Opens the store in a copy of the device. One of its files fails after so many calls. Gives the device after a crash, and whether the
-/// store was opened.
+/// Opens the store in a copy of the device. One of its files fails after so many calls. Gives the device after a
+/// crash, and whether the store was opened.
 pub(crate) fn open_and_crash<M: Machine>(
     alloc: Global,
     machine: &M,
@@ -44,7 +45,8 @@ pub(crate) fn open_and_crash<M: Machine>(
     Ok((left.crash(), refusal.is_none()))
 }
 
-/// Opens the store in a copy of the device. Gives the fault with which it was refused, and the device then, with no call more.
+/// Opens the store in a copy of the device. Gives the fault with which it was refused, and the device then, with no
+/// call more.
 pub(crate) fn open_and_close<M: Machine>(
     alloc: Global,
     machine: &M,
@@ -104,8 +106,8 @@ fn fill<K: Keeper>(alloc: Global, store: &mut K) -> Result<(), RowFault> {
     Ok(())
 }
 
-/// The least number of calls with which the store opens. A copy is opened twice before it counts as failing. For a device to which memory is
-/// refused looks like one that fails, but memory is refused once.
+/// The least number of calls with which the store opens. A copy is opened twice before it counts as failing. For a
+/// device to which memory is refused looks like one that fails, but memory is refused once.
 pub(crate) fn calls_to_open<M: Machine>(
     alloc: Global,
     machine: &M,

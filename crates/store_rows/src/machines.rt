@@ -1,5 +1,6 @@
-//! What the rows of a section work on: a database in memory, or a device, which is two files. Either is closed or has its store open. What
-//! is done with it is proved for every type that has these calls, so that nothing of tables and files is looked at there.
+//! What the rows of a section work on: a database in memory, or a device, which is two files. Either is closed or has
+//! its store open. What is done with it is proved for every type that has these calls, so that nothing of tables and
+//! files is looked at there.
 use crate::calls::Change;
 use rows::{RowFault, Words};
 use sqlite::Error;
@@ -50,8 +51,8 @@ pub(crate) trait Database: Keeper {
     fn is_known(&self) -> Result<bool, RowFault>;
 }
 
-/// A device: a database file and its log, which fail after some number of calls. A device with no end of its calls fails only if memory is
-/// refused to it, and then it is asked again.
+/// A device: a database file and its log, which fail after some number of calls. A device with no end of its calls
+/// fails only if memory is refused to it, and then it is asked again.
 pub(crate) trait Machine: Keeper {
     /// One with these bytes in its database and nothing in its log.
     fn with_bytes(alloc: Global, bytes: &[u8]) -> Result<Self, RowFault>;
@@ -62,8 +63,8 @@ pub(crate) trait Machine: Keeper {
     /// A copy of the closed device. One of its files fails after so many calls.
     fn copy(&self, alloc: Global, failing: Failing, calls: u64) -> Result<Self, RowFault>;
 
-    /// The same with the store open; closed if that was refused. It has few pages in memory, so a call reads and writes the files
-    /// throughout.
+    /// The same with the store open; closed if that was refused. It has few pages in memory, so a call reads and
+    /// writes the files throughout.
     fn open(self, alloc: Global, log_frames: usize) -> (Self, Option<Refusal>);
 
     /// What a crash leaves, closed. From then on no call fails.

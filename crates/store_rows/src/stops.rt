@@ -1,4 +1,5 @@
-//! What a stop of the device leaves. One of its two files fails from some call on; each call is tried, up to one that suffices.
+//! What a stop of the device leaves. One of its two files fails from some call on; each call is tried, up to one that
+//! suffices.
 use crate::calls::Change;
 use crate::devices::{CALLS, calls_to_open, make_whole, open_and_crash, open_copy, open_store};
 use crate::machines::{Failing, Keeper, Machine};

@@ -278,8 +278,8 @@ impl<D: Database, M: Machine> Stores<D, M> {
         tell(None, answer)
     }
 
-    /// Opens the store in a copy of the device. Writes the fault with which it was refused, and whether both files have the
-    /// bytes that they had.
+    /// Opens the store in a copy of the device. Writes the fault with which it was refused, and whether both files
+    /// have the bytes that they had.
     fn refused(&self, mut words: Words<'_>, answer: &mut String) -> Result<(), RowFault> {
         let device = self.device()?;
         let (fault, left) = open_and_close(self.alloc, device, read_frames(&mut words)?)?;

@@ -28,7 +28,8 @@ all_put parts base = fold (λ b e. map.insert b e.0 e.1) base parts
 
 -- another record of a top action
 abbrev pub with_record : ℕ → ℕ → List (ℕ × Part) → Stored → Stored
-with_record top home parts c = record c { prepared = map.insert c.prepared top (record { home = home; parts = parts }) }
+with_record top home parts c =
+    record c { prepared = map.insert c.prepared top (record { home = home; parts = parts }) }
 
 -- nothing decided
 abbrev pub with_none_decided : Stored → Stored

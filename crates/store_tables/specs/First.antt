@@ -35,8 +35,8 @@ pub record IsGreatest (Is : ℕ → Type 0) (n : ℕ) : Type 0 where
 abbrev pub IsPrepared : Records → ℕ → Type 0
 IsPrepared prepared top = IsSome (map.get prepared top)
 
--- The content that the tables of version 1 stand for with this count: what they have and nothing else, and the number of
--- the next top action is one more than the greatest that is prepared or decided. `first` is as in `Holds`.
+-- The content that the tables of version 1 stand for with this count: what they have and nothing else, and the number
+-- of the next top action is one more than the greatest that is prepared or decided. `first` is as in `Holds`.
 pub record HoldsFirst (first : ℕ) (t : FirstTables) (count : ℕ) (c : Stored) : Type 0 where
   pub base : Lists (ShowsPart first) t.base (HasBase c.base)
   pub homes : Lists (ShowsHome first) t.homes (HasHome c.prepared)

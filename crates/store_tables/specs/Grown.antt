@@ -15,20 +15,23 @@ pub record Adds {X : Type 0} (Was Is : X → Type 0) (x : X) : Type 0 where
   pub back : (y : X) → Is y → (y ≡ x) ⊎ Was y
 
 -- the row shows it
-pub record AddsShown {X : Type 0} (Shows : Row → X → Type 0) (row : Row) (Was Is : X → Type 0) : Type 0 where
+pub record AddsShown {X : Type 0} (Shows : Row → X → Type 0) (row : Row)
+    (Was Is : X → Type 0) : Type 0 where
   pub thing : X
   pub shows : Shows row thing
   pub adds : Adds Was Is thing
 
 -- beside what there was there is what the rows show, and nothing else
-pub record ListsMore {X : Type 0} (Shows : Row → X → Type 0) (rows : List Row) (Was Is : X → Type 0) : Type 0 where
+pub record ListsMore {X : Type 0} (Shows : Row → X → Type 0) (rows : List Row)
+    (Was Is : X → Type 0) : Type 0 where
   pub each : (r : Row) → Has rows r → (x : X) × Shows r x × Is x
   pub from : (x : X) → Is x → Was x ⊎ ((r : Row) × Has rows r × Shows r x)
   pub stays : (x : X) → Was x → Is x
 
 abbrev pub HaveSameHomes : Records → Records → Type 0
 HaveSameHomes before after =
-    (top : ℕ) → option_map (λ (r : Record). r.home) (map.get after top) ≡ option_map (λ (r : Record). r.home) (map.get before top)
+    (top : ℕ) → option_map (λ (r : Record). r.home) (map.get after top)
+    ≡ option_map (λ (r : Record). r.home) (map.get before top)
 
 -- the records have their homes, and their parts rise if they did
 pub record KeepsRecords (before after : Records) : Type 0 where
@@ -38,5 +41,6 @@ pub record KeepsRecords (before after : Records) : Type 0 where
 -- the parts of a record have one more, of an object that had none, and rise
 pub record TakesOne (object : ℕ) (part : Part) (before after : List (ℕ × Part)) : Type 0 where
   pub new : map.find nat_cmp object before ≡ None
-  pub found : (q : ℕ) → map.find nat_cmp q after ≡ (if eq_by_cmp nat_cmp q object then Some part else map.find nat_cmp q before)
+  pub found : (q : ℕ) → map.find nat_cmp q after
+      ≡ (if eq_by_cmp nat_cmp q object then Some part else map.find nat_cmp q before)
   pub rising : map.is_sorted nat_cmp after ≡ true

@@ -21,24 +21,29 @@ pub record Tables : Type 0 where
   pub decided : List Row
 
 abbrev pub tables_of : Trees → Tables
-tables_of db = record { numbers = db 0; base = db 2; homes = db 3; values = db 4; deltas = db 7; decided = db 6 }
+tables_of db =
+    record { numbers = db 0; base = db 2; homes = db 3; values = db 4; deltas = db 7; decided = db 6 }
 
 -- the three numbers of `meta`, each in its place
 abbrev pub numbers : ℕ → ℕ → List (ℕ × (List ℕ × ℕ))
-numbers count next_top = (1, (codes "version", 2)) ∷ (2, (codes "count", count)) ∷ (3, (codes "next_top", next_top)) ∷ []
+numbers count next_top =
+    (1, (codes "version", 2)) ∷ (2, (codes "count", count)) ∷ (3, (codes "next_top", next_top)) ∷ []
 
 abbrev pub greatest_next : ℕ
 greatest_next = 4294967296
 
--- The tables have what the content has, and no other row. `first` is 1 for tables, and 0 for what queries showed of them.
+-- The tables have what the content has, and no other row. `first` is 1 for tables, and 0 for what queries showed of
+-- them.
 pub record Holds (first : ℕ) (t : Tables) (c : Stored) : Type 0 where
   pub numbered : Lists ShowsNumber t.numbers (Has (numbers c.count c.next_top))
   pub next_low : 1 ≤ c.next_top
   pub next_high : c.next_top ≤ greatest_next
   pub base : Lists (ShowsPart first) t.base (HasBase c.base)
   pub homes : Lists (ShowsHome first) t.homes (HasHome c.prepared)
-  pub values : Lists (ShowsRecord IsValueText first) t.values (λ e. HasPart c.prepared e × IsValue e.1.1)
-  pub deltas : Lists (ShowsRecord IsAddedBy first) t.deltas (λ e. HasPart c.prepared e × IsDelta e.1.1)
+  pub values :
+      Lists (ShowsRecord IsValueText first) t.values (λ e. HasPart c.prepared e × IsValue e.1.1)
+  pub deltas :
+      Lists (ShowsRecord IsAddedBy first) t.deltas (λ e. HasPart c.prepared e × IsDelta e.1.1)
   pub rising : AreRising c.prepared
   pub decided : Lists ShowsTop t.decided (IsDecided c.decided)
 

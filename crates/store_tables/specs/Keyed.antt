@@ -25,7 +25,8 @@ IsTaken prepared top object = IsSome (part_in (map.get prepared top) object)
 -- each row shows a part that its record does not have
 abbrev pub AreNew : (Column → Part → Type 0) → List Row → Records → Type 0
 AreNew Spells rows prepared = (r : Row) → Has rows r
-    → (e : ℕ × (ℕ × Part)) × ShowsRecord Spells 0 r e × IsPrepared prepared e.0 × (part_in (map.get prepared e.0) e.1.0 ≡ None)
+    → (e : ℕ × (ℕ × Part)) × ShowsRecord Spells 0 r e × IsPrepared prepared e.0
+    × (part_in (map.get prepared e.0) e.1.0 ≡ None)
 
 -- no number comes twice in the first column
 abbrev pub KeysDiffer : List Row → Type 0
@@ -33,7 +34,8 @@ KeysDiffer rows = (n : ℕ) → count_by (has_rowid (pos n)) rows ≤ 1
 
 -- the first columns are this top action and this object
 abbrev pub is_part_shown : ℕ → ℕ → Row → Bool
-is_part_shown top object row = is_eq (value_cmp (column row 0) (Int (pos top))) && is_eq (value_cmp (column row 1) (Int (pos object)))
+is_part_shown top object row = is_eq (value_cmp (column row 0) (Int (pos top)))
+    && is_eq (value_cmp (column row 1) (Int (pos object)))
 
 -- no top action comes twice with the same object
 abbrev pub PartsDiffer : List Row → Type 0

@@ -33,7 +33,8 @@ IsDecided decided n = set.contains decided n ≡ true
 
 -- the parts of each record come by rising objects
 abbrev pub AreRising : Records → Type 0
-AreRising prepared = (top : ℕ) → IfSome (map.get prepared top) (λ r. map.is_sorted nat_cmp r.parts ≡ true)
+AreRising prepared = (top : ℕ)
+    → IfSome (map.get prepared top) (λ r. map.is_sorted nat_cmp r.parts ≡ true)
 
 -- nothing is prepared of any object
 abbrev pub HaveNoParts : Records → Type 0

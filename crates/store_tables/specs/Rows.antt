@@ -17,7 +17,8 @@ row_at rows n = find (has_rowid (pos n)) rows
 
 -- the row of a part of a record, whose first columns are the top action and the object
 abbrev pub is_part_of : ℕ → ℕ → Row → Bool
-is_part_of top object row = is_eq (value_cmp (column row 1) (Int (pos top))) && is_eq (value_cmp (column row 2) (Int (pos object)))
+is_part_of top object row = is_eq (value_cmp (column row 1) (Int (pos top)))
+    && is_eq (value_cmp (column row 2) (Int (pos object)))
 
 abbrev pub part_at : List Row → ℕ → ℕ → Option Row
 part_at rows top object = find (is_part_of top object) rows

@@ -52,7 +52,8 @@ pub record ShowsHome (first : ℕ) (r : Row) (e : ℕ × ℕ) : Type 0 where
   pub home : IsNumber (column r (first + 1)) e.1
 
 -- a top action, an object, and what would be installed of it
-pub record ShowsRecord (Spells : Column → Part → Type 0) (first : ℕ) (r : Row) (e : ℕ × (ℕ × Part)) : Type 0 where
+pub record ShowsRecord (Spells : Column → Part → Type 0) (first : ℕ) (r : Row)
+    (e : ℕ × (ℕ × Part)) : Type 0 where
   pub top : IsNumber (column r first) e.0
   pub object : IsNumber (column r (first + 1)) e.1.0
   pub part : Spells (column r (first + 2)) e.1.1

@@ -14,7 +14,8 @@ use Rattle.sqlite_schema.specs.declared.schema.Action.TheVariants.{NoAction, Cas
 use Rattle.sqlite_catalog.specs.Listing.{automatic}
 
 abbrev pub column : List ℕ → Kind → Bool → Column
-column name kind not_null = record { name = name; kind = kind; is_strict = false; not_null = not_null; default = Null; collation = Binary }
+column name kind not_null =
+    record { name = name; kind = kind; is_strict = false; not_null = not_null; default = Null; collation = Binary }
 
 abbrev pub decided : Table
 decided = record {
@@ -95,7 +96,8 @@ abbrev pub prepared_val : Table
 prepared_val = record {
   name = codes "prepared_val";
   tree = 0;
-  columns = column (codes "top") Integer true ∷ column (codes "obj") Integer true ∷ column (codes "val") Text true ∷ [];
+  columns = column (codes "top") Integer true ∷ column (codes "obj") Integer true
+      ∷ column (codes "val") Text true ∷ [];
   key = None;
   primary = 1 ∷ 2 ∷ [];
   uniques = (1 ∷ 2 ∷ []) ∷ [];
@@ -112,7 +114,8 @@ abbrev pub prepared_delta : Table
 prepared_delta = record {
   name = codes "prepared_delta";
   tree = 0;
-  columns = column (codes "top") Integer true ∷ column (codes "obj") Integer true ∷ column (codes "add_by") Integer true ∷ [];
+  columns = column (codes "top") Integer true ∷ column (codes "obj") Integer true
+      ∷ column (codes "add_by") Integer true ∷ [];
   key = None;
   primary = 1 ∷ 2 ∷ [];
   uniques = (1 ∷ 2 ∷ []) ∷ [];
@@ -131,9 +134,10 @@ no_schema = record { tables = []; indexes = []; views = [] }
 abbrev pub first_schema : Schema
 first_schema = record {
   tables =
-      meta ∷ (record base { tree = 2 }) ∷ (record prepared { tree = 3 }) ∷ (record prepared_val { tree = 4 })
-      ∷ (record decided { tree = 6 }) ∷ [];
-  indexes = automatic meta 0 (1 ∷ []) 1 ∷ automatic (record prepared_val { tree = 4 }) 0 (1 ∷ 2 ∷ []) 5 ∷ [];
+      meta ∷ (record base { tree = 2 }) ∷ (record prepared { tree = 3 })
+      ∷ (record prepared_val { tree = 4 }) ∷ (record decided { tree = 6 }) ∷ [];
+  indexes = automatic meta 0 (1 ∷ []) 1
+      ∷ automatic (record prepared_val { tree = 4 }) 0 (1 ∷ 2 ∷ []) 5 ∷ [];
   views = [];
 }
 
@@ -142,7 +146,8 @@ first_schema = record {
 abbrev pub stable_schema : Schema
 stable_schema = record {
   tables =
-      meta ∷ (record base { tree = 2 }) ∷ (record prepared { tree = 3 }) ∷ (record prepared_val { tree = 4 })
+      meta ∷ (record base { tree = 2 }) ∷ (record prepared { tree = 3 })
+      ∷ (record prepared_val { tree = 4 })
       ∷ (record decided { tree = 6 }) ∷ (record prepared_delta { tree = 7 }) ∷ [];
   indexes =
       automatic meta 0 (1 ∷ []) 1 ∷ automatic (record prepared_val { tree = 4 }) 0 (1 ∷ 2 ∷ []) 5

@@ -72,7 +72,8 @@ pub fn content_of(alloc: Global, answers: &[Vec<Row>]) -> Result<Kept, StoreFaul
 
 /// Tables hold one content.
 pub fn one_content_is_held()
-    ensures { (first : ℕ) (tables : Tables) (c d : Stored) → Holds first tables c → Holds first tables d → c ≡ d }
+    ensures { (first : ℕ) (tables : Tables) (c d : Stored) → Holds first tables c
+        → Holds first tables d → c ≡ d }
 {
     one_part_spelling();
 }
@@ -117,10 +118,11 @@ fn check_name(row: &Row, name: &str) -> Result<(), StoreFault>
     }
 }
 
-/// The numbers of the rows of `meta`, by place. `NotOurs` where other rows are there, where the version is another or where
-/// the next top action's number is out of range.
+/// The numbers of the rows of `meta`, by place. `NotOurs` where other rows are there, where the version is another or
+/// where the next top action's number is out of range.
 fn numbers_of(rows: &[Row]) -> Result<Numbers, StoreFault>
-    ensures listed { IfOk result (λ n. Lists ShowsNumber rows.now (Has (three_numbers n.count n.next_top))) }
+    ensures listed { IfOk result
+        (λ n. Lists ShowsNumber rows.now (Has (three_numbers n.count n.next_top))) }
     ensures low { IfOk result (λ n. 1 ≤ n.next_top) }
     ensures high { IfOk result (λ n. n.next_top ≤ greatest_next) }
     ensures told { IsErrOf result NotOurs → IsTable rows.now → (count next_top : ℕ) → 1 ≤ next_top
@@ -149,12 +151,14 @@ fn prepared_of(
     values: &[Row],
     deltas: &[Row],
 ) -> Result<BTreeMap<u32, Prepared>, StoreFault>
-    ensures homes { IfOk result (λ records. Lists (ShowsHome 0) homes.now (HasHome (from_entries (records_of records.entries)))) }
+    ensures homes { IfOk result (λ records.
+        Lists (ShowsHome 0) homes.now (HasHome (from_entries (records_of records.entries)))) }
     ensures values { IfOk result (λ records. Lists (ShowsRecord IsValueText 0) values.now
         (λ e. HasPart (from_entries (records_of records.entries)) e × IsValue e.1.1)) }
     ensures deltas { IfOk result (λ records. Lists (ShowsRecord IsAddedBy 0) deltas.now
         (λ e. HasPart (from_entries (records_of records.entries)) e × IsDelta e.1.1)) }
-    ensures rising { IfOk result (λ records. AreRising (from_entries (records_of records.entries))) }
+    ensures rising { IfOk result
+        (λ records. AreRising (from_entries (records_of records.entries))) }
     ensures told { IsErrOf result NotOurs → KeysDiffer homes.now → PartsDiffer values.now
         → PartsDiffer deltas.now → (prepared : Records)
         → Lists (ShowsHome 0) homes.now (HasHome prepared)

@@ -27,8 +27,9 @@ pub const FIRST_QUERIES: [&str; 4] = [
     "SELECT top FROM decided",
 ];
 
-/// The content with this count that answers to `FIRST_QUERIES` stand for, as version 2 has it: the number of the next top
-/// action is one more than the greatest in the records and among the decided. `NotOurs` where they stand for none.
+/// The content with this count that answers to `FIRST_QUERIES` stand for, as version 2 has it: the number of the next
+/// top action is one more than the greatest in the records and among the decided. `NotOurs` where they stand for
+/// none.
 pub fn first_content_of(alloc: Global, answers: &[Vec<Row>], count: u64) -> Result<Kept, StoreFault>
     ensures found { IfOk result (λ kept. HoldsFirst 0 (first_answered (rows_of answers.now)) count
         (held kept)) }

@@ -53,15 +53,20 @@ fn is_meta_index(index: &Index) -> bool
 }
 
 fn is_value_index(index: &Index) -> bool
-    ensures is { IsTrue result → index.now ≡ automatic (record tables.prepared_val { tree = 4 }) 0 (1 ∷ 2 ∷ []) 5 }
-    ensures found { index.now ≡ automatic (record tables.prepared_val { tree = 4 }) 0 (1 ∷ 2 ∷ []) 5 → IsTrue result }
+    ensures is { IsTrue result
+        → index.now ≡ automatic (record tables.prepared_val { tree = 4 }) 0 (1 ∷ 2 ∷ []) 5 }
+    ensures found { index.now ≡ automatic (record tables.prepared_val { tree = 4 }) 0 (1 ∷ 2 ∷ []) 5
+        → IsTrue result }
 {
     is_index(index, b"sqlite_autoindex_prepared_val_1", 5, 4, &[1, 2])
 }
 
 fn is_delta_index(index: &Index) -> bool
-    ensures is { IsTrue result → index.now ≡ automatic (record tables.prepared_delta { tree = 7 }) 0 (1 ∷ 2 ∷ []) 8 }
-    ensures found { index.now ≡ automatic (record tables.prepared_delta { tree = 7 }) 0 (1 ∷ 2 ∷ []) 8 → IsTrue result }
+    ensures is { IsTrue result
+        → index.now ≡ automatic (record tables.prepared_delta { tree = 7 }) 0 (1 ∷ 2 ∷ []) 8 }
+    ensures found { index.now
+        ≡ automatic (record tables.prepared_delta { tree = 7 }) 0 (1 ∷ 2 ∷ []) 8
+        → IsTrue result }
 {
     is_index(index, b"sqlite_autoindex_prepared_delta_1", 8, 7, &[1, 2])
 }
@@ -124,9 +129,11 @@ fn is_decided(table: &Table) -> bool
 /// Whether the table has these two columns, of which the second is NOT NULL.
 fn has_pair(table: &Table, first: &[u8], first_kind: Kind, second: &[u8], second_kind: Kind) -> bool
     ensures is { IsTrue result → table.now.columns
-        ≡ tables.column first.now first_kind false ∷ tables.column second.now second_kind true ∷ [] }
+        ≡ tables.column first.now first_kind false
+        ∷ tables.column second.now second_kind true ∷ [] }
     ensures found { table.now.columns
-        ≡ tables.column first.now first_kind false ∷ tables.column second.now second_kind true ∷ [] → IsTrue result }
+        ≡ tables.column first.now first_kind false ∷ tables.column second.now second_kind true ∷ []
+        → IsTrue result }
 {
     let [one, other] = table.columns.as_slice() else {
         return false;

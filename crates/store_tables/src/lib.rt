@@ -1,8 +1,8 @@
 //! The tables of a store in a SQL database, and the content of the store for which their rows stand.
 //!
-//! `specs/Holds.antt` says when tables hold a content: each row stands for something in it, and all that is in it has its
-//! row. The text of an object's part is its one spelling (`specs/PartTexts.antt`). `proofs/Statements.antt` has what each
-//! statement makes of the content, for `sql_store`.
+//! `specs/Holds.antt` says when tables hold a content: each row stands for something in it, and all that is in it has
+//! its row. The text of an object's part is its one spelling (`specs/PartTexts.antt`). `proofs/Statements.antt` has
+//! what each statement makes of the content, for `sql_store`.
 #![tactic(auto)]
 
 mod answers;

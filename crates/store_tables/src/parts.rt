@@ -23,7 +23,8 @@ use std::collections::{BTreeMap, BTreeSet};
 
 /// Adds what a row shows of an object. `NotOurs` where the object has something.
 fn put_part(alloc: Global, row: &Row, base: &mut BTreeMap<u32, Part>) -> Result<(), StoreFault>
-    ensures adds { OnOk result (AddsShown (ShowsPart 0) row.now (HasBase (parts_in base.old)) (HasBase (parts_in base.new))) }
+    ensures adds { OnOk result (AddsShown (ShowsPart 0) row.now (HasBase (parts_in base.old))
+        (HasBase (parts_in base.new))) }
     ensures told { IsErrOf result NotOurs → (e : ℕ × Spec) → ShowsPart 0 row.now e
         → IsSome (get (parts_in base.old) e.0) }
     ensures ours { IfErr result (λ f. f ≢ Failed) }
@@ -57,7 +58,8 @@ fn put_home(
     row: &Row,
     records: &mut BTreeMap<u32, Prepared>,
 ) -> Result<(), StoreFault>
-    ensures adds { OnOk result (AddsShown (ShowsHome 0) row.now (HasHome (from_entries (records_of records.old.entries)))
+    ensures adds { OnOk result
+        (AddsShown (ShowsHome 0) row.now (HasHome (from_entries (records_of records.old.entries)))
         (HasHome (from_entries (records_of records.new.entries)))) }
     ensures empty { OnOk result (HaveNoParts (from_entries (records_of records.old.entries))
         → HaveNoParts (from_entries (records_of records.new.entries))) }
@@ -79,8 +81,10 @@ fn put_home(
 
 /// The records of rows of a top action and its home each, with no parts.
 pub(crate) fn homes_of(alloc: Global, rows: &[Row]) -> Result<BTreeMap<u32, Prepared>, StoreFault>
-    ensures homes { IfOk result (λ records. Lists (ShowsHome 0) rows.now (HasHome (from_entries (records_of records.entries)))) }
-    ensures empty { IfOk result (λ records. HaveNoParts (from_entries (records_of records.entries))) }
+    ensures homes { IfOk result (λ records.
+        Lists (ShowsHome 0) rows.now (HasHome (from_entries (records_of records.entries)))) }
+    ensures empty { IfOk result
+        (λ records. HaveNoParts (from_entries (records_of records.entries))) }
     ensures told { IsErrOf result NotOurs → EachShows (ShowsHome 0) rows.now
         → ¬ KeysDiffer rows.now }
     ensures ours { IfErr result (λ f. f ≢ Failed) }
@@ -105,16 +109,20 @@ fn put_into(parts: &mut BTreeMap<u32, Part>, object: u32, part: Part) -> Result<
     Ok(())
 }
 
-/// Adds the part of a row to the record that the row names. `NotOurs` where there is none, or it has a part of that object.
+/// Adds the part of a row to the record that the row names. `NotOurs` where there is none, or it has a part of that
+/// object.
 fn put_record_part(
     alloc: Global,
     row: &Row,
     spelling: Spelling,
     records: &mut BTreeMap<u32, Prepared>,
 ) -> Result<(), StoreFault>
-    ensures adds { OnOk result (AddsShown (ShowsRecord (Spells spelling) 0) row.now (HasPart (from_entries
-        (records_of records.old.entries))) (HasPart (from_entries (records_of records.new.entries)))) }
-    ensures keeps { OnOk result (KeepsRecords (from_entries (records_of records.old.entries)) (from_entries
+    ensures adds { OnOk result
+        (AddsShown (ShowsRecord (Spells spelling) 0) row.now (HasPart (from_entries
+        (records_of records.old.entries)))
+        (HasPart (from_entries (records_of records.new.entries)))) }
+    ensures keeps { OnOk result
+        (KeepsRecords (from_entries (records_of records.old.entries)) (from_entries
         (records_of records.new.entries))) }
     ensures told { IsErrOf result NotOurs → (e : ℕ × (ℕ × Spec))
         → ShowsRecord (Spells spelling) 0 row.now e
@@ -138,9 +146,12 @@ pub(crate) fn put_record_parts(
     spelling: Spelling,
     records: &mut BTreeMap<u32, Prepared>,
 ) -> Result<(), StoreFault>
-    ensures lists { OnOk result (ListsMore (ShowsRecord (Spells spelling) 0) rows.now (HasPart (from_entries
-        (records_of records.old.entries))) (HasPart (from_entries (records_of records.new.entries)))) }
-    ensures keeps { OnOk result (KeepsRecords (from_entries (records_of records.old.entries)) (from_entries
+    ensures lists { OnOk result
+        (ListsMore (ShowsRecord (Spells spelling) 0) rows.now (HasPart (from_entries
+        (records_of records.old.entries)))
+        (HasPart (from_entries (records_of records.new.entries)))) }
+    ensures keeps { OnOk result
+        (KeepsRecords (from_entries (records_of records.old.entries)) (from_entries
         (records_of records.new.entries))) }
     ensures told { IsErrOf result NotOurs
         → AreNew (Spells spelling) rows.now (from_entries (records_of records.old.entries))
@@ -155,7 +166,8 @@ pub(crate) fn put_record_parts(
 
 /// The top actions of rows of one each.
 pub(crate) fn tops_of(alloc: Global, rows: &[Row]) -> Result<BTreeSet<u32>, StoreFault>
-    ensures listed { IfOk result (λ tops. Lists ShowsTop rows.now (IsDecided (set.from_list tops.keys))) }
+    ensures listed { IfOk result
+        (λ tops. Lists ShowsTop rows.now (IsDecided (set.from_list tops.keys))) }
     ensures told { IsErrOf result NotOurs → ¬ EachShows ShowsTop rows.now }
     ensures ours { IfErr result (λ f. f ≢ Failed) }
 {

@@ -33,7 +33,8 @@ pub fn part_text(alloc: Global, part: &Part) -> Result<String, AllocError>
 /// The part whose one spelling this is. `Unfit` comes only where no part is spelled so.
 pub fn part_from_text(alloc: Global, text: &str) -> Result<Part, ValueFault>
     ensures found { IfOk result (λ part. IsStoredPart part × (text.now ≡ text_of part)) }
-    ensures refused { IsErrOf result Unfit → (part : Spec) → IsStoredPart part → text.now ≢ text_of part }
+    ensures refused { IsErrOf result Unfit → (part : Spec) → IsStoredPart part
+        → text.now ≢ text_of part }
 {
     match Content::from_stored_spelling(alloc, text) {
         Ok(content) => Ok(Part::Value(content)),
@@ -58,7 +59,8 @@ fn delta_text(alloc: Global, by: &Counter) -> Result<String, AllocError>
 }
 
 fn write_delta(by: &Counter, out: &mut Writer) -> Result<(), AllocError>
-    ensures ok { OnOk result (out.new.tokens ≡ out.old.tokens ++ json_tokens (outline (delta_data by.now))) }
+    ensures ok { OnOk result
+        (out.new.tokens ≡ out.old.tokens ++ json_tokens (outline (delta_data by.now))) }
     ensures before { out.new.before ≡ out.old.before }
     ensures fits { IsCounter by.now }
 {
@@ -80,7 +82,8 @@ fn finished(out: Writer) -> String
 /// The delta whose one spelling this is. `Unfit` comes only where no delta is spelled so.
 fn delta_from_text(alloc: Global, text: &str) -> Result<Counter, ValueFault>
     ensures found { IfOk result (λ by. text.now ≡ compact_text (delta_data by)) }
-    ensures refused { IsErrOf result Unfit → (by : ℤ) → IsCounter by → text.now ≢ compact_text (delta_data by) }
+    ensures refused { IsErrOf result Unfit → (by : ℤ) → IsCounter by
+        → text.now ≢ compact_text (delta_data by) }
 {
     let by = read_delta(alloc, text)?;
     if delta_text(alloc, &by)?.as_str() != text {
@@ -92,7 +95,8 @@ fn delta_from_text(alloc: Global, text: &str) -> Result<Counter, ValueFault>
 /// The delta that this text is, however it is spelled. `Unfit` comes only where no delta is this text.
 fn read_delta(alloc: Global, text: &str) -> Result<Counter, ValueFault>
     ensures found { IfOk result (λ by. read text.now ≡ Some (delta_data by)) }
-    ensures refused { IsErrOf result Unfit → (by : ℤ) → IsCounter by → read text.now ≢ Some (delta_data by) }
+    ensures refused { IsErrOf result Unfit → (by : ℤ) → IsCounter by
+        → read text.now ≢ Some (delta_data by) }
 {
     let json = Json::from_str(alloc, text)?;
     delta_of(&json)
@@ -101,7 +105,8 @@ fn read_delta(alloc: Global, text: &str) -> Result<Counter, ValueFault>
 /// The delta that this document is. `Unfit` comes only where no delta is this document.
 fn delta_of(json: &Json) -> Result<Counter, ValueFault>
     ensures found { IfOk result (λ by. view json.now ≡ delta_data by) }
-    ensures refused { IsErrOf result Unfit → (by : ℤ) → IsCounter by → view json.now ≢ delta_data by }
+    ensures refused { IsErrOf result Unfit → (by : ℤ) → IsCounter by
+        → view json.now ≢ delta_data by }
 {
     let (name, document) = only_member(json).ok_or(ValueFault::Unfit)?;
     if name != DELTA {

@@ -21,11 +21,14 @@ abbrev pub Stands : State → Stored → Type 0
 Stands s c = While s (IsAtRest s c)
 
 -- A call that found this content left the one after it, or at an error the one before, whatever stops it.
-pub record Carries {T E : Type 0} (old new : State) (before after : Stored) (result : Result T E) : Type 0 where
+pub record Carries {T E : Type 0} (old new : State) (before after : Stored)
+    (result : Result T E) : Type 0 where
   pub clean : HasCleanDisk new → HasCleanDisk old
-  pub ok : HasCleanDisk new → OnOk result (IsTrue old.is_open × IsTrue new.is_open × IsAtRest new after)
+  pub ok : HasCleanDisk new
+      → OnOk result (IsTrue old.is_open × IsTrue new.is_open × IsAtRest new after)
   pub err : OnErr result (Stands new before)
-  pub stop : HasCleanDisk new → IsTrue old.is_open → (db : Trees) → new.may_leave db → IsStore db before ⊎ IsStore db after
+  pub stop : HasCleanDisk new → IsTrue old.is_open → (db : Trees) → new.may_leave db
+      → IsStore db before ⊎ IsStore db after
 
 -- ---- within a transaction
 
@@ -42,7 +45,10 @@ Sees s c = While s (IsWithin s c)
 abbrev pub Stays : State → Stored → Type 0
 Stays s c = HasCleanDisk s → IsTrue s.is_open × IsWithin s c
 
--- A part of a transaction that found this content left the one after it, and at an error what the transaction began with.
-pub record Steps {T E : Type 0} (old new : State) (after : Stored) (result : Result T E) : Type 0 where
-  pub ok : HasCleanDisk new → OnOk result (IsTrue old.is_open × IsTrue new.is_open × IsWithin new after)
+-- A part of a transaction that found this content left the one after it, and at an error what the transaction began
+-- with.
+pub record Steps {T E : Type 0} (old new : State) (after : Stored)
+    (result : Result T E) : Type 0 where
+  pub ok : HasCleanDisk new
+      → OnOk result (IsTrue old.is_open × IsTrue new.is_open × IsWithin new after)
   pub kept : HasCleanDisk new → KeepsCommit old new

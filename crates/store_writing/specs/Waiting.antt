@@ -41,14 +41,16 @@ abbrev pub IsAny : Part → Type 0
 IsAny p = Unit {0}
 
 -- of all these parts the first are written, and the others, of one kind, wait
-pub record Waits (Kind : Part → Type 0) (waiting : List PartText) (written all : List (ℕ × Part)) : Type 0 where
+pub record Waits (Kind : Part → Type 0) (waiting : List PartText)
+    (written all : List (ℕ × Part)) : Type 0 where
   pub left : List (ℕ × Part)
   pub whole : written ++ left ≡ all
   pub texts : AreTextsOf waiting left
   pub kinds : AllByRecursion (λ e. Kind e.1) left
 
 -- A part of a transaction took all these parts: it left what those made that it has written, and the others wait.
-pub record Takes (Kind : Part → Type 0) (old new : State) (waiting : List PartText) (all : List (ℕ × Part)) (after : List (ℕ × Part) → Stored)
+pub record Takes (Kind : Part → Type 0) (old new : State) (waiting : List PartText)
+    (all : List (ℕ × Part)) (after : List (ℕ × Part) → Stored)
     (result : Result (Unit {0}) Error) : Type 0 where
   pub written : List (ℕ × Part)
   pub waits : OnOk result (Waits Kind waiting written all)

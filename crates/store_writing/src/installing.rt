@@ -29,9 +29,12 @@ pub(crate) fn put_base<A: Alter>(
     parts: &BTreeMap<u32, Part>,
 ) -> Result<(), Error>
     ensures same { tx.new.conn.ghost_name ≡ tx.old.conn.ghost_name }
-    ensures survives { Survives (state A.Store tx.old.conn.now) (state A.Store tx.new.conn.now) (λ _. ⊥) }
-    ensures steps { (c : Stored) → While (state A.Store tx.old.conn.now) (has_zero parts.now.entries ≡ false) → Stays (state A.Store tx.old.conn.now) c
-        → Steps (state A.Store tx.old.conn.now) (state A.Store tx.new.conn.now) (with_base (all_put parts.now.entries c.base) c) result }
+    ensures survives { Survives (state A.Store tx.old.conn.now) (state A.Store tx.new.conn.now)
+        (λ _. ⊥) }
+    ensures steps { (c : Stored)
+        → While (state A.Store tx.old.conn.now) (has_zero parts.now.entries ≡ false)
+        → Stays (state A.Store tx.old.conn.now) c → Steps (state A.Store tx.old.conn.now)
+        (state A.Store tx.new.conn.now) (with_base (all_put parts.now.entries c.base) c) result }
 {
     let mut waiting = Vec::new(alloc);
     for (&object, part) in parts {
@@ -53,13 +56,16 @@ fn take_installed<A: Alter>(
 ) -> Result<(), Error>
     requires few { length waiting.old.items < 16 }
     ensures same { tx.new.conn.ghost_name ≡ tx.old.conn.ghost_name }
-    ensures survives { Survives (state A.Store tx.old.conn.now) (state A.Store tx.new.conn.now) (λ _. ⊥) }
+    ensures survives { Survives (state A.Store tx.old.conn.now) (state A.Store tx.new.conn.now)
+        (λ _. ⊥) }
     ensures few { OnOk result (length waiting.new.items < 16) }
     ensures steps { (written all : List (ℕ × Spec)) (c : Stored)
         → While (state A.Store tx.old.conn.now) (has_zero (all ++ (object, part.now) ∷ []) ≡ false)
-        → Waits IsAny waiting.old.items written all → Stays (state A.Store tx.old.conn.now) (with_base (all_put written c.base) c)
-        → Takes IsAny (state A.Store tx.old.conn.now) (state A.Store tx.new.conn.now) waiting.new.items
-        (all ++ (object, part.now) ∷ []) (λ es. with_base (all_put es c.base) c) result }
+        → Waits IsAny waiting.old.items written all
+        → Stays (state A.Store tx.old.conn.now) (with_base (all_put written c.base) c)
+        → Takes IsAny (state A.Store tx.old.conn.now) (state A.Store tx.new.conn.now)
+        waiting.new.items (all ++ (object, part.now) ∷ [])
+        (λ es. with_base (all_put es c.base) c) result }
 {
     let Ok(()) = wait(alloc, waiting, object, part) else {
         return Err(OUT_OF_MEMORY);
@@ -84,10 +90,13 @@ fn install_run<A: Alter>(
 ) -> Result<(), Error>
     requires full { length parts.now ≡ 16 }
     ensures same { tx.new.conn.ghost_name ≡ tx.old.conn.ghost_name }
-    ensures survives { Survives (state A.Store tx.old.conn.now) (state A.Store tx.new.conn.now) (λ _. ⊥) }
-    ensures steps { (es : List (ℕ × Spec)) (c : Stored) → While (state A.Store tx.old.conn.now) (has_zero es ≡ false)
+    ensures survives { Survives (state A.Store tx.old.conn.now) (state A.Store tx.new.conn.now)
+        (λ _. ⊥) }
+    ensures steps { (es : List (ℕ × Spec)) (c : Stored)
+        → While (state A.Store tx.old.conn.now) (has_zero es ≡ false)
         → AreTextsOf parts.now es → Sees (state A.Store tx.old.conn.now) c
-        → Steps (state A.Store tx.old.conn.now) (state A.Store tx.new.conn.now) (with_base (all_put es c.base) c) result }
+        → Steps (state A.Store tx.old.conn.now) (state A.Store tx.new.conn.now)
+        (with_base (all_put es c.base) c) result }
 {
     let Ok(parameters) = base_parameters(alloc, parts) else {
         return Err(OUT_OF_MEMORY);
@@ -101,10 +110,14 @@ fn install_run<A: Alter>(
 /// Writes the parts that wait into the base, one by one.
 fn install_rest<A: Alter>(tx: &mut Transaction<'_, A>, waiting: &[PartText]) -> Result<(), Error>
     ensures same { tx.new.conn.ghost_name ≡ tx.old.conn.ghost_name }
-    ensures survives { Survives (state A.Store tx.old.conn.now) (state A.Store tx.new.conn.now) (λ _. ⊥) }
-    ensures steps { (written all : List (ℕ × Spec)) (c : Stored) → While (state A.Store tx.old.conn.now) (has_zero all ≡ false)
-        → Waits IsAny waiting.now written all → Stays (state A.Store tx.old.conn.now) (with_base (all_put written c.base) c)
-        → Steps (state A.Store tx.old.conn.now) (state A.Store tx.new.conn.now) (with_base (all_put all c.base) c) result }
+    ensures survives { Survives (state A.Store tx.old.conn.now) (state A.Store tx.new.conn.now)
+        (λ _. ⊥) }
+    ensures steps { (written all : List (ℕ × Spec)) (c : Stored)
+        → While (state A.Store tx.old.conn.now) (has_zero all ≡ false)
+        → Waits IsAny waiting.now written all
+        → Stays (state A.Store tx.old.conn.now) (with_base (all_put written c.base) c)
+        → Steps (state A.Store tx.old.conn.now) (state A.Store tx.new.conn.now)
+        (with_base (all_put all c.base) c) result }
 {
     for part in waiting {
         match put_installed(tx, part) {
@@ -118,10 +131,12 @@ fn install_rest<A: Alter>(tx: &mut Transaction<'_, A>, waiting: &[PartText]) -> 
 /// Writes one part into the base.
 fn put_installed<A: Alter>(tx: &mut Transaction<'_, A>, part: &PartText) -> Result<(), Error>
     ensures same { tx.new.conn.ghost_name ≡ tx.old.conn.ghost_name }
-    ensures survives { Survives (state A.Store tx.old.conn.now) (state A.Store tx.new.conn.now) (λ _. ⊥) }
+    ensures survives { Survives (state A.Store tx.old.conn.now) (state A.Store tx.new.conn.now)
+        (λ _. ⊥) }
     ensures steps { (e : ℕ × Spec) (c : Stored) → While (state A.Store tx.old.conn.now) (0 < e.0)
         → IsTextOf part.now e → Sees (state A.Store tx.old.conn.now) c
-        → Steps (state A.Store tx.old.conn.now) (state A.Store tx.new.conn.now) (with_part e.0 e.1 c) result }
+        → Steps (state A.Store tx.old.conn.now) (state A.Store tx.new.conn.now)
+        (with_part e.0 e.1 c) result }
 {
     match tx.execute(
         "INSERT OR REPLACE INTO base VALUES (?1, ?2)",

@@ -38,9 +38,12 @@ pub(crate) fn put_parts<A: Alter>(
     requires top { 0 < top }
     requires objects { has_zero parts.now.entries ≡ false }
     ensures same { tx.new.conn.ghost_name ≡ tx.old.conn.ghost_name }
-    ensures survives { Survives (state A.Store tx.old.conn.now) (state A.Store tx.new.conn.now) (λ _. ⊥) }
-    ensures steps { (home : ℕ) (c : Stored) → Stays (state A.Store tx.old.conn.now) (with_record top home [] c)
-        → Steps (state A.Store tx.old.conn.now) (state A.Store tx.new.conn.now) (with_record top home parts.now.entries c) result }
+    ensures survives { Survives (state A.Store tx.old.conn.now) (state A.Store tx.new.conn.now)
+        (λ _. ⊥) }
+    ensures steps { (home : ℕ) (c : Stored)
+        → Stays (state A.Store tx.old.conn.now) (with_record top home [] c)
+        → Steps (state A.Store tx.old.conn.now) (state A.Store tx.new.conn.now)
+        (with_record top home parts.now.entries c) result }
 {
     let _rising = parts.len();
     let mut waiting = Vec::new(alloc);
@@ -66,13 +69,17 @@ fn take_part<A: Alter>(
     requires top { 0 < top }
     requires few { length waiting.old.items < 16 }
     ensures same { tx.new.conn.ghost_name ≡ tx.old.conn.ghost_name }
-    ensures survives { Survives (state A.Store tx.old.conn.now) (state A.Store tx.new.conn.now) (λ _. ⊥) }
+    ensures survives { Survives (state A.Store tx.old.conn.now) (state A.Store tx.new.conn.now)
+        (λ _. ⊥) }
     ensures few { OnOk result (length waiting.new.items < 16) }
     ensures steps { (home : ℕ) (written all : List (ℕ × Spec)) (c : Stored)
-        → has_zero (all ++ (object, part.now) ∷ []) ≡ false → is_sorted nat_cmp (all ++ (object, part.now) ∷ []) ≡ true
-        → Waits IsValue waiting.old.items written all → Stays (state A.Store tx.old.conn.now) (with_record top home written c)
-        → Takes IsValue (state A.Store tx.old.conn.now) (state A.Store tx.new.conn.now) waiting.new.items
-        (all ++ (object, part.now) ∷ []) (λ es. with_record top home es c) result }
+        → has_zero (all ++ (object, part.now) ∷ []) ≡ false
+        → is_sorted nat_cmp (all ++ (object, part.now) ∷ []) ≡ true
+        → Waits IsValue waiting.old.items written all
+        → Stays (state A.Store tx.old.conn.now) (with_record top home written c)
+        → Takes IsValue (state A.Store tx.old.conn.now) (state A.Store tx.new.conn.now)
+        waiting.new.items (all ++ (object, part.now) ∷ [])
+        (λ es. with_record top home es c) result }
 {
     match part {
         Part::Value(_) => take_value(tx, alloc, top, waiting, object, part),
@@ -92,13 +99,17 @@ fn take_value<A: Alter>(
     requires top { 0 < top }
     requires few { length waiting.old.items < 16 }
     ensures same { tx.new.conn.ghost_name ≡ tx.old.conn.ghost_name }
-    ensures survives { Survives (state A.Store tx.old.conn.now) (state A.Store tx.new.conn.now) (λ _. ⊥) }
+    ensures survives { Survives (state A.Store tx.old.conn.now) (state A.Store tx.new.conn.now)
+        (λ _. ⊥) }
     ensures few { OnOk result (length waiting.new.items < 16) }
     ensures steps { IsValue part.now → (home : ℕ) (written all : List (ℕ × Spec)) (c : Stored)
-        → has_zero (all ++ (object, part.now) ∷ []) ≡ false → is_sorted nat_cmp (all ++ (object, part.now) ∷ []) ≡ true
-        → Waits IsValue waiting.old.items written all → Stays (state A.Store tx.old.conn.now) (with_record top home written c)
-        → Takes IsValue (state A.Store tx.old.conn.now) (state A.Store tx.new.conn.now) waiting.new.items
-        (all ++ (object, part.now) ∷ []) (λ es. with_record top home es c) result }
+        → has_zero (all ++ (object, part.now) ∷ []) ≡ false
+        → is_sorted nat_cmp (all ++ (object, part.now) ∷ []) ≡ true
+        → Waits IsValue waiting.old.items written all
+        → Stays (state A.Store tx.old.conn.now) (with_record top home written c)
+        → Takes IsValue (state A.Store tx.old.conn.now) (state A.Store tx.new.conn.now)
+        waiting.new.items (all ++ (object, part.now) ∷ [])
+        (λ es. with_record top home es c) result }
 {
     let Ok(()) = wait(alloc, waiting, object, part) else {
         return Err(OUT_OF_MEMORY);
@@ -125,13 +136,17 @@ fn take_delta<A: Alter>(
 ) -> Result<(), Error>
     requires top { 0 < top }
     ensures same { tx.new.conn.ghost_name ≡ tx.old.conn.ghost_name }
-    ensures survives { Survives (state A.Store tx.old.conn.now) (state A.Store tx.new.conn.now) (λ _. ⊥) }
+    ensures survives { Survives (state A.Store tx.old.conn.now) (state A.Store tx.new.conn.now)
+        (λ _. ⊥) }
     ensures few { OnOk result (length waiting.new.items < 16) }
     ensures steps { (home : ℕ) (written all : List (ℕ × Spec)) (c : Stored)
-        → has_zero (all ++ (object, Delta by) ∷ []) ≡ false → is_sorted nat_cmp (all ++ (object, Delta by) ∷ []) ≡ true
-        → Waits IsValue waiting.old.items written all → Stays (state A.Store tx.old.conn.now) (with_record top home written c)
-        → Takes IsValue (state A.Store tx.old.conn.now) (state A.Store tx.new.conn.now) waiting.new.items
-        (all ++ (object, Delta by) ∷ []) (λ es. with_record top home es c) result }
+        → has_zero (all ++ (object, Delta by) ∷ []) ≡ false
+        → is_sorted nat_cmp (all ++ (object, Delta by) ∷ []) ≡ true
+        → Waits IsValue waiting.old.items written all
+        → Stays (state A.Store tx.old.conn.now) (with_record top home written c)
+        → Takes IsValue (state A.Store tx.old.conn.now) (state A.Store tx.new.conn.now)
+        waiting.new.items (all ++ (object, Delta by) ∷ [])
+        (λ es. with_record top home es c) result }
 {
     match put_rest(tx, top, waiting.as_slice()) {
         Ok(()) => {
@@ -152,11 +167,14 @@ fn put_run<A: Alter>(
     requires top { 0 < top }
     requires full { length values.now ≡ 16 }
     ensures same { tx.new.conn.ghost_name ≡ tx.old.conn.ghost_name }
-    ensures survives { Survives (state A.Store tx.old.conn.now) (state A.Store tx.new.conn.now) (λ _. ⊥) }
+    ensures survives { Survives (state A.Store tx.old.conn.now) (state A.Store tx.new.conn.now)
+        (λ _. ⊥) }
     ensures steps { (home : ℕ) (before es : List (ℕ × Spec)) (c : Stored)
         → AreTextsOf values.now es → AllByRecursion (λ e. IsValue e.1) es → has_zero es ≡ false
-        → is_sorted nat_cmp (before ++ es) ≡ true → Sees (state A.Store tx.old.conn.now) (with_record top home before c)
-        → Steps (state A.Store tx.old.conn.now) (state A.Store tx.new.conn.now) (with_record top home (before ++ es) c) result }
+        → is_sorted nat_cmp (before ++ es) ≡ true
+        → Sees (state A.Store tx.old.conn.now) (with_record top home before c)
+        → Steps (state A.Store tx.old.conn.now) (state A.Store tx.new.conn.now)
+        (with_record top home (before ++ es) c) result }
 {
     let Ok(parameters) = record_parameters(alloc, top, values) else {
         return Err(OUT_OF_MEMORY);
@@ -175,11 +193,14 @@ fn put_rest<A: Alter>(
 ) -> Result<(), Error>
     requires top { 0 < top }
     ensures same { tx.new.conn.ghost_name ≡ tx.old.conn.ghost_name }
-    ensures survives { Survives (state A.Store tx.old.conn.now) (state A.Store tx.new.conn.now) (λ _. ⊥) }
+    ensures survives { Survives (state A.Store tx.old.conn.now) (state A.Store tx.new.conn.now)
+        (λ _. ⊥) }
     ensures steps { (home : ℕ) (written all : List (ℕ × Spec)) (c : Stored)
         → has_zero all ≡ false → is_sorted nat_cmp all ≡ true
-        → Waits IsValue waiting.now written all → Stays (state A.Store tx.old.conn.now) (with_record top home written c)
-        → Steps (state A.Store tx.old.conn.now) (state A.Store tx.new.conn.now) (with_record top home all c) result }
+        → Waits IsValue waiting.now written all
+        → Stays (state A.Store tx.old.conn.now) (with_record top home written c)
+        → Steps (state A.Store tx.old.conn.now) (state A.Store tx.new.conn.now)
+        (with_record top home all c) result }
 {
     for value in waiting {
         match put_value(tx, top, value) {
@@ -194,11 +215,13 @@ fn put_rest<A: Alter>(
 fn put_value<A: Alter>(tx: &mut Transaction<'_, A>, top: u32, value: &PartText) -> Result<(), Error>
     requires top { 0 < top }
     ensures same { tx.new.conn.ghost_name ≡ tx.old.conn.ghost_name }
-    ensures survives { Survives (state A.Store tx.old.conn.now) (state A.Store tx.new.conn.now) (λ _. ⊥) }
+    ensures survives { Survives (state A.Store tx.old.conn.now) (state A.Store tx.new.conn.now)
+        (λ _. ⊥) }
     ensures steps { (home : ℕ) (before : List (ℕ × Spec)) (e : ℕ × Spec) (c : Stored)
         → IsTextOf value.now e → IsValue e.1 → 0 < e.0 → is_sorted nat_cmp (before ++ e ∷ []) ≡ true
         → Sees (state A.Store tx.old.conn.now) (with_record top home before c)
-        → Steps (state A.Store tx.old.conn.now) (state A.Store tx.new.conn.now) (with_record top home (before ++ e ∷ []) c) result }
+        → Steps (state A.Store tx.old.conn.now) (state A.Store tx.new.conn.now)
+        (with_record top home (before ++ e ∷ []) c) result }
 {
     match tx.execute(
         "INSERT INTO prepared_val VALUES (?1, ?2, ?3)",
@@ -218,7 +241,8 @@ fn put_delta<A: Alter>(
 ) -> Result<(), Error>
     requires top { 0 < top }
     ensures same { tx.new.conn.ghost_name ≡ tx.old.conn.ghost_name }
-    ensures survives { Survives (state A.Store tx.old.conn.now) (state A.Store tx.new.conn.now) (λ _. ⊥) }
+    ensures survives { Survives (state A.Store tx.old.conn.now) (state A.Store tx.new.conn.now)
+        (λ _. ⊥) }
     ensures steps { 0 < object → (home : ℕ) (before : List (ℕ × Spec)) (c : Stored)
         → is_sorted nat_cmp (before ++ (object, Delta by) ∷ []) ≡ true
         → Sees (state A.Store tx.old.conn.now) (with_record top home before c)

@@ -111,7 +111,9 @@ pub fn install<A: Alter>(
     top: u32,
     installed: &BTreeMap<u32, Part>,
 ) -> Result<(), Error>
-    ensures carries { (c : Stored) → While (state A.Store conn.old) (has_zero installed.now.entries ≡ false) → Stands (state A.Store conn.old) c
+    ensures carries { (c : Stored)
+        → While (state A.Store conn.old) (has_zero installed.now.entries ≡ false)
+        → Stands (state A.Store conn.old) c
         → Carries (state A.Store conn.old) (state A.Store conn.new) c
         (with_base (all_put installed.now.entries c.base) (after_discard top c)) result }
     ensures busy { IsTrue (state A.Store conn.old).in_transaction
@@ -137,7 +139,9 @@ pub fn save<A: Alter>(
     alloc: Global,
     values: &BTreeMap<u32, Part>,
 ) -> Result<(), Error>
-    ensures carries { (c : Stored) → While (state A.Store conn.old) (has_zero values.now.entries ≡ false) → Stands (state A.Store conn.old) c
+    ensures carries { (c : Stored)
+        → While (state A.Store conn.old) (has_zero values.now.entries ≡ false)
+        → Stands (state A.Store conn.old) c
         → Carries (state A.Store conn.old) (state A.Store conn.new) c
         (with_base (all_put values.now.entries c.base) (with_none_decided c)) result }
     ensures busy { IsTrue (state A.Store conn.old).in_transaction

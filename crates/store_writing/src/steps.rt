@@ -30,7 +30,8 @@ pub(crate) fn put_record<A: Alter>(
     requires home { 0 < whole.now.home }
     requires objects { has_zero whole.now.parts.entries ≡ false }
     ensures same { tx.new.conn.ghost_name ≡ tx.old.conn.ghost_name }
-    ensures survives { Survives (state A.Store tx.old.conn.now) (state A.Store tx.new.conn.now) (λ _. ⊥) }
+    ensures survives { Survives (state A.Store tx.old.conn.now) (state A.Store tx.new.conn.now)
+        (λ _. ⊥) }
     ensures steps { (c : Stored) → c.next_top ≡ next_top → Sees (state A.Store tx.old.conn.now) c
         → Steps (state A.Store tx.old.conn.now) (state A.Store tx.new.conn.now)
         (after_prepare top whole.now.home whole.now.parts.entries c) result }
@@ -52,7 +53,8 @@ fn put_whole<A: Alter>(
     requires home { 0 < whole.now.home }
     requires objects { has_zero whole.now.parts.entries ≡ false }
     ensures same { tx.new.conn.ghost_name ≡ tx.old.conn.ghost_name }
-    ensures survives { Survives (state A.Store tx.old.conn.now) (state A.Store tx.new.conn.now) (λ _. ⊥) }
+    ensures survives { Survives (state A.Store tx.old.conn.now) (state A.Store tx.new.conn.now)
+        (λ _. ⊥) }
     ensures steps { (c : Stored) → Sees (state A.Store tx.old.conn.now) c
         → Steps (state A.Store tx.old.conn.now) (state A.Store tx.new.conn.now)
         (with_record top whole.now.home whole.now.parts.entries c) result }
@@ -66,9 +68,11 @@ fn put_whole<A: Alter>(
 /// Raises the next top action's number above this one's, where it is not.
 fn raise_next<A: Alter>(tx: &mut Transaction<'_, A>, top: u32, next_top: u64) -> Result<(), Error>
     ensures same { tx.new.conn.ghost_name ≡ tx.old.conn.ghost_name }
-    ensures survives { Survives (state A.Store tx.old.conn.now) (state A.Store tx.new.conn.now) (λ _. ⊥) }
+    ensures survives { Survives (state A.Store tx.old.conn.now) (state A.Store tx.new.conn.now)
+        (λ _. ⊥) }
     ensures steps { (c : Stored) → c.next_top ≡ next_top → Stays (state A.Store tx.old.conn.now) c
-        → Steps (state A.Store tx.old.conn.now) (state A.Store tx.new.conn.now) (with_next (max next_top (top + 1)) c) result }
+        → Steps (state A.Store tx.old.conn.now) (state A.Store tx.new.conn.now)
+        (with_next (max next_top (top + 1)) c) result }
 {
     let next = u64::from(top) + 1;
     if next <= next_top {
@@ -82,9 +86,11 @@ fn put_next<A: Alter>(tx: &mut Transaction<'_, A>, next: u64) -> Result<(), Erro
     requires low { 0 < next }
     requires high { next ≤ 4294967296 }
     ensures same { tx.new.conn.ghost_name ≡ tx.old.conn.ghost_name }
-    ensures survives { Survives (state A.Store tx.old.conn.now) (state A.Store tx.new.conn.now) (λ _. ⊥) }
+    ensures survives { Survives (state A.Store tx.old.conn.now) (state A.Store tx.new.conn.now)
+        (λ _. ⊥) }
     ensures steps { (c : Stored) → Sees (state A.Store tx.old.conn.now) c
-        → Steps (state A.Store tx.old.conn.now) (state A.Store tx.new.conn.now) (with_next next c) result }
+        → Steps (state A.Store tx.old.conn.now) (state A.Store tx.new.conn.now)
+        (with_next next c) result }
 {
     match tx.execute(
         "INSERT OR REPLACE INTO meta(rowid, k, v) VALUES (3, 'next_top', ?1)",
@@ -100,9 +106,11 @@ fn put_home<A: Alter>(tx: &mut Transaction<'_, A>, top: u32, home: u32) -> Resul
     requires top { 0 < top }
     requires home { 0 < home }
     ensures same { tx.new.conn.ghost_name ≡ tx.old.conn.ghost_name }
-    ensures survives { Survives (state A.Store tx.old.conn.now) (state A.Store tx.new.conn.now) (λ _. ⊥) }
+    ensures survives { Survives (state A.Store tx.old.conn.now) (state A.Store tx.new.conn.now)
+        (λ _. ⊥) }
     ensures steps { (c : Stored) → Sees (state A.Store tx.old.conn.now) c
-        → Steps (state A.Store tx.old.conn.now) (state A.Store tx.new.conn.now) (with_record top home [] c) result }
+        → Steps (state A.Store tx.old.conn.now) (state A.Store tx.new.conn.now)
+        (with_record top home [] c) result }
 {
     match delete_record(tx, top) {
         Ok(()) => add_record(tx, top, home),
@@ -113,9 +121,11 @@ fn put_home<A: Alter>(tx: &mut Transaction<'_, A>, top: u32, home: u32) -> Resul
 /// Deletes a record. Its parts go with it.
 fn delete_record<A: Alter>(tx: &mut Transaction<'_, A>, top: u32) -> Result<(), Error>
     ensures same { tx.new.conn.ghost_name ≡ tx.old.conn.ghost_name }
-    ensures survives { Survives (state A.Store tx.old.conn.now) (state A.Store tx.new.conn.now) (λ _. ⊥) }
+    ensures survives { Survives (state A.Store tx.old.conn.now) (state A.Store tx.new.conn.now)
+        (λ _. ⊥) }
     ensures steps { (c : Stored) → Sees (state A.Store tx.old.conn.now) c
-        → Steps (state A.Store tx.old.conn.now) (state A.Store tx.new.conn.now) (after_discard top c) result }
+        → Steps (state A.Store tx.old.conn.now) (state A.Store tx.new.conn.now)
+        (after_discard top c) result }
 {
     match tx.execute("DELETE FROM prepared WHERE top = ?1", &[number(top)]) {
         Ok(_) => Ok(()),
@@ -128,9 +138,11 @@ fn add_record<A: Alter>(tx: &mut Transaction<'_, A>, top: u32, home: u32) -> Res
     requires top { 0 < top }
     requires home { 0 < home }
     ensures same { tx.new.conn.ghost_name ≡ tx.old.conn.ghost_name }
-    ensures survives { Survives (state A.Store tx.old.conn.now) (state A.Store tx.new.conn.now) (λ _. ⊥) }
-    ensures steps { (c : Stored) → get c.prepared top ≡ None → Sees (state A.Store tx.old.conn.now) c
-        → Steps (state A.Store tx.old.conn.now) (state A.Store tx.new.conn.now) (with_record top home [] c) result }
+    ensures survives { Survives (state A.Store tx.old.conn.now) (state A.Store tx.new.conn.now)
+        (λ _. ⊥) }
+    ensures steps { (c : Stored) → get c.prepared top ≡ None
+        → Sees (state A.Store tx.old.conn.now) c → Steps (state A.Store tx.old.conn.now)
+        (state A.Store tx.new.conn.now) (with_record top home [] c) result }
 {
     match tx.execute(
         "INSERT INTO prepared VALUES (?1, ?2)",
@@ -149,8 +161,11 @@ pub(crate) fn install_record<A: Alter>(
     installed: &BTreeMap<u32, Part>,
 ) -> Result<(), Error>
     ensures same { tx.new.conn.ghost_name ≡ tx.old.conn.ghost_name }
-    ensures survives { Survives (state A.Store tx.old.conn.now) (state A.Store tx.new.conn.now) (λ _. ⊥) }
-    ensures steps { (c : Stored) → While (state A.Store tx.old.conn.now) (has_zero installed.now.entries ≡ false) → Sees (state A.Store tx.old.conn.now) c
+    ensures survives { Survives (state A.Store tx.old.conn.now) (state A.Store tx.new.conn.now)
+        (λ _. ⊥) }
+    ensures steps { (c : Stored)
+        → While (state A.Store tx.old.conn.now) (has_zero installed.now.entries ≡ false)
+        → Sees (state A.Store tx.old.conn.now) c
         → Steps (state A.Store tx.old.conn.now) (state A.Store tx.new.conn.now)
         (with_base (all_put installed.now.entries c.base) (after_discard top c)) result }
 {
@@ -167,8 +182,11 @@ pub(crate) fn save_values<A: Alter>(
     values: &BTreeMap<u32, Part>,
 ) -> Result<(), Error>
     ensures same { tx.new.conn.ghost_name ≡ tx.old.conn.ghost_name }
-    ensures survives { Survives (state A.Store tx.old.conn.now) (state A.Store tx.new.conn.now) (λ _. ⊥) }
-    ensures steps { (c : Stored) → While (state A.Store tx.old.conn.now) (has_zero values.now.entries ≡ false) → Sees (state A.Store tx.old.conn.now) c
+    ensures survives { Survives (state A.Store tx.old.conn.now) (state A.Store tx.new.conn.now)
+        (λ _. ⊥) }
+    ensures steps { (c : Stored)
+        → While (state A.Store tx.old.conn.now) (has_zero values.now.entries ≡ false)
+        → Sees (state A.Store tx.old.conn.now) c
         → Steps (state A.Store tx.old.conn.now) (state A.Store tx.new.conn.now)
         (with_base (all_put values.now.entries c.base) (with_none_decided c)) result }
 {
@@ -181,9 +199,11 @@ pub(crate) fn save_values<A: Alter>(
 /// Deletes all that is decided.
 fn delete_decided<A: Alter>(tx: &mut Transaction<'_, A>) -> Result<(), Error>
     ensures same { tx.new.conn.ghost_name ≡ tx.old.conn.ghost_name }
-    ensures survives { Survives (state A.Store tx.old.conn.now) (state A.Store tx.new.conn.now) (λ _. ⊥) }
+    ensures survives { Survives (state A.Store tx.old.conn.now) (state A.Store tx.new.conn.now)
+        (λ _. ⊥) }
     ensures steps { (c : Stored) → Sees (state A.Store tx.old.conn.now) c
-        → Steps (state A.Store tx.old.conn.now) (state A.Store tx.new.conn.now) (with_none_decided c) result }
+        → Steps (state A.Store tx.old.conn.now) (state A.Store tx.new.conn.now)
+        (with_none_decided c) result }
 {
     match tx.execute("DELETE FROM decided", &[]) {
         Ok(_) => Ok(()),

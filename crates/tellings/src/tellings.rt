@@ -61,11 +61,12 @@ impl Tellings {
         }
     }
 
-    /// Nothing was told, of a guardian that has crashed so often: those of each history in which no outcome came. This takes no memory.
+    /// Nothing was told, of a guardian that has crashed so often: those of each history in which no outcome came.
+    /// This takes no memory.
     pub fn reopened(alloc: Global, crashes: u64) -> Tellings
         ensures crashes { crashes_of result ≡ crashes }
-        ensures told { (g : ℕ) (here : List LocalEvent) → ((b : Name) → told_here g b here ≡ false) → ((b : Name) → told_committed_here b here ≡ false)
-            → AreTold g here result }
+        ensures told { (g : ℕ) (here : List LocalEvent) → ((b : Name) → told_here g b here ≡ false)
+            → ((b : Name) → told_committed_here b here ≡ false) → AreTold g here result }
     {
         Tellings {
             alloc,
@@ -83,7 +84,8 @@ impl Tellings {
 
     /// Whether the outcome of the action was told since the last crash. This takes no memory.
     pub fn was_told(&self, action: &Name) -> bool
-        ensures { (g : ℕ) (here : List LocalEvent) → AreTold g here self.now → result ≡ told_here g action.now here }
+        ensures { (g : ℕ) (here : List LocalEvent) → AreTold g here self.now
+            → result ≡ told_here g action.now here }
     {
         match self.told.get(action) {
             Some(told) => told.life == self.crashes,
@@ -93,13 +95,15 @@ impl Tellings {
 
     /// Whether it was ever told that the action committed. This takes no memory.
     pub fn is_committed(&self, action: &Name) -> bool
-        ensures { (g : ℕ) (here : List LocalEvent) → AreTold g here self.now → result ≡ told_committed_here action.now here }
+        ensures { (g : ℕ) (here : List LocalEvent) → AreTold g here self.now
+            → result ≡ told_committed_here action.now here }
     {
         self.knows_commit(action)
     }
 
-    /// To whom the action hands on what it did when it commits: the nearest ancestor above it that was not told committed; nobody where that is the base
-    /// (Moss 1981). This takes no memory, and fails only where a name of more than 8 numbers has too many copies for one more.
+    /// To whom the action hands on what it did when it commits: the nearest ancestor above it that was not told
+    /// committed; nobody where that is the base (Moss 1981). This takes no memory, and fails only where a name of
+    /// more than 8 numbers has too many copies for one more.
     pub fn next_holder(&self, action: &Name) -> Result<Option<Name>, AllocError>
         ensures { IfOk result (λ to. (g : ℕ) (here : List LocalEvent) → AreTold g here self.now
             → to ≡ holder_by (λ b. told_committed_here b here) (parent_of action.now)) }
@@ -114,10 +118,11 @@ impl Tellings {
         Ok(None)
     }
 
-    /// Copies outcomes, each with whether the action committed, in place of what was to be heard, and makes room for them. Whether or not there is
-    /// memory for it, the tellings are those of the same history.
+    /// Copies outcomes, each with whether the action committed, in place of what was to be heard, and makes room for
+    /// them. Whether or not there is memory for it, the tellings are those of the same history.
     pub fn plan(&mut self, outcomes: &[(Name, bool)], heard: &mut Heard) -> Result<(), AllocError>
-        ensures same { (g : ℕ) (here : List LocalEvent) → AreTold g here self.old → AreTold g here self.new }
+        ensures same { (g : ℕ) (here : List LocalEvent) → AreTold g here self.old
+            → AreTold g here self.new }
         ensures crashes { crashes_of self.new ≡ crashes_of self.old }
         ensures fits { OnOk result (FitsHeard self.new heard.new) }
         ensures heard { OnOk result (IsHeard self.new outcomes.now heard.new) }
@@ -133,18 +138,21 @@ impl Tellings {
     pub fn hear(&mut self, heard: &mut Heard)
         requires { FitsHeard self.old heard.old }
         ensures crashes { crashes_of self.new ≡ crashes_of self.old }
-        ensures told { (g : ℕ) (here : List LocalEvent) (c : LocalEvent) → AreTold g here self.old → IsHeard self.old c.carried.outcomes heard.old
+        ensures told { (g : ℕ) (here : List LocalEvent) (c : LocalEvent) → AreTold g here self.old
+            → IsHeard self.old c.carried.outcomes heard.old
             → step_crashes c.event.step g ≡ false → AreTold g (c ∷ here) self.new }
     {
         self.put_all(heard);
     }
 
-    /// Hears the outcomes that came with a crash, and forgets what was told before it but for commits. This cannot fail.
+    /// Hears the outcomes that came with a crash, and forgets what was told before it but for commits. This cannot
+    /// fail.
     pub fn crash(&mut self, heard: &mut Heard)
         requires fits { FitsHeard self.old heard.old }
         requires count { crashes_of self.old + 1 < 2 ^ 64 }
         ensures crashes { crashes_of self.new ≡ crashes_of self.old + 1 }
-        ensures told { (g : ℕ) (here : List LocalEvent) (c : LocalEvent) → AreTold g here self.old → IsHeard self.old c.carried.outcomes heard.old
+        ensures told { (g : ℕ) (here : List LocalEvent) (c : LocalEvent) → AreTold g here self.old
+            → IsHeard self.old c.carried.outcomes heard.old
             → step_crashes c.event.step g ≡ true → AreTold g (c ∷ here) self.new }
     {
         self.put_all(heard);
@@ -175,7 +183,8 @@ impl Tellings {
         ensures room { OnOk result (HasMoreRoom self.old.told.room self.new.told.room action.now) }
         ensures named { IfOk result (λ row. row.0 ≡ action.now) }
         ensures lives { IfOk result (λ row. row.1.life ≡ crashes_of self.old) }
-        ensures committed { IfOk result (λ row. row.1.committed ≡ (committed || is_told_committed (value_at self.old.told.held action.now))) }
+        ensures committed { IfOk result (λ row. row.1.committed
+            ≡ (committed || is_told_committed (value_at self.old.told.held action.now))) }
     {
         let before = self.told.make_room(action)?;
         let told = Told {
@@ -189,8 +198,10 @@ impl Tellings {
     fn put_all(&mut self, heard: &mut Heard)
         requires { FitsHeard self.old heard.old }
         ensures crashes { crashes_of self.new ≡ crashes_of self.old }
-        ensures values { (b : Name) → value_at self.new.told.held b ≡ or_else (value_at heard.old.told.items b) (value_at self.old.told.held b) }
-        ensures lives { (life : ℕ) → AreBefore life self.old.told.held → AreBefore life heard.old.told.items → AreBefore life self.new.told.held }
+        ensures values { (b : Name) → value_at self.new.told.held b
+            ≡ or_else (value_at heard.old.told.items b) (value_at self.old.told.held b) }
+        ensures lives { (life : ℕ) → AreBefore life self.old.told.held
+            → AreBefore life heard.old.told.items → AreBefore life self.new.told.held }
     {
         while let Some((action, told)) = heard.told.pop() {
             self.told.put(&action, told);

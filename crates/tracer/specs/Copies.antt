@@ -9,8 +9,8 @@ use Rattle.run_model.specs.LocalHistories.{Stamped, names_guardian, takes_regist
 use Rattle.run_model.specs.Openings.{Opening}
 use Rattle.run_model.specs.Runs.{is_accepted}
 
--- An event as a history has it: 0 is the registry's history, another number that of the guardian of this number. It is late if an event
--- before it in its history has no smaller stamp.
+-- An event as a history has it: 0 is the registry's history, another number that of the guardian of this number. It
+-- is late if an event before it in its history has no smaller stamp.
 pub record Copied : Type 0 where
   pub stamp : ℕ
   pub history : ℕ
@@ -21,7 +21,8 @@ pub record Copied : Type 0 where
 abbrev pub copies_from : ℕ → List ℕ → List Stamped → List Copied
 copies_from history seen [] = []
 copies_from history seen (c ∷ cs) =
-    record { stamp = c.0; history = history; is_late = list_any (λ t. nat_le c.0 t) seen; event = c.1 } ∷ copies_from history (c.0 ∷ seen) cs
+    record { stamp = c.0; history = history; is_late = list_any (λ t. nat_le c.0 t) seen; event = c.1 }
+    ∷ copies_from history (c.0 ∷ seen) cs
 
 -- those in histories whose numbers begin with this one
 abbrev pub copies_behind : ℕ → List (List Stamped) → List Copied
@@ -45,18 +46,22 @@ has_other e turn = list_any (λ c. not (same_event c.event e)) turn
 abbrev pub has_copy : ℕ → List Copied → Bool
 has_copy history turn = list_any (λ c. c.history == history) turn
 
--- the copies do not stand in exactly the histories that the event's step names, among those of guardians up to the limit
+-- the copies do not stand in exactly the histories that the event's step names, among those of guardians up to the
+-- limit
 abbrev pub stand_elsewhere : ℕ → Event → List Event → List Copied → Bool
 stand_elsewhere limit e past turn =
-    differ (has_copy 0 turn) (takes_registry e.step) || list_any (λ g. differ (has_copy g turn) (names_guardian e.step past g)) (up_to limit)
+    differ (has_copy 0 turn) (takes_registry e.step)
+    || list_any (λ g. differ (has_copy g turn) (names_guardian e.step past g)) (up_to limit)
 
 -- the event's step is not accepted with its answer
 abbrev pub is_contradicted : Opening → Event → List Event → Bool
-is_contradicted opening e past = let answer = answer_of opening e.step past in not (is_accepted answer && same_answer answer e.answer)
+is_contradicted opening e past = let answer = answer_of opening e.step past in
+    not (is_accepted answer && same_answer answer e.answer)
 
 -- the copies of one stamp make histories fail at it, where these are the events of smaller stamps
 abbrev pub turn_fails : Opening → ℕ → Event → List Event → List Copied → Bool
-turn_fails opening limit e past turn = has_late turn || (has_other e turn || (stand_elsewhere limit e past turn || is_contradicted opening e past))
+turn_fails opening limit e past turn = has_late turn
+    || (has_other e turn || (stand_elsewhere limit e past turn || is_contradicted opening e past))
 
 -- stamps do not fall, and none is smaller than this number
 abbrev pub AreRisingFrom : ℕ → List Copied → Type 0

@@ -21,7 +21,8 @@ use Rattle.tracer.specs.Places.{place_numbers}
 
 -- a granted operation
 abbrev pub operation_of : Performed → keeping.Performed
-operation_of p = record { number = p.number; action = p.action; object = p.object; operation = p.operation; reply = p.reply }
+operation_of p =
+    record { number = p.number; action = p.action; object = p.object; operation = p.operation; reply = p.reply }
 
 -- an operation and its place
 abbrev pub Placed : Type 0
@@ -38,7 +39,8 @@ AreByPlace entries os past = map placed entries ≡ map (λ o. (place_of o past,
 abbrev pub Explains : Explained → Explanation → List Event → Type 0
 Explains NotBegun e past = e ≡ not_begun
 Explains Orphan e past = e ≡ orphan
-Explains (Sees map) e past = (os : List keeping.Performed) × (e ≡ sees os) × AreByPlace map.entries os past
+Explains (Sees map) e past = (os : List keeping.Performed) × (e ≡ sees os)
+    × AreByPlace map.entries os past
 
 -- the operations that are told
 abbrev pub operations_of : BTreeMap Place Performed → List keeping.Performed
@@ -46,7 +48,8 @@ operations_of m = map (λ e. operation_of e.1) m.entries
 
 -- replayed from the first contents, the operations that are told give the replies that are told
 abbrev pub IsReplayed : Opening → Explained → Type 0
-IsReplayed opening (Sees m) = replayed (first_content opening) (operations_of m) ≡ replies_given (operations_of m)
+IsReplayed opening (Sees m) =
+    replayed (first_content opening) (operations_of m) ≡ replies_given (operations_of m)
 IsReplayed opening _ = Unit {0}
 
 -- what is found, as a list
@@ -59,10 +62,12 @@ abbrev pub CameAfter : ℕ → List keeping.Performed → Type 0
 CameAfter n os = AllByRecursion (λ o. n < o.number) os
 
 -- what a sees of the history is known but for the earlier events of past: the later operations are in their places
-pub record IsPlaced (a : Name) (now past : List Event) (entries : List (Place × Performed)) : Type 0 where
+pub record IsPlaced (a : Name) (now past : List Event)
+    (entries : List (Place × Performed)) : Type 0 where
   pub os : List keeping.Performed
   pub later : CameAfter (length past) os
-  pub front : visible_by_grant a now ≡ reverse (filter (λ o. is_visible o.action a now) (performed past)) ++ os
+  pub front : visible_by_grant a now
+      ≡ reverse (filter (λ o. is_visible o.action a now) (performed past)) ++ os
   pub by_place : AreByPlace entries (in_order_of_place now os) now
 
 -- the line of an operation at its place, without its line feed

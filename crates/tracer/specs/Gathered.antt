@@ -11,12 +11,14 @@ use Rattle.tracer.specs.declared.gathering.Gathered.TheVariants.{Yes, No}
 
 -- yes: what has happened is the gathered run, of so many events; no: the least stamp at which the histories fail
 abbrev pub Says : Gathered → Opening → Histories → List Event → Type 0
-Says (Yes count) opening hs past = IsGathered opening hs past × IsRun opening past × (count ≡ length past)
+Says (Yes count) opening hs past = IsGathered opening hs past × IsRun opening past
+    × (count ≡ length past)
 Says (No stamp) opening hs past = least_failing opening hs ≡ Some stamp
 
 abbrev pub GatheredRunsAreServed : Type 0
 GatheredRunsAreServed =
-    (opening : Opening) (hs : Histories) (past : List Event) → IsGathered opening hs past → IsRun opening past → IsServed opening past
+    (opening : Opening) (hs : Histories) (past : List Event) → IsGathered opening hs past
+    → IsRun opening past → IsServed opening past
 
 -- the number is that of a guardian up to the limit
 abbrev pub is_guardian : ℕ → ℕ → Bool

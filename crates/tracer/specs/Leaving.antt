@@ -10,11 +10,13 @@ use Rattle.run_model.specs.Runs.{IsRun}
 
 -- the events of the registry's history, without what messages carried, the oldest first
 abbrev pub left_with_registry : Opening → List Event → List Stamped
-left_with_registry opening past = reverse (map (λ c. (c.stamp, c.event)) (registry_history opening (numbered past)))
+left_with_registry opening past =
+    reverse (map (λ c. (c.stamp, c.event)) (registry_history opening (numbered past)))
 
 -- those of the history of guardian g
 abbrev pub left_at : Opening → List Event → ℕ → List Stamped
-left_at opening past g = reverse (map (λ c. (c.stamp, c.event)) (local_history opening (numbered past) g))
+left_at opening past g =
+    reverse (map (λ c. (c.stamp, c.event)) (local_history opening (numbered past) g))
 
 abbrev pub histories_of : Opening → List Event → Histories
 histories_of opening past = record {
@@ -24,7 +26,8 @@ histories_of opening past = record {
 
 -- A run is gathered from the histories that it leaves.
 abbrev pub RunsAreGathered : Type 0
-RunsAreGathered = (opening : Opening) (past : List Event) → IsRun opening past → IsGathered opening (histories_of opening past) past
+RunsAreGathered = (opening : Opening) (past : List Event) → IsRun opening past
+    → IsGathered opening (histories_of opening past) past
 
 -- ---- a history by its number, 0 for the registry's
 
@@ -43,4 +46,5 @@ put_behind (suc n) c (h ∷ hs) = h ∷ put_behind n c hs
 pub record IsKept (past : List Event) (c : Stamped) (old new : List (List Stamped)) : Type 0 where
   pub count : length new ≡ length old
   pub each : (h : ℕ) → h < length old
-      → slice_index_or new h [] ≡ (if has_event h c.1.step past then slice_index_or old h [] ++ c ∷ [] else slice_index_or old h [])
+      → slice_index_or new h [] ≡ (if has_event h c.1.step past
+      then slice_index_or old h [] ++ c ∷ [] else slice_index_or old h [])

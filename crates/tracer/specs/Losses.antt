@@ -1,4 +1,5 @@
--- Losses that an action sees, and what is kept of one action while a history is gone over for its loss, the oldest event first.
+-- Losses that an action sees, and what is kept of one action while a history is gone over for its loss, the oldest
+-- event first.
 use Rattle.std.specs.Prelude.{◌≡◌, Bool, ◌&&◌, List}
 use Rattle.action_names.specs.Names.{Name, same_name, top_of}
 use Rattle.run_model.specs.declared.history.Event.{Event}

@@ -70,7 +70,8 @@ fn add_copies<'a>(
     history: usize,
     events: &'a [Stamped],
 ) -> Result<(), AllocError>
-    ensures { OnOk result (copies.new.items ≡ copies.old.items ++ copies_from history [] events.now) }
+    ensures { OnOk result
+        (copies.new.items ≡ copies.old.items ++ copies_from history [] events.now) }
 {
     let mut highest = None;
     for stamped in events {

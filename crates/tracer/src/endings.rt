@@ -46,14 +46,16 @@ impl Endings {
         add_closed(&mut self.closing, number, &event.step)
     }
 
-    /// Whether the action is visible to the other: whether each of its ancestors that is none of the other's has committed.
+    /// Whether the action is visible to the other: whether each of its ancestors that is none of the other's has
+    /// committed.
     pub(crate) fn is_visible(
         &self,
         alloc: Global,
         action: &Name,
         to: &Name,
     ) -> Result<bool, AllocError>
-        ensures { (past : List Event) → AreEndings self.now past → IfOk result (λ seen. seen ≡ is_visible action.now to.now past) }
+        ensures { (past : List Event) → AreEndings self.now past
+            → IfOk result (λ seen. seen ≡ is_visible action.now to.now past) }
     {
         let names = ancestors(alloc, action)?;
         let seen = names.as_slice().iter().all(|name| name.is_ancestor(to)
@@ -94,7 +96,8 @@ impl Endings {
 /// Adds the action that the step commits, if it does.
 fn add_committed(committed: &mut BTreeSet<Name>, step: &Step) -> Result<(), AllocError>
     ensures { OnOk result ((q : Name) →
-        contains name_cmp committed.new q ≡ (step_commits step.now q || contains name_cmp committed.old q)) }
+        contains name_cmp committed.new q
+        ≡ (step_commits step.now q || contains name_cmp committed.old q)) }
 {
     if let Some(name) = committed_by(step) {
         committed.insert(name.copy()?)?;
@@ -105,7 +108,8 @@ fn add_committed(committed: &mut BTreeSet<Name>, step: &Step) -> Result<(), Allo
 /// Adds the action whose closing step this is, if it is one.
 fn add_closed(closing: &mut BTreeMap<Name, u64>, number: u64, step: &Step) -> Result<(), AllocError>
     ensures { OnOk result ((q : Name) →
-        get name_cmp closing.new q ≡ (if step_closes step.now q then Some number else get name_cmp closing.old q)) }
+        get name_cmp closing.new q
+        ≡ (if step_closes step.now q then Some number else get name_cmp closing.old q)) }
 {
     if let Some(name) = closed_by(step) {
         closing.insert(name.copy()?, number)?;

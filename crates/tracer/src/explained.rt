@@ -35,8 +35,8 @@ pub enum Explained {
     NotBegun,
     /// An ancestor aborted, or a lost action of its own tree is visible to it.
     Orphan,
-    /// The granted operations that it sees, by place in the serial order: replayed in this order on one plain store with the contents of
-    /// the opening, they give just these replies.
+    /// The granted operations that it sees, by place in the serial order: replayed in this order on one plain store
+    /// with the contents of the opening, they give just these replies.
     Sees(BTreeMap<Place, Performed>),
 }
 
@@ -45,8 +45,10 @@ pub enum Explained {
 /// # Errors
 /// `AllocError` where memory is wanting.
 pub fn explain(alloc: Global, history: &History, action: &Name) -> Result<Explained, AllocError>
-    ensures explained { IfOk result (λ told. Explains told (explanation action.now history.now) history.now) }
-    ensures replayed { (opening : Opening) → IsRun opening history.now → IfOk result (λ told. IsReplayed opening told) }
+    ensures explained { IfOk result
+        (λ told. Explains told (explanation action.now history.now) history.now) }
+    ensures replayed { (opening : Opening) → IsRun opening history.now
+        → IfOk result (λ told. IsReplayed opening told) }
 {
     if !is_begun(history, action) {
         return Ok(Explained::NotBegun);
@@ -66,7 +68,8 @@ fn seen_by_place(
     action: &Name,
 ) -> Result<BTreeMap<Place, Performed>, AllocError>
     ensures { AreEndings endings.now history.now
-        → IfOk result (λ seen. AreByPlace seen.entries (visible_by_place action.now history.now) history.now) }
+        → IfOk result
+        (λ seen. AreByPlace seen.entries (visible_by_place action.now history.now) history.now) }
 {
     let mut seen = BTreeMap::new(alloc);
     let mut events = history.events();
@@ -88,7 +91,8 @@ fn place_operation(
     seen: &mut BTreeMap<Place, Performed>,
 ) -> Result<(), AllocError>
     ensures { (now past : List Event) → AreEndings endings.now now → number ≡ suc (length past)
-        → IsPlaced action.now now (event.now ∷ past) seen.old.entries → OnOk result (IsPlaced action.now now past seen.new.entries) }
+        → IsPlaced action.now now (event.now ∷ past) seen.old.entries
+        → OnOk result (IsPlaced action.now now past seen.new.entries) }
 {
     if let Some(performed) = seen_operation(alloc, event, number, endings, action)? {
         let place = endings.place_of(alloc, number, &performed.action)?;

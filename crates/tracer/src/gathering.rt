@@ -30,8 +30,8 @@ pub enum Gathered {
     No(u64),
 }
 
-/// Makes the events of the histories as steps, by stamp, up to the first stamp at which the histories fail. The maker is one to which nothing
-/// has happened.
+/// Makes the events of the histories as steps, by stamp, up to the first stamp at which the histories fail. The maker
+/// is one to which nothing has happened.
 ///
 /// # Errors
 /// The fault of a step, and `AllocError` where memory is wanting.

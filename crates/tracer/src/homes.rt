@@ -35,7 +35,8 @@ impl Homes {
     /// Adds what a step with this answer began.
     pub(crate) fn add(&mut self, step: &Step, answer: &Answer) -> Result<(), AllocError>
         ensures { (past : List Event) → AreHomes self.old past
-            → OnOk result (AreHomes self.new (record { step = step.now; answer = answer.now } ∷ past)) }
+            → OnOk result
+            (AreHomes self.new (record { step = step.now; answer = answer.now } ∷ past)) }
     {
         let home = self.home_in(step);
         for name in answer.names_begun() {

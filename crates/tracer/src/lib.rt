@@ -1,9 +1,9 @@
-//! What an action sees of a run: the granted operations that are visible to it, each at its place in the serial order. And whether a run
-//! is gathered from histories.
+//! What an action sees of a run: the granted operations that are visible to it, each at its place in the serial
+//! order. And whether a run is gathered from histories.
 //!
-//! `explain` goes over a history once for its endings, and once for its operations, which an ordered map puts into their places. To find
-//! whether the action is an orphan, it goes over the history once more for each ancestor, and for each action of its tree that it sees.
-//! `gather` makes the events of histories as steps, by stamp.
+//! `explain` goes over a history once for its endings, and once for its operations, which an ordered map puts into
+//! their places. To find whether the action is an orphan, it goes over the history once more for each ancestor, and
+//! for each action of its tree that it sees. `gather` makes the events of histories as steps, by stamp.
 #![tactic(auto)]
 
 mod actions;

@@ -21,7 +21,8 @@ pub(crate) fn is_orphan(
     endings: &Endings,
     action: &Name,
 ) -> Result<bool, AllocError>
-    ensures { AreEndings endings.now history.now → IfOk result (λ orphan. orphan ≡ is_orphan action.now history.now) }
+    ensures { AreEndings endings.now history.now
+        → IfOk result (λ orphan. orphan ≡ is_orphan action.now history.now) }
 {
     if is_under_aborted(alloc, history, action)? {
         return Ok(true);
@@ -38,7 +39,8 @@ pub(crate) fn is_orphan(
 
 /// Whether an ancestor of the action has aborted.
 fn is_under_aborted(alloc: Global, history: &History, action: &Name) -> Result<bool, AllocError>
-    ensures { IfOk result (λ under. under ≡ list_any (λ c. is_aborted c history.now) (ancestors action.now)) }
+    ensures { IfOk result
+        (λ under. under ≡ list_any (λ c. is_aborted c history.now) (ancestors action.now)) }
 {
     let names = ancestors(alloc, action)?;
     let aborted = names
@@ -56,7 +58,8 @@ fn shows_loss(
     names: &[Name],
     action: &Name,
 ) -> Result<bool, AllocError>
-    ensures { AreEndings endings.now history.now → IfOk result (λ shown. shown ≡ list_any (is_seen_loss action.now history.now) names.now) }
+    ensures { AreEndings endings.now history.now
+        → IfOk result (λ shown. shown ≡ list_any (is_seen_loss action.now history.now) names.now) }
 {
     for name in names {
         let same_tree = top_path(name) == top_path(action);
@@ -67,7 +70,8 @@ fn shows_loss(
     Ok(false)
 }
 
-/// Whether the action is lost: whether its home crashed after the action began and before the home prepared its top action.
+/// Whether the action is lost: whether its home crashed after the action began and before the home prepared its top
+/// action.
 fn is_lost(history: &History, action: &Name) -> bool
     ensures { result ≡ is_lost action.now history.now }
 {
@@ -84,7 +88,8 @@ fn is_lost(history: &History, action: &Name) -> bool
     standing.lost
 }
 
-/// How an action stands: whether it was begun and where, whether its home prepared its top action, and whether it is lost.
+/// How an action stands: whether it was begun and where, whether its home prepared its top action, and whether it is
+/// lost.
 #[derive(Clone, Copy)]
 struct Standing {
     begun: bool,
@@ -96,8 +101,8 @@ struct Standing {
 impl Standing {
     /// What is so after one event more, with which the events so far end.
     fn after(self, event: &Event, so_far: &[Event], action: &Name) -> Standing
-        ensures { (past : List Event) → reverse so_far.now ≡ event.now ∷ past → IsStanding self action.now past
-            → IsStanding result action.now (event.now ∷ past) }
+        ensures { (past : List Event) → reverse so_far.now ≡ event.now ∷ past
+            → IsStanding self action.now past → IsStanding result action.now (event.now ∷ past) }
     {
         let lost = self.is_lost_after(event);
         let top = top_path(action);
@@ -120,7 +125,8 @@ impl Standing {
 
     /// Whether the action is lost after one event more.
     fn is_lost_after(self, event: &Event) -> bool
-        ensures { (b : Name) (past : List Event) → IsStanding self b past → result ≡ is_lost b (event.now ∷ past) }
+        ensures { (b : Name) (past : List Event) → IsStanding self b past
+            → result ≡ is_lost b (event.now ∷ past) }
     {
         self.lost || self.begun && crashes(&event.step, self.home) && !self.prepared
     }

@@ -9,8 +9,8 @@ pub enum ClosingStep {
     NotCome,
 }
 
-/// The place of an operation: the closing steps of its action's ancestors, outermost first, and then the number of its own step. Places
-/// compare number by number.
+/// The place of an operation: the closing steps of its action's ancestors, outermost first, and then the number of
+/// its own step. Places compare number by number.
 #[derive(Debug, PartialEq, Eq, PartialOrd, Ord, Drop)]
 pub struct Place {
     steps: Vec<ClosingStep>,

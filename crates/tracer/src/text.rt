@@ -15,8 +15,9 @@ use std::alloc::{AllocError, Global};
 use std::collections::BTreeMap;
 
 impl Explained {
-    /// Its lines, each with its line feed: `refused 2` for an action that was not begun, `orphan`, or a line an operation: its place, with
-    /// `*` for a closing step that has not come, its action, its object, itself and its reply, as in `5.4.3 1.1 2/1 get n -> 0`.
+    /// Its lines, each with its line feed: `refused 2` for an action that was not begun, `orphan`, or a line an
+    /// operation: its place, with `*` for a closing step that has not come, its action, its object, itself and its
+    /// reply, as in `5.4.3 1.1 2/1 get n -> 0`.
     pub fn text(&self, alloc: Global) -> Result<String, AllocError>
         ensures { (told : Explanation) (past : List Event) → Explains self.now told past
             → IfOk result (λ text. string_bytes text ≡ explanation_lines told past) }
@@ -39,7 +40,8 @@ fn append_lines(
     operations: &BTreeMap<Place, Performed>,
     text: &mut String,
 ) -> Result<(), AllocError>
-    ensures { OnOk result (string_bytes text.new ≡ string_bytes text.old ++ entries_text operations.now.entries) }
+    ensures { OnOk result
+        (string_bytes text.new ≡ string_bytes text.old ++ entries_text operations.now.entries) }
 {
     for (place, performed) in operations.iter() {
         append_line(place, performed, text)?;
@@ -49,7 +51,8 @@ fn append_lines(
 
 /// Appends the line of an operation, with its line feed.
 fn append_line(place: &Place, performed: &Performed, text: &mut String) -> Result<(), AllocError>
-    ensures { OnOk result (string_bytes text.new ≡ string_bytes text.old ++ (told_at place.now performed.now ++ line_feed ∷ [])) }
+    ensures { OnOk result (string_bytes text.new
+        ≡ string_bytes text.old ++ (told_at place.now performed.now ++ line_feed ∷ [])) }
 {
     append_place(place, text)?;
     text.push(' ')?;
@@ -63,7 +66,8 @@ fn append_line(place: &Place, performed: &Performed, text: &mut String) -> Resul
 
 /// Appends the numbers of a place, joined by dots.
 fn append_place(place: &Place, text: &mut String) -> Result<(), AllocError>
-    ensures { OnOk result (string_bytes text.new ≡ string_bytes text.old ++ place_text (place_numbers place.now)) }
+    ensures { OnOk result
+        (string_bytes text.new ≡ string_bytes text.old ++ place_text (place_numbers place.now)) }
 {
     let Some((first, others)) = place.steps().split_first() else {
         return Ok(());
@@ -77,7 +81,8 @@ fn append_place(place: &Place, text: &mut String) -> Result<(), AllocError>
 }
 
 fn append_number(step: &ClosingStep, text: &mut String) -> Result<(), AllocError>
-    ensures { OnOk result (string_bytes text.new ≡ string_bytes text.old ++ place_number (step_number step.now)) }
+    ensures { OnOk result
+        (string_bytes text.new ≡ string_bytes text.old ++ place_number (step_number step.now)) }
 {
     match step {
         ClosingStep::Came(number) => text.push_str(Buffer::new().format(*number)),

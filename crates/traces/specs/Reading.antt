@@ -19,7 +19,8 @@ pub record Reading : Type 0 where
 
 -- a first line, without its line feed
 abbrev pub SpellsSetup : List ℕ → Setup → Type 0
-SpellsSetup line setup = (document : List ℕ) × (line ≡ codes "setup " ++ document) × IsOpeningText document setup
+SpellsSetup line setup = (document : List ℕ) × (line ≡ codes "setup " ++ document)
+    × IsOpeningText document setup
 
 -- a guardian that a setup may have
 abbrev pub IsGuardian : ℕ → Type 0
@@ -36,8 +37,11 @@ AreParts step answer e = IsEvent e × (step ≡ step_text e.step) × (answer ≡
 -- a line that may follow was read; or the text is none, and nothing was done
 abbrev pub TakesLine : List ℕ → Reading → Reading → Bool → Type 0
 TakesLine text old new true =
-    (l : Line) × IsLine l × (text ≡ line_text l) × AreInOrder 0 (old.lines ++ l ∷ []) × (new ≡ record { setup = old.setup; lines = old.lines ++ l ∷ [] })
-TakesLine text old new false = ((l : Line) → IsLine l → AreInOrder 0 (old.lines ++ l ∷ []) → text ≢ line_text l) × (new ≡ old)
+    (l : Line) × IsLine l × (text ≡ line_text l) × AreInOrder 0 (old.lines ++ l ∷ [])
+    × (new ≡ record { setup = old.setup; lines = old.lines ++ l ∷ [] })
+TakesLine text old new false =
+    ((l : Line) → IsLine l → AreInOrder 0 (old.lines ++ l ∷ []) → text ≢ line_text l)
+    × (new ≡ old)
 
 -- a line whose owner is none before this one
 abbrev pub IsLineFrom : ℕ → Line → Type 0
@@ -69,4 +73,5 @@ pub record StopsAt (bytes : List ℕ) (number : ℕ) : Type 0 where
   pub rest : List ℕ
   pub are_read : AreReadTo bytes rest lines number
   pub goes_on : rest ≢ []
-  pub no_line : (l : Line) (more : List ℕ) → IsLine l → AreInOrder 0 (lines ++ l ∷ []) → rest ≢ line_text l ++ line_feed ∷ more
+  pub no_line : (l : Line) (more : List ℕ) → IsLine l → AreInOrder 0 (lines ++ l ∷ [])
+      → rest ≢ line_text l ++ line_feed ∷ more

@@ -73,7 +73,8 @@ lines_of hs = lines_from 0 (hs.registry ∷ hs.guardians)
 -- each guardian of the setup has a history; if others have, the last of them is not empty
 pub record AreHistoriesOver (setup : Setup) (guardians : List (List Stamped)) : Type 0 where
   pub each : length setup ≤ length guardians
-  pub last : length setup < length guardians → slice_index_or guardians (length guardians - 1) [] ≢ []
+  pub last : length setup < length guardians
+      → slice_index_or guardians (length guardians - 1) [] ≢ []
 
 -- ---- a file
 
@@ -104,8 +105,8 @@ abbrev pub AreInOrder : ℕ → List Line → Type 0
 AreInOrder owner [] = Unit {0}
 AreInOrder owner (l ∷ lines) = (owner ≤ l.owner) × AreInOrder l.owner lines
 
--- Behind the setup line and lines in order the bytes go on, and not with a line in order. The bad line's number counts from 1, the
--- setup line's.
+-- Behind the setup line and lines in order the bytes go on, and not with a line in order. The bad line's number
+-- counts from 1, the setup line's.
 pub record HasBadLine (bytes : List ℕ) (number : ℕ) : Type 0 where
   pub setup : Setup
   pub lines : List Line
@@ -115,7 +116,8 @@ pub record HasBadLine (bytes : List ℕ) (number : ℕ) : Type 0 where
   pub in_order : AreInOrder 0 lines
   pub counted : number ≡ length lines + 2
   pub goes_on : rest ≢ []
-  pub no_line : (l : Line) (more : List ℕ) → IsLine l → AreInOrder 0 (lines ++ l ∷ []) → rest ≢ line_text l ++ line_feed ∷ more
+  pub no_line : (l : Line) (more : List ℕ) → IsLine l → AreInOrder 0 (lines ++ l ∷ [])
+      → rest ≢ line_text l ++ line_feed ∷ more
 
 -- ---- histories as a program keeps them
 

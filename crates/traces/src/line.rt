@@ -207,7 +207,8 @@ fn append_owner(owner: usize, text: &mut String) -> Result<(), AllocError>
 
 #[tactic(auto, using(run_model::proofs::Growing::grown_same, run_model::proofs::Growing::grown_then))]
 fn append_event(event: &Event, text: &mut String) -> Result<(), AllocError>
-    ensures ok { OnOk result (string_bytes text.new ≡ string_bytes text.old ++ event_text event.now) }
+    ensures ok { OnOk result
+        (string_bytes text.new ≡ string_bytes text.old ++ event_text event.now) }
     ensures err { OnErr result (IsGrown (string_bytes text.old) (string_bytes text.new)) }
 {
     let step = event.step.text(*text.allocator())?;

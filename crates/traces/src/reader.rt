@@ -32,7 +32,8 @@ impl Model for TraceReader {
 
     ghost Value = { Reading };
 
-    ghost view = { λ a. record { setup = a.setup; lines = lines_from 0 (lists_of a.histories.items) } };
+    ghost view = { λ a.
+        record { setup = a.setup; lines = lines_from 0 (lists_of a.histories.items) } };
 
     ghost invariant = { λ a. IsKept a.setup (lists_of a.histories.items) a.last };
 }
@@ -104,7 +105,8 @@ impl TraceReader {
 
 /// A history without events for the registry, and one for each guardian that a setup may have.
 fn empty_histories(alloc: Global) -> Result<Vec<Vec<Stamped>>, AllocError>
-    ensures { IfOk result (λ histories. lists_of histories.items ≡ replicate (max_guardians + 1) []) }
+    ensures { IfOk result
+        (λ histories. lists_of histories.items ≡ replicate (max_guardians + 1) []) }
 {
     let mut histories = Vec::with_capacity(alloc, MAX_GUARDIANS + 1)?;
     for _ in 0..MAX_GUARDIANS + 1 {

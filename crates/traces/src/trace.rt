@@ -69,9 +69,11 @@ impl Trace {
     /// over its setup.
     pub fn text(&self, alloc: Global) -> Result<String, AllocError>
         ensures text { IfOk result (λ text. string_bytes text
-            ≡ trace_text self.now.setup (histories_in self.now.registry.items self.now.guardians.items)) }
+            ≡ trace_text self.now.setup
+            (histories_in self.now.registry.items self.now.guardians.items)) }
         ensures read_back { IfOk result (λ text. IsOpeningSetup self.now.setup
-            → AllByRecursion IsLine (lines_of (histories_in self.now.registry.items self.now.guardians.items))
+            → AllByRecursion IsLine
+            (lines_of (histories_in self.now.registry.items self.now.guardians.items))
             → AreHistoriesOver self.now.setup (lists_of self.now.guardians.items)
             → IsTrace (string_bytes text) self.now.setup
             (histories_in self.now.registry.items self.now.guardians.items)) }

@@ -32,7 +32,8 @@ impl Ballot {
 
     /// The ballot of a top action on which nobody has voted. This takes no memory.
     pub fn new(alloc: Global) -> Ballot
-        ensures { (top : Name) (past : List Event) → ((g : ℕ) → IsFalse (has_voted g top past)) → IsBallot top past result }
+        ensures { (top : Name) (past : List Event) → ((g : ℕ) → IsFalse (has_voted g top past))
+            → IsBallot top past result }
     {
         Ballot {
             votes: Vec::new(alloc),
@@ -41,7 +42,8 @@ impl Ballot {
 
     /// Makes room for a vote of the guardian. Whether or not there is memory for it, the ballot notes what it noted.
     pub fn plan_vote(&mut self, guardian: u32, yes: bool) -> Result<VotePlan, AllocError>
-        ensures same { (top : Name) (past : List Event) → IsBallot top past self.old → IsBallot top past self.new }
+        ensures same { (top : Name) (past : List Event) → IsBallot top past self.old
+            → IsBallot top past self.new }
         ensures fits { IfOk result (FitsVote self.new) }
         ensures vote { IfOk result (IsVote guardian yes) }
     {
@@ -52,7 +54,8 @@ impl Ballot {
     /// Notes a vote for which the ballot has room. This cannot fail.
     pub fn note_vote(&mut self, plan: VotePlan)
         requires { FitsVote self.old plan }
-        ensures { (top : Name) (past : List Event) → IsBallot top past self.old → IsBallot top (vote (voter_of plan) top (has_yes plan) ∷ past) self.new }
+        ensures { (top : Name) (past : List Event) → IsBallot top past self.old
+            → IsBallot top (vote (voter_of plan) top (has_yes plan) ∷ past) self.new }
     {
         match place(&self.votes, plan.guardian) {
             Ok(at) => {
@@ -70,7 +73,8 @@ impl Ballot {
 
     /// Whether the guardian voted, either way. This takes no memory.
     pub fn has_voted(&self, guardian: u32) -> bool
-        ensures { (top : Name) (past : List Event) → IsBallot top past self.now → result ≡ has_voted guardian top past }
+        ensures { (top : Name) (past : List Event) → IsBallot top past self.now
+            → result ≡ has_voted guardian top past }
     {
         place(&self.votes, guardian).is_ok()
     }
@@ -78,7 +82,8 @@ impl Ballot {
     /// Whether all guardians of the opening on which the top action depends voted yes. This takes no memory.
     pub fn may_commit(&self, opening: &Opening, participants: &Deps) -> bool
         ensures { (top : Name) (past : List Event) → IsBallot top past self.now →
-            result ≡ list_all (λ g. is_none (map.get participants.now g) || has_prepared g top past) (guardians_of (opening_in opening.now)) }
+            result ≡ list_all (λ g. is_none (map.get participants.now g) || has_prepared g top past)
+            (guardians_of (opening_in opening.now)) }
     {
         let guardians = opening.setup().guardians();
         for &(guardian, _) in participants.entries() {

@@ -34,5 +34,6 @@ with_bounds a low size = record {
   kind = a.kind;
   low = low;
   items = replicate (new_below a low size) (plain_value a.kind)
-      ++ (take (items_kept a low size) (drop (items_below a low) a.items) ++ replicate (new_above a low size) (plain_value a.kind));
+      ++ (take (items_kept a low size) (drop (items_below a low) a.items)
+      ++ replicate (new_above a low size) (plain_value a.kind));
 }

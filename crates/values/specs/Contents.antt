@@ -25,7 +25,8 @@ IsStoredContent (Counter n) = IsCounter n
 
 -- the JSON document that a content is
 abbrev pub content_data : Content → Data
-content_data (Record fields) = object (member (codes "record") (object (field_members fields)) no_members)
+content_data (Record fields) =
+    object (member (codes "record") (object (field_members fields)) no_members)
 content_data (Array a) = object (member (codes "array") (array_data a) no_members)
 content_data (Variant v) = object (member (codes "variant") (variant_data v) no_members)
 content_data (Counter n) = object (member (codes "counter") (counter_data n) no_members)

@@ -52,7 +52,8 @@ impl Counter {
     /// The counter that this document is. `Unfit` comes exactly where no counter is this document.
     pub fn from_json(json: &Json) -> Result<Counter, ValueFault>
         ensures found { IfOk result (λ c. IsCounter c × (view json.now ≡ counter_data c)) }
-        ensures refused { IsErrOf result ValueFault.Unfit → (n : ℤ) → IsCounter n → view json.now ≢ counter_data n }
+        ensures refused { IsErrOf result ValueFault.Unfit → (n : ℤ) → IsCounter n
+            → view json.now ≢ counter_data n }
     {
         match json {
             Json::Number(number) => Ok(Counter {
@@ -63,7 +64,8 @@ impl Counter {
     }
 
     pub(crate) fn write_tokens(&self, out: &mut Writer) -> Result<(), AllocError>
-        ensures ok { OnOk result (out.new.tokens ≡ out.old.tokens ++ json_tokens (outline (counter_data self.now))) }
+        ensures ok { OnOk result
+            (out.new.tokens ≡ out.old.tokens ++ json_tokens (outline (counter_data self.now))) }
         ensures before { out.new.before ≡ out.old.before }
         ensures fits { IsCounter self.now }
     {

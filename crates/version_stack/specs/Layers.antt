@@ -61,40 +61,47 @@ module _ {T O : Type 0} (laid : T → O → T) where
   AllCover after (o ∷ os) = Covers after laid o × AllCover after os
 
   -- overlays that fit and cover
-  pub record AreSound (after : T → Op → T) (fits : T → O → Type 0) (c : T) (os : List O) : Type 0 where
+  pub record AreSound (after : T → Op → T) (fits : T → O → Type 0) (c : T)
+      (os : List O) : Type 0 where
     pub fit : AllFit laid fits c os
     pub cover : AllCover after os
 
-  -- as many ends as owners, which rise by ancestry; each owner has overlays, and all overlays are somebody's or the base's
-  pub record AreLayers (after : T → Op → T) (fits : T → O → Type 0) (c : T) (s : ℕ) (ns : List Name) (es : List ℕ) (os : List O) : Type 0 where
+  -- as many ends as owners, which rise by ancestry; each owner has overlays, and all overlays are somebody's or the
+  -- base's
+  pub record AreLayers (after : T → Op → T) (fits : T → O → Type 0) (c : T) (s : ℕ) (ns : List Name)
+      (es : List ℕ) (os : List O) : Type 0 where
     pub paired : length ns ≡ length es
     pub ends : EndsRise s es (length os)
     pub rising : RiseByAncestry ns
     pub sound : AreSound after fits c os
 
   -- a number was added to what so many overlays give, and nothing else changed
-  pub record IsAdded (after : T → Op → T) (fits : T → O → Type 0) (c d : T) (os ps : List O) (e : ℕ) (z : ℤ) : Type 0 where
+  pub record IsAdded (after : T → Op → T) (fits : T → O → Type 0) (c d : T) (os ps : List O) (e : ℕ)
+      (z : ℤ) : Type 0 where
     pub many : length ps ≡ length os
     pub sound : AreSound after fits d ps
     pub there : under d ps e ≡ after (under c os e) (Add (Int z))
     pub others : (k : ℕ) → (k ≡ e → ⊥) → k ≤ length os → under d ps k ≡ under c os k
 
   -- an operation was noted in the overlay on top
-  pub record IsNoted (after : T → Op → T) (fits : T → O → Type 0) (c : T) (os ps : List O) (op : Op) : Type 0 where
+  pub record IsNoted (after : T → Op → T) (fits : T → O → Type 0) (c : T) (os ps : List O)
+      (op : Op) : Type 0 where
     pub many : length ps ≡ length os
     pub sound : AreSound after fits c ps
     pub top : laid_all laid c ps ≡ after (laid_all laid c os) op
     pub others : (k : ℕ) → k < length os → under c ps k ≡ under c os k
 
   -- an operation was noted in one more overlay, above all
-  pub record IsNotedAbove (after : T → Op → T) (fits : T → O → Type 0) (c : T) (os ps : List O) (op : Op) : Type 0 where
+  pub record IsNotedAbove (after : T → Op → T) (fits : T → O → Type 0) (c : T) (os ps : List O)
+      (op : Op) : Type 0 where
     pub many : length ps ≡ suc (length os)
     pub sound : AreSound after fits c ps
     pub top : laid_all laid c ps ≡ after (laid_all laid c os) op
     pub others : (k : ℕ) → k ≤ length os → under c ps k ≡ under c os k
 
   -- the overlay at place k became one with what stands right below it: the next one, or the content
-  pub record IsMerged (after : T → Op → T) (fits : T → O → Type 0) (c d : T) (os ps : List O) (k : ℕ) : Type 0 where
+  pub record IsMerged (after : T → Op → T) (fits : T → O → Type 0) (c d : T) (os ps : List O)
+      (k : ℕ) : Type 0 where
     pub one_less : length os ≡ suc (length ps)
     pub sound : AreSound after fits d ps
     pub same : (e : ℕ) → (e ≡ k → ⊥) → e ≤ length os → under d ps (lowered k e) ≡ under c os e

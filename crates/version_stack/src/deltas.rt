@@ -55,8 +55,8 @@ impl Deltas {
         self.amounts.get(holder).copied()
     }
 
-    /// How much those holders add that are no ancestors of the owner, all of them where there is none, modulo 2 to the 64. This takes no
-    /// memory.
+    /// How much those holders add that are no ancestors of the owner, all of them where there is none, modulo 2 to
+    /// the 64. This takes no memory.
     pub fn sum_beside(&self, owner: Option<&Name>) -> i64
         ensures sum { result ≡ sum_beside self.now.held (name_of owner.entry) }
         ensures rising { IsStrictlySortedBy name_cmp (names_of self.now.held) }
@@ -81,7 +81,8 @@ impl Deltas {
     /// Adds to what the holder adds. If memory runs out, nothing is changed.
     #[tactic(auto, using(action_names::proofs::Ancestry::same_refl))]
     pub fn add(&mut self, holder: &Name, by: i64) -> Result<(), AllocError>
-        ensures ok { OnOk result (HasDelta self.old.held self.new.held holder.now (more_at self.old.held holder.now by)) }
+        ensures ok { OnOk result (HasDelta self.old.held self.new.held holder.now
+            (more_at self.old.held holder.now by)) }
         ensures room { OnOk result (HasMoreRoom self.old.room self.new.room holder.now) }
         ensures rising { OnOk result (IsStrictlySortedBy name_cmp (names_of self.new.held)) }
         ensures err { OnErr result (self.new ≡ self.old) }
@@ -104,7 +105,8 @@ impl Deltas {
     #[tactic(auto, using(crate::proofs::Amounts::delta_put, std::proofs::lemmas::Int::wraps))]
     pub fn put_more(&mut self, holder: &Name, by: i64)
         requires { IsTrue (has_name self.old.room holder.now) }
-        ensures held { HasDelta self.old.held self.new.held holder.now (more_at self.old.held holder.now by) }
+        ensures held { HasDelta self.old.held self.new.held holder.now
+            (more_at self.old.held holder.now by) }
         ensures room { self.new.room ≡ self.old.room }
         ensures rising { IsStrictlySortedBy name_cmp (names_of self.new.held) }
     {
@@ -146,7 +148,8 @@ impl Deltas {
 
     /// A crash: what all but the survivors add is forgotten, and their room. This takes no memory.
     pub fn keep<S: Survivors>(&mut self, survivors: &S)
-        ensures left { (b : Name) → delta_at self.new.held b ≡ (if S.stays survivors.now b then delta_at self.old.held b else None) }
+        ensures left { (b : Name) → delta_at self.new.held b
+            ≡ (if S.stays survivors.now b then delta_at self.old.held b else None) }
         ensures room { self.new.room ≡ filter (S.stays survivors.now) self.old.room }
         ensures rising { IsStrictlySortedBy name_cmp (names_of self.new.held) }
     {

@@ -21,8 +21,10 @@ pub(crate) fn note_on_top<T: Layered>(
     requires some { 0 < length overlays.old.items }
     requires known { IsTrue (T.knows (laid_all T.laid content.now overlays.old.items) op.now) }
     requires changes { IsFalse (is_read op.now) }
-    ensures replies { IfOk result (λ r. r ≡ T.reply (laid_all T.laid content.now overlays.old.items) op.now) }
-    ensures ok { OnOk result (IsNoted T.laid T.after T.fits content.now overlays.old.items overlays.new.items op.now) }
+    ensures replies { IfOk result
+        (λ r. r ≡ T.reply (laid_all T.laid content.now overlays.old.items) op.now) }
+    ensures ok { OnOk result
+        (IsNoted T.laid T.after T.fits content.now overlays.old.items overlays.new.items op.now) }
     ensures err { OnErr result (overlays.new.items ≡ overlays.old.items) }
 {
     let mut top = overlays.pop().unwrap();
@@ -44,8 +46,10 @@ pub(crate) fn note_above<T: Layered>(
     requires known { IsTrue (T.knows (laid_all T.laid content.now overlays.old.items) op.now) }
     requires changes { IsFalse (is_read op.now) }
     requires writes { IsFalse (is_add op.now) }
-    ensures replies { IfOk result (λ r. r ≡ T.reply (laid_all T.laid content.now overlays.old.items) op.now) }
-    ensures ok { OnOk result (IsNotedAbove T.laid T.after T.fits content.now overlays.old.items overlays.new.items op.now) }
+    ensures replies { IfOk result
+        (λ r. r ≡ T.reply (laid_all T.laid content.now overlays.old.items) op.now) }
+    ensures ok { OnOk result (IsNotedAbove T.laid T.after T.fits content.now overlays.old.items
+        overlays.new.items op.now) }
     ensures owners { OnOk result (owners.new.items ≡ owners.old.items ++ owner.now ∷ []) }
     ensures ends { OnOk result (ends.new.items ≡ ends.old.items ++ length overlays.new.items ∷ []) }
     ensures err { OnErr result (overlays.new.items ≡ overlays.old.items) }
@@ -103,7 +107,8 @@ pub(crate) fn add_to_base<T: Layered>(
 )
     requires within { base ≤ length overlays.old.items }
     requires sound { AreSound T.laid T.after T.fits content.old overlays.old.items }
-    ensures { IsAdded T.laid T.after T.fits content.old content.new overlays.old.items overlays.new.items base by }
+    ensures { IsAdded T.laid T.after T.fits content.old content.new overlays.old.items
+        overlays.new.items base by }
 {
     if base == 0 {
         content.add(by);
@@ -120,7 +125,8 @@ pub(crate) fn merge<T: Layered>(
 ) -> Result<(), AllocError>
     requires within { place < length overlays.old.items }
     requires sound { AreSound T.laid T.after T.fits content.old overlays.old.items }
-    ensures ok { OnOk result (IsMerged T.laid T.after T.fits content.old content.new overlays.old.items overlays.new.items place) }
+    ensures ok { OnOk result (IsMerged T.laid T.after T.fits content.old content.new
+        overlays.old.items overlays.new.items place) }
     ensures err { OnErr result (overlays.new.items ≡ overlays.old.items) }
     ensures content_stays { OnErr result (content.new ≡ content.old) }
 {
@@ -140,7 +146,8 @@ fn join_above<T: Layered>(
 ) -> Result<(), AllocError>
     requires within { at + 1 < length overlays.old.items }
     requires sound { AreSound T.laid T.after T.fits content.now overlays.old.items }
-    ensures ok { OnOk result (IsMerged T.laid T.after T.fits content.now content.now overlays.old.items overlays.new.items (at + 1)) }
+    ensures ok { OnOk result (IsMerged T.laid T.after T.fits content.now content.now
+        overlays.old.items overlays.new.items (at + 1)) }
     ensures err { OnErr result (overlays.new.items ≡ overlays.old.items) }
 {
     let nothing = T::nothing(*overlays.allocator());

@@ -1,7 +1,7 @@
 //! The versions of one atomic object, and what actions add to a counter of which they own no version.
 //!
-//! Contracts see a stack of contents. Only one content is kept, and overlays above it, each of them an owner's or the base's.
-//! So a version is handed on without memory.
+//! Contracts see a stack of contents. Only one content is kept, and overlays above it, each of them an owner's or the
+//! base's. So a version is handed on without memory.
 #![tactic(auto)]
 
 mod deltas;

@@ -53,7 +53,8 @@ pub(crate) fn pass(owners: &mut Vec<Name>, ends: &mut Vec<usize>, owner: &Name, 
     ensures paired { length owners.new.items ≡ length ends.new.items }
     ensures rising { RiseByAncestry owners.new.items }
     ensures ends { (s n : ℕ) → EndsRise s ends.old.items n → EndsRise s ends.new.items n }
-    ensures passed { rows owners.new.items ends.new.items ≡ passed (rows owners.old.items ends.old.items) owner.now to }
+    ensures passed { rows owners.new.items ends.new.items
+        ≡ passed (rows owners.old.items ends.old.items) owner.now to }
 {
     let Some(at) = place(owners, owner) else {
         return;
@@ -72,7 +73,8 @@ pub(crate) fn settle(base: &mut usize, owners: &mut Vec<Name>, ends: &mut Vec<us
     requires rising { RiseByAncestry owners.old.items }
     ensures paired { length owners.new.items ≡ length ends.new.items }
     ensures rising { RiseByAncestry owners.new.items }
-    ensures ends { (n : ℕ) → EndsRise base.old ends.old.items n → EndsRise base.new ends.new.items n }
+    ensures ends { (n : ℕ) → EndsRise base.old ends.old.items n
+        → EndsRise base.new ends.new.items n }
     ensures settled { record { base = base.new; versions = rows owners.new.items ends.new.items }
         ≡ settled base.old (rows owners.old.items ends.old.items) owner.now }
 {

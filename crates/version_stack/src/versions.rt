@@ -34,9 +34,11 @@ impl<T: Layered> Model for Versions<T> {
 
     ghost Value = { Stack T };
 
-    ghost view = { λ a. stack_of T.laid a.content a.settled a.owners.items a.ends.items a.overlays.items };
+    ghost view = { λ a.
+        stack_of T.laid a.content a.settled a.owners.items a.ends.items a.overlays.items };
 
-    ghost invariant = { λ a. AreLayers T.laid T.after T.fits a.content a.settled a.owners.items a.ends.items a.overlays.items };
+    ghost invariant = { λ a. AreLayers T.laid T.after T.fits a.content a.settled a.owners.items
+        a.ends.items a.overlays.items };
 }
 
 impl<T: Layered> Versions<T> {
@@ -106,13 +108,14 @@ impl<T: Layered> Versions<T> {
         self.owners.last()
     }
 
-    /// Gives the owner, where there is no version, this overlay as its version, as a store gave it back. If memory runs out, nothing is
-    /// changed.
+    /// Gives the owner, where there is no version, this overlay as its version, as a store gave it back. If memory
+    /// runs out, nothing is changed.
     pub fn restore(&mut self, owner: &Name, overlay: T::Overlay) -> Result<(), AllocError>
         requires alone { self.old.versions ≡ [] }
         requires fits { T.fits self.old.base overlay }
         requires covers { Covers T.after T.laid overlay }
-        ensures ok { OnOk result (self.new ≡ record { base = self.old.base; versions = (owner.now, T.laid self.old.base overlay) ∷ [] }) }
+        ensures ok { OnOk result (self.new
+            ≡ record { base = self.old.base; versions = (owner.now, T.laid self.old.base overlay) ∷ [] }) }
         ensures err { OnErr result (self.new ≡ self.old) }
     {
         layers::put_above::<T>(
@@ -124,16 +127,18 @@ impl<T: Layered> Versions<T> {
         )
     }
 
-    /// Performs an operation that writes on the content on top, for an owner that all owners so far are ancestors of; or one that adds,
-    /// for the owner of the content on top. If memory runs out, nothing is changed.
+    /// Performs an operation that writes on the content on top, for an owner that all owners so far are ancestors of;
+    /// or one that adds, for the owner of the content on top. If memory runs out, nothing is changed.
     pub fn write(&mut self, owner: &Name, op: &Op) -> Result<Reply, AllocError>
         requires above { AreAbove self.old.versions owner.now }
         requires known { IsTrue (T.knows (top_of self.old) op.now) }
         requires changes { IsFalse (is_read op.now) }
-        requires owned { IsTrue (is_add op.now) → IsTrue (is_on_top (owners_of self.old.versions) owner.now) }
+        requires owned { IsTrue (is_add op.now)
+            → IsTrue (is_on_top (owners_of self.old.versions) owner.now) }
         ensures rising { RisesByAncestry self.old.versions }
         ensures replies { IfOk result (λ r. r ≡ T.reply (top_of self.old) op.now) }
-        ensures ok { OnOk result (self.new ≡ written self.old owner.now (T.after (top_of self.old) op.now)) }
+        ensures ok { OnOk result
+            (self.new ≡ written self.old owner.now (T.after (top_of self.old) op.now)) }
         ensures err { OnErr result (self.new ≡ self.old) }
     {
         // Here memory may be wanting anyway, and so no owner has more than one overlay when one more is put above.
@@ -146,10 +151,12 @@ impl<T: Layered> Versions<T> {
         requires above { AreAbove self.old.versions owner.now }
         requires known { IsTrue (T.knows (top_of self.old) op.now) }
         requires changes { IsFalse (is_read op.now) }
-        requires owned { IsTrue (is_add op.now) → IsTrue (is_on_top (owners_of self.old.versions) owner.now) }
+        requires owned { IsTrue (is_add op.now)
+            → IsTrue (is_on_top (owners_of self.old.versions) owner.now) }
         ensures rising { RisesByAncestry self.old.versions }
         ensures replies { IfOk result (λ r. r ≡ T.reply (top_of self.old) op.now) }
-        ensures ok { OnOk result (self.new ≡ written self.old owner.now (T.after (top_of self.old) op.now)) }
+        ensures ok { OnOk result
+            (self.new ≡ written self.old owner.now (T.after (top_of self.old) op.now)) }
         ensures err { OnErr result (self.new ≡ self.old) }
     {
         if rows::is_on_top(&self.owners, owner) {
@@ -165,8 +172,8 @@ impl<T: Layered> Versions<T> {
         )
     }
 
-    /// Adds the number to the owner's version, if it has one; without an owner to the base. Every other version stays as it is, since what
-    /// was added below it does not show in it. This takes no memory.
+    /// Adds the number to the owner's version, if it has one; without an owner to the base. Every other version stays
+    /// as it is, since what was added below it does not show in it. This takes no memory.
     pub fn add(&mut self, owner: Option<&Name>, by: i64)
         ensures { self.new ≡ added T.after self.old (name_of owner.entry) by }
     {
@@ -218,7 +225,8 @@ impl<T: Layered> Versions<T> {
     // Drops all versions but so many, the lowest.
     fn keep_first(&mut self, count: usize)
         ensures rising { RisesByAncestry self.old.versions }
-        ensures kept { self.new ≡ record { base = self.old.base; versions = take count self.old.versions } }
+        ensures kept { self.new
+            ≡ record { base = self.old.base; versions = take count self.old.versions } }
     {
         self.owners.truncate(count);
         self.ends.truncate(count);
@@ -226,8 +234,8 @@ impl<T: Layered> Versions<T> {
         self.overlays.truncate(end);
     }
 
-    // Joins the overlays of each owner into one, and lays the base's on the content, as far as memory goes. What contracts see of the
-    // stack stays the same, also where it fails, which it does only if memory runs out.
+    // Joins the overlays of each owner into one, and lays the base's on the content, as far as memory goes. What
+    // contracts see of the stack stays the same, also where it fails, which it does only if memory runs out.
     fn tidy(&mut self) -> Result<(), AllocError>
         ensures rising { RisesByAncestry self.old.versions }
         ensures same { self.new ≡ self.old }

@@ -49,7 +49,8 @@ impl<'a, T: Layered> View<'a, T> {
         read_through(self.content, self.overlays, op)
     }
 
-    /// The reply to an operation of whatever class, with nothing changed. No content is put together for it. Fails only if memory runs out.
+    /// The reply to an operation of whatever class, with nothing changed. No content is put together for it. Fails
+    /// only if memory runs out.
     pub fn reply(&self, op: &Op) -> Result<Reply, AllocError>
         requires { IsTrue (T.knows self.now op.now) }
         ensures { IfOk result (λ r. r ≡ T.reply self.now op.now) }

@@ -29,8 +29,9 @@ pub record InMemory : Type 0 where
 abbrev pub own_object : GuardianState → ℕ → ObjectId
 own_object g n = record { guardian = g.number; number = n }
 
--- The memory stands in this state: its opening and its number are those of the state, and each part is that of the history. And of that history: a crash
--- would leave of each object just what is safe, and only top actions have records.
+-- The memory stands in this state: its opening and its number are those of the state, and each part is that of the
+-- history. And of that history: a crash would leave of each object just what is safe, and only top actions have
+-- records.
 pub record IsSound (m : InMemory) (g : GuardianState) : Type 0 where
   pub opened : opening_in m.opening ≡ g.opening
   pub own : m.number ≡ g.number
@@ -43,7 +44,8 @@ pub record IsSound (m : InMemory) (g : GuardianState) : Type 0 where
   pub shown : AreObjects g.opening g.past m.objects
   pub owner : m.objects.guardian ≡ g.number
   pub safe : (x : ObjectId) → x.guardian ≡ g.number → LeavesSafe g.opening g.past x
-  pub tops : (t : Name) → IsTrue (is_some (prepared_here g.opening g.number t g.past)) → IsTrue (is_top t)
+  pub tops : (t : Name)
+      → IsTrue (is_some (prepared_here g.opening g.number t g.past)) → IsTrue (is_top t)
 
 -- and it stands in some state
 abbrev pub IsOfSome : InMemory → Type 0

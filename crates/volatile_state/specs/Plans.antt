@@ -31,27 +31,33 @@ pub record IsPlanOf (p : Plan) (m : InMemory) (g : GuardianState) (news : News) 
   pub sender : p.sender ≡ news.carried.sender
   pub brought : p.outcomes.items ≡ news.carried.outcomes
   pub heard : IsHeard m.told news.carried.outcomes p.heard
-  pub lesson : IsLesson news.carried.sender news.carried.life news.carried.aborts news.carried.counts news.carried.outcomes p.lesson
+  pub lesson : IsLesson news.carried.sender news.carried.life news.carried.aborts
+      news.carried.counts news.carried.outcomes p.lesson
   pub entry : IsEntry (table m.roster) news.event news.carried.dependencies p.entry
   pub outcomes : outcomes_of p.planned.tellings.items ≡ news.carried.outcomes
   pub planned : ArePlanned g.past p.planned.tellings.items
 
 -- the plan is for this event, in some state in which the memory stands and of which this holds
 abbrev pub IsPlannedWhere : (GuardianState → Type 0) → Plan → InMemory → Event → Type 0
-IsPlannedWhere holds p m e = (g : GuardianState) × (news : News) × IsSound m g × IsPlanOf p m g news × (news.event ≡ e) × holds g
+IsPlannedWhere holds p m e = (g : GuardianState) × (news : News) × IsSound m g × IsPlanOf p m g news
+    × (news.event ≡ e) × holds g
 
 abbrev pub IsPlanned : Plan → InMemory → Event → Type 0
-IsPlanned p m e = (g : GuardianState) × (news : News) × IsSound m g × IsPlanOf p m g news × (news.event ≡ e)
+IsPlanned p m e = (g : GuardianState) × (news : News) × IsSound m g
+    × IsPlanOf p m g news × (news.event ≡ e)
 
 -- in each such state, the memory stands in the state that follows the event
 abbrev pub FollowsWhere : (GuardianState → Type 0) → Plan → InMemory → Event → ℕ → InMemory → Type 0
 FollowsWhere holds p old e stamp new =
-    (g : GuardianState) (news : News) → IsSound old g → IsPlanOf p old g news → news.event ≡ e → holds g → IsSound new (kept g (stamped stamp news))
+    (g : GuardianState) (news : News) → IsSound old g → IsPlanOf p old g news → news.event ≡ e
+    → holds g → IsSound new (kept g (stamped stamp news))
 
 abbrev pub Follows : Plan → InMemory → Event → ℕ → InMemory → Type 0
 Follows p old e stamp new =
-    (g : GuardianState) (news : News) → IsSound old g → IsPlanOf p old g news → news.event ≡ e → IsSound new (kept g (stamped stamp news))
+    (g : GuardianState) (news : News) → IsSound old g → IsPlanOf p old g news → news.event ≡ e
+    → IsSound new (kept g (stamped stamp news))
 
 -- after an operation the memory stands in the state that follows it, wherever it may come next
 abbrev pub Operated : InMemory → Event → ℕ → InMemory → Type 0
-Operated old e stamp new = (g : GuardianState) → IsSound old g → IsNext g (by_itself e) → IsSound new (kept g (stamped stamp (by_itself e)))
+Operated old e stamp new = (g : GuardianState) → IsSound old g → IsNext g (by_itself e)
+    → IsSound new (kept g (stamped stamp (by_itself e)))

@@ -14,7 +14,8 @@ use run_model::Step;
 use std::alloc::AllocError;
 
 impl Memory {
-    /// Follows an event that is neither an operation nor a crash of the guardian. This cannot fail. Nothing is said of what is left in the plan.
+    /// Follows an event that is neither an operation nor a crash of the guardian. This cannot fail. Nothing is said
+    /// of what is left in the plan.
     pub fn keep(&mut self, plan: &mut Plan, event: &EventRef<'_>, stamp: u64)
         requires fits { FitsPlan plan.old self.old }
         requires planned { IsPlanned plan.old self.old event.now }
@@ -28,8 +29,9 @@ impl Memory {
         self.objects.tell(&mut plan.planned);
     }
 
-    /// The guardian crashes: it forgets its lists, what it was told but for commits, and of its objects all but the base and what the survivors wrote
-    /// and added. It stands in the state that follows wherever the survivors are the top actions of which the store has a record. This cannot fail.
+    /// The guardian crashes: it forgets its lists, what it was told but for commits, and of its objects all but the
+    /// base and what the survivors wrote and added. It stands in the state that follows wherever the survivors are
+    /// the top actions of which the store has a record. This cannot fail.
     pub fn crash<S: Survivors>(
         &mut self,
         plan: &mut Plan,
@@ -38,9 +40,11 @@ impl Memory {
         survivors: &S,
     )
         requires fits { FitsPlan plan.old self.old }
-        requires planned { IsPlannedWhere (AreRecorded (λ a. S.stays survivors.now a)) plan.old self.old event.now }
+        requires planned { IsPlannedWhere (AreRecorded (λ a. S.stays survivors.now a)) plan.old
+            self.old event.now }
         requires down { IsTrue (step_crashes event.now.step self.old.number) }
-        ensures { FollowsWhere (AreRecorded (λ a. S.stays survivors.now a)) plan.old self.old event.now stamp self.new }
+        ensures { FollowsWhere (AreRecorded (λ a. S.stays survivors.now a)) plan.old self.old
+            event.now stamp self.new }
     {
         let alloc = self.alloc;
         self.told.crash(&mut plan.heard);
@@ -49,8 +53,8 @@ impl Memory {
         self.objects.crash(survivors);
     }
 
-    /// Makes an operation on its object, and follows it with the stamp that is drawn then. No message comes with it, and nothing changes beside the
-    /// object. Fails only if memory runs out.
+    /// Makes an operation on its object, and follows it with the stamp that is drawn then. No message comes with it,
+    /// and nothing changes beside the object. Fails only if memory runs out.
     pub fn operate<D: Draw>(
         &mut self,
         event: &EventRef<'_>,

@@ -38,7 +38,8 @@ impl Model for Memory {
 
     ghost Value = { InMemory };
 
-    ghost coded = { Prim.hlevel (codes, of_tellings.the_row.coded, of_lists.the_row.coded, of_roster.the_row.coded) };
+    ghost coded = { Prim.hlevel
+        (codes, of_tellings.the_row.coded, of_lists.the_row.coded, of_roster.the_row.coded) };
 
     ghost view = { λ a. record {
       opening = arc_value a.opening;
@@ -67,7 +68,8 @@ impl Memory {
         number: u32,
     ) -> Result<Memory, AllocError>
         requires { 1 ≤ number }
-        ensures { IfOk result (λ memory. IsSound memory (record { opening = opening_in (arc_value opening); number = number; past = [] })) }
+        ensures { IfOk result (λ memory. IsSound memory
+            (record { opening = opening_in (arc_value opening); number = number; past = [] })) }
     {
         let objects = Objects::new(alloc, &opening, number)?;
         Ok(Memory {

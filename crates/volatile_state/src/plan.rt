@@ -8,7 +8,8 @@ use run_model::Name;
 use std::alloc::Global;
 use tellings::Heard;
 
-/// What one event is to change in a guardian's memory, made of copies. The memory has room for it. Its own room is used again for the next event.
+/// What one event is to change in a guardian's memory, made of copies. The memory has room for it. Its own room is
+/// used again for the next event.
 #[derive(Drop)]
 pub struct Plan {
     pub(crate) sender: Option<u32>,

@@ -15,13 +15,16 @@ use std::alloc::AllocError;
 use std::collections::BTreeMap;
 
 impl Memory {
-    /// What the top action will hold once the guardian has kept its yes vote on it, by the number of the object. It is read before anything
-    /// changes. Fails only if memory runs out.
+    /// What the top action will hold once the guardian has kept its yes vote on it, by the number of the object. It
+    /// is read before anything changes. Fails only if memory runs out.
     pub fn parts(&self, top: &Name, plan: &Plan) -> Result<BTreeMap<u32, Part>, AllocError>
-        requires { (s : GuardianState) × (news : News) × IsSound self.now s × IsPlanOf plan.now self.now s news }
-        ensures { (s : GuardianState) (news : News) → IsSound self.now s → IsPlanOf plan.now self.now s news
+        requires { (s : GuardianState) × (news : News) × IsSound self.now s
+            × IsPlanOf plan.now self.now s news }
+        ensures { (s : GuardianState) (news : News) → IsSound self.now s
+            → IsPlanOf plan.now self.now s news
             → IsTrue (votes_yes news.event.step news.event.answer s.number top.now)
-            → IfOk result (λ parts. parts.entries ≡ parts_by s.opening s.number (λ x. standing_here (stamped 0 news ∷ s.past) x) top.now) }
+            → IfOk result (λ parts. parts.entries ≡ parts_by s.opening s.number
+            (λ x. standing_here (stamped 0 news ∷ s.past) x) top.now) }
     {
         if self.told.is_committed(top) {
             // What was told committed holds nothing.

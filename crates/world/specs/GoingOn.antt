@@ -8,8 +8,8 @@ use Rattle.store_recovery.specs.Settling.{bases_then}
 use Rattle.recovery_laws.specs.Opened.{GoesOnFrom}
 use Rattle.recovery_laws.specs.Runs.{AreOfRun}
 
--- These stores hold as much as the others: the same bases once all records are settled, the same decisions, and the same next top actions. Of counts
--- nothing is said.
+-- These stores hold as much as the others: the same bases once all records are settled, the same decisions, and the
+-- same next top actions. Of counts nothing is said.
 pub record HoldAsMuch (others stores : List Stored) : Type 0 where
   pub bases : bases_then stores ≡ bases_then others
   pub decided : each (λ s. s.decided) stores ≡ each (λ s. s.decided) others
@@ -17,5 +17,6 @@ pub record HoldAsMuch (others stores : List Stored) : Type 0 where
 
 -- The opening goes on from each run of this setup that left these stores, or some that hold as much.
 abbrev pub GoesOnFromStores : Setup → List Stored → Opening → Type 0
-GoesOnFromStores setup stores next = (opening : Opening) (past : List Event) (left : List Stored) → opening.setup ≡ setup → IsRun opening past
+GoesOnFromStores setup stores next = (opening : Opening) (past : List Event) (left : List Stored)
+    → opening.setup ≡ setup → IsRun opening past
     → AreOfRun opening past left → HoldAsMuch left stores → GoesOnFrom opening past next

@@ -14,14 +14,16 @@ abbrev pub run_of : {S : Type 0} → InWorld S → World
 run_of w = w.run
 
 -- The steps were made one after another, each as a step alone, and their answers stand behind those from before.
-pub record Ran {S : Type 0} (seen : S → View) (old new : InWorld S) (steps : List Step) (before after : List Answer) : Type 0 where
+pub record Ran {S : Type 0} (seen : S → View) (old new : InWorld S) (steps : List Step)
+    (before after : List Answer) : Type 0 where
   pub answers : after ≡ before ++ answers_from (opening_in old.run.lists) old.run.past steps
   pub same_opening : new.run.lists ≡ old.run.lists
   pub history : new.run.past ≡ history_from (opening_in old.run.lists) old.run.past steps
   pub made : AreMade run_of (LeavesStores seen) steps old new
 
 -- The steps before one of them were made. That one was not tried, for want of memory, or it failed so.
-pub record RanBefore {S : Type 0} (seen : S → View) (old new : InWorld S) (steps : List Step) (fault : Fault) (before after : List Answer) : Type 0 where
+pub record RanBefore {S : Type 0} (seen : S → View) (old new : InWorld S) (steps : List Step)
+    (fault : Fault) (before after : List Answer) : Type 0 where
   pub count : ℕ
   pub step : Step
   pub there : slice_get steps count ≡ Some step

@@ -20,7 +20,8 @@ pub record LeavesContents (Are : List Stored → Type 0) (left : List (Option St
 abbrev pub AreLeftWithin : Opening → List Event → Step → List Stored → Type 0
 AreLeftWithin opening past step contents =
     let e = event_next opening step past in
-    AreLeftAfter opening past contents ⊎ (IsTrue (is_accepted e.answer) × AreLeftAfter opening (e ∷ past) contents)
+    AreLeftAfter opening past contents
+    ⊎ (IsTrue (is_accepted e.answer) × AreLeftAfter opening (e ∷ past) contents)
 
 -- guardians are values of any type, each with the store that contracts see
 module _ {X : Type 0} (stored : X → View) where
@@ -43,12 +44,15 @@ module _ {X : Type 0} (stored : X → View) where
   -- Whatever a stop now leaves are stores of this run, where all are trusted and up.
   abbrev pub IsKeptBetweenSteps : Opening → List Event → List X → Type 0
   IsKeptBetweenSteps opening past guardians =
-      AreTrusted guardians → AreUp guardians → (left : List (Option Stored)) → MayLeave guardians left → LeavesContents (AreLeftAfter opening past) left
+      AreTrusted guardians → AreUp guardians → (left : List (Option Stored))
+      → MayLeave guardians left → LeavesContents (AreLeftAfter opening past) left
 
-  -- Whatever a stop within the step leaves are stores of the run without it or of the run with it, where all are trusted and were up before.
+  -- Whatever a stop within the step leaves are stores of the run without it or of the run with it, where all are
+  -- trusted and were up before.
   abbrev pub IsKeptThroughStops : Opening → List Event → Step → List X → List X → Type 0
   IsKeptThroughStops opening past step before after =
-      AreTrusted after → AreUp before → (left : List (Option Stored)) → MayLeave after left → LeavesContents (AreLeftWithin opening past step) left
+      AreTrusted after → AreUp before → (left : List (Option Stored)) → MayLeave after left
+      → LeavesContents (AreLeftWithin opening past step) left
 
   -- all that were up are so still, where they are trusted
   abbrev pub StayUp : List X → List X → Type 0

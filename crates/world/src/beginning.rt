@@ -26,10 +26,13 @@ impl<S: Stable> Beginning<S> {
     /// Fails only if memory runs out.
     pub(crate) fn of(alloc: Global, opening: Opening) -> Result<Beginning<S>, AllocError>
         ensures opening { IfOk result (λ beginning. arc_value beginning.opening ≡ opening) }
-        ensures registry { IfOk result (λ beginning. StandsIn beginning.registry (record { opening = opening_in opening; registry = [] })) }
-        ensures memories { IfOk result (λ beginning. AreMemories (opening_in opening) beginning.memories.items) }
+        ensures registry { IfOk result (λ beginning.
+            StandsIn beginning.registry (record { opening = opening_in opening; registry = [] })) }
+        ensures memories { IfOk result
+            (λ beginning. AreMemories (opening_in opening) beginning.memories.items) }
         ensures empty { IfOk result (λ beginning. beginning.room.items ≡ []) }
-        ensures room { IfOk result (λ beginning. length beginning.memories.items ≤ vec_capacity beginning.room) }
+        ensures room { IfOk result
+            (λ beginning. length beginning.memories.items ≤ vec_capacity beginning.room) }
     {
         let opening = Arc::new(alloc, opening)?;
         let registry = Registry::new(alloc, opening.clone()?);
@@ -46,7 +49,8 @@ impl<S: Stable> Beginning<S> {
 
 /// The memories of the opening's guardians, in order.
 fn memories(alloc: Global, opening: &Arc<Opening, Global>) -> Result<Vec<Memory>, AllocError>
-    ensures { IfOk result (λ memories. AreMemories (opening_in (arc_value opening.now)) memories.items) }
+    ensures { IfOk result
+        (λ memories. AreMemories (opening_in (arc_value opening.now)) memories.items) }
 {
     let count = opening.setup().guardians();
     let mut memories = Vec::with_capacity(alloc, count)?;

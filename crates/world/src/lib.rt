@@ -1,7 +1,8 @@
-//! The world of guardians over stable stores: it is given steps, one after another, and answers each as the definitions say.
+//! The world of guardians over stable stores: it is given steps, one after another, and answers each as the
+//! definitions say.
 //!
-//! Its guardians know their own histories alone, and reach their stores by the trait `Stable`; what a step leaves of each store is said with its
-//! answer. `world_steps` makes a step of them.
+//! Its guardians know their own histories alone, and reach their stores by the trait `Stable`; what a step leaves of
+//! each store is said with its answer. `world_steps` makes a step of them.
 #![tactic(auto)]
 
 mod beginning;

@@ -75,8 +75,8 @@ impl<S: Stable> Model for World<S> {
 }
 
 impl World<PlainStable> {
-    /// New guardians of the setup, to whom nothing has happened, whose stores are in memory alone and end with the world. Fails only if memory
-    /// runs out.
+    /// New guardians of the setup, to whom nothing has happened, whose stores are in memory alone and end with the
+    /// world. Fails only if memory runs out.
     pub fn in_memory(alloc: Global, setup: Setup) -> Result<World<PlainStable>, AllocError>
         ensures new { IfOk result (λ world. world.run ≡ new_world setup) }
         ensures fresh { IfOk result (λ world. opening_in world.run.lists ≡ fresh setup) }
@@ -90,8 +90,8 @@ impl World<PlainStable> {
 }
 
 impl<S: Stable> World<S> {
-    /// New guardians of the setup, to whom nothing has happened, each over its store, in order. The stores are empty. Fails only if memory
-    /// runs out, and then gives the stores back.
+    /// New guardians of the setup, to whom nothing has happened, each over its store, in order. The stores are empty.
+    /// Fails only if memory runs out, and then gives the stores back.
     pub fn new(
         alloc: Global,
         setup: Setup,
@@ -107,8 +107,9 @@ impl<S: Stable> World<S> {
         World::over(alloc, Opening::fresh(alloc, setup), stores)
     }
 
-    /// The guardians of the opening, to whom nothing has happened since, each over its store, in order. The stores hold what the opening says that
-    /// they held, and nothing is prepared there. Fails only if memory runs out, and then gives the stores back.
+    /// The guardians of the opening, to whom nothing has happened since, each over its store, in order. The stores
+    /// hold what the opening says that they held, and nothing is prepared there. Fails only if memory runs out, and
+    /// then gives the stores back.
     pub fn over(
         alloc: Global,
         opening: Opening,
@@ -140,21 +141,26 @@ impl<S: Stable> World<S> {
         })
     }
 
-    /// Makes one step and gives its answer. An accepted step is in the history from then on, with its answer; one that is refused or
-    /// waits changes nothing. After an error the world is as it was. At most one store is called in a step: `Stable` comes where it failed,
-    /// and then it has counted one failure more.
+    /// Makes one step and gives its answer. An accepted step is in the history from then on, with its answer; one
+    /// that is refused or waits changes nothing. After an error the world is as it was. At most one store is called
+    /// in a step: `Stable` comes where it failed, and then it has counted one failure more.
     pub fn step(&mut self, step: &Step) -> Result<Answer, Fault>
-        ensures answer { IfOk result (λ answer. answer ≡ answer_of (opening_in self.old.run.lists) step.now self.old.run.past) }
-        ensures after { IfOk result (λ answer. self.new.run ≡ world_after self.old.run step.now answer) }
-        ensures orphans { IfOk result (λ answer. OrphanWhereRefused step.now answer self.old.run.past) }
+        ensures answer { IfOk result (λ answer. answer
+            ≡ answer_of (opening_in self.old.run.lists) step.now self.old.run.past) }
+        ensures after { IfOk result
+            (λ answer. self.new.run ≡ world_after self.old.run step.now answer) }
+        ensures orphans { IfOk result
+            (λ answer. OrphanWhereRefused step.now answer self.old.run.past) }
         ensures served { IsServed (opening_in self.new.run.lists) self.new.run.past }
         ensures err { OnErr result (self.new.run ≡ self.old.run) }
-        ensures stores { StoresLeft (λ g. seen_of S.seen g) (opening_in self.old.run.lists) self.old.run.past step.now self.old.guardians
-            self.new.guardians (fault_in result) }
-        ensures cause { IsErrOf result Stable → HasFailed (λ g. seen_of S.seen g) self.old.guardians self.new.guardians }
-        ensures stop { IsKeptThroughStops (λ g. seen_of S.seen g) (opening_in self.old.run.lists) self.old.run.past step.now self.old.guardians
-            self.new.guardians }
-        ensures up { OnOk result (StayUp (λ g. seen_of S.seen g) self.old.guardians self.new.guardians) }
+        ensures stores { StoresLeft (λ g. seen_of S.seen g) (opening_in self.old.run.lists)
+            self.old.run.past step.now self.old.guardians self.new.guardians (fault_in result) }
+        ensures cause { IsErrOf result Stable
+            → HasFailed (λ g. seen_of S.seen g) self.old.guardians self.new.guardians }
+        ensures stop { IsKeptThroughStops (λ g. seen_of S.seen g) (opening_in self.old.run.lists)
+            self.old.run.past step.now self.old.guardians self.new.guardians }
+        ensures up { OnOk result
+            (StayUp (λ g. seen_of S.seen g) self.old.guardians self.new.guardians) }
     {
         world_steps::step(
             self.alloc,
@@ -165,14 +171,16 @@ impl<S: Stable> World<S> {
         )
     }
 
-    /// Makes the steps one after another, each as `step` makes it, and appends their answers. `Memory` comes if memory
-    /// for an answer or a step is refused, and `Stable` if a store failed. After an error the steps before are made, and
-    /// their answers stand.
+    /// Makes the steps one after another, each as `step` makes it, and appends their answers. `Memory` comes if
+    /// memory for an answer or a step is refused, and `Stable` if a store failed. After an error the steps before are
+    /// made, and their answers stand.
     pub fn run(&mut self, steps: &[Step], answers: &mut Vec<Answer>) -> Result<(), Fault>
-        ensures ok { OnOk result (Ran S.seen self.old self.new steps.now answers.old.items answers.new.items) }
+        ensures ok { OnOk result
+            (Ran S.seen self.old self.new steps.now answers.old.items answers.new.items) }
         ensures served { IsServed (opening_in self.new.run.lists) self.new.run.past }
         ensures err { IfErr result (λ fault.
-            RanBefore S.seen self.old self.new steps.now fault answers.old.items answers.new.items) }
+            RanBefore S.seen self.old self.new steps.now fault answers.old.items
+            answers.new.items) }
     {
         // so that what happened before is known to be a run
         let _ = &self.history;
@@ -184,25 +192,31 @@ impl<S: Stable> World<S> {
         Ok(())
     }
 
-    /// What has happened: the accepted steps with their answers, kept compactly. The stores are those of this run, and a stop now leaves them so.
-    /// This takes no memory; `unpacked` gives them as a `History`.
+    /// What has happened: the accepted steps with their answers, kept compactly. The stores are those of this run,
+    /// and a stop now leaves them so. This takes no memory; `unpacked` gives them as a `History`.
     pub fn history(&self) -> &PackedHistory
         ensures past { result.now ≡ self.now.run.past }
         ensures served { IsServed (opening_in self.now.run.lists) self.now.run.past }
-        ensures stores { AreOfRun (opening_in self.now.run.lists) self.now.run.past (contents_of (λ g. seen_of S.seen g) self.now.guardians) }
-        ensures stop { IsKeptBetweenSteps (λ g. seen_of S.seen g) (opening_in self.now.run.lists) self.now.run.past self.now.guardians }
+        ensures stores { AreOfRun (opening_in self.now.run.lists) self.now.run.past
+            (contents_of (λ g. seen_of S.seen g) self.now.guardians) }
+        ensures stop { IsKeptBetweenSteps (λ g. seen_of S.seen g) (opening_in self.now.run.lists)
+            self.now.run.past self.now.guardians }
     {
         &self.history
     }
 
-    /// The guardian of this number, which stands where what has happened leads it, with its store; none where there is none. This takes no memory.
+    /// The guardian of this number, which stands where what has happened leads it, with its store; none where there
+    /// is none. This takes no memory.
     pub fn guardian(&self, number: u32) -> Option<&Guardian<S>>
         ensures found { MatchOption result (IsOut (length self.now.run.lists.setup) number)
             (λ guardian. slice_get self.now.guardians (number - 1) ≡ Some guardian.now) }
         ensures stands { MatchOption result (Unit {0})
-            (λ guardian. IsWhole S.seen guardian.now (standing (opening_in self.now.run.lists) self.now.run.past number)) }
+            (λ guardian. IsWhole S.seen guardian.now
+            (standing (opening_in self.now.run.lists) self.now.run.past number)) }
         ensures whole { MatchOption result (Unit {0})
-            (λ guardian. IsStoreOf (standing (opening_in self.now.run.lists) self.now.run.past number) (seen_of S.seen guardian.now)) }
+            (λ guardian. IsStoreOf
+            (standing (opening_in self.now.run.lists) self.now.run.past number)
+            (seen_of S.seen guardian.now)) }
     {
         if number == 0 {
             return None;
@@ -214,8 +228,10 @@ impl<S: Stable> World<S> {
     pub fn base(&self, object: ObjectId) -> Result<Content, AllocError>
         requires guardian { 1 ≤ object.guardian }
         requires number { 1 ≤ object.number }
-        requires there { object.number ≤ length (objects_at self.now.run.lists.setup object.guardian) }
-        ensures { IfOk result (λ content. content ≡ base_of (opening_in self.now.run.lists) object self.now.run.past) }
+        requires there { object.number
+            ≤ length (objects_at self.now.run.lists.setup object.guardian) }
+        ensures { IfOk result (λ content. content
+            ≡ base_of (opening_in self.now.run.lists) object self.now.run.past) }
     {
         let guardian = &self.guardians[object.guardian as usize - 1];
         match guardian.base(object.number) {
@@ -243,8 +259,8 @@ impl<S: Stable> World<S> {
     pub fn into_parts(self) -> (Arc<Opening, Global>, Registry, Vec<Guardian<S>>)
         ensures opening { arc_value result.0 ≡ self.run.lists }
         ensures guardians { result.2.items ≡ self.guardians }
-        ensures standing { IsWorld (λ g s. IsWhole S.seen g s) (λ g. seen_of S.seen g) (StandsIn result.1)
-            (opening_in self.run.lists) self.run.past result.2.items }
+        ensures standing { IsWorld (λ g s. IsWhole S.seen g s) (λ g. seen_of S.seen g)
+            (StandsIn result.1) (opening_in self.run.lists) self.run.past result.2.items }
     {
         let World {
             opening,

@@ -23,12 +23,15 @@ results_two f a b = results_lent f.opening f.registry (lent_two a b)
 -- the same, where a guardian that was told a commit counts nothing for a telling that the action aborted
 abbrev pub results_told : ForestState → GuardianState → GuardianState → Results
 results_told f a b = record (results_two f a b) {
-  count = λ g c. count_told (record { opening = f.opening; number = g; past = lent_two a b g }) c (is_committed c (events_there f.registry));
+  count = λ g c. count_told (record { opening = f.opening; number = g; past = lent_two a b g }) c
+      (is_committed c (events_there f.registry));
 }
 
--- of an action that a guardian was told committed the forest says so too, where the step tells that guardian its outcome
+-- of an action that a guardian was told committed the forest says so too, where the step tells that guardian its
+-- outcome
 abbrev pub IsTellable : ForestState → GuardianState → GuardianState → Step → Type 0
-IsTellable f a b (Tell g c) = IsTrue (told_committed_here c (lent_two a b g)) → IsTrue (is_committed c (events_there f.registry))
+IsTellable f a b (Tell g c) = IsTrue (told_committed_here c (lent_two a b g))
+    → IsTrue (is_committed c (events_there f.registry))
 IsTellable f a b _ = Unit {0}
 
 -- no guardian is lent
@@ -47,21 +50,26 @@ pub record OneOpening (f : ForestState) (a b : GuardianState) : Type 0 where
   pub second : b.opening ≡ f.opening
 
 -- The forest stands in the state f, and the two guardians in a and b, all in one opening.
-pub record AreLent (stands : ForestState → Type 0) (one other : GuardianState → Type 0) (f : ForestState) (a b : GuardianState) : Type 0 where
+pub record AreLent (stands : ForestState → Type 0) (one other : GuardianState → Type 0)
+    (f : ForestState) (a b : GuardianState) : Type 0 where
   pub forest : stands f
   pub first : one a
   pub second : other b
   pub opening : OneOpening f a b
 
 -- what is lent stands in these states
-abbrev pub Lends : {R G : Type 0} → (R → ForestState → Type 0) → (G → GuardianState → Type 0) → Lent R G → ForestState → GuardianState → GuardianState → Type 0
-Lends forest guardian lent f a b = AreLent (forest lent.forest.now) (guardian lent.first.now) (guardian lent.second.now) f a b
+abbrev pub Lends : {R G : Type 0} → (R → ForestState → Type 0) → (G → GuardianState → Type 0)
+    → Lent R G → ForestState → GuardianState → GuardianState → Type 0
+Lends forest guardian lent f a b =
+    AreLent (forest lent.forest.now) (guardian lent.first.now) (guardian lent.second.now) f a b
 
 -- What they say together, in states in which they stand; what the forest says alone, and what a guardian says.
 abbrev pub said_two : ForestState → GuardianState → GuardianState → Said
-said_two f a b = record { opening = f.opening; facts = facts_two f a b; results = results_told f a b }
+said_two f a b =
+    record { opening = f.opening; facts = facts_two f a b; results = results_told f a b }
 
-pub record IsSaidByTwo (stands : ForestState → Type 0) (one other : GuardianState → Type 0) (s : Said) : Type 0 where
+pub record IsSaidByTwo (stands : ForestState → Type 0) (one other : GuardianState → Type 0)
+    (s : Said) : Type 0 where
   pub state : ForestState
   pub a : GuardianState
   pub b : GuardianState
@@ -77,7 +85,8 @@ pub record IsSaidAlone (stands : ForestState → Type 0) (s : Said) : Type 0 whe
   pub said : s ≡ said_alone state
 
 abbrev pub said_here : GuardianState → Said
-said_here x = record { opening = x.opening; facts = facts_here x.opening x.number x.past; results = results_here x.opening x.past }
+said_here x =
+    record { opening = x.opening; facts = facts_here x.opening x.number x.past; results = results_here x.opening x.past }
 
 pub record IsSaidHere (stands : GuardianState → Type 0) (s : Said) : Type 0 where
   pub state : GuardianState
@@ -107,12 +116,14 @@ new_from f home life [] = []
 new_from f home life (c ∷ cs) = (c, new_entries f home life c) ∷ new_from f home life cs
 
 -- what an event says to g of dependencies: of new actions at home there, and of all
-abbrev pub new_two : ForestState → GuardianState → GuardianState → Event → ℕ → List (Name × List (ℕ × ℕ))
+abbrev pub new_two : ForestState → GuardianState → GuardianState → Event → ℕ
+    → List (Name × List (ℕ × ℕ))
 new_two f a b e g =
     map (λ c. (c, (action_lent f.opening e.step f.registry (lent_two a b) c).dependencies))
     (filter (λ c. home_lent e.step f.registry == g) (names_begun e.answer))
 
-abbrev pub dependencies_two : ForestState → GuardianState → GuardianState → Event → ℕ → List (Name × List (ℕ × ℕ))
+abbrev pub dependencies_two : ForestState → GuardianState → GuardianState → Event → ℕ
+    → List (Name × List (ℕ × ℕ))
 dependencies_two f a b e g =
-    dependencies_sent (λ c. home_of c (events_there f.registry)) (λ c. entries_of f.opening (λ h. dependency_there c h f.registry)) e.step g
-    (new_two f a b e g)
+    dependencies_sent (λ c. home_of c (events_there f.registry))
+    (λ c. entries_of f.opening (λ h. dependency_there c h f.registry)) e.step g (new_two f a b e g)

@@ -30,7 +30,8 @@ abbrev pub home_of_maker : Option Name → ℕ → List Event → ℕ
 home_of_maker None own past = own
 home_of_maker (Some m) own past = home_of m past
 
--- the guardian that is called or asked, the home of the parent to which an action commits, and of who made one that aborts
+-- the guardian that is called or asked, the home of the parent to which an action commits, and of who made one that
+-- aborts
 abbrev pub second_named : Step → List Event → ℕ
 second_named (Call a g) past = g
 second_named (Commit a) past = home_of (parent_of a) past
@@ -39,6 +40,9 @@ second_named (Abort a) past = home_of_maker (maker_of a past) (home_of a past) p
 second_named step past = first_named step past
 
 -- these are the guardians that the step names, wherever the forest stands
-pub record AreNamed (stands : ForestState → Type 0) (step : Step) (named : NamedGuardians) : Type 0 where
-  pub first : (f : ForestState) → stands f → named.first ≡ first_named step (events_there f.registry)
-  pub second : (f : ForestState) → stands f → named.second ≡ second_named step (events_there f.registry)
+pub record AreNamed (stands : ForestState → Type 0) (step : Step)
+    (named : NamedGuardians) : Type 0 where
+  pub first : (f : ForestState) → stands f
+      → named.first ≡ first_named step (events_there f.registry)
+  pub second : (f : ForestState) → stands f
+      → named.second ≡ second_named step (events_there f.registry)

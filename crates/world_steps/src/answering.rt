@@ -12,8 +12,9 @@ use run_model::{Answer, Step};
 use std::alloc::{AllocError, Global};
 use step_answers::answer_of;
 
-/// The answer of a step that is lent the forest and these guardians, which may be one twice, all in one opening. A guardian that is not lent reads
-/// as one to which nothing has happened. So it is by whatever states these stand in, where that of the forest bears out what the step tells.
+/// The answer of a step that is lent the forest and these guardians, which may be one twice, all in one opening. A
+/// guardian that is not lent reads as one to which nothing has happened. So it is by whatever states these stand in,
+/// where that of the forest bears out what the step tells.
 pub fn answer_two<R: Forest, G: Guardian>(
     alloc: Global,
     forest: &R,
@@ -21,9 +22,12 @@ pub fn answer_two<R: Forest, G: Guardian>(
     second: &G,
     step: &Step,
 ) -> Result<Answer, AllocError>
-    requires { (f : ForestState) × (a : GuardianState) × (b : GuardianState) × AreLent (R.stands forest.now) (G.stands first.now) (G.stands second.now) f a b }
-    ensures { (f : ForestState) (a b : GuardianState) → AreLent (R.stands forest.now) (G.stands first.now) (G.stands second.now) f a b
-        → IsTellable f a b step.now → IfOk result (λ answer. answer ≡ answer_lent f.opening f.registry (lent_two a b) step.now) }
+    requires { (f : ForestState) × (a : GuardianState) × (b : GuardianState)
+        × AreLent (R.stands forest.now) (G.stands first.now) (G.stands second.now) f a b }
+    ensures { (f : ForestState) (a b : GuardianState)
+        → AreLent (R.stands forest.now) (G.stands first.now) (G.stands second.now) f a b
+        → IsTellable f a b step.now → IfOk result
+        (λ answer. answer ≡ answer_lent f.opening f.registry (lent_two a b) step.now) }
 {
     let lent = Lent {
         alloc,
@@ -36,7 +40,8 @@ pub fn answer_two<R: Forest, G: Guardian>(
 
 /// The answer of a step that is lent the forest alone.
 pub fn answer_alone<R: Forest>(alloc: Global, forest: &R, step: &Step) -> Result<Answer, AllocError>
-    ensures { (f : ForestState) → R.stands forest.now f → IfOk result (λ answer. answer ≡ answer_lent f.opening f.registry nobody step.now) }
+    ensures { (f : ForestState) → R.stands forest.now f
+        → IfOk result (λ answer. answer ≡ answer_lent f.opening f.registry nobody step.now) }
 {
     // It stands in some state.
     forest.opening();

@@ -52,8 +52,8 @@ impl<'a, G: Guardian> ReadsAction for Here<'a, G> {
     }
 }
 
-/// The answer of an operation of an action on the guardian's roster, by the guardian alone. An action that is not on the roster is no action here:
-/// whether there is one elsewhere the forest knows.
+/// The answer of an operation of an action on the guardian's roster, by the guardian alone. An action that is not on
+/// the roster is no action here: whether there is one elsewhere the forest knows.
 pub fn answer_here<G: Guardian>(
     guardian: &G,
     action: &Name,
@@ -61,7 +61,8 @@ pub fn answer_here<G: Guardian>(
     operation: &Op,
 ) -> Result<Answer, AllocError>
     ensures { (x : GuardianState) → G.stands guardian.now x
-        → IfOk result (λ answer. answer ≡ operation_here x.opening x.number action.now object operation.now x.past) }
+        → IfOk result (λ answer. answer
+        ≡ operation_here x.opening x.number action.now object operation.now x.past) }
 {
     // It stands in some state.
     guardian.opening();

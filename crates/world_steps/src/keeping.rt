@@ -29,8 +29,10 @@ impl<'a, R: Forest, G: Guardian> Lent<'a, R, G> {
         at: &G,
     ) -> Result<Option<Message>, AllocError>
         requires { AreNamed (R.stands self.now.forest.now) event.now.step named }
-        ensures { IfOk result (λ brought. (f : ForestState) (a b x : GuardianState) → Lends R.stands G.stands self.now f a b → G.stands at.now x
-            → IsOneOf a b x → x.opening ≡ f.opening → IsAnswered f a b event.now → Brings f a b event.now x brought) }
+        ensures { IfOk result (λ brought. (f : ForestState) (a b x : GuardianState)
+            → Lends R.stands G.stands self.now f a b → G.stands at.now x
+            → IsOneOf a b x → x.opening ≡ f.opening → IsAnswered f a b event.now
+            → Brings f a b event.now x brought) }
     {
         if !is_named(named, at.number()) {
             return Ok(None);
@@ -116,14 +118,17 @@ fn carry_out<G: Guardian, D: Draw>(
     ensures drawn { IfOk result (λ n. D.draws stamp.old n stamp.new) }
     ensures undrawn { OnErr result (stamp.new ≡ stamp.old) }
     ensures kept { IfOk result (λ n. MatchBool keeps
-        (IsKept (G.stands guardian.old) (G.stands guardian.new) (G.is_planned guardian.old) event.now n)
+        (IsKept (G.stands guardian.old) (G.stands guardian.new)
+        (G.is_planned guardian.old) event.now n)
         (StandsStill (G.stands guardian.old) (G.stands guardian.new))) }
     ensures err { OnErr result (StandsStill (G.stands guardian.old) (G.stands guardian.new)) }
     ensures store { MatchBool keeps
         (WhereverPlanned (G.stands guardian.old) (G.is_planned guardian.old) event.now
-        (λ x news. LeavesStore x news (G.stored guardian.old) (G.stored guardian.new) (fault_in result)))
+        (λ x news. LeavesStore x news (G.stored guardian.old) (G.stored guardian.new)
+        (fault_in result)))
         (Stays (G.stored guardian.old) (G.stored guardian.new)) }
-    ensures cause { IsErrOf result Stable → CountsFailure (G.stored guardian.old) (G.stored guardian.new) }
+    ensures cause { IsErrOf result Stable
+        → CountsFailure (G.stored guardian.old) (G.stored guardian.new) }
 {
     if keeps {
         guardian.carry_out(event, stamp)
@@ -140,7 +145,8 @@ fn install<G: Guardian>(guardian: &mut G, keeps: bool, event: &EventRef<'_>, sta
     requires quiet { OnTrue keeps ((x : GuardianState) × G.stands guardian.old x
         × IsFalse (may_fail event.now.step x.number)) }
     ensures kept { MatchBool keeps
-        (IsKept (G.stands guardian.old) (G.stands guardian.new) (G.is_planned guardian.old) event.now stamp)
+        (IsKept (G.stands guardian.old)
+        (G.stands guardian.new) (G.is_planned guardian.old) event.now stamp)
         (StandsStill (G.stands guardian.old) (G.stands guardian.new)) }
     ensures store { Stays (G.stored guardian.old) (G.stored guardian.new) }
 {
@@ -155,7 +161,8 @@ fn install_there<R: Forest>(forest: &mut R, event: &EventRef<'_>, stamp: u64)
     requires planned { IsTrue (takes_registry event.now.step)
         → IsPlannedInSome (R.stands forest.old) (R.is_planned forest.old) event.now }
     ensures kept { IsTrue (takes_registry event.now.step)
-        → IsInstalled (R.stands forest.old) (R.stands forest.new) (R.is_planned forest.old) event.now stamp }
+        → IsInstalled (R.stands forest.old) (R.stands forest.new)
+        (R.is_planned forest.old) event.now stamp }
     ensures same { IsFalse (takes_registry event.now.step)
         → (f : ForestState) → R.stands forest.old f → R.stands forest.new f }
 {
@@ -164,8 +171,9 @@ fn install_there<R: Forest>(forest: &mut R, event: &EventRef<'_>, stamp: u64)
     }
 }
 
-/// Keeps an operation at one of the guardians that are lent: with the stamp, if it is that guardian's, and else it draws the stamp alone. No message
-/// comes with an operation, and the forest keeps none. Fails only if memory runs out.
+/// Keeps an operation at one of the guardians that are lent: with the stamp, if it is that guardian's, and else it
+/// draws the stamp alone. No message comes with an operation, and the forest keeps none. Fails only if memory runs
+/// out.
 fn operate<R: Forest, G: Guardian, D: Draw>(
     forest: &R,
     guardian: &mut G,
@@ -176,11 +184,13 @@ fn operate<R: Forest, G: Guardian, D: Draw>(
     requires stamp { D.may_draw stamp.old }
     requires named { AreNamed (R.stands forest.now) event.now.step named }
     requires operation { IsTrue (is_operation event.now.step) }
-    requires answered { (f : ForestState) × (a : GuardianState) × (b : GuardianState) × (x : GuardianState)
+    requires answered { (f : ForestState) × (a : GuardianState) × (b : GuardianState)
+        × (x : GuardianState)
         × IsLentAt (R.stands forest.now) (G.stands guardian.old) f a b event.now x }
     ensures drawn { IfOk result (λ n. D.draws stamp.old n stamp.new) }
     ensures undrawn { OnErr result (stamp.new ≡ stamp.old) }
-    ensures kept { IfOk result (λ n. (f : ForestState) (a b x : GuardianState) → IsLentAt (R.stands forest.now) (G.stands guardian.old) f a b event.now x
+    ensures kept { IfOk result (λ n. (f : ForestState) (a b x : GuardianState)
+        → IsLentAt (R.stands forest.now) (G.stands guardian.old) f a b event.now x
         → G.stands guardian.new (after_step x (n, event.now) f.registry (lent_two a b))) }
     ensures err { OnErr result (StandsStill (G.stands guardian.old) (G.stands guardian.new)) }
     ensures store { Stays (G.stored guardian.old) (G.stored guardian.new) }
@@ -192,9 +202,10 @@ fn operate<R: Forest, G: Guardian, D: Draw>(
     }
 }
 
-/// After an accepted step that was lent two guardians and names these: all of them keep its event as far as it names them. Room is made first; then comes
-/// the one call of a store or of an object, if there is one, then the stamp, then what cannot fail. After an error all are as they were. What is left
-/// is said of all states in which they stood and by which the event was answered, and there are such.
+/// After an accepted step that was lent two guardians and names these: all of them keep its event as far as it names
+/// them. Room is made first; then comes the one call of a store or of an object, if there is one, then the stamp,
+/// then what cannot fail. After an error all are as they were. What is left is said of all states in which they stood
+/// and by which the event was answered, and there are such.
 pub fn keep_two<R: Forest, G: Guardian, D: Draw>(
     alloc: Global,
     forest: &mut R,
@@ -207,22 +218,31 @@ pub fn keep_two<R: Forest, G: Guardian, D: Draw>(
     requires stamp { D.may_draw stamp.old }
     requires named { AreNamed (R.stands forest.old) event.now.step named }
     requires answered { (f : ForestState) × (a : GuardianState) × (b : GuardianState)
-        × AreAnswered (R.stands forest.old) (G.stands first.old) (G.stands second.old) f a b event.now × ((a.number == b.number) ≡ false) }
+        × AreAnswered (R.stands forest.old) (G.stands first.old)
+        (G.stands second.old) f a b event.now
+        × ((a.number == b.number) ≡ false) }
     ensures drawn { IfOk result (λ n. D.draws stamp.old n stamp.new) }
     ensures undrawn { OnErr result (stamp.new ≡ stamp.old) }
     ensures done { IfOk result (λ n. (f : ForestState) (a b : GuardianState)
-        → AreAnswered (R.stands forest.old) (G.stands first.old) (G.stands second.old) f a b event.now
-        → IsDone (R.stands forest.new) (G.stands first.new) (G.stands second.new) f a b event.now n) }
-    ensures forest_same { OnErr result ((f : ForestState) → R.stands forest.old f → R.stands forest.new f) }
+        → AreAnswered (R.stands forest.old) (G.stands first.old)
+        (G.stands second.old) f a b event.now
+        → IsDone (R.stands forest.new) (G.stands first.new) (G.stands second.new)
+        f a b event.now n) }
+    ensures forest_same { OnErr result
+        ((f : ForestState) → R.stands forest.old f → R.stands forest.new f) }
     ensures first_same { OnErr result (StandsStill (G.stands first.old) (G.stands first.new)) }
     ensures second_same { OnErr result (StandsStill (G.stands second.old) (G.stands second.new)) }
     ensures first_store { (f : ForestState) (a b : GuardianState)
-        → AreAnswered (R.stands forest.old) (G.stands first.old) (G.stands second.old) f a b event.now
+        → AreAnswered (R.stands forest.old) (G.stands first.old)
+        (G.stands second.old) f a b event.now
         → StoreLeft f a b event.now a (G.stored first.old) (G.stored first.new) (fault_in result) }
     ensures second_store { (f : ForestState) (a b : GuardianState)
-        → AreAnswered (R.stands forest.old) (G.stands first.old) (G.stands second.old) f a b event.now
-        → StoreLeft f a b event.now b (G.stored second.old) (G.stored second.new) (fault_in result) }
-    ensures cause { IsErrOf result Stable → CountsFailure (G.stored first.old) (G.stored first.new) ⊎ CountsFailure (G.stored second.old) (G.stored second.new) }
+        → AreAnswered (R.stands forest.old) (G.stands first.old)
+        (G.stands second.old) f a b event.now
+        → StoreLeft f a b event.now b (G.stored second.old)
+        (G.stored second.new) (fault_in result) }
+    ensures cause { IsErrOf result Stable → CountsFailure (G.stored first.old) (G.stored first.new)
+        ⊎ CountsFailure (G.stored second.old) (G.stored second.new) }
 {
     // The stores of both are those of their histories.
     first.number();
@@ -271,18 +291,26 @@ pub fn keep_one<R: Forest, G: Guardian, D: Draw>(
     requires stamp { D.may_draw stamp.old }
     requires named { AreNamed (R.stands forest.old) event.now.step named }
     requires answered { (f : ForestState) × (x : GuardianState)
-        × AreAnswered (R.stands forest.old) (G.stands guardian.old) (G.stands guardian.old) f x x event.now }
+        × AreAnswered (R.stands forest.old) (G.stands guardian.old)
+        (G.stands guardian.old) f x x event.now }
     ensures drawn { IfOk result (λ n. D.draws stamp.old n stamp.new) }
     ensures undrawn { OnErr result (stamp.new ≡ stamp.old) }
     ensures done { IfOk result (λ n. (f : ForestState) (x : GuardianState)
-        → AreAnswered (R.stands forest.old) (G.stands guardian.old) (G.stands guardian.old) f x x event.now
-        → IsDone (R.stands forest.new) (G.stands guardian.new) (G.stands guardian.new) f x x event.now n) }
-    ensures forest_same { OnErr result ((f : ForestState) → R.stands forest.old f → R.stands forest.new f) }
-    ensures guardian_same { OnErr result (StandsStill (G.stands guardian.old) (G.stands guardian.new)) }
+        → AreAnswered (R.stands forest.old) (G.stands guardian.old)
+        (G.stands guardian.old) f x x event.now
+        → IsDone (R.stands forest.new) (G.stands guardian.new) (G.stands guardian.new)
+        f x x event.now n) }
+    ensures forest_same { OnErr result
+        ((f : ForestState) → R.stands forest.old f → R.stands forest.new f) }
+    ensures guardian_same { OnErr result
+        (StandsStill (G.stands guardian.old) (G.stands guardian.new)) }
     ensures store { (f : ForestState) (x : GuardianState)
-        → AreAnswered (R.stands forest.old) (G.stands guardian.old) (G.stands guardian.old) f x x event.now
-        → StoreLeft f x x event.now x (G.stored guardian.old) (G.stored guardian.new) (fault_in result) }
-    ensures cause { IsErrOf result Stable → CountsFailure (G.stored guardian.old) (G.stored guardian.new) }
+        → AreAnswered (R.stands forest.old) (G.stands guardian.old)
+        (G.stands guardian.old) f x x event.now
+        → StoreLeft f x x event.now x (G.stored guardian.old)
+        (G.stored guardian.new) (fault_in result) }
+    ensures cause { IsErrOf result Stable
+        → CountsFailure (G.stored guardian.old) (G.stored guardian.new) }
 {
     // Its store is that of its history.
     guardian.number();

@@ -21,8 +21,9 @@ pub struct Lent<'a, R, G> {
 impl<'a, R: Forest, G: Guardian> Lent<'a, R, G> {
     /// The guardian of this number, if it is lent.
     pub fn at(&self, guardian: u32) -> Option<&'a G>
-        ensures { (a b : GuardianState) → G.stands self.now.first.now a → G.stands self.now.second.now b
-            → MatchOption result (lent_two a b guardian ≡ []) (λ x. StandsAt (G.stands x.now) a b guardian) }
+        ensures { (a b : GuardianState) → G.stands self.now.first.now a
+            → G.stands self.now.second.now b → MatchOption result (lent_two a b guardian ≡ [])
+            (λ x. StandsAt (G.stands x.now) a b guardian) }
     {
         if self.first.number() == guardian {
             return Some(self.first);
@@ -35,7 +36,8 @@ impl<'a, R: Forest, G: Guardian> Lent<'a, R, G> {
 }
 
 impl<'a, R: Forest, G: Guardian> ReadsAction for Lent<'a, R, G> {
-    ghost says = { λ x. IsSaidByTwo (R.stands x.forest.now) (G.stands x.first.now) (G.stands x.second.now) };
+    ghost says = { λ x.
+        IsSaidByTwo (R.stands x.forest.now) (G.stands x.first.now) (G.stands x.second.now) };
 
     fn opening(&self) -> &Opening {
         self.forest.opening()

@@ -27,8 +27,9 @@ impl<'a, R: Forest, G: Guardian> Lent<'a, R, G> {
         at: &G,
     ) -> Result<Message, AllocError>
         requires { AreNamed (R.stands self.now.forest.now) event.now.step named }
-        ensures { (f : ForestState) (a b x : GuardianState) → Lends R.stands G.stands self.now f a b → G.stands at.now x → IsOneOf a b x
-            → IfOk result (λ message. carried_of message ≡ carried_lent f.opening event.now x.number f.registry (lent_two a b)) }
+        ensures { (f : ForestState) (a b x : GuardianState) → Lends R.stands G.stands self.now f a b
+            → G.stands at.now x → IsOneOf a b x → IfOk result (λ message. carried_of message
+            ≡ carried_lent f.opening event.now x.number f.registry (lent_two a b)) }
     {
         let sender = self.sender(named, event.step, at.number());
         let life = self.life_of(sender);
@@ -68,7 +69,8 @@ impl<'a, R: Forest, G: Guardian> Lent<'a, R, G> {
 
     /// How often the guardian crashed, and 0 where it is not lent.
     pub fn crashes_at(&self, guardian: u32) -> u64
-        ensures { (a b : GuardianState) → G.stands self.now.first.now a → G.stands self.now.second.now b
+        ensures { (a b : GuardianState) → G.stands self.now.first.now a
+            → G.stands self.now.second.now b
             → result ≡ crashes guardian (events_here (lent_two a b guardian)) }
     {
         match self.at(guardian) {
@@ -78,7 +80,8 @@ impl<'a, R: Forest, G: Guardian> Lent<'a, R, G> {
     }
 
     fn life_of(&self, sender: Option<u32>) -> u64
-        ensures { (a b : GuardianState) → G.stands self.now.first.now a → G.stands self.now.second.now b → result ≡ sender_life sender (lent_two a b) }
+        ensures { (a b : GuardianState) → G.stands self.now.first.now a
+            → G.stands self.now.second.now b → result ≡ sender_life sender (lent_two a b) }
     {
         match sender {
             Some(guardian) => self.crashes_at(guardian),
@@ -88,10 +91,13 @@ impl<'a, R: Forest, G: Guardian> Lent<'a, R, G> {
 
     /// What the sender has not sent yet of its lists.
     fn lists(&self, sender: Option<u32>, at: &G) -> Result<(Names, Vec<(u32, u64)>), AllocError>
-        ensures aborts { (f : ForestState) (a b x : GuardianState) → Lends R.stands G.stands self.now f a b → G.stands at.now x → IsOneOf a b x
+        ensures aborts { (f : ForestState) (a b x : GuardianState)
+            → Lends R.stands G.stands self.now f a b → G.stands at.now x → IsOneOf a b x
             → IfOk result (λ lists. lists.0 ≡ aborts_from sender x.number (lent_two a b)) }
-        ensures counts { (f : ForestState) (a b x : GuardianState) → Lends R.stands G.stands self.now f a b → G.stands at.now x → IsOneOf a b x
-            → IfOk result (λ lists. lists.1.items ≡ counts_of_sender sender x.number (lent_two a b)) }
+        ensures counts { (f : ForestState) (a b x : GuardianState)
+            → Lends R.stands G.stands self.now f a b
+            → G.stands at.now x → IsOneOf a b x → IfOk result
+            (λ lists. lists.1.items ≡ counts_of_sender sender x.number (lent_two a b)) }
     {
         let Some(number) = sender else {
             return Ok((Names::new(self.alloc), Vec::new(self.alloc)));
@@ -133,10 +139,11 @@ impl<'a, R: Forest, G: Guardian> Lent<'a, R, G> {
     }
 
     fn dependencies_of(&self, action: &Name) -> Result<Vec<(Name, Deps)>, AllocError>
-        ensures { (f : ForestState) → R.stands self.now.forest.now f → IfOk result (λ sent. sent_of sent.items ≡ (
-          action.now,
-          entries_of f.opening (λ h. dependency_there action.now h f.registry),
-        ) ∷ []) }
+        ensures { (f : ForestState) → R.stands self.now.forest.now f
+            → IfOk result (λ sent. sent_of sent.items ≡ (
+              action.now,
+              entries_of f.opening (λ h. dependency_there action.now h f.registry),
+            ) ∷ []) }
     {
         let mut sent = Vec::new(self.alloc);
         sent.push((action.copy()?, self.forest.dependencies(action)?))?;
@@ -167,7 +174,8 @@ impl<'a, R: Forest, G: Guardian> Lent<'a, R, G> {
         home: u32,
         life: u64,
     ) -> Result<Vec<(Name, Deps)>, AllocError>
-        ensures { (f : ForestState) → R.stands self.now.forest.now f → IfOk result (λ sent. sent_of sent.items ≡ new_from f home life names.now) }
+        ensures { (f : ForestState) → R.stands self.now.forest.now f
+            → IfOk result (λ sent. sent_of sent.items ≡ new_from f home life names.now) }
     {
         let mut sent = Vec::new(self.alloc);
         for name in names {
@@ -181,8 +189,10 @@ impl<'a, R: Forest, G: Guardian> Lent<'a, R, G> {
 
     /// What outcomes the step brings.
     fn outcomes(&self, step: &Step, at: &G) -> Result<Vec<(Name, bool)>, AllocError>
-        ensures { (f : ForestState) (a b x : GuardianState) → Lends R.stands G.stands self.now f a b → G.stands at.now x → IsOneOf a b x
-            → IfOk result (λ outcomes. outcomes.items ≡ outcomes_carried step.now x.number (events_there f.registry) (lent_two a b x.number)) }
+        ensures { (f : ForestState) (a b x : GuardianState) → Lends R.stands G.stands self.now f a b
+            → G.stands at.now x → IsOneOf a b x
+            → IfOk result (λ outcomes. outcomes.items ≡ outcomes_carried step.now x.number
+            (events_there f.registry) (lent_two a b x.number)) }
     {
         match step {
             Step::Tell(to, action) => {

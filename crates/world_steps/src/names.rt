@@ -98,7 +98,8 @@ pub fn takes_registry(step: &Step) -> bool
 /// The home of what a step begins that names these, and 0 where it begins nothing.
 pub(crate) fn home_of_new(named: NamedGuardians, step: &Step) -> u32
     ensures { (f : ForestState) → named.first ≡ first_named step.now (events_there f.registry)
-        → named.second ≡ second_named step.now (events_there f.registry) → result ≡ home_lent step.now f.registry }
+        → named.second ≡ second_named step.now (events_there f.registry)
+        → result ≡ home_lent step.now f.registry }
 {
     match step {
         Step::Top(_) | Step::NestedTop(_) | Step::Arms(_, _) => named.first,

@@ -17,9 +17,10 @@ use packed_history::PackedHistory;
 use run_model::{Answer, Step};
 use std::alloc::{AllocError, Global};
 
-/// Makes one step of a world and gives its answer. An accepted step is in the history from then on, and with the forest and the guardians
-/// that it names; one that is refused or waits changes nothing. After an error nothing has changed. At most one store is called: `Stable` comes of it,
-/// and then it has counted one failure more. All this is said of each opening in which these make a world.
+/// Makes one step of a world and gives its answer. An accepted step is in the history from then on, and with the
+/// forest and the guardians that it names; one that is refused or waits changes nothing. After an error nothing has
+/// changed. At most one store is called: `Stable` comes of it, and then it has counted one failure more. All this is
+/// said of each opening in which these make a world.
 pub fn step<R: Forest, G: Guardian>(
     alloc: Global,
     forest: &mut R,
@@ -30,10 +31,13 @@ pub fn step<R: Forest, G: Guardian>(
     ghost opening: { Opening }
     requires { IsWorld G.stands G.stored (R.stands forest.old) opening history.old guardians.old }
     ensures answer { IfOk result (λ answer. answer ≡ answer_of opening step.now history.old) }
-    ensures after { IfOk result (λ answer. history.new ≡ history_after step.now answer history.old) }
+    ensures after { IfOk result
+        (λ answer. history.new ≡ history_after step.now answer history.old) }
     ensures err { OnErr result (history.new ≡ history.old) }
-    ensures world { IsWorld G.stands G.stored (R.stands forest.new) opening history.new guardians.new }
-    ensures stores { StoresLeft G.stored opening history.old step.now guardians.old guardians.new (fault_in result) }
+    ensures world { IsWorld G.stands G.stored (R.stands forest.new) opening
+        history.new guardians.new }
+    ensures stores { StoresLeft G.stored opening history.old step.now guardians.old
+        guardians.new (fault_in result) }
     ensures cause { IsErrOf result Stable → HasFailed G.stored guardians.old guardians.new }
 {
     let named = named(forest, step);
@@ -52,7 +56,8 @@ pub fn step<R: Forest, G: Guardian>(
 
 /// The guardians that a step names, the lower number first.
 fn in_order(named: NamedGuardians) -> (u32, u32)
-    ensures same { (g : ℕ) → ((named.first == g) || (named.second == g)) ≡ ((result.0 == g) || (result.1 == g)) }
+    ensures same { (g : ℕ)
+        → ((named.first == g) || (named.second == g)) ≡ ((result.0 == g) || (result.1 == g)) }
     ensures ordered { result.0 ≤ result.1 }
 {
     let NamedGuardians { first, second } = named;
@@ -66,7 +71,8 @@ fn in_order(named: NamedGuardians) -> (u32, u32)
 /// The guardian of this number.
 fn at<G>(guardians: &[G], number: u32) -> Option<&G>
     ensures { MatchOption result (IsOut (length guardians.now) number)
-        (λ x. (1 ≤ number) × (number ≤ length guardians.now) × (slice_get guardians.now (number - 1) ≡ Some x.now)) }
+        (λ x. (1 ≤ number) × (number ≤ length guardians.now)
+        × (slice_get guardians.now (number - 1) ≡ Some x.now)) }
 {
     if number == 0 {
         return None;
@@ -85,7 +91,8 @@ fn answer_at<R: Forest, G: Guardian>(
     step: &Step,
 ) -> Result<Answer, AllocError>
     ghost opening: { Opening }
-    requires world { IsWorld G.stands G.stored (R.stands forest.now) opening _history.now guardians.now }
+    requires world { IsWorld G.stands G.stored (R.stands forest.now) opening
+        _history.now guardians.now }
     requires names { Names (forest_of opening _history.now) step.now low high }
     ensures { IfOk result (λ answer. answer ≡ answer_of opening step.now _history.now) }
 {
@@ -113,15 +120,18 @@ fn keep<R: Forest, G: Guardian>(
     event: &EventRef<'_>,
 ) -> Result<(), Fault>
     ghost opening: { Opening }
-    requires world { IsWorld G.stands G.stored (R.stands forest.old) opening history.old guardians.old }
+    requires world { IsWorld G.stands G.stored (R.stands forest.old) opening
+        history.old guardians.old }
     requires named { AreNamed (R.stands forest.old) event.now.step named }
     requires names { Names (forest_of opening history.old) event.now.step low high }
     requires ordered { low ≤ high }
     requires more { IsRun opening (event.now ∷ history.old) }
     ensures ok { OnOk result (history.new ≡ event.now ∷ history.old) }
     ensures err { OnErr result (history.new ≡ history.old) }
-    ensures world { IsWorld G.stands G.stored (R.stands forest.new) opening history.new guardians.new }
-    ensures stores { StoresLeft G.stored opening history.old event.now.step guardians.old guardians.new (fault_in result) }
+    ensures world { IsWorld G.stands G.stored (R.stands forest.new) opening
+        history.new guardians.new }
+    ensures stores { StoresLeft G.stored opening history.old event.now.step guardians.old
+        guardians.new (fault_in result) }
     ensures cause { IsErrOf result Stable → HasFailed G.stored guardians.old guardians.new }
 {
     let number = history.next_stamp();
@@ -178,12 +188,18 @@ fn keep_at<R: Forest, G: Guardian>(
     requires first { 1 ≤ low }
     requires ordered { low ≤ high }
     requires last { high ≤ length guardians.old }
-    requires ready { (f : ForestState) × (states : ℕ → GuardianState) × IsReady G.stands (R.stands forest.old) f states low high event.now guardians.old }
-    ensures ok { OnOk result ((f : ForestState) (states : ℕ → GuardianState) → IsReady G.stands (R.stands forest.old) f states low high event.now guardians.old
-        → IsKeptAt G.stands (R.stands forest.new) f states low high number event.now guardians.old guardians.new) }
-    ensures err { OnErr result (AreSame G.stands (R.stands forest.old) (R.stands forest.new) guardians.old guardians.new) }
-    ensures stores { (f : ForestState) (states : ℕ → GuardianState) → IsReady G.stands (R.stands forest.old) f states low high event.now guardians.old
-        → IsLeftAt G.stored f states low high event.now guardians.old guardians.new (fault_in result) }
+    requires ready { (f : ForestState) × (states : ℕ → GuardianState)
+        × IsReady G.stands (R.stands forest.old) f states low high event.now guardians.old }
+    ensures ok { OnOk result ((f : ForestState) (states : ℕ → GuardianState)
+        → IsReady G.stands (R.stands forest.old) f states low high event.now guardians.old
+        → IsKeptAt G.stands (R.stands forest.new) f states low high number event.now
+        guardians.old guardians.new) }
+    ensures err { OnErr result
+        (AreSame G.stands (R.stands forest.old) (R.stands forest.new) guardians.old guardians.new) }
+    ensures stores { (f : ForestState) (states : ℕ → GuardianState)
+        → IsReady G.stands (R.stands forest.old) f states low high event.now guardians.old
+        → IsLeftAt G.stored f states low high event.now guardians.old
+        guardians.new (fault_in result) }
     ensures cause { IsErrOf result Stable → HasFailed G.stored guardians.old guardians.new }
 {
     let mut numbered = Numbered(number);
