@@ -1,13 +1,15 @@
 """The sections of soak for mistakes in the command line, and for readers and writers that fail at each byte."""
+import os
 import pathlib
 import shutil
+import signal
 import subprocess
 import tempfile
 
 from examples import (
     EXAMPLES, answers_of, explained, said_of, script_folders, status_of, status_of_trace, step_folders, trace_folders,
 )  # fmt: skip
-from soaking import SECONDS, Came, compared, run
+from soaking import Came, compared, run, seconds
 
 FULL = Came(2, b"", b"fault output\n")
 NO_INPUT = Came(2, b"", b"fault input\n")
@@ -21,7 +23,7 @@ def written(program, words, most, to=None):
             words = ["prlimit", f"--fsize={most}:{most}", program, *words, *([to, out] if to else [])]
             # A write beyond the limit fails, as Python leaves its signal ignored.
             how = {"stdout": subprocess.PIPE if to else output, "stderr": subprocess.PIPE, "restore_signals": False}
-            done = subprocess.run(words, timeout=SECONDS, **how)
+            done = subprocess.run(words, timeout=seconds(), **how)
         return Came(done.returncode, done.stdout or b"", done.stderr), out.read_bytes()
 
 
@@ -72,15 +74,20 @@ def byte_by_byte(program, folder):
     with subprocess.Popen(words, stdin=pipe, stdout=pipe, stderr=pipe, bufsize=0) as running:
         for byte in (folder / "steps").read_bytes():
             running.stdin.write(bytes([byte]))
-        came = running.communicate(timeout=SECONDS)
+        came = running.communicate(timeout=seconds())
     return compared(Came(running.returncode, *came), Came(status_of(folder), answers_of(folder), b""))
 
 
 def closed_pipe(program, *words):
     """A reader of standard output that has gone."""
     shell = ["sh", "-c", 'exec 3>&1; { sleep 0.3; "$@" 2>&3; echo "$?" >&3; } | true', "sh", program, *words]
-    done = subprocess.run(shell, capture_output=True, timeout=SECONDS)
-    return compared(done.stdout, b"fault output\n2\n")
+    with subprocess.Popen(shell, stdout=subprocess.PIPE, start_new_session=True) as running:
+        try:
+            written, _ = running.communicate(timeout=seconds())
+        except subprocess.TimeoutExpired:
+            os.killpg(running.pid, signal.SIGKILL)  # the program too, which the shell began
+            raise
+    return compared(written, b"fault output\n2\n")
 
 
 def ends_so(program, wanted, *words):

@@ -1,4 +1,6 @@
-"""The section of soak that changes examples at random. Each change that brings a new kind of outcome is changed again.
+"""fuzzing.py PROGRAM INPUT: judges an input that the section fuzz of soak has saved, once more.
+
+The section changes examples at random. Each change that brings a new kind of outcome is changed again.
 
 What is wrong shows without another program: a signal, an exit status or a line that the output cannot have, two runs
 that differ, answers of a beginning of the steps that do not begin those of all, a script that `check` and `run` see in
@@ -9,6 +11,7 @@ import json
 import pathlib
 import random
 import re
+import sys
 import tempfile
 import threading
 import zlib
@@ -321,3 +324,19 @@ def fuzz(given):
             fuzzer.keep(mutants)
     finally:
         fuzzer.report()
+
+
+def again(program, file):
+    """What is wrong with an input that was saved, or nothing."""
+    kind, beside = file.suffix.removeprefix("."), file.with_suffix(".beside")
+    beside = beside.read_bytes() if beside.exists() else None
+    beside = pathlib.Path(beside.decode()) if kind == "store" else beside
+    return Judge(program, Mutant(0, kind, file.read_bytes(), beside)).found()
+
+
+if __name__ == "__main__":
+    if len(sys.argv) != 3:
+        sys.exit(__doc__)
+    found = again(sys.argv[1], pathlib.Path(sys.argv[2]))
+    print(found.fault or f"nothing is wrong: {found.came}")
+    sys.exit(found.fault is not None)

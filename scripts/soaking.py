@@ -6,10 +6,19 @@ from typing import NamedTuple
 
 sys.dont_write_bytecode = True
 
-SECONDS = 20  # of one run
 AT_ONCE = 4
 BATCH = 8 * AT_ONCE  # trials that are begun before the time is looked at
 NEW_ACTION = b"top 1\n"
+
+
+class Limit:
+    """How long one run may take."""
+
+    seconds = 20
+
+
+def seconds():
+    return Limit.seconds
 
 
 class Given(NamedTuple):
@@ -31,7 +40,7 @@ class Came(NamedTuple):
 
 
 def run(program, *words, given=b"", **how):
-    done = subprocess.run([program, *words], input=given, capture_output=True, timeout=SECONDS, **how)
+    done = subprocess.run([program, *words], input=given, capture_output=True, timeout=seconds(), **how)
     return Came(done.returncode, done.stdout, done.stderr)
 
 
@@ -46,7 +55,7 @@ def tried(trial):
     try:
         return call(*words)
     except subprocess.TimeoutExpired:
-        return f"it ran for {SECONDS} seconds"
+        return f"it ran for {seconds()} seconds"
     except Exception as error:  # what came could not be read
         return f"{type(error).__name__}: {error}"
 

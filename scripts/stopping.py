@@ -1,8 +1,9 @@
-"""Runs a program and stops it at one of its calls that change a file. It is a module of stop-argus: with stopper() as it,
-it.run(words, folder, number, way).
+"""Runs a program and stops it at one of its calls that change a file, or lets that call fail. It is a module of stop-argus
+and of soak: with stopper() as it, it.run(words, folder, number, way).
 
 A built program asks the C library to change its files. A small library, made by the C compiler 'cc', stands before that
-one. It counts the calls that change a file of one folder, and ends the process at the call of a number."""
+one. It counts the calls that change a file of one folder. At the call of a number it ends the process, or says that the
+call failed."""
 import contextlib
 import os
 import pathlib
@@ -16,10 +17,13 @@ SECONDS = 60  # of one run
 # What a stop leaves of the call at which it comes, and of those since the last sync of their file: nothing of the call;
 # its first half; nothing of any of them.
 WAYS = ("before", "half", "unsynced")
+# In place of a stop the call may fail so, once.
+ERRORS = ("EIO", "ENOSPC")
 
 LIBRARY = r"""
 #define _GNU_SOURCE
 #include <dlfcn.h>
+#include <errno.h>
 #include <stdio.h>
 #include <stdlib.h>
 #include <string.h>
@@ -105,24 +109,32 @@ static void undo(void) {
     }
 }
 
-/* Counts a call on a file of the folder, and ends the process where it is the one. */
+/* Counts a call on a file of the folder. Where it is the one, it ends the process, or gives -1 if the call is to fail. */
 static int counts(const char *call, int file, off_t place, const void *bytes, size_t size) {
     const char *name = name_of(file);
     if (!name) return 0;
     dprintf(told, "%s %s %lld %zu\n", call, name, (long long)place, size);
     if (left == 0 || --left != 0) return 1;
+    if (!strcmp(way, "EIO") || !strcmp(way, "ENOSPC")) {
+        errno = !strcmp(way, "EIO") ? EIO : ENOSPC;
+        return -1;
+    }
     if (!strcmp(way, "half") && bytes && real_write(file, bytes, size / 2, place) < 0) abort();
     if (!strcmp(way, "unsynced")) undo();
     _exit(STOPPED);
 }
 
 ssize_t pwrite(int file, const void *bytes, size_t size, off_t place) {
-    if (counts("write", file, place, bytes, size)) keep(file, place, size);
+    int counted = counts("write", file, place, bytes, size);
+    if (counted < 0) return -1;
+    if (counted) keep(file, place, size);
     return real_write(file, bytes, size, place);
 }
 
 int ftruncate(int file, off_t length) {
-    if (counts("cut", file, length, NULL, 0)) {
+    int counted = counts("cut", file, length, NULL, 0);
+    if (counted < 0) return -1;
+    if (counted) {
         struct stat found;
         if (fstat(file, &found)) abort();
         keep(file, length, found.st_size > length ? found.st_size - length : 0);
@@ -131,8 +143,10 @@ int ftruncate(int file, off_t length) {
 }
 
 int fsync(int file) {
-    int is_counted = counts("sync", file, 0, NULL, 0), failed = real_sync(file);
-    if (is_counted && !failed) settle(file);
+    int counted = counts("sync", file, 0, NULL, 0);
+    if (counted < 0) return -1;
+    int failed = real_sync(file);
+    if (counted && !failed) settle(file);
     return failed;
 }
 
@@ -157,7 +171,7 @@ class Stopper:
     def __init__(self, library):
         self.library = library
 
-    def run(self, words, folder, number=0, way=WAYS[0]):
+    def run(self, words, folder, number=0, way=WAYS[0], given=""):
         """Runs the words, and stops at the call of this number that changes a file of the folder; at none where it is 0."""
         with tempfile.TemporaryFile() as calls:
             file = calls.fileno()
@@ -168,7 +182,8 @@ class Stopper:
                 "STOPPED_WAY": way,
                 "STOPPED_CALLS": str(file),
             }
-            done = subprocess.run(words, capture_output=True, text=True, env=os.environ | env, timeout=SECONDS, pass_fds=[file])
+            how = {"capture_output": True, "text": True, "timeout": SECONDS, "pass_fds": [file]}
+            done = subprocess.run(words, input=given, env=os.environ | env, **how)
             calls.seek(0)
             return Run(done.returncode, done.stdout, done.stderr, calls.read().decode().splitlines())
 

@@ -9,6 +9,7 @@ import sqlite3
 import tempfile
 
 import refusing
+import soaking
 import spellings
 from contents import contents_of
 from examples import script_folders
@@ -23,7 +24,7 @@ RUNS = 50
 
 # Two clients of this example read the rooms before they write them. If both have read, each waits for the other.
 WAITING = {"reservations"}
-PATIENCE = 4  # seconds that the clients have
+PATIENCE = 5  # the clients have a fifth of the seconds that one run may take
 TIME = Came(2, b"", b"fault time\n")
 
 
@@ -71,7 +72,7 @@ def serial_outputs(program, folder):
 def in_threads(program, folder):
     outputs, ended = serial_outputs(program, folder), 0
     for _ in range(RUNS):
-        came = run(program, "run", "--seconds", str(PATIENCE), folder / "script.json")
+        came = run(program, "run", "--seconds", str(max(1, soaking.seconds() // PATIENCE)), folder / "script.json")
         if came == TIME and folder.name in WAITING:
             continue
         if came.status or came.fault or came.written not in outputs:
