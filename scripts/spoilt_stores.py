@@ -10,8 +10,9 @@ import sqlite3
 import subprocess
 import tempfile
 
-from examples import answers_of, next_top, status_of, two_phases
+from examples import answers_of, status_of, two_phases
 from soaking import NEW_ACTION, Came, run
+from stopped_systems import Found, promised_after
 
 REFUSED = Came(1, b"error store\n", b"")
 FAILED = Came(2, b"", b"fault store\n")
@@ -55,11 +56,24 @@ def on_small_disk(program, folder, disk):
     if not is_full and came != Came(status_of(folder), wanted, b""):
         return f"{came}; wanted the answers, or a beginning of them and 'fault store'"
     subprocess.run(["mount", "-o", "remount,size=16m", disk], check=True)
-    again, made = open_again(program, folder, disk), came.written.count(b"\n")
-    steps, answers = (folder / "steps").read_text().splitlines(), wanted.decode().splitlines()
-    tops = {next_top(steps[:count], answers[:count]) for count in (made, made + 1)}
-    allowed = [Came(0, b"began %d\n" % top, b"") for top in tops] + ([] if made else [REFUSED])
-    return None if again in allowed else f"opened: {again}; wanted one of {[str(it) for it in allowed]}"
+    made = came.written.count(b"\n")
+    setup, steps, answers = ((folder / name).read_text() for name in ("setup.json", "steps", "answers"))
+    parts = [(steps.splitlines()[:count], answers.splitlines()[:count]) for count in (made, made + 1)]
+    allowed = [promised_after(json.loads(setup), *part) for part in parts] + ([] if made else [REFUSED])
+    held = found(program, folder, pathlib.Path(disk))
+    return None if held in allowed else f"opened after {made} steps: {held}; wanted one of {allowed}"
+
+
+def found(program, folder, stores):
+    """What a system is opened with from the stores; or what the program says, if it is not opened."""
+    again = open_again(program, folder, stores)
+    if again.status or again.fault or not again.written.startswith(b"began "):
+        return again
+    shown = run_again(program, folder, stores)
+    if shown.status or shown.fault:
+        return shown
+    held = dict(line.split(" ", 1) for line in shown.written.decode().splitlines()[1:])
+    return Found(int(again.written.split()[1]), {name: json.loads(text) for name, text in held.items()})
 
 
 def disk(given):
@@ -195,6 +209,7 @@ SPOILT = [
     ("with a count below 0", changed_by("UPDATE meta SET v = -1 WHERE k = 'count'")),
     ("with a count that is no number", changed_by("UPDATE meta SET v = x'00' WHERE k = 'count'")),
     ("with a base that is no JSON", changed_by("INSERT INTO base VALUES (1000, '{')")),
+    ("with a base that is no UTF-8", changed_by("INSERT INTO base VALUES (1000, CAST(x'7b22ff227d' AS TEXT))")),
     ("with a base of object 0", changed_by("INSERT INTO base VALUES (0, '{\"counter\":1}')")),
     ("with a part of no record", changed_by("INSERT INTO prepared_delta VALUES (77, 1, 5)")),
     ("that is no database", replaced_by(b"Not a database, but a letter of some length.\n" * 200)),
