@@ -9,7 +9,7 @@ import tempfile
 from examples import (
     EXAMPLES, answers_of, explained, said_of, script_folders, status_of, status_of_trace, step_folders, trace_folders,
 )  # fmt: skip
-from soaking import Came, compared, run, seconds
+from soaking import Came, Skipped, compared, run, seconds
 
 FULL = Came(2, b"", b"fault output\n")
 NO_INPUT = Came(2, b"", b"fault input\n")
@@ -109,8 +109,7 @@ def readers(program):
 
 def devices(given):
     if not shutil.which("prlimit"):
-        print("devices: skipped, since there is no prlimit")
-        return
+        raise Skipped("since there is no prlimit")
     yield from readers(given.program)
     for folder in step_folders():
         yield f"{folder.name}: byte by byte", byte_by_byte, given.program, folder

@@ -152,6 +152,9 @@ class Refusals:
         self.cases = {case.name: case for case in self.argus.cases()}
         self.known = {}
 
+    def can_refuse(self):
+        return Refuser(self.library, self.kind).run(Case("help", [self.argus.program, "--help"]), 1).met
+
     def counted(self, name):
         if name not in self.known:
             case, refuser = self.cases[name], Refuser(self.library, self.kind)
@@ -181,6 +184,8 @@ def memory(given):
     chosen = random.Random(given.seed)
     with refusing.library() as library:
         state = Refusals(given.program, library, refusing)
+        if not state.can_refuse():
+            raise soaking.Skipped("since the program does not ask the C library for its memory")
         for number in itertools.count(1):
             name, share = chosen.choice(list(state.cases)), chosen.random()
             yield f"{number}: {name}, an allocation is refused", state.refused, name, share

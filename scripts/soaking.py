@@ -21,6 +21,10 @@ def seconds():
     return Limit.seconds
 
 
+class Skipped(Exception):
+    """Why a section cannot be tried here."""
+
+
 class Given(NamedTuple):
     """What a section is given. It yields trials: a name, a call, and the call's words. The call says what is wrong."""
 

@@ -11,7 +11,7 @@ import subprocess
 import tempfile
 
 from examples import answers_of, status_of, two_phases
-from soaking import NEW_ACTION, Came, run
+from soaking import NEW_ACTION, Came, Skipped, run
 from stopped_systems import Found, promised_after
 
 REFUSED = Came(1, b"error store\n", b"")
@@ -82,8 +82,7 @@ def disk(given):
         if can_mount:
             subprocess.run(["umount", folder], check=True)
     if not can_mount:
-        print("disk: skipped, since no disk can be mounted")
-        return
+        raise Skipped("since no disk can be mounted")
     for folder in two_phases():
         for size in range(8, 648, 40):
             yield f"{folder.name}: a disk of {size} KiB", small_disk, given.program, folder, size
