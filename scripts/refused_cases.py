@@ -18,7 +18,6 @@ import soaking
 STORES = "STORES"  # in the words of a case: a new folder
 NOWHERE = "/dev/null"
 MOST = 1  # bytes that a call moves
-MOST_OF_STORES = 100  # the same, over stores
 OK = b"ok\n"
 
 
@@ -173,10 +172,10 @@ class Refusals:
         is_right = self.argus.tells(case, run, whole, self.kind) or self.argus.is_same(run, whole)
         return None if is_right else f"number {number} of {count}: {run}"
 
-    def in_parts(self, name, most):
-        """What is wrong where calls move so many bytes at most, or nothing."""
+    def in_parts(self, name):
+        """What is wrong where calls move a byte at most, or nothing."""
         case = self.cases[name]
-        run = Refuser(self.library, self.kind).run_in(case, self.kind.in_parts(self.library, most))
+        run = Refuser(self.library, self.kind).run_in(case, self.kind.in_parts(self.library, MOST))
         return None if self.argus.is_ample(case, run) else f"{run}; wanted status {case.status}, {case.printed}"
 
 
@@ -192,17 +191,17 @@ def memory(given):
 
 
 def calls(given):
-    """In each fourth trial all calls move a few bytes, until this was so of each case, and so on."""
+    """In each fourth trial all calls move a byte at most, until this was so of each case without stores, and so on."""
     chosen = random.Random(given.seed)
     with failing_calls.library() as library:
         state = Refusals(given.program, library, failing_calls)
         names = list(state.cases)
-        others = itertools.cycle(chosen.sample(names, len(names)))
+        without = [name for name, case in state.cases.items() if STORES not in case.words]
+        others = itertools.cycle(chosen.sample(without, len(without)))
         for number in itertools.count(1):
             if number % 4 == 0:
                 name = next(others)
-                most = MOST_OF_STORES if STORES in state.cases[name].words else MOST
-                yield f"{number}: {name}, a call moves {most} bytes at most", state.in_parts, name, most
+                yield f"{number}: {name}, a call moves a byte at most", state.in_parts, name
             else:
                 name, share = chosen.choice(names), chosen.random()
                 yield f"{number}: {name}, a call fails", state.refused, name, share
