@@ -320,7 +320,7 @@ def fuzz(given):
         while True:
             mutants = [fuzzer.mutant() for _ in range(BATCH)]
             for mutant in mutants:
-                yield f"fuzz: mutant {mutant.number}, {mutant.kind}", fuzzer.judge, mutant
+                yield f"mutant {mutant.number}, {mutant.kind}", fuzzer.judge, mutant
             fuzzer.keep(mutants)
     finally:
         fuzzer.report()
