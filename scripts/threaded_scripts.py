@@ -20,7 +20,7 @@ from soaking import Came, compared, run, with_file
 # ---- scripts in threads
 
 ORDERS = 200
-RUNS = 50
+RUNS = 10
 
 # Two clients of this example read the rooms before they write them. If both have read, each waits for the other.
 WAITING = {"reservations"}
