@@ -172,7 +172,7 @@ def with_rows(rng, content, other):
         try:
             with contextlib.closing(sqlite3.connect(file, timeout=0.1)) as store, store:
                 store.execute(*made)
-        except (sqlite3.Error, OverflowError, UnicodeDecodeError):  # sqlite3 cannot decode an error that names a spoilt table
+        except (sqlite3.Error, OverflowError, UnicodeDecodeError):  # the last where an error names a spoilt table
             return content
         return file.read_bytes()
 

@@ -15,11 +15,12 @@ from typing import NamedTuple
 sys.dont_write_bytecode = True
 import stopping
 from contents import contents_of
-from examples import next_top, two_phases
+from examples import next_top, script_folders, two_phases
 from histories import Event, is_accepted
 
 NOT_OPENED = (1, "error store\n")
 MIGRATION = "migration"
+STORES = "STORES"  # in the words of a run: a new folder
 
 
 class Found(NamedTuple):
@@ -213,17 +214,82 @@ def stopped_opening(example, chosen, way):
     return fault and f"opened behind step {step}, call {number}, {whole.calls[number - 1]}: {fault}"
 
 
+# ---- scripts over stores
+
+
+class Saving(NamedTuple):
+    """A script over stores: the words that run it and those that show what it left, and what its objects hold."""
+
+    words: list
+    idle: list
+    calls: list  # that change a file
+    printed: str
+    first: dict  # by guardian, of each object by its number in text
+    last: dict
+
+
+def by_guardian(held):
+    """The contents, by the guardian's number in text."""
+    parts = {}
+    for name, content in held.items():
+        parts.setdefault(name.partition("/")[0], {})[name] = content
+    return parts
+
+
+def bases_in(printed):
+    lines = (line.split(" ", 1) for line in printed.splitlines() if not line.startswith("client "))
+    return by_guardian({name: json.loads(content) for name, content in lines})
+
+
+@functools.cache
+def saving_of(stopper, program, folder):
+    script = json.loads((folder / "script.json").read_text())
+    room = pathlib.Path(tempfile.mkdtemp(dir=stopper.library.parent))
+    idle, stores, options = room / "idle.json", room / "stores", ["run", "--serial", "--store"]
+    stores.mkdir()
+    idle.write_text(json.dumps({**script, "clients": [{"home": 1, "body": []}]}))
+    setup = {"guardians": [{"objects": guardian["objects"]} for guardian in script["guardians"]]}
+    words = [program, *options, STORES, folder / "script.json"]
+    whole = stopper.run([stores if word == STORES else word for word in words], stores)
+    if (whole.status, whole.printed) != (0, (folder / "ran").read_text()):
+        raise ValueError(whole)
+    first, last = by_guardian(contents_of(setup, [])), bases_in(whole.printed)
+    return Saving(words, [program, *options, STORES, idle], whole.calls, whole.printed, first, last)
+
+
+def stopped_saving(stopper, saving, chosen, way):
+    """What is wrong where a run of a script is stopped at a call by chance, or nothing. Files are saved in their order."""
+    number = chosen.randrange(len(saving.calls)) + 1
+    with tempfile.TemporaryDirectory(dir=stopper.library.parent) as stores:
+        in_stores = lambda words: [stores if word == STORES else word for word in words]
+        run = stopper.run(in_stores(saving.words), stores, number, way)
+        shown = stopper.run(in_stores(saving.idle), stores)
+    fault = wrong_end(run, way, "" if run.status else saving.printed)
+    if not fault and (shown.status or shown.said):
+        fault = f"{shown}; wanted status 0"
+    homes = list(saving.first)
+    changes = [{home: saving.last[home] for home in homes[:count]} for count in range(len(homes) + 1)]
+    allowed = [saving.first | change for change in changes]
+    if not fault and bases_in(shown.printed) not in allowed:
+        fault = f"{bases_in(shown.printed)}; wanted one of {allowed}"
+    return fault and f"call {number}, {saving.calls[number - 1]}: {fault}"
+
+
 def stopped(stopper, program, folder, way, seed):
     chosen = random.Random(seed)
     if folder is None:
         return stopped_opening(migration_of(stopper, program), chosen, way)
+    if (folder / "script.json").exists():
+        return stopped_saving(stopper, saving_of(stopper, program, folder), chosen, way)
     return chosen.choice([stopped_steps, stopped_opening])(example_of(stopper, program, folder), chosen, way)
 
 
 def stops(given):
     chosen = random.Random(given.seed)
+    scripts = [folder for folder in script_folders() if (folder / "ran").exists()]
+    folders = [*two_phases(), *scripts, None]
     with stopping.stopper() as stopper:
         for number in itertools.count(1):
-            folder, way = chosen.choice([*two_phases(), None]), chosen.choice([*stopping.WAYS, *stopping.ERRORS])
+            folder, way = chosen.choice(folders), chosen.choice([*stopping.WAYS, *stopping.ERRORS])
             name = folder.name if folder else MIGRATION
             yield f"{number}: {name}, {way}", stopped, stopper, given.program, folder, way, chosen.random()
