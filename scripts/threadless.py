@@ -1,0 +1,69 @@
+"""The section of soak in which some threads cannot be made. With library() as it, a program that runs with without(it,
+number) in its environment makes no thread from that number on.
+
+A built program asks the C library for its threads. A small library, made by the C compiler 'cc', stands before that one."""
+import contextlib
+import itertools
+import pathlib
+import random
+import subprocess
+import tempfile
+
+from examples import script_folders
+from soaking import run
+from threaded_scripts import TIME, WAITING, serial_outputs
+
+SECONDS = 5  # that clients have, if they are watched
+MOST = 12  # threads that can be made
+
+LIBRARY = r"""
+#define _GNU_SOURCE
+#include <dlfcn.h>
+#include <errno.h>
+#include <pthread.h>
+#include <stdlib.h>
+
+int pthread_create(pthread_t *made, const pthread_attr_t *how, void *(*call)(void *), void *given) {
+    static long count;
+    int (*real)(pthread_t *, const pthread_attr_t *, void *(*)(void *), void *) = dlsym(RTLD_NEXT, "pthread_create");
+    const char *first = getenv("REFUSED_THREAD");
+    if (first && __atomic_add_fetch(&count, 1, __ATOMIC_RELAXED) >= atol(first)) return EAGAIN;
+    return real(made, how, call, given);
+}
+"""
+
+
+@contextlib.contextmanager
+def library():
+    """The file of the library."""
+    with tempfile.TemporaryDirectory() as folder:
+        source = pathlib.Path(folder, "threadless.c")
+        source.write_text(LIBRARY)
+        made = source.with_suffix(".so")
+        subprocess.run(["cc", "-O1", "-shared", "-fPIC", "-o", made, source, "-ldl"], check=True)
+        yield made
+
+
+def without(library, number):
+    return {"LD_PRELOAD": str(library), "REFUSED_THREAD": str(number)}
+
+
+def few_threads(program, library, folder, number, options):
+    """What is wrong in a run of an example that makes no thread from this number on, or nothing."""
+    outputs = serial_outputs(program, folder)
+    came = run(program, "run", *options, folder / "script.json", env=without(library, number))
+    if came == TIME and options and folder.name in WAITING:
+        return None
+    is_right = not came.status and not came.fault and came.written in outputs
+    return None if is_right else f"{came}; wanted one of {len(outputs)} outputs, such as {min(outputs)[-200:]!r}"
+
+
+def threadless(given):
+    chosen = random.Random(given.seed)
+    folders = [folder for folder in script_folders() if (folder / "ran").exists()]
+    with library() as made:
+        for trial in itertools.count(1):
+            folder, number = chosen.choice(folders), chosen.randint(1, MOST)
+            options = ["--seconds", str(SECONDS)] if folder.name in WAITING or chosen.random() < 0.5 else []
+            of = f"{trial}: {folder.name} {' '.join(options)}".rstrip()
+            yield f"{of}, no thread from number {number} on", few_threads, given.program, made, folder, number, options
