@@ -8,11 +8,15 @@ import contextlib
 import os
 import pathlib
 import subprocess
+import sys
 import tempfile
 from typing import NamedTuple
 
+sys.dont_write_bytecode = True
+import soaking
+
 STOPPED = 86  # the status of a process that was stopped
-SECONDS = 60  # of one run
+SECONDS = 60  # of one run, if soak does not give it more
 
 # What a stop leaves of the call at which it comes, and of those since the last sync of their file: nothing of the call;
 # its first half; nothing of any of them.
@@ -182,7 +186,7 @@ class Stopper:
                 "STOPPED_WAY": way,
                 "STOPPED_CALLS": str(file),
             }
-            how = {"capture_output": True, "text": True, "timeout": SECONDS, "pass_fds": [file]}
+            how = {"capture_output": True, "text": True, "timeout": max(SECONDS, soaking.seconds()), "pass_fds": [file]}
             done = subprocess.run(words, input=given, env=os.environ | env, **how)
             calls.seek(0)
             return Run(done.returncode, done.stdout, done.stderr, calls.read().decode().splitlines())
