@@ -204,7 +204,7 @@ def stopped_opening(example, chosen, way):
     with system.copy(calls.left[step]) as folder:
         whole = system.open(folder)
     if not whole.calls:
-        return None
+        return f"opened behind step {step}: {whole}; wanted calls that change a file"
     number = chosen.randrange(len(whole.calls)) + 1
     with system.copy(calls.left[step]) as folder:
         run = system.open(folder, number, way)
