@@ -9,11 +9,11 @@ import random
 import subprocess
 import tempfile
 
+import soaking
 from examples import script_folders
-from soaking import run
 from threaded_scripts import TIME, WAITING, serial_outputs
 
-SECONDS = 5  # that clients have, if they are watched
+PATIENCE = 4  # if clients are watched, they have a fourth of the seconds that one run may take
 MOST = 12  # threads that can be made
 
 LIBRARY = r"""
@@ -51,7 +51,7 @@ def without(library, number):
 def few_threads(program, library, folder, number, options):
     """What is wrong in a run of an example that makes no thread from this number on, or nothing."""
     outputs = serial_outputs(program, folder)
-    came = run(program, "run", *options, folder / "script.json", env=without(library, number))
+    came = soaking.run(program, "run", *options, folder / "script.json", env=without(library, number))
     if came == TIME and options and folder.name in WAITING:
         return None
     is_right = not came.status and not came.fault and came.written in outputs
@@ -64,6 +64,6 @@ def threadless(given):
     with library() as made:
         for trial in itertools.count(1):
             folder, number = chosen.choice(folders), chosen.randint(1, MOST)
-            options = ["--seconds", str(SECONDS)] if folder.name in WAITING or chosen.random() < 0.5 else []
+            options = ["--seconds", str(max(1, soaking.seconds() // PATIENCE))] if folder.name in WAITING or chosen.random() < 0.5 else []
             of = f"{trial}: {folder.name} {' '.join(options)}".rstrip()
             yield f"{of}, no thread from number {number} on", few_threads, given.program, made, folder, number, options
