@@ -64,6 +64,7 @@ def threadless(given):
     with library() as made:
         for trial in itertools.count(1):
             folder, number = chosen.choice(folders), chosen.randint(1, MOST)
-            options = ["--seconds", str(max(1, soaking.seconds() // PATIENCE))] if folder.name in WAITING or chosen.random() < 0.5 else []
+            is_watched = chosen.random() < 0.5 or folder.name in WAITING
+            options = ["--seconds", str(max(1, soaking.seconds() // PATIENCE))] if is_watched else []
             of = f"{trial}: {folder.name} {' '.join(options)}".rstrip()
             yield f"{of}, no thread from number {number} on", few_threads, given.program, made, folder, number, options
