@@ -9,6 +9,7 @@ use Rattle.run_model.specs.declared.step.Step.TheVariants as steps
 use Rattle.run_model.specs.Answers.{answer_of}
 use Rattle.run_model.specs.Openings.{opening_in}
 use Rattle.run_model.specs.Runs.{World, is_accepted}
+use Rattle.layer_contracts.specs.declared.guardian.Fault.TheVariants.{Memory, Stable}
 use Rattle.stepping.specs.Stepping.{IsMade, Leaves}
 use Rattle.service.specs.declared.fault.CallFault.{CallFault}
 use Rattle.service.specs.declared.fault.CallFault.TheVariants.{Refused, Waits, Failed}
@@ -53,11 +54,12 @@ Gives Shows answer (Err (Refused why)) = answer ≡ answers.Refused why
 Gives Shows answer (Err (Waits names)) = answer ≡ answers.Waits names
 Gives Shows answer (Err (Failed fault)) = Unit {0}
 
--- so the stores are left by a step that did not happen; memory may run out before it is made
+-- so the stores are left by a step that did not happen; memory may run out before it is made, and no store fails then
 abbrev pub LeavesStores : {M : Type 0} → Leaves M → Step → M → M → CallFault → Type 0
 LeavesStores leaves step old new (Refused why) = leaves step None old new
 LeavesStores leaves step old new (Waits names) = leaves step None old new
-LeavesStores leaves step old new (Failed fault) = (new ≡ old) ⊎ leaves step (Some fault) old new
+LeavesStores leaves step old new (Failed Memory) = (new ≡ old) ⊎ leaves step (Some Memory) old new
+LeavesStores leaves step old new (Failed Stable) = leaves step (Some Stable) old new
 
 -- The call made this step, or it says why the step did not happen, and then nothing has.
 pub record IsCall {T M : Type 0} (run : M → World) (leaves : Leaves M) (step : Step)
