@@ -58,7 +58,7 @@ AnswersStep Is old new code = Answers Is (IsNoStep Is) old new code
 abbrev pub AnswersRead : Result Step Unread → Handle → Handle → ℕ → Type 0
 AnswersRead read old new code = Answers (λ step. read ≡ Ok step) (read ≡ Err Bad) old new code
 
--- what is said of a text of the session
+-- there was a session, and the text is such a text of it
 pub record Says (Text : Session → List ℕ → Type 0) (old : Option Session)
     (Is : List ℕ → Type 0) : Type 0 where
   pub session : Session

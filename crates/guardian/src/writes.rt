@@ -147,7 +147,7 @@ fn recover<S: Stable>(alloc: Global, store: &mut S) -> Result<(), StoreFault>
     }
 }
 
-// Whether the outcomes say of the action that it committed; the first that is said of it counts.
+// Whether the first of the outcomes that names the action says that it committed.
 fn is_committed(outcomes: &[(Name, bool)], action: &Name) -> bool
     ensures { result ≡ says_committed (outcome_in outcomes.now action.now) }
 {

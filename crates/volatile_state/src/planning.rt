@@ -18,8 +18,8 @@ use std::alloc::AllocError;
 impl Memory {
     /// Makes room for an event, and writes what it changes into a plan, over what that was for before. With memory
     /// and without, the memory stands where it stood. The plan is for the event in each state whose history it agrees
-    /// with, where it brings what that history asks of it. Fails for want of memory, and where one more crash could
-    /// not be counted; then nothing is said of the plan.
+    /// with, where it brings what that history asks of it. If memory runs out, or one more crash could not be counted,
+    /// it fails, and the plan may hold anything.
     pub fn plan(
         &mut self,
         event: &EventRef<'_>,

@@ -9,7 +9,7 @@ use Rattle.recovery_laws.specs.Opened.{GoesOnFrom}
 use Rattle.recovery_laws.specs.Runs.{AreOfRun}
 
 -- These stores hold as much as the others: the same bases once all records are settled, the same decisions, and the
--- same next top actions. Of counts nothing is said.
+-- same next top actions. Their counts may differ.
 pub record HoldAsMuch (others stores : List Stored) : Type 0 where
   pub bases : bases_then stores ≡ bases_then others
   pub decided : each (λ s. s.decided) stores ≡ each (λ s. s.decided) others

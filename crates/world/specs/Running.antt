@@ -21,7 +21,7 @@ pub record Ran {S : Type 0} (seen : S → View) (old new : InWorld S) (steps : L
   pub history : new.run.past ≡ history_from (opening_in old.run.lists) old.run.past steps
   pub made : AreMade run_of (LeavesStores seen) steps old new
 
--- The steps before one of them were made. That one was not tried, for want of memory, or it failed so.
+-- The steps before one of them were made. That one was not tried, since memory ran out, or it failed so.
 pub record RanBefore {S : Type 0} (seen : S → View) (old new : InWorld S) (steps : List Step)
     (fault : Fault) (before after : List Answer) : Type 0 where
   pub count : ℕ
