@@ -49,10 +49,12 @@ def without(library, number):
 
 
 def few_threads(program, library, folder, number, options):
-    """What is wrong in a run of an example that makes no thread from this number on, or nothing."""
+    """What is wrong in a run of an example that makes no thread from this number on, or nothing. The first thread is
+    the one that watches."""
     outputs = serial_outputs(program, folder)
     came = soaking.run(program, "run", *options, folder / "script.json", env=without(library, number))
-    if came == TIME and options and folder.name in WAITING:
+    is_watched = options and number > 1
+    if came == TIME and is_watched and folder.name in WAITING:
         return None
     is_right = not came.status and not came.fault and came.written in outputs
     return None if is_right else f"{came}; wanted one of {len(outputs)} outputs, such as {min(outputs)[-200:]!r}"
