@@ -1,5 +1,5 @@
-"""The section of soak in which some threads cannot be made. With library() as it, a program that runs with without(it,
-number) in its environment makes no thread from that number on.
+"""The section of soak in which some threads cannot be made. A program makes no thread from a number on, if
+without(made, number) is in its environment. There `made` is the file that library() gives.
 
 A built program asks the C library for its threads. A small library, made by the C compiler 'cc', stands before that one."""
 import contextlib
