@@ -15,7 +15,6 @@ use Rattle.run_model.specs.Actions.{begun, crashes, home_in, home_of, incarnatio
 use Rattle.run_model.specs.LocalReadings.{LocalEvent, after_commit, dependency_here, events_here, least_of}
 use Rattle.run_model.specs.Telling.{or_else}
 use Rattle.guardian_laws.specs.Actions.{AgreesOnActions, is_none_or, is_own, reaches_parent}
-use Rattle.roster.proofs.Above.{known_then}
 use Rattle.roster.proofs.Added.{all_found, found_all, indexed_all, place_all, row_all, standing_all}
 use Rattle.roster.proofs.Changed.{got_within, indexed_changed, indexed_merged, indexed_turned, kept, kept_merged, place_changed, place_merged, place_turned, placed_changed, row_turned, standing, standing_changed, standing_merged, struck}
 use Rattle.roster.proofs.Counted.{all_counted, count-append, fewer}
@@ -25,7 +24,7 @@ use Rattle.guardian_laws.specs.Sent.{Sent}
 use Rattle.roster.specs.Entries.{IsBorn, IsEntry, IsMerged}
 use Rattle.roster.specs.Rosters.{IsIndexed, IsRoster}
 use Rattle.roster.specs.Steps.{above, closed_in, ended_in, turn_in}
-use Rattle.roster.specs.Tables.{Table, added, all_added, changed_at, ended, entered, grown, home_at, life_in, maker_left, merged, more_by, one_less, place_of, placed, row_at, row_of, said, turned, with_closed, with_depends, with_ended}
+use Rattle.roster.specs.Tables.{Table, all_added, changed_at, ended, entered, grown, home_at, life_in, maker_left, merged, more_by, one_less, place_of, placed, row_at, row_of, said, turned, with_closed, with_depends, with_ended}
 use Rattle.roster.specs.declared.entry.Entry.{Entry}
 use Rattle.roster.specs.declared.entry.Row.{Row}
 use Rattle.roster.specs.declared.entry.Turn.{Turn}
@@ -683,18 +682,15 @@ module _ (g : ℕ) (here : List LocalEvent) (c : LocalEvent) (t : Table) (entry 
       ∙ (λ i. has a i || (ap is_some (place_changed (more_by (length rows)) entry.maker t a) ∙ is.found a) i)
       ∙ sym (has_name-append names (begun past) a)
 
-  -- The roster with the entry, and with those above what begins, is that of the history with the event.
-  pub enters : (above : List (Name × Unit {0}))
-      → ((a : Name) → is_some (value_at above a) ≡ (has_name entry.above.items a || is_some (value_at t.above a)))
-      → IsRoster g (c ∷ here) (record (entered entry t) { above = above })
-  enters above puts = record {
+  -- The roster with the entry is that of the history with the event.
+  pub enters : IsRoster g (c ∷ here) (entered entry t)
+  enters = record {
     events = more_events g c.event past is.events agrees.new agrees.made agrees.own named;
     guardian = guardian_turned entry.turn t6 ∙ ap (λ (s : ℕ × ℕ × Bool). s.0) standing6 ∙ is.guardian;
     crashes = crashes_is;
     down = down_is;
-    indexed = record { within = i7.within; apart = i7.apart };
+    indexed = i7;
     found = found_is;
-    known = known_then t (record t7 { above = above }) names (begun past) entry.above.items is.known is.found found_is puts planned.above;
     home = home_is;
     life = life_is;
     maker = maker_is;
@@ -703,44 +699,3 @@ module _ (g : ℕ) (here : List LocalEvent) (c : LocalEvent) (t : Table) (entry 
     depends = depends_is;
     unended = unended_is;
   }
-
--- ---- those above are put in first
-
-module _ (h : List (Name × Unit {0})) where
-  abbrev with_above : Table → Table
-  with_above t = record t { above = h }
-
-  changed_above : (f : Row → Row) (at : Option ℕ) (t : Table) → changed_at f at (with_above t) ≡ with_above (changed_at f at t)
-  changed_above f None t = refl
-  changed_above f (Some i) t = refl
-
-  added_above : (xs : List (Name × Row)) (t : Table) → all_added xs (with_above t) ≡ with_above (all_added xs t)
-  added_above [] t = refl
-  added_above (x ∷ xs) t = ap (added x) (added_above xs t)
-
-  merged_above : (m : Option (ℕ × Deps)) (t : Table) → merged m (with_above t) ≡ with_above (merged m t)
-  merged_above None t = refl
-  merged_above (Some m) t = refl
-
-  turned_above : (turn : Turn) (t : Table) → turned turn (with_above t) ≡ with_above (turned turn t)
-  turned_above Stays t = refl
-  turned_above Crashes t = refl
-  turned_above Recovers t = refl
-
-  ended_above : (at : Option ℕ) (t : Table) → ended at (with_above t) ≡ with_above (ended at t)
-  ended_above at t =
-      ap (changed_at one_less (said maker_left None (row_at t at))) (changed_above with_ended at t)
-      ∙ changed_above one_less (said maker_left None (row_at t at)) (changed_at with_ended at t)
-
-  grown_above : (entry : Entry) (t : Table) → grown entry (with_above t) ≡ with_above (grown entry t)
-  grown_above entry t =
-      ap (all_added entry.begun.items) (changed_above (more_by (length entry.begun.items)) entry.maker t)
-      ∙ added_above entry.begun.items (changed_at (more_by (length entry.begun.items)) entry.maker t)
-
-  pub entered_above : (entry : Entry) (t : Table) → entered entry (record t { above = h }) ≡ record (entered entry t) { above = h }
-  entered_above entry t =
-      ap (λ x. turned entry.turn (merged entry.merged (changed_at with_closed entry.closed (ended entry.ended x)))) (grown_above entry t)
-      ∙ ap (λ x. turned entry.turn (merged entry.merged (changed_at with_closed entry.closed x))) (ended_above entry.ended (grown entry t))
-      ∙ ap (λ x. turned entry.turn (merged entry.merged x)) (changed_above with_closed entry.closed (ended entry.ended (grown entry t)))
-      ∙ ap (turned entry.turn) (merged_above entry.merged (changed_at with_closed entry.closed (ended entry.ended (grown entry t))))
-      ∙ turned_above entry.turn (merged entry.merged (changed_at with_closed entry.closed (ended entry.ended (grown entry t))))

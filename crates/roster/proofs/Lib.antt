@@ -8,5 +8,4 @@ pub mod Entering
 pub mod Readings
 pub mod Came
 pub mod Planning
-pub mod Above
 pub mod Reopened

@@ -22,7 +22,7 @@ row_there t h a = of (place_of t a) refl
     of (Some i) at = got_within t.rows i (h.within a i at)
 
 -- before anything happened
-pub nothing_yet : (g : ℕ) → IsRoster g [] (record { guardian = g; crashes = 0; down = false; rows = []; places = []; above = [] })
+pub nothing_yet : (g : ℕ) → IsRoster g [] (record { guardian = g; crashes = 0; down = false; rows = []; places = [] })
 nothing_yet g = record {
   events = no_events g;
   guardian = refl;
@@ -30,7 +30,6 @@ nothing_yet g = record {
   down = refl;
   indexed = record { within = λ a i at. absurd (none_some i at); apart = λ a b i at too. absurd (none_some i at) };
   found = λ a. refl;
-  known = λ a low. refl;
   home = λ a. refl;
   life = λ a. refl;
   maker = λ a. refl;

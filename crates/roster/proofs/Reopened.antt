@@ -1,9 +1,8 @@
 -- The roster of a guardian that is opened again by itself: of the time before its own history has votes and crashes alone.
 use Rattle.std.proofs.Common.{List, None, Option, [], ap, false, refl, suc, sym, true, zero, ℕ, ◌+◌, ◌∙◌, ◌∷◌, ◌≡◌, add-one, Some}
 use Rattle.std.proofs.lemmas.Bool.{eq-eqb, false≢true}
-use Rattle.std.specs.List.{list_any}
-use Rattle.action_names.specs.Names.{Name, is_ancestor}
-use Rattle.run_model.specs.Actions.{begun, home_of, incarnation_of, is_begun, is_closed, is_ended, maker_of}
+use Rattle.action_names.specs.Names.{Name}
+use Rattle.run_model.specs.Actions.{home_of, incarnation_of, is_begun, is_closed, is_ended, maker_of}
 use Rattle.run_model.specs.LocalReadings.{LocalEvent, dependency_here, events_here}
 use Rattle.run_model.specs.Openings.{Held}
 use Rattle.run_model.specs.Reopening.{crash_before, life_before, vote_before}
@@ -16,7 +15,6 @@ use Rattle.roster.specs.Tables.{placed}
 -- Of no action is anything said.
 record HasNone (g : ℕ) (here : List LocalEvent) : Type 0 where
   pub events : AreOf g (events_here here)
-  pub none : begun (events_here here) ≡ []
   pub begun : (a : Name) → is_begun a (events_here here) ≡ false
   pub home : (a : Name) → home_of a (events_here here) ≡ 0
   pub life : (a : Name) → incarnation_of a (events_here here) ≡ 0
@@ -28,7 +26,6 @@ record HasNone (g : ℕ) (here : List LocalEvent) : Type 0 where
 none_at_first : (g : ℕ) → HasNone g []
 none_at_first g = record {
   events = no_events g;
-  none = refl;
   begun = λ a. refl;
   home = λ a. refl;
   life = λ a. refl;
@@ -41,7 +38,6 @@ none_at_first g = record {
 none_voted : (g : ℕ) (p : Name × Prepared) (here : List LocalEvent) → HasNone g here → HasNone g (vote_before g p ∷ here)
 none_voted g p here h = record {
   events = more_events g (vote_before g p).event (events_here here) h.events refl refl refl (λ a was. cc);
-  none = h.none;
   begun = h.begun;
   home = h.home;
   life = h.life;
@@ -54,7 +50,6 @@ none_voted g p here h = record {
 none_crashed : (g : ℕ) (here : List LocalEvent) → HasNone g here → HasNone g (crash_before g ∷ here)
 none_crashed g here h = record {
   events = more_events g (crash_before g).event (events_here here) h.events refl refl (eq-eqb g g refl) (λ a was. cc);
-  none = h.none;
   begun = h.begun;
   home = h.home;
   life = h.life;
@@ -70,7 +65,7 @@ none_before g zero (p ∷ records) = none_voted g p (votes g records) (none_befo
 none_before g (suc n) records = none_crashed g (crashed g n (votes g records)) (none_before g n records)
 
 pub roster_reopened : (g : ℕ) (held : Held) (records : List (Name × Prepared)) (n : ℕ) → n ≡ held.count + 1
-    → IsRoster g (life_before g held records) (record { guardian = g; crashes = n; down = true; rows = []; places = []; above = [] })
+    → IsRoster g (life_before g held records) (record { guardian = g; crashes = n; down = true; rows = []; places = [] })
 roster_reopened g held records n counted =
     let none = none_before g (suc held.count) records in
     let is = life_before_is g held records in
@@ -81,10 +76,9 @@ roster_reopened g held records n counted =
       down = sym is.down;
       indexed = record { within = λ a i at. absurd (none_some i at); apart = λ a b i at too. absurd (none_some i at) };
       found = λ a. sym (none.begun a);
-      known = λ a low. sym (ap (list_any (λ c. is_ancestor a c)) none.none);
       home = λ a. sym (none.home a);
       life = λ a. sym (none.life a);
-      maker = λ a. sym (ap (λ m. placed (record { guardian = g; crashes = n; down = true; rows = []; places = []; above = [] }) m) (none.maker a));
+      maker = λ a. sym (ap (λ m. placed (record { guardian = g; crashes = n; down = true; rows = []; places = [] }) m) (none.maker a));
       ended = λ a. sym (none.ended a);
       closed = λ a. sym (none.closed a);
       depends = λ a h. sym (none.depends a h);

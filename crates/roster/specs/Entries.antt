@@ -1,9 +1,9 @@
 -- What a plan has for an event, and when there is room for it.
-use Rattle.std.specs.Prelude.{◌≡◌, ◌+◌, ◌<◌, ◌≤◌, ◌^◌, ◌⊎◌, ℕ, List, [], false, Option, Some, None, MatchOption, IsTrue, slice_get, vec_capacity, vec_len}
-use Rattle.std.specs.List.{AllByRecursion, list_any}
+use Rattle.std.specs.Prelude.{◌≡◌, ◌+◌, ◌<◌, ◌≤◌, ◌^◌, ℕ, List, [], false, Option, Some, None, MatchOption, IsTrue, slice_get, vec_capacity, vec_len}
+use Rattle.std.specs.List.{AllByRecursion}
 use Rattle.std.specs.FinMap as tree
 use Rattle.action_names.specs.Deps.{Deps, lesser}
-use Rattle.action_names.specs.Names.{IsName, Name, has_name, is_ancestor, is_proper_ancestor}
+use Rattle.action_names.specs.Names.{IsName, Name, has_name}
 use Rattle.holders.specs.Held.{names_of}
 use Rattle.run_model.specs.declared.history.Event.{Event}
 use Rattle.run_model.specs.declared.step.Step.{Step}
@@ -12,7 +12,7 @@ use Rattle.run_model.specs.Actions.{home_in, maker_in, names_begun}
 use Rattle.run_model.specs.LocalReadings.{least_of}
 use Rattle.guardian_laws.specs.Sent.{Sent}
 use Rattle.roster.specs.Steps.{above, closed_in, ended_in, turn_in}
-use Rattle.roster.specs.Tables.{Table, home_at, is_known, life_in, placed, row_at, said}
+use Rattle.roster.specs.Tables.{Table, home_at, life_in, placed, row_at, said}
 use Rattle.roster.specs.declared.entry.Entry.{Entry}
 use Rattle.roster.specs.declared.entry.Row.{Row}
 use Rattle.roster.specs.declared.entry.Turn.TheVariants.{Stays}
@@ -29,15 +29,10 @@ CanCount rows None n = Unit {0}
 CanCount rows (Some at) n =
     MatchOption (slice_get rows at) (Unit {0}) (λ row. row.unended + n < 2 ^ 64)
 
--- there is room for each of these names
-abbrev pub HaveRoom : List Name → List Name → Type 0
-HaveRoom room above = (a : Name) → IsTrue (has_name above a) → IsTrue (has_name room a)
-
 -- there is room for the entry
 pub record FitsEntry (roster : Roster) (entry : Entry) : Type 0 where
   pub begun : FitsBegun roster entry.begun.items (vec_len entry.begun)
   pub count : CanCount roster.rows.items entry.maker (vec_len entry.begun)
-  pub above : HaveRoom roster.above.room entry.above.items
 
 -- a commit leaves the row at the place, where there is one, with the lesser of its dependencies and of those that came
 abbrev pub IsLeft : Table → Option ℕ → (ℕ → Option ℕ) → Option (ℕ × Deps) → Type 0
@@ -66,24 +61,6 @@ pub record AreBorn (t : Table) (e : Event) (came : Sent) (begun : List (Name × 
   pub named : AllByRecursion (λ (x : Name × Row). IsName x.0) begun
   pub rows : AllByRecursion (λ (x : Name × Row). IsBorn t e.step came x.0 x.1) begun
 
--- each proper ancestor of b is among them, or something is known from it down
-abbrev pub IsClimbed : Table → List Name → Name → Type 0
-IsClimbed t above b =
-    (a : Name) → IsTrue (is_proper_ancestor a b)
-    → IsTrue (has_name above a) ⊎ ((c : Name) × IsTrue (is_ancestor a c) × IsTrue (is_known t c))
-
--- what comes to the names are ancestors of b
-pub record Adds (b : Name) (before now : List Name) : Type 0 where
-  pub kept : (a : Name) → IsTrue (has_name before a) → IsTrue (has_name now a)
-  pub added : (a : Name) → IsTrue (has_name now a)
-      → IsTrue (has_name before a) ⊎ IsTrue (is_ancestor a b)
-
--- they are ancestors of what begins, and with them all its ancestors are known
-pub record AreAbove (t : Table) (names : List Name) (above : List Name) : Type 0 where
-  pub within : (a : Name) → IsTrue (has_name above a)
-      → IsTrue (list_any (λ b. is_ancestor a b) names)
-  pub climbed : AllByRecursion (IsClimbed t above) names
-
 -- the entry makes nothing of a roster
 pub record IsIdle (entry : Entry) : Type 0 where
   pub ended : entry.ended ≡ None
@@ -91,7 +68,6 @@ pub record IsIdle (entry : Entry) : Type 0 where
   pub merged : entry.merged ≡ None
   pub maker : entry.maker ≡ None
   pub begun : entry.begun.items ≡ []
-  pub above : entry.above.items ≡ []
   pub turn : entry.turn ≡ Stays
 
 -- the entry is that of an event which brings these dependencies
@@ -101,5 +77,4 @@ pub record IsEntry (t : Table) (e : Event) (came : Sent) (entry : Entry) : Type 
   pub merged : IsMerged t e.step came entry.merged
   pub maker : entry.maker ≡ placed t (maker_in e.step)
   pub begun : AreBorn t e came entry.begun.items
-  pub above : AreAbove t (names_begun e.answer) entry.above.items
   pub turn : entry.turn ≡ turn_in e.step

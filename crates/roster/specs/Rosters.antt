@@ -1,12 +1,11 @@
 -- When a roster is that of a guardian's history.
-use Rattle.std.specs.Prelude.{◌≡◌, ◌==◌, ◌<◌, ◌≤◌, ℕ, not, List, [], length, count_by, if◌then◌else◌, Some, IsTrue, IsFalse, is_some}
-use Rattle.std.specs.List.{list_any}
-use Rattle.action_names.specs.Names.{Name, IsName, is_ancestor, same_name}
+use Rattle.std.specs.Prelude.{◌≡◌, ◌==◌, ◌<◌, ℕ, not, List, [], length, count_by, if◌then◌else◌, Some, IsTrue, IsFalse, is_some}
+use Rattle.action_names.specs.Names.{Name, IsName, same_name}
 use Rattle.run_model.specs.declared.history.Event.{Event}
-use Rattle.run_model.specs.Actions.{begun, crashes, home_of, incarnation_of, is_begun, is_closed, is_down, is_ended, is_exactly, made_by, maker_of}
+use Rattle.run_model.specs.Actions.{crashes, home_of, incarnation_of, is_begun, is_closed, is_down, is_ended, is_exactly, made_by, maker_of}
 use Rattle.run_model.specs.LocalReadings.{LocalEvent, dependency_here, events_here}
 use Rattle.guardian_laws.specs.Actions.{is_new}
-use Rattle.roster.specs.Tables.{Table, closed_at, depends_at, ended_at, home_at, is_known, life_at, maker_at, place_of, placed, unended_at}
+use Rattle.roster.specs.Tables.{Table, closed_at, depends_at, ended_at, home_at, life_at, maker_at, place_of, placed, unended_at}
 use Rattle.roster.specs.declared.roster.Roster.{Roster}
 
 -- how often the guardian has crashed
@@ -28,8 +27,7 @@ pub record IsIndexed (t : Table) : Type 0 where
   pub apart : (a b : Name) (i : ℕ) → place_of t a ≡ Some i → place_of t b ≡ Some i → a ≡ b
 
 -- The table says what the history of g says: of the guardian, and of each action, also of one that was not begun. How
--- many things that it made have not ended is said of those that were begun here. Known is who was begun, and who has
--- something below it that was.
+-- many things that it made have not ended is said of those that were begun here.
 pub record IsRoster (g : ℕ) (here : List LocalEvent) (t : Table) : Type 0 where
   pub events : AreOf g (events_here here)
   pub guardian : t.guardian ≡ g
@@ -37,8 +35,6 @@ pub record IsRoster (g : ℕ) (here : List LocalEvent) (t : Table) : Type 0 wher
   pub down : t.down ≡ is_down g (events_here here)
   pub indexed : IsIndexed t
   pub found : (a : Name) → is_some (place_of t a) ≡ is_begun a (events_here here)
-  pub known : (a : Name) → 1 ≤ length a
-      → is_known t a ≡ list_any (λ c. is_ancestor a c) (begun (events_here here))
   pub home : (a : Name) → home_at t a ≡ home_of a (events_here here)
   pub life : (a : Name) → life_at t a ≡ incarnation_of a (events_here here)
   pub maker : (a : Name) → maker_at t a ≡ placed t (maker_of a (events_here here))

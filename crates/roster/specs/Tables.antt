@@ -1,5 +1,5 @@
 -- What a roster keeps, without the room that its lists have, and what is read in it and made of it.
-use Rattle.std.specs.Prelude.{ℕ, zero, suc, ◌+◌, ◌-◌, ◌==◌, ◌||◌, Bool, true, false, List, [], ◌∷◌, ◌++◌, length, if◌then◌else◌, Option, Some, None, slice_get, is_some}
+use Rattle.std.specs.Prelude.{ℕ, zero, suc, ◌+◌, ◌-◌, ◌==◌, Bool, true, false, List, [], ◌∷◌, ◌++◌, length, if◌then◌else◌, Option, Some, None, slice_get}
 use Rattle.std.specs.Option.{option_and_then}
 use Rattle.std.specs.FinMap as map
 use Rattle.action_names.specs.Deps.{Deps}
@@ -11,15 +11,13 @@ use Rattle.roster.specs.declared.entry.Turn.{Turn}
 use Rattle.roster.specs.declared.entry.Turn.TheVariants.{Crashes, Recovers, Stays}
 use Rattle.roster.specs.declared.roster.Roster.{Roster}
 
--- how the guardian stands, the rows of actions in the order in which they began, the places of the rows by name, and
--- who stands above them
+-- how the guardian stands, the rows of actions in the order in which they began, and the places of the rows by name
 pub record Table : Type 0 where
   pub guardian : ℕ
   pub crashes : ℕ
   pub down : Bool
   pub rows : List Row
   pub places : List (Name × ℕ)
-  pub above : List (Name × Unit {0})
 
 abbrev pub table : Roster → Table
 table roster = record {
@@ -28,7 +26,6 @@ table roster = record {
   down = roster.down;
   rows = roster.rows.items;
   places = roster.places.held;
-  above = roster.above.held;
 }
 
 -- ---- what is read
@@ -45,10 +42,6 @@ row_at t at = option_and_then (λ i. slice_get t.rows i) at
 
 abbrev pub row_of : Table → Name → Option Row
 row_of t a = row_at t (place_of t a)
-
--- the action has a row, or stands above one that has
-abbrev pub is_known : Table → Name → Bool
-is_known t a = is_some (place_of t a) || is_some (value_at t.above a)
 
 -- what is said of a row, and of one that is not there
 abbrev pub said : {B : Type 0} → (Row → B) → B → Option Row → B

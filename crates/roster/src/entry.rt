@@ -53,8 +53,6 @@ pub struct Entry {
     /// The place of who makes what begins.
     pub(crate) maker: Option<usize>,
     pub(crate) begun: Vec<(Name, Row)>,
-    /// The ancestors of what begins of which nothing was known yet.
-    pub(crate) above: Vec<Name>,
     pub(crate) turn: Turn,
 }
 
@@ -69,7 +67,6 @@ impl Entry {
             merged: None,
             maker: None,
             begun: Vec::new(alloc),
-            above: Vec::new(alloc),
             turn: Turn::Stays,
         }
     }

@@ -1,11 +1,9 @@
 //! Actions by name, and how their guardian stands.
-ghost use Rattle.std.specs.Prelude.{◌≡◌, ◌+◌, ◌<◌, ◌≤◌, ◌^◌, [], ◌∷◌, ℕ, List, ◌||◌, IfOk, OnOk, IsTrue, None, Some, is_some, vec_capacity, vec_len};
+ghost use Rattle.std.specs.Prelude.{◌≡◌, ◌+◌, ◌<◌, ◌^◌, [], ◌∷◌, ℕ, List, IfOk, OnOk, IsTrue, None, Some, vec_capacity, vec_len};
 ghost use Rattle.std.specs.FinMap as map;
-ghost use Rattle.std.specs.List.{AllByRecursion};
 ghost use Rattle.std.specs.Option.{option_and_then, option_map};
 ghost use Rattle.action_names.specs.Deps.{lesser};
 ghost use Rattle.action_names.specs.Names.{Name, has_name};
-ghost use Rattle.holders.specs.Held.{names_of, value_at};
 ghost use Rattle.run_model.specs.Actions.{crashes, home_in, is_begun, is_busy, is_done, is_down, is_gone, maker_in};
 ghost use Rattle.run_model.specs.LocalReadings.{LocalEvent, dependency_here, events_here, is_at_home, least_of};
 ghost use Rattle.run_model.specs.Openings.{Held};
@@ -27,8 +25,6 @@ pub struct Roster {
     down: bool,
     rows: Vec<Row>,
     places: Index<usize>,
-    /// Who stands above an action that began here, and has not begun here itself, or only later.
-    above: Index<()>,
 }
 
 impl Roster {
@@ -48,7 +44,6 @@ impl Roster {
             down: false,
             rows: Vec::new(alloc),
             places: Index::new(alloc),
-            above: Index::new(alloc),
         }
     }
 
@@ -66,7 +61,6 @@ impl Roster {
             down: true,
             rows: Vec::new(alloc),
             places: Index::new(alloc),
-            above: Index::new(alloc),
         }
     }
 
@@ -171,7 +165,6 @@ impl Roster {
         entry.merged = self.plan_merge(event.step, dependencies)?;
         self.plan_begun(event, dependencies, maker, &mut entry.begun)?;
         self.plan_count(maker, entry.begun.len())?;
-        self.plan_above(event.answer.names_begun(), &mut entry.above)?;
         Ok(())
     }
 
@@ -184,7 +177,6 @@ impl Roster {
             → IsEntry (table self.old) c.event c.carried.dependencies entry.old
             → IsRoster g (c ∷ here) (table self.new) }
     {
-        self.put_above(&mut entry.above);
         self.count_more(entry.maker, entry.begun.len());
         self.add_all(&mut entry.begun);
         self.end(entry.ended);
@@ -196,10 +188,10 @@ impl Roster {
 
 impl Roster {
     ghost use Rattle.guardian_laws.specs.Sent.{sent_of};
-    ghost use Rattle.roster.specs.Entries.{Adds, AreAbove, AreBorn, CanCount, FitsBegun, HaveRoom, IsBorn, IsClimbed, IsLeft, IsMerged};
+    ghost use Rattle.roster.specs.Entries.{AreBorn, CanCount, FitsBegun, IsBorn, IsLeft, IsMerged};
     ghost use Rattle.roster.specs.Steps.{above, closed_in, ended_in};
     ghost use Rattle.roster.specs.Rosters.{crashes_of};
-    ghost use Rattle.roster.specs.Tables.{added, all_added, changed_at, ended, home_at, is_known, life_at, life_in, maker_left, merged, more_by};
+    ghost use Rattle.roster.specs.Tables.{added, all_added, changed_at, ended, home_at, life_at, life_in, maker_left, merged, more_by};
     ghost use Rattle.roster.specs.Tables.{one_less, place_of, placed, row_at, row_of, said, table, turned, with_closed, with_ended};
 
     // The place of the action's row.
@@ -371,52 +363,6 @@ impl Roster {
         Ok(())
     }
 
-    // The ancestors of these names of which nothing is known yet, and room for them.
-    fn plan_above(&mut self, names: &[Name], above: &mut Vec<Name>) -> Result<(), AllocError>
-        ensures same { table self.new ≡ table self.old }
-        ensures rows { self.new.rows ≡ self.old.rows }
-        ensures places { self.new.places ≡ self.old.places }
-        ensures fits { OnOk result (HaveRoom self.new.above.room above.new.items) }
-        ensures above { OnOk result (AreAbove (table self.old) names.now above.new.items) }
-    {
-        above.clear();
-        for name in names {
-            self.climb(name, above)?;
-        }
-        Ok(())
-    }
-
-    // Adds the ancestors of the action up to the first of which something is known, whose ancestors are known too.
-    fn climb(&mut self, action: &Name, above: &mut Vec<Name>) -> Result<(), AllocError>
-        ensures same { table self.new ≡ table self.old }
-        ensures rows { self.new.rows ≡ self.old.rows }
-        ensures places { self.new.places ≡ self.old.places }
-        ensures fits { OnOk result (HaveRoom self.old.above.room above.old.items
-            → HaveRoom self.new.above.room above.new.items) }
-        ensures adds { OnOk result (Adds action.now above.old.items above.new.items) }
-        ensures climbed { OnOk result (IsClimbed (table self.old) above.new.items action.now) }
-    {
-        // The action has numbers, as the depth of its name says.
-        let _depth = action.depth();
-        let Some(parent) = action.parent()? else {
-            return Ok(());
-        };
-        if self.is_known(&parent) {
-            return Ok(());
-        }
-        self.climb(&parent, above)?;
-        self.above.make_room(&parent)?;
-        above.push(parent)?;
-        Ok(())
-    }
-
-    // Whether the action began here or something below it.
-    fn is_known(&self, action: &Name) -> bool
-        ensures { result ≡ is_known (table self.now) action.now }
-    {
-        self.place(action).is_some() || self.above.get(action).is_some()
-    }
-
     // The row of an action that the step begins, whose maker has its row at the place.
     fn born(
         &self,
@@ -478,20 +424,6 @@ impl Roster {
     {
         while let Some((name, row)) = begun.pop() {
             self.add(&name, row);
-        }
-    }
-
-    // Puts in those above what begins, for whom there is room.
-    fn put_above(&mut self, above: &mut Vec<Name>)
-        requires { HaveRoom self.old.above.room above.old.items }
-        ensures same { table self.new ≡ record (table self.old) { above = self.new.above.held } }
-        ensures rows { self.new.rows ≡ self.old.rows }
-        ensures places { self.new.places ≡ self.old.places }
-        ensures above { (a : Name) → is_some (value_at self.new.above.held a)
-            ≡ (has_name above.old.items a || is_some (value_at self.old.above.held a)) }
-    {
-        while let Some(name) = above.pop() {
-            self.above.put(&name, ());
         }
     }
 

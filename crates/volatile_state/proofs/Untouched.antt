@@ -53,7 +53,6 @@ module _ (n : â„•) (a : Name) (x : ObjectId) (wanted : op.Op) (r : Reply) (g : â
       down = is.down;
       indexed = is.indexed;
       found = is.found;
-      known = is.known;
       home = is.home;
       life = is.life;
       maker = is.maker;

@@ -1,5 +1,5 @@
-use Rattle.std.proofs.Common.{Bool, ap, arith, length, subst, sym, vec_capacity, vec_len, ℕ, ◌∙◌, ◌∷◌, ◌≡◌}
-use Rattle.roster.proofs.Entering.{entered_above, enters, standing_before}
+use Rattle.std.proofs.Common.{Bool, ap, arith, length, subst, sym, ℕ, ◌∙◌, ◌∷◌, ◌≡◌}
+use Rattle.roster.proofs.Entering.{enters, standing_before}
 use Rattle.roster.proofs.Planning.{HavePlaces}
 use Rattle.roster.specs.Entries.{CanCount}
 use Rattle.roster.specs.Rosters.{IsRoster}
@@ -7,22 +7,18 @@ use Rattle.roster.specs.Tables.{Table, all_added, changed_at, ended, entered, gr
 use Rattle.roster.proofs.roster.Roster.enter.Goals as goal
 
 pub count_more-requires : goal.count_more-requires
-count_more-requires c =
-    subst (λ rows. CanCount rows.items c.args.entry.now.maker c.len.result) (sym c.put_above.ensures.rows)
-    (subst (CanCount c.args.self.now.rows.items c.args.entry.now.maker) (sym c.len.ensures) c.requires.fits.count)
+count_more-requires c = subst (CanCount c.args.self.now.rows.items c.args.entry.now.maker) (sym c.len.ensures) c.requires.fits.count
 
 pub add_all-requires : goal.add_all-requires
-add_all-requires c =
-    let same = c.put_above.ensures.rows in
-    record {
-      rows = omega (arith, c.count_more.ensures.len, c.count_more.ensures.capacity, ap vec_len same, ap vec_capacity same, c.requires.fits.begun.rows);
-      places = subst (λ p. HavePlaces p.room c.args.entry.now.begun.items) (sym (c.count_more.ensures.places ∙ c.put_above.ensures.places)) c.requires.fits.begun.places;
-    }
+add_all-requires c = record {
+  rows = omega (arith, c.count_more.ensures.len, c.count_more.ensures.capacity, c.requires.fits.begun.rows);
+  places = subst (λ p. HavePlaces p.room c.args.entry.now.begun.items) (sym c.count_more.ensures.places) c.requires.fits.begun.places;
+}
 
 pub turn-requires : goal.turn-requires
 turn-requires c =
     let entry = c.args.entry.now in
-    let before = table c.put_above.new.self in
+    let before = table c.args.self.now in
     let many : c.len.result ≡ length entry.begun.items = c.len.ensures ∙ entry.begun.ok.0 in
     let begins : table c.add_all.new.self ≡ grown entry before =
     c.add_all.ensures ∙ ap (all_added entry.begun.items) (c.count_more.ensures.counted ∙ ap (λ n. changed_at (more_by n) entry.maker before) many) in
@@ -31,16 +27,13 @@ turn-requires c =
     ∙ ap (λ m. merged m (table c.close.new.self)) c.take.ensures.value
     ∙ ap (merged entry.merged) (c.close.ensures ∙ ap (changed_at with_closed entry.closed) (c.end.ensures ∙ ap (ended entry.ended) begins)) in
     let same : c.merge.new.self.crashes ≡ c.args.self.now.crashes =
-    ap (λ (t : Table). t.crashes) merges
-    ∙ ap (λ (s : ℕ × ℕ × Bool). s.1) (standing_before entry before)
-    ∙ ap (λ (t : Table). t.crashes) c.put_above.ensures.same in
+    ap (λ (t : Table). t.crashes) merges ∙ ap (λ (s : ℕ × ℕ × Bool). s.1) (standing_before entry before) in
     omega (arith, c.requires.count, same)
 
 pub returns : goal.returns
 returns c = λ g here e is agrees planned.
     let entry = c.args.entry.now in
-    let first = table c.args.self.now in
-    let before = table c.put_above.new.self in
+    let before = table c.args.self.now in
     let many : c.len.result ≡ length entry.begun.items = c.len.ensures ∙ entry.begun.ok.0 in
     let begins : table c.add_all.new.self ≡ grown entry before =
     c.add_all.ensures ∙ ap (all_added entry.begun.items) (c.count_more.ensures.counted ∙ ap (λ n. changed_at (more_by n) entry.maker before) many) in
@@ -49,7 +42,4 @@ returns c = λ g here e is agrees planned.
     ∙ ap (turned entry.turn) (c.merge.ensures
     ∙ ap (λ m. merged m (table c.close.new.self)) c.take.ensures.value
     ∙ ap (merged entry.merged) (c.close.ensures ∙ ap (changed_at with_closed entry.closed) (c.end.ensures ∙ ap (ended entry.ended) begins))) in
-    let held = c.put_above.new.self.above.held in
-    let with_those : entered entry before ≡ record (entered entry first) { above = held } =
-    ap (entered entry) c.put_above.ensures.same ∙ entered_above held entry first in
-    subst (IsRoster g (e ∷ here)) (sym (whole ∙ with_those)) (enters g here e first entry is agrees planned held c.put_above.ensures.above)
+    subst (IsRoster g (e ∷ here)) (sym whole) (enters g here e before entry is agrees planned)

@@ -12,6 +12,5 @@ returns c =
       down = false;
       rows = sym c.new.ensures.items i;
       places = (sym c.new-2.ensures i).held;
-      above = (sym c.new-3.ensures i).held;
     })
     (nothing_yet c.args.guardian)

@@ -13,6 +13,5 @@ returns-clause-roster c = λ held records counted.
       down = true;
       rows = sym c.new.ensures.items i;
       places = (sym c.new-2.ensures i).held;
-      above = (sym c.new-3.ensures i).held;
     })
     (roster_reopened c.args.guardian held records c.args.crashes counted)
