@@ -8,4 +8,5 @@ pub mod Entering
 pub mod Readings
 pub mod Came
 pub mod Planning
+pub mod Idle
 pub mod Reopened

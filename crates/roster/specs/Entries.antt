@@ -61,6 +61,14 @@ pub record AreBorn (t : Table) (e : Event) (came : Sent) (begun : List (Name × 
   pub named : AllByRecursion (λ (x : Name × Row). IsName x.0) begun
   pub rows : AllByRecursion (λ (x : Name × Row). IsBorn t e.step came x.0 x.1) begun
 
+-- the event begins, ends and closes no action, and leaves the guardian as it stood
+pub record ConcernsNone (e : Event) : Type 0 where
+  pub begun : names_begun e.answer ≡ []
+  pub maker : maker_in e.step ≡ None
+  pub ended : ended_in e.step ≡ None
+  pub closed : closed_in e.step ≡ None
+  pub turn : turn_in e.step ≡ Stays
+
 -- the entry makes nothing of a roster
 pub record IsIdle (entry : Entry) : Type 0 where
   pub ended : entry.ended ≡ None

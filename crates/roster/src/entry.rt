@@ -1,10 +1,10 @@
 //! What an event makes of actions at a guardian.
-ghost use Rattle.std.specs.Prelude.{◌≡◌, ℕ, IfOk, None, Some};
+ghost use Rattle.std.specs.Prelude.{◌≡◌, ℕ, IfOk, IsTrue, None, Some};
 ghost use Rattle.std.specs.FinMap as map;
 ghost use Rattle.std.specs.Option.{option_map};
 ghost use Rattle.run_model.specs.LocalReadings.{least_of};
 
-use run_model::{Deps, Name, Step};
+use run_model::{Deps, EventRef, Name, Step};
 use std::alloc::{AllocError, Global};
 
 /// What is kept of an action that began here. Others are named by the places of their rows.
@@ -70,11 +70,33 @@ impl Entry {
             turn: Turn::Stays,
         }
     }
+
+    /// Makes it one that makes nothing of a roster, and keeps its room.
+    pub(crate) fn clear(&mut self)
+        ensures { IsIdle self.new }
+    {
+        self.ended = None;
+        self.closed = None;
+        self.merged = None;
+        self.maker = None;
+        self.begun.clear();
+        self.turn = Turn::Stays;
+    }
 }
 
 ghost use Rattle.roster.specs.Steps.{turn_in};
 ghost use Rattle.guardian_laws.specs.Sent.{sent_of};
-ghost use Rattle.roster.specs.Entries.{IsIdle};
+ghost use Rattle.roster.specs.Entries.{ConcernsNone, IsIdle};
+
+/// Whether the event begins, ends and closes no action, and leaves the guardian as it stood, as far as its kind tells.
+pub(crate) fn concerns_none(event: &EventRef<'_>) -> bool
+    ensures { IsTrue result → ConcernsNone event.now }
+{
+    match event.step {
+        Step::Op(..) | Step::Prepare(..) | Step::Tell(..) => event.answer.names_begun().is_empty(),
+        _ => false,
+    }
+}
 
 /// What becomes of the guardian that keeps the step. Of crashes and recoveries it keeps its own.
 pub(crate) fn turn_in(step: &Step) -> Turn

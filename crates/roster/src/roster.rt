@@ -11,7 +11,7 @@ ghost use Rattle.run_model.specs.Reopening.{life_before};
 ghost use Rattle.run_model.specs.StableContent.{Prepared};
 ghost use Rattle.guardian_laws.specs.Actions.{AgreesOnActions};
 
-use crate::entry::{Entry, Places, Row, Turn, depends_in, turn_in};
+use crate::entry::{Entry, Places, Row, Turn, concerns_none, depends_in, turn_in};
 use holders::Index;
 use run_model::{Deps, EventRef, Name, Step};
 use std::alloc::{AllocError, Global};
@@ -153,6 +153,11 @@ impl Roster {
         ensures planned { OnOk result
             (IsEntry (table self.new) event.now (sent_of dependencies.now) entry.new) }
     {
+        // Nothing is looked up where the event concerns no row.
+        if concerns_none(event) {
+            entry.clear();
+            return Ok(());
+        }
         let Places {
             ended,
             closed,

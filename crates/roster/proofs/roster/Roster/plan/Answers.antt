@@ -6,7 +6,16 @@ use Rattle.roster.specs.Steps.{closed_in, ended_in, turn_in}
 use Rattle.roster.specs.Tables.{Table, placed, table}
 use Rattle.run_model.specs.Actions.{maker_in}
 use Rattle.run_model.proofs.Events.{step_is}
+use Rattle.roster.proofs.Idle.{idle_entry, idle_fits}
 use Rattle.roster.proofs.roster.Roster.plan.Goals as goal
+
+pub returns-then-concerns_none-clause-fits : goal.returns-then-concerns_none-clause-fits
+returns-then-concerns_none-clause-fits c = idle_fits c.args.self.now c.clear.new.self c.clear.ensures
+
+pub returns-then-concerns_none-clause-planned : goal.returns-then-concerns_none-clause-planned
+returns-then-concerns_none-clause-planned c =
+    idle_entry (table c.args.self.now) c.args.event.now (sent_of c.args.dependencies.now) c.clear.new.self
+    (c.concerns_none.ensures c.if-concerns_none.true) c.clear.ensures
 
 pub returns-in_err-plan_begun-clause-same : goal.returns-in_err-plan_begun-clause-same
 returns-in_err-plan_begun-clause-same c = λ g here is. subst (IsRoster g here) (sym c.plan_begun.ensures.same) is
