@@ -1,5 +1,5 @@
 -- Names among names, and names above names.
-use Rattle.std.proofs.Common.{Bool, List, [], ap, arith, false, length, not, refl, subst, sym, true, inl, inr, ◌+◌, ◌++◌, ◌-◌, ◌||◌, ◌∙◌, ◌∷◌, ◌≡◌, ◌≤◌}
+use Rattle.std.proofs.Common.{Bool, List, [], ap, arith, false, length, not, refl, subst, sym, true, inl, inr, ◌++◌, ◌-◌, ◌||◌, ◌∙◌, ◌∷◌, ◌≡◌, ◌≤◌}
 use Rattle.std.specs.List.{list_any}
 use Rattle.std.proofs.lemmas.Bool.{and_from, and_parts, false≢true, or_cases, or_left, or_right, true≢false}
 use Rattle.action_names.specs.Names.{Name, has_name, is_ancestor, is_prefix, is_top, parent_of, same_name}
