@@ -5,7 +5,7 @@ use Rattle.activities.specs.declared.flow.Flow.{Flow}
 use Rattle.activities.specs.Apart.{all_gone, arm_taken_in, arms_taken_in, gone_beside}
 use Rattle.activities.specs.Serial.{Acting}
 
-ok_no_err : {A E : Type 0} (r : Result A E) (x : A) (e : E) → r ≡ Ok x → r ≡ Err e → ⊥
+pub ok_no_err : {A E : Type 0} (r : Result A E) (x : A) (e : E) → r ≡ Ok x → r ≡ Err e → ⊥
 ok_no_err r x e h k = cc
 
 pub none_left : {A : Type 0} (xs : List A) (n : ℕ) → n ≡ length xs → n ≡ 0 → xs ≡ []

@@ -1,5 +1,6 @@
 -- How clients end, and what their actions leave of a world.
-use Rattle.std.specs.Prelude.{◌≡◌, IsTrue, ℕ, Bool, true, false, List, [], ◌∷◌, ◌++◌, ◌⊎◌, Option, Some, None, Result, Ok, Err, filter_map}
+use Rattle.std.specs.Prelude.{◌≡◌, IsTrue, ℕ, Bool, true, false, List, [], ◌∷◌, ◌++◌, ◌⊎◌, Option, Some, None, Result, Ok, Err, Vec, filter_map}
+use Rattle.std.specs.declared.alloc.Global.{Global}
 use Rattle.std.specs.List.{AllByRecursion}
 use Rattle.action_names.specs.Names.{Name}
 use Rattle.run_model.specs.declared.answer.Answer.TheVariants as answer
@@ -123,6 +124,46 @@ abbrev pub TriedInTurn : List Client → World → World → Type 0
 TriedInTurn [] old new = new ≡ old
 TriedInTurn (client ∷ clients) old new = (next : World) × ClientTried client.home old next
     × TriedInTurn clients next new
+
+-- a client of this home came to its end, or to a fault
+abbrev pub ClientCame : {E : Type 0} → ℕ → World → World → Result ClientEnd E → Type 0
+ClientCame home old new (Ok end) = IsTopAt home old (top_of end) × ClientMade home end old new
+ClientCame home old new (Err fault) = ClientCut home old new
+
+-- so of clients one after another, each from where the one before it had come to
+abbrev pub CameInTurn : {E : Type 0} → List Client → World → World → List (Result ClientEnd E)
+    → Type 0
+CameInTurn [] old new [] = new ≡ old
+CameInTurn [] old new (one ∷ more) = ⊥
+CameInTurn (client ∷ clients) old new [] = ⊥
+CameInTurn (client ∷ clients) old new (one ∷ more) = (next : World)
+    × ClientCame client.home old next one × CameInTurn clients next new more
+
+-- the ends of clients and of the next one; of several faults the first counts
+abbrev pub ends_with : {E : Type 0} → Result (List ClientEnd) E → Result ClientEnd E
+    → Result (List ClientEnd) E
+ends_with (Err fault) next = Err fault
+ends_with (Ok ends) (Err fault) = Err fault
+ends_with (Ok ends) (Ok end) = Ok (ends ++ end ∷ [])
+
+-- so of one client after another
+abbrev pub all_ends : {E : Type 0} → Result (List ClientEnd) E → List (Result ClientEnd E)
+    → Result (List ClientEnd) E
+all_ends ends [] = ends
+all_ends ends (one ∷ more) = all_ends (ends_with ends one) more
+
+-- the ends, in a list
+abbrev pub listed : {E : Type 0} → Result (Vec ClientEnd Global) E → Result (List ClientEnd) E
+listed (Ok ends) = Ok ends.items
+listed (Err fault) = Err fault
+
+-- each of these clients came to its end or to a fault, one after another; this is what came of them all: their ends,
+-- or the fault of the first to which one came
+pub record AllCame {E : Type 0} (clients : List Client) (old new : World)
+    (all : Result (List ClientEnd) E) : Type 0 where
+  pub came : List (Result ClientEnd E)
+  pub in_turn : CameInTurn clients old new came
+  pub is_all : all ≡ all_ends (Ok []) came
 
 -- the first so many of the clients were tried, and each step was of their own actions
 pub record AreTried (clients : List Client) (old new : World) : Type 0 where

@@ -1,8 +1,10 @@
-ghost use Rattle.std.specs.Prelude.{◌≡◌, IfOk, IsTrue, OnErr, OnOk, Option};
+ghost use Rattle.std.specs.Prelude.{◌≡◌, ◌<◌, ◌⊎◌, Err, IfErr, IfOk, IsTrue, OnErr, OnOk};
+ghost use Rattle.std.specs.Prelude.{Option, vec_capacity, vec_len};
 ghost use Rattle.action_names.specs.Names.{Name};
 ghost use Rattle.script_model.specs.Resolved.{IsResolved, is_resolved_client};
 ghost use Rattle.activities.specs.Bodies.{IsOf};
-ghost use Rattle.activities.specs.Ends.{AreTried, ClientMade, IsTopAt, IsTopOrNothing, end_of, top_of};
+ghost use Rattle.activities.specs.Ends.{AllCame, AreTried, ClientMade, IsTopAt, IsTopOrNothing};
+ghost use Rattle.activities.specs.Ends.{end_of, ends_with, listed, top_of};
 ghost use Rattle.activities.specs.Making.{ClientMakes, once_begun};
 ghost use Rattle.activities.specs.Serial.{after, asked, begun_by, client_ran, serial_run};
 ghost use Rattle.run_model.specs.declared.step.Step.TheVariants.{Top};
@@ -35,20 +37,30 @@ pub fn run_serial<W: MakesSteps>(
     ensures ok { IfOk result (λ ends. record { world = W.run world.new; ends = ends.items }
         ≡ serial_run script.now (W.run world.old)) }
     ensures err { OnErr result (AreTried script.now.clients (W.run world.old) (W.run world.new)) }
+    ensures fault { IfErr result (λ fault. (W.run world.new ≡ W.run world.old)
+        ⊎ AllCame script.now.clients (W.run world.old) (W.run world.new) (Err fault)) }
 {
     let clients = script.clients.as_slice();
-    let mut ends = Vec::with_capacity(alloc, clients.len())?;
-    let mut fault = Ok(());
+    let room = Vec::with_capacity(alloc, clients.len())?;
+    let mut ends = Ok(room);
     for client in clients {
-        match run_client(alloc, world, script, client) {
-            Ok(end) => {
-                ends.reserve(1)?;
-                ends.push_reserved(end);
-            }
-            Err(error) => fault = fault.and(Err(error)),
-        }
+        ends = with_end(ends, run_client(alloc, world, script, client));
     }
-    fault?;
+    ends
+}
+
+/// The ends of clients and of the next one. Of several faults the lowest client's is answered.
+fn with_end(
+    ends: Result<Vec<ClientEnd>, Fault>,
+    next: Result<ClientEnd, Fault>,
+) -> Result<Vec<ClientEnd>, Fault>
+    requires room { IfOk ends (λ ends. vec_len ends < vec_capacity ends) }
+    ensures ends { listed result ≡ ends_with (listed ends) next }
+    ensures room { IfOk result
+        (λ all. IfOk ends (λ ends. vec_capacity all ≡ vec_capacity ends)) }
+{
+    let mut ends = ends?;
+    ends.push_reserved(next?);
     Ok(ends)
 }
 

@@ -1,10 +1,14 @@
-use Rattle.std.proofs.Common.{IfOk, take, ◌≡◌}
+use Rattle.std.proofs.Common.{IfOk, length, take, ◌≡◌}
+use Rattle.activities.specs.Ends.{AllCame, listed}
 use Rattle.activities.specs.Serial.{clients_ran}
-use Rattle.activities.proofs.Trying.{TriedSoFar}
+use Rattle.activities.proofs.Trying.{HasRoom, TriedSoFar}
 use Rattle.activities.proofs.serial.run_serial.Given as goal
 
 abbrev pub invariant-loop-client : goal.invariant-loop-client
 invariant-loop-client g l = record {
   tried : TriedSoFar l.clients l.client-index (g.W.MakesSteps.run l.fn.world) (g.W.MakesSteps.run l.world);
-  ran : IfOk l.fault (λ u. record { world = (g.W.MakesSteps.run l.world); ends = l.ends.items } ≡ clients_ran l.script.handlers (take l.client-index l.clients) (g.W.MakesSteps.run l.fn.world));
+  came : AllCame (take l.client-index l.clients) (g.W.MakesSteps.run l.fn.world) (g.W.MakesSteps.run l.world) (listed l.ends);
+  room : IfOk l.ends (HasRoom l.client-index (length l.clients));
+  ran : IfOk l.ends (λ ends. record { world = (g.W.MakesSteps.run l.world); ends = ends.items }
+      ≡ clients_ran l.script.handlers (take l.client-index l.clients) (g.W.MakesSteps.run l.fn.world));
 }
