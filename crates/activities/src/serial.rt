@@ -1,12 +1,13 @@
-ghost use Rattle.std.specs.Prelude.{◌≡◌, ◌<◌, ◌⊎◌, Err, IfErr, IfOk, IsTrue, OnErr, OnOk};
-ghost use Rattle.std.specs.Prelude.{Option, vec_capacity, vec_len};
+ghost use Rattle.std.specs.Prelude.{◌≡◌, ◌<◌, ◌⊎◌, Err, IfErr, IfOk, IfSome, IsTrue, OnErr, OnOk};
+ghost use Rattle.std.specs.Prelude.{Option, option_map, vec_capacity, vec_len};
 ghost use Rattle.action_names.specs.Names.{Name};
 ghost use Rattle.script_model.specs.Resolved.{IsResolved, is_resolved_client};
+ghost use Rattle.activities.specs.Acting.{acting};
 ghost use Rattle.activities.specs.Bodies.{IsOf};
 ghost use Rattle.activities.specs.Ends.{AllCame, AreTried, ClientMade, IsTopAt, IsTopOrNothing};
 ghost use Rattle.activities.specs.Ends.{end_of, ends_with, listed, top_of};
 ghost use Rattle.activities.specs.Making.{ClientMakes, once_begun};
-ghost use Rattle.activities.specs.Serial.{after, asked, begun_by, client_ran, serial_run};
+ghost use Rattle.activities.specs.Serial.{after, asked, begun_at, begun_by, client_ran, serial_run};
 ghost use Rattle.run_model.specs.declared.step.Step.TheVariants.{Top};
 
 use crate::activity::Activity;
@@ -83,29 +84,39 @@ pub fn run_client<W: ActivitySteps>(
         ((top : Option Name) × ClientMakes client.now.home top (W.run world.old) (W.run world.new)
         × (W.alone → IsTopOrNothing client.now.home (W.run world.old) top)) }
 {
-    let reached = Reached::new(alloc, client.home, Names::new(alloc))?;
-    let Some(name) = begin_top(world, client.home)? else {
+    let Some(mut top) = begin_top(alloc, world, client.home)? else {
         return Ok(ClientEnd::Aborted { top: None });
     };
-    let mut top = OpenAction::new(name, client.home, reached);
     let mut frames = Frames::new(alloc);
     let body = client.body.as_slice();
     let flow = Activity::new(alloc, script).run(world, &mut top, &mut frames, body)?;
     Ok(end_of(top.name, flow))
 }
 
-/// Begins a top action at a guardian; none if that is refused.
-fn begin_top<W: ActivitySteps>(world: &mut W, home: u32) -> Result<Option<Name>, Fault>
-    ensures left { IfOk result
-        (λ found. W.run world.new ≡ once_begun home found (W.run world.old)) }
-    ensures top { IfOk result (λ found. W.alone → IsTopAt home (W.run world.old) found) }
+/// Begins a client's top action at its home; none if that is refused. After an error nothing has begun.
+fn begin_top<W: ActivitySteps>(
+    alloc: Global,
+    world: &mut W,
+    home: u32,
+) -> Result<Option<OpenAction>, Fault>
+    ensures left { IfOk result (λ found. W.run world.new
+        ≡ once_begun home (option_map (λ top. top.name) found) (W.run world.old)) }
+    ensures top { IfOk result (λ found. W.alone
+        → IsTopAt home (W.run world.old) (option_map (λ top. top.name) found)) }
     ensures after { OnOk result (W.alone → W.run world.new ≡ after (Top home) (W.run world.old)) }
-    ensures begun { IfOk result
-        (λ found. W.alone → found ≡ begun_by (asked (Top home) (W.run world.old))) }
+    ensures begun { IfOk result (λ found. W.alone → option_map (λ top. top.name) found
+        ≡ begun_by (asked (Top home) (W.run world.old))) }
+    ensures acting { IfOk result
+        (λ found. IfSome found (λ top. acting top ≡ begun_at home top.name)) }
     ensures err { OnErr result (W.run world.new ≡ W.run world.old) }
 {
+    let reached = Reached::new(alloc, home, Names::new(alloc))?;
     let answer = world.make_step(&Step::Top(home))?;
-    Ok(begun_by(answer))
+    let Some(name) = begun_by(answer) else {
+        return Ok(None);
+    };
+    let top = OpenAction::new(name, home, reached);
+    Ok(Some(top))
 }
 
 /// How a client ended, if its top action ended so.
