@@ -4,5 +4,4 @@ pub mod Counts
 pub mod Descendants
 pub mod Changes
 pub mod Somebody
-pub mod Asked
 pub mod FewRows

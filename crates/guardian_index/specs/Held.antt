@@ -55,10 +55,6 @@ IsHeld held n = (b : Name) × IsTrue (has_object held b n)
 abbrev pub HoldsBelow : Rows → Name → ℕ → Type 0
 HoldsBelow held a n = (b : Name) × IsTrue (is_ancestor a b) × IsTrue (has_object held b n)
 
--- it is the action or a descendant, and holds something at some object
-abbrev pub HoldsSomethingBelow : Rows → Name → Name → Type 0
-HoldsSomethingBelow held a b = IsTrue (is_ancestor a b) × (n : ℕ) × IsTrue (has_object held b n)
-
 -- how many objects a row adds to those of an action and its descendants
 abbrev pub count_in : Name → Name × Row → ℕ
 count_in a r = if is_ancestor a r.0 then length r.1.objects else 0

@@ -5,13 +5,11 @@
 //! own to say; here stands only where to look.
 #![tactic(auto)]
 
-mod asking;
 mod few;
 mod holding;
 mod objects;
 mod rising;
 mod trees;
 
-pub use asking::Asking;
 pub use holding::Holding;
 pub use objects::{HeldObjects, HeldRows};

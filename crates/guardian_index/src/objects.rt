@@ -1,13 +1,12 @@
 //! At which objects each holder holds something: in a vector while there are few holders, as nearly always, and in a
 //! tree from then on.
-ghost use Rattle.std.specs.Prelude.{◌≡◌, ◌↔◌, ◌||◌, ◌&&◌, ◌==◌, ◌≤◌, ◌+◌, ℕ, not, true, false, [], length, IsTrue, IsFalse, IfOk, OnOk, OnErr, IfSome};
+ghost use Rattle.std.specs.Prelude.{◌≡◌, ◌↔◌, ◌||◌, ◌&&◌, ◌==◌, ◌≤◌, ◌+◌, ℕ, not, false, [], length, IsTrue, IfOk, OnOk, OnErr, IfSome};
 ghost use Rattle.std.specs.Option.{option_copied as name_of};
 ghost use Rattle.action_names.specs.Names.{Name, same_name, is_ancestor, is_proper_ancestor};
-ghost use Rattle.guardian_index.specs.Held.{IsRising, has_number, has_object, objects_at, room_at, has_room, HoldsBelow, HoldsSomethingBelow};
+ghost use Rattle.guardian_index.specs.Held.{IsRising, has_number, has_object, objects_at, room_at, has_room, HoldsBelow};
 ghost use Rattle.guardian_index.specs.Held.{HasRoomBelow, HasRoomFrom, IsHeld, count_below, is_name_of};
 ghost use Rattle.guardian_index.specs.Few.{is_in_rows};
 
-use crate::asking::Asking;
 use crate::few::FewRows;
 use crate::holding::Holding;
 use crate::trees::TreeRows;
@@ -78,20 +77,6 @@ impl HeldObjects {
         match &self.kept {
             Kept::Few(few) => few.objects_below(action),
             Kept::Many(many) => many.objects_below(action),
-        }
-    }
-
-    /// Whether the answer is yes of the action and of each descendant that holds something. It looks at their rows
-    /// and one more. Fails only if memory runs out.
-    pub fn all_below<A: Asking>(&self, action: &Name, question: &A) -> Result<bool, AllocError>
-        ensures all { IfOk result (λ yes. IsTrue yes → (b : Name)
-            → HoldsSomethingBelow self.now action.now b → A.answers question.now b true) }
-        ensures one { IfOk result (λ yes. IsFalse yes → (b : Name)
-            × HoldsSomethingBelow self.now action.now b × A.answers question.now b false) }
-    {
-        match &self.kept {
-            Kept::Few(few) => few.all_below(action, question),
-            Kept::Many(many) => many.all_below(action, question),
         }
     }
 

@@ -1,12 +1,11 @@
 //! What holders hold in a tree, in the order of their names. What a step costs grows with the logarithm of their
 //! number.
-ghost use Rattle.std.specs.Prelude.{◌≡◌, ◌↔◌, ◌||◌, ◌&&◌, ◌==◌, ◌≤◌, ◌+◌, ℕ, not, true, false, length, IsTrue, IsFalse, IfOk, OnOk, OnErr, IfSome, if◌then◌else◌};
+ghost use Rattle.std.specs.Prelude.{◌≡◌, ◌↔◌, ◌||◌, ◌&&◌, ◌==◌, ◌≤◌, ◌+◌, ℕ, not, false, length, IsTrue, IfOk, OnOk, OnErr, IfSome, if◌then◌else◌};
 ghost use Rattle.std.specs.Option.{option_copied as name_of};
 ghost use Rattle.action_names.specs.Names.{Name, same_name, is_ancestor, is_proper_ancestor};
-ghost use Rattle.guardian_index.specs.Held.{IsRising, IsOrderly, has_number, has_object, objects_at, room_at, has_room, HoldsBelow, HoldsSomethingBelow};
+ghost use Rattle.guardian_index.specs.Held.{IsRising, IsOrderly, has_number, has_object, objects_at, room_at, has_room, HoldsBelow};
 ghost use Rattle.guardian_index.specs.Held.{HasRoomBelow, HasRoomFrom, IsHeld, count_below, is_in_row, is_name_of, rows_in};
 
-use crate::asking::Asking;
 use crate::holding::{Holding, retain_held};
 use crate::rising;
 use action_names::Name;
@@ -68,25 +67,6 @@ impl TreeRows {
             rising::insert_all(&mut below, objects);
         }
         Ok(below)
-    }
-
-    /// Whether the answer is yes of the action and of each descendant that holds something. It looks at their rows
-    /// and one more. Fails only if memory runs out.
-    pub fn all_below<A: Asking>(&self, action: &Name, question: &A) -> Result<bool, AllocError>
-        ensures all { IfOk result (λ yes. IsTrue yes → (b : Name)
-            → HoldsSomethingBelow self.now action.now b → A.answers question.now b true) }
-        ensures one { IfOk result (λ yes. IsFalse yes → (b : Name)
-            × HoldsSomethingBelow self.now action.now b × A.answers question.now b false) }
-    {
-        for (holder, objects) in self.rows.range(action..) {
-            if !action.is_ancestor(holder) {
-                break;
-            }
-            if !objects.is_empty() && !question.asks(holder)? {
-                return Ok(false);
-            }
-        }
-        Ok(true)
     }
 
     /// The objects at which somebody holds something: a row for each holder, so that an object at which several do
