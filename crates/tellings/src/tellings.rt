@@ -21,7 +21,6 @@ struct Told {
 /// Which outcomes a guardian was told since its last crash, and of which actions it was ever told that they committed.
 #[derive(Drop)]
 pub struct Tellings {
-    alloc: Global,
     crashes: u64,
     told: Index<Told>,
 }
@@ -55,7 +54,6 @@ impl Tellings {
         ensures told { (g : ℕ) → AreTold g [] result }
     {
         Tellings {
-            alloc,
             crashes: 0,
             told: Index::new(alloc),
         }
@@ -69,7 +67,6 @@ impl Tellings {
             → ((b : Name) → told_committed_here b here ≡ false) → AreTold g here result }
     {
         Tellings {
-            alloc,
             crashes,
             told: Index::new(alloc),
         }
