@@ -173,6 +173,6 @@ impl<V: Copy> FewHolders<V> {
         for (holder, row) in &self.rows {
             rows.insert(holder.copy()?, *row)?;
         }
-        Ok(TreeHolders::of(*self.rows.allocator(), rows))
+        Ok(TreeHolders::of(rows))
     }
 }

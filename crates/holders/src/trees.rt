@@ -11,7 +11,7 @@ ghost use Rattle.holders.specs.Held.{value_at, names_of, with_value, without, wi
 use crate::by_name::is_foreign;
 use crate::survivors::Survivors;
 use action_names::Name;
-use std::alloc::{AllocError, Global};
+use std::alloc::AllocError;
 use std::collections::btree_map::Iter;
 use std::collections::{BTreeMap, BTreeSet};
 use std::marker::Model;
@@ -19,7 +19,6 @@ use std::marker::Model;
 /// What each holder holds, and the names for which there is room.
 #[derive(Drop)]
 pub struct TreeHolders<V> {
-    alloc: Global,
     rows: BTreeMap<Name, Option<V>>,
 }
 
@@ -38,11 +37,11 @@ impl<V> Model for TreeHolders<V> {
 
 impl<V: Drop> TreeHolders<V> {
     // Holders with these rows.
-    pub(crate) fn of(alloc: Global, rows: BTreeMap<Name, Option<V>>) -> Self
+    pub(crate) fn of(rows: BTreeMap<Name, Option<V>>) -> Self
         requires { IsStrictlySortedBy name_cmp (keys rows) }
         ensures { result ≡ record { held = held_in rows.entries; room = keys rows } }
     {
-        TreeHolders { alloc, rows }
+        TreeHolders { rows }
     }
 
     /// What the holder holds, if anything. This takes no memory.
