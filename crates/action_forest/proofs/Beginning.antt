@@ -52,7 +52,6 @@ module _ (opening : Opening) (registry : List RegistryEvent) (stamp : ℕ) (step
         record {
           name = born.name;
           home = born.home;
-          life = born.life;
           maker = born.maker ∙ of (maker_in step) refl;
           depends = born.depends;
           status = born.status;
@@ -108,12 +107,11 @@ added_last nodes node forest = ap (λ ns. all_added (map action_in ns) forest) (
 -- an action that begins with these dependencies is as it begins
 pub born_fresh : (opening : Opening) (registry : List RegistryEvent) (m : Option Name) (h n : ℕ) (forest : Trees) (b : Name)
     (node : Node) (maker : Option ℕ)
-    → action_in node ≡ fresh_action b maker h n node.depends → tree.entries node.depends ≡ first_entries opening registry h n b
+    → action_in node ≡ fresh_action b maker h node.depends → tree.entries node.depends ≡ first_entries opening registry h n b
     → maker ≡ option_and_then (λ a. place_of forest a) m → IsBorn opening registry m h n forest b (action_in node)
 born_fresh opening registry m h n forest b node maker is entries placed = record {
   name = ap (λ x. x.name) is;
   home = ap (λ x. x.home) is;
-  life = ap (λ x. x.life) is;
   maker = ap (λ x. x.maker) is ∙ placed;
   depends = λ g.
       tree.get-entries node.depends g ∙ find_beside (tree.entries node.depends) g ∙ ap (λ es. beside es g) entries;

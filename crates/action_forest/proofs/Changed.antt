@@ -43,7 +43,6 @@ kept_at field missing f i j xs keeps = of (cases_eq j i)
 pub record KeepsTree (f : Action → Action) : Type 0 where
   pub name : (x : Action) → (f x).name ≡ x.name
   pub home : (x : Action) → (f x).home ≡ x.home
-  pub life : (x : Action) → (f x).life ≡ x.life
   pub maker : (x : Action) → (f x).maker ≡ x.maker
   pub children : (x : Action) → (f x).children ≡ x.children
 

@@ -31,7 +31,6 @@ module _ (first guardians : ℕ) where
       named = λ a i at. let none = nowhere a in absurd (cc);
       placed = λ a i name. absurd (cc);
       home = λ a. nothing_said (λ action. action.home) 0 a;
-      life = λ a. nothing_said (λ action. action.life) 0 a;
       makers = λ a j e. let none = nothing_said (λ action. action.maker) None a in absurd (cc);
       maker = λ a. nothing_said (λ action. option_and_then (λ i. name_at empty i) action.maker) None a;
       children = λ a. no_children a;

@@ -23,16 +23,16 @@ use Rattle.action_forest.specs.Forests.{IsForest, IsTree}
 use Rattle.action_forest.specs.Trees.{Action, Trees, action_of, changed, changed_at, closed, committed, depends_at, ended, maker_at, maker_place, name_at, one_less, place_of, said, status_at, unended_at, with_closed, with_depends, with_status}
 
 pub closed_keeps : KeepsTree with_closed
-closed_keeps = record { name = λ x. refl; home = λ x. refl; life = λ x. refl; maker = λ x. refl; children = λ x. refl }
+closed_keeps = record { name = λ x. refl; home = λ x. refl; maker = λ x. refl; children = λ x. refl }
 
 pub status_keeps : (status : Status) → KeepsTree (with_status status)
-status_keeps status = record { name = λ x. refl; home = λ x. refl; life = λ x. refl; maker = λ x. refl; children = λ x. refl }
+status_keeps status = record { name = λ x. refl; home = λ x. refl; maker = λ x. refl; children = λ x. refl }
 
 pub less_keeps : KeepsTree one_less
-less_keeps = record { name = λ x. refl; home = λ x. refl; life = λ x. refl; maker = λ x. refl; children = λ x. refl }
+less_keeps = record { name = λ x. refl; home = λ x. refl; maker = λ x. refl; children = λ x. refl }
 
 pub depends_keeps : (deps : Deps) → KeepsTree (with_depends deps)
-depends_keeps deps = record { name = λ x. refl; home = λ x. refl; life = λ x. refl; maker = λ x. refl; children = λ x. refl }
+depends_keeps deps = record { name = λ x. refl; home = λ x. refl; maker = λ x. refl; children = λ x. refl }
 
 -- what the change keeps of each action is said as before, wherever it is
 pub said_kept_at : {B : Type 0} (field : Action → B) (missing : B) (f : Action → Action) (o : Option ℕ) (forest : Trees) → KeepsTree f

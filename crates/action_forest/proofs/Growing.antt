@@ -11,7 +11,7 @@ use Rattle.run_model.specs.Actions.{begun, home_in, home_of, is_begun, is_ended,
 use Rattle.run_model.specs.LocalHistories.{RegistryEvent, dependency_there, events_there}
 use Rattle.run_model.specs.LocalReadings.{after_commit, beside}
 use Rattle.run_model.specs.Openings.{Opening, given_before}
-use Rattle.action_forest.proofs.NamesBegun.{filter_more, has_name_more, least_more, length_more, life_more, made_more, value_more}
+use Rattle.action_forest.proofs.NamesBegun.{filter_more, has_name_more, least_more, length_more, made_more, value_more}
 use Rattle.action_forest.proofs.Changed.{KeepsTree}
 use Rattle.action_forest.proofs.Ending.{active_not_ended, counted, first_at, guardians_at, place_at, said_kept_at}
 use Rattle.action_forest.proofs.Entries.{entry_outside}
@@ -19,13 +19,13 @@ use Rattle.action_forest.proofs.Grown.{IsNext, children_grown, first_grown, free
 use Rattle.action_forest.proofs.Names.{clash, same_name_self, same_name_true}
 use Rattle.std.proofs.lemmas.Option.{same_Some}
 use Rattle.action_forest.proofs.Quiet.{tree_changed_at}
-use Rattle.action_forest.specs.Events.{beginning, first_entries, life_there, status_there, unended_there}
+use Rattle.action_forest.specs.Events.{beginning, first_entries, status_there, unended_there}
 use Rattle.action_forest.specs.Forests.{IsBorn, IsForest, IsTree}
 use Rattle.action_forest.specs.Trees.{Action, Trees, action_of, added, changed_at, children_of, first_of, grown, name_at, one_more, place_of, said, unended_at, with_child}
 use Rattle.step_answers.specs.declared.actor.Status.TheVariants.{Active}
 
 pub more_keeps : KeepsTree one_more
-more_keeps = record { name = λ x. refl; home = λ x. refl; life = λ x. refl; maker = λ x. refl; children = λ x. refl }
+more_keeps = record { name = λ x. refl; home = λ x. refl; maker = λ x. refl; children = λ x. refl }
 
 more_by : (b : Bool) (n : ℕ) → cond b (n + 1) n ≡ n + cond b 1 0
 more_by true n = refl
@@ -207,10 +207,6 @@ module _ (opening : Opening) (registry : List RegistryEvent) (stamp : ℕ) (step
           said_grown (c ∷ registry) base x tree_base next (λ y. y.home) 0 (λ y. refl) top refl a
           ∙ (λ i. cond (same_name x.name a) ((b.born.home ∙ b.at_home) i) (tree_base.home a i))
           ∙ sym (value_more xs x.name a (home_in step (λ k. home_of k (events_there registry))) (home_of a (events_there registry)));
-      life = λ a.
-          said_grown (c ∷ registry) base x tree_base next (λ y. y.life) 0 (λ y. refl) top refl a
-          ∙ (λ i. cond (same_name x.name a) (b.born.life i) (tree_base.life a i))
-          ∙ sym (life_more opening registry home life xs x.name a (life_there a registry));
       makers = makers_are;
       maker = λ a.
           said_grown (c ∷ registry) base x tree_base next (λ y. option_and_then (λ j. name_at (grown x base) j) y.maker) None (λ y. refl) top refl a

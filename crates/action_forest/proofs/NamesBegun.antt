@@ -6,7 +6,7 @@ use Rattle.run_model.specs.LocalReadings.{beside}
 use Rattle.run_model.specs.Openings.{Opening}
 use Rattle.action_forest.proofs.Counted.{count_front}
 use Rattle.action_forest.proofs.Names.{same_name_true}
-use Rattle.action_forest.specs.Events.{first_action, first_entries, new_life}
+use Rattle.action_forest.specs.Events.{first_action, first_entries}
 
 -- one name more at the end of the first of two lists
 pub has_name_more : (xs ys : List Name) (b a : Name) → has_name ((xs ++ b ∷ []) ++ ys) a ≡ (same_name b a || has_name (xs ++ ys) a)
@@ -65,21 +65,6 @@ value_more (x ∷ xs) b a u v = of (same_name x a) (same_name b a) (has_name xs 
 module _ (opening : Opening) (registry : List RegistryEvent) (home life : ℕ) where
   abbrev new : List Name → List NewAction
   new names = map (λ b. first_action opening registry home life b) names
-
-  life_same : (names : List Name) (a : Name) (before : ℕ) → cond (has_name names a) (new_life (new names) a) before ≡ cond (has_name names a) life before
-  life_same [] a before = refl
-  life_same (x ∷ names) a before = of (same_name x a) (has_name names a) (life_same names a before)
-    where
-      of : (t h : Bool) → cond h (new_life (new names) a) before ≡ cond h life before
-          → cond (t || h) (cond t life (new_life (new names) a)) before ≡ cond (t || h) life before
-      of true h e = refl
-      of false h e = e
-
-  pub life_more : (xs : List Name) (b a : Name) (before : ℕ)
-      → cond (has_name (xs ++ b ∷ []) a) (new_life (new (xs ++ b ∷ [])) a) before
-      ≡ cond (same_name b a) life (cond (has_name xs a) (new_life (new xs) a) before)
-  life_more xs b a before =
-      life_same (xs ++ b ∷ []) a before ∙ value_more xs b a life before ∙ ap (cond (same_name b a) life) (sym (life_same xs a before))
 
   least_same : (names : List Name) (a : Name) (g : ℕ) (before : Option ℕ)
       → cond (has_name names a) (new_least (new names) a g) before ≡ cond (has_name names a) (beside (first_entries opening registry home life a) g) before

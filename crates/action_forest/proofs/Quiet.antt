@@ -4,7 +4,6 @@ use Rattle.action_names.specs.Names.{Name, has_name, parent_of, same_name}
 use Rattle.run_model.specs.Actions.{begins, begun, home_in, home_of, is_begun, is_exactly, made_by, maker_in, maker_of, names_begun, step_makes}
 use Rattle.run_model.specs.LocalHistories.{RegistryEvent, events_there}
 use Rattle.action_forest.proofs.Changed.{KeepsTree, children_changed, count_changed, maker_changed, name_changed, place_changed, said_kept}
-use Rattle.action_forest.specs.Events.{life_there, new_life}
 use Rattle.action_forest.specs.Forests.{IsTree}
 use Rattle.action_forest.specs.Trees.{Action, Trees, changed, changed_at}
 
@@ -26,7 +25,6 @@ tree_quiet registry forest c none h = record {
   named = h.named;
   placed = h.placed;
   home = λ a. h.home a ∙ sym (not_begun a (home_in c.event.step (λ b. home_of b (events_there registry))) (home_of a (events_there registry)));
-  life = λ a. h.life a ∙ sym (not_begun a (new_life c.begun a) (life_there a registry));
   makers = h.makers;
   maker = λ a. h.maker a ∙ sym (maker_same a);
   children = λ a. h.children a ∙ sym (ap (λ names. length (filter (λ b. same_name (parent_of b) a) names)) begun_same);
@@ -57,7 +55,6 @@ tree_changed registry forest f i keeps h = record {
   named = λ a j at. name_changed f i forest keeps j ∙ h.named a j (sym (place_changed f i forest keeps a) ∙ at);
   placed = λ a j name. place_changed f i forest keeps a ∙ h.placed a j (sym (name_changed f i forest keeps j) ∙ name);
   home = λ a. said_kept (λ action. action.home) 0 f i forest keeps keeps.home a ∙ h.home a;
-  life = λ a. said_kept (λ action. action.life) 0 f i forest keeps keeps.life a ∙ h.life a;
   makers = λ a j e.
       subst (λ n. j < n) (sym (count_changed f i forest))
       (h.makers a j (sym (said_kept (λ action. action.maker) None f i forest keeps keeps.maker a) ∙ e));

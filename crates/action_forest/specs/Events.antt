@@ -6,7 +6,7 @@ use Rattle.run_model.specs.declared.answer.Answer.TheVariants.{Began, Done}
 use Rattle.run_model.specs.declared.history.Event.{Event}
 use Rattle.run_model.specs.declared.step.Step.{Step}
 use Rattle.run_model.specs.declared.step.Step.TheVariants.{Abort, Close, Commit, Decide}
-use Rattle.run_model.specs.Actions.{begins, begun, is_aborted, is_begun, is_closed, is_committed, is_ended, made_by}
+use Rattle.run_model.specs.Actions.{begun, is_aborted, is_begun, is_closed, is_committed, is_ended, made_by}
 use Rattle.run_model.specs.Dependencies.{inherited, own_entry}
 use Rattle.run_model.specs.LocalHistories.{NewAction, RegistryEvent, dependency_there, entries_of}
 use Rattle.run_model.specs.Openings.{Opening}
@@ -18,15 +18,6 @@ abbrev pub status_there : Name → List Event → Status
 status_there a past =
     if is_committed a past then Committed
     else (if is_aborted a past then Aborted else (if is_closed a past then Closed else Active))
-
--- in which incarnation of its home an action began, by the registry's history; 0 where it was not begun
-abbrev pub new_life : List NewAction → Name → ℕ
-new_life [] a = 0
-new_life (x ∷ xs) a = if same_name x.name a then x.incarnation else new_life xs a
-
-abbrev pub life_there : Name → List RegistryEvent → ℕ
-life_there a [] = 0
-life_there a (c ∷ registry) = if begins c.event a then new_life c.begun a else life_there a registry
 
 -- how many of the things that an action made have not ended
 abbrev pub unended_there : Name → List Event → ℕ

@@ -10,8 +10,8 @@ use Rattle.run_model.specs.LocalReadings.{beside}
 use Rattle.run_model.specs.Openings.{Opening, given_before}
 use Rattle.action_forest.specs.declared.forest.Commitment.{Commitment}
 use Rattle.step_answers.specs.declared.actor.Status.TheVariants.{Active}
-use Rattle.action_forest.specs.Events.{children_there, first_entries, life_there, status_there, unended_there}
-use Rattle.action_forest.specs.Trees.{Action, Trees, action_of, children_of, depends_at, home_at, life_at, maker_at, name_at, place_of, said, status_at, unended_at}
+use Rattle.action_forest.specs.Events.{children_there, first_entries, status_there, unended_there}
+use Rattle.action_forest.specs.Trees.{Action, Trees, action_of, children_of, depends_at, home_at, maker_at, name_at, place_of, said, status_at, unended_at}
 
 -- What does not change once an action has begun. Each action that was begun stands at one place, under its name, with
 -- its home and its maker. An action is made once, and a subaction by its parent.
@@ -21,7 +21,6 @@ pub record IsTree (registry : List RegistryEvent) (forest : Trees) : Type 0 wher
   pub named : (a : Name) (i : ℕ) → place_of forest a ≡ Some i → name_at forest i ≡ Some a
   pub placed : (a : Name) (i : ℕ) → name_at forest i ≡ Some a → place_of forest a ≡ Some i
   pub home : (a : Name) → home_at forest a ≡ home_of a (events_there registry)
-  pub life : (a : Name) → life_at forest a ≡ life_there a registry
   pub makers : (a : Name) (j : ℕ) → said (λ action. action.maker) None (action_of forest a) ≡ Some j
       → j < length forest.actions
   pub maker : (a : Name) → maker_at forest a ≡ maker_of a (events_there registry)
@@ -61,7 +60,6 @@ pub record IsBorn (opening : Opening) (registry : List RegistryEvent) (m : Optio
     (forest : Trees) (b : Name) (x : Action) : Type 0 where
   pub name : x.name ≡ b
   pub home : x.home ≡ h
-  pub life : x.life ≡ n
   pub maker : x.maker ≡ option_and_then (λ a. place_of forest a) m
   pub depends : (g : ℕ) → tree.get x.depends g ≡ beside (first_entries opening registry h n b) g
   pub status : x.status ≡ Active

@@ -14,7 +14,6 @@ use Rattle.step_answers.specs.declared.actor.Status.TheVariants.{Active, Closed,
 pub record Action : Type 0 where
   pub name : Name
   pub home : ℕ
-  pub life : ℕ
   pub maker : Option ℕ
   pub depends : Deps
   pub status : Status
@@ -33,7 +32,6 @@ abbrev pub action_in : Node → Action
 action_in node = record {
   name = node.name;
   home = node.home;
-  life = node.life;
   maker = node.maker;
   depends = node.depends;
   status = node.status;
@@ -81,9 +79,6 @@ name_at forest i = said (λ action. Some action.name) None (slice_get forest.act
 
 abbrev pub home_at : Trees → Name → ℕ
 home_at forest a = said (λ action. action.home) 0 (action_of forest a)
-
-abbrev pub life_at : Trees → Name → ℕ
-life_at forest a = said (λ action. action.life) 0 (action_of forest a)
 
 abbrev pub maker_at : Trees → Name → Option Name
 maker_at forest a =
@@ -181,11 +176,10 @@ all_added [] forest = forest
 all_added (action ∷ actions) forest = all_added actions (added action forest)
 
 -- an action as it begins
-abbrev pub fresh_action : Name → Option ℕ → ℕ → ℕ → Deps → Action
-fresh_action a maker home life depends = record {
+abbrev pub fresh_action : Name → Option ℕ → ℕ → Deps → Action
+fresh_action a maker home depends = record {
   name = a;
   home = home;
-  life = life;
   maker = maker;
   depends = depends;
   status = Active;

@@ -21,7 +21,6 @@ use step_answers::{Actor, Status};
 pub struct Node {
     pub(crate) name: Name,
     home: u32,
-    life: u64,
     maker: Option<usize>,
     depends: Deps,
     pub(crate) status: Status,
@@ -336,7 +335,7 @@ impl Forest {
         life: u64,
     ) -> Result<Node, AllocError>
         ensures made { IfOk result
-            (λ node. action_in node ≡ fresh_action name.now maker home life node.depends) }
+            (λ node. action_in node ≡ fresh_action name.now maker home node.depends) }
         ensures depends { AtEach (trees self.now)
             (λ opening registry. IfOk result (λ node. map.entries node.depends
             ≡ first_entries opening registry home life name.now)) }
@@ -344,7 +343,6 @@ impl Forest {
         Ok(Node {
             name: name.copy()?,
             home,
-            life,
             maker,
             depends: self.new_dependencies(name, home, life)?,
             status: Status::Active,
