@@ -19,6 +19,7 @@ use stable_store::{PlainStable, Stable};
 use std::alloc::Global;
 use std::fs::{self, File};
 use std::io::{self, IsTerminal};
+use std::mem;
 use std::process::ExitCode;
 use std::sync::Wait;
 use std::thread::Threads;
@@ -46,10 +47,12 @@ pub fn steps<O: Opens>(rt: &HostRuntime, files: &O, given: &Steps<'_>) -> Result
     }
 }
 
-/// Makes the steps in a new world in memory.
+/// Makes the steps in a new world in memory. The program ends then, so the world's memory is not freed piece by piece.
 fn answer_in_memory(rt: &HostRuntime, setup: Setup, given: &Steps<'_>) -> Result<ExitCode, Fault> {
     let mut world = World::in_memory(rt.alloc(), setup)?;
-    answer(rt, &mut world, given)
+    let status = answer(rt, &mut world, given);
+    mem::forget(world);
+    status
 }
 
 /// Makes the steps in a world over these stores, new ones or those that a stop left.
