@@ -43,7 +43,7 @@ def main():
         folder = pathlib.Path(scratch)
         print("| workload | steps | seconds | steps a second | peak memory, MB |\n|---|---|---|---|---|")
         for count in counts:
-            for name in ("subactions", "transfers", "nested", "arms"):
+            for name in ("subactions", "transfers", "nested", "arms", "small-arrays", "arrays"):
                 make(name, count, folder)
                 taken, peak, answered = measure(program, folder)
                 print(f"| {name} | {answered:,} | {taken:.2f} | {answered / taken:,.0f} | {peak / 1024:.1f} |", flush=True)

@@ -5,6 +5,10 @@ subactions  one guardian; each top action has a subaction that commits and one t
 transfers   four guardians; each top action writes an account at home and one elsewhere, and goes through both phases
 nested      two guardians; each top action is a chain of sixteen subactions to and fro, all of which write one record
 arms        one guardian of 1,024 records; each top action has sixteen arms, each of which writes a record of its own
+arrays      one guardian of five arrays of 10,000 items; each top action has a subaction that commits and one that
+            aborts, and each of them stores an item and adds one; the top action fetches an item, removes one, stores
+            one, and goes through both phases
+small-arrays  the same steps, with arrays of 10 items
 refused     one guardian; every step is refused
 long-line   one line of STEPS bytes, which is no step
 """
@@ -15,6 +19,10 @@ import sys
 
 def setup(guardians, objects, field):
     return {"guardians": [{"objects": [{"record": {field: 0}}] * objects}] * guardians}
+
+
+def array_setup(items):
+    return {"guardians": [{"objects": [{"array": {"of": "int", "low": 1, "items": [0] * items}}] * 5}]}
 
 
 def subactions(top):
@@ -77,11 +85,30 @@ def arms(top):
     yield from two_phases(top, (1,))
 
 
+def arrays(top):
+    array = f"1/{(top - 1) % 5 + 1}"
+    low = (top - 1) // 5 + 1  # each earlier top action at this array has added an item above, and removed the lowest
+    yield "top 1"
+    for child, end in (1, "commit"), (2, "abort"):
+        name = f"{top}.{child}"
+        yield f"call {top} 1"
+        yield f"op {name} {array} store {low + 1} {top}"
+        yield f"op {name} {array} addh {top}"
+        yield f"{end} {name}"
+        yield f"tell 1 {name}"
+    yield f"op {top} {array} fetch {low + 2}"
+    yield f"op {top} {array} reml"
+    yield f"op {top} {array} store {low + 3} {top}"
+    yield from two_phases(top, (1,))
+
+
 KINDS = {
     "subactions": (setup(1, 64, "n"), subactions),
     "transfers": (setup(4, 64, "n"), transfers),
     "nested": (setup(2, 16, "n"), nested),
     "arms": (setup(1, 1024, "n"), arms),
+    "arrays": (array_setup(10_000), arrays),
+    "small-arrays": (array_setup(10), arrays),
 }
 
 
