@@ -1,11 +1,12 @@
-ghost use Rattle.std.specs.Prelude.{◌≡◌, ◌≢◌, ◌++◌, ℤ, [], Some, IfOk, OnOk, IsErrOf, string_bytes};
+ghost use Rattle.std.specs.Prelude.{◌≡◌, ◌≢◌, ◌++◌, ℤ, [], Some, IfOk, OnOk, IsErrOf, codes, string_bytes};
+ghost use Rattle.serde_json.specs.Data.{Data, object, no_members, member};
 ghost use Rattle.serde_json.specs.View.{view};
 ghost use Rattle.serde_json.specs.Read.{read};
 ghost use Rattle.serde_json.specs.Written.{compact_text, outline};
 ghost use Rattle.json.specs.Tree.{json_tokens};
 ghost use Rattle.json.specs.Print.{print};
 ghost use Rattle.values.specs.Totals.{IsCounter};
-ghost use Rattle.values.specs.declared.words.ValueFault.TheVariants.{Unfit};
+ghost use Rattle.values.specs.declared.words.ValueFault.TheVariants.{Memory, Unfit};
 ghost use Rattle.atomic_types.specs.declared.part.Part.{Part as Spec};
 ghost use Rattle.store_tables.specs.PartTexts.{IsStoredPart, delta_data, part_text as text_of};
 
@@ -107,6 +108,8 @@ fn delta_of(json: &Json) -> Result<Counter, ValueFault>
     ensures found { IfOk result (λ by. view json.now ≡ delta_data by) }
     ensures refused { IsErrOf result Unfit → (by : ℤ) → IsCounter by
         → view json.now ≢ delta_data by }
+    ensures memory { IsErrOf result Memory
+        → (d : Data) × (view json.now ≡ object (member (codes "delta") d no_members)) }
 {
     let (name, document) = only_member(json).ok_or(ValueFault::Unfit)?;
     if name != DELTA {
