@@ -47,6 +47,10 @@ IsJudged bytes Done line = IsScript bytes × (line ≡ ok_line)
 IsJudged bytes Stopped line = (why : FaultKind) × (place : List ℕ) × HasFirstFault bytes why place
     × (line ≡ fault_line why place)
 
+-- they are no script, and have a first fault to name
+abbrev pub AreFaulty : List ℕ → Type 0
+AreFaulty bytes = (line : List ℕ) × IsJudged bytes Stopped line
+
 -- nothing was said, or a beginning of what is to be said
 abbrev pub BeginsJudgement : List ℕ → List ℕ → Type 0
 BeginsJudgement bytes written = (written ≡ [])

@@ -1,10 +1,11 @@
 //! What the program says of a script.
 
-ghost use Rattle.std.specs.Prelude.{◌≡◌, ◌≢◌, ℕ, List, IfOk, IfErr, OnErr, string_bytes};
+ghost use Rattle.std.specs.Prelude.{◌≡◌, ◌≢◌, ℕ, List, IfOk, IfErr, IsErrOf, OnErr, string_bytes};
 ghost use Rattle.std.specs.Io.KnownBytes.{Keeps};
 ghost use Rattle.argus_engine.specs.declared.engine.Ended.TheVariants.{Stopped};
 ghost use Rattle.argus_engine.specs.declared.engine.Fault.TheVariants.{Output};
-ghost use Rattle.argus_engine.specs.Judging.{BeginsFault, BeginsJudgement, IsFaultOf, IsJudged, IsRead, IsScriptIn};
+ghost use Rattle.argus_engine.specs.Judging.{AreFaulty, BeginsFault, BeginsJudgement};
+ghost use Rattle.argus_engine.specs.Judging.{IsFaultOf, IsJudged, IsRead, IsScriptIn};
 ghost use Rattle.argus_engine.specs.Serving.{IsOfWriter, Writes};
 
 use crate::engine::{Ended, Fault};
@@ -45,6 +46,8 @@ pub fn read_script<W: Write>(
     ensures fault { IfErr result IsOfWriter }
     ensures silent { IfErr result (λ fault. fault ≢ Output
         → Keeps (W.contents writer.old) (W.contents writer.new)) }
+    // of a script nothing is written
+    ensures faulty { IsErrOf result Output → AreFaulty bytes.now }
 {
     match script_in(alloc, bytes) {
         Ok(script) => Ok(Some(script)),

@@ -1,14 +1,15 @@
 //! What the program writes about a trace.
 
-ghost use Rattle.std.specs.Prelude.{◌≡◌, ◌≢◌, ℕ, List, Result, IfErr, IfOk, option_map, string_bytes};
+ghost use Rattle.std.specs.Prelude.{◌≡◌, ◌≢◌, ◌↔◌, ℕ, List, Result, IfErr, IfOk, option_map, string_bytes};
 ghost use Rattle.std.specs.Io.KnownBytes.{Keeps};
+ghost use Rattle.std.specs.IoError.{error_kind};
 ghost use Rattle.traces.specs.Faults.{IsFaultOf};
 ghost use Rattle.traces.specs.Traces.{IsTrace, histories_in};
 ghost use Rattle.argus_engine.specs.Serving.{Gives, Writes};
 ghost use Rattle.argus_engine.specs.Reading.{IsOfReader};
 ghost use Rattle.argus_engine.specs.Tracing.{BeginsVerdict, GivesNewWorlds, IsDenied, IsVerdict, OneVerdict, TellsTrace};
 ghost use Rattle.argus_engine.specs.Tracing.{IsOfMaking, IsOfTrace};
-ghost use Rattle.argus_engine.specs.declared.engine.Fault.TheVariants.{Output};
+ghost use Rattle.argus_engine.specs.declared.engine.Fault.TheVariants.{Memory, Output};
 
 use crate::engine::Fault;
 use crate::writing::finish;
@@ -64,7 +65,8 @@ fn read_whole<R: Read>(alloc: Global, reader: &mut R) -> Result<Vec<u8>, Fault>
 }
 
 fn read_fault(error: &io::Error) -> Fault
-    ensures { IsOfReader result }
+    ensures reader { IsOfReader result }
+    ensures memory { result ≡ Memory ↔ (error_kind error.now ≡ ErrorKind.OutOfMemory) }
 {
     match error.kind() {
         ErrorKind::OutOfMemory => Fault::Memory,

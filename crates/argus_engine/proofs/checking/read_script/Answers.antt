@@ -1,4 +1,4 @@
-use Rattle.std.proofs.Common.{subst, sym}
+use Rattle.std.proofs.Common.{string_bytes, subst, sym}
 use Rattle.argus_engine.specs.declared.engine.Ended.TheVariants.{Stopped}
 use Rattle.argus_engine.specs.Judging.{IsJudged}
 use Rattle.argus_engine.proofs.Judgements.{front_fault, on_err}
@@ -16,3 +16,7 @@ returns-in_ok-finish-in-Err-clause-read g c = (
   c.in_ok-finish-in-Err.ensures.ok,
   subst (IsJudged c.args.bytes.now Stopped) (sym c.as_str.ensures.value) (c.in_ok-line-in-Err.ensures c.args.bytes.now c.in-Err.ensures.fault),
 )
+
+pub returns-in_err-finish-in-Err-clause-faulty : goal.returns-in_err-finish-in-Err-clause-faulty
+returns-in_err-finish-in-Err-clause-faulty g c = λ _.
+    (string_bytes c.in_ok-line-in-Err.line, c.in_ok-line-in-Err.ensures c.args.bytes.now c.in-Err.ensures.fault)
