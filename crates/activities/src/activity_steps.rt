@@ -1,4 +1,4 @@
-ghost use Rattle.std.specs.Prelude.{◌≡◌, false, IfOk, OnErr, length, take};
+ghost use Rattle.std.specs.Prelude.{◌≡◌, false, true, IfOk, OnErr, length, take};
 ghost use Rattle.run_model.specs.declared.step.Step.TheVariants.{Op};
 ghost use Rattle.run_model.specs.Runs.{world_after};
 ghost use Rattle.activities.specs.Apart.{AreRunnable, begun_names, ended_names};
@@ -71,7 +71,8 @@ pub trait ActivitySteps: Sized {
     /// Claims for the arm that runs to leave its `coenter`, and waits while another claims so. False if another has
     /// left it.
     fn claim(&mut self) -> bool
-        ensures { run self.new ≡ run self.old };
+        ensures same { run self.new ≡ run self.old }
+        ensures alone { alone → result ≡ true };
 
     /// Says whether the arm that claimed so has left its `coenter`. If it has, the others are called off.
     fn settle(&mut self, has_left: bool)
