@@ -1,16 +1,18 @@
 -- Arms that run apart: what is known of one that has begun, who it is, and what its starter learns of it.
 use Rattle.std.specs.Prelude.{◌≡◌, ℕ, Bool, true, false, List, [], ◌∷◌, Some, Result, Ok, Err, IfErr, IfOk, map, slice_get, if◌then◌else◌}
 use Rattle.action_names.specs.Names.{Name}
+use Rattle.run_model.specs.Runs.{World}
 use Rattle.script_model.specs.declared.checked.Checked.{Checked}
 use Rattle.activities.specs.declared.apart.BegunArm.{BegunArm}
 use Rattle.activities.specs.declared.apart.EndedArm.{EndedArm}
 use Rattle.activities.specs.declared.flow.Flow.{Flow}
 use Rattle.activities.specs.declared.flow.Flow.TheVariants.{Ended, Outwards, Returned}
 use Rattle.activities.specs.declared.flow.Reach.TheVariants.{TopAction}
-use Rattle.activities.specs.Acting.{acting}
+use Rattle.activities.specs.declared.open_action.OpenAction.{OpenAction}
+use Rattle.activities.specs.Acting.{acting, doing}
 use Rattle.activities.specs.Bodies.{IsBody, sizes}
 use Rattle.activities.specs.Ends.{has_committed}
-use Rattle.activities.specs.Serial.{Acting, taken_in}
+use Rattle.activities.specs.Serial.{Acting, body_done, budget, run, taken_in}
 
 -- whatever the arm's body names is there
 abbrev pub IsRunnable : Checked → BegunArm → Type 0
@@ -42,6 +44,20 @@ ended_names arms = map ended_name arms
 
 abbrev pub are_subs : List BegunArm → List Bool
 are_subs arms = map (λ arm. arm.is_sub) arms
+
+-- ---- one arm that runs in a world that nobody else steps
+
+-- the world that it leaves, what its action has to do with then, and how it ended
+abbrev pub arm_ran : Checked → BegunArm → World → World × Acting × Flow
+arm_ran script arm w =
+    let r = run (body_done script.handlers budget) (acting arm.action) arm.frames arm.body
+    (doing w budget arm.action arm.frames) in
+    (r.doing.world, r.doing.acting, r.flow)
+
+-- an arm that was run from one world left another one, and its action ended so
+pub record ArmRan (script : Checked) (arm : BegunArm) (old new : World) (action : OpenAction)
+    (end : Flow) : Type 0 where
+  pub comes : (new, acting action, end) ≡ arm_ran script arm old
 
 -- ---- how a `coenter` goes on
 

@@ -3,11 +3,12 @@ ghost use Rattle.std.specs.Prelude.{◌≡◌, [], ◌∷◌, ◌++◌, Ok, Err,
 ghost use Rattle.action_names.specs.Names.{Name as Named, has_name};
 ghost use Rattle.script_model.specs.declared.checked.Checked.{Checked as Script};
 ghost use Rattle.activities.specs.Acting.{acting};
-ghost use Rattle.activities.specs.Apart.{AllRunnable, GoOn, IsRunnable, all_gone, are_subs, arm_taken_in, arms_taken_in};
-ghost use Rattle.activities.specs.Apart.{begun_name, begun_names, ended_name, gone_beside, has_left, leaves};
+ghost use Rattle.activities.specs.Apart.{AllRunnable, ArmRan, GoOn, IsRunnable, all_gone, are_subs, arm_taken_in};
+ghost use Rattle.activities.specs.Apart.{arms_taken_in, begun_name, begun_names, ended_name, gone_beside, has_left, leaves};
 ghost use Rattle.activities.specs.Bodies.{AreArms, IsOf, body_of, is_sub, sizes};
 ghost use Rattle.activities.specs.Ends.{commits};
 ghost use Rattle.activities.specs.Making.{Makes, Tells};
+ghost use Rattle.activities.specs.Serial.{ended};
 ghost use Rattle.activities.specs.declared.flow.Flow.TheVariants.{Ended};
 
 use crate::activity::{Activity, has_committed};
@@ -75,6 +76,8 @@ pub fn run_arm<W: ActivitySteps>(
     ensures told { IfOk result.ended (λ end. Tells (commits end) (begun_name arm)
         (W.run world.old) (W.run world.new)) }
     ensures sub { result.is_sub ≡ arm.is_sub }
+    ensures means { IfOk result.ended (λ end. W.alone
+        → ArmRan script.now arm (W.run world.old) (W.run world.new) result.action end) }
 {
     let BegunArm {
         action,
@@ -107,6 +110,9 @@ fn end_arm<W: ActivitySteps>(
         (λ end. Tells (commits end) action.now.name (W.run world.old) (W.run world.new)) }
     ensures wanted { IfOk result (λ end. IsTrue (commits end) → ran ≡ Ok end) }
     ensures fault { IfErr ran (λ fault. result ≡ Err fault) }
+    ensures means { IfOk ran (λ flow. IfOk result
+        (λ end. W.alone → record { world = W.run world.new; flow = end }
+        ≡ ended (acting action.now) flow (W.run world.old))) }
 {
     match ran {
         Ok(flow) if is_left_by(&flow) => leave(world, action, flow),
@@ -126,6 +132,8 @@ fn leave<W: ActivitySteps>(world: &mut W, action: &OpenAction, flow: Flow) -> Re
     ensures told { IfOk result
         (λ end. Tells (commits end) action.now.name (W.run world.old) (W.run world.new)) }
     ensures wanted { IfOk result (λ end. IsTrue (commits end) → end ≡ flow) }
+    ensures means { IfOk result (λ end. W.alone → record { world = W.run world.new; flow = end }
+        ≡ ended (acting action.now) flow (W.run world.old)) }
 {
     if !world.claim() {
         action.abort(world)?;
