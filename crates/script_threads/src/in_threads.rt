@@ -12,6 +12,7 @@ ghost use Rattle.client_threads.specs.Clients.{AllDid};
 ghost use Rattle.script_runs.specs.SerialRuns.{all_bases, bases_at};
 ghost use Rattle.script_threads.specs.ThreadRuns.{AreAt, ComesOf, HaveKept, IsOfThreads, StandsAt, kept_run};
 
+use crate::beside::run_beside;
 use crate::ended::have_all_ended;
 use crate::watching::{Watched, Watching, keep_watch};
 use activities::ClientEnd;
@@ -32,7 +33,7 @@ use std::alloc::{AllocError, Global};
 use std::collections::BTreeMap;
 use std::marker::Brand;
 use std::sync::{Arc, Wait};
-use std::thread::{Threads, join};
+use std::thread::{Promise, Threads};
 use std::time::Clock;
 use traces::{Stamped, Trace};
 use values::Content;
@@ -41,7 +42,8 @@ use world::World;
 /// Runs each client, and each arm of a `coenter`, in a thread of its own, in a new system whose stores are in memory. A
 /// fault is out of memory, a guardian that has drawn all its stamps, a receipt that is missing, an action that has not
 /// ended, or a time that is over.
-/// Where no thread can be made for the clients, the first thread runs them and does not watch.
+/// Where no thread can be made for the clients, the first thread runs them and does not watch: their time has no limit,
+/// and no progress is shown.
 #[derive(Clone, Copy)]
 pub struct InThreads<'a, H> {
     rt: &'a H,
@@ -246,7 +248,18 @@ fn run_within<
     ran.map_err(fault_of)
 }
 
-/// Runs the clients in a thread, and watches them.
+/// The promise that the clients of a script run to their ends.
+#[derive(Clone, Copy)]
+struct RunsAll<'a> {
+    script: &'a Checked,
+}
+
+impl<'a, K: OfRun> Promise<Result<Done<K>, StepFault>> for RunsAll<'a> {
+    ghost kept_by = { λ it done. IfOk done
+        (λ r. AllDid it.script.now.clients r.0.items r.1.items) };
+}
+
+/// Runs the clients in a thread, and watches them. If no thread can be made, runs them here, and nobody watches.
 fn run_watched<
     K: OfRun + Send + Sync,
     R: Forest + Send,
@@ -265,8 +278,10 @@ fn run_watched<
         ensures { IfOk result
             (λ r. AllDid clients.entry.now.script.now.clients r.0.items r.1.items) }
     { run_all(clients) };
-    let (done, ()) = join(clients.rt, run, || watch(clients, watcher));
-    done
+    let promise = RunsAll {
+        script: clients.script,
+    };
+    run_beside(clients.rt, promise, run, || watch(clients, watcher))
 }
 
 /// Runs the clients.

@@ -1,6 +1,7 @@
 //! Runs the clients of scripts for `script_engine`, each in a thread of its own.
 #![tactic(auto)]
 
+mod beside;
 mod ended;
 mod in_threads;
 mod watching;
