@@ -49,8 +49,8 @@ def without(library, number):
 
 
 def few_threads(program, library, folder, number, options):
-    """What is wrong in a run of an example that makes no thread from this number on, or nothing. The first thread is
-    the one that watches."""
+    """What is wrong in a run of an example that makes no thread from this number on, or nothing. The time is watched
+    only if the first of the threads could be made: the clients start from that one."""
     outputs = serial_outputs(program, folder)
     came = soaking.run(program, "run", *options, folder / "script.json", env=without(library, number))
     is_watched = options and number > 1
