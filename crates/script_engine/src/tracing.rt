@@ -1,6 +1,6 @@
 //! Writing the trace of a run, where one is wanted.
 
-ghost use Rattle.std.specs.Prelude.{◌≡◌, IfErr, IfOk, IsSome, OnOk, string_bytes};
+ghost use Rattle.std.specs.Prelude.{◌≡◌, [], IfErr, IfOk, IsNone, IsOkAnd, IsSome, OnOk, string_bytes};
 ghost use Rattle.std.specs.Io.KnownBytes.{Appends};
 ghost use Rattle.run_model.specs.Openings.{opening_in};
 ghost use Rattle.traces.specs.Traces.{trace_text};
@@ -20,9 +20,10 @@ pub(crate) fn wanted_trace<S: Traced, T>(
     system: &S,
     out: &Option<T>,
 ) -> Result<String, AllocError>
-    ensures { IfOk result (λ text. IsSome out.now → string_bytes text
+    ensures trace { IfOk result (λ text. IsSome out.now → string_bytes text
         ≡ trace_text (S.run system.now).lists.setup
         (histories_of (opening_in (S.run system.now).lists) (S.run system.now).past)) }
+    ensures unwanted { IsNone out.now → IsOkAnd result (λ text. string_bytes text ≡ []) }
 {
     if out.is_none() {
         return Ok(String::new(alloc));

@@ -38,7 +38,7 @@ returns-in_err-write_wanted-clause-begun g c =
     trace_begun (told_by system) (string_bytes c.in_ok-text.text) out (known g.T.Write.contents c.write_wanted.new.out) writer writer
     (BeginsRun comes script script.guardians) (run_begins comes script script.guardians (told_by system) (string_bytes c.in_ok-text.text) told)
     (wanted_front g.T.Write.contents (known g.T.Write.contents c.write_wanted.new.out) c.as_str.result.now _ (told_by system) c.as_str.ensures.value c.args.out.now
-    c.in_ok-trace.ensures c.in_err-write_wanted.ensures.front)
+    c.in_ok-trace.ensures.trace c.in_err-write_wanted.ensures.front)
 
 pub returns-clause-ok : goal.returns-clause-ok
 returns-clause-ok g c =
@@ -51,7 +51,7 @@ returns-clause-ok g c =
     c.as_str-2.ensures.value c.in_ok-text.ensures c.as_slice.ensures.value c.as_slice-2.ensures.value in
     let traced =
     wanted_whole g.T.Write.contents (known g.T.Write.contents c.write_wanted.new.out) c.as_str.result.now _ (told_by system) c.as_str.ensures.value c.args.out.now
-    c.in_ok-trace.ensures c.in_ok-write_wanted.ensures.ok in
+    c.in_ok-trace.ensures.trace c.in_ok-write_wanted.ensures.ok in
     on_ok_weaker c.finish.result (λ wrote. (told_by system, c.as_str-2.result.now, traced, wrote, told)) c.finish.ensures.ok
 
 pub returns-clause-begun : goal.returns-clause-begun
@@ -68,7 +68,7 @@ returns-clause-begun g c =
     (g.W.Write.contents c.finish.new.writer) (BeginsRun comes script script.guardians)
     (run_begins comes script script.guardians (told_by system) c.as_str-2.result.now told)
     (wanted_whole g.T.Write.contents (known g.T.Write.contents c.write_wanted.new.out) c.as_str.result.now _ (told_by system) c.as_str.ensures.value c.args.out.now
-    c.in_ok-trace.ensures c.in_ok-write_wanted.ensures.ok)
+    c.in_ok-trace.ensures.trace c.in_ok-write_wanted.ensures.ok)
     c.finish.ensures.front
 
 pub returns-in_err-setup_of-clause-silent : goal.returns-in_err-setup_of-clause-silent

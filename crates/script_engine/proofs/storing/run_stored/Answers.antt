@@ -97,7 +97,7 @@ returns-in_err-write_wanted-clause-begun g c =
     (BeginsStoredRun comes script all)
     (stored_begins comes script all Done (entries_of c.in_ok-outcome.outcome.bases.items) (told_by system) (string_bytes c.in_ok-text.text) told)
     (wanted_front g.T.Write.contents (known g.T.Write.contents c.write_wanted.new.out) c.as_str.result.now _ (told_by system) c.as_str.ensures.value c.args.out.now
-    c.in_ok-trace.ensures c.in_err-write_wanted.ensures.front)
+    c.in_ok-trace.ensures.trace c.in_err-write_wanted.ensures.front)
 
 pub returns-in_err-write_wanted-clause-err : goal.returns-in_err-write_wanted-clause-err
 returns-in_err-write_wanted-clause-err g c =
@@ -146,7 +146,7 @@ returns-in_err-finish-2-clause-begun g c =
     c.as_slice.ensures.value c.as_slice-2.ensures.value in
     let traced =
     wanted_whole g.T.Write.contents (known g.T.Write.contents c.write_wanted.new.out) c.as_str.result.now _ (told_by system) c.as_str.ensures.value c.args.out.now
-    c.in_ok-trace.ensures c.in_ok-write_wanted.ensures.ok in
+    c.in_ok-trace.ensures.trace c.in_ok-write_wanted.ensures.ok in
     lines_begun (told_by system) c.as_str-2.result.now (known g.T.Write.contents c.args.out.now) (known g.T.Write.contents c.write_wanted.new.out)
     (g.W.Write.contents c.args.writer.now) (g.W.Write.contents c.finish-2.new.writer) (BeginsStoredRun comes script all)
     (stored_begins comes script all Done (entries_of c.in_ok-outcome.outcome.bases.items) (told_by system) c.as_str-2.result.now told) traced
@@ -199,7 +199,7 @@ returns-clause-begun g c =
     c.as_slice.ensures.value c.as_slice-2.ensures.value in
     let traced =
     wanted_whole g.T.Write.contents (known g.T.Write.contents c.write_wanted.new.out) c.as_str.result.now _ (told_by system) c.as_str.ensures.value c.args.out.now
-    c.in_ok-trace.ensures c.in_ok-write_wanted.ensures.ok in
+    c.in_ok-trace.ensures.trace c.in_ok-write_wanted.ensures.ok in
     both_whole (told_by system) c.as_str-2.result.now (known g.T.Write.contents c.args.out.now) (known g.T.Write.contents c.write_wanted.new.out)
     (g.W.Write.contents c.args.writer.now) (g.W.Write.contents c.finish-2.new.writer) (BeginsStoredRun comes script all)
     (stored_begins comes script all Done (entries_of c.in_ok-outcome.outcome.bases.items) (told_by system) c.as_str-2.result.now told) traced
@@ -218,7 +218,7 @@ returns-clause-ok g c =
     c.as_slice.ensures.value c.as_slice-2.ensures.value in
     let traced =
     wanted_whole g.T.Write.contents (known g.T.Write.contents c.write_wanted.new.out) c.as_str.result.now _ (told_by system) c.as_str.ensures.value c.args.out.now
-    c.in_ok-trace.ensures c.in_ok-write_wanted.ensures.ok in
+    c.in_ok-trace.ensures.trace c.in_ok-write_wanted.ensures.ok in
     let saved =
     whole_saved (map (held_in g.S.Stable.seen) c.args.stores.now) c.in_ok-outcome.outcome.bases.items c.as_slice-3.result.now
     (map (held_in g.S.Stable.seen) c.save_all.new.stores) c.as_slice-3.ensures.value c.in_ok-save_all.ensures.ok in
