@@ -1,0 +1,4 @@
+pub mod Items
+pub mod Maps
+pub mod Parts
+pub mod ReadBack
