@@ -1,6 +1,7 @@
 """transfer.py SETUP STEPS: makes the steps of a file and prints their answers, as `argus steps` does."""
 import pathlib
 import sys
+import tempfile
 
 import argus
 
@@ -32,6 +33,27 @@ def mistakes(setup):
     world.close()
     assert raises(argus.Closed, world.step, "top 1")
     assert raises(argus.Bad, argus.World, b"{")
+    with tempfile.TemporaryDirectory() as folder:
+        mistakes_of_stores(pathlib.Path(folder), setup)
+
+
+def mistakes_of_stores(folder, setup):
+    assert raises(argus.NotOurs, argus.World.reopen, folder, setup)
+    with argus.World.over(folder, setup) as world:
+        assert world.top(1).line == "began 1"
+    assert raises(FileExistsError, argus.World.over, folder, setup)
+    text = (folder / "g1.json").read_bytes()
+    for wrong in (text[:-1], b"\xff", b"{}"):
+        (folder / "g1.json").write_bytes(wrong)
+        assert raises(argus.Bad, argus.World.reopen, folder, setup)
+    (folder / "g1.json").write_bytes(b"")
+    assert raises(argus.NotOurs, argus.World.reopen, folder, setup)
+    (folder / "g1.json").write_bytes(text)
+    (folder / "g2.json").write_bytes(text)
+    assert raises(argus.NotOurs, argus.World.reopen, folder, setup)
+    (folder / "g2.json").unlink()
+    with argus.World.reopen(folder, setup) as world:
+        assert world.base(1, 1) == '{"record":{"balance":100}}'
 
 
 def main(setup, steps):

@@ -1,4 +1,10 @@
 pub mod AsBox
+pub mod Calling
+pub mod Uncalled
+pub mod Holding
+pub mod Marks
 pub mod Numbers
+pub mod Reopened
+pub mod StepCalls
 pub mod Steps
 pub mod Telling

@@ -8,9 +8,10 @@ use Rattle.argus_c.specs.declared.codes.Code.TheVariants as code
 use Rattle.argus_c.specs.declared.handle.Handle.{Handle}
 use Rattle.argus_c.specs.declared.session.Session.{Session}
 use Rattle.argus_c.specs.Codes.{code_number, done, small, nothing, memory, closed}
+use Rattle.argus_c.specs.Keeping.{IsKept, IsStoreTextOf, IsThere}
 use Rattle.argus_c.specs.Sessions.{IsBaseText, IsObject}
 use Rattle.argus_c.specs.Writing.{IsFound, IsTooSmall, IsWritten}
-use Rattle.argus_c.specs.Calls.{IsHeld, Place, Says, TellsText, session_of}
+use Rattle.argus_c.specs.Calls.{IsHeld, KeepsIn, KeepsStore, Place, Says, TellsText, session_of}
 use Rattle.argus_c.proofs.Numbers.{is_done, is_nothing, is_small, is_closed}
 use Rattle.argus_c.proofs.Steps.{none_is_not}
 
@@ -33,6 +34,13 @@ pub no_base : (g n : ℕ) (session : Session) (found : Result (Option (String Gl
 no_base g k session (Err e) n = n
 no_base g k session (Ok None) n = λ text is. n is.object
 no_base g k session (Ok (Some text)) n = n
+
+-- where there is no guardian, there is no text of its store
+pub no_store : (g : ℕ) (session : Session) (found : Result (Option (String Global)) AllocError)
+    → IfOk found (λ t. IfNone t (IsThere session g → ⊥)) → IfOk found (λ t. IfNone t ((text : List ℕ) → IsStoreTextOf g session text → ⊥))
+no_store g session (Err e) n = n
+no_store g session (Ok None) n = λ text is. n is.there
+no_store g session (Ok (Some text)) n = n
 
 abbrev IsOne : Code → Type 0
 IsOne c = (c ≡ code.Done) ⊎ (c ≡ code.Small) ⊎ (c ≡ code.Nothing) ⊎ (c ≡ code.Memory)
@@ -81,3 +89,17 @@ module _ (Text : Session → List ℕ → Type 0) (old new : Handle) (session : 
         error = error;
         held = held;
       })
+
+-- what an open handle answers when it hears that a store is kept
+pub keeps_store : (guardian : ℕ) (old new : Handle) (before after : Session) (number : ℕ) → session_of old ≡ Some before → session_of new ≡ Some after
+    → IsKept guardian before after → number ≡ done → new.error ≡ done → IsHeld new → KeepsStore guardian old new number
+keeps_store guardian old new before after number was now kept is error held =
+    subst (λ (n : ℕ). KeepsStore guardian old new n) (sym is) (record {
+      kept = subst (λ (o : Option Session). KeepsIn guardian o (session_of new)) (sym was)
+          (subst (λ (o : Option Session). KeepsIn guardian (Some before) o) (sym now) kept);
+      was_closed = λ e. absurd (omega (arith, e));
+      closed_then = λ e. absurd (none_is_not before (sym e ∙ was));
+      one_of = inl refl;
+      error = error;
+      held = held;
+    })

@@ -1,11 +1,12 @@
 -- What a call finds in a handle, and leaves there.
-use Rattle.std.specs.Prelude.{◌≡◌, ◌≢◌, ◌<◌, ◌==◌, ◌++◌, ◌⊎◌, ℕ, List, length, drop, Option, Some, None, Result, Ok, Err, IsSome, IsSomeAnd, if◌then◌else◌}
+use Rattle.std.specs.Prelude.{◌≡◌, ◌≢◌, ◌==◌, ◌⊎◌, ℕ, List, Option, Some, None, Result, Ok, Err, IsSome, IsSomeAnd, if◌then◌else◌}
 use Rattle.run_model.specs.declared.step.Step.{Step}
 use Rattle.argus_c.specs.declared.handle.Handle.{Handle}
 use Rattle.argus_c.specs.declared.reading.Unread.{Unread}
 use Rattle.argus_c.specs.declared.reading.Unread.TheVariants.{Bad}
 use Rattle.argus_c.specs.declared.session.Session.{Session}
 use Rattle.argus_c.specs.Codes.{done, bad, nothing, memory, small, closed, store}
+use Rattle.argus_c.specs.Keeping.{IsKept}
 use Rattle.argus_c.specs.Sessions.{IsMade, IsNoStep, IsUnmade}
 use Rattle.argus_c.specs.Writing.{IsTooSmall, IsWritten}
 
@@ -87,5 +88,20 @@ pub record TellsText (Text : Session → List ℕ → Type 0) (old new : Handle)
   pub untold : code ≢ done → code ≢ small → after.len ≡ before.len
   pub same : session_of new ≡ session_of old
   pub one_of : (code ≡ done) ⊎ (code ≡ small) ⊎ (code ≡ nothing) ⊎ (code ≡ memory) ⊎ (code ≡ closed)
+  pub error : new.error ≡ code
+  pub held : IsHeld new
+
+-- the caller keeps the guardian's store, if the handle holds a session
+abbrev pub KeepsIn : ℕ → Option Session → Option Session → Type 0
+KeepsIn guardian None None = Unit {0}
+KeepsIn guardian (Some old) (Some new) = IsKept guardian old new
+KeepsIn guardian _ _ = ⊥
+
+-- A call that hears that the caller keeps a guardian's store answers this code.
+pub record KeepsStore (guardian : ℕ) (old new : Handle) (code : ℕ) : Type 0 where
+  pub kept : KeepsIn guardian (session_of old) (session_of new)
+  pub was_closed : code ≡ closed → session_of old ≡ None
+  pub closed_then : session_of old ≡ None → code ≡ closed
+  pub one_of : (code ≡ done) ⊎ (code ≡ closed)
   pub error : new.error ≡ code
   pub held : IsHeld new

@@ -1,26 +1,27 @@
 -- What a session is opened over, what a step makes of it, and what it tells.
-use Rattle.std.specs.Prelude.{◌≡◌, ◌≤◌, ◌++◌, ℕ, List, ◌∷◌, length, codes, decimal, Option, Some, None, Result, Ok}
+use Rattle.std.specs.Prelude.{◌≡◌, ◌≤◌, ◌++◌, ℕ, List, ◌∷◌, length, codes, decimal, Some, None, Result, Ok}
 use Rattle.action_names.specs.Names.{IsName, Name, name_text}
 use Rattle.values.specs.Contents.{content_text}
-use Rattle.run_model.specs.declared.step.ObjectId.{ObjectId}
 use Rattle.run_model.specs.declared.step.Step.{Step}
 use Rattle.run_model.specs.declared.answer.Answer.{Answer}
 use Rattle.run_model.specs.Answers.{answer_of}
 use Rattle.run_model.specs.Openings.{Setup, objects_at, opening_in}
 use Rattle.run_model.specs.Runs.{new_world, world_after}
-use Rattle.run_model.specs.Texts.{IsSetupText, Spells, answer_text}
+use Rattle.run_model.specs.Texts.{IsSetupText, answer_text}
 use Rattle.run_model.specs.Versions.{base_of}
 use Rattle.run_laws.specs.Laws.{OrphanWhereRefused}
 use Rattle.run_laws.specs.Serving.{IsServed}
 use Rattle.argus_c.specs.declared.reading.Unread.{Unread}
 use Rattle.argus_c.specs.declared.session.Session.{Session}
+use Rattle.argus_c.specs.Keeping.{AllMarked, ChangesAreTold}
 
--- a new world of the setup that this document is, in which no step was made
+-- a new world of the setup that this document is, in which no step was made, and whose stores are all to be kept
 pub record IsOpened (document : List ℕ) (session : Session) : Type 0 where
   pub setup : Setup
   pub read : IsSetupText document setup
   pub new : session.world.run ≡ new_world setup
   pub none : session.last ≡ None
+  pub kept : AllMarked session.changes (length setup)
 
 -- no setup is this document
 abbrev pub IsNoSetup : List ℕ → Type 0
@@ -34,6 +35,7 @@ pub record IsMade (step : Step) (old new : Session) : Type 0 where
   pub after : new.world.run ≡ world_after old.world.run step answer
   pub orphans : OrphanWhereRefused step answer old.world.run.past
   pub served : IsServed (opening_in new.world.run.lists) new.world.run.past
+  pub changes : ChangesAreTold old new
 
 -- the step that was read was made
 pub record IsMadeOf (read : Result Step Unread) (old new : Session) : Type 0 where
@@ -45,6 +47,7 @@ pub record IsMadeOf (read : Result Step Unread) (old new : Session) : Type 0 whe
 pub record IsUnmade (old new : Session) : Type 0 where
   pub run : new.world.run ≡ old.world.run
   pub last : new.last ≡ old.last
+  pub changes : ChangesAreTold old new
 
 -- no step is of this kind
 abbrev pub IsNoStep : (Step → Type 0) → Type 0

@@ -13,6 +13,7 @@ pub(crate) enum Code {
     Closed,
     Open,
     Store,
+    NotOurs,
 }
 
 impl Code {
@@ -36,6 +37,7 @@ impl Code {
             5 => Some(Code::Closed),
             6 => Some(Code::Open),
             7 => Some(Code::Store),
+            8 => Some(Code::NotOurs),
             _ => None,
         }
     }
@@ -45,13 +47,14 @@ impl Code {
     {
         match self {
             Code::Done => "done",
-            Code::Bad => "not a setup, a step or a name",
+            Code::Bad => "not a setup, stores, a step or a name",
             Code::Nothing => "nothing to tell",
             Code::Memory => "out of memory",
             Code::Small => "the place is too small",
             Code::Closed => "the handle is closed",
             Code::Open => "the handle is open already",
             Code::Store => "a store failed",
+            Code::NotOurs => "not the stores of this setup",
         }
     }
 }

@@ -1,6 +1,9 @@
 //! The world of guardians for C and what calls C: a world is opened over a setup, steps are made by their lines or by
 //! calls of their own, and the last answer and the bases of objects are read.
 //!
+//! The stores are in memory. The caller is told which have changed, and keeps their texts in files of its own, from
+//! which a world is opened again.
+//!
 //! A handle lies in the caller's memory. It is closed or holds a world, and keeps the code of its last call.
 #![tactic(auto)]
 
@@ -12,10 +15,14 @@ ghost use Rattle.argus_c.specs.declared.codes.Code.{Code};
 ghost use Rattle.argus_c.specs.Writing.{IsTooSmall, IsWritten};
 ghost use Rattle.argus_c.specs.Calls.{AnswersStep, IsHeld, Place, TellsText, session_of};
 
+mod called;
 mod calls;
+mod changes;
 mod codes;
 mod handle;
+mod keeping;
 mod reading;
+mod reopening;
 mod session;
 mod writing;
 

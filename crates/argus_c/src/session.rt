@@ -1,22 +1,26 @@
-//! A world in memory, and the answer of its last step.
+//! A world over stores in memory, the answer of its last step, and which stores its caller has to keep.
 ghost use Rattle.std.specs.Prelude.{◌≡◌, ◌≢◌, ◌⊎◌, List, ℕ, Err, IfErr, IfOk, IfSome, IfNone, IsErrOf, string_bytes};
 ghost use Rattle.argus_c.specs.declared.codes.Code.TheVariants as code;
 ghost use Rattle.argus_c.specs.declared.reading.Unread.TheVariants as unread;
 ghost use Rattle.run_model.specs.declared.setup.SetupFault.TheVariants as fault;
 ghost use Rattle.argus_c.specs.Sessions.{IsAnswerText, IsBaseText, IsMade, IsMadeOf, IsNoSetup, IsObject, IsOpened, IsUnmade};
+ghost use Rattle.argus_c.specs.Keeping.{IsStoreTextOf, IsThere};
 
+use crate::changes::Changes;
 use crate::codes::Code;
 use crate::reading::Unread;
 use layer_contracts::Fault;
 use run_model::{Answer, ObjectId, Setup, SetupFault, Step};
-use stable_store::PlainStable;
+use stable_store::{PlainStable, Stable};
 use std::alloc::{AllocError, Global};
+use store_texts::store_text;
 use world::World;
 
 #[derive(Drop)]
 pub(crate) struct Session {
     pub(crate) world: World<PlainStable>,
     pub(crate) last: Option<Answer>,
+    pub(crate) changes: Changes,
 }
 
 impl Session {
@@ -26,9 +30,11 @@ impl Session {
         ensures bad { IsErrOf result fault.Bad → IsNoSetup setup.now }
     {
         let setup = Setup::read(alloc, setup)?;
+        let changes = Changes::all(alloc, &setup)?;
         Ok(Session {
             world: World::in_memory(alloc, setup)?,
             last: None,
+            changes,
         })
     }
 
@@ -55,8 +61,12 @@ impl Session {
         ensures unmade { result ≢ code.Done → IsUnmade self.old self.new }
         ensures code { (result ≡ code.Done) ⊎ (result ≡ code.Memory) ⊎ (result ≡ code.Store) }
     {
+        let Ok(()) = self.changes.mark(&self.world, step) else {
+            return Code::Memory;
+        };
         match self.world.step(step) {
             Ok(answer) => {
+                self.changes.forget(step, &answer);
                 self.last = Some(answer);
                 Code::Done
             }
@@ -114,5 +124,23 @@ impl Session {
         }
         let content = self.world.base(ObjectId { guardian, number })?;
         Ok(Some(content.text(alloc)?))
+    }
+
+    /// The text of what a guardian's store contains; none where there is no such guardian.
+    pub(crate) fn store(&self, alloc: Global, guardian: u32) -> Result<Option<String>, AllocError>
+        ensures told { IfOk result (λ told. IfSome told
+            (λ text. IsStoreTextOf guardian self.now (string_bytes text))) }
+        ensures none { IfOk result (λ told. IfNone told (IsThere self.now guardian → ⊥)) }
+    {
+        if guardian == 0 || self.world.setup().guardians() < guardian as usize {
+            return Ok(None);
+        }
+        let Some(found) = self.world.guardian(guardian) else {
+            unreachable!();
+        };
+        match found.store().kept() {
+            Some(kept) => Ok(Some(store_text(alloc, kept)?)),
+            None => unreachable!(),
+        }
     }
 }
