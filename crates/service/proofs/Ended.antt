@@ -37,7 +37,7 @@ vote_happens true answer h = ap is_accepted h
 vote_happens false answer h = ap is_accepted h
 
 -- why a call came to nothing does not rest on what it would give
-gives_why : {T U : Type 0} (Shows : T → Answer → Type 0) (Others : U → Answer → Type 0) (answer : Answer) (fault : CallFault)
+pub gives_why : {T U : Type 0} (Shows : T → Answer → Type 0) (Others : U → Answer → Type 0) (answer : Answer) (fault : CallFault)
     → Gives Shows answer (Err fault) → Gives Others answer (Err fault)
 gives_why Shows Others answer (Refused reason) h = h
 gives_why Shows Others answer (Waits names) h = h

@@ -1,2 +1,5 @@
 pub mod Calling
 pub mod Ending
+pub mod Opening
+pub mod Outcomes
+pub mod Transacting

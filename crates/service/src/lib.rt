@@ -6,8 +6,16 @@
 mod answered;
 mod fault;
 mod operations;
+mod outcome;
+mod place;
 mod service;
+mod subactions;
+mod top;
+mod transacting;
+mod transaction;
 
 pub use fault::CallFault;
 pub use operations::{change, get, is, set, value_of};
+pub use outcome::{Cause, Outcome, Transacted};
 pub use service::Service;
+pub use transaction::{Begun, Transaction, Work};

@@ -168,7 +168,7 @@ impl<W: MakesSteps + Drop> Service<W> {
     }
 
     /// Lets the guardians vote on the top action, in this order, up to the first no. Whether all voted yes.
-    fn poll(&mut self, top: &Name, guardians: &[u32]) -> Result<bool, CallFault>
+    pub(crate) fn poll(&mut self, top: &Name, guardians: &[u32]) -> Result<bool, CallFault>
         ensures polled { IfOk result (λ yes. ArePolled W.run W.leaves top.now guardians.now yes
             self.old.world self.new.world) }
         ensures cut { IfErr result (AreCutShort W.run W.leaves (prepares top.now guardians.now)

@@ -1,0 +1,91 @@
+-- Work that is undone: no child of the action has committed.
+use Rattle.std.proofs.Common.{Err, Ok, OnErr, Option, Result, [], ap, eq-eqb, eqb-true, false, not, refl, subst, sym, true, ℕ, ◌==◌, ◌∙◌, ◌∷◌, ◌≡◌}
+use mathlib.Core.Bool.{Bool-set}
+use Rattle.std.proofs.Math.Logic.{∥∥₁_elim}
+use Rattle.std.specs.Coded.{Π_prop, →_prop}
+use Rattle.std.proofs.lemmas.Bool.{and_from, and_parts, false_from_ne_true, false≢true, not-true, not_from_false}
+use Rattle.action_names.specs.Names.{Name, is_prefix, parent_of}
+use Rattle.run_model.specs.declared.step.Step.{Step}
+use Rattle.run_model.specs.declared.step.Step.TheVariants as steps
+use Rattle.run_model.specs.Actions.{is_committed, step_commits}
+use Rattle.run_model.specs.Answers.{answer_of}
+use Rattle.run_model.specs.Openings.{opening_in}
+use Rattle.run_model.specs.Runs.{World}
+use Rattle.run_laws.proofs.Names.{clash, same_name_true}
+use Rattle.service.specs.Transacting.{CommitsNoChild, Goes, Works, is_below, settles, works_in}
+use Rattle.stepping.specs.Stepping.{Leaves}
+use Rattle.service.specs.Calling.{IsCall}
+use Rattle.service.specs.Opening.{BeganAt}
+use Rattle.service.specs.declared.fault.CallFault.{CallFault}
+use Rattle.service.specs.declared.place.Place.{Place}
+use Rattle.service.proofs.Going.{called_below, kept, step_kept}
+
+-- what is below is in the parent or below
+below_parent : (s b : Name) → is_below s b ≡ true → is_prefix s (parent_of b) ≡ true
+below_parent [] b h = refl
+below_parent (x ∷ s) [] h = absurd (false≢true (and_parts (is_prefix (x ∷ s) []) (not (is_prefix [] (x ∷ s))) h).0)
+below_parent (x ∷ s) (y ∷ []) h = absurd (both s (and_parts _ _ h).0 (not-true _ (and_parts _ _ h).1))
+  where
+    both : (s : Name) → is_prefix (x ∷ s) (y ∷ []) ≡ true → is_prefix (y ∷ []) (x ∷ s) ≡ false → ⊥
+    both [] h k = clash (and_from _ _ (eq-eqb y x (sym (eqb-true x y (and_parts _ _ h).0))) refl) k
+    both (z ∷ s) h k = false≢true (and_parts _ _ h).1
+below_parent (x ∷ s) (y ∷ z ∷ b) h =
+    let (down, back) = and_parts _ _ h in
+    let (same, more) = and_parts _ _ down in
+    let yx : (y == x) ≡ true = eq-eqb y x (sym (eqb-true x y same)) in
+    let up : is_prefix (y ∷ z ∷ b) (x ∷ s) ≡ false = not-true _ back in
+    and_from _ _ same
+    (below_parent s (z ∷ b) (and_from _ _ more (not_from_false _ (false_from_ne_true _ (λ k. clash (and_from _ _ yx k) up)))))
+
+-- work below a child of a commits no child of a
+child_commits_none : (a s b : Name) → is_prefix s a ≡ false → parent_of b ≡ a → (step : Step) → works_in s step ≡ true → step_commits step b ≡ false
+child_commits_none a s b out under (steps.Commit c) h =
+    false_from_ne_true _ (λ p.
+    let e = same_name_true c b p in
+    clash (subst (λ d. is_prefix s d ≡ true) (ap parent_of e ∙ under) (below_parent s c h)) out)
+child_commits_none a s b out under (steps.Decide c) h = absurd (false≢true h)
+child_commits_none a s b out under _ h = refl
+
+pub work_commits_none : (a s : Name) (x y : World) → is_prefix s a ≡ false → Goes (works_in s) x y → CommitsNoChild a x y
+work_commits_none a s x y out g b under = kept (λ step. step_commits step b) (works_in s) x y (child_commits_none a s b out under) g
+
+settles_commits_none : (s b : Name) (step : Step) → settles s step ≡ true → step_commits step b ≡ false
+settles_commits_none s b (steps.Commit c) h = absurd (false≢true h)
+settles_commits_none s b (steps.Decide c) h = absurd (false≢true h)
+settles_commits_none s b _ h = refl
+
+pub settling_commits_none : (a s : Name) (x y : World) → Goes (settles s) x y → CommitsNoChild a x y
+settling_commits_none a s x y g b under = kept (λ step. step_commits step b) (settles s) x y (settles_commits_none s b) g
+
+pub none_committed_then : (a : Name) (x y z : World) → CommitsNoChild a x y → CommitsNoChild a y z → CommitsNoChild a x z
+none_committed_then a x y z m n b under = n b under ∙ m b under
+
+pub none_committed_same : (a : Name) (x y : World) → y ≡ x → CommitsNoChild a x y
+none_committed_same a x y e b under = ap (λ (w : World). is_committed b w.past) e
+
+none_committed_prop : (a : Name) (x y : World) → IsProp (CommitsNoChild a x y)
+none_committed_prop a x y = Π_prop (λ b. →_prop (Bool-set (is_committed b y.past) (is_committed b x.past)))
+
+-- a subaction that was called, worked and was not committed
+pub sub_undone : {M : Type 0} (run : M → World) (leaves : Leaves M) (a s : Name) (g : ℕ) (x y : M) (z w : World) (sub : Place)
+    (was mid : Option CallFault) → IsCall run leaves (steps.Call a g) BeganAt x y (Ok sub) → s ≡ sub.action
+    → ∥ Works sub.action (run y) z was mid ∥₁ → Goes (settles s) z w → CommitsNoChild a (run x) w
+sub_undone run leaves a s g x y z w sub was mid call same works goes =
+    ∥∥₁_elim works (none_committed_prop a (run x) w) (λ inside.
+    none_committed_then a (run x) (run y) w called
+    (none_committed_then a (run y) z w (work_commits_none a sub.action (run y) z out inside.goes) (settling_commits_none a s z w goes)))
+  where
+    out : is_prefix sub.action a ≡ false
+    out =
+        not-true (is_prefix sub.action a)
+        (and_parts (is_prefix a sub.action) (not (is_prefix sub.action a)) (called_below (run x) a g sub.action call.gives)).1
+
+    called : CommitsNoChild a (run x) (run y)
+    called b under =
+        step_kept (λ step. step_commits step b) (steps.Call a g) (answer_of (opening_in (run x).lists) (steps.Call a g) (run x).past) (run x) (run y)
+        refl call.made.after
+
+-- what is so anyway is so of an error
+pub if_error : {T E : Type 0} (r : Result T E) (So : Type 0) → So → OnErr r So
+if_error (Ok x) So so = tt
+if_error (Err e) So so = so

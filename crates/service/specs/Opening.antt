@@ -1,0 +1,29 @@
+-- An action that begins, and in which work begins then.
+use Rattle.std.specs.Prelude.{ℕ, List, [], Option, None}
+use Rattle.action_names.specs.Names.{Name}
+use Rattle.run_model.specs.declared.answer.Answer.{Answer}
+use Rattle.run_model.specs.Openings.{fresh_lists}
+use Rattle.run_model.specs.Runs.{World}
+use Rattle.service.specs.Calling.{BeganOne}
+use Rattle.service.specs.declared.fault.CallFault.{CallFault}
+use Rattle.service.specs.declared.place.Place.{Place}
+
+-- the one action that began
+abbrev pub BeganAt : Place → Answer → Type 0
+BeganAt at answer = BeganOne at.action answer
+
+-- The run and the action as work begins, the guardians reached until then, and what came to nothing until then.
+pub record Start : Type 0 where
+  pub run : World
+  pub action : Name
+  pub reached : List ℕ
+  pub left : Option CallFault
+
+-- a start of no work
+abbrev pub nowhere : Start
+nowhere = record {
+  run = record { lists = fresh_lists []; past = [] };
+  action = [];
+  reached = [];
+  left = None;
+}

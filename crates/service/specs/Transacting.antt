@@ -1,0 +1,210 @@
+-- What a transaction does to a run.
+use Rattle.std.specs.Prelude.{◌≡◌, ◌⊎◌, ℕ, Bool, true, false, not, ◌==◌, ◌&&◌, ◌||◌, List, [], ◌∷◌, Option, Some, None, Err}
+use Rattle.std.specs.List.{list_all, list_any}
+use Rattle.action_names.specs.Names.{Name, is_prefix, parent_of, same_name}
+use Rattle.run_model.specs.declared.answer.Answer.TheVariants as answers
+use Rattle.run_model.specs.declared.history.Event.{Event}
+use Rattle.run_model.specs.declared.step.Step.{Step}
+use Rattle.run_model.specs.declared.step.Step.TheVariants as steps
+use Rattle.run_model.specs.Actions.{begins, is_begun, is_committed, is_ended}
+use Rattle.run_model.specs.Answers.{answer_of}
+use Rattle.run_model.specs.Openings.{opening_in}
+use Rattle.run_model.specs.Runs.{IsRun, World, history_from, world_after}
+use Rattle.run_model.specs.Telling.{told_since_crash}
+use Rattle.run_model.specs.Votes.{has_voted}
+use Rattle.service.specs.Calling.{Gives}
+use Rattle.service.specs.declared.fault.CallFault.{CallFault}
+
+-- ---- steps of a transaction
+
+-- b is a descendant of a, a itself left out
+abbrev pub is_below : Name → Name → Bool
+is_below a b = is_prefix a b && not (is_prefix b a)
+
+-- a step of work in an action: it calls and operates there and below, and ends only what is below
+abbrev pub works_in : Name → Step → Bool
+works_in a (steps.Call b g) = is_prefix a b
+works_in a (steps.Op b x wanted) = is_prefix a b
+works_in a (steps.Commit b) = is_below a b
+works_in a (steps.Abort b) = is_below a b
+works_in a (steps.Tell g b) = is_below a b
+works_in a _ = false
+
+-- a step that aborts an action, or tells how it ended
+abbrev pub settles : Name → Step → Bool
+settles a (steps.Abort b) = same_name a b
+settles a (steps.Tell g b) = same_name a b
+settles a _ = false
+
+-- or commits it to its parent
+abbrev pub finishes : Name → Step → Bool
+finishes a (steps.Commit b) = same_name a b
+finishes a (steps.Abort b) = same_name a b
+finishes a (steps.Tell g b) = same_name a b
+finishes a _ = false
+
+-- a step that ends a top action by two phases, or tells how it ended
+abbrev pub ends_top : Name → Step → Bool
+ends_top t (steps.Close b) = same_name t b
+ends_top t (steps.Prepare g b) = same_name t b
+ends_top t (steps.Decide b) = same_name t b
+ends_top t (steps.Abort b) = same_name t b
+ends_top t (steps.Tell g b) = same_name t b
+ends_top t _ = false
+
+-- a step of the transaction whose top action this is
+abbrev pub belongs : Name → Step → Bool
+belongs t step = works_in t step || ends_top t step
+
+-- an action stays open, or a guardian untold, if no such step happens
+abbrev pub is_settling : Step → Bool
+is_settling (steps.Abort b) = true
+is_settling (steps.Tell g b) = true
+is_settling _ = false
+
+-- ---- what steps leave
+
+-- Steps of this kind, one after another, lead from one run to the other.
+pub record Goes (mine : Step → Bool) (old new : World) : Type 0 where
+  pub lists : new.lists ≡ old.lists
+  pub made : List Step
+  pub own : list_all mine made ≡ true
+  pub past : new.past ≡ history_from (opening_in old.lists) old.past made
+
+-- no action began in between
+abbrev pub NoneBegan : World → World → Type 0
+NoneBegan old new = (b : Name) → is_begun b new.past ≡ is_begun b old.past
+
+-- the step begins an action at this guardian
+abbrev pub begins_at : Step → ℕ → Bool
+begins_at (steps.Top h) g = h == g
+begins_at (steps.Call b h) g = h == g
+begins_at _ g = false
+
+-- b began at this guardian
+abbrev pub began_at : ℕ → Name → List Event → Bool
+began_at g b past = list_any (λ (e : Event). begins e b && begins_at e.step g) past
+
+-- It has ended, and the guardian at which it began was told.
+pub record IsSettled (b : Name) (now : World) : Type 0 where
+  pub ended : is_ended b now.past ≡ true
+  pub home : ℕ
+  pub there : began_at home b now.past ≡ true
+  pub told : told_since_crash home b now.past ≡ true
+
+-- so is every action that was begun in between
+abbrev pub AllSettled : World → World → Type 0
+AllSettled old new = (b : Name) → is_begun b new.past ≡ true → is_begun b old.past ≡ false
+    → IsSettled b new
+
+-- A step of this kind was to settle something, and came to nothing for this reason.
+pub record FallsShort (mine : Step → Bool) (old new : World) (fault : CallFault) : Type 0 where
+  pub before : World
+  pub first : Goes mine old before
+  pub step : Step
+  pub own : mine step ≡ true
+  pub settling : is_settling step ≡ true
+  pub gives : Gives {T = Unit {0}} (λ _ answer. ⊥)
+      (answer_of (opening_in before.lists) step before.past) (Err fault)
+  pub more : Goes mine before new
+
+-- Steps of this kind that begin nothing. Unless one came to nothing, it is so afterwards; the first fault is kept.
+pub record Settles (mine : Step → Bool) (old new : World) (was is : Option CallFault)
+    (So : Type 0) : Type 0 where
+  pub goes : Goes mine old new
+  pub none : NoneBegan old new
+  pub settled : is ≡ None → (was ≡ None) × So
+  pub short : (fault : CallFault) → is ≡ Some fault
+      → (was ≡ Some fault) ⊎ FallsShort mine old new fault
+
+-- it has ended, and this guardian was told
+abbrev pub EndedAndTold : Name → ℕ → World → Type 0
+EndedAndTold a g now = (is_ended a now.past ≡ true) × (told_since_crash g a now.past ≡ true)
+
+-- ---- work
+
+-- Work in this action. Unless a step came to nothing, all that it began is settled; the first fault is kept.
+pub record Works (a : Name) (old new : World) (was is : Option CallFault) : Type 0 where
+  pub goes : Goes (works_in a) old new
+  pub settled : is ≡ None → (was ≡ None) × AllSettled old new
+  pub short : (fault : CallFault) → is ≡ Some fault
+      → (was ≡ Some fault) ⊎ FallsShort (works_in a) old new fault
+
+-- no child of this action has committed in between
+abbrev pub CommitsNoChild : Name → World → World → Type 0
+CommitsNoChild a old new = (b : Name) → parent_of b ≡ a
+    → is_committed b new.past ≡ is_committed b old.past
+
+-- ---- the end of a top action
+
+abbrev pub has_number : List ℕ → ℕ → Bool
+has_number numbers n = list_any (λ m. m == n) numbers
+
+-- all of the first are of the second too
+abbrev pub Includes : List ℕ → List ℕ → Type 0
+Includes few more = (n : ℕ) → has_number few n ≡ true → has_number more n ≡ true
+
+-- Steps that end a top action, whether they commit it or not. Only these guardians vote.
+pub record Concludes (t : Name) (guardians : List ℕ) (old new : World)
+    (committed : Bool) : Type 0 where
+  pub goes : Goes (ends_top t) old new
+  pub none : NoneBegan old new
+  pub says : is_committed t new.past ≡ committed || is_committed t old.past
+  pub voted : (g : ℕ) → has_number guardians g ≡ false
+      → has_voted g t new.past ≡ has_voted g t old.past
+
+-- these guardians voted
+abbrev pub AllVoted : Name → List ℕ → World → Type 0
+AllVoted t guardians now = (g : ℕ) → has_number guardians g ≡ true → has_voted g t now.past ≡ true
+
+-- these guardians were told how it ended
+abbrev pub AllTold : Name → List ℕ → World → Type 0
+AllTold t guardians now = list_all (λ g. told_since_crash g t now.past) guardians ≡ true
+
+-- The top action is ended. Unless a step came to nothing, these guardians were told; the first fault is kept.
+pub record EndsTop (t : Name) (guardians : List ℕ) (old new : World)
+    (was is : Option CallFault) (committed : Bool) : Type 0 where
+  pub concludes : Concludes t guardians old new committed
+  pub settled : is ≡ None → (was ≡ None) × (is_ended t new.past ≡ true)
+      × AllTold t guardians new
+  pub short : (fault : CallFault) → is ≡ Some fault
+      → (was ≡ Some fault) ⊎ FallsShort (ends_top t) old new fault
+
+-- ---- transactions
+
+-- The top action of the transaction began at its home.
+pub record Begins (home : ℕ) (top : Name) (old new : World) : Type 0 where
+  pub answer : answer_of (opening_in old.lists) (steps.Top home) old.past
+      ≡ answers.Began (top ∷ [])
+  pub after : new ≡ world_after old (steps.Top home) (answers.Began (top ∷ []))
+
+-- A transaction at this home: whether its top action committed, and why something is not settled, if so.
+pub record IsTransacted (home : ℕ) (old new : World) (committed : Bool)
+    (left : Option CallFault) : Type 0 where
+  pub top : Name
+  pub begun : World
+  pub begins : Begins home top old begun
+  -- the run goes on by steps of this transaction alone
+  pub goes : Goes (belongs top) begun new
+  -- it says committed exactly if its top action has committed
+  pub says : IsRun (opening_in old.lists) old.past → is_committed top new.past ≡ committed
+  -- each action that it began has ended, and the guardian at which that began was told
+  pub settled : left ≡ None → AllSettled old new
+  -- each guardian that voted was told
+  pub voters : left ≡ None → (g : ℕ) → has_voted g top new.past ≡ true
+      → has_voted g top old.past ≡ false → told_since_crash g top new.past ≡ true
+  -- else a step that was to end or tell something came to nothing, for this reason
+  pub short : (fault : CallFault) → left ≡ Some fault → FallsShort (belongs top) begun new fault
+  -- nobody else's action is ended
+  pub others : (b : Name) → is_prefix top b ≡ false
+      → is_ended b new.past ≡ is_ended b old.past
+
+-- It did not begin, and nothing has happened.
+pub record IsUnbegun (old new : World) (committed : Bool) (left : Option CallFault) : Type 0 where
+  pub same : new ≡ old
+  pub uncommitted : committed ≡ false
+  pub none : left ≡ None
+
+abbrev pub Transacts : ℕ → World → World → Bool → Option CallFault → Type 0
+Transacts home old new committed left =
+    ∥ IsUnbegun old new committed left ⊎ IsTransacted home old new committed left ∥₁

@@ -1,0 +1,65 @@
+//! Transactions of a service.
+ghost use Rattle.std.specs.Prelude.{◌≡◌, true};
+
+use crate::fault::CallFault;
+use crate::outcome::{Cause, Outcome, Transacted};
+use crate::service::Service;
+use crate::top::{begin_top, end_top, outcome};
+use crate::transaction::{Work, work_in};
+use action_names::Name;
+use std::alloc::Global;
+use std::marker::Brand;
+use stepping::MakesSteps;
+
+impl<W: MakesSteps + Drop> Service<W> {
+    ghost use Rattle.service.specs.Outcomes.{has_committed, is_decided};
+    ghost use Rattle.service.specs.Transacting.{AllVoted, Concludes, Transacts};
+
+    /// Runs the work in a new top action at this home, and then ends the action by two phases: it commits if the work
+    /// succeeds and all guardians that it reached vote yes. Else it is aborted. Each of these guardians is told.
+    pub fn transact<J: Work<W>>(
+        &mut self,
+        alloc: Global,
+        home: u32,
+        work: &mut J,
+    ) -> Transacted<J::Value, J::Error>
+        ensures { Transacts home (W.run self.old.world) (W.run self.new.world)
+            (has_committed result.outcome) result.left }
+    {
+        let mut at = match begin_top(self, alloc, home) {
+            Ok(at) => at,
+            Err(fault) => {
+                return Transacted {
+                    outcome: Outcome::Aborted(Cause::Step(fault)),
+                    left: None,
+                };
+            }
+        };
+        let done = work_in::<Brand, W, J>(self, &mut at, work);
+        let (decided, left) = end_top(self, at, done.is_ok());
+        Transacted {
+            outcome: outcome(done, decided),
+            left,
+        }
+    }
+
+    /// Closes a top action, lets the guardians vote in this order up to the first no, and decides it if all vote yes.
+    /// Whether it committed.
+    pub(crate) fn vote_and_decide(
+        &mut self,
+        top: &Name,
+        guardians: &[u32],
+    ) -> Result<bool, CallFault>
+        ensures concludes { Concludes top.now guardians.now (W.run self.old.world)
+            (W.run self.new.world) (is_decided result) }
+        ensures voted { is_decided result ≡ true
+            → AllVoted top.now guardians.now (W.run self.new.world) }
+    {
+        self.close(top)?;
+        if !self.poll(top, guardians)? {
+            return Ok(false);
+        }
+        self.decide(top)?;
+        Ok(true)
+    }
+}

@@ -1,0 +1,101 @@
+//! The work of a transaction, and what it is given.
+ghost use Rattle.std.specs.Prelude.{◌≡◌, OnErr};
+ghost use Rattle.run_model.specs.declared.step.Step.TheVariants as steps;
+ghost use Rattle.service.specs.Transacting.{Includes, Works};
+
+use crate::fault::CallFault;
+use crate::place::Place;
+use crate::service::Service;
+use crate::subactions::{call_in, operate_in};
+use action_names::Name;
+use atomic_types::{Op, Reply};
+use run_model::ObjectId;
+use std::marker::{Brand, PhantomData};
+use stepping::MakesSteps;
+
+/// Where work begins: nobody makes a value of it.
+pub trait Begun {
+    ghost use Rattle.service.specs.Opening.{Start};
+
+    ghost start: { Start };
+}
+
+impl Begun for Brand {
+    ghost use Rattle.service.specs.Opening.{nowhere};
+
+    ghost start = { nowhere };
+}
+
+/// What work is given: an action that it works in, and no more of the service than that.
+#[derive(Drop)]
+pub struct Transaction<'s, W: MakesSteps + Drop, B: Begun> {
+    pub(crate) service: &'s mut Service<W>,
+    pub(crate) at: &'s mut Place,
+    pub(crate) of: PhantomData<B>,
+    pub(crate) ghost action: { at.now.action ≡ B.start.action },
+    pub(crate) ghost reached: { Includes B.start.reached at.now.reached.items },
+    pub(crate) ghost works: { ∥ Works B.start.action B.start.run (W.run service.now.world)
+        B.start.left at.now.left ∥₁ },
+}
+
+/// Work of a transaction, or of a subaction in it.
+pub trait Work<W: MakesSteps + Drop> {
+    type Value: Drop;
+
+    type Error: Drop + From<CallFault>;
+
+    /// Works in the action that it is given. After an error what it did is undone.
+    fn run<B: Begun>(&mut self, tx: &mut Transaction<'_, W, B>) -> Result<Self::Value, Self::Error>
+        ensures same_service { tx.new.service.ghost_name ≡ tx.old.service.ghost_name }
+        ensures same_action { tx.new.at.ghost_name ≡ tx.old.at.ghost_name };
+}
+
+impl<'s, W: MakesSteps + Drop, B: Begun> Transaction<'s, W, B> {
+    ghost use Rattle.service.specs.Calling.{IsCall, IsReply};
+    ghost use Rattle.service.specs.Transacting.{CommitsNoChild};
+
+    /// Makes an operation on an object at the action's home, and gives the reply.
+    pub fn operate(&mut self, object: ObjectId, operation: Op) -> Result<Reply, CallFault>
+        ensures same_service { self.new.service.ghost_name ≡ self.old.service.ghost_name }
+        ensures same_action { self.new.at.ghost_name ≡ self.old.at.ghost_name }
+        ensures call { IsCall W.run W.leaves
+            (steps.Op self.old.at.now.action object operation) IsReply
+            self.old.service.now.world self.new.service.now.world result }
+    {
+        operate_in(self.service, self.at, object, operation)
+    }
+
+    /// Calls a handler of the guardian: the work runs as a subaction there, which commits if it succeeds. After an
+    /// error it is undone, and it alone.
+    pub fn call<J: Work<W>>(&mut self, guardian: u32, work: &mut J) -> Result<J::Value, J::Error>
+        ensures same_service { self.new.service.ghost_name ≡ self.old.service.ghost_name }
+        ensures same_action { self.new.at.ghost_name ≡ self.old.at.ghost_name }
+        ensures undone { OnErr result (CommitsNoChild self.old.at.now.action
+            (W.run self.old.service.now.world) (W.run self.new.service.now.world)) }
+    {
+        call_in(self.service, self.at, guardian, work)
+    }
+}
+
+/// Runs the work in the action that has just begun.
+pub(crate) fn work_in<B: Begun, W: MakesSteps + Drop, J: Work<W>>(
+    service: &mut Service<W>,
+    at: &mut Place,
+    work: &mut J,
+) -> Result<J::Value, J::Error>
+    requires run { B.start.run ≡ W.run service.old.world }
+    requires action { B.start.action ≡ at.old.action }
+    requires reached { B.start.reached ≡ at.old.reached.items }
+    requires left { B.start.left ≡ at.old.left }
+    ensures action { at.new.action ≡ B.start.action }
+    ensures reached { Includes B.start.reached at.new.reached.items }
+    ensures works { ∥ Works B.start.action B.start.run (W.run service.new.world)
+        B.start.left at.new.left ∥₁ }
+{
+    let mut tx: Transaction<'_, W, B> = Transaction {
+        service,
+        at,
+        of: PhantomData,
+    };
+    work.run(&mut tx)
+}
