@@ -1,6 +1,7 @@
 //! The call that a row asks for.
 use crate::came::Came;
 use crate::reading::{kinds, name, object, small_number, small_numbers, value};
+use crate::works::Items;
 use rows::{Row, RowFault, Words};
 use run_model::Op;
 use service::{Service, change, get, is, set, value_of};
@@ -23,6 +24,11 @@ pub(crate) fn ask(alloc: Global, service: &mut Called, row: &Row<'_>) -> Result<
         "begin_arms" => {
             let action = name(alloc, &mut words)?;
             Came::began_these(service.begin_arms(&action, kinds(alloc, words)?))
+        }
+        "transact" => {
+            let home = small_number(&mut words)?;
+            let text = words.rest();
+            Came::transacted(service.transact(alloc, home, &mut Items { alloc, text }))
         }
         "crash" => Came::done(service.crash(small_number(&mut words)?)),
         "recover" => Came::done(service.recover(small_number(&mut words)?)),
@@ -62,7 +68,7 @@ fn ask_of_action(
 }
 
 /// The operation of this name, on the field or the tag that the next word is.
-fn operation(alloc: Global, call: &str, mut words: Words<'_>) -> Result<Op, RowFault> {
+pub(crate) fn operation(alloc: Global, call: &str, mut words: Words<'_>) -> Result<Op, RowFault> {
     let word = words.word()?;
     let made = match call {
         "get" => get(alloc, word),

@@ -1,8 +1,9 @@
 //! What came of a call, and its text.
+use crate::works::WorkFault;
 use layer_contracts::Fault;
 use rows::RowFault;
 use run_model::{Answer, Name, Names, Reply};
-use service::CallFault;
+use service::{CallFault, Cause, Outcome, Transacted};
 use std::alloc::{AllocError, Global};
 
 /// What a call gave, or why it did not come about.
@@ -15,6 +16,16 @@ pub(crate) enum Came {
     Said(bool),
     Told(u64),
     Done,
+    /// How a transaction ended, and what it left.
+    Transacted(Option<Aborted>, Option<CallFault>),
+    Faulted(CallFault),
+}
+
+/// Why a transaction aborted.
+#[derive(Drop)]
+pub(crate) enum Aborted {
+    Vote,
+    Asked,
     Faulted(CallFault),
 }
 
@@ -61,6 +72,21 @@ impl Came {
         }
     }
 
+    pub(crate) fn transacted(came: Transacted<(), WorkFault>) -> Result<Came, RowFault> {
+        let Transacted { outcome, left } = came;
+        match outcome {
+            Outcome::Committed(()) => Ok(Came::Transacted(None, left)),
+            Outcome::Aborted(Cause::Vote) => Ok(Came::Transacted(Some(Aborted::Vote), left)),
+            Outcome::Aborted(Cause::Work(WorkFault::Asked)) => {
+                Ok(Came::Transacted(Some(Aborted::Asked), left))
+            }
+            Outcome::Aborted(Cause::Work(WorkFault::Row(fault))) => Err(fault),
+            Outcome::Aborted(Cause::Work(WorkFault::Call(fault)) | Cause::Step(fault)) => {
+                Ok(Came::Transacted(Some(Aborted::Faulted(fault)), left))
+            }
+        }
+    }
+
     /// If memory ran out, nothing has happened, and the row is answered once more.
     fn faulted(fault: CallFault) -> Result<Came, RowFault> {
         match fault {
@@ -78,6 +104,7 @@ impl Came {
             Came::Said(yes) => format!(in alloc; "{yes}"),
             Came::Told(count) => format!(in alloc; "{count}"),
             Came::Done => Ok(String::new(alloc)),
+            Came::Transacted(aborted, left) => text_of_end(alloc, aborted, left),
             Came::Faulted(fault) => format!(in alloc; "{fault}"),
         }
     }
@@ -91,6 +118,24 @@ fn text_of_names(alloc: Global, names: &Names) -> Result<String, AllocError> {
             text.push(' ')?;
         }
         write!(text, "{name}")?;
+    }
+    Ok(text)
+}
+
+/// How a transaction ended, and what it left if it did.
+fn text_of_end(
+    alloc: Global,
+    aborted: &Option<Aborted>,
+    left: &Option<CallFault>,
+) -> Result<String, AllocError> {
+    let mut text = match aborted {
+        None => format!(in alloc; "committed")?,
+        Some(Aborted::Vote) => format!(in alloc; "aborted by a vote")?,
+        Some(Aborted::Asked) => format!(in alloc; "aborted by the work")?,
+        Some(Aborted::Faulted(fault)) => format!(in alloc; "aborted, {fault}")?,
+    };
+    if let Some(fault) = left {
+        write!(text, ", left: {fault}")?;
     }
     Ok(text)
 }

@@ -4,6 +4,7 @@
 mod asked;
 mod came;
 mod reading;
+mod works;
 
 use rows::{Row, RowFault, Subject, again};
 use run_model::{Setup, SetupFault};
