@@ -169,6 +169,7 @@ begins_reverse : (actors committing names : List Name) (old new : World) → Beg
 begins_reverse actors committing names old new b = record {
   makes = b.makes;
   begun = λ a h. b.begun a (sym (has_reverse names a) ∙ h);
+  only = λ a h. has_reverse names a ∙ b.only a h;
 }
 
 pub waiting_begun : {X : Type 0} (found : Option X) (items : X → List Name) (a b : Name) (old new : World) (answer : Answer) → b ≡ a
@@ -178,3 +179,13 @@ waiting_begun found items a b old new answer same e begun =
     where_waiting found items answer (λ names. Begins (a ∷ []) [] names old new) e
     (λ names h. begins_reverse (a ∷ []) [] names old new
     (subst (λ n. Begins (n ∷ []) [] names old new) same (subst (λ x. Begins (b ∷ []) [] (names_begun x) old new) h begun)))
+
+-- where none wait, nothing has begun
+pub none_waits : (w : World) (opening : Opening) (past : List Event) (a : Name) (ks : List ArmKind) (answer : Answer) → answer ≡ answer_of opening (Arms a ks) past
+    → None ≡ waiting_by answer → world_after w (Arms a ks) answer ≡ w
+none_waits w opening past a ks answer h n =
+    unless_begun w opening past (Arms a ks) answer (arm_names a (next_number opening a past) (next_number opening [] past) ks) refl h
+    (λ names e. none_is (n ∙ ap waiting_by e))
+  where
+    none_is : {names : List Name} → None ≡ Some names → ⊥
+    none_is h = cc

@@ -13,3 +13,8 @@ both_ok (Err e) second p q f = tt
 pub ok_then : {A E : Type 0} {P Q : Type 0} (result : Result A E) → OnOk result P → (P → Q) → OnOk result Q
 ok_then (Ok x) p f = f p
 ok_then (Err e) p f = tt
+
+-- what is so whatever came
+pub on_ok_any : {A E : Type 0} {P : Type 0} (result : Result A E) → P → OnOk result P
+on_ok_any (Ok x) p = p
+on_ok_any (Err e) p = tt

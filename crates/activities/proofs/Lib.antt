@@ -8,6 +8,7 @@ pub mod Closing
 pub mod Committing
 pub mod Earlier
 pub mod Ending
+pub mod Failing
 pub mod Following
 pub mod Going
 pub mod Leaving

@@ -35,6 +35,16 @@ begun_older a [] k h = h
 begun_older a (e ∷ l) k h =
     has_name_append (names_begun e.answer) (begun (l ++ k)) a ∙ or_right (has_name (names_begun e.answer) a) (has_name (begun (l ++ k)) a) (begun_older a l k h)
 
+pub begun_parts : (a : Name) (l k : List Event) → IsTrue (is_begun a (l ++ k)) → IsTrue (is_begun a l) ⊎ IsTrue (is_begun a k)
+begun_parts a [] k h = inr h
+begun_parts a (e ∷ l) k h = elim (or_cases (has_name (names_begun e.answer) a) (has_name (begun (l ++ k)) a) (sym (has_name_append (names_begun e.answer) (begun (l ++ k)) a) ∙ h)) [
+  | inl n ↦ inl (has_name_append (names_begun e.answer) (begun l) a ∙ or_left (has_name (names_begun e.answer) a) (has_name (begun l) a) n)
+  | inr b ↦ elim (begun_parts a l k b) [
+    | inl d ↦ inl (has_name_append (names_begun e.answer) (begun l) a ∙ or_right (has_name (names_begun e.answer) a) (has_name (begun l) a) d)
+    | inr d ↦ inr d
+  ]
+]
+
 pub committed_parts : (a : Name) (l k : List Event) → IsTrue (is_committed a (l ++ k)) → IsTrue (is_committed a l) ⊎ IsTrue (is_committed a k)
 committed_parts a [] k h = inr h
 committed_parts a (e ∷ l) k h = elim (or_cases (step_commits e.step a) (is_committed a (l ++ k)) h) [
@@ -165,6 +175,7 @@ commits_it _ a h = absurd (false≢true h)
 -- a step that is about an action
 pub step_begins : (old : World) (step : Step) (answer : Answer) → IsOfAction step
     → Begins (about step) (commits_of step) (names_begun answer) old (world_after old step answer)
+unfolding makes_nowhere
 step_begins old step answer of = go answer
   where
     e : Answer → Event
@@ -180,10 +191,21 @@ step_begins old step answer of = go answer
     }
 
     one : (answer : Answer) → Begins (about step) (commits_of step) (names_begun answer) old (record { lists = old.lists; past = e answer ∷ old.past })
-    one answer = record { makes = made answer; begun = λ a h. has_name_append (names_begun answer) [] a ∙ or_left (has_name (names_begun answer) a) false h }
+    one answer = record {
+      makes = made answer;
+      begun = λ a h. has_name_append (names_begun answer) [] a ∙ or_left (has_name (names_begun answer) a) false h;
+      only = λ a h. elim (or_cases (has_name (names_begun answer) a) false (sym (has_name_append (names_begun answer) [] a) ∙ h)) [
+        | inl n ↦ n
+        | inr f ↦ absurd (false≢true f)
+      ];
+    }
 
     nothing : Begins (about step) (commits_of step) [] old old
-    nothing = record { makes = makes_nowhere (about step) (commits_of step) old; begun = λ a h. absurd (false≢true h) }
+    nothing = record {
+      makes = makes_nowhere (about step) (commits_of step) old;
+      begun = λ a h. absurd (false≢true h);
+      only = λ a h. absurd (false≢true h);
+    }
 
     go : (answer : Answer) → Begins (about step) (commits_of step) (names_begun answer) old (world_after old step answer)
     go (Waits names) = nothing
@@ -296,6 +318,13 @@ makes_reversed names turned x y e m =
 pub one_makes : (a : Name) (names : List Name) (x y z : World) → IsTrue (has_name names a) → Makes names names x y → Makes (a ∷ []) (a ∷ []) y z
     → Makes names names x z
 one_makes a names x y z h m n = makes_through names names x y z m (makes_more (a ∷ []) names (a ∷ []) names y z of of n)
+  where
+    of : (c : Name) → IsTrue (has_name (a ∷ []) c) → IsTrue (has_name names c)
+    of c t = subst (λ b. IsTrue (has_name names b)) (alone a c t) h
+
+-- the same where nothing commits
+pub one_quietly : (a : Name) (names : List Name) (x y z : World) → IsTrue (has_name names a) → Makes names [] x y → Makes (a ∷ []) [] y z → Makes names [] x z
+one_quietly a names x y z h m n = makes_through names [] x y z m (makes_more (a ∷ []) names [] [] y z of (λ c t. t) n)
   where
     of : (c : Name) → IsTrue (has_name (a ∷ []) c) → IsTrue (has_name names c)
     of c t = subst (λ b. IsTrue (has_name names b)) (alone a c t) h

@@ -41,7 +41,7 @@ pub record HaveBegun (names : List Name) (old new : World) : Type 0 where
 -- ---- what a step begins
 
 -- a step by which no action makes anything, and which is no `top`, begins nothing
-nothing_made : (opening : Opening) (step : Step) (past : List Event) → IsOfAction step → maker_in step ≡ None
+pub nothing_made : (opening : Opening) (step : Step) (past : List Event) → IsOfAction step → maker_in step ≡ None
     → names_begun (answer_of opening step past) ≡ []
 unfolding answer_of
 nothing_made opening step past n m = go (first_refusal (checks opening step past))

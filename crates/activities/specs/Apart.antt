@@ -2,6 +2,8 @@
 use Rattle.std.specs.Prelude.{◌≡◌, ℕ, Bool, true, false, List, [], ◌∷◌, Some, Result, Ok, Err, IfErr, IfOk, map, slice_get, if◌then◌else◌}
 use Rattle.action_names.specs.Names.{Name}
 use Rattle.run_model.specs.Runs.{World}
+use Rattle.layer_contracts.specs.declared.guardian.Fault.{Fault}
+use Rattle.layer_contracts.specs.declared.guardian.Fault.TheVariants.{Memory}
 use Rattle.script_model.specs.declared.checked.Checked.{Checked}
 use Rattle.activities.specs.declared.apart.BegunArm.{BegunArm}
 use Rattle.activities.specs.declared.apart.EndedArm.{EndedArm}
@@ -87,14 +89,15 @@ abbrev pub all_gone : {E : Type 0} → Result Flow E → List (Result Flow E) �
 all_gone arms [] = arms
 all_gone arms (one ∷ more) = all_gone (gone_beside arms one) more
 
--- what is said of an arm that ended so: that, or a fault where it ended well
-abbrev pub IsSaid : {E : Type 0} → Result Flow E → Result Flow E → Type 0
+-- what is said of an arm that ended so: that, or out of memory where it ended well
+abbrev pub IsSaid : Result Flow Fault → Result Flow Fault → Type 0
 IsSaid ended said = IfOk said (λ flow. ended ≡ Ok flow) × IfErr ended (λ fault. said ≡ Err fault)
+    × IfOk ended (λ flow. IfErr said (λ fault. fault ≡ Memory))
 
 -- arms that ended so are gone through in order, and then this is how they go on
-abbrev pub GoOn : {E : Type 0} → Result Flow E → List (Result Flow E) → Result Flow E → Type 0
-GoOn {E} arms [] last = last ≡ arms
-GoOn {E} arms (one ∷ more) last = (said : Result Flow E) × IsSaid one said
+abbrev pub GoOn : Result Flow Fault → List (Result Flow Fault) → Result Flow Fault → Type 0
+GoOn arms [] last = last ≡ arms
+GoOn arms (one ∷ more) last = (said : Result Flow Fault) × IsSaid one said
     × GoOn (gone_beside arms said) more last
 
 -- ---- what a starter learns

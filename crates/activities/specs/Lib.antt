@@ -1,3 +1,4 @@
+pub mod Aborting
 pub mod Continuing
 pub mod OwnSteps
 pub mod Making
@@ -9,3 +10,4 @@ pub mod Serial
 pub mod Acting
 pub mod Runs
 pub mod Apart
+pub mod Failing

@@ -51,10 +51,11 @@ pub record Makes (actors committing : List Name) (old new : World) : Type 0 wher
   pub own : AreOwn actors later
   pub commits : CommitOnly committing later
 
--- so, and these actions have begun since
+-- so, and these actions have begun since, and no others
 pub record Begins (actors committing names : List Name) (old new : World) : Type 0 where
   pub makes : Makes actors committing old new
   pub begun : (a : Name) → IsTrue (has_name names a) → IsTrue (is_begun a makes.later)
+  pub only : (a : Name) → IsTrue (is_begun a makes.later) → IsTrue (has_name names a)
 
 -- the action that a step commits
 abbrev pub commits_of : Step → List Name

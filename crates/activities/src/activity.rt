@@ -1,7 +1,8 @@
-ghost use Rattle.std.specs.Prelude.{◌≡◌, ◌+◌, ◌≤◌, [], ◌∷◌, false, length, reverse, slice_get, IsTrue, IfOk, IfSome, None};
+ghost use Rattle.std.specs.Prelude.{◌≡◌, ◌+◌, ◌≤◌, [], ◌∷◌, false, length, reverse, slice_get, IsTrue, IfErr, IfOk, IfSome, None};
 ghost use Rattle.action_names.specs.Names.{Name, has_name};
 ghost use Rattle.script_model.specs.Resolved.{asked, binding_is_bound, expr_is_bound, frames_after};
 ghost use Rattle.activities.specs.Bodies.{AreArms, IsBody, IsCall, IsOf, IsStatement, SignalsFollow, SignalsHold, WhereEnded, Within, body_of, sizes};
+ghost use Rattle.activities.specs.Failing.{EndBut, EndOrFail, IsCause};
 ghost use Rattle.activities.specs.Making.{Makes, Tells};
 ghost use Rattle.activities.specs.Ends.{commits, has_committed};
 ghost use Rattle.activities.specs.Serial.{arms_run, budget, call_done, coenter_done, given_back, inner, nested_done, on_signal, repeated, returned, run, statement_done};
@@ -63,8 +64,7 @@ impl<'s> Activity<'s> {
         true
     }
 
-    /// Runs a body as the action and ends the action. After an error the action has ended, or its abort
-    /// failed too.
+    /// Runs a body as the action and ends the action. After an error it aborts too.
     #[cycle(activity)]
     #[tactic(auto, using(crate::proofs::Making::steps))]
     pub(crate) fn run<W: ActivitySteps>(
@@ -88,6 +88,9 @@ impl<'s> Activity<'s> {
             (done (W.run world.new) self.new.left action.new frames.new flow)
             (λ go. run go (acting action.old) frames.old body.now
             (doing (W.run world.old) self.old.left action.old frames.old))) }
+        ensures failed { IfErr result (IsCause W.fails) }
+        ensures over { EndOrFail W.alone W.fails (action.old.name ∷ [])
+            (W.run world.old) (W.run world.new) }
     {
         match self.body(world, action, frames, body) {
             Ok(flow) => action.end(world, flow),
@@ -119,6 +122,9 @@ impl<'s> Activity<'s> {
         ensures means { IfOk result (λ flow. W.alone → ComesSo self.old.script.now self.old.left
             (done (W.run world.new) self.new.left action.new frames.new flow)
             (λ go. go body.now (doing (W.run world.old) self.old.left action.old frames.old))) }
+        ensures failed { IfErr result (IsCause W.fails) }
+        ensures over { EndOrFail W.alone W.fails []
+            (W.run world.old) (W.run world.new) }
     {
         for statement in body {
             if world.is_called_off() {
@@ -158,6 +164,9 @@ impl<'s> Activity<'s> {
             (done (W.run world.new) self.new.left action.new frames.new flow)
             (λ go. inner go body.now
             (doing (W.run world.old) self.old.left action.old frames.old))) }
+        ensures failed { IfErr result (IsCause W.fails) }
+        ensures over { EndOrFail W.alone W.fails []
+            (W.run world.old) (W.run world.new) }
     {
         let sizes = frames.sizes();
         let flow = self.body(world, action, frames, body)?;
@@ -187,6 +196,9 @@ impl<'s> Activity<'s> {
             (done (W.run world.new) self.new.left action.new frames.new flow)
             (λ go. statement_done self.old.script.now.handlers go statement.now
             (doing (W.run world.old) self.old.left action.old frames.old))) }
+        ensures failed { IfErr result (IsCause W.fails) }
+        ensures over { EndOrFail W.alone W.fails []
+            (W.run world.old) (W.run world.new) }
     {
         match statement {
             Statement::Op(call, signals) => match perform(world, action, frames, call)? {
@@ -237,6 +249,9 @@ impl<'s> Activity<'s> {
             (done (W.run world.new) self.new.left action.new frames.new flow)
             (λ go. on_signal go signals.now
             (doing (W.run world.old) self.old.left action.old frames.old))) }
+        ensures failed { IfErr result (IsCause W.fails) }
+        ensures over { EndOrFail W.alone W.fails []
+            (W.run world.old) (W.run world.new) }
     {
         match signals {
             Some(body) => self.inner(world, action, frames, body.as_slice()),
@@ -267,6 +282,9 @@ impl<'s> Activity<'s> {
             (done (W.run world.new) self.new.left action.new frames.new flow)
             (λ go. repeated go turns body.now
             (doing (W.run world.old) self.old.left action.old frames.old))) }
+        ensures failed { IfErr result (IsCause W.fails) }
+        ensures over { EndOrFail W.alone W.fails []
+            (W.run world.old) (W.run world.new) }
     {
         for _ in 0..turns {
             if !self.begin() {
@@ -307,6 +325,9 @@ impl<'s> Activity<'s> {
             (λ go. call_done go (slice_get self.old.script.now.handlers call.now.handler) call.now
             signals.now (given frames.old call.now)
             (doing (W.run world.old) self.old.left action.old frames.old))) }
+        ensures failed { IfErr result (IsCause W.fails) }
+        ensures over { EndOrFail W.alone W.fails []
+            (W.run world.old) (W.run world.new) }
     {
         let script = self.script;
         let handler = &script.handlers.as_slice()[call.handler as usize];
@@ -357,6 +378,9 @@ impl<'s> Activity<'s> {
             (done (W.run world.new) self.new.left action.new frames.new flow)
             (λ go. nested_done go body.now signals.now
             (doing (W.run world.old) self.old.left action.old frames.old))) }
+        ensures failed { IfErr result (IsCause W.fails) }
+        ensures over { EndOrFail W.alone W.fails []
+            (W.run world.old) (W.run world.new) }
     {
         let mut inside = frames.copy()?;
         let reached = action.reached_by_nested(self.alloc)?;
@@ -393,12 +417,15 @@ impl<'s> Activity<'s> {
             (done (W.run world.new) self.new.left action.new frames.new flow)
             (λ go. coenter_done go arms.now
             (doing (W.run world.old) self.old.left action.old frames.old))) }
+        ensures failed { IfErr result (IsCause W.fails) }
+        ensures over { EndOrFail W.alone W.fails []
+            (W.run world.old) (W.run world.new) }
     {
         let Some(mut waiting) = begin_arms(self.alloc, world, action, arms)? else {
             return Ok(Flow::Aborted);
         };
         let ran = self.arms(world, action, frames, arms, &mut waiting);
-        let aborted = action.abort_arms(world, waiting.as_slice());
+        let aborted = action.abort_arms(world, waiting);
         let flow = ran?;
         aborted?;
         Ok(flow)
@@ -431,6 +458,9 @@ impl<'s> Activity<'s> {
             (done (W.run world.new) self.new.left action.new frames.new flow, reverse waiting.new.items)
             (λ go. arms_run go arms.now (reverse waiting.old.items)
             (doing (W.run world.old) self.old.left action.old frames.old))) }
+        ensures failed { IfErr result (IsCause W.fails) }
+        ensures over { EndBut W.alone W.fails waiting.old.items waiting.new.items
+            (W.run world.old) (W.run world.new) }
     {
         if !world.has_arms_apart() {
             return self.run_arms(world, action, frames, arms, waiting);
@@ -474,6 +504,9 @@ impl<'s> Activity<'s> {
             (done (W.run world.new) self.new.left action.new frames.new flow, reverse waiting.new.items)
             (λ go. arms_run go arms.now (reverse waiting.old.items)
             (doing (W.run world.old) self.old.left action.old frames.old))) }
+        ensures failed { IfErr result (IsCause W.fails) }
+        ensures over { EndBut W.alone W.fails waiting.old.items waiting.new.items
+            (W.run world.old) (W.run world.new) }
     {
         for arm in arms {
             let mut inside = frames.copy()?;

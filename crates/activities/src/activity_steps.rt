@@ -1,7 +1,8 @@
-ghost use Rattle.std.specs.Prelude.{◌≡◌, false, true, IfOk, OnErr, length, take};
+ghost use Rattle.std.specs.Prelude.{◌≡◌, false, true, IfErr, IfOk, OnErr, length, take};
 ghost use Rattle.run_model.specs.declared.step.Step.TheVariants.{Op};
 ghost use Rattle.run_model.specs.Runs.{world_after};
 ghost use Rattle.activities.specs.Apart.{AreRunnable, begun_names, ended_names};
+ghost use Rattle.activities.specs.Failing.{AreCauses, IsCause, StepFails};
 ghost use Rattle.activities.specs.Making.{IsAnswered, Makes};
 ghost use Rattle.activities.specs.Serial.{asked};
 
@@ -13,6 +14,7 @@ use stepping::{Fault, MakesSteps};
 
 /// Makes the steps of one activity, perhaps beside other activities. Contracts see the activity's own events.
 pub trait ActivitySteps: Sized {
+    ghost use Rattle.layer_contracts.specs.declared.guardian.Fault.{Fault};
     ghost use Rattle.run_model.specs.Runs.{World};
     ghost use Rattle.script_model.specs.declared.checked.Checked.{Checked};
 
@@ -25,6 +27,9 @@ pub trait ActivitySteps: Sized {
     /// The scripts whose activities it makes steps for.
     ghost scripts: { Checked → Type 0 };
 
+    /// That a step can fail so.
+    ghost fails: { Fault → Type 0 };
+
     /// Makes one step and gives its answer. The event of an accepted step is the activity's. A step that is refused
     /// or waits changes nothing. After an error all is as it was.
     fn make_step(&mut self, step: &Step) -> Result<Answer, Fault>
@@ -32,6 +37,7 @@ pub trait ActivitySteps: Sized {
         ensures alone { IfOk result (λ answer. alone → answer ≡ asked step.now (run self.old)) }
         ensures after { IfOk result
             (λ answer. run self.new ≡ world_after (run self.old) step.now answer) }
+        ensures failed { IfErr result fails }
         ensures err { OnErr result (run self.new ≡ run self.old) };
 
     /// Makes an operation of the action, as `make_step` does. Where others make steps too, it may sleep while the
@@ -49,6 +55,7 @@ pub trait ActivitySteps: Sized {
             → answer ≡ asked (Op action.now object operation) (run self.old)) }
         ensures after { IfOk result (λ answer. run self.new
             ≡ world_after (run self.old) (Op action.now object operation) answer) }
+        ensures failed { IfErr result (IsCause fails) }
         ensures err { OnErr result (run self.new ≡ run self.old) };
 
     /// Whether arms of a `coenter` run apart, by `run_arms`.
@@ -62,7 +69,9 @@ pub trait ActivitySteps: Sized {
         ensures makes { Makes (begun_names arms.items) (begun_names arms.items)
             (run self.old) (run self.new) }
         ensures ended { IfOk result (λ ended. ended_names ended.items
-            ≡ take (length ended.items) (begun_names arms.items)) };
+            ≡ take (length ended.items) (begun_names arms.items)) }
+        ensures causes { IfOk result (λ ended. AreCauses fails ended.items) }
+        ensures failed { IfErr result (IsCause fails) };
 
     /// Whether the arm that runs is to abort, since another has left its `coenter`, or one further out.
     fn is_called_off(&self) -> bool
@@ -86,6 +95,8 @@ impl<W: MakesSteps> ActivitySteps for W {
     ghost alone = { Unit {0} };
 
     ghost scripts = { λ script. Unit {0} };
+
+    ghost fails = { StepFails W.leaves };
 
     fn make_step(&mut self, step: &Step) -> Result<Answer, Fault> {
         self.step(step)

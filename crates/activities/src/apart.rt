@@ -7,9 +7,11 @@ ghost use Rattle.activities.specs.Apart.{AllRunnable, ArmRan, GoOn, IsRunnable, 
 ghost use Rattle.activities.specs.Apart.{arms_taken_in, begun_name, begun_names, ended_name, gone_beside, has_left, leaves};
 ghost use Rattle.activities.specs.Bodies.{AreArms, IsOf, body_of, is_sub, sizes};
 ghost use Rattle.activities.specs.Ends.{commits};
+ghost use Rattle.activities.specs.Failing.{EndOrFail, IsCause};
 ghost use Rattle.activities.specs.Making.{Makes, Tells};
 ghost use Rattle.activities.specs.Serial.{ended};
 ghost use Rattle.activities.specs.declared.flow.Flow.TheVariants.{Ended};
+ghost use Rattle.layer_contracts.specs.declared.guardian.Fault.TheVariants.{Memory};
 
 use crate::activity::{Activity, has_committed};
 use crate::activity_steps::ActivitySteps;
@@ -45,7 +47,7 @@ impl BegunArm {
     pub fn name(&self) -> &Name
         ensures { result.now ≡ begun_name self.now }
     {
-        &self.action.name
+        self.action.name.as_name()
     }
 }
 
@@ -54,13 +56,12 @@ impl EndedArm {
     pub fn name(&self) -> &Name
         ensures { result.now ≡ ended_name self.now }
     {
-        &self.action.name
+        self.action.name.as_name()
     }
 }
 
 /// Runs an arm of a script and ends it. It may begin so many statements and turns of `repeat` as a client. An arm
-/// that would leave its `coenter` after another has left it aborts. After an error the arm has ended, or its abort
-/// failed too.
+/// that would leave its `coenter` after another has left it aborts. After an error it aborts too.
 #[tactic(auto, using(crate::proofs::Making::steps))]
 pub fn run_arm<W: ActivitySteps>(
     alloc: Global,
@@ -78,6 +79,9 @@ pub fn run_arm<W: ActivitySteps>(
     ensures sub { result.is_sub ≡ arm.is_sub }
     ensures means { IfOk result.ended (λ end. W.alone
         → ArmRan script.now arm (W.run world.old) (W.run world.new) result.action end) }
+    ensures failed { IfErr result.ended (IsCause W.fails) }
+    ensures over { EndOrFail W.alone W.fails (begun_name arm ∷ [])
+        (W.run world.old) (W.run world.new) }
 {
     let BegunArm {
         action,
@@ -113,6 +117,9 @@ fn end_arm<W: ActivitySteps>(
     ensures means { IfOk ran (λ flow. IfOk result
         (λ end. W.alone → record { world = W.run world.new; flow = end }
         ≡ ended (acting action.now) flow (W.run world.old))) }
+    ensures failed { IfOk ran (λ flow. IfErr result (IsCause W.fails)) }
+    ensures over { EndOrFail W.alone W.fails (action.now.name ∷ [])
+        (W.run world.old) (W.run world.new) }
 {
     match ran {
         Ok(flow) if is_left_by(&flow) => leave(world, action, flow),
@@ -134,6 +141,9 @@ fn leave<W: ActivitySteps>(world: &mut W, action: &OpenAction, flow: Flow) -> Re
     ensures wanted { IfOk result (λ end. IsTrue (commits end) → end ≡ flow) }
     ensures means { IfOk result (λ end. W.alone → record { world = W.run world.new; flow = end }
         ≡ ended (acting action.now) flow (W.run world.old)) }
+    ensures failed { IfErr result (IsCause W.fails) }
+    ensures over { EndOrFail W.alone W.fails (action.now.name ∷ [])
+        (W.run world.old) (W.run world.new) }
 {
     if !world.claim() {
         action.abort(world)?;
@@ -229,6 +239,7 @@ fn learn(action: &mut OpenAction, arm: EndedArm) -> Result<Flow, Fault>
     ensures taken { OnOk result (acting action.new ≡ arm_taken_in (acting action.old) arm) }
     ensures flow { IfOk result (λ flow. arm.ended ≡ Ok flow) }
     ensures fault { IfErr arm.ended (λ fault. result ≡ Err fault) }
+    ensures memory { IfOk arm.ended (λ flow. IfErr result (λ fault. fault ≡ Memory)) }
 {
     let EndedArm {
         action: child,

@@ -1,6 +1,7 @@
-ghost use Rattle.std.specs.Prelude.{◌≡◌, [], ◌∷◌, length, option_map, reverse, IfOk, IfSome, OnOk};
+ghost use Rattle.std.specs.Prelude.{◌≡◌, [], ◌∷◌, None, length, option_map, reverse, IfErr, IfOk, IfSome, OnErr, OnOk};
 ghost use Rattle.run_model.specs.declared.step.Step.TheVariants.{Arms};
 ghost use Rattle.activities.specs.Bodies.{body_of, kind_of, kinds};
+ghost use Rattle.activities.specs.Failing.{IsCause};
 ghost use Rattle.activities.specs.Making.{Begins, Makes};
 ghost use Rattle.activities.specs.Serial.{after, asked, waiting_by};
 
@@ -13,6 +14,7 @@ use std::alloc::{AllocError, Global};
 use stepping::Fault;
 
 /// Begins the arms together, and gives their names, that of the first arm last; none where that is refused.
+/// Then, and after an error, nothing has begun.
 pub(crate) fn begin_arms<W: ActivitySteps>(
     alloc: Global,
     world: &mut W,
@@ -30,6 +32,10 @@ pub(crate) fn begin_arms<W: ActivitySteps>(
     ensures waiting { IfOk result
         (λ found. W.alone → option_map (λ names. reverse names.items) found
         ≡ waiting_by (asked (Arms action.now.name (kinds arms.now)) (W.run world.old))) }
+    ensures failed { IfErr result (IsCause W.fails) }
+    ensures none { IfOk result
+        (λ found. found ≡ None → W.run world.new ≡ W.run world.old) }
+    ensures err { OnErr result (W.run world.new ≡ W.run world.old) }
 {
     let kinds = arm_kinds(alloc, arms)?;
     let answer = make(world, Step::Arms(action.name.copy()?, kinds))?;

@@ -5,6 +5,7 @@
 //! steps runs arms apart.
 #![tactic(auto)]
 
+mod abortable;
 mod activity;
 mod activity_steps;
 mod apart;

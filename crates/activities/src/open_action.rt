@@ -1,10 +1,11 @@
-ghost use Rattle.std.specs.Prelude.{◌≡◌, [], ◌∷◌, ◌++◌, List, IsTrue, length, reverse, IfOk, OnOk, OnErr, if◌then◌else◌};
+ghost use Rattle.std.specs.Prelude.{◌≡◌, [], ◌∷◌, ◌++◌, List, IsTrue, None, length, reverse, IfErr, IfOk, OnOk, OnErr, if◌then◌else◌};
 ghost use Rattle.action_names.specs.Names.{Name, is_top};
 ghost use Rattle.run_model.specs.declared.answer.Answer.TheVariants.{Began};
 ghost use Rattle.run_model.specs.declared.step.Step.TheVariants.{Abort, Call, NestedTop, Prepare, Tell};
-ghost use Rattle.run_model.specs.Actions.{names_begun};
+ghost use Rattle.run_model.specs.Actions.{maker_in, names_begun};
 ghost use Rattle.run_model.specs.Runs.{world_after};
 ghost use Rattle.run_model.specs.Votes.{is_yes};
+ghost use Rattle.activities.specs.Failing.{EndOrFail, IsCause};
 ghost use Rattle.activities.specs.Making.{Begins, IsAnswered, Makes, Tells, commits_of};
 ghost use Rattle.activities.specs.OwnSteps.{IsOfAction, about};
 ghost use Rattle.activities.specs.Reaching.{is_made};
@@ -16,6 +17,7 @@ ghost use Rattle.activities.specs.Serial.{taken_in, two_phases};
 ghost use Rattle.activities.specs.Acting.{acting};
 ghost use Rattle.activities.specs.Bodies.{is_sub};
 
+use crate::abortable::Abortable;
 use crate::activity_steps::ActivitySteps;
 use crate::flow::{Flow, Reach};
 use action_names::{Name, Names};
@@ -59,7 +61,7 @@ impl Reached {
 /// An action that is running.
 #[derive(Drop)]
 pub(crate) struct OpenAction {
-    pub(crate) name: Name,
+    pub(crate) name: Abortable,
     pub(crate) home: u32,
     reached: Reached,
 }
@@ -80,7 +82,7 @@ impl OpenAction {
         ensures reached { result.reached ≡ reached }
     {
         OpenAction {
-            name,
+            name: Abortable::new(name),
             home,
             reached,
         }
@@ -123,7 +125,7 @@ impl OpenAction {
         }
     }
 
-    /// Begins a subaction of it at a guardian.
+    /// Begins a subaction of it at a guardian. After an error nothing has begun.
     pub(crate) fn begin_call<W: ActivitySteps>(
         &self,
         world: &mut W,
@@ -136,12 +138,14 @@ impl OpenAction {
             → W.run world.new ≡ after (Call self.now.name guardian) (W.run world.old)) }
         ensures called { IfOk result (λ c. W.alone
             → c ≡ called_by (asked (Call self.now.name guardian) (W.run world.old))) }
+        ensures failed { IfErr result (IsCause W.fails) }
+        ensures err { OnErr result (W.run world.new ≡ W.run world.old) }
     {
         let answer = make(world, Step::Call(self.name.copy()?, guardian))?;
         Ok(what_came(answer))
     }
 
-    /// Begins a nested top action that it starts; none where that is refused.
+    /// Begins a nested top action that it starts; none where that is refused. After an error nothing has begun.
     pub(crate) fn begin_nested<W: ActivitySteps>(
         &self,
         world: &mut W,
@@ -154,6 +158,8 @@ impl OpenAction {
             → W.run world.new ≡ after (NestedTop self.now.name) (W.run world.old)) }
         ensures begun { IfOk result (λ found. W.alone
             → found ≡ begun_by (asked (NestedTop self.now.name) (W.run world.old))) }
+        ensures failed { IfErr result (IsCause W.fails) }
+        ensures err { OnErr result (W.run world.new ≡ W.run world.old) }
     {
         let answer = make(world, Step::NestedTop(self.name.copy()?))?;
         Ok(begun_by(answer))
@@ -173,6 +179,9 @@ impl OpenAction {
         ensures answer { IfOk result (λ answer. W.alone
             → answer
             ≡ asked (op_step self.now.name self.now.home object operation) (W.run world.old)) }
+        ensures failed { IfErr result (IsCause W.fails) }
+        ensures over { EndOrFail W.alone W.fails []
+            (W.run world.old) (W.run world.new) }
         ensures err { OnErr result (W.run world.new ≡ W.run world.old) }
     {
         let object = ObjectId {
@@ -180,7 +189,7 @@ impl OpenAction {
             number: object,
         };
         world.operate(
-            &self.name,
+            self.name.as_name(),
             object,
             operation,
             self.reached.starters.as_slice(),
@@ -202,8 +211,7 @@ impl OpenAction {
         Ok(())
     }
 
-    /// Ends it as its body ended, and says how: where it cannot commit it aborts. After an error it has ended, or its
-    /// abort failed too.
+    /// Ends it as its body ended, and says how: where it cannot commit it aborts. After an error it aborts too.
     pub(crate) fn end<W: ActivitySteps>(&self, world: &mut W, flow: Flow) -> Result<Flow, Fault>
         ensures makes { Makes (self.now.name ∷ []) (self.now.name ∷ [])
             (W.run world.old) (W.run world.new) }
@@ -212,6 +220,9 @@ impl OpenAction {
         ensures means { IfOk result (λ end. W.alone → record { world = W.run world.new; flow = end }
             ≡ ended (acting self.now) flow (W.run world.old)) }
         ensures wanted { IfOk result (λ end. IsTrue (commits end) → end ≡ flow) }
+        ensures failed { IfErr result (IsCause W.fails) }
+        ensures over { EndOrFail W.alone W.fails (self.now.name ∷ [])
+            (W.run world.old) (W.run world.new) }
     {
         match self.try_end(world, wants_commit(&flow)) {
             Ok(true) => Ok(flow),
@@ -233,6 +244,11 @@ impl OpenAction {
         ensures means { IfOk result
             (λ done. W.alone → record { world = W.run world.new; done = done }
             ≡ end_tried (acting self.now) wanted (W.run world.old)) }
+        ensures failed { IfErr result (IsCause W.fails) }
+        ensures over { EndOrFail W.alone W.fails []
+            (W.run world.old) (W.run world.new) }
+        ensures ended { OnOk result (EndOrFail W.alone W.fails (self.now.name ∷ [])
+            (W.run world.old) (W.run world.new)) }
     {
         if wanted {
             self.commit_or_abort(world)
@@ -250,6 +266,11 @@ impl OpenAction {
         ensures means { IfOk result
             (λ done. W.alone → record { world = W.run world.new; done = done }
             ≡ or_aborted (acting self.now) (committed (acting self.now) (W.run world.old))) }
+        ensures failed { IfErr result (IsCause W.fails) }
+        ensures over { EndOrFail W.alone W.fails []
+            (W.run world.old) (W.run world.new) }
+        ensures ended { OnOk result (EndOrFail W.alone W.fails (self.now.name ∷ [])
+            (W.run world.old) (W.run world.new)) }
     {
         if self.commit(world)? {
             return Ok(true);
@@ -265,7 +286,7 @@ impl OpenAction {
         let Flow::Outwards(reach) = flow else {
             return Flow::Aborted;
         };
-        if self.name.is_top() && reach == Reach::TopAction {
+        if self.name.as_name().is_top() && reach == Reach::TopAction {
             Flow::Aborted
         } else {
             Flow::Outwards(reach)
@@ -281,6 +302,9 @@ impl OpenAction {
         ensures means { IfOk result
             (λ done. W.alone → record { world = W.run world.new; done = done }
             ≡ committed (acting self.now) (W.run world.old)) }
+        ensures failed { IfErr result (IsCause W.fails) }
+        ensures over { EndOrFail W.alone W.fails []
+            (W.run world.old) (W.run world.new) }
     {
         if !self.try_commit(world)? {
             return Ok(false);
@@ -298,8 +322,11 @@ impl OpenAction {
         ensures means { IfOk result
             (λ done. W.alone → record { world = W.run world.new; done = done }
             ≡ commit_tried (acting self.now) (W.run world.old)) }
+        ensures failed { IfErr result (IsCause W.fails) }
+        ensures over { EndOrFail W.alone W.fails []
+            (W.run world.old) (W.run world.new) }
     {
-        if self.name.is_top() {
+        if self.name.as_name().is_top() {
             self.commit_top(world)
         } else {
             try_step(world, Step::Commit(self.name.copy()?))
@@ -315,6 +342,9 @@ impl OpenAction {
         ensures means { IfOk result
             (λ done. W.alone → record { world = W.run world.new; done = done }
             ≡ two_phases (acting self.now) (W.run world.old)) }
+        ensures failed { IfErr result (IsCause W.fails) }
+        ensures over { EndOrFail W.alone W.fails []
+            (W.run world.old) (W.run world.new) }
     {
         if !try_step(world, Step::Close(self.name.copy()?))? {
             return Ok(false);
@@ -332,8 +362,11 @@ impl OpenAction {
         ensures makes { Makes (self.now.name ∷ []) [] (W.run world.old) (W.run world.new) }
         ensures means { OnOk result (W.alone → W.run world.new
             ≡ aborted (acting self.now) (W.run world.old)) }
+        ensures failed { IfErr result (IsCause W.fails) }
+        ensures over { EndOrFail W.alone W.fails (self.now.name ∷ [])
+            (W.run world.old) (W.run world.new) }
     {
-        try_step(world, Step::Abort(self.name.copy()?))?;
+        try_abort(world, &self.name)?;
         tell(world, &self.name, &self.reached.homes)
     }
 
@@ -342,14 +375,16 @@ impl OpenAction {
     pub(crate) fn abort_arms<W: ActivitySteps>(
         &self,
         world: &mut W,
-        arms: &[Name],
+        mut arms: Vec<Name>,
     ) -> Result<(), Fault>
-        ensures makes { Makes arms.now [] (W.run world.old) (W.run world.new) }
+        ensures makes { Makes arms.items [] (W.run world.old) (W.run world.new) }
         ensures means { OnOk result (W.alone → W.run world.new
-            ≡ arms_aborted self.now.home (reverse arms.now) (W.run world.old)) }
+            ≡ arms_aborted self.now.home (reverse arms.items) (W.run world.old)) }
+        ensures failed { IfErr result W.fails }
+        ensures over { EndOrFail W.alone W.fails arms.items (W.run world.old) (W.run world.new) }
     {
         let mut fault = Ok(());
-        for arm in arms.iter().rev() {
+        while let Some(arm) = arms.pop() {
             fault = fault.and(abort_at_home(world, arm, self.home));
         }
         fault
@@ -357,25 +392,31 @@ impl OpenAction {
 }
 
 /// Aborts an action that has done nothing yet, and tells its home.
-fn abort_at_home<W: ActivitySteps>(world: &mut W, action: &Name, home: u32) -> Result<(), Fault>
-    ensures makes { Makes (action.now ∷ []) [] (W.run world.old) (W.run world.new) }
+fn abort_at_home<W: ActivitySteps>(world: &mut W, action: Name, home: u32) -> Result<(), Fault>
+    ensures makes { Makes (action ∷ []) [] (W.run world.old) (W.run world.new) }
     ensures means { OnOk result (W.alone → W.run world.new
-        ≡ after (Tell home action.now) (after (Abort action.now) (W.run world.old))) }
+        ≡ after (Tell home action) (after (Abort action) (W.run world.old))) }
+    ensures failed { IfErr result W.fails }
+    ensures over { EndOrFail W.alone W.fails (action ∷ []) (W.run world.old) (W.run world.new) }
 {
-    try_step(world, Step::Abort(action.copy()?))?;
-    try_step(world, Step::Tell(home, action.copy()?))?;
+    let action = Abortable::new(action);
+    try_abort(world, &action)?;
+    try_step(world, Step::Tell(home, action.into_name()))?;
     Ok(())
 }
 
 /// Tells the outcome of an action to guardians, in rising number. Those that are down refuse it.
 fn tell<W: ActivitySteps>(
     world: &mut W,
-    action: &Name,
+    action: &Abortable,
     guardians: &BTreeSet<u32>,
 ) -> Result<(), Fault>
     ensures makes { Makes (action.now ∷ []) [] (W.run world.old) (W.run world.new) }
     ensures means { OnOk result (W.alone → W.run world.new
         ≡ once_told action.now guardians.now.keys (W.run world.old)) }
+    ensures failed { IfErr result (IsCause W.fails) }
+    ensures over { EndOrFail W.alone W.fails []
+        (W.run world.old) (W.run world.new) }
 {
     for guardian in guardians {
         try_step(world, Step::Tell(*guardian, action.copy()?))?;
@@ -407,15 +448,31 @@ pub(crate) fn begun_by(answer: Answer) -> Option<Name>
 }
 
 /// Asks a guardian for its vote on a top action; whether that is yes.
-fn prepare<W: ActivitySteps>(world: &mut W, guardian: u32, top: &Name) -> Result<bool, Fault>
+fn prepare<W: ActivitySteps>(world: &mut W, guardian: u32, top: &Abortable) -> Result<bool, Fault>
     ensures makes { Makes (top.now ∷ []) [] (W.run world.old) (W.run world.new) }
     ensures after { OnOk result (W.alone
         → W.run world.new ≡ after (Prepare guardian top.now) (W.run world.old)) }
     ensures yes { IfOk result (λ yes. W.alone
         → yes ≡ is_yes (asked (Prepare guardian top.now) (W.run world.old))) }
+    ensures failed { IfErr result (IsCause W.fails) }
+    ensures over { EndOrFail W.alone W.fails []
+        (W.run world.old) (W.run world.new) }
 {
     let vote = make(world, Step::Prepare(guardian, top.copy()?))?;
     Ok(vote.is_yes())
+}
+
+/// Makes the step that aborts an action. This takes no memory.
+fn try_abort<W: ActivitySteps>(world: &mut W, action: &Abortable) -> Result<(), Fault>
+    ensures makes { Makes (action.now ∷ []) [] (W.run world.old) (W.run world.new) }
+    ensures after { OnOk result (W.alone
+        → W.run world.new ≡ after (Abort action.now) (W.run world.old)) }
+    ensures failed { IfErr result W.fails }
+    ensures over { EndOrFail W.alone W.fails (action.now ∷ [])
+        (W.run world.old) (W.run world.new) }
+{
+    world.make_step(action.abort())?;
+    Ok(())
 }
 
 /// Makes a step; whether it was done.
@@ -426,6 +483,9 @@ fn try_step<W: ActivitySteps>(world: &mut W, step: Step) -> Result<bool, Fault>
         → Tells done a (W.run world.old) (W.run world.new)) }
     ensures after { OnOk result (W.alone → W.run world.new ≡ after step (W.run world.old)) }
     ensures done { IfOk result (λ done. W.alone → done ≡ is_made (asked step (W.run world.old))) }
+    ensures failed { IfErr result W.fails }
+    ensures over { maker_in step ≡ None
+        → EndOrFail W.alone W.fails [] (W.run world.old) (W.run world.new) }
 {
     let answer = make(world, step)?;
     Ok(is_done(answer))
@@ -473,6 +533,7 @@ pub(crate) fn make<W: ActivitySteps>(world: &mut W, step: Step) -> Result<Answer
     ensures after { IfOk result
         (λ answer. W.run world.new ≡ world_after (W.run world.old) step answer) }
     ensures alone { IfOk result (λ answer. W.alone → answer ≡ asked step (W.run world.old)) }
+    ensures failed { IfErr result W.fails }
     ensures err { OnErr result (W.run world.new ≡ W.run world.old) }
 {
     world.make_step(&step)

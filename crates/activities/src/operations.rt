@@ -1,6 +1,7 @@
-ghost use Rattle.std.specs.Prelude.{◌≡◌, ◌⊎◌, [], ◌∷◌, IsTrue, IfOk, OnErr, OnOk};
+ghost use Rattle.std.specs.Prelude.{◌≡◌, ◌⊎◌, [], ◌∷◌, IsTrue, IfErr, IfOk, OnErr, OnOk};
 ghost use Rattle.script_model.specs.Resolved.{binding_is_bound};
 ghost use Rattle.activities.specs.Bodies.{IsOp, IsOutcome, sizes};
+ghost use Rattle.activities.specs.Failing.{EndOrFail, IsCause};
 ghost use Rattle.activities.specs.Making.{Makes};
 ghost use Rattle.activities.specs.Performing.{IsAfterAny, by_reply, outcome_of, step_for};
 
@@ -41,6 +42,9 @@ pub(crate) fn perform<W: ActivitySteps>(
     ensures outcome { IfOk result (λ done. W.alone → (done, frames.new)
         ≡ outcome_of (W.run world.old) frames.old call.now.binding
         (step_for action.now.name action.now.home frames.old call.now)) }
+    ensures failed { IfErr result (IsCause W.fails) }
+    ensures over { EndOrFail W.alone W.fails []
+        (W.run world.old) (W.run world.new) }
     ensures unbound { OnErr result (frames.new ≡ frames.old) }
     ensures err { OnErr result (W.alone → (W.run world.new ≡ W.run world.old)
         ⊎ IsAfterAny (step_for action.now.name action.now.home frames.old call.now)

@@ -1,4 +1,4 @@
-ghost use Rattle.std.specs.Prelude.{◌≡◌, ◌<◌, ◌⊎◌, Err, IfErr, IfOk, IfSome, IsTrue, OnErr, OnOk};
+ghost use Rattle.std.specs.Prelude.{◌≡◌, ◌<◌, ◌⊎◌, [], Err, IfErr, IfOk, IfSome, IsTrue, OnErr, OnOk};
 ghost use Rattle.std.specs.Prelude.{Option, option_map, vec_capacity, vec_len};
 ghost use Rattle.action_names.specs.Names.{Name};
 ghost use Rattle.script_model.specs.Resolved.{IsResolved, is_resolved_client};
@@ -6,6 +6,7 @@ ghost use Rattle.activities.specs.Acting.{acting};
 ghost use Rattle.activities.specs.Bodies.{IsOf};
 ghost use Rattle.activities.specs.Ends.{AllCame, AreTried, ClientMade, IsTopAt, IsTopOrNothing};
 ghost use Rattle.activities.specs.Ends.{end_of, ends_with, listed, top_of};
+ghost use Rattle.activities.specs.Failing.{EndOrFail, IsCause, StepFails};
 ghost use Rattle.activities.specs.Making.{ClientMakes, once_begun};
 ghost use Rattle.activities.specs.Serial.{after, asked, begun_at, begun_by, client_ran, serial_run};
 ghost use Rattle.run_model.specs.declared.step.Step.TheVariants.{Top};
@@ -40,6 +41,9 @@ pub fn run_serial<W: MakesSteps>(
     ensures err { OnErr result (AreTried script.now.clients (W.run world.old) (W.run world.new)) }
     ensures fault { IfErr result (λ fault. (W.run world.new ≡ W.run world.old)
         ⊎ AllCame script.now.clients (W.run world.old) (W.run world.new) (Err fault)) }
+    ensures failed { IfErr result (IsCause (StepFails W.leaves)) }
+    ensures over { EndOrFail (Unit {0}) (StepFails W.leaves) []
+        (W.run world.old) (W.run world.new) }
 {
     let clients = script.clients.as_slice();
     let room = Vec::with_capacity(alloc, clients.len())?;
@@ -83,6 +87,9 @@ pub fn run_client<W: ActivitySteps>(
     ensures cut { OnErr result
         ((top : Option Name) × ClientMakes client.now.home top (W.run world.old) (W.run world.new)
         × (W.alone → IsTopOrNothing client.now.home (W.run world.old) top)) }
+    ensures failed { IfErr result (IsCause W.fails) }
+    ensures over { EndOrFail W.alone W.fails []
+        (W.run world.old) (W.run world.new) }
 {
     let Some(mut top) = begin_top(alloc, world, client.home)? else {
         return Ok(ClientEnd::Aborted { top: None });
@@ -90,7 +97,7 @@ pub fn run_client<W: ActivitySteps>(
     let mut frames = Frames::new(alloc);
     let body = client.body.as_slice();
     let flow = Activity::new(alloc, script).run(world, &mut top, &mut frames, body)?;
-    Ok(end_of(top.name, flow))
+    Ok(end_of(top.name.into_name(), flow))
 }
 
 /// Begins a client's top action at its home; none if that is refused. After an error nothing has begun.
@@ -108,6 +115,7 @@ fn begin_top<W: ActivitySteps>(
         ≡ begun_by (asked (Top home) (W.run world.old))) }
     ensures acting { IfOk result
         (λ found. IfSome found (λ top. acting top ≡ begun_at home top.name)) }
+    ensures failed { IfErr result (IsCause W.fails) }
     ensures err { OnErr result (W.run world.new ≡ W.run world.old) }
 {
     let reached = Reached::new(alloc, home, Names::new(alloc))?;

@@ -26,7 +26,7 @@ loop-arm-preserved c =
       goes_on = λ last h. l.invariant.goes_on last
           (subst (λ all. GoOn l.flow (map (λ arm. arm.ended) all) last) (sym rest) (
             c.learn.result,
-            (c.learn.ensures.flow, c.learn.ensures.fault),
+            (c.learn.ensures.flow, c.learn.ensures.fault, c.learn.ensures.memory),
             subst (λ arms. GoOn arms (map (λ arm. arm.ended) c.next.new.self.rest.items) last) c.beside-flow.ensures h,
           ));
       taken = taken_goes l.flow c.learn.result c.beside-flow.result c.in-Some.arm l.arm-iterator.rest.items c.next.new.self.rest.items

@@ -4,6 +4,7 @@ use Rattle.activities.specs.Acting.{ComesSo, acting, doing, done}
 use Rattle.activities.specs.Ends.{commits}
 use Rattle.activities.specs.Serial.{Done, budget}
 use Rattle.activities.proofs.ArmsGone.{ok_no_err}
+use Rattle.activities.proofs.Failing.{cause_at_end, over_ends_named}
 use Rattle.activities.proofs.Making.{if_ok_each, then_tells}
 use Rattle.activities.proofs.Meaning.{of_script, run_ends}
 use Rattle.activities.proofs.apart.run_arm.Goals as goal
@@ -45,3 +46,13 @@ returns-clause-means g c =
           (run_ends script budget (acting arm.action) arm.frames arm.body (doing old budget arm.action arm.frames) r (record { world = new; flow = end }) whole ended
           budget (le_refl budget));
     })
+
+pub returns-clause-failed : goal.returns-clause-failed
+returns-clause-failed g c =
+    cause_at_end g.W.ActivitySteps.fails c.body-ran.result c.end_arm-ended.result c.body-ran.ensures.failed c.end_arm-ended.ensures.fault
+    c.end_arm-ended.ensures.failed
+
+pub returns-clause-over : goal.returns-clause-over
+returns-clause-over g c =
+    over_ends_named g.W.ActivitySteps.alone g.W.ActivitySteps.fails c.args.arm.action.name c.body-ran.new.action.name (g.W.ActivitySteps.run c.args.world.now)
+    (g.W.ActivitySteps.run c.body-ran.new.world) (g.W.ActivitySteps.run c.end_arm-ended.new.world) c.body-ran.ensures.name c.body-ran.ensures.over c.end_arm-ended.ensures.over

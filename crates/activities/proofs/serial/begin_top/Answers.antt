@@ -28,6 +28,7 @@ returns-in_default g c =
       after = λ alone. alone_after _ c.in_ok-answer.answer old new c.in_ok-answer.ensures.after (c.in_ok-answer.ensures.alone alone);
       begun = λ alone. sym found ∙ ap begun_by (c.in_ok-answer.ensures.alone alone);
       acting = tt;
+      failed = tt;
       err = tt;
     }
 
@@ -48,5 +49,6 @@ returns g c =
       begun = λ alone. sym found ∙ ap begun_by (c.in_ok-answer.ensures.alone alone);
       acting = acting_begun top top.name home refl c.new-top.ensures.home (ap (λ x. x.homes.keys) c.new-top.ensures.reached ∙ c.in_ok-reached.ensures.homes)
           (ap (λ x. x.participants.keys) c.new-top.ensures.reached ∙ c.in_ok-reached.ensures.participants);
+      failed = tt;
       err = tt;
     }

@@ -8,6 +8,7 @@ use Rattle.activities.specs.Making.{Makes, once_begun, with_top}
 use Rattle.activities.specs.Serial.{Done, begun_at, body_done, budget, run}
 use Rattle.activities.proofs.Meaning.{of_script, run_named, top_lacks, top_runs}
 use Rattle.activities.proofs.Clients.{body_given}
+use Rattle.activities.proofs.Failing.{over_same, over_top}
 use Rattle.activities.proofs.ClientSteps.{end_made, named_at_end}
 use Rattle.activities.proofs.Trying.{cut_of, on_err}
 use Rattle.activities.proofs.serial.run_client.Goals as goal
@@ -32,6 +33,9 @@ returns-in_default g c =
           (option_map (λ top. top.name) c.in_ok-top.field-0) (c.in_ok-top.ensures.after alone) (c.in_ok-top.ensures.begun alone)
           (ap (option_map (λ top. top.name)) c.in_default.is);
       cut = tt;
+      failed = tt;
+      over = over_same g.W.ActivitySteps.alone g.W.ActivitySteps.fails old (g.W.ActivitySteps.run c.begin_top.new.world)
+          (c.in_ok-top.ensures.left ∙ ap (λ o. once_begun home (option_map (λ top. top.name) o) old) c.in_default.is);
     }
 
 pub returns-in_err-top-clause-cut : goal.returns-in_err-top-clause-cut
@@ -63,7 +67,7 @@ returns-clause-made g c =
     let mid = g.W.ActivitySteps.run c.begin_top.new.world in
     let new = g.W.ActivitySteps.run c.run.new.world in
     let begun = begun_world home c.in_ok-top.field-0 top old mid c.in_ok-top.ensures.left c.in-Some.is in
-    let named = c.end_of.ensures ∙ ap (λ n. end_of n c.in_ok-flow.flow) c.run.ensures.name in
+    let named = c.end_of.ensures ∙ ap (λ n. end_of n c.in_ok-flow.flow) (c.into_name.ensures ∙ c.run.ensures.name) in
     subst (λ end. ClientMade home end old new) (sym named)
     (end_made home top.name c.in_ok-flow.flow old mid new begun c.run.ensures.makes c.in_ok-flow.ensures.told)
 
@@ -71,7 +75,7 @@ pub returns-clause-top : goal.returns-clause-top
 returns-clause-top g c = λ alone.
     let top = c.in-Some.top in
     subst (λ o. IsTopAt c.args.client.now.home (g.W.ActivitySteps.run c.args.world.now) o)
-    (ap (option_map (λ top. top.name)) c.in-Some.is ∙ sym (ap top_of (c.end_of.ensures ∙ ap (λ n. end_of n c.in_ok-flow.flow) c.run.ensures.name)
+    (ap (option_map (λ top. top.name)) c.in-Some.is ∙ sym (ap top_of (c.end_of.ensures ∙ ap (λ n. end_of n c.in_ok-flow.flow) (c.into_name.ensures ∙ c.run.ensures.name))
     ∙ named_at_end top.name c.in_ok-flow.flow))
     (c.in_ok-top.ensures.top alone)
 
@@ -100,4 +104,21 @@ returns-clause-ok g c = λ alone.
     (λ most h. whole most h
     ∙ run_named (body_done script.handlers most) (acting top) (begun_at home a) c.new-frames.result nothing_bound c.as_slice-body.result.now
     c.args.client.now.body (doing y budget top c.new-frames.result) acts c.new-frames.ensures c.as_slice-body.ensures)
-    (c.end_of.ensures ∙ ap (λ n. end_of n c.in_ok-flow.flow) c.run.ensures.name)
+    (c.end_of.ensures ∙ ap (λ n. end_of n c.in_ok-flow.flow) (c.into_name.ensures ∙ c.run.ensures.name))
+
+pub returns-in_err-top-clause-over : goal.returns-in_err-top-clause-over
+returns-in_err-top-clause-over g c = over_same g.W.ActivitySteps.alone g.W.ActivitySteps.fails (g.W.ActivitySteps.run c.args.world.now) (g.W.ActivitySteps.run c.begin_top.new.world) c.in_err-top.ensures.err
+
+pub returns-in_err-flow-clause-over : goal.returns-in_err-flow-clause-over
+returns-in_err-flow-clause-over g c =
+    let old = g.W.ActivitySteps.run c.args.world.now in
+    let mid = g.W.ActivitySteps.run c.begin_top.new.world in
+    over_top g.W.ActivitySteps.alone g.W.ActivitySteps.fails c.args.client.now.home c.in-Some.top.name old mid (g.W.ActivitySteps.run c.run.new.world)
+    (begun_world c.args.client.now.home c.in_ok-top.field-0 c.in-Some.top old mid c.in_ok-top.ensures.left c.in-Some.is) c.run.ensures.over
+
+pub returns-clause-over : goal.returns-clause-over
+returns-clause-over g c =
+    let old = g.W.ActivitySteps.run c.args.world.now in
+    let mid = g.W.ActivitySteps.run c.begin_top.new.world in
+    over_top g.W.ActivitySteps.alone g.W.ActivitySteps.fails c.args.client.now.home c.in-Some.top.name old mid (g.W.ActivitySteps.run c.run.new.world)
+    (begun_world c.args.client.now.home c.in_ok-top.field-0 c.in-Some.top old mid c.in_ok-top.ensures.left c.in-Some.is) c.run.ensures.over

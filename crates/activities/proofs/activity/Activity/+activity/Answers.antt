@@ -1,4 +1,4 @@
-use Rattle.std.proofs.Common.{IfOk, IfSome, IsTrue, List, Ok, Option, Some, ap, arith, drop, drop_of_length-le, false, inl, inr, le_trans, length, refl, reverse, rules, slice_get, subst, sym, true, [], ◌+◌, ◌-◌, ◌<◌, ◌∙◌, ◌∷◌, ◌≡◌, ◌≤◌}
+use Rattle.std.proofs.Common.{IfErr, IfOk, IfSome, IsTrue, List, Ok, Option, Some, ap, arith, drop, drop_of_length-le, false, inl, inr, le_trans, length, refl, reverse, rules, slice_get, subst, sym, true, [], ◌+◌, ◌-◌, ◌<◌, ◌∙◌, ◌∷◌, ◌≡◌, ◌≤◌}
 use Rattle.std.proofs.lemmas.Bool.{false≢true}
 use Rattle.std.proofs.lemmas.List.{length-take}
 use Rattle.std.proofs.lemmas.Option.{slice_get_read}
@@ -20,9 +20,11 @@ use Rattle.script_model.specs.Resolved.{asked}
 use Rattle.run_model.specs.Runs.{World}
 use Rattle.activities.specs.Bodies.{AreArms, IsBody, IsOf, IsOutcome, IsStatement, SignalsHold, WhereEnded, body_of, kind_of, sizes}
 use Rattle.activities.specs.Apart.{begun_names}
+use Rattle.activities.specs.Failing.{IsCause}
 use Rattle.activities.specs.Making.{Begins}
-use Rattle.activities.specs.Ends.{commits, has_committed, named_by}
+use Rattle.activities.specs.Ends.{called, commits, has_committed, named_by}
 use Rattle.activities.proofs.Following.{called_began, handed_sizes, next_rest, next_within, nothing_bound, ok_so, popped, popped_length, same_body}
+use Rattle.activities.proofs.Failing.{cause_of_arms, fewer_apart, last_ran, more_apart, none_apart, none_ran, over_arms, over_child, over_ends_named, over_nowhere, over_none, over_through}
 use Rattle.activities.proofs.Meaning.{AreArmsFrom, IsBodyFrom, aborted_back, acting_begun, arm_goes, arm_stops, arms_end, body_ends, body_goes, body_lacks, body_stops, call_goes, call_so, called_so, ended_back, if_ok_at, if_ok_then, last_first, nested_past, nested_ran, nested_so, next_list, not_past, of_script, op_comes, outwards_back, returned_back, run_ends, run_named, sub_past, top_past, turn_goes, turn_lacks, turn_stops, turns_end}
 use Rattle.activities.proofs.Resolving.{arm_of, arms_from, call_binding, call_ints, call_of, call_signals, call_texts, called_body, called_within, first_of, op_after, op_of, op_signals, return_of, signalled_after, signals_hold_there}
 use Rattle.activities.proofs.ArmsApart.{has_fewer, makes_within, then_within}
@@ -94,11 +96,9 @@ coenter-returns-in_err-aborted-clause-makes g t c =
     let x = (g.W.ActivitySteps.run c.args.world.now) in
     let y = (g.W.ActivitySteps.run c.begin_arms.new.world) in
     let names = c.in-Some.waiting.items in
-    arms_make names c.as_slice.result.now (c.args.action.now.name ∷ []) x y (g.W.ActivitySteps.run c.arms-ran.new.world) (g.W.ActivitySteps.run c.abort_arms-aborted.new.world)
+    arms_make names c.arms-ran.new.waiting.items (c.args.action.now.name ∷ []) x y (g.W.ActivitySteps.run c.arms-ran.new.world) (g.W.ActivitySteps.run c.abort_arms-aborted.new.world)
     (subst (λ o. IfSome o (λ v. Begins (c.args.action.now.name ∷ []) [] v.items x y)) c.in-Some.is c.in_ok-waiting.ensures.began)
-    c.arms-ran.ensures.makes
-    (subst (λ (l : List Name). (a : Name) → IsTrue (has_name l a) → IsTrue (has_name names a)) (sym c.as_slice.ensures.value) c.arms-ran.ensures.rest)
-    c.abort_arms-aborted.ensures.makes
+    c.arms-ran.ensures.makes c.arms-ran.ensures.rest c.abort_arms-aborted.ensures.makes
 
 pub body-loop-statement-preserved : goal.body-loop-statement-preserved
 body-loop-statement-preserved g t c =
@@ -122,6 +122,7 @@ body-loop-statement-preserved g t c =
     record {
       makes = then_makes c.args.action.now.name l.action.name (g.W.ActivitySteps.run c.args.world.now) (g.W.ActivitySteps.run l.world)
           (g.W.ActivitySteps.run c.statement.new.world) l.invariant.name l.invariant.makes c.statement.ensures.makes;
+      over = over_through g.W.ActivitySteps.alone g.W.ActivitySteps.fails (g.W.ActivitySteps.run c.args.world.now) (g.W.ActivitySteps.run l.world) (g.W.ActivitySteps.run c.statement.new.world) l.invariant.over c.statement.ensures.over;
       resolved = subst (IsOf g.W.ActivitySteps.scripts) (sym same) l.invariant.resolved;
       rest = next_rest l.self.script.now c.statement.new.self.script.now (sizes l.frames) (sizes c.statement.new.frames) c.args.body.now
           l.statement-index s (omega arith) c.statement-item.is same bound l.invariant.rest;
@@ -166,6 +167,7 @@ repeat-loop-preserved g t c =
     record {
       makes = then_makes c.args.action.now.name l.action.name (g.W.ActivitySteps.run c.args.world.now) (g.W.ActivitySteps.run l.world)
           (g.W.ActivitySteps.run c.inner.new.world) l.invariant.name l.invariant.makes c.inner.ensures.makes;
+      over = over_through g.W.ActivitySteps.alone g.W.ActivitySteps.fails (g.W.ActivitySteps.run c.args.world.now) (g.W.ActivitySteps.run l.world) (g.W.ActivitySteps.run c.inner.new.world) l.invariant.over c.inner.ensures.over;
       resolved = subst (IsOf g.W.ActivitySteps.scripts) (sym same) l.invariant.resolved;
       body = same_body l.self.script.now c.inner.new.self.script.now (sizes l.frames) (sizes c.inner.new.frames) c.args.body.now same bound
           l.invariant.body;
@@ -202,6 +204,8 @@ top_action-returns g t c =
     let began = began_named c.in_ok-name.field-0 c.in-Some.name n (c.args.action.now.name ∷ []) x y c.in-Some.is c.new-nested.ensures.name c.in_ok-name.ensures.began in
     record {
       makes = child_makes n (c.args.action.now.name ∷ []) x y z began c.run.ensures.makes;
+      failed = tt;
+      over = over_child g.W.ActivitySteps.alone g.W.ActivitySteps.fails n (c.args.action.now.name ∷ []) x y z began c.run.ensures.over;
       frames = nothing_bound c.in_ok-flow.flow (sizes c.args.frames.now);
       left = c.run.ensures.left;
       script = c.run.ensures.script;
@@ -324,6 +328,7 @@ run_arms-loop-arm-preserved g t c =
     record {
       makes = one_makes a all x (g.W.ActivitySteps.run l.world) z (l.invariant.among a (last_waits waits rest a is)) l.invariant.makes
           c.run-ended.ensures.makes;
+      over = last_ran g.W.ActivitySteps.alone g.W.ActivitySteps.fails all waits rest a x (g.W.ActivitySteps.run l.world) z is l.invariant.over c.run-ended.ensures.over;
       among = λ b h. l.invariant.among b (earlier_waits waits rest a is b h);
       each = omega (arith, popped_length waits rest a is, l.invariant.each);
       resolved = subst (IsOf g.W.ActivitySteps.scripts) (sym c.run-ended.ensures.script) l.invariant.resolved;
@@ -432,6 +437,7 @@ run-returns-in-Ok-clause-means g t c =
 pub body-loop-statement-init : goal.body-loop-statement-init
 body-loop-statement-init g t c = record {
   makes = makes_nowhere (c.args.action.now.name ∷ []) [] (g.W.ActivitySteps.run c.args.world.now);
+  over = over_nowhere g.W.ActivitySteps.alone g.W.ActivitySteps.fails (g.W.ActivitySteps.run c.args.world.now);
   resolved = c.requires.script;
   rest = c.requires.body;
   frames = record { ints = omega arith; texts = omega arith; truths = omega arith };
@@ -493,6 +499,7 @@ body-returns-clause-means g t c = λ alone.
 pub repeat-loop-init : goal.repeat-loop-init
 repeat-loop-init g t c = record {
   makes = makes_nowhere (c.args.action.now.name ∷ []) [] (g.W.ActivitySteps.run c.args.world.now);
+  over = over_nowhere g.W.ActivitySteps.alone g.W.ActivitySteps.fails (g.W.ActivitySteps.run c.args.world.now);
   resolved = c.requires.script;
   body = c.requires.body;
   frames = refl;
@@ -772,6 +779,7 @@ call-returns-clause-means g t c = λ alone.
 pub run_arms-loop-arm-init : goal.run_arms-loop-arm-init
 run_arms-loop-arm-init g t c = record {
   makes = makes_nowhere c.args.waiting.now.items c.args.waiting.now.items (g.W.ActivitySteps.run c.args.world.now);
+  over = none_ran g.W.ActivitySteps.alone g.W.ActivitySteps.fails c.args.waiting.now.items (g.W.ActivitySteps.run c.args.world.now);
   among = λ a h. h;
   each = omega (arith, c.requires.each);
   resolved = c.requires.script;
@@ -958,6 +966,10 @@ arms-returns-in_default g t c =
       name = c.flow_of.ensures.name;
       home = c.flow_of.ensures.home;
       means = λ alone. absurd (false≢true (sym (c.has_arms_apart.ensures alone) ∙ c.if-not-has_arms_apart.false));
+      failed = tt;
+      over = fewer_apart g.W.ActivitySteps.alone g.W.ActivitySteps.fails _ _ c.args.waiting.now.items (g.W.ActivitySteps.run c.args.world.now) (g.W.ActivitySteps.run c.run_arms-2.new.self) c.truncate.new.self.items
+          (c.len.result - c.len-count.result) c.truncate.ensures.items c.run_arms-2.ensures.makes
+          (λ alone. false≢true (sym (c.has_arms_apart.ensures alone) ∙ c.if-not-has_arms_apart.false));
     }
 
 pub arms-run_arms-requires-in-Ended : goal.arms-run_arms-requires-in-Ended
@@ -970,3 +982,264 @@ arms-run_arms-requires-in-Ended g t c κs within =
     let fewer = length-take (c.len.result - c.len-count.result) c.args.waiting.now.items in
     let each : length c.truncate.new.self.items ≡ length c.split_at.result.1.now = omega (arith, names, fewer, c.split_at.ensures.back_len, c.requires.each) in
     (omega arith, (within, (c.requires.script, (behind, each))))
+
+-- ---- what has ended in spite of a fault
+
+pub body-returns-in_err-flow-clause-over : goal.body-returns-in_err-flow-clause-over
+body-returns-in_err-flow-clause-over g t c =
+    over_through g.W.ActivitySteps.alone g.W.ActivitySteps.fails (g.W.ActivitySteps.run c.args.world.now) (g.W.ActivitySteps.run c.loop-statement.world) (g.W.ActivitySteps.run c.statement.new.world) c.loop-statement.invariant.over c.statement.ensures.over
+
+pub body-returns-then-not-matches-clause-over : goal.body-returns-then-not-matches-clause-over
+body-returns-then-not-matches-clause-over g t c =
+    over_through g.W.ActivitySteps.alone g.W.ActivitySteps.fails (g.W.ActivitySteps.run c.args.world.now) (g.W.ActivitySteps.run c.loop-statement.world) (g.W.ActivitySteps.run c.statement.new.world) c.loop-statement.invariant.over c.statement.ensures.over
+
+pub body-returns-then-not-begin-clause-over : goal.body-returns-then-not-begin-clause-over
+body-returns-then-not-begin-clause-over g t c =
+    c.loop-statement.invariant.over
+
+pub body-returns-clause-over : goal.body-returns-clause-over
+body-returns-clause-over g t c =
+    c.loop-statement.invariant.over
+
+pub repeat-returns-in_err-flow-clause-over : goal.repeat-returns-in_err-flow-clause-over
+repeat-returns-in_err-flow-clause-over g t c =
+    over_through g.W.ActivitySteps.alone g.W.ActivitySteps.fails (g.W.ActivitySteps.run c.args.world.now) (g.W.ActivitySteps.run c.loop.world) (g.W.ActivitySteps.run c.inner.new.world) c.loop.invariant.over c.inner.ensures.over
+
+pub repeat-returns-then-not-matches-clause-over : goal.repeat-returns-then-not-matches-clause-over
+repeat-returns-then-not-matches-clause-over g t c =
+    over_through g.W.ActivitySteps.alone g.W.ActivitySteps.fails (g.W.ActivitySteps.run c.args.world.now) (g.W.ActivitySteps.run c.loop.world) (g.W.ActivitySteps.run c.inner.new.world) c.loop.invariant.over c.inner.ensures.over
+
+pub repeat-returns-then-not-begin-clause-over : goal.repeat-returns-then-not-begin-clause-over
+repeat-returns-then-not-begin-clause-over g t c =
+    c.loop.invariant.over
+
+pub repeat-returns-clause-over : goal.repeat-returns-clause-over
+repeat-returns-clause-over g t c =
+    c.loop.invariant.over
+
+pub run-returns-in-Ok-clause-over : goal.run-returns-in-Ok-clause-over
+run-returns-in-Ok-clause-over g t c =
+    over_ends_named g.W.ActivitySteps.alone g.W.ActivitySteps.fails c.args.action.now.name c.body.new.action.name (g.W.ActivitySteps.run c.args.world.now) (g.W.ActivitySteps.run c.body.new.world) (g.W.ActivitySteps.run c.end.new.world) c.body.ensures.name c.body.ensures.over
+    c.end.ensures.over
+
+pub run-returns-in-Err-clause-over : goal.run-returns-in-Err-clause-over
+run-returns-in-Err-clause-over g t c =
+    over_ends_named g.W.ActivitySteps.alone g.W.ActivitySteps.fails c.args.action.now.name c.body.new.action.name (g.W.ActivitySteps.run c.args.world.now) (g.W.ActivitySteps.run c.body.new.world) (g.W.ActivitySteps.run c.abort.new.world) c.body.ensures.name c.body.ensures.over
+    c.abort.ensures.over
+
+pub call-returns-in_err-flow-clause-over : goal.call-returns-in_err-flow-clause-over
+call-returns-in_err-flow-clause-over g t c =
+    let x = (g.W.ActivitySteps.run c.args.world.now) in
+    let y = (g.W.ActivitySteps.run c.begin_call.new.world) in
+    let z = (g.W.ActivitySteps.run c.run-ended.new.world) in
+    let n = c.new-child.result.name in
+    let began = called_began c.in_ok-name.field-0 c.in-Began.name n (c.args.action.now.name ∷ []) x y c.in-Began.is c.new-child.ensures.name c.in_ok-name.ensures.began in
+    over_child g.W.ActivitySteps.alone g.W.ActivitySteps.fails n (c.args.action.now.name ∷ []) x y z began c.run-ended.ensures.over
+
+pub call-returns-in_err-taken-clause-over : goal.call-returns-in_err-taken-clause-over
+call-returns-in_err-taken-clause-over g t c =
+    let x = (g.W.ActivitySteps.run c.args.world.now) in
+    let y = (g.W.ActivitySteps.run c.begin_call.new.world) in
+    let z = (g.W.ActivitySteps.run c.run-ended.new.world) in
+    let n = c.new-child.result.name in
+    let began = called_began c.in_ok-name.field-0 c.in-Began.name n (c.args.action.now.name ∷ []) x y c.in-Began.is c.new-child.ensures.name c.in_ok-name.ensures.began in
+    over_child g.W.ActivitySteps.alone g.W.ActivitySteps.fails n (c.args.action.now.name ∷ []) x y z began c.run-ended.ensures.over
+
+pub call-returns-in_err-bind_value-in-Ended-clause-over : goal.call-returns-in_err-bind_value-in-Ended-clause-over
+call-returns-in_err-bind_value-in-Ended-clause-over g t c =
+    let x = (g.W.ActivitySteps.run c.args.world.now) in
+    let y = (g.W.ActivitySteps.run c.begin_call.new.world) in
+    let z = (g.W.ActivitySteps.run c.run-ended.new.world) in
+    let n = c.new-child.result.name in
+    let began = called_began c.in_ok-name.field-0 c.in-Began.name n (c.args.action.now.name ∷ []) x y c.in-Began.is c.new-child.ensures.name c.in_ok-name.ensures.began in
+    over_child g.W.ActivitySteps.alone g.W.ActivitySteps.fails n (c.args.action.now.name ∷ []) x y z began c.run-ended.ensures.over
+
+pub call-returns-in-Ended-clause-over : goal.call-returns-in-Ended-clause-over
+call-returns-in-Ended-clause-over g t c =
+    let x = (g.W.ActivitySteps.run c.args.world.now) in
+    let y = (g.W.ActivitySteps.run c.begin_call.new.world) in
+    let z = (g.W.ActivitySteps.run c.run-ended.new.world) in
+    let n = c.new-child.result.name in
+    let began = called_began c.in_ok-name.field-0 c.in-Began.name n (c.args.action.now.name ∷ []) x y c.in-Began.is c.new-child.ensures.name c.in_ok-name.ensures.began in
+    over_child g.W.ActivitySteps.alone g.W.ActivitySteps.fails n (c.args.action.now.name ∷ []) x y z began c.run-ended.ensures.over
+
+pub call-returns-in_err-bind_value-in-Returned-clause-over : goal.call-returns-in_err-bind_value-in-Returned-clause-over
+call-returns-in_err-bind_value-in-Returned-clause-over g t c =
+    let x = (g.W.ActivitySteps.run c.args.world.now) in
+    let y = (g.W.ActivitySteps.run c.begin_call.new.world) in
+    let z = (g.W.ActivitySteps.run c.run-ended.new.world) in
+    let n = c.new-child.result.name in
+    let began = called_began c.in_ok-name.field-0 c.in-Began.name n (c.args.action.now.name ∷ []) x y c.in-Began.is c.new-child.ensures.name c.in_ok-name.ensures.began in
+    over_child g.W.ActivitySteps.alone g.W.ActivitySteps.fails n (c.args.action.now.name ∷ []) x y z began c.run-ended.ensures.over
+
+pub call-returns-in-Returned-clause-over : goal.call-returns-in-Returned-clause-over
+call-returns-in-Returned-clause-over g t c =
+    let x = (g.W.ActivitySteps.run c.args.world.now) in
+    let y = (g.W.ActivitySteps.run c.begin_call.new.world) in
+    let z = (g.W.ActivitySteps.run c.run-ended.new.world) in
+    let n = c.new-child.result.name in
+    let began = called_began c.in_ok-name.field-0 c.in-Began.name n (c.args.action.now.name ∷ []) x y c.in-Began.is c.new-child.ensures.name c.in_ok-name.ensures.began in
+    over_child g.W.ActivitySteps.alone g.W.ActivitySteps.fails n (c.args.action.now.name ∷ []) x y z began c.run-ended.ensures.over
+
+pub call-returns-clause-over : goal.call-returns-clause-over
+call-returns-clause-over g t c =
+    let x = (g.W.ActivitySteps.run c.args.world.now) in
+    let y = (g.W.ActivitySteps.run c.begin_call.new.world) in
+    let z = (g.W.ActivitySteps.run c.run-ended.new.world) in
+    let n = c.new-child.result.name in
+    let began = called_began c.in_ok-name.field-0 c.in-Began.name n (c.args.action.now.name ∷ []) x y c.in-Began.is c.new-child.ensures.name c.in_ok-name.ensures.began in
+    over_child g.W.ActivitySteps.alone g.W.ActivitySteps.fails n (c.args.action.now.name ∷ []) x y z began c.run-ended.ensures.over
+
+pub call-returns-in-Aborted-clause-over : goal.call-returns-in-Aborted-clause-over
+call-returns-in-Aborted-clause-over g t c =
+    let x = (g.W.ActivitySteps.run c.args.world.now) in
+    let y = (g.W.ActivitySteps.run c.begin_call.new.world) in
+    let z = (g.W.ActivitySteps.run c.run-ended.new.world) in
+    let n = c.new-child.result.name in
+    let began = called_began c.in_ok-name.field-0 c.in-Began.name n (c.args.action.now.name ∷ []) x y c.in-Began.is c.new-child.ensures.name c.in_ok-name.ensures.began in
+    over_through g.W.ActivitySteps.alone g.W.ActivitySteps.fails x z (g.W.ActivitySteps.run c.run_signals-in-Aborted.new.world) (over_child g.W.ActivitySteps.alone g.W.ActivitySteps.fails n (c.args.action.now.name ∷ []) x y z began c.run-ended.ensures.over)
+    c.run_signals-in-Aborted.ensures.over
+
+pub call-returns-in-Signalled-clause-over : goal.call-returns-in-Signalled-clause-over
+call-returns-in-Signalled-clause-over g t c =
+    let x = (g.W.ActivitySteps.run c.args.world.now) in
+    let y = (g.W.ActivitySteps.run c.begin_call.new.world) in
+    over_through g.W.ActivitySteps.alone g.W.ActivitySteps.fails x y (g.W.ActivitySteps.run c.run_signals.new.world)
+    (over_none g.W.ActivitySteps.alone g.W.ActivitySteps.fails (c.args.action.now.name ∷ []) [] x y (subst (λ k. Begins (c.args.action.now.name ∷ []) [] (called k) x y) c.in-Signalled.is c.in_ok-name.ensures.began))
+    c.run_signals.ensures.over
+
+pub top_action-returns-in_err-flow-clause-makes : goal.top_action-returns-in_err-flow-clause-makes
+top_action-returns-in_err-flow-clause-makes g t c =
+    let x = (g.W.ActivitySteps.run c.args.world.now) in
+    let y = (g.W.ActivitySteps.run c.begin_nested.new.world) in
+    let z = (g.W.ActivitySteps.run c.run.new.world) in
+    let n = c.new-nested.result.name in
+    let began = began_named c.in_ok-name.field-0 c.in-Some.name n (c.args.action.now.name ∷ []) x y c.in-Some.is c.new-nested.ensures.name c.in_ok-name.ensures.began in
+    child_makes n (c.args.action.now.name ∷ []) x y z began c.run.ensures.makes
+
+pub top_action-returns-in_err-flow-clause-over : goal.top_action-returns-in_err-flow-clause-over
+top_action-returns-in_err-flow-clause-over g t c =
+    let x = (g.W.ActivitySteps.run c.args.world.now) in
+    let y = (g.W.ActivitySteps.run c.begin_nested.new.world) in
+    let z = (g.W.ActivitySteps.run c.run.new.world) in
+    let n = c.new-nested.result.name in
+    let began = began_named c.in_ok-name.field-0 c.in-Some.name n (c.args.action.now.name ∷ []) x y c.in-Some.is c.new-nested.ensures.name c.in_ok-name.ensures.began in
+    over_child g.W.ActivitySteps.alone g.W.ActivitySteps.fails n (c.args.action.now.name ∷ []) x y z began c.run.ensures.over
+
+pub top_action-returns-in-Aborted-clause-over : goal.top_action-returns-in-Aborted-clause-over
+top_action-returns-in-Aborted-clause-over g t c =
+    let x = (g.W.ActivitySteps.run c.args.world.now) in
+    let y = (g.W.ActivitySteps.run c.begin_nested.new.world) in
+    let z = (g.W.ActivitySteps.run c.run.new.world) in
+    let n = c.new-nested.result.name in
+    let began = began_named c.in_ok-name.field-0 c.in-Some.name n (c.args.action.now.name ∷ []) x y c.in-Some.is c.new-nested.ensures.name c.in_ok-name.ensures.began in
+    over_through g.W.ActivitySteps.alone g.W.ActivitySteps.fails x z (g.W.ActivitySteps.run c.inner.new.world) (over_child g.W.ActivitySteps.alone g.W.ActivitySteps.fails n (c.args.action.now.name ∷ []) x y z began c.run.ensures.over) c.inner.ensures.over
+
+pub top_action-returns-in_default-clause-over : goal.top_action-returns-in_default-clause-over
+top_action-returns-in_default-clause-over g t c =
+    let x = (g.W.ActivitySteps.run c.args.world.now) in
+    let y = (g.W.ActivitySteps.run c.begin_nested.new.world) in
+    over_none g.W.ActivitySteps.alone g.W.ActivitySteps.fails (c.args.action.now.name ∷ []) [] x y (subst (λ o. Begins (c.args.action.now.name ∷ []) [] (named_by o) x y) c.in_default.is c.in_ok-name.ensures.began)
+
+pub statement-returns-in-Signalled-clause-over : goal.statement-returns-in-Signalled-clause-over
+statement-returns-in-Signalled-clause-over g t c =
+    over_through g.W.ActivitySteps.alone g.W.ActivitySteps.fails (g.W.ActivitySteps.run c.args.world.now) (g.W.ActivitySteps.run c.perform.new.world) (g.W.ActivitySteps.run c.run_signals.new.world) c.perform.ensures.over c.run_signals.ensures.over
+
+pub coenter-returns-in_err-flow-clause-over : goal.coenter-returns-in_err-flow-clause-over
+coenter-returns-in_err-flow-clause-over g t c =
+    let x = (g.W.ActivitySteps.run c.args.world.now) in
+    let y = (g.W.ActivitySteps.run c.begin_arms.new.world) in
+    over_arms g.W.ActivitySteps.alone g.W.ActivitySteps.fails c.in-Some.waiting.items c.arms-ran.new.waiting.items (c.args.action.now.name ∷ []) x y (g.W.ActivitySteps.run c.arms-ran.new.world) (g.W.ActivitySteps.run c.abort_arms-aborted.new.world)
+    (subst (λ o. IfSome o (λ v. Begins (c.args.action.now.name ∷ []) [] v.items x y)) c.in-Some.is c.in_ok-waiting.ensures.began)
+    c.arms-ran.ensures.over c.abort_arms-aborted.ensures.over
+
+pub coenter-returns-clause-over : goal.coenter-returns-clause-over
+coenter-returns-clause-over g t c =
+    let x = (g.W.ActivitySteps.run c.args.world.now) in
+    let y = (g.W.ActivitySteps.run c.begin_arms.new.world) in
+    over_arms g.W.ActivitySteps.alone g.W.ActivitySteps.fails c.in-Some.waiting.items c.arms-ran.new.waiting.items (c.args.action.now.name ∷ []) x y (g.W.ActivitySteps.run c.arms-ran.new.world) (g.W.ActivitySteps.run c.abort_arms-aborted.new.world)
+    (subst (λ o. IfSome o (λ v. Begins (c.args.action.now.name ∷ []) [] v.items x y)) c.in-Some.is c.in_ok-waiting.ensures.began)
+    c.arms-ran.ensures.over c.abort_arms-aborted.ensures.over
+
+pub run_arms-returns-in_err-flow-clause-over : goal.run_arms-returns-in_err-flow-clause-over
+run_arms-returns-in_err-flow-clause-over g t c =
+    let l = c.loop-arm in
+    let rest = c.pop.new.self.items in
+    let a = c.new-child.result.name in
+    let is = popped l.waiting.items rest c.pop.result c.unwrap.result a c.pop.ensures.items c.unwrap.ensures c.new-child.ensures.name in
+    last_ran g.W.ActivitySteps.alone g.W.ActivitySteps.fails c.args.waiting.now.items l.waiting.items rest a (g.W.ActivitySteps.run c.args.world.now) (g.W.ActivitySteps.run l.world) (g.W.ActivitySteps.run c.run-ended.new.world) is l.invariant.over c.run-ended.ensures.over
+
+pub run_arms-returns-in_err-flow-clause-name : goal.run_arms-returns-in_err-flow-clause-name
+run_arms-returns-in_err-flow-clause-name g t c =
+    elim c.match-arm.branch [ run_arms-in-Sub w ↦ (cc) | run_arms-in-Top w ↦ (cc) ]
+
+pub run_arms-returns-in_err-flow-clause-home : goal.run_arms-returns-in_err-flow-clause-home
+run_arms-returns-in_err-flow-clause-home g t c =
+    elim c.match-arm.branch [ run_arms-in-Sub w ↦ (cc) | run_arms-in-Top w ↦ (cc) ]
+
+pub run_arms-returns-in_err-taken-clause-over : goal.run_arms-returns-in_err-taken-clause-over
+run_arms-returns-in_err-taken-clause-over g t c =
+    let l = c.loop-arm in
+    let rest = c.pop.new.self.items in
+    let a = c.new-child.result.name in
+    let is = popped l.waiting.items rest c.pop.result c.unwrap.result a c.pop.ensures.items c.unwrap.ensures c.new-child.ensures.name in
+    last_ran g.W.ActivitySteps.alone g.W.ActivitySteps.fails c.args.waiting.now.items l.waiting.items rest a (g.W.ActivitySteps.run c.args.world.now) (g.W.ActivitySteps.run l.world) (g.W.ActivitySteps.run c.run-ended.new.world) is l.invariant.over c.run-ended.ensures.over
+
+pub run_arms-returns-in_err-taken-clause-name : goal.run_arms-returns-in_err-taken-clause-name
+run_arms-returns-in_err-taken-clause-name g t c =
+    elim c.match-arm.branch [ run_arms-in-Sub w ↦ (cc) | run_arms-in-Top w ↦ (cc) ]
+
+pub run_arms-returns-in_err-taken-clause-home : goal.run_arms-returns-in_err-taken-clause-home
+run_arms-returns-in_err-taken-clause-home g t c =
+    elim c.match-arm.branch [ run_arms-in-Sub w ↦ (cc) | run_arms-in-Top w ↦ (cc) ]
+
+pub run_arms-returns-then-not-matches-clause-over : goal.run_arms-returns-then-not-matches-clause-over
+run_arms-returns-then-not-matches-clause-over g t c =
+    let l = c.loop-arm in
+    let rest = c.pop.new.self.items in
+    let a = c.new-child.result.name in
+    let is = popped l.waiting.items rest c.pop.result c.unwrap.result a c.pop.ensures.items c.unwrap.ensures c.new-child.ensures.name in
+    last_ran g.W.ActivitySteps.alone g.W.ActivitySteps.fails c.args.waiting.now.items l.waiting.items rest a (g.W.ActivitySteps.run c.args.world.now) (g.W.ActivitySteps.run l.world) (g.W.ActivitySteps.run c.run-ended.new.world) is l.invariant.over c.run-ended.ensures.over
+
+pub run_arms-returns-then-not-matches-clause-name : goal.run_arms-returns-then-not-matches-clause-name
+run_arms-returns-then-not-matches-clause-name g t c =
+    elim c.match-arm.branch [ run_arms-in-Sub w ↦ (cc) | run_arms-in-Top w ↦ (cc) ]
+
+pub run_arms-returns-then-not-matches-clause-home : goal.run_arms-returns-then-not-matches-clause-home
+run_arms-returns-then-not-matches-clause-home g t c =
+    elim c.match-arm.branch [ run_arms-in-Sub w ↦ (cc) | run_arms-in-Top w ↦ (cc) ]
+
+pub run_arms-returns-in_err-inside-clause-over : goal.run_arms-returns-in_err-inside-clause-over
+run_arms-returns-in_err-inside-clause-over g t c =
+    c.loop-arm.invariant.over
+
+pub run_arms-returns-in_err-reached-clause-over : goal.run_arms-returns-in_err-reached-clause-over
+run_arms-returns-in_err-reached-clause-over g t c =
+    c.loop-arm.invariant.over
+
+pub run_arms-returns-clause-over : goal.run_arms-returns-clause-over
+run_arms-returns-clause-over g t c =
+    c.loop-arm.invariant.over
+
+pub arms-returns-in_err-ended-clause-over : goal.arms-returns-in_err-ended-clause-over
+arms-returns-in_err-ended-clause-over g t c =
+    none_apart g.W.ActivitySteps.alone g.W.ActivitySteps.fails _ _ c.args.waiting.now.items (g.W.ActivitySteps.run c.args.world.now) (g.W.ActivitySteps.run c.run_arms-2.new.self) c.run_arms-2.ensures.makes
+    (λ alone. false≢true (sym (c.has_arms_apart.ensures alone) ∙ c.if-not-has_arms_apart.false))
+
+pub arms-returns-in_err-flow-clause-over : goal.arms-returns-in_err-flow-clause-over
+arms-returns-in_err-flow-clause-over g t c =
+    fewer_apart g.W.ActivitySteps.alone g.W.ActivitySteps.fails _ _ c.args.waiting.now.items (g.W.ActivitySteps.run c.args.world.now) (g.W.ActivitySteps.run c.run_arms-2.new.self) c.truncate.new.self.items
+    (c.len.result - c.len-count.result) c.truncate.ensures.items c.run_arms-2.ensures.makes
+    (λ alone. false≢true (sym (c.has_arms_apart.ensures alone) ∙ c.if-not-has_arms_apart.false))
+
+pub arms-returns-in-Ended-clause-over : goal.arms-returns-in-Ended-clause-over
+arms-returns-in-Ended-clause-over g t c =
+    more_apart g.W.ActivitySteps.alone g.W.ActivitySteps.fails _ _ c.args.waiting.now.items c.truncate.new.self.items c.run_arms-in-Ended.new.waiting.items (c.len.result - c.len-count.result) (g.W.ActivitySteps.run c.args.world.now) (g.W.ActivitySteps.run c.run_arms-2.new.self)
+    (g.W.ActivitySteps.run c.run_arms-in-Ended.new.world) c.truncate.ensures.items c.run_arms-2.ensures.makes c.run_arms-in-Ended.ensures.over
+    (λ alone. false≢true (sym (c.has_arms_apart.ensures alone) ∙ c.if-not-has_arms_apart.false))
+
+pub arms-returns-in_err-flow-clause-failed : goal.arms-returns-in_err-flow-clause-failed
+arms-returns-in_err-flow-clause-failed g t c =
+    let cause : IfErr c.flow_of.result (IsCause g.W.ActivitySteps.fails) =
+    cause_of_arms g.W.ActivitySteps.fails c.in_ok-ended.ended.items (Ok Ended) c.flow_of.result c.in_ok-ended.ensures.causes tt c.flow_of.ensures.goes_on in
+    search rules

@@ -1,6 +1,7 @@
 use Rattle.std.proofs.Common.{[], ◌∷◌, drop, length, reverse, IsTrue, ◌*◌, ◌+◌, ◌-◌, ◌≡◌, ◌≤◌}
 use Rattle.action_names.specs.Names.{Name, has_name}
 use Rattle.activities.specs.Bodies.{AreArms, IsBody, IsOf, Within, sizes}
+use Rattle.activities.specs.Failing.{EndBut, EndOrFail}
 use Rattle.activities.specs.Making.{Makes}
 use Rattle.activities.specs.Acting.{doing}
 use Rattle.activities.proofs.Meaning.{AreArmsFrom, AreTurnsFrom, IsBodyFrom}
@@ -44,6 +45,7 @@ decreases-statement g l = 7 * l.self.now.left + 5
 abbrev pub invariant-body-loop-statement : goal.invariant-body-loop-statement
 invariant-body-loop-statement g l = record {
   makes : Makes (l.fn.action.name ∷ []) [] (g.W.ActivitySteps.run l.fn.world) (g.W.ActivitySteps.run l.world);
+  over : EndOrFail g.W.ActivitySteps.alone g.W.ActivitySteps.fails [] (g.W.ActivitySteps.run l.fn.world) (g.W.ActivitySteps.run l.world);
   resolved : IsOf g.W.ActivitySteps.scripts l.self.script.now;
   rest : IsBody l.self.script.now (sizes l.frames) (drop l.statement-index l.body);
   frames : Within (sizes l.fn.frames) (sizes l.frames);
@@ -60,6 +62,7 @@ invariant-body-loop-statement g l = record {
 abbrev pub invariant-repeat-loop : goal.invariant-repeat-loop
 invariant-repeat-loop g l = record {
   makes : Makes (l.fn.action.name ∷ []) [] (g.W.ActivitySteps.run l.fn.world) (g.W.ActivitySteps.run l.world);
+  over : EndOrFail g.W.ActivitySteps.alone g.W.ActivitySteps.fails [] (g.W.ActivitySteps.run l.fn.world) (g.W.ActivitySteps.run l.world);
   resolved : IsOf g.W.ActivitySteps.scripts l.self.script.now;
   body : IsBody l.self.script.now (sizes l.frames) l.body;
   frames : sizes l.frames ≡ sizes l.fn.frames;
@@ -76,6 +79,8 @@ invariant-repeat-loop g l = record {
 abbrev pub invariant-run_arms-loop-arm : goal.invariant-run_arms-loop-arm
 invariant-run_arms-loop-arm g l = record {
   makes : Makes l.fn.waiting.items l.fn.waiting.items (g.W.ActivitySteps.run l.fn.world) (g.W.ActivitySteps.run l.world);
+  over : EndBut g.W.ActivitySteps.alone g.W.ActivitySteps.fails l.fn.waiting.items l.waiting.items (g.W.ActivitySteps.run l.fn.world)
+      (g.W.ActivitySteps.run l.world);
   among : (a : Name) → IsTrue (has_name l.waiting.items a) → IsTrue (has_name l.fn.waiting.items a);
   each : length l.waiting.items + l.arm-index ≡ length l.arms;
   resolved : IsOf g.W.ActivitySteps.scripts l.self.script.now;

@@ -1,48 +1,45 @@
-use Rattle.std.proofs.Common.{OnOk, [], ap, map, refl, subst, sym, ◌++◌, ◌∙◌, ◌∷◌, ◌≡◌}
-use Rattle.std.proofs.lemmas.Iterator.Adapters.{YieldsList-from_rev_slice}
-use Rattle.std.proofs.lemmas.Iterator.Consumers.{YieldsList-end}
-use Rattle.std.specs.Iterator.Adapters.{rev_source}
-use Rattle.std.specs.Slice.Iter.{iter_rest}
+use Rattle.std.proofs.Common.{IfErr, OnOk, Some, ap, refl, reverse, subst, sym, ◌++◌, ◌∙◌, ◌≡◌, [], ◌∷◌}
+use Rattle.std.specs.Prelude.{option_to_list}
 use Rattle.activities.specs.Serial.{arms_aborted}
-use Rattle.activities.proofs.Committing.{arm_aborts}
+use Rattle.activities.proofs.ArmsGone.{none_left}
 use Rattle.activities.proofs.Ending.{both_ok, ok_then}
-use Rattle.activities.proofs.Making.{makes_nowhere, makes_reversed, these_make}
+use Rattle.activities.proofs.Failing.{all_ran, cause_of_both, last_ran, none_ran}
+use Rattle.activities.proofs.Making.{earlier_waits, last_waits, makes_nowhere, one_quietly}
+use Rattle.activities.proofs.Meaning.{last_first}
 use Rattle.activities.proofs.open_action.OpenAction.abort_arms.Goals as goal
 
 pub loop-arm-init : goal.loop-arm-init
-loop-arm-init g c = record { makes = makes_nowhere [] [] (g.W.ActivitySteps.run c.args.world.now); means = λ alone. refl }
-
-pub returns-clause-makes : goal.returns-clause-makes
-returns-clause-makes g c =
-    let start =
-    ap (λ s. iter_rest (rev_source s)) c.into_iter-arm-iterator.ensures.into_iter_gives ∙ ap (λ s. iter_rest s) c.rev-arm-items.ensures.source
-    ∙ c.iter.ensures.rest in
-    let each =
-    YieldsList-end (YieldsList-from_rev_slice c.args.arms.now start) c.loop-arm.yielded _ c.loop-arm.yielded_by _ _ c.in-None.is
-    c.next.ensures.steps in
-    makes_reversed c.args.arms.now (map (λ arm. arm.now) c.loop-arm.yielded) (g.W.ActivitySteps.run c.args.world.now) (g.W.ActivitySteps.run c.loop-arm.world) each.0
-    c.loop-arm.invariant.makes
-
-pub loop-arm-preserved : goal.loop-arm-preserved
-loop-arm-preserved g c = record {
-  makes =
-      these_make c.loop-arm.yielded c.in-Some.arm (g.W.ActivitySteps.run c.args.world.now) (g.W.ActivitySteps.run c.loop-arm.world) (g.W.ActivitySteps.run c.abort_at_home.new.world) c.loop-arm.invariant.makes
-      c.abort_at_home.ensures.makes;
-  means =
-      subst (λ r. OnOk r (g.W.ActivitySteps.alone → (g.W.ActivitySteps.run c.abort_at_home.new.world)
-      ≡ arms_aborted c.args.self.now.home (map (λ arm. arm.now) (c.loop-arm.yielded ++ (c.in-Some.arm ∷ []))) (g.W.ActivitySteps.run c.args.world.now)))
-      (sym c.and-fault.ensures)
-      (both_ok c.loop-arm.fault c.abort_at_home.result c.loop-arm.invariant.means c.abort_at_home.ensures.means
-      (λ before more alone. arm_aborts c.args.self.now.home c.loop-arm.yielded c.in-Some.arm (g.W.ActivitySteps.run c.args.world.now) (g.W.ActivitySteps.run c.loop-arm.world) (g.W.ActivitySteps.run c.abort_at_home.new.world) (before alone) (more alone)));
+loop-arm-init g c = record {
+  makes = makes_nowhere c.args.arms.items [] (g.W.ActivitySteps.run c.args.world.now);
+  among = λ a h. h;
+  means = λ alone. refl;
+  failed = tt;
+  over = none_ran g.W.ActivitySteps.alone g.W.ActivitySteps.fails c.args.arms.items (g.W.ActivitySteps.run c.args.world.now);
 }
 
-pub returns-clause-means : goal.returns-clause-means
-returns-clause-means g c =
-    let start =
-    ap (λ s. iter_rest (rev_source s)) c.into_iter-arm-iterator.ensures.into_iter_gives ∙ ap (λ s. iter_rest s) c.rev-arm-items.ensures.source
-    ∙ c.iter.ensures.rest in
-    let each =
-    YieldsList-end (YieldsList-from_rev_slice c.args.arms.now start) c.loop-arm.yielded _ c.loop-arm.yielded_by _ _ c.in-None.is
-    c.next.ensures.steps in
-    ok_then c.loop-arm.fault c.loop-arm.invariant.means
-    (λ e alone. e alone ∙ ap (λ names. arms_aborted c.args.self.now.home names (g.W.ActivitySteps.run c.args.world.now)) each.0)
+pub loop-arm-preserved : goal.loop-arm-preserved
+loop-arm-preserved g c =
+    let l = c.loop-arm in
+    let a = c.in-Some.arm in
+    let names = c.args.arms.items in
+    let waits = l.arms.items in
+    let rest = c.pop.new.self.items in
+    let is : waits ≡ rest ++ (a ∷ []) = c.pop.ensures.items ∙ ap (λ o. rest ++ option_to_list o) c.in-Some.is in
+    let old = g.W.ActivitySteps.run c.args.world.now in
+    let mid = g.W.ActivitySteps.run l.world in
+    let new = g.W.ActivitySteps.run c.abort_at_home.new.world in
+    let home = c.args.self.now.home in
+    record {
+      makes = one_quietly a names old mid new (l.invariant.among a (last_waits waits rest a is)) l.invariant.makes c.abort_at_home.ensures.makes;
+      among = λ b h. l.invariant.among b (earlier_waits waits rest a is b h);
+      means =
+          subst (λ r. OnOk r (g.W.ActivitySteps.alone → arms_aborted home (reverse rest) new ≡ arms_aborted home (reverse names) old)) (sym c.and-fault.ensures)
+          (both_ok l.fault c.abort_at_home.result l.invariant.means c.abort_at_home.ensures.means
+          (λ before more alone. ap (arms_aborted home (reverse rest)) (more alone)
+          ∙ sym (ap (λ all. arms_aborted home all mid) (last_first waits rest a is)) ∙ before alone));
+      failed =
+          subst (λ r. IfErr r g.W.ActivitySteps.fails) (sym c.and-fault.ensures)
+          (cause_of_both g.W.ActivitySteps.fails l.fault c.abort_at_home.result l.invariant.failed c.abort_at_home.ensures.failed);
+      over =
+          last_ran g.W.ActivitySteps.alone g.W.ActivitySteps.fails names waits rest a old mid new is l.invariant.over c.abort_at_home.ensures.over;
+    }

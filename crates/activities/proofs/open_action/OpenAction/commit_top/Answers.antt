@@ -7,6 +7,7 @@ use Rattle.activities.specs.Reaching.{is_made}
 use Rattle.activities.specs.Serial.{asked}
 use Rattle.activities.specs.Acting.{acting}
 use Rattle.activities.proofs.Committing.{step_tried, vote_goes, vote_lacks, votes_begin, votes_end}
+use Rattle.activities.proofs.Failing.{over_through}
 use Rattle.activities.proofs.Making.{if_ok_at_all, if_ok_each, if_ok_with, makes_named, makes_quietly, makes_through, ok_at, then_ends, then_tells}
 use Rattle.activities.proofs.open_action.OpenAction.commit_top.Goals as goal
 
@@ -18,6 +19,7 @@ loop-guardian-init g c = record {
       (subst (λ a. IsAfter (Close a) (g.W.ActivitySteps.run c.args.world.now) (g.W.ActivitySteps.run c.try_step.new.world)) c.in_ok-copy.ensures.ok.1 (c.in_ok-try_step.ensures.after alone))
       (sym (c.in_ok-try_step.ensures.done alone ∙ ap (λ a. is_made (asked (Close a) (g.W.ActivitySteps.run c.args.world.now))) c.in_ok-copy.ensures.ok.1)
       ∙ c.if-not-branch.false);
+  over = c.try_step.ensures.over refl;
 }
 
 pub loop-guardian-preserved : goal.loop-guardian-preserved
@@ -27,6 +29,7 @@ loop-guardian-preserved g c = record {
       vote_goes (acting c.args.self.now) (g.W.ActivitySteps.run c.args.world.now) c.in-Some.guardian.now _ _ (g.W.ActivitySteps.run c.loop-guardian.world) (g.W.ActivitySteps.run c.prepare.new.world)
       (rest_more deref _ _ _ c.in-Some.guardian c.in-Some.is c.next.ensures.steps) (c.in_ok-prepare.ensures.after alone)
       (sym (c.in_ok-prepare.ensures.yes alone) ∙ c.if-not-branch-2.false) (c.loop-guardian.invariant.means alone);
+  over = over_through g.W.ActivitySteps.alone g.W.ActivitySteps.fails (g.W.ActivitySteps.run c.args.world.now) (g.W.ActivitySteps.run c.loop-guardian.world) (g.W.ActivitySteps.run c.prepare.new.world) c.loop-guardian.invariant.over c.prepare.ensures.over;
 }
 
 pub returns-in_err-try_step-clause-makes : goal.returns-in_err-try_step-clause-makes
@@ -88,3 +91,18 @@ returns-clause-means g c =
     (step_tried c.try_step-2.result (Decide c.args.self.now.name) (Decide c.in_ok-copy-2.field-0) (g.W.ActivitySteps.run c.loop-guardian.world) (g.W.ActivitySteps.run c.try_step-2.new.world)
     (ap (λ a. Decide a) c.in_ok-copy-2.ensures.ok.1) (ok_at _ c.try_step-2.result c.try_step-2.ensures.after alone)
     (if_ok_at_all _ c.try_step-2.result c.try_step-2.ensures.done alone)))
+
+pub returns-in_err-prepare-clause-over : goal.returns-in_err-prepare-clause-over
+returns-in_err-prepare-clause-over g c =
+    over_through g.W.ActivitySteps.alone g.W.ActivitySteps.fails (g.W.ActivitySteps.run c.args.world.now) (g.W.ActivitySteps.run c.loop-guardian.world) (g.W.ActivitySteps.run c.prepare.new.world) c.loop-guardian.invariant.over c.prepare.ensures.over
+
+pub returns-then-not-branch-2-clause-over : goal.returns-then-not-branch-2-clause-over
+returns-then-not-branch-2-clause-over g c =
+    over_through g.W.ActivitySteps.alone g.W.ActivitySteps.fails (g.W.ActivitySteps.run c.args.world.now) (g.W.ActivitySteps.run c.loop-guardian.world) (g.W.ActivitySteps.run c.prepare.new.world) c.loop-guardian.invariant.over c.prepare.ensures.over
+
+pub returns-clause-over : goal.returns-clause-over
+returns-clause-over g c =
+    over_through g.W.ActivitySteps.alone g.W.ActivitySteps.fails (g.W.ActivitySteps.run c.args.world.now) (g.W.ActivitySteps.run c.loop-guardian.world) (g.W.ActivitySteps.run c.try_step-2.new.world) c.loop-guardian.invariant.over (c.try_step-2.ensures.over refl)
+
+pub returns-in_err-copy-2-clause-over : goal.returns-in_err-copy-2-clause-over
+returns-in_err-copy-2-clause-over g c = c.loop-guardian.invariant.over
