@@ -221,6 +221,8 @@ impl<'a, K: OfRun, S: OfScript, R: Forest, G: Guardian, P: Gate, H: Wait> Activi
 
     ghost scripts = { only S.script };
 
+    ghost fails = { λ fault. Unit {0} };
+
     fn make_step(&mut self, step: &Step) -> Result<Answer, Fault> {
         self.receipts.reserve(1)?;
         let answered = self.calls.step(step);
