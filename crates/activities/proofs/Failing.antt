@@ -1,6 +1,6 @@
 -- What has ended in spite of a fault, one step after another.
-use Rattle.std.proofs.Common.{Bool, Err, IfErr, IfOk, IsTrue, List, None, Ok, OnErr, OnOk, Option, Result, Vec, [], ap, append_assoc, append-nil, drop, false, inl, inr, map, refl, subst, sym, take, true, ℕ, ◌++◌, ◌∙◌, ◌∷◌, ◌≡◌, ◌⊎◌}
-use Rattle.std.proofs.lemmas.Bool.{false≢true, or_cases, or_left, or_right}
+use Rattle.std.proofs.Common.{Bool, Err, IfErr, IfOk, IsTrue, List, None, Ok, OnErr, Option, Result, Vec, [], ap, append_assoc, append-nil, drop, false, inl, inr, map, refl, subst, sym, take, true, ℕ, ◌++◌, ◌∙◌, ◌∷◌, ◌≡◌, ◌⊎◌}
+use Rattle.std.proofs.lemmas.Bool.{false≢true, or_cases, or_left}
 use Rattle.std.proofs.lemmas.List.{take-append-drop}
 use Rattle.std.specs.Result.{result_and}
 use Rattle.std.specs.declared.alloc.Global.{Global}
@@ -13,7 +13,7 @@ use Rattle.run_model.specs.declared.step.Step.TheVariants.{Abort}
 use Rattle.run_model.specs.Actions.{begun, is_begun, is_committed, is_ended, maker_in, names_begun}
 use Rattle.run_model.specs.Openings.{opening_in}
 use Rattle.run_model.specs.Runs.{World, world_after}
-use Rattle.run_laws.proofs.Names.{clash, has_name_append, same_name_self}
+use Rattle.run_laws.proofs.Names.{clash, has_name_append}
 use Rattle.activities.specs.declared.apart.EndedArm.{EndedArm}
 use Rattle.activities.specs.declared.client.ClientEnd.{ClientEnd}
 use Rattle.activities.specs.declared.flow.Flow.{Flow}
@@ -214,10 +214,6 @@ module _ (alone : Type 0) (fails : Fault → Type 0) where
 
     pub fewer_apart : (waits : List Name) (n : ℕ) → waits ≡ take n names → Makes actors committing x y → (alone → ⊥) → EndBut alone fails names waits x y
     fewer_apart waits n w = apart waits (drop n names) (sym (ap (λ l. l ++ drop n names) w ∙ take-append-drop n names))
-
-  -- all of them have
-  pub all_ran : (names waits : List Name) (x y : World) → waits ≡ [] → EndBut alone fails names waits x y → EndOrFail alone fails names x y
-  all_ran names waits x y w (ran, e, m) = subst (λ l. EndOrFail alone fails l x y) (sym (e ∙ ap (λ l. l ++ ran) w)) m
 
 module _ (alone : Type 0) (fails : Fault → Type 0) (actors committing names waits rest : List Name) (n : ℕ) (x y z : World) where
   pub more_apart : waits ≡ take n names → Makes actors committing x y → EndBut alone fails waits rest y z → (alone → ⊥)

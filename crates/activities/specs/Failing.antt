@@ -1,5 +1,5 @@
 -- What a fault was of, and which actions have ended all the same.
-use Rattle.std.specs.Prelude.{◌≡◌, ◌⊎◌, ◌++◌, IsTrue, false, List, Option, Some, Result, IfErr}
+use Rattle.std.specs.Prelude.{◌≡◌, ◌⊎◌, ◌++◌, IsTrue, false, List, Option, Some, IfErr}
 use Rattle.std.specs.List.{AllByRecursion}
 use Rattle.action_names.specs.Names.{Name, has_name}
 use Rattle.run_model.specs.declared.step.Step.{Step}

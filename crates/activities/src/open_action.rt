@@ -211,7 +211,7 @@ impl OpenAction {
         Ok(())
     }
 
-    /// Ends it as its body ended, and says how: where it cannot commit it aborts. After an error it aborts too.
+    /// Ends it as its body ended, and says how: where it cannot commit, and after an error, it aborts.
     pub(crate) fn end<W: ActivitySteps>(&self, world: &mut W, flow: Flow) -> Result<Flow, Fault>
         ensures makes { Makes (self.now.name ∷ []) (self.now.name ∷ [])
             (W.run world.old) (W.run world.new) }

@@ -1,9 +1,8 @@
-use Rattle.std.proofs.Common.{IfErr, OnOk, Some, ap, refl, reverse, subst, sym, ◌++◌, ◌∙◌, ◌≡◌, [], ◌∷◌}
+use Rattle.std.proofs.Common.{IfErr, OnOk, ap, refl, reverse, subst, sym, ◌++◌, ◌∙◌, ◌≡◌, [], ◌∷◌}
 use Rattle.std.specs.Prelude.{option_to_list}
 use Rattle.activities.specs.Serial.{arms_aborted}
-use Rattle.activities.proofs.ArmsGone.{none_left}
-use Rattle.activities.proofs.Ending.{both_ok, ok_then}
-use Rattle.activities.proofs.Failing.{all_ran, cause_of_both, last_ran, none_ran}
+use Rattle.activities.proofs.Ending.{both_ok}
+use Rattle.activities.proofs.Failing.{cause_of_both, last_ran, none_ran}
 use Rattle.activities.proofs.Making.{earlier_waits, last_waits, makes_nowhere, one_quietly}
 use Rattle.activities.proofs.Meaning.{last_first}
 use Rattle.activities.proofs.open_action.OpenAction.abort_arms.Goals as goal
