@@ -1,5 +1,5 @@
 -- Equal documents are equal parts, entries, records and contents.
-use Rattle.std.proofs.Common.{◌≡◌, ◌≢◌, ℕ, ℤ, List, codes, Bool, false, sym, ap}
+use Rattle.std.proofs.Common.{◌≡◌, ℕ, ℤ, List, codes, Bool, false, sym, ap}
 use Rattle.std.proofs.lemmas.Bool.{true≢false}
 use Rattle.serde_json.specs.Data.{Data, null, boolean, number, string, array, object, Members, no_members, member}
 use Rattle.values.specs.declared.content.Content.{Content}
