@@ -17,6 +17,11 @@ abbrev pub is_nothing : Write → Bool
 is_nothing Nothing = true
 is_nothing _ = false
 
+-- the store is read, and counts a recovery
+abbrev pub is_recovery : Write → Bool
+is_recovery Recover = true
+is_recovery _ = false
+
 -- what the store holds once it is made
 abbrev pub written : Write → Stored → Stored
 written Nothing s = s

@@ -1,5 +1,5 @@
 //! What an event asks of the guardian's store.
-ghost use Rattle.std.specs.Prelude.{◌≡◌, ◌∷◌, Bool, true, not, IfOk, IsOk, IsTrue, IsFalse};
+ghost use Rattle.std.specs.Prelude.{◌≡◌, ◌∷◌, Bool, true, not, IfOk, IsOk, IsTrue, IsFalse, OnOk};
 ghost use Rattle.run_model.specs.declared.step.Step.TheVariants as steps;
 ghost use Rattle.run_model.specs.LocalReadings.{outcome_in, says_committed};
 ghost use Rattle.stable_store.specs.Calls.{Makes};
@@ -10,7 +10,7 @@ ghost use Rattle.volatile_state.specs.Memories.{IsSound};
 ghost use Rattle.volatile_state.specs.Plans.{IsPlanOf};
 ghost use Rattle.guardian.specs.Guardians.{IsPlannedHere, WhereverPlanned};
 ghost use Rattle.run_model.specs.Votes.{is_yes};
-ghost use Rattle.guardian.specs.Writes.{is_nothing, told_stored, written};
+ghost use Rattle.guardian.specs.Writes.{is_nothing, is_recovery, told_stored, written};
 
 use crate::records::recorded_in;
 use atomic_types::Part;
@@ -121,6 +121,7 @@ impl Write {
         ensures none { IsTrue (is_nothing self) → (store.new ≡ store.old) × IsOk result }
         ensures makes { IsFalse (is_nothing self) → Makes (S.seen store.old) (S.seen store.new)
             (Unit {0}) (written self (S.seen store.old).content) result }
+        ensures read { IsTrue (is_recovery self) → OnOk result S.read }
     {
         match self {
             Write::Nothing => Ok(()),
@@ -135,8 +136,9 @@ impl Write {
 
 // Reads the content, and then counts the recovery.
 fn recover<S: Stable>(alloc: Global, store: &mut S) -> Result<(), StoreFault>
-    ensures { Makes (S.seen store.old) (S.seen store.new) (Unit {0})
+    ensures makes { Makes (S.seen store.old) (S.seen store.new) (Unit {0})
         (after_bump (S.seen store.old).content) result }
+    ensures read { OnOk result S.read }
 {
     match store.load(alloc) {
         Ok(content) => {

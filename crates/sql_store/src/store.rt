@@ -191,6 +191,8 @@ impl<A: Alter + Drop> Stable for SqlStable<A> {
 
     ghost may_fail = { λ _ _. Unit {0} };
 
+    ghost read = { Unit {0} };
+
     fn prepare(
         &mut self,
         alloc: Global,

@@ -60,7 +60,7 @@ impl<S: Stable> FailOnce<S> {
 }
 
 impl<S: Stable> Stable for FailOnce<S> {
-    ghost use Rattle.std.specs.Prelude.{◌≡◌, ◌⊎◌, ◌≤◌, false, IfOk, IsErrOf, IsTrue, Some, None, MatchOption};
+    ghost use Rattle.std.specs.Prelude.{◌≡◌, ◌⊎◌, ◌≤◌, false, IfOk, IsErrOf, IsTrue, Some, None, MatchOption, OnOk};
     ghost use Rattle.stable_store.specs.Stored.{after_prepare, after_install, after_discard, after_decide, after_bump, after_save, greatest_count};
     ghost use Rattle.stable_store.specs.Numbers.{has_zero, is_misnumbered};
     ghost use Rattle.stable_store.specs.Calls.{View, Makes, IsRefused, found};
@@ -71,6 +71,8 @@ impl<S: Stable> Stable for FailOnce<S> {
     ghost seen = { λ s. failing_view S.seen s };
 
     ghost may_fail = { λ old new. IsFailing S.may_fail old new };
+
+    ghost read = { S.read };
 
     fn prepare(
         &mut self,
@@ -167,6 +169,7 @@ impl<S: Stable> Stable for FailOnce<S> {
             (IsFailing S.may_fail self.old self.new)
             (S.seen self.old.inner).content result }
         ensures loaded { IfOk result (λ kept. held kept ≡ (S.seen self.old.inner).content) }
+        ensures read { OnOk result S.read }
         ensures turn { TakesTurn self.old self.new result }
     {
         if self.count_call() {

@@ -63,6 +63,8 @@ impl Stable for PlainStable {
 
     ghost may_fail = { λ _ _. ⊥ };
 
+    ghost read = { Unit {0} };
+
     fn prepare(
         &mut self,
         _alloc: Global,

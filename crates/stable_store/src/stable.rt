@@ -1,4 +1,4 @@
-ghost use Rattle.std.specs.Prelude.{◌≡◌, ◌≤◌, ◌⊎◌, Bool, false, Some, None, IfOk, IsErrOf, IsTrue, MatchOption};
+ghost use Rattle.std.specs.Prelude.{◌≡◌, ◌≤◌, ◌⊎◌, Bool, false, Some, None, IfOk, IsErrOf, IsTrue, MatchOption, OnOk};
 ghost use Rattle.stable_store.specs.Stored.{after_prepare, after_install, after_discard, after_decide, after_bump, after_save, greatest_count};
 ghost use Rattle.stable_store.specs.Numbers.{has_zero, is_misnumbered};
 ghost use Rattle.stable_store.specs.Calls.{View, Makes, IsRefused, found};
@@ -29,6 +29,9 @@ pub trait Stable: Drop {
 
     /// What excuses that a call answered `Failed`, by the store before the call and after it.
     ghost may_fail: { Self → Self → Type 0 };
+
+    /// That a device of such a store was read.
+    ghost read: { Type 0 };
 
     /// Keeps the record of a prepared top action: its home, and the value or the delta that it would install by object
     /// number. A record that the top action had is replaced. The next top action's number is raised above this one's.
@@ -90,7 +93,8 @@ pub trait Stable: Drop {
     fn load(&mut self, alloc: Global) -> Result<Kept, StoreFault>
         ensures makes { Makes (seen self.old) (seen self.new) (may_fail self.old self.new)
             (seen self.old).content result }
-        ensures loaded { IfOk result (λ kept. held kept ≡ (seen self.old).content) };
+        ensures loaded { IfOk result (λ kept. held kept ≡ (seen self.old).content) }
+        ensures read { OnOk result read };
 
     /// The content, as the store has it in memory; none where none was found on the device when the store was opened.
     fn kept(&self) -> Option<&Kept>
