@@ -29,6 +29,7 @@ THREADED = "3"  # seconds of a run in threads
 STORED = 0.1  # of all mutants, those that are stores
 REPAIRED = 0.5  # of steps and traces, those that lose the lines that are none
 KINDS = ("steps", "steps", "setup", "script", "script", "trace")  # of the others
+ALL_KINDS = ("steps", "setup", "script", "trace", "store")
 EXPLAINED = re.compile(rb"[0-9*]+(\.[0-9*]+)* [0-9.]+ [0-9]+/[0-9]+ .* -> .*")
 ENDED = re.compile(rb"client [0-9]+ (committed(?: .*)?|aborted)")
 BASE = re.compile(rb"[0-9]+/[0-9]+ \{.*\}")
@@ -270,7 +271,7 @@ class Fuzzer:
         self.outcomes, self.kinds, self.runs = {}, collections.Counter(), 0
 
     def mutant(self):
-        kind = "store" if self.rng.random() < STORED else self.rng.choice(KINDS)
+        kind = self.given.kind or ("store" if self.rng.random() < STORED else self.rng.choice(KINDS))
         ways, inputs = self.inputs[kind]
         content, beside = self.rng.choice(inputs)
         other, _ = self.rng.choice(inputs)

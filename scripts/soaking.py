@@ -30,6 +30,7 @@ class Given(NamedTuple):
 
     program: str
     seed: int
+    kind: str | None = None  # what section fuzz changes, if it is one kind alone
 
 
 class Came(NamedTuple):
