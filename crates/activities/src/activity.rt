@@ -8,7 +8,7 @@ ghost use Rattle.activities.specs.Ends.{commits, has_committed};
 ghost use Rattle.activities.specs.Serial.{arms_run, budget, call_done, coenter_done, given_back, inner, nested_done, on_signal, repeated, returned, run, statement_done};
 ghost use Rattle.activities.specs.Acting.{ComesSo, acting, doing, done};
 ghost use Rattle.frames.specs.Operating.{given};
-ghost use Rattle.activities.specs.declared.flow.Flow.TheVariants.{Aborted, Outwards};
+ghost use Rattle.activities.specs.declared.flow.Flow.TheVariants.{Aborted, Ended, Outwards};
 ghost use Rattle.activities.specs.declared.flow.Reach.TheVariants.{TopAction};
 
 use crate::activity_steps::ActivitySteps;
@@ -449,6 +449,7 @@ impl<'s> Activity<'s> {
             (W.run world.old) (W.run world.new) }
         ensures rest { (a : Name) → IsTrue (has_name waiting.new.items a)
             → IsTrue (has_name waiting.old.items a) }
+        ensures ran { IfOk result (λ flow. flow ≡ Ended → waiting.new.items ≡ []) }
         ensures frames { sizes frames.new ≡ sizes frames.old }
         ensures left { self.new.left ≤ self.old.left }
         ensures script { self.new.script.now ≡ self.old.script.now }
@@ -495,6 +496,7 @@ impl<'s> Activity<'s> {
             (W.run world.old) (W.run world.new) }
         ensures rest { (a : Name) → IsTrue (has_name waiting.new.items a)
             → IsTrue (has_name waiting.old.items a) }
+        ensures ran { IfOk result (λ flow. flow ≡ Ended → waiting.new.items ≡ []) }
         ensures frames { sizes frames.new ≡ sizes frames.old }
         ensures left { self.new.left ≤ self.old.left }
         ensures script { self.new.script.now ≡ self.old.script.now }

@@ -1,6 +1,6 @@
 use Rattle.std.proofs.Common.{IfErr, IfOk, IfSome, IsTrue, List, Ok, Option, Some, ap, arith, drop, drop_of_length-le, false, inl, inr, le_trans, length, refl, reverse, rules, slice_get, subst, sym, true, [], ◌+◌, ◌-◌, ◌<◌, ◌∙◌, ◌∷◌, ◌≡◌, ◌≤◌}
 use Rattle.std.proofs.lemmas.Bool.{false≢true}
-use Rattle.std.proofs.lemmas.List.{length-take}
+use Rattle.std.proofs.lemmas.List.{length-take, nil_from_length}
 use Rattle.std.proofs.lemmas.Option.{slice_get_read}
 use Rattle.action_names.specs.Names.{Name, has_name}
 use Rattle.run_laws.proofs.Names.{clash}
@@ -379,6 +379,18 @@ run_arms-returns-then-not-matches-clause-rest g t c =
     let a = c.new-child.result.name in
     let is = popped l.waiting.items rest c.pop.result c.unwrap.result a c.pop.ensures.items c.unwrap.ensures c.new-child.ensures.name in
     λ b h. l.invariant.among b (earlier_waits l.waiting.items rest a is b h)
+
+-- where the last one ended well, none waits
+pub run_arms-returns-then-not-matches-clause-ran : goal.run_arms-returns-then-not-matches-clause-ran
+run_arms-returns-then-not-matches-clause-ran g t c = λ is.
+    elim c.match-matches.branch [
+      | run_arms-in-Ended w ↦ absurd (clash w.matches-is c.if-not-matches.true)
+      | run_arms-in_default w ↦ absurd (w.in_default.not-Ended is)
+    ]
+
+pub run_arms-returns-clause-ran : goal.run_arms-returns-clause-ran
+run_arms-returns-clause-ran g t c = λ is.
+    nil_from_length c.loop-arm.waiting.items (omega (arith, c.loop-arm-test.false, c.loop-arm.invariant.each))
 
 pub statement-perform-requires : goal.statement-perform-requires
 statement-perform-requires g t c =
@@ -960,6 +972,7 @@ arms-returns-in_default g t c =
           (subst (λ (l : List Name). (a : Name) → IsTrue (has_name names a) → IsTrue (has_name l a)) c.deref.ensures.value c.in_ok-begun.ensures.among)
           c.run_arms-2.ensures.makes;
       rest = λ a h. has_fewer _ c.args.waiting.now.items a (subst (λ (l : List Name). IsTrue (has_name l a)) c.truncate.ensures.items h);
+      ran = λ is. absurd (c.in_default.not-Ended is);
       frames = refl;
       left = omega arith;
       script = refl;
