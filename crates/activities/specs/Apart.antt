@@ -8,7 +8,7 @@ use Rattle.script_model.specs.declared.checked.Checked.{Checked}
 use Rattle.activities.specs.declared.apart.BegunArm.{BegunArm}
 use Rattle.activities.specs.declared.apart.EndedArm.{EndedArm}
 use Rattle.activities.specs.declared.flow.Flow.{Flow}
-use Rattle.activities.specs.declared.flow.Flow.TheVariants.{Ended, Outwards, Returned}
+use Rattle.activities.specs.declared.flow.Flow.TheVariants.{Aborted, Ended, Outwards, Returned}
 use Rattle.activities.specs.declared.flow.Reach.TheVariants.{TopAction}
 use Rattle.activities.specs.declared.open_action.OpenAction.{OpenAction}
 use Rattle.activities.specs.Acting.{acting, doing}
@@ -72,6 +72,20 @@ leaves _ = false
 abbrev pub has_left : {E : Type 0} → Result Flow E → Bool
 has_left (Ok flow) = leaves flow
 has_left (Err fault) = false
+
+-- what follows a claim: where it was refused, the arm aborts; where it was granted, the last call says whether the arm
+-- has left its `coenter`
+abbrev pub Follows : {W E : Type 0} → (Bool → W → W → Type 0) → Bool → Result Flow E → W → Type 0
+Follows settles false ended new = IfOk ended (λ end. end ≡ Aborted)
+Follows {W} settles true ended new = (last : W) × settles (has_left ended) last new
+
+-- what an arm asks that is to leave its `coenter`: it claims first
+pub record IsLeaving {W E : Type 0} (claims settles : Bool → W → W → Type 0)
+    (ended : Result Flow E) (old new : W) : Type 0 where
+  pub granted : Bool
+  pub next : W
+  pub claimed : claims granted old next
+  pub follows : Follows settles granted ended new
 
 -- the first arm that leaves it says how it goes on
 abbrev pub flow_beside : Flow → Flow → Flow

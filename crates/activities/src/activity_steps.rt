@@ -1,4 +1,4 @@
-ghost use Rattle.std.specs.Prelude.{◌≡◌, false, true, IfErr, IfOk, OnErr, length, take};
+ghost use Rattle.std.specs.Prelude.{◌≡◌, Bool, false, true, IfErr, IfOk, OnErr, length, take};
 ghost use Rattle.run_model.specs.declared.step.Step.TheVariants.{Op};
 ghost use Rattle.run_model.specs.Runs.{world_after};
 ghost use Rattle.activities.specs.Apart.{AreRunnable, begun_names, ended_names};
@@ -29,6 +29,12 @@ pub trait ActivitySteps: Sized {
 
     /// That a step can fail so.
     ghost fails: { Fault → Type 0 };
+
+    /// What `claim` leaves, granted or not.
+    ghost claims: { Bool → Self → Self → Type 0 } = { λ granted old new. Unit {0} };
+
+    /// What `settle` leaves, where the arm has left its `coenter` or not.
+    ghost settles: { Bool → Self → Self → Type 0 } = { λ has_left old new. Unit {0} };
 
     /// Makes one step and gives its answer. The event of an accepted step is the activity's. A step that is refused
     /// or waits changes nothing. After an error all is as it was.
@@ -81,11 +87,13 @@ pub trait ActivitySteps: Sized {
     /// left it.
     fn claim(&mut self) -> bool
         ensures same { run self.new ≡ run self.old }
-        ensures alone { alone → result ≡ true };
+        ensures alone { alone → result ≡ true }
+        ensures claims { claims result self.old self.new };
 
     /// Says whether the arm that claimed so has left its `coenter`. If it has, the others are called off.
     fn settle(&mut self, has_left: bool)
-        ensures { run self.new ≡ run self.old };
+        ensures same { run self.new ≡ run self.old }
+        ensures settles { settles has_left self.old self.new };
 }
 
 /// A world that nobody else steps: its events are the activity's, and arms run in order.

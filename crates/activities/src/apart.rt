@@ -3,8 +3,9 @@ ghost use Rattle.std.specs.Prelude.{◌≡◌, [], ◌∷◌, ◌++◌, Ok, Err,
 ghost use Rattle.action_names.specs.Names.{Name as Named, has_name};
 ghost use Rattle.script_model.specs.declared.checked.Checked.{Checked as Script};
 ghost use Rattle.activities.specs.Acting.{acting};
-ghost use Rattle.activities.specs.Apart.{AllRunnable, ArmRan, GoOn, IsRunnable, all_gone, are_subs, arm_taken_in};
-ghost use Rattle.activities.specs.Apart.{arms_taken_in, begun_name, begun_names, ended_name, gone_beside, has_left, leaves};
+ghost use Rattle.activities.specs.Apart.{AllRunnable, ArmRan, GoOn, IsLeaving, IsRunnable, all_gone};
+ghost use Rattle.activities.specs.Apart.{are_subs, arm_taken_in, arms_taken_in, begun_name, begun_names};
+ghost use Rattle.activities.specs.Apart.{ended_name, gone_beside, has_left, leaves};
 ghost use Rattle.activities.specs.Bodies.{AreArms, IsOf, body_of, is_sub, sizes};
 ghost use Rattle.activities.specs.Ends.{commits};
 ghost use Rattle.activities.specs.Failing.{EndOrFail, IsCause};
@@ -117,6 +118,8 @@ fn end_arm<W: ActivitySteps>(
     ensures means { IfOk ran (λ flow. IfOk result
         (λ end. W.alone → record { world = W.run world.new; flow = end }
         ≡ ended (acting action.now) flow (W.run world.old))) }
+    ensures leaving { IfOk ran (λ flow. IsTrue (leaves flow)
+        → IsLeaving W.claims W.settles result world.old world.new) }
     ensures failed { IfOk ran (λ flow. IfErr result (IsCause W.fails)) }
     ensures over { EndOrFail W.alone W.fails (action.now.name ∷ [])
         (W.run world.old) (W.run world.new) }
@@ -141,6 +144,7 @@ fn leave<W: ActivitySteps>(world: &mut W, action: &OpenAction, flow: Flow) -> Re
     ensures wanted { IfOk result (λ end. IsTrue (commits end) → end ≡ flow) }
     ensures means { IfOk result (λ end. W.alone → record { world = W.run world.new; flow = end }
         ≡ ended (acting action.now) flow (W.run world.old)) }
+    ensures leaving { IsLeaving W.claims W.settles result world.old world.new }
     ensures failed { IfErr result (IsCause W.fails) }
     ensures over { EndOrFail W.alone W.fails (action.now.name ∷ [])
         (W.run world.old) (W.run world.new) }
