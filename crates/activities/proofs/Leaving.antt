@@ -24,7 +24,8 @@ IsRunning w = IsRun (opening_in w.lists) w.past
 abbrev pub AreOf : List Name → List Name → Type 0
 AreOf names more = (a : Name) → IsTrue (has_name names a) → IsTrue (has_name more a)
 
--- the world went on by steps of these actions, and of what they began, which has ended; and of what was begun before, at most some have committed
+-- the world went on by steps of these actions, and of what they began, which has ended; and of what was begun before, at
+-- most some have committed
 pub record WentOn (actors committing : List Name) (old new : World) : Type 0 where
   pub makes : Makes actors committing old new
   pub is_run : IsRunning new

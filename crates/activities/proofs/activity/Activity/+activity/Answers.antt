@@ -704,7 +704,10 @@ call-returns-in-Ended-clause-means g t c = λ alone.
     let this : Done = done (g.W.ActivitySteps.run c.run-ended.new.world) c.run-ended.new.self.left c.take_in-taken.new.self c.bind_value.new.frames c.in_ok-bind_value-in-Ended.field-0 in
     call_so script left old (slice_get script.handlers call.handler) h call signals (given frames call) c.in-Some.inside y (called.Began n) this found handed
     (c.in_ok-name.ensures.made alone) came
-    (called_so script left d h c.in-Some.inside call.binding signals n r this ran (λ most lt. ended_back (body_done script.handlers most) call.binding signals d r (acting c.take_in-taken.new.self) taken c.bind_value.new.frames c.in_ok-bind_value-in-Ended.field-0 c.in-Ended.is c.in_ok-bind_value-in-Ended.ensures.means))
+    (called_so script left d h c.in-Some.inside call.binding signals n r this ran
+    (λ most lt. ended_back (body_done script.handlers most) call.binding signals d r (acting c.take_in-taken.new.self)
+    taken c.bind_value.new.frames c.in_ok-bind_value-in-Ended.field-0 c.in-Ended.is
+    c.in_ok-bind_value-in-Ended.ensures.means))
 
 pub call-returns-in-Returned-clause-means : goal.call-returns-in-Returned-clause-means
 call-returns-in-Returned-clause-means g t c = λ alone.
@@ -745,7 +748,10 @@ call-returns-in-Returned-clause-means g t c = λ alone.
     let this : Done = done (g.W.ActivitySteps.run c.run-ended.new.world) c.run-ended.new.self.left c.take_in-taken.new.self c.bind_value-in-Returned.new.frames c.in_ok-bind_value-in-Returned.field-0 in
     call_so script left old (slice_get script.handlers call.handler) h call signals (given frames call) c.in-Some.inside y (called.Began n) this found handed
     (c.in_ok-name.ensures.made alone) came
-    (called_so script left d h c.in-Some.inside call.binding signals n r this ran (λ most lt. returned_back (body_done script.handlers most) call.binding signals d r (acting c.take_in-taken.new.self) taken c.in-Returned.value c.bind_value-in-Returned.new.frames c.in_ok-bind_value-in-Returned.field-0 c.in-Returned.is c.in_ok-bind_value-in-Returned.ensures.means))
+    (called_so script left d h c.in-Some.inside call.binding signals n r this ran
+    (λ most lt. returned_back (body_done script.handlers most) call.binding signals d r
+    (acting c.take_in-taken.new.self) taken c.in-Returned.value c.bind_value-in-Returned.new.frames
+    c.in_ok-bind_value-in-Returned.field-0 c.in-Returned.is c.in_ok-bind_value-in-Returned.ensures.means))
 
 pub call-returns-clause-means : goal.call-returns-clause-means
 call-returns-clause-means g t c = λ alone.
@@ -1000,11 +1006,15 @@ arms-run_arms-requires-in-Ended g t c κs within =
 
 pub body-returns-in_err-flow-clause-over : goal.body-returns-in_err-flow-clause-over
 body-returns-in_err-flow-clause-over g t c =
-    over_through g.W.ActivitySteps.alone g.W.ActivitySteps.fails (g.W.ActivitySteps.run c.args.world.now) (g.W.ActivitySteps.run c.loop-statement.world) (g.W.ActivitySteps.run c.statement.new.world) c.loop-statement.invariant.over c.statement.ensures.over
+    over_through g.W.ActivitySteps.alone g.W.ActivitySteps.fails (g.W.ActivitySteps.run c.args.world.now)
+    (g.W.ActivitySteps.run c.loop-statement.world) (g.W.ActivitySteps.run c.statement.new.world)
+    c.loop-statement.invariant.over c.statement.ensures.over
 
 pub body-returns-then-not-matches-clause-over : goal.body-returns-then-not-matches-clause-over
 body-returns-then-not-matches-clause-over g t c =
-    over_through g.W.ActivitySteps.alone g.W.ActivitySteps.fails (g.W.ActivitySteps.run c.args.world.now) (g.W.ActivitySteps.run c.loop-statement.world) (g.W.ActivitySteps.run c.statement.new.world) c.loop-statement.invariant.over c.statement.ensures.over
+    over_through g.W.ActivitySteps.alone g.W.ActivitySteps.fails (g.W.ActivitySteps.run c.args.world.now)
+    (g.W.ActivitySteps.run c.loop-statement.world) (g.W.ActivitySteps.run c.statement.new.world)
+    c.loop-statement.invariant.over c.statement.ensures.over
 
 pub body-returns-then-not-begin-clause-over : goal.body-returns-then-not-begin-clause-over
 body-returns-then-not-begin-clause-over g t c =
@@ -1032,12 +1042,16 @@ repeat-returns-clause-over g t c =
 
 pub run-returns-in-Ok-clause-over : goal.run-returns-in-Ok-clause-over
 run-returns-in-Ok-clause-over g t c =
-    over_ends_named g.W.ActivitySteps.alone g.W.ActivitySteps.fails c.args.action.now.name c.body.new.action.name (g.W.ActivitySteps.run c.args.world.now) (g.W.ActivitySteps.run c.body.new.world) (g.W.ActivitySteps.run c.end.new.world) c.body.ensures.name c.body.ensures.over
+    over_ends_named g.W.ActivitySteps.alone g.W.ActivitySteps.fails c.args.action.now.name c.body.new.action.name
+    (g.W.ActivitySteps.run c.args.world.now) (g.W.ActivitySteps.run c.body.new.world)
+    (g.W.ActivitySteps.run c.end.new.world) c.body.ensures.name c.body.ensures.over
     c.end.ensures.over
 
 pub run-returns-in-Err-clause-over : goal.run-returns-in-Err-clause-over
 run-returns-in-Err-clause-over g t c =
-    over_ends_named g.W.ActivitySteps.alone g.W.ActivitySteps.fails c.args.action.now.name c.body.new.action.name (g.W.ActivitySteps.run c.args.world.now) (g.W.ActivitySteps.run c.body.new.world) (g.W.ActivitySteps.run c.abort.new.world) c.body.ensures.name c.body.ensures.over
+    over_ends_named g.W.ActivitySteps.alone g.W.ActivitySteps.fails c.args.action.now.name c.body.new.action.name
+    (g.W.ActivitySteps.run c.args.world.now) (g.W.ActivitySteps.run c.body.new.world)
+    (g.W.ActivitySteps.run c.abort.new.world) c.body.ensures.name c.body.ensures.over
     c.abort.ensures.over
 
 pub call-returns-in_err-flow-clause-over : goal.call-returns-in_err-flow-clause-over
@@ -1110,7 +1124,10 @@ call-returns-in-Aborted-clause-over g t c =
     let z = (g.W.ActivitySteps.run c.run-ended.new.world) in
     let n = c.new-child.result.name in
     let began = called_began c.in_ok-name.field-0 c.in-Began.name n (c.args.action.now.name ∷ []) x y c.in-Began.is c.new-child.ensures.name c.in_ok-name.ensures.began in
-    over_through g.W.ActivitySteps.alone g.W.ActivitySteps.fails x z (g.W.ActivitySteps.run c.run_signals-in-Aborted.new.world) (over_child g.W.ActivitySteps.alone g.W.ActivitySteps.fails n (c.args.action.now.name ∷ []) x y z began c.run-ended.ensures.over)
+    over_through g.W.ActivitySteps.alone g.W.ActivitySteps.fails x z
+    (g.W.ActivitySteps.run c.run_signals-in-Aborted.new.world)
+    (over_child g.W.ActivitySteps.alone g.W.ActivitySteps.fails n (c.args.action.now.name ∷ []) x y z began
+    c.run-ended.ensures.over)
     c.run_signals-in-Aborted.ensures.over
 
 pub call-returns-in-Signalled-clause-over : goal.call-returns-in-Signalled-clause-over
@@ -1146,7 +1163,9 @@ top_action-returns-in-Aborted-clause-over g t c =
     let z = (g.W.ActivitySteps.run c.run.new.world) in
     let n = c.new-nested.result.name in
     let began = began_named c.in_ok-name.field-0 c.in-Some.name n (c.args.action.now.name ∷ []) x y c.in-Some.is c.new-nested.ensures.name c.in_ok-name.ensures.began in
-    over_through g.W.ActivitySteps.alone g.W.ActivitySteps.fails x z (g.W.ActivitySteps.run c.inner.new.world) (over_child g.W.ActivitySteps.alone g.W.ActivitySteps.fails n (c.args.action.now.name ∷ []) x y z began c.run.ensures.over) c.inner.ensures.over
+    over_through g.W.ActivitySteps.alone g.W.ActivitySteps.fails x z (g.W.ActivitySteps.run c.inner.new.world)
+    (over_child g.W.ActivitySteps.alone g.W.ActivitySteps.fails n (c.args.action.now.name ∷ []) x y z began
+    c.run.ensures.over) c.inner.ensures.over
 
 pub top_action-returns-in_default-clause-over : goal.top_action-returns-in_default-clause-over
 top_action-returns-in_default-clause-over g t c =
@@ -1180,7 +1199,9 @@ run_arms-returns-in_err-flow-clause-over g t c =
     let rest = c.pop.new.self.items in
     let a = c.new-child.result.name in
     let is = popped l.waiting.items rest c.pop.result c.unwrap.result a c.pop.ensures.items c.unwrap.ensures c.new-child.ensures.name in
-    last_ran g.W.ActivitySteps.alone g.W.ActivitySteps.fails c.args.waiting.now.items l.waiting.items rest a (g.W.ActivitySteps.run c.args.world.now) (g.W.ActivitySteps.run l.world) (g.W.ActivitySteps.run c.run-ended.new.world) is l.invariant.over c.run-ended.ensures.over
+    last_ran g.W.ActivitySteps.alone g.W.ActivitySteps.fails c.args.waiting.now.items l.waiting.items rest a
+    (g.W.ActivitySteps.run c.args.world.now) (g.W.ActivitySteps.run l.world)
+    (g.W.ActivitySteps.run c.run-ended.new.world) is l.invariant.over c.run-ended.ensures.over
 
 pub run_arms-returns-in_err-flow-clause-name : goal.run_arms-returns-in_err-flow-clause-name
 run_arms-returns-in_err-flow-clause-name g t c =
@@ -1196,7 +1217,9 @@ run_arms-returns-in_err-taken-clause-over g t c =
     let rest = c.pop.new.self.items in
     let a = c.new-child.result.name in
     let is = popped l.waiting.items rest c.pop.result c.unwrap.result a c.pop.ensures.items c.unwrap.ensures c.new-child.ensures.name in
-    last_ran g.W.ActivitySteps.alone g.W.ActivitySteps.fails c.args.waiting.now.items l.waiting.items rest a (g.W.ActivitySteps.run c.args.world.now) (g.W.ActivitySteps.run l.world) (g.W.ActivitySteps.run c.run-ended.new.world) is l.invariant.over c.run-ended.ensures.over
+    last_ran g.W.ActivitySteps.alone g.W.ActivitySteps.fails c.args.waiting.now.items l.waiting.items rest a
+    (g.W.ActivitySteps.run c.args.world.now) (g.W.ActivitySteps.run l.world)
+    (g.W.ActivitySteps.run c.run-ended.new.world) is l.invariant.over c.run-ended.ensures.over
 
 pub run_arms-returns-in_err-taken-clause-name : goal.run_arms-returns-in_err-taken-clause-name
 run_arms-returns-in_err-taken-clause-name g t c =
@@ -1212,7 +1235,9 @@ run_arms-returns-then-not-matches-clause-over g t c =
     let rest = c.pop.new.self.items in
     let a = c.new-child.result.name in
     let is = popped l.waiting.items rest c.pop.result c.unwrap.result a c.pop.ensures.items c.unwrap.ensures c.new-child.ensures.name in
-    last_ran g.W.ActivitySteps.alone g.W.ActivitySteps.fails c.args.waiting.now.items l.waiting.items rest a (g.W.ActivitySteps.run c.args.world.now) (g.W.ActivitySteps.run l.world) (g.W.ActivitySteps.run c.run-ended.new.world) is l.invariant.over c.run-ended.ensures.over
+    last_ran g.W.ActivitySteps.alone g.W.ActivitySteps.fails c.args.waiting.now.items l.waiting.items rest a
+    (g.W.ActivitySteps.run c.args.world.now) (g.W.ActivitySteps.run l.world)
+    (g.W.ActivitySteps.run c.run-ended.new.world) is l.invariant.over c.run-ended.ensures.over
 
 pub run_arms-returns-then-not-matches-clause-name : goal.run_arms-returns-then-not-matches-clause-name
 run_arms-returns-then-not-matches-clause-name g t c =
@@ -1247,7 +1272,9 @@ arms-returns-in_err-flow-clause-over g t c =
 
 pub arms-returns-in-Ended-clause-over : goal.arms-returns-in-Ended-clause-over
 arms-returns-in-Ended-clause-over g t c =
-    more_apart g.W.ActivitySteps.alone g.W.ActivitySteps.fails _ _ c.args.waiting.now.items c.truncate.new.self.items c.run_arms-in-Ended.new.waiting.items (c.len.result - c.len-count.result) (g.W.ActivitySteps.run c.args.world.now) (g.W.ActivitySteps.run c.run_arms-2.new.self)
+    more_apart g.W.ActivitySteps.alone g.W.ActivitySteps.fails _ _ c.args.waiting.now.items c.truncate.new.self.items
+    c.run_arms-in-Ended.new.waiting.items (c.len.result - c.len-count.result) (g.W.ActivitySteps.run c.args.world.now)
+    (g.W.ActivitySteps.run c.run_arms-2.new.self)
     (g.W.ActivitySteps.run c.run_arms-in-Ended.new.world) c.truncate.ensures.items c.run_arms-2.ensures.makes c.run_arms-in-Ended.ensures.over
     (λ alone. false≢true (sym (c.has_arms_apart.ensures alone) ∙ c.if-not-has_arms_apart.false))
 

@@ -24,7 +24,9 @@ returns-then-branch-clause-ended g c =
 
 pub returns-clause-ended : goal.returns-clause-ended
 returns-clause-ended g c =
-    over_ends g.W.ActivitySteps.alone g.W.ActivitySteps.fails (c.args.self.now.name ∷ []) (g.W.ActivitySteps.run c.args.world.now) (g.W.ActivitySteps.run c.commit.new.world) (g.W.ActivitySteps.run c.abort.new.world) c.commit.ensures.over c.abort.ensures.over
+    over_ends g.W.ActivitySteps.alone g.W.ActivitySteps.fails (c.args.self.now.name ∷ [])
+    (g.W.ActivitySteps.run c.args.world.now) (g.W.ActivitySteps.run c.commit.new.world)
+    (g.W.ActivitySteps.run c.abort.new.world) c.commit.ensures.over c.abort.ensures.over
 
 pub returns-clause-over : goal.returns-clause-over
 returns-clause-over g c =

@@ -29,7 +29,9 @@ loop-guardian-preserved g c = record {
       vote_goes (acting c.args.self.now) (g.W.ActivitySteps.run c.args.world.now) c.in-Some.guardian.now _ _ (g.W.ActivitySteps.run c.loop-guardian.world) (g.W.ActivitySteps.run c.prepare.new.world)
       (rest_more deref _ _ _ c.in-Some.guardian c.in-Some.is c.next.ensures.steps) (c.in_ok-prepare.ensures.after alone)
       (sym (c.in_ok-prepare.ensures.yes alone) ∙ c.if-not-branch-2.false) (c.loop-guardian.invariant.means alone);
-  over = over_through g.W.ActivitySteps.alone g.W.ActivitySteps.fails (g.W.ActivitySteps.run c.args.world.now) (g.W.ActivitySteps.run c.loop-guardian.world) (g.W.ActivitySteps.run c.prepare.new.world) c.loop-guardian.invariant.over c.prepare.ensures.over;
+  over = over_through g.W.ActivitySteps.alone g.W.ActivitySteps.fails (g.W.ActivitySteps.run c.args.world.now)
+      (g.W.ActivitySteps.run c.loop-guardian.world) (g.W.ActivitySteps.run c.prepare.new.world)
+      c.loop-guardian.invariant.over c.prepare.ensures.over;
 }
 
 pub returns-in_err-try_step-clause-makes : goal.returns-in_err-try_step-clause-makes
@@ -66,13 +68,17 @@ returns-in_err-copy-2-clause-makes g c =
 
 pub returns-clause-makes : goal.returns-clause-makes
 returns-clause-makes g c =
-    then_ends c.args.self.now.name c.in_ok-copy-2.field-0 (g.W.ActivitySteps.run c.args.world.now) (g.W.ActivitySteps.run c.loop-guardian.world) (g.W.ActivitySteps.run c.try_step-2.new.world) c.in_ok-copy-2.ensures.ok.1 c.loop-guardian.invariant.makes
+    then_ends c.args.self.now.name c.in_ok-copy-2.field-0 (g.W.ActivitySteps.run c.args.world.now)
+    (g.W.ActivitySteps.run c.loop-guardian.world) (g.W.ActivitySteps.run c.try_step-2.new.world)
+    c.in_ok-copy-2.ensures.ok.1 c.loop-guardian.invariant.makes
     c.try_step-2.ensures.makes
 
 pub returns-clause-told : goal.returns-clause-told
 returns-clause-told g c =
     if_ok_each c.try_step-2.result c.try_step-2.ensures.told
-    (λ done t. then_tells done c.args.self.now.name c.in_ok-copy-2.field-0 (g.W.ActivitySteps.run c.args.world.now) (g.W.ActivitySteps.run c.loop-guardian.world) (g.W.ActivitySteps.run c.try_step-2.new.world) c.in_ok-copy-2.ensures.ok.1 c.loop-guardian.invariant.makes
+    (λ done t. then_tells done c.args.self.now.name c.in_ok-copy-2.field-0 (g.W.ActivitySteps.run c.args.world.now)
+    (g.W.ActivitySteps.run c.loop-guardian.world) (g.W.ActivitySteps.run c.try_step-2.new.world)
+    c.in_ok-copy-2.ensures.ok.1 c.loop-guardian.invariant.makes
     (t c.in_ok-copy-2.field-0 refl refl))
 
 pub returns-then-not-branch-2-clause-means : goal.returns-then-not-branch-2-clause-means
@@ -102,7 +108,9 @@ returns-then-not-branch-2-clause-over g c =
 
 pub returns-clause-over : goal.returns-clause-over
 returns-clause-over g c =
-    over_through g.W.ActivitySteps.alone g.W.ActivitySteps.fails (g.W.ActivitySteps.run c.args.world.now) (g.W.ActivitySteps.run c.loop-guardian.world) (g.W.ActivitySteps.run c.try_step-2.new.world) c.loop-guardian.invariant.over (c.try_step-2.ensures.over refl)
+    over_through g.W.ActivitySteps.alone g.W.ActivitySteps.fails (g.W.ActivitySteps.run c.args.world.now)
+    (g.W.ActivitySteps.run c.loop-guardian.world) (g.W.ActivitySteps.run c.try_step-2.new.world)
+    c.loop-guardian.invariant.over (c.try_step-2.ensures.over refl)
 
 pub returns-in_err-copy-2-clause-over : goal.returns-in_err-copy-2-clause-over
 returns-in_err-copy-2-clause-over g c = c.loop-guardian.invariant.over

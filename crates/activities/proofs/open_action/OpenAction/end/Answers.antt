@@ -9,4 +9,6 @@ returns-in-Err-clause-makes g c =
 
 pub returns-in-Err-clause-over : goal.returns-in-Err-clause-over
 returns-in-Err-clause-over g c =
-    over_ends g.W.ActivitySteps.alone g.W.ActivitySteps.fails (c.args.self.now.name ∷ []) (g.W.ActivitySteps.run c.args.world.now) (g.W.ActivitySteps.run c.try_end.new.world) (g.W.ActivitySteps.run c.abort.new.world) c.try_end.ensures.over c.abort.ensures.over
+    over_ends g.W.ActivitySteps.alone g.W.ActivitySteps.fails (c.args.self.now.name ∷ [])
+    (g.W.ActivitySteps.run c.args.world.now) (g.W.ActivitySteps.run c.try_end.new.world)
+    (g.W.ActivitySteps.run c.abort.new.world) c.try_end.ensures.over c.abort.ensures.over
