@@ -13,9 +13,14 @@ use Rattle.run_laws.proofs.Names.{eqb_self}
 use Rattle.stepping.specs.Stepping.{Leaves}
 use Rattle.service.specs.Calling.{BeganOne, IsCall}
 use Rattle.service.specs.Opening.{BeganAt}
-use Rattle.service.specs.Transacting.{Begins, EndedAndTold, EndsTop, Includes, IsTransacted, Settles, Transacts, Works, finishes, has_number, settles, works_in}
+use Rattle.service.specs.Transacting.{Begins, CameToNothing, EndedAndTold, EndsTop, Includes, Settles, Transacts, Works, ends_top, finishes, has_number, is_concluding, is_voted_down, settles, works_in}
+use Rattle.service.specs.Outcomes.{has_committed}
 use Rattle.service.specs.declared.fault.CallFault.{CallFault}
+use Rattle.service.specs.declared.outcome.Cause.TheVariants.{Vote, Step as ByStep}
+use Rattle.service.specs.declared.outcome.Outcome.TheVariants.{Aborted}
+use Rattle.service.specs.declared.outcome.Outcome.{Outcome}
 use Rattle.service.specs.declared.place.Place.{Place}
+use Rattle.service.proofs.Ended.{gives_why}
 use Rattle.service.proofs.Going.{goes_same, none_same, settles_finishes, settles_wider, works_called, works_quiet, works_then}
 use Rattle.service.proofs.Whole.{is_transacted}
 
@@ -68,23 +73,31 @@ module _ {M : Type 0} (run : M → World) (leaves : Leaves M) where
   }
 
   pub top_worked : (home : ℕ) (old begun : M) (y z : World) (at : Place) (top : Name) (guardians : List ℕ) (mid left : Option CallFault)
-      (decided says : Bool) → IsCall run leaves (steps.Top home) BeganAt old begun (Ok at) → at.reached.items ≡ home ∷ [] → at.left ≡ None
-      → top ≡ at.action → Includes at.reached.items guardians → says ≡ decided → ∥ Works at.action (run begun) y at.left mid ∥₁
-      → EndsTop top guardians y z mid left decided → Transacts home (run old) z says left
-  top_worked home old begun y z at top guardians mid left decided says call first none same reached said works ends =
+      (decided : Bool) {T E : Type 0} (outcome : Outcome T E) → IsCall run leaves (steps.Top home) BeganAt old begun (Ok at)
+      → at.reached.items ≡ home ∷ [] → at.left ≡ None → top ≡ at.action → Includes at.reached.items guardians → has_committed outcome ≡ decided
+      → (outcome ≡ Aborted Vote → is_voted_down top z.past ≡ true)
+      → ((fault : CallFault) → outcome ≡ Aborted (ByStep fault) → CameToNothing (ends_top top) is_concluding y z fault)
+      → ∥ Works at.action (run begun) y at.left mid ∥₁ → EndsTop top guardians y z mid left decided
+      → Transacts home (run old) z (record { outcome = outcome; left = left })
+  top_worked home old begun y z at top guardians mid left decided outcome call first none same reached said down stopped works ends =
       ∥∥₁_map works (λ work.
-      let inside = subst (λ was. Works at.action (run begun) y was mid) none work in
       inr
-      (subst (λ b. IsTransacted home (run old) z b left) (sym said)
-      (is_transacted home at.action guardians (run old) (run begun) y z mid left decided (top_begins home old begun at call)
-      (reached home (subst (λ xs. has_number xs home ≡ true) (sym first) (or_left _ _ (eqb_self home)))) inside
-      (subst (λ c. EndsTop c guardians y z mid left decided) same ends))))
+      (is_transacted home top guardians (run old) (run begun) y z mid left decided outcome said down stopped
+      (subst (λ c. Begins home c (run old) (run begun)) (sym same) (top_begins home old begun at call))
+      (reached home (subst (λ xs. has_number xs home ≡ true) (sym first) (or_left _ _ (eqb_self home))))
+      (subst (λ c. Works c (run begun) y None mid) (sym same) (subst (λ was. Works at.action (run begun) y was mid) none work)) ends))
 
-  pub top_unbegun : (home : ℕ) (old new : World) → new ≡ old → Transacts home old new false None
-  top_unbegun home old new e = ∣ inl (record { same = e; uncommitted = refl; none = refl }) ∣₁
+  pub top_unbegun : (home : ℕ) (old new : M) (fault : CallFault) {T E : Type 0}
+      → IsCall run leaves (steps.Top home) BeganAt old new (Err fault)
+      → Transacts {T = T} {E = E} home (run old) (run new) (record { outcome = Aborted (ByStep fault); left = None })
+  top_unbegun home old new fault call = ∣ inl (record { fault = fault; aborted = refl; gives = gives_why BeganAt (λ (_ : Unit {0}) answer. ⊥) _ fault call.gives; same = call.same; none = refl }) ∣₁
 
 -- whether the top action was to commit
 pub undecided_if : {T E : Type 0} (done : Result T E) (commits : Bool) (So : Type 0) → commits ≡ is_ok done → (commits ≡ false → So)
     → IfErr done (λ _. So)
 undecided_if (Ok x) commits So e f = tt
 undecided_if (Err x) commits So e f = f e
+
+-- what is so of an error is so of the one that came
+pub if_stopped : {r : Result Bool CallFault} {fault : CallFault} (So : CallFault → Type 0) → r ≡ Err fault → IfErr r So → So fault
+if_stopped {r} {fault} So e h = subst (λ x. IfErr x So) e h

@@ -1,5 +1,5 @@
 -- Steps of a transaction as calls, and how they end its top action.
-use Rattle.std.proofs.Common.{Bool, Err, List, None, Ok, Option, Result, Some, [], ap, eqb-true, false, inl, inr, refl, subst, sym, true, ℕ, ◌++◌, ◌==◌, ◌&&◌, ◌||◌, ◌∙◌, ◌∷◌, ◌≡◌, ◌⊎◌}
+use Rattle.std.proofs.Common.{Bool, Err, IfErr, List, None, Ok, Option, Result, Some, [], ap, eqb-true, false, inl, inr, refl, subst, sym, true, ℕ, ◌++◌, ◌==◌, ◌&&◌, ◌||◌, ◌∙◌, ◌∷◌, ◌≡◌, ◌⊎◌}
 use Rattle.std.proofs.lemmas.Bool.{and_from, and_parts, false_from_ne_true, false≢true, or_cases, or_left, or_right}
 use Rattle.std.proofs.lemmas.List.{append-nil}
 use Rattle.std.specs.List.{list_all, list_any}
@@ -8,13 +8,14 @@ use Rattle.std.specs.Result.{IsErrAnd, result_err}
 use Rattle.std.specs.Prelude.{if◌then◌else◌}
 use Rattle.action_names.specs.Names.{Name, same_name}
 use Rattle.run_model.specs.declared.answer.Answer.{Answer}
+use Rattle.run_model.specs.declared.answer.Answer.TheVariants as answers
 use Rattle.run_model.specs.declared.history.Event.{Event}
 use Rattle.run_model.specs.declared.step.Step.{Step}
 use Rattle.run_model.specs.declared.step.Step.TheVariants as steps
 use Rattle.run_model.specs.Actions.{is_committed, is_ended, names_begun, step_commits}
 use Rattle.run_model.specs.Answers.{answer_of}
 use Rattle.run_model.specs.Openings.{opening_in}
-use Rattle.run_model.specs.Runs.{World, is_accepted}
+use Rattle.run_model.specs.Runs.{World, is_accepted, world_after}
 use Rattle.run_model.specs.Telling.{told_since_crash}
 use Rattle.run_model.specs.Votes.{has_voted, step_votes}
 use Rattle.run_laws.proofs.Growth.{any_stays}
@@ -23,11 +24,11 @@ use Rattle.stepping.specs.Stepping.{Leaves}
 use Rattle.service.specs.Calling.{IsCall, IsDone, IsReply, IsVote, Told}
 use Rattle.service.specs.Ending.{AreCutShort, ArePolled, HasHappened, HaveHappened, prepares}
 use Rattle.service.specs.Outcomes.{is_decided}
-use Rattle.service.specs.Transacting.{AllTold, AllVoted, Concludes, EndedAndTold, EndsTop, FallsShort, Goes, Includes, NoneBegan, Settles, Works, ends_top, finishes, has_number, is_settling, settles, works_in}
+use Rattle.service.specs.Transacting.{AllTold, AllVoted, CameToNothing, Concludes, EndedAndTold, EndsTop, FallsShort, Goes, Includes, NoneBegan, Settles, Works, ends_top, finishes, has_number, is_concluding, is_settling, is_voted_down, settles, votes_no, works_in}
 use Rattle.service.specs.declared.fault.CallFault.{CallFault}
 use Rattle.service.proofs.Ended.{gives_why}
 use Rattle.service.proofs.Shapes.{answer_fits}
-use Rattle.service.proofs.Going.{ended_stays, end_crashes_not, goes_grows, goes_none, goes_one, goes_same, goes_then, goes_told, goes_wider, kept, none_began, none_same, none_then, settles_after, settles_ends, settles_finishes, settles_then, settles_wider, short_in, short_then, step_kept, works_quiet}
+use Rattle.service.proofs.Going.{ended_stays, end_crashes_not, goes_grows, goes_none, goes_one, goes_same, goes_then, goes_told, goes_wider, kept, none_began, none_same, none_then, settles_after, settles_ends, settles_finishes, settles_then, settles_wider, short_in, short_more, short_then, step_kept, works_quiet}
 
 -- ---- answers that begin nothing
 
@@ -162,6 +163,19 @@ module _ {M : Type 0} (run : M → World) (leaves : Leaves M) where
     voted = λ g out. call_keeps (λ step. step_votes step g t) step Shows old new r (novote g) call;
   }
 
+  -- a call that came to nothing
+  pub call_stopped : {T : Type 0} (p kind : Step → Bool) (step : Step) (Shows : T → Answer → Type 0) (old new : M) (fault : CallFault)
+      → p step ≡ true → kind step ≡ true → IsCall run leaves step Shows old new (Err fault) → CameToNothing p kind (run old) (run new) fault
+  call_stopped p kind step Shows old new fault own is call = record {
+    before = run old;
+    first = goes_none p (run old);
+    step = step;
+    own = own;
+    of_kind = is;
+    gives = gives_why Shows (λ (_ : Unit {0}) answer. ⊥) _ fault call.gives;
+    more = goes_same p (run old) (run new) call.same;
+  }
+
   -- a call that is to settle something, of which the first fault is kept
   pub call_settles : {T : Type 0} (p : Step → Bool) (step : Step) (Shows : T → Answer → Type 0) (old new : M) (r : Result T CallFault)
       (was : Option CallFault) (So : Type 0) → p step ≡ true → is_settling step ≡ true
@@ -185,15 +199,7 @@ module _ {M : Type 0} (run : M → World) (leaves : Leaves M) where
       by None (Ok x) e call fault h = cc
       by None (Err f) e call fault h =
           let same : f ≡ fault = cc in
-          inr (subst (λ k. FallsShort p (run old) (run new) k) same (record {
-            before = run old;
-            first = goes_none p (run old);
-            step = step;
-            own = own;
-            settling = settling;
-            gives = gives_why Shows (λ (_ : Unit {0}) answer. ⊥) _ f call.gives;
-            more = goes_same p (run old) (run new) call.same;
-          }))
+          inr (subst (λ k. FallsShort p (run old) (run new) k) same (call_stopped p is_settling step Shows old new f own settling call))
 
   -- what an accepted step does
   call_happens : (step : Step) (old new : M) → IsCall run leaves step IsDone old new (Ok tt)
@@ -302,6 +308,30 @@ module _ {M : Type 0} (run : M → World) (leaves : Leaves M) where
       (some_votes t gs gs cut.done (cut.next ∷ cut.rest) old cut.before (λ n h. h) cut.parts cut.happened)
       (concluded_same t gs (run cut.before) (run new) cut.same)
 
+  next_votes : (t : Name) (all : List ℕ) (done rest : List Step) (next : Step) → prepares t all ≡ done ++ next ∷ rest
+      → (ends_top t next ≡ true) × (is_concluding next ≡ true)
+  next_votes t [] [] rest next e = cc
+  next_votes t [] (step ∷ done) rest next e = cc
+  next_votes t (g ∷ all) [] rest next e =
+      let first : next ≡ steps.Prepare g t = cc in
+      subst (λ s. (ends_top t s ≡ true) × (is_concluding s ≡ true)) (sym first) (same_name_self t, refl)
+  next_votes t (g ∷ all) (step ∷ done) rest next e = next_votes t all done rest next cc
+
+  -- the vote that did not come about
+  pub cut_stopped : (t : Name) (gs : List ℕ) (old new : M) (fault : CallFault) → AreCutShort run leaves (prepares t gs) old new fault
+      → CameToNothing (ends_top t) is_concluding (run old) (run new) fault
+  cut_stopped t gs old new fault cut =
+      let (own, is) = next_votes t gs cut.done cut.rest cut.next cut.parts in
+      record {
+        before = run cut.before;
+        first = (some_votes t gs gs cut.done (cut.next ∷ cut.rest) old cut.before (λ n h. h) cut.parts cut.happened).goes;
+        step = cut.next;
+        own = own;
+        of_kind = is;
+        gives = cut.gives;
+        more = goes_same (ends_top t) (run cut.before) (run new) cut.same;
+      }
+
   -- what has happened is the last event
   happened_past : (step : Step) (old new : M) → HasHappened run leaves step old new
       → (run new).past ≡ record { step = step; answer = answer_of (opening_in (run old).lists) step (run old).past } ∷ (run old).past
@@ -309,6 +339,38 @@ module _ {M : Type 0} (run : M → World) (leaves : Leaves M) where
       let answer = answer_of (opening_in (run old).lists) step (run old).past in
       ap (λ (w : World). w.past) h.made.after
       ∙ ap (λ b. if b then record { step = step; answer = answer } ∷ (run old).past else (run old).past) h.accepted
+
+  no_votes_down : (t : Name) (g : ℕ) (old new : M) → HasHappened run leaves (steps.Prepare g t) old new
+      → answer_of (opening_in (run old).lists) (steps.Prepare g t) (run old).past ≡ answers.VoteNo → is_voted_down t (run new).past ≡ true
+  no_votes_down t g old new h refuses =
+      ap (λ past. is_voted_down t past) (happened_past (steps.Prepare g t) old new h)
+      ∙ or_left _ _ (ap (λ answer. votes_no t (steps.Prepare g t) answer) refuses ∙ same_name_self t)
+
+  -- the last of the votes, if runs that are the same go on by the same votes before it
+  no_among : (t : Name) (g : ℕ) (front : List ℕ) (old also new mid : M) → run old ≡ run also
+      → HaveHappened run leaves (prepares t (front ++ g ∷ [])) old new → HaveHappened run leaves (prepares t front) also mid
+      → answer_of (opening_in (run mid).lists) (steps.Prepare g t) (run mid).past ≡ answers.VoteNo → is_voted_down t (run new).past ≡ true
+  no_among t g [] old also new mid same h k refuses =
+      let (next, one, last) = h in
+      ap (λ m. is_voted_down t (run m).past) last
+      ∙ no_votes_down t g old next one
+      (subst (λ (w : World). answer_of (opening_in w.lists) (steps.Prepare g t) w.past ≡ answers.VoteNo) (ap run k ∙ sym same) refuses)
+  no_among t g (x ∷ front) old also new mid same h k refuses =
+      let (next, one, rest) = h in
+      let (nexts, ones, rests) = k in
+      no_among t g front next nexts new mid
+      (one.made.after
+      ∙ ap (λ (w : World). world_after w (steps.Prepare x t) (answer_of (opening_in w.lists) (steps.Prepare x t) w.past)) same
+      ∙ sym ones.made.after)
+      rest rests refuses
+
+  -- a poll that did not give all votes
+  pub polled_down : (t : Name) (gs : List ℕ) (said : Bool) (old new : M) → ArePolled run leaves t gs said old new → said ≡ false
+      → is_voted_down t (run new).past ≡ true
+  polled_down t gs said old new poll e =
+      let (front, g, parts, vote) = poll.no e in
+      no_among t g front old old new vote.mid refl (subst (λ xs. HaveHappened run leaves (prepares t xs) old new) parts poll.happened) vote.happened
+      vote.no
 
   vote_votes : (t : Name) (g : ℕ) (old new : M) → HasHappened run leaves (steps.Prepare g t) old new → has_voted g t (run new).past ≡ true
   vote_votes t g old new h =
@@ -464,3 +526,17 @@ top_ended t gs polled told w x y z was mid is committed said p q e first next la
     top_ends t gs w x y z was mid is committed (subst (λ xs. Concludes t xs w x committed) p first)
     (subst (λ b. Settles (settles t) x y was mid (b ≡ false → is_ended t y.past ≡ true)) e next)
     (subst (λ xs. Settles (settles t) y z mid is (AllTold t xs z)) q last)
+
+-- what comes of the vote is kept as the top action is ended
+module _ (t : Name) (x y z : World) (was mid is : Option CallFault) (Aborts Tells : Type 0) (first : Settles (settles t) x y was mid Aborts)
+    (last : Settles (settles t) y z mid is Tells) where
+  ended_goes : Goes (settles t) x z
+  ended_goes = goes_then (settles t) x y z first.goes last.goes
+
+  pub stays_down : is_voted_down t x.past ≡ true → is_voted_down t z.past ≡ true
+  stays_down h = any_stays (λ (e : Event). votes_no t e.step e.answer) (goes_grows (settles t) x z ended_goes) h
+
+  pub stays_stopped : (w : World) (r : Result Bool CallFault) → IfErr r (CameToNothing (ends_top t) is_concluding w x)
+      → IfErr r (CameToNothing (ends_top t) is_concluding w z)
+  stays_stopped w (Ok c) h = tt
+  stays_stopped w (Err fault) h = short_more (ends_top t) w x z fault h (goes_wider (settles t) (ends_top t) x z (settles_ends t) ended_goes)

@@ -20,7 +20,7 @@ use Rattle.run_laws.proofs.Growth.{Follows, aborted_stays, any_stays, committed_
 use Rattle.run_laws.proofs.Names.{clash, eqb_self, same_name_self, same_name_true}
 use Rattle.run_laws.proofs.Begun.{begun_cases}
 use Rattle.service.specs.declared.fault.CallFault.{CallFault}
-use Rattle.service.specs.Transacting.{AllSettled, EndedAndTold, FallsShort, Goes, IsSettled, NoneBegan, Settles, Works, began_at, begins_at, ends_top, finishes, is_below, settles, works_in}
+use Rattle.service.specs.Transacting.{AllSettled, CameToNothing, EndedAndTold, FallsShort, Goes, IsSettled, NoneBegan, Settles, Works, began_at, begins_at, ends_top, finishes, is_below, settles, works_in}
 
 -- ---- names
 
@@ -291,36 +291,36 @@ module _ (step : Step) (g : ℕ) (s : Name) (x y : World) (at : begins_at step g
 
 -- ---- what falls short
 
-pub short_more : (p : Step → Bool) (x y z : World) (f : CallFault) → FallsShort p x y f → Goes p y z → FallsShort p x z f
+pub short_more : {kind : Step → Bool} (p : Step → Bool) (x y z : World) (f : CallFault) → CameToNothing p kind x y f → Goes p y z → CameToNothing p kind x z f
 short_more p x y z f s a = record {
   before = s.before;
   first = s.first;
   step = s.step;
   own = s.own;
-  settling = s.settling;
+  of_kind = s.of_kind;
   gives = s.gives;
   more = goes_then p s.before y z s.more a;
 }
 
-pub short_after : (p : Step → Bool) (x y z : World) (f : CallFault) → Goes p x y → FallsShort p y z f → FallsShort p x z f
+pub short_after : {kind : Step → Bool} (p : Step → Bool) (x y z : World) (f : CallFault) → Goes p x y → CameToNothing p kind y z f → CameToNothing p kind x z f
 short_after p x y z f a s = record {
   before = s.before;
   first = goes_then p x y s.before a s.first;
   step = s.step;
   own = s.own;
-  settling = s.settling;
+  of_kind = s.of_kind;
   gives = s.gives;
   more = s.more;
 }
 
-pub short_wider : (p q : Step → Bool) (x y : World) (f : CallFault) → ((s : Step) → p s ≡ true → q s ≡ true) → FallsShort p x y f
-    → FallsShort q x y f
+pub short_wider : {kind : Step → Bool} (p q : Step → Bool) (x y : World) (f : CallFault) → ((s : Step) → p s ≡ true → q s ≡ true) → CameToNothing p kind x y f
+    → CameToNothing q kind x y f
 short_wider p q x y f w s = record {
   before = s.before;
   first = goes_wider p q x s.before w s.first;
   step = s.step;
   own = w s.step s.own;
-  settling = s.settling;
+  of_kind = s.of_kind;
   gives = s.gives;
   more = goes_wider p q s.before y w s.more;
 }

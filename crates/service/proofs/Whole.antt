@@ -15,10 +15,14 @@ use Rattle.run_laws.proofs.Begun.{begun_once}
 use Rattle.run_laws.proofs.Ended.{committed_begun}
 use Rattle.run_laws.proofs.Growth.{any_stays}
 use Rattle.run_laws.proofs.Names.{clash, eqb_self, same_name_self, same_name_true}
+use Rattle.service.specs.Outcomes.{has_committed}
 use Rattle.service.specs.declared.fault.CallFault.{CallFault}
-use Rattle.service.specs.Transacting.{AllSettled, Begins, EndsTop, FallsShort, Goes, IsSettled, IsTransacted, Works, begins_at, belongs, ends_top, has_number, is_below, works_in}
+use Rattle.service.specs.declared.outcome.Cause.TheVariants.{Vote, Step as ByStep}
+use Rattle.service.specs.declared.outcome.Outcome.TheVariants.{Aborted}
+use Rattle.service.specs.declared.outcome.Outcome.{Outcome}
+use Rattle.service.specs.Transacting.{AllSettled, Begins, CameToNothing, EndsTop, FallsShort, Goes, IsSettled, IsTransacted, Works, begins_at, belongs, ends_top, has_number, is_below, is_concluding, is_voted_down, works_in}
 use Rattle.service.proofs.Concluded.{told_at}
-use Rattle.service.proofs.Going.{begun_at, begun_only, end_crashes_not, goes_grows, goes_then, goes_wider, kept, prefix_self, settled_stays, short_in, short_then, work_commits_not}
+use Rattle.service.proofs.Going.{begun_at, begun_only, end_crashes_not, goes_grows, goes_then, goes_wider, kept, prefix_self, settled_stays, short_after, short_in, short_then, short_wider, work_commits_not}
 
 -- ---- what steps of a transaction leave alone
 
@@ -72,7 +76,9 @@ end_belongs t step h = or_right (works_in t step) _ h
 
 -- ---- a transaction
 
-module _ (home : ℕ) (top : Name) (guardians : List ℕ) (w x y z : World) (mid left : Option CallFault) (committed : Bool)
+module _ {T E : Type 0} (home : ℕ) (top : Name) (guardians : List ℕ) (w x y z : World) (mid left : Option CallFault) (committed : Bool)
+    (outcome : Outcome T E) (said : has_committed outcome ≡ committed) (down : outcome ≡ Aborted Vote → is_voted_down top z.past ≡ true)
+    (stopped : (fault : CallFault) → outcome ≡ Aborted (ByStep fault) → CameToNothing (ends_top top) is_concluding y z fault)
     (begins_there : Begins home top w x) (reached : has_number guardians home ≡ true) (works : Works top x y None mid)
     (ends : EndsTop top guardians y z mid left committed) where
   there : x ≡ record { lists = w.lists; past = record { step = steps.Top home; answer = answers.Began (top ∷ []) } ∷ w.past }
@@ -95,7 +101,7 @@ module _ (home : ℕ) (top : Name) (guardians : List ℕ) (w x y z : World) (mid
       (sym begins_there.answer, refl, run)
       (committed_begun (opening_in w.lists) w.past top run h)))
 
-  says : IsRun (opening_in w.lists) w.past → is_committed top z.past ≡ committed
+  says : IsRun (opening_in w.lists) w.past → is_committed top z.past ≡ has_committed outcome
   says run =
       ends.concludes.says
       ∙ ap (λ b. committed || b)
@@ -103,6 +109,7 @@ module _ (home : ℕ) (top : Name) (guardians : List ℕ) (w x y z : World) (mid
       ∙ ap (λ (v : World). is_committed top v.past) there
       ∙ fresh run)
       ∙ or_none committed
+      ∙ sym said
 
   top_settled : left ≡ None → IsSettled top z
   top_settled h = record {
@@ -150,13 +157,15 @@ module _ (home : ℕ) (top : Name) (guardians : List ℕ) (w x y z : World) (mid
       (λ f e. short_in (ends_top top) (belongs top) y z mid f (end_belongs top) (ends.short f e))
       fault h)
 
-  pub is_transacted : IsTransacted home w z committed left
+  pub is_transacted : IsTransacted home w z (record { outcome = outcome; left = left })
   is_transacted = record {
     top = top;
     begun = x;
     begins = begins_there;
     goes = goes;
     says = says;
+    vote = down;
+    step = λ fault h. short_after (belongs top) x y z fault work_goes (short_wider (ends_top top) (belongs top) y z fault (end_belongs top) (stopped fault h));
     settled = all_settled;
     voters = voters_told;
     short = falls_short;

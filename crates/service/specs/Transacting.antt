@@ -2,6 +2,7 @@
 use Rattle.std.specs.Prelude.{◌≡◌, ◌⊎◌, ℕ, Bool, true, false, not, ◌==◌, ◌&&◌, ◌||◌, List, [], ◌∷◌, Option, Some, None, Err}
 use Rattle.std.specs.List.{list_all, list_any}
 use Rattle.action_names.specs.Names.{Name, is_prefix, parent_of, same_name}
+use Rattle.run_model.specs.declared.answer.Answer.{Answer}
 use Rattle.run_model.specs.declared.answer.Answer.TheVariants as answers
 use Rattle.run_model.specs.declared.history.Event.{Event}
 use Rattle.run_model.specs.declared.step.Step.{Step}
@@ -13,7 +14,11 @@ use Rattle.run_model.specs.Runs.{IsRun, World, history_from, world_after}
 use Rattle.run_model.specs.Telling.{told_since_crash}
 use Rattle.run_model.specs.Votes.{has_voted}
 use Rattle.service.specs.Calling.{Gives}
+use Rattle.service.specs.Outcomes.{has_committed}
 use Rattle.service.specs.declared.fault.CallFault.{CallFault}
+use Rattle.service.specs.declared.outcome.Cause.TheVariants.{Vote, Step as ByStep}
+use Rattle.service.specs.declared.outcome.Outcome.TheVariants.{Aborted}
+use Rattle.service.specs.declared.outcome.Transacted.{Transacted}
 
 -- ---- steps of a transaction
 
@@ -62,6 +67,22 @@ is_settling (steps.Abort b) = true
 is_settling (steps.Tell g b) = true
 is_settling _ = false
 
+-- a top action is not decided if no such step happens
+abbrev pub is_concluding : Step → Bool
+is_concluding (steps.Close b) = true
+is_concluding (steps.Prepare g b) = true
+is_concluding (steps.Decide b) = true
+is_concluding _ = false
+
+-- a guardian votes no
+abbrev pub votes_no : Name → Step → Answer → Bool
+votes_no t (steps.Prepare g b) answers.VoteNo = same_name t b
+votes_no t step answer = false
+
+-- a guardian has voted no
+abbrev pub is_voted_down : Name → List Event → Bool
+is_voted_down t past = list_any (λ (e : Event). votes_no t e.step e.answer) past
+
 -- ---- what steps leave
 
 -- Steps of this kind, one after another, lead from one run to the other.
@@ -97,16 +118,21 @@ abbrev pub AllSettled : World → World → Type 0
 AllSettled old new = (b : Name) → is_begun b new.past ≡ true → is_begun b old.past ≡ false
     → IsSettled b new
 
--- A step of this kind was to settle something, and came to nothing for this reason.
-pub record FallsShort (mine : Step → Bool) (old new : World) (fault : CallFault) : Type 0 where
+-- Of these steps one of this kind came to nothing, for this reason.
+pub record CameToNothing (mine kind : Step → Bool) (old new : World)
+    (fault : CallFault) : Type 0 where
   pub before : World
   pub first : Goes mine old before
   pub step : Step
   pub own : mine step ≡ true
-  pub settling : is_settling step ≡ true
+  pub of_kind : kind step ≡ true
   pub gives : Gives {T = Unit {0}} (λ _ answer. ⊥)
       (answer_of (opening_in before.lists) step before.past) (Err fault)
   pub more : Goes mine before new
+
+-- one that was to settle something did
+abbrev pub FallsShort : (Step → Bool) → World → World → CallFault → Type 0
+FallsShort mine old new fault = CameToNothing mine is_settling old new fault
 
 -- Steps of this kind that begin nothing. Unless one came to nothing, it is so afterwards; the first fault is kept.
 pub record Settles (mine : Step → Bool) (old new : World) (was is : Option CallFault)
@@ -178,33 +204,44 @@ pub record Begins (home : ℕ) (top : Name) (old new : World) : Type 0 where
       ≡ answers.Began (top ∷ [])
   pub after : new ≡ world_after old (steps.Top home) (answers.Began (top ∷ []))
 
--- A transaction at this home: whether its top action committed, and why something is not settled, if so.
-pub record IsTransacted (home : ℕ) (old new : World) (committed : Bool)
-    (left : Option CallFault) : Type 0 where
+-- The top action of a transaction began at this home, and the transaction ended so.
+pub record IsTransacted {T E : Type 0} (home : ℕ) (old new : World)
+    (ended : Transacted T E) : Type 0 where
   pub top : Name
   pub begun : World
   pub begins : Begins home top old begun
   -- the run goes on by steps of this transaction alone
   pub goes : Goes (belongs top) begun new
   -- it says committed exactly if its top action has committed
-  pub says : IsRun (opening_in old.lists) old.past → is_committed top new.past ≡ committed
+  pub says : IsRun (opening_in old.lists) old.past
+      → is_committed top new.past ≡ has_committed ended.outcome
+  -- it says that a vote is the cause only if a guardian voted no
+  pub vote : ended.outcome ≡ Aborted Vote → is_voted_down top new.past ≡ true
+  -- and that a step is only if one that was to close, to vote or to decide came to nothing for this reason
+  pub step : (fault : CallFault) → ended.outcome ≡ Aborted (ByStep fault)
+      → CameToNothing (belongs top) is_concluding begun new fault
   -- each action that it began has ended, and the guardian at which that began was told
-  pub settled : left ≡ None → AllSettled old new
+  pub settled : ended.left ≡ None → AllSettled old new
   -- each guardian that voted was told
-  pub voters : left ≡ None → (g : ℕ) → has_voted g top new.past ≡ true
+  pub voters : ended.left ≡ None → (g : ℕ) → has_voted g top new.past ≡ true
       → has_voted g top old.past ≡ false → told_since_crash g top new.past ≡ true
   -- else a step that was to end or tell something came to nothing, for this reason
-  pub short : (fault : CallFault) → left ≡ Some fault → FallsShort (belongs top) begun new fault
+  pub short : (fault : CallFault) → ended.left ≡ Some fault
+      → FallsShort (belongs top) begun new fault
   -- nobody else's action is ended
   pub others : (b : Name) → is_prefix top b ≡ false
       → is_ended b new.past ≡ is_ended b old.past
 
--- It did not begin, and nothing has happened.
-pub record IsUnbegun (old new : World) (committed : Bool) (left : Option CallFault) : Type 0 where
+-- It did not begin, for this reason, and nothing has happened.
+pub record IsUnbegun {T E : Type 0} (home : ℕ) (old new : World)
+    (ended : Transacted T E) : Type 0 where
+  pub fault : CallFault
+  pub aborted : ended.outcome ≡ Aborted (ByStep fault)
+  pub gives : Gives {T = Unit {0}} (λ _ answer. ⊥)
+      (answer_of (opening_in old.lists) (steps.Top home) old.past) (Err fault)
   pub same : new ≡ old
-  pub uncommitted : committed ≡ false
-  pub none : left ≡ None
+  pub none : ended.left ≡ None
 
-abbrev pub Transacts : ℕ → World → World → Bool → Option CallFault → Type 0
-Transacts home old new committed left =
-    ∥ IsUnbegun old new committed left ⊎ IsTransacted home old new committed left ∥₁
+abbrev pub Transacts : {T E : Type 0} → ℕ → World → World → Transacted T E → Type 0
+Transacts home old new ended = ∥ IsUnbegun home old new ended
+    ⊎ IsTransacted home old new ended ∥₁

@@ -1,11 +1,15 @@
 //! The top action of a transaction: how it begins and how it is ended.
-ghost use Rattle.std.specs.Prelude.{◌≡◌, [], ◌∷◌, false, true, IfErr, IfOk, None};
+ghost use Rattle.std.specs.Prelude.{◌≡◌, [], ◌∷◌, false, true, IfErr, IfOk, None, Ok, Err};
+ghost use Rattle.std.specs.Result.{is_ok};
 ghost use Rattle.run_model.specs.Actions.{is_ended};
 ghost use Rattle.run_model.specs.declared.step.Step.TheVariants as steps;
 ghost use Rattle.service.specs.Calling.{IsCall};
 ghost use Rattle.service.specs.Opening.{BeganAt};
 ghost use Rattle.service.specs.Outcomes.{has_committed, is_decided};
-ghost use Rattle.service.specs.Transacting.{AllTold, Concludes, EndsTop, Settles, settles};
+ghost use Rattle.service.specs.Transacting.{AllTold, CameToNothing, Concludes, EndsTop, Settles, ends_top, is_concluding, is_voted_down, settles};
+ghost use Rattle.service.specs.declared.fault.CallFault.{CallFault};
+ghost use Rattle.service.specs.declared.outcome.Cause.TheVariants.{Vote, Step as ByStep};
+ghost use Rattle.service.specs.declared.outcome.Outcome.TheVariants.{Aborted};
 
 use crate::fault::CallFault;
 use crate::outcome::{Cause, Outcome};
@@ -46,6 +50,10 @@ pub(crate) fn end_top<W: MakesSteps + Drop>(
     ensures ends { EndsTop at.action at.reached.items (W.run service.old.world)
         (W.run service.new.world) at.left result.1 (is_decided result.0) }
     ensures asked { commits ≡ false → is_decided result.0 ≡ false }
+    ensures down { result.0 ≡ Ok false → commits ≡ true
+        → is_voted_down at.action (W.run service.new.world).past ≡ true }
+    ensures stopped { IfErr result.0 (CameToNothing (ends_top at.action) is_concluding
+        (W.run service.old.world) (W.run service.new.world)) }
 {
     let Place {
         action,
@@ -75,6 +83,10 @@ fn decide_if<W: MakesSteps + Drop>(
     ensures concludes { Concludes top.now guardians.now (W.run service.old.world)
         (W.run service.new.world) (is_decided result) }
     ensures asked { commits ≡ false → is_decided result ≡ false }
+    ensures down { result ≡ Ok false → commits ≡ true
+        → is_voted_down top.now (W.run service.new.world).past ≡ true }
+    ensures stopped { IfErr result (CameToNothing (ends_top top.now) is_concluding
+        (W.run service.old.world) (W.run service.new.world)) }
 {
     if commits {
         service.vote_and_decide(top, guardians)
@@ -122,7 +134,9 @@ pub(crate) fn outcome<T: Drop, E: Drop>(
     decided: Result<bool, CallFault>,
 ) -> Outcome<T, E>
     requires { IfErr done (λ _. is_decided decided ≡ false) }
-    ensures { has_committed result ≡ is_decided decided }
+    ensures committed { has_committed result ≡ is_decided decided }
+    ensures vote { result ≡ Aborted Vote → (is_ok done ≡ true) × (decided ≡ Ok false) }
+    ensures step { (fault : CallFault) → result ≡ Aborted (ByStep fault) → decided ≡ Err fault }
 {
     match (done, decided) {
         (Ok(value), Ok(true)) => Outcome::Committed(value),

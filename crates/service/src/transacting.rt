@@ -1,5 +1,5 @@
 //! Transactions of a service.
-ghost use Rattle.std.specs.Prelude.{◌≡◌, true};
+ghost use Rattle.std.specs.Prelude.{◌≡◌, false, true, IfErr, Ok};
 
 use crate::fault::CallFault;
 use crate::outcome::{Cause, Outcome, Transacted};
@@ -12,8 +12,8 @@ use std::marker::Brand;
 use stepping::MakesSteps;
 
 impl<W: MakesSteps + Drop> Service<W> {
-    ghost use Rattle.service.specs.Outcomes.{has_committed, is_decided};
-    ghost use Rattle.service.specs.Transacting.{AllVoted, Concludes, Transacts};
+    ghost use Rattle.service.specs.Outcomes.{is_decided};
+    ghost use Rattle.service.specs.Transacting.{AllVoted, CameToNothing, Concludes, Transacts, ends_top, is_concluding, is_voted_down};
 
     /// Runs the work in a new top action at this home, and then ends the action by two phases: it commits if the work
     /// succeeds and all guardians that it reached vote yes. Else it is aborted. Each of these guardians is told.
@@ -23,8 +23,7 @@ impl<W: MakesSteps + Drop> Service<W> {
         home: u32,
         work: &mut J,
     ) -> Transacted<J::Value, J::Error>
-        ensures { Transacts home (W.run self.old.world) (W.run self.new.world)
-            (has_committed result.outcome) result.left }
+        ensures { Transacts home (W.run self.old.world) (W.run self.new.world) result }
     {
         let mut at = match begin_top(self, alloc, home) {
             Ok(at) => at,
@@ -54,6 +53,9 @@ impl<W: MakesSteps + Drop> Service<W> {
             (W.run self.new.world) (is_decided result) }
         ensures voted { is_decided result ≡ true
             → AllVoted top.now guardians.now (W.run self.new.world) }
+        ensures down { result ≡ Ok false → is_voted_down top.now (W.run self.new.world).past ≡ true }
+        ensures stopped { IfErr result (CameToNothing (ends_top top.now) is_concluding
+            (W.run self.old.world) (W.run self.new.world)) }
     {
         self.close(top)?;
         if !self.poll(top, guardians)? {
