@@ -1,3 +1,4 @@
+pub mod Again
 pub mod Calls
 pub mod Concluded
 pub mod Ended

@@ -1,10 +1,10 @@
 //! The call that a row asks for.
 use crate::came::Came;
 use crate::reading::{kinds, name, object, small_number, small_numbers, value};
-use crate::works::Items;
+use crate::works::{FailingAtFirst, Items};
 use rows::{Row, RowFault, Words};
 use run_model::Op;
-use service::{Service, change, get, is, set, value_of};
+use service::{Retries, Service, change, get, is, set, value_of};
 use std::alloc::Global;
 use values::ValueFault;
 use world::{PlainStable, World};
@@ -29,6 +29,17 @@ pub(crate) fn ask(alloc: Global, service: &mut Called, row: &Row<'_>) -> Result<
             let home = small_number(&mut words)?;
             let text = words.rest();
             Came::transacted(service.transact(alloc, home, &mut Items { alloc, text }))
+        }
+        "transact_with_retries" => {
+            let retries = Retries::up_to(small_number(&mut words)?);
+            let failures = small_number(&mut words)?;
+            let home = small_number(&mut words)?;
+            let text = words.rest();
+            let mut work = FailingAtFirst {
+                failures,
+                items: Items { alloc, text },
+            };
+            Came::transacted(service.transact_with_retries(alloc, home, &retries, &mut work))
         }
         "crash" => Came::done(service.crash(small_number(&mut words)?)),
         "recover" => Came::done(service.recover(small_number(&mut words)?)),

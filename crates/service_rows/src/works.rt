@@ -3,8 +3,9 @@ ghost use Rattle.std.specs.Prelude.{◌≡◌};
 
 use crate::asked::operation;
 use crate::reading::object;
+use layer_contracts::Fault;
 use rows::{Row, RowFault};
-use service::{Begun, CallFault, Transaction, Work};
+use service::{Begun, CallFault, MayPass, Obstacle, Transaction, Work};
 use std::alloc::Global;
 use stepping::MakesSteps;
 
@@ -14,6 +15,13 @@ use stepping::MakesSteps;
 pub(crate) struct Items<'a> {
     pub(crate) alloc: Global,
     pub(crate) text: &'a str,
+}
+
+/// Items that are made, but so often with an error behind them as if memory had run out.
+#[derive(Drop)]
+pub(crate) struct FailingAtFirst<'a> {
+    pub(crate) failures: u32,
+    pub(crate) items: Items<'a>,
 }
 
 /// One item that is an operation or an error.
@@ -45,6 +53,21 @@ impl From<CallFault> for WorkFault {
     }
 }
 
+impl MayPass for WorkFault {
+    ghost use Rattle.std.specs.Prelude.{None};
+    ghost use Rattle.service.specs.Retrying.{fault_obstacle};
+    ghost use Rattle.service_rows.specs.declared.works.WorkFault.TheVariants.{Row, Call, Asked};
+
+    ghost obstacle = { elim [ Row _ ↦ None | Call fault ↦ fault_obstacle fault | Asked ↦ None ] };
+
+    fn obstacle(&self) -> Option<Obstacle> {
+        match self {
+            WorkFault::Call(fault) => fault.obstacle(),
+            WorkFault::Row(_) | WorkFault::Asked => None,
+        }
+    }
+}
+
 impl<W: MakesSteps + Drop> Work<W> for Items<'_> {
     type Value = ();
 
@@ -56,6 +79,23 @@ impl<W: MakesSteps + Drop> Work<W> for Items<'_> {
             Some((first, second)) => {
                 make(self.alloc, tx, first)?;
                 make(self.alloc, tx, second)
+            }
+        }
+    }
+}
+
+impl<W: MakesSteps + Drop> Work<W> for FailingAtFirst<'_> {
+    type Value = ();
+
+    type Error = WorkFault;
+
+    fn run<B: Begun>(&mut self, tx: &mut Transaction<'_, W, B>) -> Result<(), WorkFault> {
+        self.items.run(tx)?;
+        match self.failures.checked_sub(1) {
+            None => Ok(()),
+            Some(left) => {
+                self.failures = left;
+                Err(WorkFault::Call(CallFault::Failed(Fault::Memory)))
             }
         }
     }

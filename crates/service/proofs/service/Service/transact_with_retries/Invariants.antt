@@ -1,0 +1,9 @@
+use Rattle.service.specs.Retrying.{goes_on}
+use Rattle.service.proofs.Again.{GoesOn}
+use Rattle.service.proofs.service.Service.transact_with_retries.Given as goal
+
+-- each attempt so far is to be followed by another
+abbrev pub invariant-loop : goal.invariant-loop
+invariant-loop g l =
+    GoesOn {T = g.row.J-Value.Denot} (goes_on g.J.Error.MayPass.obstacle l.retries) l.home l.counter (g.W.MakesSteps.run l.fn.self.world)
+    (g.W.MakesSteps.run l.self.world)
