@@ -16,18 +16,24 @@ static argus_world world;
 static const char *folder;
 static char answer[256];
 
-/* Keeps what the step changed, and reads its answer. */
-static void made(uint32_t code) {
-    size_t n = 0;
-    if (code == ARGUS_DONE) code = argus_keep(&world, folder);
-    if (code == ARGUS_DONE) code = argus_answer(&world, answer, sizeof answer - 1, &n);
-    if (code == ARGUS_DONE && (strncmp(answer, "refused", 7) == 0 || strncmp(answer, "waits", 5) == 0)) code = ARGUS_BAD;
-    if (code != ARGUS_DONE) {
-        fprintf(stderr, "code %" PRIu32 "\n", code);
-        exit(1);
-    }
-    answer[n] = 0;
+static void check(uint32_t code) {
+    if (code == ARGUS_DONE) return;
+    fprintf(stderr, "code %" PRIu32 "\n", code);
+    exit(1);
 }
+
+/* Keeps what the step changed, and reads its answer. Zero if the step has to wait. */
+static int tried(uint32_t code) {
+    size_t n = 0;
+    check(code);
+    check(argus_keep(&world, folder));
+    check(argus_answer(&world, answer, sizeof answer - 1, &n));
+    answer[n] = 0;
+    check(strncmp(answer, "refused", 7) == 0 ? ARGUS_BAD : ARGUS_DONE);
+    return strncmp(answer, "waits", 5) != 0;
+}
+
+static void made(uint32_t code) { check(tried(code) ? ARGUS_DONE : ARGUS_BAD); }
 
 /* The action that the step has begun. */
 static void began(uint32_t code, char name[32]) {
@@ -39,36 +45,46 @@ static void tell_all(const char *action) {
     for (uint32_t branch = 1; branch <= 2; branch++) made(argus_tell(&world, branch, action, strlen(action)));
 }
 
-static long long get(const char *call, account from) {
-    made(argus_op(&world, call, strlen(call), from.branch, from.number, "get balance", 11));
-    return strtoll(answer + strlen("granted "), NULL, 10);
-}
-
 static void end_call(const char *call, account of, int commits) {
     made(commits ? argus_commit(&world, call, strlen(call)) : argus_abort(&world, call, strlen(call)));
     made(argus_tell(&world, of.branch, call, strlen(call)));
 }
 
-/* A handler: it adds the amount to the balance, and is aborted if too little is there. */
-static int change(const char *top, account of, long long amount) {
-    char call[32], wanted[64];
-    began(argus_call(&world, top, strlen(top), of.branch), call);
-    long long balance = get(call, of) + amount;
-    if (balance >= 0) {
-        int n = snprintf(wanted, sizeof wanted, "set balance %lld", balance);
-        made(argus_op(&world, call, strlen(call), of.branch, of.number, wanted, (size_t)n));
-    }
-    end_call(call, of, balance >= 0);
-    return balance >= 0;
+static uint32_t op(const char *call, account of, const char *wanted) {
+    return argus_op(&world, call, strlen(call), of.branch, of.number, wanted, strlen(wanted));
 }
 
-/* Moves the money in a new top action. If money is lacking, the top action is aborted. */
-static int move(account from, account to, long long amount, char top[32]) {
+/* The balance that was read. */
+static long long balance(void) { return strtoll(answer + strlen("granted "), NULL, 10); }
+
+/* Adds the amount to the balance, or gives why not. */
+static const char *add(const char *call, account of, long long amount) {
+    char wanted[64];
+    if (!tried(op(call, of, "get balance"))) return "waits for other actions";
+    if (balance() + amount < 0) return "too little money";
+    snprintf(wanted, sizeof wanted, "set balance %lld", balance() + amount);
+    return tried(op(call, of, wanted)) ? NULL : "waits for other actions";
+}
+
+/* A handler: it adds the amount to the balance. If that cannot be, it is aborted, and gives why. */
+static const char *change(const char *top, account of, long long amount) {
+    char call[32];
+    began(argus_call(&world, top, strlen(top), of.branch), call);
+    const char *why = add(call, of, amount);
+    end_call(call, of, why == NULL);
+    return why;
+}
+
+/* Moves the money in a new top action. If a handler is aborted, so is the top action, and this gives why. */
+static const char *move(account from, account to, long long amount, char top[32]) {
     began(argus_top(&world, from.branch), top);
-    if (change(top, from, -amount) && change(top, to, amount)) return 1;
-    made(argus_abort(&world, top, strlen(top)));
-    tell_all(top);
-    return 0;
+    const char *why = change(top, from, -amount);
+    if (why == NULL) why = change(top, to, amount);
+    if (why != NULL) {
+        made(argus_abort(&world, top, strlen(top)));
+        tell_all(top);
+    }
+    return why;
 }
 
 /* Closes the top action, and lets the branches vote. A no ends the votes. */
@@ -89,20 +105,26 @@ static int commit(const char *top) {
     return yes;
 }
 
-static const char *settle(int moved, const char *top) {
-    if (!moved) return "aborted for want of money";
-    return commit(top) ? "paid" : "aborted by a vote";
+static void pay(account from, account to, int amount) {
+    char top[32];
+    const char *why = move(from, to, amount, top);
+    printf("%s pays %s %d: ", from.owner, to.owner, amount);
+    if (why != NULL) printf("aborted, %s\n", why);
+    else printf("%s\n", commit(top) ? "paid" : "aborted by a vote");
 }
 
-static void pay(account from, account to, int amount, int crashes) {
+/* The payee's branch crashes between the two phases. Before that, another payment has to wait. */
+static void pay_over_a_crash(account from, account to, int amount) {
     char top[32];
-    int moved = move(from, to, amount, top);
-    if (crashes) {
-        made(argus_crash(&world, to.branch));
-        made(argus_recover(&world, to.branch));
-        printf("branch %" PRIu32 " crashes and recovers\n", to.branch);
-    }
-    printf("%s pays %s %d: %s\n", from.owner, to.owner, amount, settle(moved, top));
+    if (move(from, to, amount, top) != NULL || !prepare(top)) exit(1);
+    printf("%s pays %s %d: both branches vote yes\n", from.owner, to.owner, amount);
+    pay(ben, dan, 45);
+    made(argus_crash(&world, to.branch));
+    made(argus_recover(&world, to.branch));
+    printf("branch %" PRIu32 " crashes and recovers\n", to.branch);
+    made(argus_decide(&world, top, strlen(top)));
+    tell_all(top);
+    printf("%s pays %s %d: paid\n", from.owner, to.owner, amount);
 }
 
 static void show(void) {
@@ -112,7 +134,8 @@ static void show(void) {
     began(argus_top(&world, 1), top);
     for (int i = 0; i < 4; i++) {
         began(argus_call(&world, top, strlen(top), all[i].branch), call);
-        balances[i] = get(call, all[i]);
+        made(op(call, all[i], "get balance"));
+        balances[i] = balance();
         end_call(call, all[i], 1);
     }
     if (!commit(top)) exit(1);
@@ -125,17 +148,16 @@ int main(int argc, char **argv) {
     folder = argv[1];
     uint32_t code = argus_over(&world, folder, setup, sizeof setup - 1);
     if (code == ARGUS_DONE) {
-        pay(ann, cleo, 30, 0);
-        pay(ben, dan, 45, 0);
-        pay(cleo, ben, 25, 1);
-        pay(cleo, ben, 25, 0);
-        if (!move(ben, dan, 45, top) || !prepare(top)) return 1;
+        pay(ann, cleo, 30);
+        pay(ben, dan, 45);
+        pay_over_a_crash(cleo, ben, 25);
+        if (move(ben, dan, 45, top) != NULL || !prepare(top)) return 1;
         printf("the bank stops before ben pays dan 45 is decided, and opens again\n");
         fflush(stdout);
         _exit(0);
     }
     if (code != ARGUS_FILES || argus_reopen_folder(&world, folder, setup, sizeof setup - 1) != ARGUS_DONE) return 1;
-    pay(ben, dan, 45, 0);
+    pay(ben, dan, 45);
     show();
     return argus_close(&world) != ARGUS_DONE;
 }

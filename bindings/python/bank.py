@@ -13,13 +13,19 @@ BRANCHES = (1, 2)
 ACCOUNTS = {"ann": (1, 1), "ben": (1, 2), "cleo": (2, 1), "dan": (2, 2)}
 
 
+class Aborted(Exception):
+    """Why a payment is aborted."""
+
+
 class Bank:
     def __init__(self, world):
         self.world = world
 
     def made(self, answer):
-        if answer.kind in ("refused", "waits"):
+        if answer.kind == "refused":
             raise RuntimeError(answer.line)
+        if answer.kind == "waits":
+            raise Aborted("waits for other actions")
         return answer.words
 
     def tell_all(self, action):
@@ -34,22 +40,29 @@ class Bank:
         self.made(self.world.tell(branch, call))
 
     def change(self, top, account, amount):
-        """A handler: it adds the amount to the balance, and is aborted if too little is there."""
+        """A handler: it adds the amount to the balance, and is aborted if too little is there or if it has to wait."""
         (call,) = self.made(self.world.call(top, account[0]))
-        balance = self.get(call, account) + amount
-        if balance >= 0:
+        try:
+            balance = self.get(call, account) + amount
+            if balance < 0:
+                raise Aborted("too little money")
             self.made(self.world.op(call, *account, f"set balance {balance}"))
-        self.end_call(call, account[0], balance >= 0)
-        return balance >= 0
+        except Aborted:
+            self.end_call(call, account[0], False)
+            raise
+        self.end_call(call, account[0], True)
 
     def move(self, payer, payee, amount):
-        """Moves the money in a new top action. If money is lacking, the top action is aborted, and there is none."""
+        """Moves the money in a new top action. If a handler is aborted, so is the top action."""
         (top,) = self.made(self.world.top(ACCOUNTS[payer][0]))
-        if self.change(top, ACCOUNTS[payer], -amount) and self.change(top, ACCOUNTS[payee], amount):
-            return top
-        self.made(self.world.abort(top))
-        self.tell_all(top)
-        return None
+        try:
+            self.change(top, ACCOUNTS[payer], -amount)
+            self.change(top, ACCOUNTS[payee], amount)
+        except Aborted:
+            self.made(self.world.abort(top))
+            self.tell_all(top)
+            raise
+        return top
 
     def prepare(self, top):
         """Closes the top action, and lets the branches vote. A no ends the votes."""
@@ -63,15 +76,27 @@ class Bank:
         self.tell_all(top)
         return yes
 
-    def pay(self, payer, payee, amount, crashes=False):
-        top = self.move(payer, payee, amount)
-        if crashes:
-            branch = ACCOUNTS[payee][0]
-            self.made(self.world.crash(branch))
-            self.made(self.world.recover(branch))
-            print(f"branch {branch} crashes and recovers")
-        outcome = "aborted for want of money" if top is None else "paid" if self.commit(top) else "aborted by a vote"
+    def pay(self, payer, payee, amount):
+        try:
+            top = self.move(payer, payee, amount)
+            outcome = "paid" if self.commit(top) else "aborted by a vote"
+        except Aborted as why:
+            outcome = f"aborted, {why}"
         print(f"{payer} pays {payee} {amount}: {outcome}")
+
+    def pay_over_a_crash(self, payer, payee, amount):
+        """The payee's branch crashes between the two phases. Before that, another payment has to wait."""
+        top = self.move(payer, payee, amount)
+        assert self.prepare(top)
+        print(f"{payer} pays {payee} {amount}: both branches vote yes")
+        self.pay("ben", "dan", 45)
+        branch = ACCOUNTS[payee][0]
+        self.made(self.world.crash(branch))
+        self.made(self.world.recover(branch))
+        print(f"branch {branch} crashes and recovers")
+        self.made(self.world.decide(top))
+        self.tell_all(top)
+        print(f"{payer} pays {payee} {amount}: paid")
 
     def show(self):
         (top,) = self.made(self.world.top(1))
@@ -89,8 +114,7 @@ def first(folder):
     bank = Bank(argus.World.over(folder, SETUP))
     bank.pay("ann", "cleo", 30)
     bank.pay("ben", "dan", 45)
-    bank.pay("cleo", "ben", 25, crashes=True)
-    bank.pay("cleo", "ben", 25)
+    bank.pay_over_a_crash("cleo", "ben", 25)
     assert bank.prepare(bank.move("ben", "dan", 45))
     print("the bank stops before ben pays dan 45 is decided, and opens again", flush=True)
     os._exit(0)

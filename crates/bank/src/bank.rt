@@ -1,10 +1,12 @@
-//! The bank: payments between two branches, made by calls of a service.
-
-use crate::accounts::{Account, Outcome, Payment};
-use crate::fault::BankFault;
-use run_model::{Name, Reply, Setup, Value};
-use service::{Service, get, set};
-use std::alloc::{AllocError, Global};
+//! The bank: a service of two branches. A file has what their stores hold, as a JSON array.
+use crate::payments::{BALANCE, Change, Payment, balance_in};
+use anyhow::{Context, Result, ensure};
+use run_model::{Name, Setup, Value};
+use service::{Outcome, Service, Transacted, Work, get, set};
+use std::fs;
+use std::fs::File;
+use std::io::Write;
+use store_texts::{read_stores, store_text};
 use world::{PlainStable, Stable, World};
 
 /// Two branches with two accounts each.
@@ -15,173 +17,119 @@ const SETUP: &str = "{\"guardians\":[\
 /// The branches, which are the guardians of the world.
 const BRANCHES: [u32; 2] = [1, 2];
 
-/// The field of an account.
-const BALANCE: &str = "balance";
+const FILE: &str = "bank.json";
 
-/// A world of two branches.
+const NEW_FILE: &str = "bank.json.new";
+
+/// The bank. What happened is in its file before anybody is told of it.
 #[derive(Drop)]
-pub(crate) struct Bank {
-    alloc: Global,
+pub(crate) struct Bank<'r> {
+    rt: &'r HostRuntime,
     service: Service<World<PlainStable>>,
 }
 
-impl Bank {
+impl<'r> Bank<'r> {
     /// The bank to which nothing has happened.
-    pub(crate) fn new(alloc: Global) -> Result<Bank, BankFault> {
-        let setup = Setup::read(alloc, SETUP.as_bytes())?;
-        let world = World::in_memory(alloc, setup)?;
-        let service = Service::over(world);
-        Ok(Bank { alloc, service })
+    pub(crate) fn open(rt: &'r HostRuntime) -> Result<Bank<'r>> {
+        let setup = Setup::read(rt.alloc(), SETUP.as_bytes())?;
+        let service = Service::over(World::in_memory(rt.alloc(), setup)?);
+        Ok(Bank { rt, service })
     }
 
-    /// Makes a payment, whole or not at all.
-    pub(crate) fn pay(&mut self, payment: Payment) -> Result<Outcome, BankFault> {
-        let moved = self.move_money(payment)?;
-        self.settle(moved)
+    /// The bank as its file has it. What was not decided is undone.
+    pub(crate) fn reopen(rt: &'r HostRuntime) -> Result<Bank<'r>> {
+        let setup = Setup::read(rt.alloc(), SETUP.as_bytes())?;
+        let stores = stores_in_file(rt)?;
+        ensure!(
+            stores.len() == setup.guardians(),
+            "not the file of this bank"
+        );
+        let opened = World::reopen(rt.alloc(), setup, stores);
+        let service = Service::over(opened.map_err(|(refused, _stores)| refused)?);
+        Ok(Bank { rt, service })
     }
 
-    /// Begins the top action of a payment and moves the money in it by two handler calls. If money is lacking, the
-    /// top action is aborted, and there is none.
-    pub(crate) fn move_money(&mut self, payment: Payment) -> Result<Option<Name>, BankFault> {
-        let top = self.begin(payment.from.branch)?;
-        if self.withdraw(&top, payment)? && self.deposit(&top, payment)? {
-            return Ok(Some(top));
+    /// Makes a transaction. All that it began has ended.
+    pub(crate) fn transact<J: Work<World<PlainStable>>>(
+        &mut self,
+        home: u32,
+        work: &mut J,
+    ) -> Result<Outcome<J::Value, J::Error>> {
+        let Transacted { outcome, left } = self.service.transact(self.rt.alloc(), home, work);
+        self.keep()?;
+        match left {
+            None => Ok(outcome),
+            Some(fault) => Err(fault.into()),
         }
-        self.service.abort(&top)?;
-        self.service.tell_all(&BRANCHES, &top)?;
-        Ok(None)
     }
 
-    /// Commits a payment whose money has been moved.
-    pub(crate) fn settle(&mut self, moved: Option<Name>) -> Result<Outcome, BankFault> {
-        let Some(top) = moved else {
-            return Ok(Outcome::LacksMoney);
-        };
-        Ok(if self.commit(&top)? {
-            Outcome::Paid
-        } else {
-            Outcome::VotedDown
-        })
-    }
-
-    /// Begins a top action at a branch.
-    pub(crate) fn begin(&mut self, branch: u32) -> Result<Name, BankFault> {
-        Ok(self.service.begin(branch)?)
-    }
-
-    /// Commits a top action by two phases, in which both branches vote. If one votes no, the action is aborted. Says
-    /// whether it is committed.
-    pub(crate) fn commit(&mut self, top: &Name) -> Result<bool, BankFault> {
-        Ok(self.service.commit_top(top, &BRANCHES)?)
-    }
-
-    /// Closes the top action of a payment, and lets both branches vote. Each keeps what it will have to write.
-    pub(crate) fn prepare(&mut self, top: &Name) -> Result<(), BankFault> {
-        self.service.close(top)?;
+    /// Makes a payment by single calls, up to the votes of both branches, and gives its top action.
+    pub(crate) fn vote_on(&mut self, payment: &Payment) -> Result<Name> {
+        let top = self.service.begin(payment.from.object.guardian)?;
+        let (take, give) = payment.changes();
+        self.change(&top, &take)?;
+        self.change(&top, &give)?;
+        self.service.close(&top)?;
         for branch in BRANCHES {
-            self.service.prepare(branch, top)?;
+            ensure!(self.service.prepare(branch, &top)?, "a branch votes no");
         }
+        self.keep()?;
+        Ok(top)
+    }
+
+    /// Calls the handler that makes the change.
+    fn change(&mut self, top: &Name, change: &Change) -> Result<()> {
+        let Change { alloc, object, .. } = *change;
+        let call = self.service.call(top, object.guardian)?;
+        let read = self.service.operate(&call, object, get(alloc, BALANCE)?)?;
+        let balance = Value::Int(change.after(balance_in(&read)?)?);
+        let writes = set(alloc, BALANCE, balance)?;
+        self.service.operate(&call, object, writes)?;
+        self.service.commit(&call)?;
+        self.service.tell(object.guardian, &call)?;
         Ok(())
     }
 
-    /// The whole bank stops, and is opened again from what its stores hold. What was not decided is undone.
-    pub(crate) fn restart(self) -> Result<Bank, BankFault> {
-        let Bank { alloc, service } = self;
-        let Service { world } = service;
-        let setup = world.setup().copy()?;
-        let stores = stores_of(alloc, &world)?;
-        if stores.len() != setup.guardians() {
-            return Err(BankFault::Setup);
-        }
-        let world = World::reopen(alloc, setup, stores).map_err(|(refused, _stores)| refused)?;
-        let service = Service::over(world);
-        Ok(Bank { alloc, service })
-    }
-
-    /// The balance of an account, read by a handler call of the top action.
-    pub(crate) fn balance(&mut self, top: &Name, account: Account) -> Result<i64, BankFault> {
-        let call = self.service.call(top, account.branch)?;
-        let balance = self.get(&call, account)?;
-        self.commit_call(&call, account)?;
-        Ok(balance)
+    /// Decides a payment on which both branches voted yes.
+    pub(crate) fn decide(&mut self, top: &Name) -> Result<()> {
+        self.service.decide(top)?;
+        self.service.tell_all(&BRANCHES, top)?;
+        self.keep()
     }
 
     /// A branch loses what it holds of actions that it has not prepared, and comes back.
-    pub(crate) fn crash(&mut self, branch: u32) -> Result<(), BankFault> {
+    pub(crate) fn crash(&mut self, branch: u32) -> Result<()> {
         self.service.crash(branch)?;
-        Ok(self.service.recover(branch)?)
+        self.service.recover(branch)?;
+        self.keep()
     }
 
-    /// A handler: it takes the amount from the payer, and is aborted if there is too little.
-    fn withdraw(&mut self, top: &Name, payment: Payment) -> Result<bool, BankFault> {
-        let call = self.service.call(top, payment.from.branch)?;
-        let balance = self.get(&call, payment.from)?;
-        self.change(&call, payment.from, balance.checked_sub(payment.amount))
-    }
-
-    /// A handler: it gives the amount to the payee, and is aborted if there is no room for it.
-    fn deposit(&mut self, top: &Name, payment: Payment) -> Result<bool, BankFault> {
-        let call = self.service.call(top, payment.to.branch)?;
-        let balance = self.get(&call, payment.to)?;
-        self.change(&call, payment.to, balance.checked_add(payment.amount))
-    }
-
-    /// Ends a handler call with the new balance if it may be one, and says whether it may.
-    fn change(
-        &mut self,
-        call: &Name,
-        account: Account,
-        balance: Option<i64>,
-    ) -> Result<bool, BankFault> {
-        match balance {
-            Some(balance) if balance >= 0 => {
-                self.set(call, account, balance)?;
-                self.commit_call(call, account)?;
-                Ok(true)
-            }
-            _ => {
-                self.service.abort(call)?;
-                self.service.tell(account.branch, call)?;
-                Ok(false)
-            }
+    /// Writes the file. A stop leaves the old file or the new one.
+    fn keep(&self) -> Result<()> {
+        let mut text = String::new(self.rt.alloc());
+        for branch in BRANCHES {
+            text.push(if text.is_empty() { '[' } else { ',' })?;
+            let guardian = self.service.world.guardian(branch);
+            let store = guardian.context("no such branch")?.store();
+            let kept = store.kept().context("a store has no content")?;
+            text.push_str(store_text(self.rt.alloc(), kept)?.as_str())?;
         }
-    }
-
-    /// Commits a handler call and tells its branch.
-    fn commit_call(&mut self, call: &Name, account: Account) -> Result<(), BankFault> {
-        self.service.commit(call)?;
-        self.service.tell(account.branch, call)?;
+        text.push(']')?;
+        let mut file = File::create(self.rt, NEW_FILE)?;
+        file.write_all(text.as_bytes())?;
+        file.sync_all()?;
+        fs::rename(self.rt, NEW_FILE, FILE)?;
+        File::open(self.rt, ".")?.sync_all()?;
         Ok(())
-    }
-
-    fn get(&mut self, call: &Name, account: Account) -> Result<i64, BankFault> {
-        let operation = get(self.alloc, BALANCE)?;
-        match self.service.operate(call, account.object(), operation)? {
-            Reply::Gives(Value::Int(balance)) => Ok(balance),
-            _ => Err(BankFault::NoAccount),
-        }
-    }
-
-    fn set(&mut self, call: &Name, account: Account, balance: i64) -> Result<(), BankFault> {
-        let operation = set(self.alloc, BALANCE, Value::Int(balance))?;
-        match self.service.operate(call, account.object(), operation)? {
-            Reply::Done => Ok(()),
-            _ => Err(BankFault::NoAccount),
-        }
     }
 }
 
-/// Stores that hold what those of the branches do.
-fn stores_of(alloc: Global, world: &World<PlainStable>) -> Result<Vec<PlainStable>, BankFault> {
-    let mut stores = Vec::new(alloc);
-    for branch in BRANCHES {
-        let Some(guardian) = world.guardian(branch) else {
-            return Err(BankFault::Setup);
-        };
-        if let Some(kept) = guardian.store().kept() {
-            let store = PlainStable::from(kept.copy(alloc)?);
-            stores.push(store).map_err(AllocError::from)?;
-        }
+/// Stores with the contents that the file has.
+fn stores_in_file(rt: &HostRuntime) -> Result<Vec<PlainStable>> {
+    let bytes = fs::read(rt, FILE)?;
+    let mut stores = Vec::new(rt.alloc());
+    for kept in read_stores(rt.alloc(), bytes.as_slice())? {
+        stores.push(PlainStable::from(kept))?;
     }
     Ok(stores)
 }

@@ -1,105 +1,108 @@
-//! `bank`, a service over a world: payments between two branches. One lacks money at first, a crash cuts one, and a
-//! stop of the whole system another. It prints how each payment ended, and then the balances.
+//! `bank`, a service over a world: payments between two branches. One lacks money, and one has to wait for another. A
+//! branch crashes between the phases of a third, and a stop of the whole bank undoes a fourth, which is made again.
 #![tactic(auto)]
 
-mod accounts;
 mod bank;
-mod fault;
+mod payments;
 
-use accounts::{Account, Payment};
+use anyhow::{Result, bail};
 use bank::Bank;
-use fault::BankFault;
-use std::process::ExitCode;
+use payments::{Account, Look, Payment};
+use run_model::ObjectId;
+use service::{Cause, Outcome};
 
 const ANN: Account = Account {
     owner: "ann",
-    branch: 1,
-    number: 1,
+    object: ObjectId {
+        guardian: 1,
+        number: 1,
+    },
 };
 
 const BEN: Account = Account {
     owner: "ben",
-    branch: 1,
-    number: 2,
+    object: ObjectId {
+        guardian: 1,
+        number: 2,
+    },
 };
 
 const CLEO: Account = Account {
     owner: "cleo",
-    branch: 2,
-    number: 1,
+    object: ObjectId {
+        guardian: 2,
+        number: 1,
+    },
 };
 
 const DAN: Account = Account {
     owner: "dan",
-    branch: 2,
-    number: 2,
+    object: ObjectId {
+        guardian: 2,
+        number: 2,
+    },
 };
 
-fn main(rt: HostRuntime) -> ExitCode {
-    match run(&rt) {
-        Ok(()) => ExitCode::SUCCESS,
-        Err(fault) => {
-            let _ = eprintln!(&rt; "{fault}");
-            ExitCode::FAILURE
-        }
+fn main(rt: HostRuntime) -> Result<()> {
+    let to_dan = BEN.pays(rt.alloc(), DAN, 45);
+    run_until_a_stop(&rt, to_dan)?;
+    let mut bank = Bank::reopen(&rt)?;
+    pay(&rt, &mut bank, to_dan)?;
+    for account in [ANN, BEN, CLEO, DAN] {
+        show(&rt, &mut bank, account)?;
     }
+    Ok(())
 }
 
-/// Makes the payments and prints the balances.
-fn run(rt: &HostRuntime) -> Result<(), BankFault> {
-    let mut bank = Bank::new(rt.alloc())?;
-    pay(rt, &mut bank, payment(ANN, CLEO, 30))?;
-    pay(rt, &mut bank, payment(BEN, DAN, 45))?;
-    pay_over_a_crash(rt, &mut bank, payment(CLEO, BEN, 25))?;
-    pay(rt, &mut bank, payment(CLEO, BEN, 25))?;
-    let mut bank = stop_within(rt, bank, payment(BEN, DAN, 45))?;
-    pay(rt, &mut bank, payment(BEN, DAN, 45))?;
-    show_balances(rt, &mut bank)
-}
-
-fn payment(from: Account, to: Account, amount: i64) -> Payment {
-    Payment { from, to, amount }
+/// Makes payments, until the bank stops within this one.
+fn run_until_a_stop(rt: &HostRuntime, last: Payment) -> Result<()> {
+    let mut bank = Bank::open(rt)?;
+    pay(rt, &mut bank, ANN.pays(rt.alloc(), CLEO, 30))?;
+    pay(rt, &mut bank, last)?;
+    pay_over_a_crash(rt, &mut bank, CLEO.pays(rt.alloc(), BEN, 25), last)?;
+    bank.vote_on(&last)?;
+    println!(rt; "the bank stops before {last} is decided, and opens again")?;
+    Ok(())
 }
 
 /// Makes the payment and prints how it ended.
-fn pay(rt: &impl Print, bank: &mut Bank, payment: Payment) -> Result<(), BankFault> {
-    let outcome = bank.pay(payment)?;
-    println!(rt; "{payment}: {outcome}")?;
+fn pay(rt: &HostRuntime, bank: &mut Bank<'_>, payment: Payment) -> Result<()> {
+    let mut work = payment;
+    match bank.transact(payment.from.object.guardian, &mut work)? {
+        Outcome::Committed(()) => println!(rt; "{payment}: paid")?,
+        Outcome::Aborted(Cause::Work(fault)) => println!(rt; "{payment}: aborted, {fault}")?,
+        Outcome::Aborted(Cause::Step(fault)) => println!(rt; "{payment}: aborted, {fault}")?,
+        Outcome::Aborted(Cause::Vote) => println!(rt; "{payment}: aborted by a vote")?,
+    }
     Ok(())
 }
 
-/// Makes the payment, but the payee's branch crashes before it votes.
-fn pay_over_a_crash(rt: &impl Print, bank: &mut Bank, payment: Payment) -> Result<(), BankFault> {
-    let branch = payment.to.branch;
-    let moved = bank.move_money(payment)?;
+/// Makes a payment, but the payee's branch crashes between the two phases. Another payment meets it before that.
+fn pay_over_a_crash(
+    rt: &HostRuntime,
+    bank: &mut Bank<'_>,
+    payment: Payment,
+    other: Payment,
+) -> Result<()> {
+    let top = bank.vote_on(&payment)?;
+    println!(rt; "{payment}: both branches vote yes")?;
+    pay(rt, bank, other)?;
+    let branch = payment.to.object.guardian;
     bank.crash(branch)?;
     println!(rt; "branch {branch} crashes and recovers")?;
-    let outcome = bank.settle(moved)?;
-    println!(rt; "{payment}: {outcome}")?;
+    bank.decide(&top)?;
+    println!(rt; "{payment}: paid")?;
     Ok(())
 }
 
-/// Stops the whole bank when both branches have voted on the payment, and opens it again.
-fn stop_within(rt: &impl Print, bank: Bank, payment: Payment) -> Result<Bank, BankFault> {
-    let mut bank = bank;
-    if let Some(top) = bank.move_money(payment)? {
-        bank.prepare(&top)?;
-    }
-    println!(rt; "the bank stops before {payment} is decided, and opens again")?;
-    bank.restart()
-}
-
-/// Prints the balances once the top action that reads them is committed.
-fn show_balances(rt: &HostRuntime, bank: &mut Bank) -> Result<(), BankFault> {
-    let mut text = String::new(rt.alloc());
-    let top = bank.begin(1)?;
-    for account in [ANN, BEN, CLEO, DAN] {
-        let balance = bank.balance(&top, account)?;
-        writeln!(text, "{} has {balance}", account.owner)?;
-    }
-    if !bank.commit(&top)? {
-        return Err(BankFault::Refused);
-    }
-    print!(rt; "{text}")?;
+/// Prints the balance of an account.
+fn show(rt: &HostRuntime, bank: &mut Bank<'_>, account: Account) -> Result<()> {
+    let Account { owner, object } = account;
+    let alloc = rt.alloc();
+    let mut look = Look { alloc, object };
+    let Outcome::Committed(balance) = bank.transact(object.guardian, &mut look)? else {
+        bail!("{owner} has no balance");
+    };
+    println!(rt; "{owner} has {balance}")?;
     Ok(())
 }
