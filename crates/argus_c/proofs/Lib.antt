@@ -4,6 +4,7 @@ pub mod Uncalled
 pub mod Holding
 pub mod Marks
 pub mod Numbers
+pub mod ReadApart
 pub mod Reopened
 pub mod StepCalls
 pub mod Steps

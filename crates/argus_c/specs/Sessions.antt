@@ -2,12 +2,13 @@
 use Rattle.std.specs.Prelude.{◌≡◌, ◌≤◌, ◌++◌, ℕ, List, ◌∷◌, length, codes, decimal, Some, None, Result, Ok}
 use Rattle.action_names.specs.Names.{IsName, Name, name_text}
 use Rattle.values.specs.Contents.{content_text}
+use Rattle.atomic_types.specs.Operations.{IsOp, Op}
 use Rattle.run_model.specs.declared.step.Step.{Step}
 use Rattle.run_model.specs.declared.answer.Answer.{Answer}
 use Rattle.run_model.specs.Answers.{answer_of}
 use Rattle.run_model.specs.Openings.{Setup, objects_at, opening_in}
 use Rattle.run_model.specs.Runs.{new_world, world_after}
-use Rattle.run_model.specs.Texts.{IsSetupText, answer_text}
+use Rattle.run_model.specs.Texts.{IsSetupText, answer_text, op_text}
 use Rattle.run_model.specs.Versions.{base_of}
 use Rattle.run_laws.specs.Laws.{OrphanWhereRefused}
 use Rattle.run_laws.specs.Serving.{IsServed}
@@ -67,6 +68,11 @@ pub record IsOfAction (text : List ℕ) (of : Name → Step) (step : Step) : Typ
   pub action : Name
   pub named : IsNamed text action
   pub same : step ≡ of action
+
+-- the text is that of the operation
+pub record IsOpText (text : List ℕ) (wanted : Op) : Type 0 where
+  pub fits : IsOp wanted
+  pub same : text ≡ op_text wanted
 
 -- the line of an operation of an action on an object, whose name and arguments are this text
 abbrev pub operation_line : List ℕ → ℕ → ℕ → List ℕ → List ℕ

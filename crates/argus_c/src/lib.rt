@@ -21,6 +21,7 @@ mod changes;
 mod codes;
 mod handle;
 mod keeping;
+mod operations;
 mod reading;
 mod reopening;
 mod session;

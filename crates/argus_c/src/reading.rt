@@ -1,13 +1,17 @@
 //! Steps of which a caller gives the line, or the parts.
-ghost use Rattle.std.specs.Prelude.{IfOk, IsErrOf};
+ghost use Rattle.std.specs.Prelude.{IfOk, IfSome, IsErrOf};
 ghost use Rattle.run_model.specs.Texts.{Spells};
 ghost use Rattle.run_model.specs.declared.step.Step.TheVariants as step;
 ghost use Rattle.argus_c.specs.declared.reading.Unread.TheVariants as unread;
 ghost use Rattle.argus_c.specs.Sessions.{IsNamed, IsNoName, IsNoStep, IsOfAction, operation_line};
 
+use crate::operations;
 use itoa::Buffer;
-use run_model::{Name, NameFault, Step};
+use run_model::{Name, NameFault, ObjectId, Step};
 use std::alloc::{AllocError, AllocFailed, Global};
+
+/// How long a part of a line is at most that is read alone.
+const MAX_PART: usize = 4_000;
 
 /// Why no step was read.
 #[derive(Clone, Copy, Drop)]
@@ -51,6 +55,39 @@ pub(crate) fn step_of_line(alloc: Global, line: &[u8]) -> Result<Step, Unread>
 
 /// The step that the line of an operation spells.
 pub(crate) fn operation(
+    alloc: Global,
+    action: &[u8],
+    guardian: u32,
+    number: u32,
+    wanted: &[u8],
+) -> Result<Step, Unread>
+    ensures found { IfOk result (Spells (operation_line action.now guardian number wanted.now)) }
+    ensures bad { IsErrOf result unread.Bad
+        → IsNoStep (Spells (operation_line action.now guardian number wanted.now)) }
+{
+    match by_parts(alloc, action, guardian, number, wanted) {
+        Some(step) => Ok(step),
+        None => by_line(alloc, action, guardian, number, wanted),
+    }
+}
+
+/// The same, where each part is short and spells what stands there in a step, which is faster.
+fn by_parts(alloc: Global, action: &[u8], guardian: u32, number: u32, wanted: &[u8]) -> Option<Step>
+    ensures { IfSome result (Spells (operation_line action.now guardian number wanted.now)) }
+{
+    if guardian == 0 || number == 0 || MAX_PART < action.len() || MAX_PART < wanted.len() {
+        return None;
+    }
+    let Ok(action) = named(alloc, action) else {
+        return None;
+    };
+    let operation = operations::operation(alloc, wanted)?;
+    let object = ObjectId { guardian, number };
+    Some(Step::Op(action, object, operation))
+}
+
+/// The same by the line itself, whatever the parts are.
+fn by_line(
     alloc: Global,
     action: &[u8],
     guardian: u32,
