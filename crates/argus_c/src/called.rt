@@ -5,18 +5,14 @@ ghost use Rattle.guardian_laws.specs.Stored.{has_record as is_recorded};
 ghost use Rattle.stable_store.specs.Stored.{Stored};
 ghost use Rattle.argus_c.specs.Keeping.{CallsNone, IsNowhere, content_at};
 
+use crate::homes::Homes;
 use layer_contracts::Guardian;
 use run_model::{Name, Step};
 use stable_store::{PlainStable, Stable};
-use std::collections::BTreeMap;
 use world::World;
 
 /// The guardian whose store the step may call, if there is one. A decision calls that of the top action's home.
-pub(crate) fn called(
-    world: &World<PlainStable>,
-    homes: &BTreeMap<u32, u32>,
-    step: &Step,
-) -> Option<u32>
+pub(crate) fn called(world: &World<PlainStable>, homes: &Homes, step: &Step) -> Option<u32>
     ensures { CallsNone world.now step.now (λ g. result ≢ Some g) }
 {
     // so that what happened is known to be a run
@@ -27,7 +23,7 @@ pub(crate) fn called(
         Step::Tell(guardian, action) => {
             has_record(world, *guardian, action).then_some(*guardian)
         }
-        Step::Decide(top) => home(world, homes.get(&top.last()).copied(), top),
+        Step::Decide(top) => home(world, homes.get(top.last()), top),
         _ => None,
     }
 }

@@ -3,10 +3,11 @@ ghost use Rattle.std.specs.Prelude.{◌≡◌, ◌==◌, ◌&&◌, ℕ, true, fa
 ghost use Rattle.argus_c.specs.Keeping.{AllMarked, CallsNone, IsLastMarked, StayMarked, is_marked};
 
 use crate::called::{called, is_home};
+use crate::homes::Homes;
 use run_model::{Answer, Setup, Step};
 use stable_store::PlainStable;
 use std::alloc::{AllocError, Global};
-use std::collections::{BTreeMap, BTreeSet};
+use std::collections::BTreeSet;
 use world::World;
 
 /// The stores that may hold something else than what the caller keeps.
@@ -14,8 +15,8 @@ use world::World;
 pub(crate) struct Changes {
     /// Their guardians.
     changed: BTreeSet<u32>,
-    /// The homes of top actions on which these have voted, so that a decision need not look for them.
-    homes: BTreeMap<u32, u32>,
+    /// The homes of top actions, so that a decision need not look for them.
+    homes: Homes,
 }
 
 impl Changes {
@@ -29,7 +30,7 @@ impl Changes {
         }
         Ok(Changes {
             changed,
-            homes: BTreeMap::new(alloc),
+            homes: Homes::new(alloc),
         })
     }
 
@@ -49,16 +50,28 @@ impl Changes {
         }
     }
 
-    /// Remembers the home of a top action that is to vote there.
+    /// Remembers the home of a top action that is to vote there, if it is not known.
     fn remember(&mut self, world: &World<PlainStable>, step: &Step) -> Result<(), AllocError>
         ensures { self.new.changed ≡ self.old.changed }
     {
         if let Step::Prepare(guardian, top) = step
+            && self.homes.get(top.last()).is_none()
             && is_home(world, *guardian, top)
         {
-            drop(self.homes.insert(top.last(), *guardian)?);
+            self.homes.put(top.last(), *guardian)?;
         }
         Ok(())
+    }
+
+    /// Learns the home of a top action that the step has begun. Where memory is wanting, its vote tells it.
+    pub(crate) fn learn(&mut self, step: &Step, answer: &Answer)
+        ensures { self.new.changed ≡ self.old.changed }
+    {
+        if let Step::Top(home) = step
+            && let [top] = answer.names_begun()
+        {
+            let _ = self.homes.put(top.last(), *home);
+        }
     }
 
     /// Forgets the home of a top action that the step has ended.
@@ -66,9 +79,10 @@ impl Changes {
         ensures { self.new.changed ≡ self.old.changed }
     {
         if let Step::Decide(action) | Step::Abort(action) = step
+            && action.is_top()
             && answer.is_accepted()
         {
-            self.homes.remove(&action.last());
+            self.homes.remove(action.last());
         }
     }
 

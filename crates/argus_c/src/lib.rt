@@ -20,6 +20,7 @@ mod calls;
 mod changes;
 mod codes;
 mod handle;
+mod homes;
 mod keeping;
 mod operations;
 mod reading;

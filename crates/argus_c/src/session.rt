@@ -66,6 +66,7 @@ impl Session {
         };
         match self.world.step(step) {
             Ok(answer) => {
+                self.changes.learn(step, &answer);
                 self.changes.forget(step, &answer);
                 self.last = Some(answer);
                 Code::Done

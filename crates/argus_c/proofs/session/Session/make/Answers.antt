@@ -1,4 +1,4 @@
-use Rattle.std.proofs.Common.{None, Some, refl}
+use Rattle.std.proofs.Common.{None, Some, refl, ◌∙◌}
 use Rattle.argus_c.proofs.Uncalled.{changes_told}
 use Rattle.argus_c.proofs.session.Session.make.Goals as goal
 
@@ -12,7 +12,7 @@ returns-in-Ok-step-clause-made c e =
       after = stepped.after;
       orphans = stepped.orphans;
       served = stepped.served;
-      changes = changes_told _ _ c.args.step.now None c.mark.new.self stepped.stores c.in-Ok.ensures.marked c.in-Ok.ensures.others c.forget.ensures;
+      changes = changes_told _ _ c.args.step.now None c.mark.new.self stepped.stores c.in-Ok.ensures.marked c.in-Ok.ensures.others (c.forget.ensures ∙ c.learn.ensures);
     }
 
 pub returns-in-Err-Memory-clause-unmade : goal.returns-in-Err-Memory-clause-unmade
