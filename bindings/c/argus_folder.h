@@ -10,7 +10,7 @@
 #include <stdlib.h>
 #include <unistd.h>
 
-enum { ARGUS_FILES = 10 /* a file can not be read or written, or one is there that is to be made */ };
+enum { ARGUS_FILES = 10 /* a file failed, or one is there that is to be made; not kept in the world */ };
 
 static inline int argus_path_(char path[4096], const char *folder, uint32_t guardian, const char *ending) {
     int n = snprintf(path, 4096, "%s/g%lu.json%s", folder, (unsigned long)guardian, ending);
