@@ -2,7 +2,7 @@
 use Rattle.std.proofs.Common.{Bool, arith, false, inl, inr, subst, suc, true, ℕ, ◌+◌, ◌-◌, ◌<◌, ◌≤◌, ◌≡◌}
 use Rattle.run_model.specs.Runs.{World}
 use Rattle.service.specs.Retrying.{Retried}
-use Rattle.service.specs.Transacting.{Transacts}
+use Rattle.service.specs.Transacting.{TransactsAt}
 use Rattle.service.specs.declared.outcome.Transacted.{Transacted}
 
 module _ {T E : Type 0} (again : Transacted T E → Bool) (home : ℕ) where
@@ -16,7 +16,7 @@ module _ {T E : Type 0} (again : Transacted T E → Bool) (home : ℕ) where
       let same : more ≡ more + 0 = omega arith in subst (λ n. Retried again home n old new last) same h
 
   -- once more
-  pub goes_on_more : (count : ℕ) (old mid now : World) (ended : Transacted T E) → GoesOn count old mid → Transacts home mid now ended
+  pub goes_on_more : (count : ℕ) (old mid now : World) (ended : Transacted T E) → GoesOn count old mid → TransactsAt home mid now ended
       → again ended ≡ true → GoesOn (count + 1) old now
   goes_on_more count old mid now ended so made named more new last h =
       let same : suc more + count ≡ more + (count + 1) = omega arith in
@@ -25,13 +25,13 @@ module _ {T E : Type 0} (again : Transacted T E → Bool) (home : ℕ) where
 
   -- the last one, of those that may be made
   pub last_of : (count times : ℕ) (old now new : World) (last : Transacted T E) → count ≤ times → times ≤ count → GoesOn count old now
-      → Transacts home now new last → Retried again home times old new last
+      → TransactsAt home now new last → Retried again home times old new last
   last_of count times old now new last up down so made =
       let same : 0 + count ≡ times = omega arith in subst (λ n. Retried again home n old new last) same (so 0 new last made)
 
   -- or one that is not to be made again
   pub last_so : (count times : ℕ) (old now new : World) (last : Transacted T E) → count < times → GoesOn count old now
-      → Transacts home now new last → again last ≡ false → Retried again home times old new last
+      → TransactsAt home now new last → again last ≡ false → Retried again home times old new last
   last_so count times old now new last more so made is =
       let same : suc (times - (count + 1)) + count ≡ times = omega arith in
       subst (λ n. Retried again home n old new last) same

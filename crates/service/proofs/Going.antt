@@ -1,6 +1,7 @@
 -- Runs that go on by steps of a transaction.
-use Rattle.std.proofs.Common.{Bool, List, None, Option, Some, [], ap, eq-eqb, eqb-true, false, inl, inr, refl, subst, sym, true, ℕ, ◌&&◌, ◌++◌, ◌||◌, ◌∙◌, ◌∷◌, ◌≡◌, ◌⊎◌}
+use Rattle.std.proofs.Common.{Bool, List, None, Option, Some, [], ap, eq-eqb, eqb-true, false, inl, inr, refl, subst, sym, true, ℕ, ◌++◌, ◌||◌, ◌∙◌, ◌∷◌, ◌≡◌, ◌⊎◌}
 use Rattle.std.proofs.lemmas.Bool.{and_from, and_parts, false_from_ne_true, false≢true, not-true, not_from_false, or_cases, or_left, or_right}
+use Rattle.std.proofs.lemmas.List.{append_assoc}
 use Rattle.std.specs.List.{list_all, list_any}
 use Rattle.std.specs.Prelude.{if◌then◌else◌}
 use Rattle.action_names.specs.Names.{Name, child_of, has_name, is_prefix, same_name}
@@ -10,17 +11,18 @@ use Rattle.run_model.specs.declared.answer.Refusal.{Refusal}
 use Rattle.run_model.specs.declared.history.Event.{Event}
 use Rattle.run_model.specs.declared.step.Step.{Step}
 use Rattle.run_model.specs.declared.step.Step.TheVariants as steps
-use Rattle.run_model.specs.Actions.{begins, begun, is_aborted, is_begun, is_committed, is_ended, names_begun, next_number, step_commits, step_crashes}
+use Rattle.run_model.specs.Actions.{begun, is_aborted, is_begun, is_committed, is_ended, names_begun, next_number, step_commits, step_crashes}
 use Rattle.run_model.specs.Answers.{answer_of, outcome, refused_or}
 use Rattle.run_model.specs.Openings.{Opening, opening_in}
 use Rattle.run_model.specs.Refusals.{checks, first_refusal}
-use Rattle.run_model.specs.Runs.{World, history_after, history_from, is_accepted, world_after}
+use Rattle.run_model.specs.Runs.{IsRun, World, history_after, history_from, is_accepted, world_after}
 use Rattle.run_model.specs.Telling.{told_since_crash}
-use Rattle.run_laws.proofs.Growth.{Follows, aborted_stays, any_stays, committed_stays, follows_through, here, later}
-use Rattle.run_laws.proofs.Names.{clash, eqb_self, same_name_self, same_name_true}
-use Rattle.run_laws.proofs.Begun.{begun_cases}
+use Rattle.run_model.specs.Votes.{has_voted, step_votes}
+use Rattle.run_laws.proofs.Growth.{Follows, aborted_stays, begun_stays, committed_stays, followed, follows_through, here, later}
+use Rattle.run_laws.proofs.Names.{clash, eqb_self, has_name_append, same_name_self, same_name_true}
+use Rattle.run_laws.proofs.Begun.{begun_cases, begun_more, begun_once}
 use Rattle.service.specs.declared.fault.CallFault.{CallFault}
-use Rattle.service.specs.Transacting.{AllSettled, CameToNothing, EndedAndTold, FallsShort, Goes, IsSettled, NoneBegan, Settles, Works, began_at, begins_at, ends_top, finishes, is_below, settles, works_in}
+use Rattle.service.specs.Transacting.{AllBegan, AllSettled, AllVotersTold, Began, CameToNothing, EndedAndTold, FallsShort, Goes, IsSettled, NoneBegan, Settles, Works, began_at, begins_at, belongs, belongs_to, ends_top, finishes, is_below, settles, works_in, works_with}
 
 -- ---- names
 
@@ -59,6 +61,7 @@ below_lift a s b up h =
 
 -- work below an action is work in it
 pub lift : (a s : Name) → is_prefix a s ≡ true → (step : Step) → works_in s step ≡ true → works_in a step ≡ true
+lift a s up (steps.NestedTop b) h = prefix_then a s b up h
 lift a s up (steps.Call b g) h = prefix_then a s b up h
 lift a s up (steps.Op b x wanted) h = prefix_then a s b up h
 lift a s up (steps.Commit b) h = below_lift a s b up h
@@ -100,6 +103,78 @@ work_commits_not a (steps.Commit b) h =
 work_commits_not a (steps.Decide b) h = absurd (false≢true h)
 work_commits_not a _ h = refl
 
+-- work votes on nothing
+pub work_votes_not : (a t : Name) (g : ℕ) (step : Step) → works_in a step ≡ true → step_votes step g t ≡ false
+work_votes_not a t g (steps.Prepare h b) own = absurd (false≢true own)
+work_votes_not a t g _ own = refl
+
+pub finishes_votes_not : (a t : Name) (g : ℕ) (step : Step) → finishes a step ≡ true → step_votes step g t ≡ false
+finishes_votes_not a t g (steps.Prepare h b) own = absurd (false≢true own)
+finishes_votes_not a t g _ own = refl
+
+-- ---- steps of several top actions
+
+-- what is so of the steps of each is so of those of all
+pub belongs_each : (P : Step → Type 0) (tops : List Name) (step : Step)
+    → ((t : Name) → has_name tops t ≡ true → belongs t step ≡ true → P step) → belongs_to tops step ≡ true → P step
+belongs_each P [] step f h = absurd (false≢true h)
+belongs_each P (t ∷ tops) step f h = elim (or_cases (belongs t step) (belongs_to tops step) h) [
+  | inl k ↦ f t (or_left (same_name t t) (has_name tops t) (same_name_self t)) k
+  | inr k ↦ belongs_each P tops step (λ u i own. f u (or_right (same_name t u) (has_name tops u) i) own) k
+]
+
+pub belongs_front : (us vs : List Name) (step : Step) → belongs_to us step ≡ true → belongs_to (us ++ vs) step ≡ true
+belongs_front [] vs step h = absurd (false≢true h)
+belongs_front (t ∷ us) vs step h = elim (or_cases (belongs t step) (belongs_to us step) h) [
+  | inl k ↦ or_left (belongs t step) (belongs_to (us ++ vs) step) k
+  | inr k ↦ or_right (belongs t step) (belongs_to (us ++ vs) step) (belongs_front us vs step k)
+]
+
+pub belongs_back : (us vs : List Name) (step : Step) → belongs_to vs step ≡ true → belongs_to (us ++ vs) step ≡ true
+belongs_back [] vs step h = h
+belongs_back (t ∷ us) vs step h = or_right (belongs t step) (belongs_to (us ++ vs) step) (belongs_back us vs step h)
+
+pub with_work : (tops : List Name) (a : Name) (step : Step) → works_in a step ≡ true → works_with tops a step ≡ true
+with_work tops a step h = or_left (works_in a step) (belongs_to tops step) h
+
+pub with_tops : (tops : List Name) (a : Name) (step : Step) → belongs_to tops step ≡ true → works_with tops a step ≡ true
+with_tops tops a step h = or_right (works_in a step) (belongs_to tops step) h
+
+-- steps of work, if each way of being one gives as much
+pub with_each : (P : Step → Type 0) (tops : List Name) (a : Name) (step : Step) → (works_in a step ≡ true → P step)
+    → ((t : Name) → has_name tops t ≡ true → belongs t step ≡ true → P step) → works_with tops a step ≡ true → P step
+with_each P tops a step f g h = elim (or_cases (works_in a step) (belongs_to tops step) h) [ inl k ↦ f k | inr k ↦ belongs_each P tops step g k ]
+
+pub with_front : (us vs : List Name) (a : Name) (step : Step) → works_with us a step ≡ true → works_with (us ++ vs) a step ≡ true
+with_front us vs a step h = elim (or_cases (works_in a step) (belongs_to us step) h) [
+  | inl k ↦ with_work (us ++ vs) a step k
+  | inr k ↦ with_tops (us ++ vs) a step (belongs_front us vs step k)
+]
+
+pub with_back : (us vs : List Name) (a : Name) (step : Step) → works_with vs a step ≡ true → works_with (us ++ vs) a step ≡ true
+with_back us vs a step h = elim (or_cases (works_in a step) (belongs_to vs step) h) [
+  | inl k ↦ with_work (us ++ vs) a step k
+  | inr k ↦ with_tops (us ++ vs) a step (belongs_back us vs step k)
+]
+
+-- work below an action, with the same top actions
+pub with_lift : (tops : List Name) (a s : Name) → is_prefix a s ≡ true → (step : Step) → works_with tops s step ≡ true
+    → works_with tops a step ≡ true
+with_lift tops a s up step h = elim (or_cases (works_in s step) (belongs_to tops step) h) [
+  | inl k ↦ with_work tops a step (lift a s up step k)
+  | inr k ↦ with_tops tops a step k
+]
+
+belongs_crashes_not : (t : Name) (g : ℕ) (step : Step) → belongs t step ≡ true → step_crashes step g ≡ false
+belongs_crashes_not t g step h = elim (or_cases (works_in t step) (ends_top t step) h) [
+  | inl k ↦ work_crashes_not t g step k
+  | inr k ↦ end_crashes_not t g step k
+]
+
+pub with_crashes_not : (tops : List Name) (a : Name) (g : ℕ) (step : Step) → works_with tops a step ≡ true → step_crashes step g ≡ false
+with_crashes_not tops a g step h =
+    with_each (λ s. step_crashes s g ≡ false) tops a step (work_crashes_not a g step) (λ t i own. belongs_crashes_not t g step own) h
+
 -- a subaction's name is a child's
 pub called_child : (opening : Opening) (a : Name) (g : ℕ) (past : List Event) (name : Name)
     → answer_of opening (steps.Call a g) past ≡ answers.Began (name ∷ []) → name ≡ child_of a (next_number opening a past)
@@ -109,6 +184,19 @@ called_child opening a g past name h = by (first_refusal (checks opening (steps.
     by : (o : Option Refusal) → refused_or o (outcome opening (steps.Call a g) past) ≡ answers.Began (name ∷ [])
         → name ≡ child_of a (next_number opening a past)
     by None h = cc
+    by (Some why) h = cc
+
+-- a top action's name is a number
+pub top_named : (opening : Opening) (first : Step) (past : List Event) (n : ℕ) (t : Name)
+    → outcome opening first past ≡ answers.Began ((n ∷ []) ∷ []) → answer_of opening first past ≡ answers.Began (t ∷ []) → t ≡ n ∷ []
+unfolding answer_of
+top_named opening first past n t made h = by (first_refusal (checks opening first past)) h
+  where
+    by : (o : Option Refusal) → refused_or o (outcome opening first past) ≡ answers.Began (t ∷ []) → t ≡ n ∷ []
+    by None h = one (sym made ∙ h)
+      where
+        one : answers.Began ((n ∷ []) ∷ []) ≡ answers.Began (t ∷ []) → t ≡ n ∷ []
+        one e = cc
     by (Some why) h = cc
 
 -- ---- lists of steps
@@ -255,24 +343,29 @@ none_then x y z n m b = m b ∙ n b
 
 -- ---- what is settled
 
+pub began_stays : (g : ℕ) (b : Name) {past now : List Event} → Follows past now → began_at g b past ≡ true → began_at g b now ≡ true
+began_stays g b here h = h
+began_stays g b (later e f) h = or_right _ _ (began_stays g b f h)
+
 -- what began and was settled stays so
 pub settled_stays : (mine : Step → Bool) (x y : World) (b : Name) → ((g : ℕ) (step : Step) → mine step ≡ true → step_crashes step g ≡ false)
     → Goes mine x y → IsSettled b x → IsSettled b y
 settled_stays mine x y b f a h = record {
   ended = goes_ended mine x y b a h.ended;
   home = h.home;
-  there = any_stays (λ (e : Event). begins e b && begins_at e.step h.home) (goes_grows mine x y a) h.there;
+  there = began_stays h.home b (goes_grows mine x y a) h.there;
   told = goes_told h.home b mine x y (f h.home) a h.told;
 }
 
 pub all_settled_if_none : (old new : World) → NoneBegan old new → AllSettled old new
 all_settled_if_none old new n b h k = absurd (clash (sym (n b) ∙ h) k)
 
--- an action that a step began at this guardian, and no other
-module _ (step : Step) (g : ℕ) (s : Name) (x y : World) (at : begins_at step g ≡ true)
+-- an action that a step began, and no other
+module _ (step : Step) (s : Name) (x y : World)
     (there : y ≡ record { lists = x.lists; past = record { step = step; answer = answers.Began (s ∷ []) } ∷ x.past }) where
-  pub begun_at : began_at g s y.past ≡ true
-  begun_at =
+  -- at this guardian
+  pub begun_at : (g : ℕ) → begins_at step g (λ c. began_at g c x.past) ≡ true → began_at g s y.past ≡ true
+  begun_at g at =
       ap (λ (w : World). began_at g s w.past) there
       ∙ or_left _ _ (and_from _ _ (or_left _ _ (same_name_self s)) at)
 
@@ -386,29 +479,113 @@ settles_same p x y was So e so = record {
   short = λ fault h. inl h;
 }
 
+-- ---- what began in between
+
+recent_of : {past now : List Event} → Follows past now → (recent : List Event) × (now ≡ recent ++ past)
+recent_of here = ([], refl)
+recent_of (later e f) = let (recent, same) = recent_of f in (e ∷ recent, ap (λ xs. e ∷ xs) same)
+
+begun_front : (t : Name) (recent before : List Event) → is_begun t recent ≡ true → is_begun t (recent ++ before) ≡ true
+begun_front t [] before h = absurd (false≢true h)
+begun_front t (e ∷ recent) before h = elim (begun_cases e recent t h) [
+  | inl k ↦ has_name_append (names_begun e.answer) (begun (recent ++ before)) t ∙ or_left _ _ k
+  | inr k ↦ begun_more e (recent ++ before) t (begun_front t recent before k)
+]
+
+pub began_within : (t : Name) (x y z w : World) → Follows x.past y.past → Began t y z → Follows z.past w.past → Began t x w
+began_within t x y z w a b c =
+    let (before, p) = recent_of a in
+    let (after, q) = recent_of c in
+    record {
+      number = b.number;
+      named = b.named;
+      recent = after ++ (b.recent ++ before);
+      parts =
+          q
+          ∙ ap (λ xs. after ++ xs) (b.parts ∙ ap (λ xs. b.recent ++ xs) p ∙ sym (append_assoc b.recent before x.past))
+          ∙ sym (append_assoc after (b.recent ++ before) x.past);
+      begun = begun_stays t (followed after (b.recent ++ before)) (begun_front t b.recent before b.begun);
+    }
+
+pub all_within : (tops : List Name) (x y z w : World) → Follows x.past y.past → AllBegan tops y z → Follows z.past w.past → AllBegan tops x w
+all_within tops x y z w a all c t i = began_within t x y z w a (all t i) c
+
+pub none_of : (old new : World) → AllBegan [] old new
+none_of old new t i = absurd (false≢true i)
+
+pub both_began : (us vs : List Name) (old new : World) → AllBegan us old new → AllBegan vs old new → AllBegan (us ++ vs) old new
+both_began us vs old new a b t i = by (or_cases (has_name us t) (has_name vs t) (sym (has_name_append us vs t) ∙ i))
+  where
+    by : (has_name us t ≡ true) ⊎ (has_name vs t ≡ true) → Began t old new
+    by (inl k) = a t k
+    by (inr k) = b t k
+
+-- what a run began in between was not begun before
+pub began_new : (opening : Opening) (recent past : List Event) (t : Name) → IsRun opening (recent ++ past) → is_begun t recent ≡ true
+    → is_begun t past ≡ false
+began_new opening [] past t run h = absurd (false≢true h)
+began_new opening (e ∷ recent) past t run h = elim (begun_cases e recent t h) [
+  | inl k ↦ false_from_ne_true _ (λ b. clash k (begun_once opening e (recent ++ past) t run (begun_stays t (followed recent past) b)))
+  | inr k ↦ began_new opening recent past t run.2 k
+]
+
+-- ---- votes
+
+pub voters_same : (mine : Step → Bool) (x y : World) → ((t : Name) (g : ℕ) (step : Step) → mine step ≡ true → step_votes step g t ≡ false)
+    → Goes mine x y → AllVotersTold x y
+voters_same mine x y f a t g new old = absurd (clash new (kept (λ step. step_votes step g t) mine x y (f t g) a ∙ old))
+
+-- who voted in the first part stays told through the second
+pub voters_then : (mine : Step → Bool) (x y z : World) → ((g : ℕ) (step : Step) → mine step ≡ true → step_crashes step g ≡ false)
+    → AllVotersTold x y → AllVotersTold y z → Goes mine y z → AllVotersTold x z
+voters_then mine x y z f early late a t g new old = of (has_voted g t y.past) refl
+  where
+    of : (b : Bool) → has_voted g t y.past ≡ b → told_since_crash g t z.past ≡ true
+    of true e = goes_told g t mine y z (f g) a (early t g e old)
+    of false e = late t g new e
+
 -- ---- work
 
 pub works_quiet : (a : Name) (old new : World) (left : Option CallFault) → Goes (works_in a) old new → NoneBegan old new → Works a old new left left
 works_quiet a old new left g n = record {
-  goes = g;
-  settled = λ h. (h, all_settled_if_none old new n);
+  tops = [];
+  began = none_of old new;
+  goes = goes_wider (works_in a) (works_with [] a) old new (with_work [] a) g;
+  settled = λ h. (h, all_settled_if_none old new n, voters_same (works_in a) old new (work_votes_not a) g);
   short = λ fault h. inl h;
 }
 
 pub works_then : (a : Name) (x y z : World) (p q r : Option CallFault) → Works a x y p q → Works a y z q r → Works a x z p r
 works_then a x y z p q r u v = record {
-  goes = goes_then (works_in a) x y z u.goes v.goes;
+  tops = u.tops ++ v.tops;
+  began =
+      both_began u.tops v.tops x z (all_within u.tops x x y z here u.began (goes_grows (works_with v.tops a) y z v.goes))
+      (all_within v.tops x y z z (goes_grows (works_with u.tops a) x y u.goes) v.began here);
+  goes = goes_then (works_with (u.tops ++ v.tops) a) x y z early late;
   settled = λ h.
-      let (k, late) = v.settled h in
-      let (j, early) = u.settled k in
-      (j, λ b new old. of b early late new old (is_begun b y.past) refl);
-  short = short_then (works_in a) x y z p q r u.goes v.goes u.short v.short;
+      let (k, late_settled, late_told) = v.settled h in
+      let (j, early_settled, early_told) = u.settled k in (
+        j,
+        λ b new old. of b early_settled late_settled new old (is_begun b y.past) refl,
+        voters_then (works_with (u.tops ++ v.tops) a) x y z (with_crashes_not (u.tops ++ v.tops) a) early_told late_told late,
+      );
+  short =
+      short_then (works_with (u.tops ++ v.tops) a) x y z p q r early late
+      (λ fault h. short_in (works_with u.tops a) (works_with (u.tops ++ v.tops) a) x y p fault (with_front u.tops v.tops a) (u.short fault h))
+      (λ fault h. short_in (works_with v.tops a) (works_with (u.tops ++ v.tops) a) y z q fault (with_back u.tops v.tops a) (v.short fault h));
 }
   where
+    early : Goes (works_with (u.tops ++ v.tops) a) x y
+    early = goes_wider (works_with u.tops a) (works_with (u.tops ++ v.tops) a) x y (with_front u.tops v.tops a) u.goes
+
+    late : Goes (works_with (u.tops ++ v.tops) a) y z
+    late = goes_wider (works_with v.tops a) (works_with (u.tops ++ v.tops) a) y z (with_back u.tops v.tops a) v.goes
+
     of : (b : Name) → AllSettled x y → AllSettled y z → is_begun b z.past ≡ true → is_begun b x.past ≡ false → (t : Bool) → is_begun b y.past ≡ t
         → IsSettled b z
-    of b early late new old true e = settled_stays (works_in a) y z b (work_crashes_not a) v.goes (early b e old)
-    of b early late new old false e = late b new e
+    of b first last new old true e =
+        settled_stays (works_with (u.tops ++ v.tops) a) y z b (with_crashes_not (u.tops ++ v.tops) a) late (first b e old)
+    of b first last new old false e = last b new e
 
 -- a subaction is below the action that calls it
 pub called_below : (x : World) (a : Name) (g : ℕ) (s : Name)
@@ -425,47 +602,67 @@ module _ (a s : Name) (g : ℕ) (x y z w : World) (was mid is : Option CallFault
   below : is_below a s ≡ true
   below = called_below x a g s answer
 
+  abbrev mine : Step → Bool
+  mine = works_with inside.tops a
+
   there : y ≡ record { lists = x.lists; past = record { step = steps.Call a g; answer = answers.Began (s ∷ []) } ∷ x.past }
   there = after ∙ ap (λ k. world_after x (steps.Call a g) k) answer
 
-  call_goes : Goes (works_in a) x y
-  call_goes = goes_one (works_in a) (steps.Call a g) x y (prefix_self a) after
+  call_works : Goes (works_in a) x y
+  call_works = goes_one (works_in a) (steps.Call a g) x y (prefix_self a) after
 
-  inner_goes : Goes (works_in a) y z
-  inner_goes = goes_wider (works_in s) (works_in a) y z (lift a s (and_parts _ _ below).0) inside.goes
+  call_goes : Goes mine x y
+  call_goes = goes_wider (works_in a) mine x y (with_work inside.tops a) call_works
 
-  inner_short : (fault : CallFault) → mid ≡ Some fault → (was ≡ Some fault) ⊎ FallsShort (works_in a) y z fault
-  inner_short fault h = short_in (works_in s) (works_in a) y z was fault (lift a s (and_parts _ _ below).0) (inside.short fault h)
+  inner_lift : (step : Step) → works_with inside.tops s step ≡ true → mine step ≡ true
+  inner_lift = with_lift inside.tops a s (and_parts _ _ below).0
 
-  lifted : Settles (works_in a) z w mid is (EndedAndTold s g w)
-  lifted = settles_wider (finishes s) (works_in a) z w mid is (EndedAndTold s g w) (finishes_below a s below) ends
+  inner_goes : Goes mine y z
+  inner_goes = goes_wider (works_with inside.tops s) mine y z inner_lift inside.goes
+
+  inner_short : (fault : CallFault) → mid ≡ Some fault → (was ≡ Some fault) ⊎ FallsShort mine y z fault
+  inner_short fault h = short_in (works_with inside.tops s) mine y z was fault inner_lift (inside.short fault h)
+
+  lifted : Settles mine z w mid is (EndedAndTold s g w)
+  lifted =
+      settles_wider (finishes s) mine z w mid is (EndedAndTold s g w)
+      (λ step h. with_work inside.tops a step (finishes_below a s below step h)) ends
 
   own_settled : EndedAndTold s g w → IsSettled s w
   own_settled h = record {
     ended = h.0;
     home = g;
     there =
-        any_stays (λ (e : Event). begins e s && begins_at e.step g) (goes_grows (works_in a) y w (goes_then (works_in a) y z w inner_goes lifted.goes))
-        (begun_at (steps.Call a g) g s x y (eqb_self g) there);
+        began_stays g s (goes_grows mine y w (goes_then mine y z w inner_goes lifted.goes))
+        (begun_at (steps.Call a g) s x y there g (eqb_self g));
     told = h.1;
   }
 
   pub works_called : Works a x w was is
   works_called = record {
-    goes =
-        goes_then (works_in a) x y w call_goes (goes_then (works_in a) y z w inner_goes lifted.goes);
+    tops = inside.tops;
+    began = all_within inside.tops x y z w (goes_grows mine x y call_goes) inside.began (goes_grows mine z w lifted.goes);
+    goes = goes_then mine x y w call_goes (goes_then mine y z w inner_goes lifted.goes);
     settled = λ h.
         let (k, done) = ends.settled h in
-        let (j, all) = inside.settled k in
-        (j, λ b new old. of b done all new old (is_begun b y.past) refl);
+        let (j, all, heard) = inside.settled k in (
+          j,
+          λ b new old. of b done all new old (is_begun b y.past) refl,
+          voters_then mine x z w crashes_not
+              (voters_then mine x y z crashes_not (voters_same (works_in a) x y (work_votes_not a) call_works) heard inner_goes)
+              (voters_same (finishes s) z w (finishes_votes_not s) ends.goes) lifted.goes,
+        );
     short =
-        short_then (works_in a) x y w was was is call_goes (goes_then (works_in a) y z w inner_goes lifted.goes) (λ fault e. inl e)
-        (short_then (works_in a) y z w was mid is inner_goes lifted.goes inner_short lifted.short);
+        short_then mine x y w was was is call_goes (goes_then mine y z w inner_goes lifted.goes) (λ fault e. inl e)
+        (short_then mine y z w was mid is inner_goes lifted.goes inner_short lifted.short);
   }
     where
+      crashes_not : (h : ℕ) (step : Step) → works_with inside.tops a step ≡ true → step_crashes step h ≡ false
+      crashes_not = with_crashes_not inside.tops a
+
       of : (b : Name) → EndedAndTold s g w → AllSettled y z → is_begun b w.past ≡ true → is_begun b x.past ≡ false → (t : Bool)
           → is_begun b y.past ≡ t → IsSettled b w
       of b done all new old true e =
-          subst (λ c. IsSettled c w) (begun_only (steps.Call a g) g s x y (eqb_self g) there b e old) (own_settled done)
+          subst (λ c. IsSettled c w) (begun_only (steps.Call a g) s x y there b e old) (own_settled done)
       of b done all new old false e =
-          settled_stays (works_in a) z w b (work_crashes_not a) lifted.goes (all b (sym (ends.none b) ∙ new) e)
+          settled_stays mine z w b crashes_not lifted.goes (all b (sym (ends.none b) ∙ new) e)

@@ -4,6 +4,7 @@ pub mod Concluded
 pub mod Ended
 pub mod Going
 pub mod Numbers
+pub mod Others
 pub mod Shapes
 pub mod Undone
 pub mod Whole

@@ -1,173 +1,252 @@
--- A whole transaction: it begins, works and ends.
-use Rattle.std.proofs.Common.{Bool, List, None, Option, Some, [], ap, false, inl, inr, refl, subst, sym, true, ℕ, ◌&&◌, ◌||◌, ◌∙◌, ◌∷◌, ◌≡◌, ◌⊎◌}
-use Rattle.std.proofs.lemmas.Bool.{and_parts, false_from_ne_true, false≢true, or_cases, or_left, or_right}
-use Rattle.action_names.specs.Names.{Name, is_prefix, same_name}
+-- A whole transaction: its top action begins, is worked in and ends.
+use Rattle.std.proofs.Common.{Bool, None, Some, [], ap, false, inl, inr, refl, subst, sym, true, ℕ, ◌||◌, ◌∙◌, ◌∷◌, ◌≡◌, ◌⊎◌}
+use Rattle.std.proofs.lemmas.Bool.{false_from_ne_true, or_cases, or_left, or_right}
+use Rattle.std.specs.List.{list_any}
+use Rattle.action_names.specs.Names.{Name, has_name, is_prefix, same_name}
 use Rattle.run_model.specs.declared.answer.Answer.TheVariants as answers
 use Rattle.run_model.specs.declared.history.Event.{Event}
 use Rattle.run_model.specs.declared.step.Step.{Step}
 use Rattle.run_model.specs.declared.step.Step.TheVariants as steps
-use Rattle.run_model.specs.Actions.{begins, is_aborted, is_begun, is_committed, is_ended, step_aborts, step_commits}
+use Rattle.run_model.specs.Actions.{begun, is_aborted, is_begun, is_committed, is_ended, step_aborts, step_commits}
+use Rattle.run_model.specs.Answers.{answer_of}
 use Rattle.run_model.specs.Openings.{opening_in}
-use Rattle.run_model.specs.Runs.{IsRun, World}
+use Rattle.run_model.specs.Runs.{IsRun, World, history_from, world_after}
 use Rattle.run_model.specs.Telling.{told_since_crash}
 use Rattle.run_model.specs.Votes.{has_voted, step_votes}
 use Rattle.run_laws.proofs.Begun.{begun_once}
 use Rattle.run_laws.proofs.Ended.{committed_begun}
-use Rattle.run_laws.proofs.Growth.{any_stays}
-use Rattle.run_laws.proofs.Names.{clash, eqb_self, same_name_self, same_name_true}
+use Rattle.run_laws.proofs.Growth.{Follows, here, later}
+use Rattle.run_laws.proofs.Names.{clash, same_name_self, same_name_true}
+use Rattle.run_laws.proofs.Runs.{run_from}
 use Rattle.service.specs.Outcomes.{has_committed}
 use Rattle.service.specs.declared.fault.CallFault.{CallFault}
-use Rattle.service.specs.declared.outcome.Cause.TheVariants.{Vote, Step as ByStep}
-use Rattle.service.specs.declared.outcome.Outcome.TheVariants.{Aborted}
-use Rattle.service.specs.declared.outcome.Outcome.{Outcome}
-use Rattle.service.specs.Transacting.{AllSettled, Begins, CameToNothing, EndsTop, FallsShort, Goes, IsSettled, IsTransacted, Works, begins_at, belongs, ends_top, has_number, is_below, is_concluding, is_voted_down, works_in}
+use Rattle.service.specs.declared.outcome.Transacted.{Transacted}
+use Rattle.service.specs.declared.place.Place.{Place}
+use Rattle.service.specs.Transacting.{AllSettled, AllVotersTold, Began, Begins, FallsShort, Goes, IsSettled, IsTransacted, RunsTop, Works, began_at, belongs_to, ends_top, has_number, works_in, works_with}
 use Rattle.service.proofs.Concluded.{told_at}
-use Rattle.service.proofs.Going.{begun_at, begun_only, end_crashes_not, goes_grows, goes_then, goes_wider, kept, prefix_self, settled_stays, short_after, short_in, short_then, short_wider, work_commits_not}
-
--- ---- what steps of a transaction leave alone
-
--- an action that is not below t differs from what is
-other : (t b c : Name) → is_prefix t b ≡ false → is_prefix t c ≡ true → same_name c b ≡ false
-other t b c out h =
-    false_from_ne_true _ (λ p. clash (subst (λ d. is_prefix t d ≡ true) (same_name_true c b p) h) out)
-
-at_or_below : (t c : Name) → is_below t c || same_name t c ≡ true → is_prefix t c ≡ true
-at_or_below t c h = by (or_cases _ _ h)
-  where
-    by : (is_below t c ≡ true) ⊎ (same_name t c ≡ true) → is_prefix t c ≡ true
-    by (inl p) = (and_parts _ _ p).0
-    by (inr p) = subst (λ d. is_prefix t d ≡ true) (same_name_true t c p) (prefix_self t)
-
-below_only : (t c : Name) → is_below t c || false ≡ true → is_prefix t c ≡ true
-below_only t c h = by (or_cases _ _ h)
-  where
-    by : (is_below t c ≡ true) ⊎ (false ≡ true) → is_prefix t c ≡ true
-    by (inl p) = (and_parts _ _ p).0
-    by (inr p) = absurd (false≢true p)
-
-commits_no_other : (t b : Name) → is_prefix t b ≡ false → (step : Step) → belongs t step ≡ true → step_commits step b ≡ false
-commits_no_other t b out (steps.Commit c) h = other t b c out (below_only t c h)
-commits_no_other t b out (steps.Decide c) h = other t b c out (subst (λ d. is_prefix t d ≡ true) (same_name_true t c h) (prefix_self t))
-commits_no_other t b out _ h = refl
-
-aborts_no_other : (t b : Name) → is_prefix t b ≡ false → (step : Step) → belongs t step ≡ true → step_aborts step b ≡ false
-aborts_no_other t b out (steps.Abort c) h = other t b c out (at_or_below t c h)
-aborts_no_other t b out _ h = refl
-
-ends_no_other : (t b : Name) (x y : World) → is_prefix t b ≡ false → Goes (belongs t) x y → is_ended b y.past ≡ is_ended b x.past
-ends_no_other t b x y out a =
-    ap (λ c. c || is_aborted b y.past) (kept (λ step. step_commits step b) (belongs t) x y (commits_no_other t b out) a)
-    ∙ ap (λ c. is_committed b x.past || c) (kept (λ step. step_aborts step b) (belongs t) x y (aborts_no_other t b out) a)
+use Rattle.service.proofs.Going.{all_within, began_new, began_stays, began_within, begun_only, end_crashes_not, goes_grows, goes_one, goes_then, goes_wider, kept, settled_stays, short_after, short_in, short_then, short_wider, step_kept, voters_then, with_each, with_tops, with_work, work_commits_not}
+use Rattle.service.proofs.Others.{commits_no_other, end_votes_other, ends_no_other, single_prefix}
 
 or_none : (c : Bool) → c || false ≡ c
 or_none true = refl
 or_none false = refl
 
--- work votes on nothing
-work_votes_not : (a t : Name) (g : ℕ) (step : Step) → works_in a step ≡ true → step_votes step g t ≡ false
-work_votes_not a t g (steps.Prepare h b) own = absurd (false≢true own)
-work_votes_not a t g _ own = refl
+-- a step that begins a top action does nothing else
+pub record BeginsOnly (first : Step) : Type 0 where
+  pub votes : (t : Name) (g : ℕ) → step_votes first g t ≡ false
+  pub commits : (b : Name) → step_commits first b ≡ false
+  pub aborts : (b : Name) → step_aborts first b ≡ false
 
-work_belongs : (t : Name) (step : Step) → works_in t step ≡ true → belongs t step ≡ true
-work_belongs t step h = or_left _ _ h
+pub top_begins_only : (home : ℕ) → BeginsOnly (steps.Top home)
+top_begins_only home = record { votes = λ t g. refl; commits = λ b. refl; aborts = λ b. refl }
 
-end_belongs : (t : Name) (step : Step) → ends_top t step ≡ true → belongs t step ≡ true
-end_belongs t step h = or_right (works_in t step) _ h
+pub nested_begins_only : (a : Name) → BeginsOnly (steps.NestedTop a)
+nested_begins_only a = record { votes = λ t g. refl; commits = λ b. refl; aborts = λ b. refl }
 
 -- ---- a transaction
 
-module _ {T E : Type 0} (home : ℕ) (top : Name) (guardians : List ℕ) (w x y z : World) (mid left : Option CallFault) (committed : Bool)
-    (outcome : Outcome T E) (said : has_committed outcome ≡ committed) (down : outcome ≡ Aborted Vote → is_voted_down top z.past ≡ true)
-    (stopped : (fault : CallFault) → outcome ≡ Aborted (ByStep fault) → CameToNothing (ends_top top) is_concluding y z fault)
-    (begins_there : Begins home top w x) (reached : has_number guardians home ≡ true) (works : Works top x y None mid)
-    (ends : EndsTop top guardians y z mid left committed) where
-  there : x ≡ record { lists = w.lists; past = record { step = steps.Top home; answer = answers.Began (top ∷ []) } ∷ w.past }
-  there = begins_there.after
+module _ {T E : Type 0} (first : Step) (only : BeginsOnly first) (home number : ℕ) (at : Place) (w x z : World) (ended : Transacted T E)
+    (begins : Begins first at.action w x) (named : at.action ≡ number ∷ []) (home_there : began_at home at.action x.past ≡ true)
+    (reached : has_number at.reached.items home ≡ true) (runs : RunsTop at x z ended) where
+  abbrev top : Name
+  top = at.action
 
-  work_goes : Goes (belongs top) x y
-  work_goes = goes_wider (works_in top) (belongs top) x y (work_belongs top) works.goes
+  abbrev y : World
+  y = runs.worked
 
-  end_goes : Goes (belongs top) y z
-  end_goes = goes_wider (ends_top top) (belongs top) y z (end_belongs top) ends.concludes.goes
+  abbrev event : Event
+  event = record { step = first; answer = answers.Began (top ∷ []) }
 
-  goes : Goes (belongs top) x z
-  goes = goes_then (belongs top) x y z work_goes end_goes
+  there : x ≡ record { lists = w.lists; past = event ∷ w.past }
+  there = begins.after
+
+  follows_first : Follows w.past x.past
+  follows_first = subst (λ (v : World). Follows w.past v.past) (sym there) (later event here)
+
+  abbrev mine : Step → Bool
+  mine = belongs_to (top ∷ runs.works.tops)
+
+  work_belongs : (step : Step) → works_with runs.works.tops top step ≡ true → mine step ≡ true
+  work_belongs step h = elim (or_cases (works_in top step) (belongs_to runs.works.tops step) h) [
+    | inl k ↦ or_left (works_in top step || ends_top top step) (belongs_to runs.works.tops step) (or_left (works_in top step) (ends_top top step) k)
+    | inr k ↦ or_right (works_in top step || ends_top top step) (belongs_to runs.works.tops step) k
+  ]
+
+  end_belongs : (step : Step) → ends_top top step ≡ true → mine step ≡ true
+  end_belongs step h =
+      or_left (works_in top step || ends_top top step) (belongs_to runs.works.tops step) (or_right (works_in top step) (ends_top top step) h)
+
+  work_goes : Goes mine x y
+  work_goes = goes_wider (works_with runs.works.tops top) mine x y work_belongs runs.works.goes
+
+  end_goes : Goes mine y z
+  end_goes = goes_wider (ends_top top) mine y z end_belongs runs.ends.concludes.goes
+
+  goes : Goes mine x z
+  goes = goes_then mine x y z work_goes end_goes
+
+  -- ---- in a run the top actions that began in it are others
+
+  run_x : IsRun (opening_in w.lists) w.past → IsRun (opening_in w.lists) x.past
+  run_x run = subst (λ (v : World). IsRun (opening_in w.lists) v.past) (sym there) (sym begins.answer, refl, run)
+
+  run_y : IsRun (opening_in w.lists) w.past → IsRun (opening_in w.lists) y.past
+  run_y run =
+      subst (λ past. IsRun (opening_in w.lists) past) (sym runs.works.goes.past)
+      (subst (λ lists. IsRun (opening_in w.lists) (history_from (opening_in lists) x.past runs.works.goes.made))
+      (sym (ap (λ (v : World). v.lists) there))
+      (run_from (opening_in w.lists) x.past runs.works.goes.made (run_x run)))
+
+  begun_top : is_begun top x.past ≡ true
+  begun_top = ap (λ (v : World). is_begun top v.past) there ∙ or_left (same_name top top) _ (same_name_self top)
+
+  apart : IsRun (opening_in w.lists) w.past → (t : Name) → has_name runs.works.tops t ≡ true → is_prefix t top ≡ false
+  apart run t i =
+      let b = runs.works.began t i in
+      let unbegun : is_begun t x.past ≡ false =
+      began_new (opening_in w.lists) b.recent x.past t (subst (λ past. IsRun (opening_in w.lists) past) b.parts (run_y run)) b.begun in
+      false_from_ne_true _ (λ h.
+      clash begun_top (subst (λ c. is_begun c x.past ≡ false) (single_prefix t top b.number number b.named named h) unbegun))
+
+  commits_not : IsRun (opening_in w.lists) w.past → (step : Step) → works_with runs.works.tops top step ≡ true → step_commits step top ≡ false
+  commits_not run step own =
+      with_each (λ s. step_commits s top ≡ false) runs.works.tops top step (work_commits_not top step)
+      (λ t i k. commits_no_other t top (apart run t i) step k) own
 
   fresh : IsRun (opening_in w.lists) w.past → is_committed top w.past ≡ false
   fresh run =
       false_from_ne_true _ (λ h.
       clash (or_left _ _ (same_name_self top))
-      (begun_once (opening_in w.lists) (record { step = steps.Top home; answer = answers.Began (top ∷ []) }) w.past top
-      (sym begins_there.answer, refl, run)
-      (committed_begun (opening_in w.lists) w.past top run h)))
+      (begun_once (opening_in w.lists) event w.past top (sym begins.answer, refl, run) (committed_begun (opening_in w.lists) w.past top run h)))
 
-  says : IsRun (opening_in w.lists) w.past → is_committed top z.past ≡ has_committed outcome
+  says : IsRun (opening_in w.lists) w.past → is_committed top z.past ≡ has_committed ended.outcome
   says run =
-      ends.concludes.says
-      ∙ ap (λ b. committed || b)
-      (kept (λ step. step_commits step top) (works_in top) x y (work_commits_not top) works.goes
-      ∙ ap (λ (v : World). is_committed top v.past) there
+      runs.ends.concludes.says
+      ∙ ap (λ b. has_committed ended.outcome || b)
+      (kept (λ step. step_commits step top) (works_with runs.works.tops top) x y (commits_not run) runs.works.goes
+      ∙ step_kept (λ step. step_commits step top) first (answers.Began (top ∷ [])) w x (only.commits top) begins.after
       ∙ fresh run)
-      ∙ or_none committed
-      ∙ sym said
+      ∙ or_none (has_committed ended.outcome)
 
-  top_settled : left ≡ None → IsSettled top z
+  -- ---- what is settled
+
+  top_settled : ended.left ≡ None → IsSettled top z
   top_settled h = record {
-    ended = (ends.settled h).1;
+    ended = (runs.ends.settled h).1;
     home = home;
-    there =
-        any_stays (λ (e : Event). begins e top && begins_at e.step home) (goes_grows (belongs top) x z goes)
-        (begun_at (steps.Top home) home top w x (eqb_self home) there);
-    told = told_at top guardians z home (ends.settled h).2 reached;
+    there = began_stays home top (goes_grows mine x z goes) home_there;
+    told = told_at top runs.guardians z home (runs.ends.settled h).2 (runs.reached home reached);
   }
 
-  all_settled : left ≡ None → AllSettled w z
+  all_settled : ended.left ≡ None → AllSettled w z
   all_settled h b new old = of (is_begun b x.past) refl
     where
       of : (t : Bool) → is_begun b x.past ≡ t → IsSettled b z
-      of true e = subst (λ c. IsSettled c z) (begun_only (steps.Top home) home top w x (eqb_self home) there b e old) (top_settled h)
+      of true e = subst (λ c. IsSettled c z) (begun_only first top w x there b e old) (top_settled h)
       of false e =
-          settled_stays (ends_top top) y z b (end_crashes_not top) ends.concludes.goes
-          ((works.settled (ends.settled h).0).1 b (sym (ends.concludes.none b) ∙ new) e)
+          settled_stays (ends_top top) y z b (end_crashes_not top) runs.ends.concludes.goes
+          ((runs.works.settled (runs.ends.settled h).0).1 b (sym (runs.ends.concludes.none b) ∙ new) e)
 
-  -- who votes was reached
-  voter_reached : (g : ℕ) → has_voted g top z.past ≡ true → has_voted g top w.past ≡ false → (t : Bool) → has_number guardians g ≡ t → t ≡ true
-  voter_reached g voted not_yet true e = refl
-  voter_reached g voted not_yet false e =
-      absurd
-      (clash voted
-      (ends.concludes.voted g e
-      ∙ kept (λ step. step_votes step g top) (works_in top) x y (work_votes_not top top g) works.goes
-      ∙ ap (λ (v : World). has_voted g top v.past) there
-      ∙ not_yet))
+  -- who votes in the end was reached
+  end_voters : ended.left ≡ None → AllVotersTold y z
+  end_voters h t g new old = of (same_name top t) refl
+    where
+      number_of : (b : Bool) → has_number runs.guardians g ≡ b → same_name top t ≡ true → b ≡ true
+      number_of true e same = refl
+      number_of false e same =
+          let is : top ≡ t = same_name_true top t same in
+          absurd
+          (clash new (subst (λ u. has_voted g u z.past ≡ has_voted g u y.past) is (runs.ends.concludes.voted g e) ∙ old))
 
-  voters_told : left ≡ None → (g : ℕ) → has_voted g top z.past ≡ true → has_voted g top w.past ≡ false → told_since_crash g top z.past ≡ true
-  voters_told h g voted not_yet =
-      told_at top guardians z g (ends.settled h).2 (voter_reached g voted not_yet (has_number guardians g) refl)
+      of : (b : Bool) → same_name top t ≡ b → told_since_crash g t z.past ≡ true
+      of true e =
+          subst (λ u. told_since_crash g u z.past ≡ true) (same_name_true top t e)
+          (told_at top runs.guardians z g (runs.ends.settled h).2 (number_of (has_number runs.guardians g) refl e))
+      of false e =
+          absurd
+          (clash new (kept (λ step. step_votes step g t) (ends_top top) y z (end_votes_other top t g e) runs.ends.concludes.goes ∙ old))
 
-  none_was : (fault : CallFault) → (None ≡ Some fault) ⊎ FallsShort (belongs top) x z fault → FallsShort (belongs top) x z fault
-  none_was fault (inl h) = cc
-  none_was fault (inr s) = s
+  all_voters : ended.left ≡ None → AllVotersTold w z
+  all_voters h t g new old =
+      voters_then (ends_top top) x y z (end_crashes_not top) (runs.works.settled (runs.ends.settled h).0).2 (end_voters h)
+      runs.ends.concludes.goes t g new
+      (step_kept (λ step. step_votes step g t) first (answers.Began (top ∷ [])) w x (only.votes t g) begins.after ∙ old)
 
-  falls_short : (fault : CallFault) → left ≡ Some fault → FallsShort (belongs top) x z fault
-  falls_short fault h =
-      none_was fault
-      (short_then (belongs top) x y z None mid left work_goes end_goes
-      (λ f e. short_in (works_in top) (belongs top) x y None f (work_belongs top) (works.short f e))
-      (λ f e. short_in (ends_top top) (belongs top) y z mid f (end_belongs top) (ends.short f e))
-      fault h)
+  settled : ended.left ≡ None → (at.left ≡ None) × AllSettled w z × AllVotersTold w z
+  settled h = ((runs.works.settled (runs.ends.settled h).0).0, all_settled h, all_voters h)
 
-  pub is_transacted : IsTransacted home w z (record { outcome = outcome; left = left })
+  falls_short : (fault : CallFault) → ended.left ≡ Some fault → (at.left ≡ Some fault) ⊎ FallsShort mine x z fault
+  falls_short =
+      short_then mine x y z at.left runs.mid ended.left work_goes end_goes
+      (λ f e. short_in (works_with runs.works.tops top) mine x y at.left f work_belongs (runs.works.short f e))
+      (λ f e. short_in (ends_top top) mine y z runs.mid f end_belongs (runs.ends.short f e))
+
+  no_other : (b : Name) → list_any (λ t. is_prefix t b) (top ∷ runs.works.tops) ≡ false → is_ended b z.past ≡ is_ended b w.past
+  no_other b out =
+      ends_no_other (top ∷ runs.works.tops) b x z out goes
+      ∙ ap (λ c. c || is_aborted b x.past)
+      (step_kept (λ step. step_commits step b) first (answers.Began (top ∷ [])) w x (only.commits b) begins.after)
+      ∙ ap (λ c. is_committed b w.past || c)
+      (step_kept (λ step. step_aborts step b) first (answers.Began (top ∷ [])) w x (only.aborts b) begins.after)
+
+  pub is_transacted : IsTransacted first w z ended.outcome at.left ended.left
   is_transacted = record {
     top = top;
     begun = x;
-    begins = begins_there;
+    begins = begins;
+    tops = runs.works.tops;
+    began = all_within runs.works.tops x x y z here runs.works.began (goes_grows mine y z end_goes);
     goes = goes;
     says = says;
-    vote = down;
-    step = λ fault h. short_after (belongs top) x y z fault work_goes (short_wider (ends_top top) (belongs top) y z fault (end_belongs top) (stopped fault h));
-    settled = all_settled;
-    voters = voters_told;
+    vote = runs.vote;
+    step = λ fault h. short_after mine x y z fault work_goes (short_wider (ends_top top) mine y z fault end_belongs (runs.step fault h));
+    settled = settled;
     short = falls_short;
-    others = λ b out. ends_no_other top b x z out goes ∙ ap (λ (v : World). is_ended b v.past) there;
+    others = no_other;
   }
+
+  -- ---- as work of the action that began it
+
+  began_top : Began top w x
+  began_top = record {
+    number = number;
+    named = named;
+    recent = event ∷ [];
+    parts = ap (λ (v : World). v.past) there;
+    begun = or_left (same_name top top) _ (same_name_self top);
+  }
+
+  begins_made : x ≡ world_after w first (answer_of (opening_in w.lists) first w.past)
+  begins_made = begins.after ∙ ap (λ answer. world_after w first answer) (sym begins.answer)
+
+  module _ (a : Name) (own : works_in a first ≡ true) where
+    abbrev working : Step → Bool
+    working = works_with (top ∷ runs.works.tops) a
+
+    first_goes : Goes working w x
+    first_goes = goes_one working first w x (with_work (top ∷ runs.works.tops) a first own) begins_made
+
+    rest_goes : Goes working x z
+    rest_goes = goes_wider mine working x z (with_tops (top ∷ runs.works.tops) a) goes
+
+    began : (t : Name) → has_name (top ∷ runs.works.tops) t ≡ true → Began t w z
+    began t i = by (or_cases (same_name top t) (has_name runs.works.tops t) i)
+      where
+        by : (same_name top t ≡ true) ⊎ (has_name runs.works.tops t ≡ true) → Began t w z
+        by (inl k) =
+            subst (λ u. Began u w z) (same_name_true top t k) (began_within top w w x z here began_top (goes_grows mine x z goes))
+        by (inr k) = began_within t w x y z follows_first (runs.works.began t k) (goes_grows mine y z end_goes)
+
+    short_there : (fault : CallFault) → (at.left ≡ Some fault) ⊎ FallsShort mine x z fault → (at.left ≡ Some fault) ⊎ FallsShort working w z fault
+    short_there fault (inl h) = inl h
+    short_there fault (inr s) =
+        inr (short_after working w x z fault first_goes (short_wider mine working x z fault (with_tops (top ∷ runs.works.tops) a) s))
+
+    pub nested_works : Works a w z at.left ended.left
+    nested_works = record {
+      tops = top ∷ runs.works.tops;
+      began = began;
+      goes = goes_then working w x z first_goes rest_goes;
+      settled = settled;
+      short = λ fault h. short_there fault (falls_short fault h);
+    }

@@ -12,10 +12,12 @@ use Rattle.service.specs.declared.place.Place.{Place}
 abbrev pub BeganAt : Place → Answer → Type 0
 BeganAt at answer = BeganOne at.action answer
 
--- The run and the action as work begins, the guardians reached until then, and what came to nothing until then.
+-- The run, the action and its home as work begins, the guardians reached until then, and what came to nothing until
+-- then.
 pub record Start : Type 0 where
   pub run : World
   pub action : Name
+  pub home : ℕ
   pub reached : List ℕ
   pub left : Option CallFault
 
@@ -24,6 +26,7 @@ abbrev pub nowhere : Start
 nowhere = record {
   run = record { lists = fresh_lists []; past = [] };
   action = [];
+  home = 0;
   reached = [];
   left = None;
 }

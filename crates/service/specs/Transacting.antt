@@ -1,7 +1,7 @@
 -- What a transaction does to a run.
-use Rattle.std.specs.Prelude.{◌≡◌, ◌⊎◌, ℕ, Bool, true, false, not, ◌==◌, ◌&&◌, ◌||◌, List, [], ◌∷◌, Option, Some, None, Err}
+use Rattle.std.specs.Prelude.{◌≡◌, ◌⊎◌, ℕ, Bool, true, false, not, ◌==◌, ◌&&◌, ◌||◌, List, [], ◌∷◌, ◌++◌, Option, Some, None, Err}
 use Rattle.std.specs.List.{list_all, list_any}
-use Rattle.action_names.specs.Names.{Name, is_prefix, parent_of, same_name}
+use Rattle.action_names.specs.Names.{Name, has_name, is_prefix, parent_of, same_name}
 use Rattle.run_model.specs.declared.answer.Answer.{Answer}
 use Rattle.run_model.specs.declared.answer.Answer.TheVariants as answers
 use Rattle.run_model.specs.declared.history.Event.{Event}
@@ -18,7 +18,9 @@ use Rattle.service.specs.Outcomes.{has_committed}
 use Rattle.service.specs.declared.fault.CallFault.{CallFault}
 use Rattle.service.specs.declared.outcome.Cause.TheVariants.{Vote, Step as ByStep}
 use Rattle.service.specs.declared.outcome.Outcome.TheVariants.{Aborted}
+use Rattle.service.specs.declared.outcome.Outcome.{Outcome}
 use Rattle.service.specs.declared.outcome.Transacted.{Transacted}
+use Rattle.service.specs.declared.place.Place.{Place}
 
 -- ---- steps of a transaction
 
@@ -26,8 +28,9 @@ use Rattle.service.specs.declared.outcome.Transacted.{Transacted}
 abbrev pub is_below : Name → Name → Bool
 is_below a b = is_prefix a b && not (is_prefix b a)
 
--- a step of work in an action: it calls and operates there and below, and ends only what is below
+-- a step of work in an action: it calls, operates and begins top actions there and below, and ends only what is below
 abbrev pub works_in : Name → Step → Bool
+works_in a (steps.NestedTop b) = is_prefix a b
 works_in a (steps.Call b g) = is_prefix a b
 works_in a (steps.Op b x wanted) = is_prefix a b
 works_in a (steps.Commit b) = is_below a b
@@ -57,9 +60,17 @@ ends_top t (steps.Abort b) = same_name t b
 ends_top t (steps.Tell g b) = same_name t b
 ends_top t _ = false
 
--- a step of the transaction whose top action this is
+-- a step of work in this top action, or of its end
 abbrev pub belongs : Name → Step → Bool
 belongs t step = works_in t step || ends_top t step
+
+-- a step of work in one of these top actions, or of its end
+abbrev pub belongs_to : List Name → Step → Bool
+belongs_to tops step = list_any (λ t. belongs t step) tops
+
+-- a step of work in this action, or a step of these top actions, which began in it
+abbrev pub works_with : List Name → Name → Step → Bool
+works_with tops a step = works_in a step || belongs_to tops step
 
 -- an action stays open, or a guardian untold, if no such step happens
 abbrev pub is_settling : Step → Bool
@@ -96,15 +107,30 @@ pub record Goes (mine : Step → Bool) (old new : World) : Type 0 where
 abbrev pub NoneBegan : World → World → Type 0
 NoneBegan old new = (b : Name) → is_begun b new.past ≡ is_begun b old.past
 
--- the step begins an action at this guardian
-abbrev pub begins_at : Step → ℕ → Bool
-begins_at (steps.Top h) g = h == g
-begins_at (steps.Call b h) g = h == g
-begins_at _ g = false
+-- A top action began in between.
+pub record Began (t : Name) (old new : World) : Type 0 where
+  pub number : ℕ
+  pub named : t ≡ number ∷ []
+  pub recent : List Event
+  pub parts : new.past ≡ recent ++ old.past
+  pub begun : is_begun t recent ≡ true
+
+-- each of these did
+abbrev pub AllBegan : List Name → World → World → Type 0
+AllBegan tops old new = (t : Name) → has_name tops t ≡ true → Began t old new
+
+-- the step begins an action at this guardian, if its maker began there in case of a nested top action
+abbrev pub begins_at : Step → ℕ → (Name → Bool) → Bool
+begins_at (steps.Top h) g there = h == g
+begins_at (steps.NestedTop b) g there = there b
+begins_at (steps.Call b h) g there = h == g
+begins_at _ g there = false
 
 -- b began at this guardian
 abbrev pub began_at : ℕ → Name → List Event → Bool
-began_at g b past = list_any (λ (e : Event). begins e b && begins_at e.step g) past
+began_at g b [] = false
+began_at g b (e ∷ past) =
+    (begins e b && begins_at e.step g (λ c. began_at g c past)) || began_at g b past
 
 -- It has ended, and the guardian at which it began was told.
 pub record IsSettled (b : Name) (now : World) : Type 0 where
@@ -117,6 +143,11 @@ pub record IsSettled (b : Name) (now : World) : Type 0 where
 abbrev pub AllSettled : World → World → Type 0
 AllSettled old new = (b : Name) → is_begun b new.past ≡ true → is_begun b old.past ≡ false
     → IsSettled b new
+
+-- each guardian that voted in between was told how the top action ended on which it voted
+abbrev pub AllVotersTold : World → World → Type 0
+AllVotersTold old new = (t : Name) (g : ℕ) → has_voted g t new.past ≡ true
+    → has_voted g t old.past ≡ false → told_since_crash g t new.past ≡ true
 
 -- Of these steps one of this kind came to nothing, for this reason.
 pub record CameToNothing (mine kind : Step → Bool) (old new : World)
@@ -149,16 +180,20 @@ EndedAndTold a g now = (is_ended a now.past ≡ true) × (told_since_crash g a n
 
 -- ---- work
 
--- Work in this action. Unless a step came to nothing, all that it began is settled; the first fault is kept.
+-- Work in this action, and in top actions that began in it. Unless a step came to nothing, all that it began is
+-- settled; the first fault is kept.
 pub record Works (a : Name) (old new : World) (was is : Option CallFault) : Type 0 where
-  pub goes : Goes (works_in a) old new
-  pub settled : is ≡ None → (was ≡ None) × AllSettled old new
+  pub tops : List Name
+  pub began : AllBegan tops old new
+  pub goes : Goes (works_with tops a) old new
+  pub settled : is ≡ None → (was ≡ None) × AllSettled old new × AllVotersTold old new
   pub short : (fault : CallFault) → is ≡ Some fault
-      → (was ≡ Some fault) ⊎ FallsShort (works_in a) old new fault
+      → (was ≡ Some fault) ⊎ FallsShort (works_with tops a) old new fault
 
--- no child of this action has committed in between
+-- no child of this action has committed in between, unless it is below a top action that began in between
 abbrev pub CommitsNoChild : Name → World → World → Type 0
 CommitsNoChild a old new = (b : Name) → parent_of b ≡ a
+    → ((t : Name) → Began t old new → is_prefix t b ≡ false)
     → is_committed b new.past ≡ is_committed b old.past
 
 -- ---- the end of a top action
@@ -198,50 +233,68 @@ pub record EndsTop (t : Name) (guardians : List ℕ) (old new : World)
 
 -- ---- transactions
 
--- The top action of the transaction began at its home.
-pub record Begins (home : ℕ) (top : Name) (old new : World) : Type 0 where
-  pub answer : answer_of (opening_in old.lists) (steps.Top home) old.past
-      ≡ answers.Began (top ∷ [])
-  pub after : new ≡ world_after old (steps.Top home) (answers.Began (top ∷ []))
+-- The step began the top action.
+pub record Begins (first : Step) (top : Name) (old new : World) : Type 0 where
+  pub answer : answer_of (opening_in old.lists) first old.past ≡ answers.Began (top ∷ [])
+  pub after : new ≡ world_after old first (answers.Began (top ∷ []))
 
--- The top action of a transaction began at this home, and the transaction ended so.
-pub record IsTransacted {T E : Type 0} (home : ℕ) (old new : World)
-    (ended : Transacted T E) : Type 0 where
+-- The step began the top action of a transaction, which ended so. What came to nothing before is kept, and else the
+-- first fault of its own.
+pub record IsTransacted {T E : Type 0} (first : Step) (old new : World) (outcome : Outcome T E)
+    (was is : Option CallFault) : Type 0 where
   pub top : Name
   pub begun : World
-  pub begins : Begins home top old begun
-  -- the run goes on by steps of this transaction alone
-  pub goes : Goes (belongs top) begun new
+  pub begins : Begins first top old begun
+  -- the run goes on by steps of this transaction alone, and of top actions that began in it
+  pub tops : List Name
+  pub began : AllBegan tops begun new
+  pub goes : Goes (belongs_to (top ∷ tops)) begun new
   -- it says committed exactly if its top action has committed
   pub says : IsRun (opening_in old.lists) old.past
-      → is_committed top new.past ≡ has_committed ended.outcome
+      → is_committed top new.past ≡ has_committed outcome
   -- it says that a vote is the cause only if a guardian voted no
-  pub vote : ended.outcome ≡ Aborted Vote → is_voted_down top new.past ≡ true
+  pub vote : outcome ≡ Aborted Vote → is_voted_down top new.past ≡ true
   -- and that a step is only if one that was to close, to vote or to decide came to nothing for this reason
-  pub step : (fault : CallFault) → ended.outcome ≡ Aborted (ByStep fault)
-      → CameToNothing (belongs top) is_concluding begun new fault
-  -- each action that it began has ended, and the guardian at which that began was told
-  pub settled : ended.left ≡ None → AllSettled old new
-  -- each guardian that voted was told
-  pub voters : ended.left ≡ None → (g : ℕ) → has_voted g top new.past ≡ true
-      → has_voted g top old.past ≡ false → told_since_crash g top new.past ≡ true
+  pub step : (fault : CallFault) → outcome ≡ Aborted (ByStep fault)
+      → CameToNothing (belongs_to (top ∷ tops)) is_concluding begun new fault
+  -- each action that began has ended, and the guardian at which it began was told; so was each that voted
+  pub settled : is ≡ None → (was ≡ None) × AllSettled old new × AllVotersTold old new
   -- else a step that was to end or tell something came to nothing, for this reason
-  pub short : (fault : CallFault) → ended.left ≡ Some fault
-      → FallsShort (belongs top) begun new fault
+  pub short : (fault : CallFault) → is ≡ Some fault
+      → (was ≡ Some fault) ⊎ FallsShort (belongs_to (top ∷ tops)) begun new fault
   -- nobody else's action is ended
-  pub others : (b : Name) → is_prefix top b ≡ false
+  pub others : (b : Name) → list_any (λ t. is_prefix t b) (top ∷ tops) ≡ false
       → is_ended b new.past ≡ is_ended b old.past
 
--- It did not begin, for this reason, and nothing has happened.
-pub record IsUnbegun {T E : Type 0} (home : ℕ) (old new : World)
-    (ended : Transacted T E) : Type 0 where
+-- The top action did not begin, for this reason, and nothing has happened.
+pub record IsUnbegun {T E : Type 0} (first : Step) (old new : World) (outcome : Outcome T E)
+    (was is : Option CallFault) : Type 0 where
   pub fault : CallFault
-  pub aborted : ended.outcome ≡ Aborted (ByStep fault)
+  pub aborted : outcome ≡ Aborted (ByStep fault)
   pub gives : Gives {T = Unit {0}} (λ _ answer. ⊥)
-      (answer_of (opening_in old.lists) (steps.Top home) old.past) (Err fault)
+      (answer_of (opening_in old.lists) first old.past) (Err fault)
   pub same : new ≡ old
-  pub none : ended.left ≡ None
+  pub none : is ≡ was
 
-abbrev pub Transacts : {T E : Type 0} → ℕ → World → World → Transacted T E → Type 0
-Transacts home old new ended = ∥ IsUnbegun home old new ended
-    ⊎ IsTransacted home old new ended ∥₁
+abbrev pub Transacts : {T E : Type 0} → Step → World → World → Outcome T E → Option CallFault
+    → Option CallFault → Type 0
+Transacts first old new outcome was is = ∥ IsUnbegun first old new outcome was is
+    ⊎ IsTransacted first old new outcome was is ∥₁
+
+-- a transaction of its own, at this home
+abbrev pub TransactsAt : {T E : Type 0} → ℕ → World → World → Transacted T E → Type 0
+TransactsAt home old new ended =
+    Transacts (steps.Top home) old new ended.outcome None ended.left
+
+-- Work in a top action that has begun, and its end.
+pub record RunsTop {T E : Type 0} (at : Place) (old new : World)
+    (ended : Transacted T E) : Type 0 where
+  pub worked : World
+  pub guardians : List ℕ
+  pub mid : Option CallFault
+  pub works : Works at.action old worked at.left mid
+  pub reached : Includes at.reached.items guardians
+  pub ends : EndsTop at.action guardians worked new mid ended.left (has_committed ended.outcome)
+  pub vote : ended.outcome ≡ Aborted Vote → is_voted_down at.action new.past ≡ true
+  pub step : (fault : CallFault) → ended.outcome ≡ Aborted (ByStep fault)
+      → CameToNothing (ends_top at.action) is_concluding worked new fault

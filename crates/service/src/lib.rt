@@ -5,6 +5,7 @@
 
 mod answered;
 mod fault;
+mod nested;
 mod operations;
 mod outcome;
 mod place;

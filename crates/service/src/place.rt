@@ -10,6 +10,8 @@ use std::alloc::{AllocError, Global};
 #[derive(Drop)]
 pub(crate) struct Place {
     pub(crate) action: Name,
+    /// The guardian at which it began.
+    pub(crate) home: u32,
     /// The guardians that will vote, in rising number: its home, and those of what was committed into it.
     pub(crate) reached: Vec<u32>,
     /// Why a step that was to end or tell something came to nothing, if one did.
@@ -21,6 +23,7 @@ impl Place {
     pub(crate) fn keep(&mut self, left: Option<CallFault>)
         ensures left { self.new.left ≡ left }
         ensures action { self.new.action ≡ self.old.action }
+        ensures home { self.new.home ≡ self.old.home }
         ensures reached { self.new.reached ≡ self.old.reached }
     {
         self.left = left;
@@ -30,6 +33,7 @@ impl Place {
     pub(crate) fn reach(&mut self, reached: Vec<u32>)
         ensures reached { self.new.reached ≡ reached }
         ensures action { self.new.action ≡ self.old.action }
+        ensures home { self.new.home ≡ self.old.home }
         ensures left { self.new.left ≡ self.old.left }
     {
         self.reached = reached;

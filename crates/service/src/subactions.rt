@@ -39,6 +39,7 @@ pub(crate) fn call_in<W: MakesSteps + Drop, J: Work<W>>(
     work: &mut J,
 ) -> Result<J::Value, J::Error>
     ensures action { at.new.action ≡ at.old.action }
+    ensures home { at.new.home ≡ at.old.home }
     ensures reached { Includes at.old.reached.items at.new.reached.items }
     ensures works { ∥ Works at.old.action (W.run service.old.world) (W.run service.new.world)
         at.old.left at.new.left ∥₁ }
@@ -67,7 +68,9 @@ fn begin_sub<W: MakesSteps + Drop>(
     ensures call { IsCall W.run W.leaves (steps.Call at.old.action guardian) BeganAt
         service.old.world service.new.world result }
     ensures action { at.new.action ≡ at.old.action }
+    ensures home { at.new.home ≡ at.old.home }
     ensures reached { at.new.reached ≡ at.old.reached }
+    ensures there { IfOk result (λ sub. sub.home ≡ guardian) }
     ensures more { IfOk result (λ sub. Includes at.old.reached.items sub.reached.items) }
     ensures left { IfOk result (λ sub. sub.left ≡ at.old.left) }
     ensures err { OnErr result (at.new.left ≡ at.old.left) }
@@ -77,6 +80,7 @@ fn begin_sub<W: MakesSteps + Drop>(
     let left = at.left.take();
     Ok(Place {
         action,
+        home: guardian,
         reached,
         left,
     })
@@ -95,6 +99,7 @@ fn commit_sub<W: MakesSteps + Drop>(
     ensures undone { OnErr result (Goes (settles sub.action) (W.run service.old.world)
         (W.run service.new.world)) }
     ensures action { at.new.action ≡ at.old.action }
+    ensures home { at.new.home ≡ at.old.home }
     ensures reached { OnOk result (at.new.reached ≡ sub.reached) }
     ensures err { OnErr result (at.new.reached ≡ at.old.reached) }
 {
@@ -102,6 +107,7 @@ fn commit_sub<W: MakesSteps + Drop>(
         action,
         reached,
         left,
+        ..
     } = sub;
     let (committed, left) = commit_and_tell(service, guardian, &action, left);
     at.keep(left);
@@ -121,6 +127,7 @@ fn abort_sub<W: MakesSteps + Drop>(
         (W.run service.new.world) sub.left at.new.left
         (EndedAndTold sub.action guardian (W.run service.new.world)) }
     ensures action { at.new.action ≡ at.old.action }
+    ensures home { at.new.home ≡ at.old.home }
     ensures reached { at.new.reached ≡ at.old.reached }
 {
     let Place { action, left, .. } = sub;

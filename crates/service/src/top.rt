@@ -27,6 +27,7 @@ pub(crate) fn begin_top<W: MakesSteps + Drop>(
 ) -> Result<Place, CallFault>
     ensures call { IsCall W.run W.leaves (steps.Top home) BeganAt
         service.old.world service.new.world result }
+    ensures home { IfOk result (λ at. at.home ≡ home) }
     ensures reached { IfOk result (λ at. at.reached.items ≡ home ∷ []) }
     ensures left { IfOk result (λ at. at.left ≡ None) }
 {
@@ -34,6 +35,7 @@ pub(crate) fn begin_top<W: MakesSteps + Drop>(
     let action = service.begin(home)?;
     Ok(Place {
         action,
+        home,
         reached,
         left: None,
     })
@@ -59,6 +61,7 @@ pub(crate) fn end_top<W: MakesSteps + Drop>(
         action,
         reached,
         left,
+        ..
     } = at;
     let decided = decide_if(service, &action, reached.as_slice(), commits);
     let left = abort_unless(service, &action, is_yes(&decided), left);

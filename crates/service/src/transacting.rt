@@ -1,8 +1,10 @@
 //! Transactions of a service.
 ghost use Rattle.std.specs.Prelude.{◌≡◌, false, true, IfErr, Ok};
+ghost use Rattle.service.specs.Transacting.{RunsTop, began_at};
 
 use crate::fault::CallFault;
 use crate::outcome::{Cause, Outcome, Transacted};
+use crate::place::Place;
 use crate::service::Service;
 use crate::top::{begin_top, end_top, outcome};
 use crate::transaction::{Work, work_in};
@@ -13,7 +15,7 @@ use stepping::MakesSteps;
 
 impl<W: MakesSteps + Drop> Service<W> {
     ghost use Rattle.service.specs.Outcomes.{is_decided};
-    ghost use Rattle.service.specs.Transacting.{AllVoted, CameToNothing, Concludes, Transacts, ends_top, is_concluding, is_voted_down};
+    ghost use Rattle.service.specs.Transacting.{AllVoted, CameToNothing, Concludes, TransactsAt, ends_top, is_concluding, is_voted_down};
 
     /// Runs the work in a new top action at this home, and then ends the action by two phases: it commits if the work
     /// succeeds and all guardians that it reached vote yes. Else it is aborted. Each of these guardians is told.
@@ -23,22 +25,14 @@ impl<W: MakesSteps + Drop> Service<W> {
         home: u32,
         work: &mut J,
     ) -> Transacted<J::Value, J::Error>
-        ensures { Transacts home (W.run self.old.world) (W.run self.new.world) result }
+        ensures { TransactsAt home (W.run self.old.world) (W.run self.new.world) result }
     {
-        let mut at = match begin_top(self, alloc, home) {
-            Ok(at) => at,
-            Err(fault) => {
-                return Transacted {
-                    outcome: Outcome::Aborted(Cause::Step(fault)),
-                    left: None,
-                };
-            }
-        };
-        let done = work_in::<Brand, W, J>(self, &mut at, work);
-        let (decided, left) = end_top(self, at, done.is_ok());
-        Transacted {
-            outcome: outcome(done, decided),
-            left,
+        match begin_top(self, alloc, home) {
+            Ok(at) => run_top(self, at, work),
+            Err(fault) => Transacted {
+                outcome: Outcome::Aborted(Cause::Step(fault)),
+                left: None,
+            },
         }
     }
 
@@ -63,5 +57,24 @@ impl<W: MakesSteps + Drop> Service<W> {
         }
         self.decide(top)?;
         Ok(true)
+    }
+}
+
+/// Runs the work in a top action that has begun, and then ends the action by two phases: it commits if the work succeeds
+/// and all guardians that it reached vote yes. Else it is aborted. Each of these guardians is told.
+pub(crate) fn run_top<W: MakesSteps + Drop, J: Work<W>>(
+    service: &mut Service<W>,
+    at: Place,
+    work: &mut J,
+) -> Transacted<J::Value, J::Error>
+    requires there { began_at at.home at.action (W.run service.old.world).past ≡ true }
+    ensures { ∥ RunsTop at (W.run service.old.world) (W.run service.new.world) result ∥₁ }
+{
+    let mut at = at;
+    let done = work_in::<Brand, W, J>(service, &mut at, work);
+    let (decided, left) = end_top(service, at, done.is_ok());
+    Transacted {
+        outcome: outcome(done, decided),
+        left,
     }
 }

@@ -1,15 +1,18 @@
 //! The work of a transaction, and what it is given.
-ghost use Rattle.std.specs.Prelude.{◌≡◌, OnErr};
+ghost use Rattle.std.specs.Prelude.{◌≡◌, true, OnErr};
 ghost use Rattle.run_model.specs.declared.step.Step.TheVariants as steps;
-ghost use Rattle.service.specs.Transacting.{Includes, Works};
+ghost use Rattle.service.specs.Transacting.{Includes, Works, began_at};
 
 use crate::fault::CallFault;
+use crate::nested::nest_in;
+use crate::outcome::Outcome;
 use crate::place::Place;
 use crate::service::Service;
 use crate::subactions::{call_in, operate_in};
 use action_names::Name;
 use atomic_types::{Op, Reply};
 use run_model::ObjectId;
+use std::alloc::Global;
 use std::marker::{Brand, PhantomData};
 use stepping::MakesSteps;
 
@@ -33,6 +36,8 @@ pub struct Transaction<'s, W: MakesSteps + Drop, B: Begun> {
     pub(crate) at: &'s mut Place,
     pub(crate) of: PhantomData<B>,
     pub(crate) ghost action: { at.now.action ≡ B.start.action },
+    pub(crate) ghost home: { at.now.home ≡ B.start.home },
+    pub(crate) ghost there: { began_at B.start.home B.start.action B.start.run.past ≡ true },
     pub(crate) ghost reached: { Includes B.start.reached at.now.reached.items },
     pub(crate) ghost works: { ∥ Works B.start.action B.start.run (W.run service.now.world)
         B.start.left at.now.left ∥₁ },
@@ -52,7 +57,7 @@ pub trait Work<W: MakesSteps + Drop> {
 
 impl<'s, W: MakesSteps + Drop, B: Begun> Transaction<'s, W, B> {
     ghost use Rattle.service.specs.Calling.{IsCall, IsReply};
-    ghost use Rattle.service.specs.Transacting.{CommitsNoChild};
+    ghost use Rattle.service.specs.Transacting.{CommitsNoChild, Transacts};
 
     /// Makes an operation on an object at the action's home, and gives the reply.
     pub fn operate(&mut self, object: ObjectId, operation: Op) -> Result<Reply, CallFault>
@@ -75,6 +80,18 @@ impl<'s, W: MakesSteps + Drop, B: Begun> Transaction<'s, W, B> {
     {
         call_in(self.service, self.at, guardian, work)
     }
+
+    /// Begins a nested top action at the action's home, runs the work in it, and ends it by two phases. It commits or
+    /// aborts whether the action commits later or not. The transaction tells what it leaves unsettled.
+    pub fn nested<J: Work<W>>(&mut self, alloc: Global, work: &mut J) -> Outcome<J::Value, J::Error>
+        ensures same_service { self.new.service.ghost_name ≡ self.old.service.ghost_name }
+        ensures same_action { self.new.at.ghost_name ≡ self.old.at.ghost_name }
+        ensures ended { Transacts (steps.NestedTop self.old.at.now.action)
+            (W.run self.old.service.now.world) (W.run self.new.service.now.world) result
+            self.old.at.now.left self.new.at.now.left }
+    {
+        nest_in(self.service, self.at, alloc, work)
+    }
 }
 
 /// Runs the work in the action that has just begun.
@@ -85,6 +102,8 @@ pub(crate) fn work_in<B: Begun, W: MakesSteps + Drop, J: Work<W>>(
 ) -> Result<J::Value, J::Error>
     requires run { B.start.run ≡ W.run service.old.world }
     requires action { B.start.action ≡ at.old.action }
+    requires home { B.start.home ≡ at.old.home }
+    requires there { began_at B.start.home B.start.action B.start.run.past ≡ true }
     requires reached { B.start.reached ≡ at.old.reached.items }
     requires left { B.start.left ≡ at.old.left }
     ensures action { at.new.action ≡ B.start.action }

@@ -10,7 +10,8 @@ use std::alloc::Global;
 use stepping::MakesSteps;
 
 /// One or two items. `CALL OBJECT ..` is an operation, and `fail` gives an error. `at GUARDIAN ITEM` makes the item as a
-/// handler call, and so does `try GUARDIAN ITEM`, which goes on after an error.
+/// handler call, and so does `try GUARDIAN ITEM`, which goes on after an error. `nest ITEM` makes it in a nested top
+/// action, and goes on however that ends.
 #[derive(Drop)]
 pub(crate) struct Items<'a> {
     pub(crate) alloc: Global,
@@ -125,6 +126,10 @@ fn make<W: MakesSteps + Drop, B: Begun>(
     }
     if let Some(given) = item.strip_prefix("try ") {
         let _undone = call(alloc, tx, given);
+        return Ok(());
+    }
+    if let Some(text) = item.strip_prefix("nest ") {
+        let _ended = tx.nested(alloc, &mut Item { alloc, text });
         return Ok(());
     }
     operate(alloc, tx, item)

@@ -1,9 +1,9 @@
 use Rattle.std.proofs.Common.{refl}
 use Rattle.run_model.specs.declared.step.Step.TheVariants as steps
-use Rattle.service.proofs.Calls.{began_at}
+use Rattle.service.proofs.Calls.{begun_place}
 use Rattle.service.proofs.subactions.begin_sub.Goals as goal
 
 pub returns-clause-call : goal.returns-clause-call
 returns-clause-call g c =
-    began_at g.W.MakesSteps.run g.W.MakesSteps.leaves (steps.Call c.args.at.now.action c.args.guardian) c.args.service.now.world
+    begun_place g.W.MakesSteps.run g.W.MakesSteps.leaves (steps.Call c.args.at.now.action c.args.guardian) c.args.service.now.world
     c.call.new.self.world c.in_ok-action.action _ c.in_ok-action.ensures refl

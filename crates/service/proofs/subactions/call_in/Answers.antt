@@ -1,5 +1,8 @@
-use Rattle.std.proofs.Common.{refl, sym}
-use Rattle.service.proofs.Calls.{sub_aborted, sub_worked, works_start}
+use Rattle.std.proofs.Common.{refl, subst, sym, true, ◌≡◌}
+use Rattle.run_model.specs.declared.step.Step.TheVariants as steps
+use Rattle.run_laws.proofs.Names.{eqb_self}
+use Rattle.service.specs.Transacting.{began_at}
+use Rattle.service.proofs.Calls.{began_there, sub_aborted, sub_worked, works_start}
 use Rattle.service.proofs.Undone.{if_error, none_committed_same, sub_undone}
 use Rattle.service.proofs.subactions.call_in.Goals as goal
 
@@ -19,6 +22,17 @@ work_in-requires-clause-run g c = refl
 
 pub work_in-requires-clause-action : goal.work_in-requires-clause-action
 work_in-requires-clause-action g c = refl
+
+pub work_in-requires-clause-home : goal.work_in-requires-clause-home
+work_in-requires-clause-home g c = refl
+
+pub work_in-requires-clause-there : goal.work_in-requires-clause-there
+work_in-requires-clause-there g c =
+    let run = g.W.MakesSteps.run in
+    let begun = c.begin_sub.new.service.world in
+    subst (λ h. began_at h c.in_ok-sub.sub.action (run begun).past ≡ true) (sym c.in_ok-sub.ensures.there)
+    (began_there run g.W.MakesSteps.leaves (steps.Call c.args.at.now.action c.args.guardian) c.args.guardian c.args.service.now.world begun
+    c.in_ok-sub.sub c.in_ok-sub.ensures.call (eqb_self c.args.guardian))
 
 pub work_in-requires-clause-reached : goal.work_in-requires-clause-reached
 work_in-requires-clause-reached g c = refl

@@ -1,9 +1,9 @@
 use Rattle.std.proofs.Common.{refl}
 use Rattle.run_model.specs.declared.step.Step.TheVariants as steps
-use Rattle.service.proofs.Calls.{began_at}
+use Rattle.service.proofs.Calls.{begun_place}
 use Rattle.service.proofs.top.begin_top.Goals as goal
 
 pub returns-clause-call : goal.returns-clause-call
 returns-clause-call g c =
-    began_at g.W.MakesSteps.run g.W.MakesSteps.leaves (steps.Top c.args.home) c.args.service.now.world c.begin.new.self.world
+    begun_place g.W.MakesSteps.run g.W.MakesSteps.leaves (steps.Top c.args.home) c.args.service.now.world c.begin.new.self.world
     c.in_ok-action.action _ c.in_ok-action.ensures refl

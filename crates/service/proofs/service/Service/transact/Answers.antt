@@ -1,32 +1,28 @@
-use Rattle.std.proofs.Common.{refl, ◌∙◌}
-use Rattle.service.proofs.Calls.{if_stopped, top_unbegun, top_worked, undecided_if}
+use Rattle.std.proofs.Common.{None, refl, subst, sym, true, ◌≡◌}
+use Rattle.run_model.specs.declared.step.Step.TheVariants as steps
+use Rattle.run_laws.proofs.Names.{eqb_self}
+use Rattle.service.specs.Transacting.{began_at}
+use Rattle.service.proofs.Calls.{began_there, top_transacted, unbegun}
 use Rattle.service.proofs.service.Service.transact.Goals as goal
+
+pub run_top-requires : goal.run_top-requires
+run_top-requires g c =
+    let run = g.W.MakesSteps.run in
+    let begun = c.begin_top.new.service.world in
+    record {
+      there =
+          subst (λ h. began_at h c.in-Ok.at.action (run begun).past ≡ true) (sym c.in-Ok.ensures.home)
+          (began_there run g.W.MakesSteps.leaves (steps.Top c.args.home) c.args.home c.args.self.now.world begun c.in-Ok.at c.in-Ok.ensures.call
+          (eqb_self c.args.home));
+    }
+
+pub returns-in-Ok : goal.returns-in-Ok
+returns-in-Ok g c =
+    let run = g.W.MakesSteps.run in
+    top_transacted run g.W.MakesSteps.leaves c.args.home c.args.self.now.world c.begin_top.new.service.world (run c.run_top.new.service.world) c.in-Ok.at
+    c.run_top.result c.in-Ok.ensures.reached c.run_top.ensures c.in-Ok.ensures.call c.in-Ok.ensures.left
 
 pub returns-in-Err : goal.returns-in-Err
 returns-in-Err g c =
-    top_unbegun g.W.MakesSteps.run g.W.MakesSteps.leaves c.args.home c.args.self.now.world c.begin_top.new.service.world c.in-Err.fault c.in-Err.ensures.call
-
-pub work_in-done-requires-clause-run : goal.work_in-done-requires-clause-run
-work_in-done-requires-clause-run g c = refl
-
-pub work_in-done-requires-clause-action : goal.work_in-done-requires-clause-action
-work_in-done-requires-clause-action g c = refl
-
-pub work_in-done-requires-clause-reached : goal.work_in-done-requires-clause-reached
-work_in-done-requires-clause-reached g c = refl
-
-pub work_in-done-requires-clause-left : goal.work_in-done-requires-clause-left
-work_in-done-requires-clause-left g c = refl
-
-pub outcome-requires : goal.outcome-requires
-outcome-requires g c = undecided_if c.work_in-done.result c.is_ok.result _ c.is_ok.ensures.value c.end_top-decided.ensures.asked
-
-pub returns : goal.returns
-returns g c =
-    let run = g.W.MakesSteps.run in
-    top_worked run g.W.MakesSteps.leaves c.args.home c.args.self.now.world c.begin_top.new.service.world (run c.work_in-done.new.service.world)
-    (run c.end_top-decided.new.service.world) c.in-Ok.at _ _ _ _ _ c.outcome.result c.in-Ok.ensures.call c.in-Ok.ensures.reached c.in-Ok.ensures.left
-    c.work_in-done.ensures.action c.work_in-done.ensures.reached c.outcome.ensures.committed
-    (λ e. let (ok, refused) = c.outcome.ensures.vote e in c.end_top-decided.ensures.down refused (c.is_ok.ensures.value ∙ ok))
-    (λ fault e. if_stopped _ (c.outcome.ensures.step fault e) c.end_top-decided.ensures.stopped)
-    c.work_in-done.ensures.works c.end_top-decided.ensures.ends
+    unbegun g.W.MakesSteps.run g.W.MakesSteps.leaves (steps.Top c.args.home) c.args.self.now.world c.begin_top.new.service.world c.in-Err.fault None None
+    c.in-Err.ensures.call refl

@@ -11,6 +11,8 @@ invariant_of-self g c =
     let new = run c.call_in.new.service.world in
     record {
       action = c.call_in.ensures.action ∙ c.args.self.now.action;
+      home = c.call_in.ensures.home ∙ c.args.self.now.home;
+      there = c.args.self.now.there;
       reached = λ n h. c.call_in.ensures.reached n (c.args.self.now.reached n h);
       works =
           works_on start.action start.run old new start.left c.args.self.now.at.now.left c.call_in.new.at.left c.args.self.now.works

@@ -12,6 +12,8 @@ invariant_of-self g c =
     let left = c.args.self.now.at.now.left in
     record {
       action = c.args.self.now.action;
+      home = c.args.self.now.home;
+      there = c.args.self.now.there;
       reached = c.args.self.now.reached;
       works =
           works_more start.action start.run old new start.left left left c.args.self.now.works

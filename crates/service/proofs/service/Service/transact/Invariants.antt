@@ -1,7 +1,0 @@
-use Rattle.service.proofs.service.Service.transact.Given as goal
-
--- the top action, as the run is when it has begun
-abbrev pub ghosts-work_in : goal.ghosts-work_in
-ghosts-work_in g a = record {
-  start = record { run = g.W.MakesSteps.run a.service.now.world; action = a.at.now.action; reached = a.at.now.reached.items; left = a.at.now.left };
-}
