@@ -1,11 +1,13 @@
 -- The order of names by their first numbers that differ.
-use Rattle.std.proofs.Common.{◌≡◌, ◌≢◌, ℕ, zero, suc, ◌<◌, min, [], ◌∷◌, length, get_or, refl, ◌∙◌, arith}
+use Rattle.std.proofs.Common.{◌≡◌, ◌≢◌, ℕ, zero, suc, ◌<◌, true, false, min, [], ◌∷◌, length, get_or, refl, ap, ◌∙◌, arith}
 use Rattle.std.specs.Ordering.{nat_cmp, ordering_then}
 use Rattle.std.specs.declared.cmp.Ordering.{Ordering}
 use Rattle.std.specs.declared.cmp.Ordering.TheVariants.{Less, Greater}
 use Rattle.std.specs.Cmp.{nat_cmp_is}
+use Rattle.std.proofs.lemmas.Bool.{eq-eqb, false_from_ne_true}
 use Rattle.std.proofs.lemmas.Bool.Decides.{nat_tests}
-use Rattle.action_names.specs.Names.{Name, name_cmp}
+use Rattle.action_names.specs.Names.{Name, name_cmp, same_name}
+use Rattle.action_names.proofs.Ancestry.{and_of, same_is}
 
 differing : (x y : ℕ) (r : Ordering) → x ≢ y → ordering_then (nat_cmp x y) r ≡ nat_cmp x y
 differing x y r ne = grind (arith, nat_tests)
@@ -44,3 +46,15 @@ beginning (x ∷ a) (y ∷ b) zero e same = absurd (omega arith)
 beginning (x ∷ a) (y ∷ b) (suc n) e same =
     same_number x y (name_cmp a b) (same 0 (omega arith)) ∙ beginning a b n (omega arith) (below_rest x y a b n same)
     ∙ one_more (length a) (length b)
+
+-- names with as many numbers, of which each is the same, are the same
+pub same_throughout : (a b : Name) → length a ≡ length b → ((k : ℕ) → k < length a → get_or a k 0 ≡ get_or b k 0) → same_name a b ≡ true
+same_throughout [] [] e same = refl
+same_throughout [] (y ∷ b) e same = absurd (omega arith)
+same_throughout (x ∷ a) [] e same = absurd (omega arith)
+same_throughout (x ∷ a) (y ∷ b) e same =
+    and_of _ _ (eq-eqb x y (same 0 (omega arith))) (same_throughout a b (omega arith) (below_rest x y a b (length a) same))
+
+-- names that differ in a number are not the same
+pub differs_at : (a b : Name) (i : ℕ) → get_or a i 0 ≢ get_or b i 0 → same_name a b ≡ false
+differs_at a b i ne = false_from_ne_true _ (λ h. ne (ap (λ c. get_or c i 0) (same_is a b h)))

@@ -359,7 +359,7 @@ impl PartialEq for Name {
     ghost laws = { same_name-partial_equivalence };
 
     fn eq(&self, other: &Self) -> bool {
-        self.depth() == other.depth() && self.cmp(other).is_eq()
+        is_same(self.components(), other.components())
     }
 }
 
@@ -389,6 +389,24 @@ impl Ord for Name {
     fn cmp(&self, other: &Self) -> Ordering {
         order(self.components(), other.components())
     }
+}
+
+/// Whether two lists of numbers are the same. Names that differ mostly have the same first number, so it begins at the
+/// last one.
+fn is_same(own: &[u32], others: &[u32]) -> bool
+    ensures { result ≡ same_name own.now others.now }
+{
+    let mut left = own.len();
+    if left != others.len() {
+        return false;
+    }
+    while left > 0 {
+        left -= 1;
+        if own[left] != others[left] {
+            return false;
+        }
+    }
+    true
 }
 
 /// The order of two lists of numbers. Names are short: a plain loop is done before a comparison by groups has begun.
