@@ -1,0 +1,4 @@
+pub mod Looking
+pub mod Standing
+pub mod Growing
+pub mod Walking
