@@ -14,6 +14,7 @@ ghost use Rattle.guardian_objects.specs.Turns.{Aborts, AreChanged, Commits, Has,
 
 use crate::objects::Objects;
 use action_names::Name;
+use places::Places;
 use std::alloc::{AllocError, Global};
 use tellings::Tellings;
 
@@ -52,6 +53,7 @@ impl Objects {
     pub fn plan(
         &mut self,
         outcomes: &[(Name, bool)],
+        places: &Places,
         told: &Tellings,
         planned: &mut Planned,
     ) -> Result<(), AllocError>
@@ -62,14 +64,14 @@ impl Objects {
         ensures count { length self.new.objects ≡ length self.old.objects }
         ensures fits { OnOk result (Fits self.new planned.new.tellings.items) }
         ensures outcomes { OnOk result (outcomes_of planned.new.tellings.items ≡ outcomes.now) }
-        ensures planned { OnOk result ((g : ℕ) (here : List LocalEvent) → AreTold g here told.now
-            → ArePlanned here planned.new.tellings.items) }
+        ensures planned { OnOk result ((g : ℕ) (here : List LocalEvent)
+            → AreTold g here places.now told.now → ArePlanned here planned.new.tellings.items) }
     {
         planned.tellings.clear();
         let alone = is_alone(outcomes);
         for (action, committed) in outcomes {
             let before = planned.tellings.last();
-            let telling = self.plan_one(action, *committed, alone, before, told)?;
+            let telling = self.plan_one(action, *committed, alone, before, places, told)?;
             planned.tellings.push(telling)?;
         }
         Ok(())
@@ -103,6 +105,7 @@ impl Objects {
         committed: bool,
         alone: bool,
         before: Option<&Telling>,
+        places: &Places,
         told: &Tellings,
     ) -> Result<Telling, AllocError>
         requires shown { AreSome self.old }
@@ -112,10 +115,10 @@ impl Objects {
         ensures action { IfOk result (λ telling. telling.action ≡ action.now) }
         ensures committed { IfOk result (λ telling. telling.committed ≡ committed) }
         ensures next { IfOk result (λ telling. (g : ℕ) (here : List LocalEvent)
-            → AreTold g here told.now → IsTrue committed
+            → AreTold g here places.now told.now → IsTrue committed
             → telling.to ≡ holder_by (λ b. told_committed_here b here) (parent_of action.now)) }
     {
-        let to = next_holder(action, committed, told)?;
+        let to = next_holder(action, committed, places, told)?;
         let at = self.make_room(action, committed, to.as_ref(), alone, before)?;
         let copy = action.copy()?;
         Ok(Telling {
@@ -234,16 +237,22 @@ fn goes_to(telling: Option<&Telling>, holder: &Name) -> bool
 }
 
 // To whom an action that committed hands on what it holds.
-fn next_holder(action: &Name, committed: bool, told: &Tellings) -> Result<Option<Name>, AllocError>
+fn next_holder(
+    action: &Name,
+    committed: bool,
+    places: &Places,
+    told: &Tellings,
+) -> Result<Option<Name>, AllocError>
     ensures none { IfOk result (λ to. IsFalse committed → to ≡ None) }
     ensures next { IfOk result
-        (λ to. (g : ℕ) (here : List LocalEvent) → AreTold g here told.now → IsTrue committed
+        (λ to. (g : ℕ) (here : List LocalEvent)
+        → AreTold g here places.now told.now → IsTrue committed
         → to ≡ holder_by (λ b. told_committed_here b here) (parent_of action.now)) }
 {
     if !committed {
         return Ok(None);
     }
-    told.next_holder(action)
+    told.next_holder(places, action)
 }
 
 // Telling one outcome.

@@ -1,30 +1,42 @@
--- Tellings of a history: in other rows, and after an event.
-use Rattle.std.proofs.Common.{Bool, List, None, Option, Some, ap, arith, eq-eqb, false, ne_eqb, not, refl, subst, sym, true, ℕ, ◌&&◌, ◌+◌, ◌∙◌, ◌∷◌, ◌≡◌, ◌≤◌, ◌||◌}
+-- Tellings of a history: with more names and other room, and after an event.
+use Rattle.std.proofs.Common.{Bool, List, None, Option, Some, ap, arith, eq-eqb, false, length, max, ne_eqb, not, refl, subst, sym, true, ℕ, ◌&&◌, ◌+◌, ◌∙◌, ◌∷◌, ◌≡◌, ◌≤◌, ◌||◌}
 use Rattle.std.specs.Prelude.{IfSome, is_some}
+use Rattle.std.proofs.lemmas.List.{length-append}
 use Rattle.action_names.specs.Names.{Name}
-use Rattle.holders.specs.Held.{value_at}
+use Rattle.places.specs.Placed.{AreMore}
+use Rattle.places.specs.Rows.{row_at, row_of}
+use Rattle.places.proofs.Standing.{row_more, row_same}
 use Rattle.run_model.specs.Actions.{step_crashes}
 use Rattle.run_model.specs.LocalReadings.{LocalEvent, brings, says_committed, told_committed_here, told_here}
 use Rattle.run_model.specs.Telling.{holder_by, or_else}
-use Rattle.tellings.specs.Hearing.{AreBefore, AreTold, IsHeard, crashes_of, is_in, is_told_committed}
+use Rattle.tellings.specs.Hearing.{AreTold, IsHeard, crashes_of, heard_in, is_in, is_told_committed, told_of}
 use Rattle.tellings.specs.declared.tellings.Heard.{Heard}
 use Rattle.tellings.specs.declared.tellings.Tellings.{Tellings}
 use Rattle.tellings.specs.declared.tellings.Told.{Told}
-use Rattle.tellings.proofs.Rows.{all_found, all_weaker}
+use Rattle.tellings.proofs.Planning.{heard_committed, heard_lives, heard_named}
 
--- tellings with the same values are those of the same history
-pub kept : (before after : Tellings) → crashes_of after ≡ crashes_of before → after.told.held ≡ before.told.held
-    → (g : ℕ) (here : List LocalEvent) → AreTold g here before → AreTold g here after
-kept before after crashes held g here are = record {
-  since = λ b. (λ i. is_in (crashes i) (value_at (held i) b)) ∙ are.since b;
-  committed = λ b. ap (λ hs. is_told_committed (value_at hs b)) held ∙ are.committed b;
-  lives = subst (λ n. AreBefore n after.told.held) (sym crashes) (subst (AreBefore before.crashes) (sym held) are.lives);
+-- with more names, tellings with the same rows are those of the same history
+pub kept : (old new : List Name) (before after : Tellings) → AreMore old new → crashes_of after ≡ crashes_of before
+    → ((i : ℕ) → row_at after.told i ≡ row_at before.told i) → length after.told ≤ max (length before.told) (length new)
+    → (g : ℕ) (here : List LocalEvent) → AreTold g here old before → AreTold g here new after
+kept old new before after more crashes rows within g here are = record {
+  within = omega (arith, within, are.within, ap length more.behind, length-append old more.added);
+  since = λ b. (λ i. is_in (crashes i) (same b i)) ∙ are.since b;
+  committed = λ b. ap is_told_committed (same b) ∙ are.committed b;
+  lives = λ b. subst (λ n. IfSome (told_of new after b) (λ t. t.life ≤ n)) (sym crashes)
+      (subst (λ o. IfSome o (λ t. t.life ≤ before.crashes)) (sym (same b)) (are.lives b));
 }
+  where
+    same : (b : Name) → told_of new after b ≡ told_of old before b
+    same b =
+        row_same new before.told after.told rows b
+        ∙ ap (λ ns. row_of ns before.told b) more.behind
+        ∙ row_more old more.added before.told are.within b
 
--- who holds by the values is who holds in the history
-pub holder_told : (told : Tellings) (g : ℕ) (here : List LocalEvent) → AreTold g here told → (b : Name)
-    → holder_by (λ c. is_told_committed (value_at told.told.held c)) b ≡ holder_by (λ c. told_committed_here c here) b
-holder_told told g here are b = λ i. holder_by (λ c. are.committed c i) b
+-- who holds by the rows is who holds in the history
+pub holder_told : (names : List Name) (told : Tellings) (g : ℕ) (here : List LocalEvent) → AreTold g here names told → (b : Name)
+    → holder_by (λ c. is_told_committed (told_of names told c)) b ≡ holder_by (λ c. told_committed_here c here) b
+holder_told names told g here are b = λ i. holder_by (λ c. are.committed c i) b
 
 -- who was told something by an event, or had been told, was told since the last crash
 since_after : (life : ℕ) (v w : Option Told) (o : Option Bool) (told : Bool) → is_some v ≡ is_some o → IfSome v (λ t. t.life ≡ life) → is_in life w ≡ told
@@ -56,45 +68,61 @@ not_in : (life : ℕ) (o : Option Told) → IfSome o (λ t. t.life ≤ life) →
 not_in life None before = refl
 not_in life (Some t) before = ne_eqb t.life (life + 1) (λ same. omega (arith, same, before))
 
--- what is heard now was not told after this life
-heard_before : (told : Tellings) (outcomes : List (Name × Bool)) (heard : Heard) → IsHeard told outcomes heard → AreBefore told.crashes heard.told.items
-heard_before told outcomes heard is =
-    all_weaker (λ (h : Name × Told). h.1.life ≡ told.crashes) (λ h. h.1.life ≤ told.crashes) (λ h alive. omega (arith, alive)) heard.told.items is.lives
+-- of what is heard now, and what was told before this life's end, nothing was told after it
+lives_after : (life : ℕ) (v w : Option Told) → IfSome v (λ t. t.life ≡ life) → IfSome w (λ t. t.life ≤ life) → IfSome (or_else v w) (λ t. t.life ≤ life)
+lives_after life None w alive before = before
+lives_after life (Some t) w alive before = omega (arith, alive)
 
-module _ (before after : Tellings) (heard : Heard)
-    (values : (b : Name) → value_at after.told.held b ≡ or_else (value_at heard.told.items b) (value_at before.told.held b))
-    (lives : (life : ℕ) → AreBefore life before.told.held → AreBefore life heard.told.items → AreBefore life after.told.held)
-    (g : ℕ) (here : List LocalEvent) (c : LocalEvent) (are : AreTold g here before) (is : IsHeard before c.carried.outcomes heard) where
+early : (life : ℕ) (o : Option Told) → IfSome o (λ t. t.life ≤ life) → IfSome o (λ t. t.life ≤ life + 1)
+early life None before = tt
+early life (Some t) before = omega (arith, before)
+
+module _ (names : List Name) (before after : Tellings) (heard : Heard)
+    (values : (b : Name) → told_of names after b ≡ or_else (heard_in names heard.told.items b) (told_of names before b))
+    (room : length after.told ≡ length before.told)
+    (g : ℕ) (here : List LocalEvent) (c : LocalEvent) (are : AreTold g here names before) (is : IsHeard names before c.carried.outcomes heard) where
+  named : (b : Name) → is_some (heard_in names heard.told.items b) ≡ is_some (brings c b)
+  named b = heard_named names before c.carried.outcomes heard.told.items is b
+
+  alive : (b : Name) → IfSome (heard_in names heard.told.items b) (λ t. t.life ≡ before.crashes)
+  alive b = heard_lives names before c.carried.outcomes heard.told.items is b
+
   -- the commits that were ever told are those of the history with the event
-  commits : (b : Name) → is_told_committed (value_at after.told.held b) ≡ told_committed_here b (c ∷ here)
+  commits : (b : Name) → is_told_committed (told_of names after b) ≡ told_committed_here b (c ∷ here)
   commits b =
       ap is_told_committed (values b)
-      ∙ commit_after (value_at heard.told.items b) (value_at before.told.held b) (brings c b) (told_committed_here b here) (is.named b) (is.committed b) (are.committed b)
+      ∙ commit_after (heard_in names heard.told.items b) (told_of names before b) (brings c b) (told_committed_here b here) (named b)
+      (heard_committed names before c.carried.outcomes heard.told.items is b) (are.committed b)
 
   -- none of them was told after the life before the event
-  none_after : AreBefore before.crashes after.told.held
-  none_after = lives before.crashes are.lives (heard_before before c.carried.outcomes heard is)
+  none_after : (b : Name) → IfSome (told_of names after b) (λ t. t.life ≤ before.crashes)
+  none_after b = subst (λ o. IfSome o (λ t. t.life ≤ before.crashes)) (sym (values b))
+      (lives_after before.crashes (heard_in names heard.told.items b) (told_of names before b) (alive b) (are.lives b))
+
+  inside : length after.told ≤ length names
+  inside = omega (arith, room, are.within)
 
   -- after an event that is no crash
-  pub heard_event : crashes_of after ≡ crashes_of before → step_crashes c.event.step g ≡ false → AreTold g (c ∷ here) after
+  pub heard_event : crashes_of after ≡ crashes_of before → step_crashes c.event.step g ≡ false → AreTold g (c ∷ here) names after
   heard_event crashes stays = record {
+    within = inside;
     since = λ b.
         (λ i. is_in (crashes i) (values b i))
-        ∙ since_after before.crashes (value_at heard.told.items b) (value_at before.told.held b) (brings c b) (told_here g b here) (is.named b)
-        (all_found (λ t. t.life ≡ before.crashes) heard.told.items b is.lives) (are.since b)
+        ∙ since_after before.crashes (heard_in names heard.told.items b) (told_of names before b) (brings c b) (told_here g b here) (named b)
+        (alive b) (are.since b)
         ∙ sym (ap (λ t. not t && (told_here g b here || is_some (brings c b))) stays);
     committed = commits;
-    lives = subst (λ n. AreBefore n after.told.held) (sym crashes) none_after;
+    lives = λ b. subst (λ n. IfSome (told_of names after b) (λ t. t.life ≤ n)) (sym crashes) (none_after b);
   }
 
   -- after a crash
-  pub crashed_event : crashes_of after ≡ crashes_of before + 1 → step_crashes c.event.step g ≡ true → AreTold g (c ∷ here) after
+  pub crashed_event : crashes_of after ≡ crashes_of before + 1 → step_crashes c.event.step g ≡ true → AreTold g (c ∷ here) names after
   crashed_event crashes down = record {
+    within = inside;
     since = λ b.
-        ap (λ n. is_in n (value_at after.told.held b)) crashes
-        ∙ not_in before.crashes (value_at after.told.held b) (all_found (λ t. t.life ≤ before.crashes) after.told.held b none_after)
+        ap (λ n. is_in n (told_of names after b)) crashes
+        ∙ not_in before.crashes (told_of names after b) (none_after b)
         ∙ sym (ap (λ t. not t && (told_here g b here || is_some (brings c b))) down);
     committed = commits;
-    lives = subst (λ n. AreBefore n after.told.held) (sym crashes)
-        (all_weaker (λ (h : Name × Told). h.1.life ≤ before.crashes) (λ h. h.1.life ≤ before.crashes + 1) (λ h early. omega (arith, early)) after.told.held none_after);
+    lives = λ b. subst (λ n. IfSome (told_of names after b) (λ t. t.life ≤ n)) (sym crashes) (early before.crashes (told_of names after b) (none_after b));
   }

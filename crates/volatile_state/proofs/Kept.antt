@@ -130,14 +130,14 @@ module _ {m : InMemory} {p : Plan} {g : GuardianState} {news : News} (s : IsSoun
       TopsAt h = (t : Name) → is_some (prepared_here g.opening h t (stamped 0 news ∷ g.past)) ≡ true → is_top t ≡ true
 
   -- of a top action that was told committed a vote prepares nothing
-  pub parts_none : (top : Name) (told : Bool) (parts : List (ℕ × Part)) → ((h : ℕ) (here : List LocalEvent) → AreTold h here m.told → told ≡ told_committed_here top here)
+  pub parts_none : (top : Name) (told : Bool) (parts : List (ℕ × Part)) → ((h : ℕ) (here : List LocalEvent) → AreTold h here m.places m.told → told ≡ told_committed_here top here)
       → told ≡ true → parts ≡ [] → parts ≡ parts_by g.opening g.number (λ x. standing_here (stamped 0 news ∷ g.past) x) top
   parts_none top told parts says was none =
       none ∙ sym (no_parts g.opening g.number (stamped 0 news) g.past top (sym (says g.number g.past s.tellings) ∙ was))
 
   -- of another one, what the objects say
   pub parts_are : (top : Name) (told : Bool) (parts : List (ℕ × Part)) (outcomes : List (Name × Bool))
-      → ((h : ℕ) (here : List LocalEvent) → AreTold h here m.told → told ≡ told_committed_here top here) → told ≡ false
+      → ((h : ℕ) (here : List LocalEvent) → AreTold h here m.places m.told → told ≡ told_committed_here top here) → told ≡ false
       → outcomes ≡ news.carried.outcomes → votes_yes news.event.step news.event.answer g.number top ≡ true
       → ((opening : Opening) (here : List LocalEvent) (c : LocalEvent) → AreObjects opening here m.objects
       → is_top top ≡ true → told_committed_here top here ≡ false → c.carried.outcomes ≡ outcomes → OnlyTells c here
@@ -179,8 +179,8 @@ LearnsBy p old new = (here : List LocalEvent) (c : LocalEvent) → AreLists here
     → IsLesson c.carried.sender c.carried.life c.carried.aborts c.carried.counts c.carried.outcomes p.lesson → AreLists (c ∷ here) new
 
 abbrev HearsBy : Bool → Plan → Tellings → Tellings → Type 0
-HearsBy crash p old new = (g : ℕ) (here : List LocalEvent) (c : LocalEvent) → AreTold g here old → IsHeard old c.carried.outcomes p.heard
-    → step_crashes c.event.step g ≡ crash → AreTold g (c ∷ here) new
+HearsBy crash p old new = (g : ℕ) (here : List LocalEvent) (c : LocalEvent) (names : List Name) → AreTold g here names old
+    → IsHeard names old c.carried.outcomes p.heard → step_crashes c.event.step g ≡ crash → AreTold g (c ∷ here) names new
 
 module _ (m : InMemory) (p : Plan) (e : Event) (n : ℕ) (told : Tellings) (lists : Lists) (roster : Roster) (objects : Indexed) where
   abbrev after : InMemory
@@ -196,7 +196,7 @@ module _ (m : InMemory) (p : Plan) (e : Event) (n : ℕ) (told : Tellings) (list
       let c = stamped n news in
       let up = crashes_is news e false s same quiet in
       sound_next n news s of.next.agrees
-      (hears g.number g.past c s.tellings of.heard up) (not_counted g.number c g.past _ _ up counts s.lives)
+      (hears g.number g.past c m.places s.tellings of.heard up) (not_counted g.number c g.past _ _ up counts s.lives)
       (learns g.past c s.knowledge (ap (λ h. step_crashes news.event.step h) s.knower ∙ up) of.lesson) own
       (enters g.number g.past c s.actions (actions_at g.number n news g.past of.next.agrees.actions) of.entry)
       (tells g.opening g.past c s.shown of.planned of.outcomes
@@ -217,7 +217,7 @@ module _ (m : InMemory) (p : Plan) (e : Event) (n : ℕ) (told : Tellings) (list
       let step = news.event.step in
       let down = crashes_is news e true s same crash in
       sound_next n news s of.next.agrees
-      (hears g.number g.past c s.tellings of.heard down) (one_counted g.number c g.past _ _ down counts s.lives)
+      (hears g.number g.past c m.places s.tellings of.heard down) (one_counted g.number c g.past _ _ down counts s.lives)
       (forgets g.past c s.knowledge (ap (λ h. step_crashes step h) s.knower ∙ down)) own
       (enters g.number g.past c s.actions (actions_at g.number n news g.past of.next.agrees.actions) of.entry)
       (crashed g.opening g.past c s.shown (λ x own. s.safe x (own ∙ s.owner)) (survivors_are s stays recorded)
@@ -232,7 +232,7 @@ operated_follows m e n objects a x wanted step operates owner g s next =
     let is = event_is s next a x wanted step in
     let untouched = after_operation n a x wanted is.0 g.number g.past e is.1 in
     sound_next n news s next.agrees
-    (untouched.told m.told s.tellings) (s.lives ∙ untouched.crashes)
+    (untouched.told m.places m.told s.tellings) (s.lives ∙ untouched.crashes)
     (untouched.lists m.lists s.knowledge) refl
     (untouched.roster (table m.roster) s.actions)
     (operated s next a x wanted step n objects operates) owner

@@ -58,12 +58,12 @@ module _ {m : InMemory} {g : GuardianState} (s : IsSound m g) where
   -- ---- how many objects a telling changes
 
   -- of what was told committed, none
-  pub counts_none : (a : Name) (committed told : Bool) → ((h : ℕ) (here : List LocalEvent) → AreTold h here m.told → told ≡ told_committed_here a here) → told ≡ true
+  pub counts_none : (a : Name) (committed told : Bool) → ((h : ℕ) (here : List LocalEvent) → AreTold h here m.places m.told → told ≡ told_committed_here a here) → told ≡ true
       → 0 ≡ count_told g a committed
   counts_none a committed told says was = told_counts g a committed (sym (says g.number g.past s.tellings) ∙ was)
 
   -- of other actions, as many as the objects say
-  pub counts_some : (a : Name) (committed told : Bool) (count : ℕ) → ((h : ℕ) (here : List LocalEvent) → AreTold h here m.told → told ≡ told_committed_here a here)
+  pub counts_some : (a : Name) (committed told : Bool) (count : ℕ) → ((h : ℕ) (here : List LocalEvent) → AreTold h here m.places m.told → told ≡ told_committed_here a here)
       → told ≡ false
       → ((opening : Opening) (here : List LocalEvent) → AreObjects opening here m.objects → told_committed_here a here ≡ false
       → count ≡ count_here opening m.objects.guardian a committed here)

@@ -39,11 +39,11 @@ nothing_safe opening x = record { kept = tt; restored = tt }
 abbrev pub nothing_yet : OpeningLists → ℕ → GuardianState
 nothing_yet opening number = record { opening = opening_in opening; number = number; past = [] }
 
-pub nothing_sound : (opening : OpeningLists) (number : ℕ) (told : Tellings) (lists : Lists) (roster : Roster) (objects : Indexed)
-    → 1 ≤ number → AreTold number [] told → hearing.crashes_of told ≡ 0 → AreLists [] lists → guardian_of lists ≡ number
+pub nothing_sound : (opening : OpeningLists) (number : ℕ) (places : List Name) (told : Tellings) (lists : Lists) (roster : Roster) (objects : Indexed)
+    → 1 ≤ number → AreTold number [] places told → hearing.crashes_of told ≡ 0 → AreLists [] lists → guardian_of lists ≡ number
     → IsRoster number [] (table roster) → AreObjects (opening_in opening) [] objects → objects.guardian ≡ number
-    → IsSound (record { opening = opening; number = number; told = told; lists = lists; roster = roster; objects = objects }) (nothing_yet opening number)
-nothing_sound opening number told lists roster objects numbered tellings lives knowledge knower actions shown owner = record {
+    → IsSound (record { opening = opening; number = number; places = places; told = told; lists = lists; roster = roster; objects = objects }) (nothing_yet opening number)
+nothing_sound opening number places told lists roster objects numbered tellings lives knowledge knower actions shown owner = record {
   opened = refl;
   own = refl;
   numbered = numbered;
@@ -60,14 +60,14 @@ nothing_sound opening number told lists roster objects numbered tellings lives k
 
 -- ---- while nothing but room is made
 
-pub sound_same : {opening : OpeningLists} {number : ℕ} {told more_told : Tellings} {lists more_lists : Lists} {roster more_roster : Roster} {objects more_objects : Indexed}
-    {g : GuardianState}
-    → ((h : ℕ) (here : List LocalEvent) → AreTold h here told → AreTold h here more_told) → hearing.crashes_of more_told ≡ hearing.crashes_of told
+pub sound_same : {opening : OpeningLists} {number : ℕ} {places more_places : List Name} {told more_told : Tellings} {lists more_lists : Lists} {roster more_roster : Roster}
+    {objects more_objects : Indexed} {g : GuardianState}
+    → ((h : ℕ) (here : List LocalEvent) → AreTold h here places told → AreTold h here more_places more_told) → hearing.crashes_of more_told ≡ hearing.crashes_of told
     → ((here : List LocalEvent) → AreLists here lists → AreLists here more_lists) → guardian_of more_lists ≡ guardian_of lists
     → ((h : ℕ) (here : List LocalEvent) → IsRoster h here (table roster) → IsRoster h here (table more_roster))
     → Keeps objects more_objects → more_objects.guardian ≡ objects.guardian
-    → IsSound (record { opening = opening; number = number; told = told; lists = lists; roster = roster; objects = objects }) g
-    → IsSound (record { opening = opening; number = number; told = more_told; lists = more_lists; roster = more_roster; objects = more_objects }) g
+    → IsSound (record { opening = opening; number = number; places = places; told = told; lists = lists; roster = roster; objects = objects }) g
+    → IsSound (record { opening = opening; number = number; places = more_places; told = more_told; lists = more_lists; roster = more_roster; objects = more_objects }) g
 sound_same {g = g} tells lives knows knower acts keeps owner s = record {
   opened = s.opened;
   own = s.own;
@@ -126,15 +126,15 @@ tops_next opening g c here voted before t = of (votes_yes c.event.step c.event.a
     of false vote true h = absurd (false≢true h)
     of false vote false h = before t h
 
-pub sound_next : {opening : OpeningLists} {number : ℕ} {told more_told : Tellings} {lists more_lists : Lists} {roster more_roster : Roster} {objects more_objects : Indexed}
-    {g : GuardianState} (n : ℕ) (e : News)
-    → IsSound (record { opening = opening; number = number; told = told; lists = lists; roster = roster; objects = objects }) g
+pub sound_next : {opening : OpeningLists} {number : ℕ} {places : List Name} {told more_told : Tellings} {lists more_lists : Lists} {roster more_roster : Roster}
+    {objects more_objects : Indexed} {g : GuardianState} (n : ℕ) (e : News)
+    → IsSound (record { opening = opening; number = number; places = places; told = told; lists = lists; roster = roster; objects = objects }) g
     → Agrees g.opening g.number (stamped 0 e) g.past
-    → AreTold g.number (stamped n e ∷ g.past) more_told → hearing.crashes_of more_told ≡ crashes g.number (events_here (stamped n e ∷ g.past))
+    → AreTold g.number (stamped n e ∷ g.past) places more_told → hearing.crashes_of more_told ≡ crashes g.number (events_here (stamped n e ∷ g.past))
     → AreLists (stamped n e ∷ g.past) more_lists → guardian_of more_lists ≡ guardian_of lists
     → IsRoster g.number (stamped n e ∷ g.past) (table more_roster)
     → AreObjects g.opening (stamped n e ∷ g.past) more_objects → more_objects.guardian ≡ objects.guardian
-    → IsSound (record { opening = opening; number = number; told = more_told; lists = more_lists; roster = more_roster; objects = more_objects }) (kept g (stamped n e))
+    → IsSound (record { opening = opening; number = number; places = places; told = more_told; lists = more_lists; roster = more_roster; objects = more_objects }) (kept g (stamped n e))
 sound_next {g = g} n e s agrees tellings lives knowledge knower actions shown owner = record {
   opened = s.opened;
   own = s.own;

@@ -20,7 +20,7 @@ use Rattle.roster.specs.Tables.{Table}
 
 pub record Untouched (g : ℕ) (here : List LocalEvent) (c : LocalEvent) : Type 0 where
   pub crashes : crashes g (events_here here) ≡ crashes g (events_here (c ∷ here))
-  pub told : (told : Tellings) → AreTold g here told → AreTold g (c ∷ here) told
+  pub told : (names : List Name) (told : Tellings) → AreTold g here names told → AreTold g (c ∷ here) names told
   pub lists : (lists : Lists) → AreLists here lists → AreLists (c ∷ here) lists
   pub roster : (t : Table) → IsRoster g here t → IsRoster g (c ∷ here) t
 
@@ -38,7 +38,7 @@ module _ (n : ℕ) (a : Name) (x : ObjectId) (wanted : op.Op) (r : Reply) (g : �
   by_granted : Untouched g here (stamped n (by_itself granted))
   by_granted = record {
     crashes = refl;
-    told = λ told is. record { since = λ b. is.since b ∙ sym (or_false (told_here g b here)); committed = is.committed; lives = is.lives };
+    told = λ names told is. record { within = is.within; since = λ b. is.since b ∙ sym (or_false (told_here g b here)); committed = is.committed; lives = is.lives };
     lists = λ lists is. record {
       crashes = is.crashes;
       aborts = is.aborts;

@@ -1,5 +1,5 @@
 -- What a guardian keeps in memory as contracts see it, and when all its parts are those of one history.
-use Rattle.std.specs.Prelude.{◌≡◌, ◌≤◌, ℕ, IsTrue, is_some}
+use Rattle.std.specs.Prelude.{◌≡◌, ◌≤◌, ℕ, IsTrue, List, is_some}
 use Rattle.action_names.specs.Names.{Name, is_top}
 use Rattle.run_model.specs.declared.step.ObjectId.{ObjectId}
 use Rattle.run_model.specs.Actions.{crashes}
@@ -16,10 +16,11 @@ use Rattle.roster.specs.Tables.{table}
 use Rattle.roster.specs.declared.roster.Roster.{Roster}
 use Rattle.guardian_objects.specs.Objects.{AreObjects, Indexed}
 
--- the opening and the guardian's number, and what it keeps beside them
+-- the opening and the guardian's number, the names that it knows, by place, and what it keeps beside them
 pub record InMemory : Type 0 where
   pub opening : OpeningLists
   pub number : ℕ
+  pub places : List Name
   pub told : Tellings
   pub lists : Lists
   pub roster : Roster
@@ -36,7 +37,7 @@ pub record IsSound (m : InMemory) (g : GuardianState) : Type 0 where
   pub opened : opening_in m.opening ≡ g.opening
   pub own : m.number ≡ g.number
   pub numbered : 1 ≤ g.number
-  pub tellings : AreTold g.number g.past m.told
+  pub tellings : AreTold g.number g.past m.places m.told
   pub lives : crashes_of m.told ≡ crashes g.number (events_here g.past)
   pub knowledge : AreLists g.past m.lists
   pub knower : guardian_of m.lists ≡ g.number

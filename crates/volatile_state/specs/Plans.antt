@@ -30,7 +30,7 @@ pub record IsPlanOf (p : Plan) (m : InMemory) (g : GuardianState) (news : News) 
   pub next : IsNext g news
   pub sender : p.sender ≡ news.carried.sender
   pub brought : p.outcomes.items ≡ news.carried.outcomes
-  pub heard : IsHeard m.told news.carried.outcomes p.heard
+  pub heard : IsHeard m.places m.told news.carried.outcomes p.heard
   pub lesson : IsLesson news.carried.sender news.carried.life news.carried.aborts
       news.carried.counts news.carried.outcomes p.lesson
   pub entry : IsEntry (table m.roster) news.event news.carried.dependencies p.entry

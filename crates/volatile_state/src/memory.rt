@@ -6,6 +6,7 @@ ghost use Rattle.volatile_state.specs.Memories.{IsSound};
 
 use guardian_objects::Objects;
 use orphans::Lists;
+use places::Places;
 use roster::Roster;
 use run_model::Opening;
 use std::alloc::{AllocError, Global};
@@ -19,6 +20,8 @@ pub struct Memory {
     pub(crate) alloc: Global,
     pub(crate) opening: Arc<Opening, Global>,
     pub(crate) number: u32,
+    /// The names that it knows, by place.
+    pub(crate) places: Places,
     /// Of which outcomes it was told.
     pub(crate) told: Tellings,
     /// Which aborts and crashes it knows of.
@@ -44,6 +47,7 @@ impl Model for Memory {
     ghost view = { λ a. record {
       opening = arc_value a.opening;
       number = a.number;
+      places = a.places;
       told = a.told;
       lists = a.lists;
       roster = a.roster;
@@ -53,6 +57,7 @@ impl Model for Memory {
     ghost invariant = { λ a. IsOfSome (record {
       opening = arc_value a.opening;
       number = a.number;
+      places = a.places;
       told = a.told;
       lists = a.lists;
       roster = a.roster;
@@ -76,6 +81,7 @@ impl Memory {
             alloc,
             opening,
             number,
+            places: Places::new(alloc),
             told: Tellings::new(alloc),
             lists: Lists::new(alloc, number),
             roster: Roster::new(alloc, number),

@@ -19,7 +19,7 @@ impl Memory {
         ensures { (s : GuardianState) → IsSound self.now s
             → IfOk result (λ count. count ≡ count_told s action.now committed) }
     {
-        if self.told.is_committed(action) {
+        if self.told.is_committed(&self.places, action) {
             // What was told committed holds nothing.
             return Ok(0);
         }

@@ -48,8 +48,9 @@ impl Memory {
             counts,
             outcomes,
         };
-        self.objects.plan(outcomes, &self.told, &mut plan.planned)?;
-        self.told.plan(outcomes, &mut plan.heard)?;
+        self.objects
+            .plan(outcomes, &self.places, &self.told, &mut plan.planned)?;
+        self.told.plan(&mut self.places, outcomes, &mut plan.heard)?;
         self.lists.plan_lesson(self.alloc, news, &mut plan.lesson)?;
         self.roster.plan(event, dependencies, &mut plan.entry)?;
         plan.sender = message.sender;

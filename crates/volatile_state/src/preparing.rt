@@ -26,7 +26,7 @@ impl Memory {
             → IfOk result (λ parts. parts.entries ≡ parts_by s.opening s.number
             (λ x. standing_here (stamped 0 news ∷ s.past) x) top.now) }
     {
-        if self.told.is_committed(top) {
+        if self.told.is_committed(&self.places, top) {
             // What was told committed holds nothing.
             return Ok(BTreeMap::new(self.alloc));
         }

@@ -96,7 +96,7 @@ impl Memory {
         ensures { (s : GuardianState) → IsSound self.now s
             → result ≡ told_here s.number action.now s.past }
     {
-        self.told.was_told(action)
+        self.told.was_told(&self.places, action)
     }
 
     /// The aborts that the guardian has not sent to the other guardian yet, the newest first.

@@ -12,5 +12,5 @@ invariant-loop-action l = record {
   roomier : IsRoomier l.fn.self l.self;
   room : AllByRecursion (HasRoomFor (is_alone l.outcomes) l.self) l.planned.tellings.items;
   outcomes : outcomes_of l.planned.tellings.items ≡ take l.action-index l.outcomes;
-  planned : (g : ℕ) (here : List LocalEvent) → AreTold g here l.told → ArePlanned here l.planned.tellings.items;
+  planned : (g : ℕ) (here : List LocalEvent) → AreTold g here l.places l.told → ArePlanned here l.planned.tellings.items;
 }

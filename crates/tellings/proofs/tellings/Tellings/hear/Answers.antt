@@ -1,6 +1,9 @@
 use Rattle.tellings.proofs.Histories.{heard_event}
+use Rattle.tellings.proofs.Planning.{heard_places}
 use Rattle.tellings.proofs.tellings.Tellings.hear.Goals as goal
 
 pub returns-clause-told : goal.returns-clause-told
-returns-clause-told c = λ g here e are is stays.
-    heard_event c.args.self.now _ c.args.heard.now c.put_all.ensures.values c.put_all.ensures.lives g here e are is c.put_all.ensures.crashes stays
+returns-clause-told c = λ g here e names are is stays.
+    let heard = c.args.heard.now in
+    let places = heard_places names c.args.self.now e.carried.outcomes heard.told.items is in
+    heard_event names c.args.self.now _ heard (c.put_all.ensures.values names places) c.put_all.ensures.length g here e are is c.put_all.ensures.crashes stays

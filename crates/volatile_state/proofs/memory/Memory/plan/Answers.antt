@@ -51,7 +51,7 @@ returns-clause-planned c = λ s at owed agrees.
       next = record { accepted = c.requires.accepted; owed = owed; agrees = agrees };
       sender = refl;
       brought = refl;
-      heard = subst (λ l. IsHeard c.plan-2.new.self l c.plan-2.new.heard) c.as_slice-outcomes.ensures.value c.in_ok-plan-2.ensures.heard;
+      heard = subst (λ l. IsHeard c.plan-2.new.places c.plan-2.new.self l c.plan-2.new.heard) c.as_slice-outcomes.ensures.value c.in_ok-plan-2.ensures.heard;
       lesson =
           subst (λ l. IsLesson c.args.message.sender c.args.message.life c.args.message.aborts l c.args.message.outcomes.items c.plan_lesson.new.lesson)
           c.as_slice-counts.ensures.value
