@@ -98,6 +98,7 @@ impl Places {
     /// Makes places for the action and its ancestors, where they have none, and gives the action's. What had a place
     /// keeps it, also if memory runs out.
     pub fn provide(&mut self, action: &Name) -> Result<usize, AllocError>
+        ensures named { IsName action.now }
         ensures more { AreMore self.old self.new }
         ensures place { IfOk result (λ at. place_in self.new action.now ≡ Some at) }
     {
