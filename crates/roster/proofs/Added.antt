@@ -2,48 +2,15 @@
 use Rattle.std.proofs.Common.{Bool, List, [], None, Option, Some, ap, arith, cond, false, length, length-append, refl, subst, suc, sym, true, zero, ℕ, ◌++◌, ◌+◌, ◌<◌, ◌∙◌, ◌∷◌, ◌≡◌, ◌||◌}
 use Rattle.std.specs.Prelude.{is_some, slice_get}
 use Rattle.std.specs.List.{AllByRecursion}
-use Rattle.std.specs.Ordering.{is_eq}
-use Rattle.std.specs.declared.cmp.Ordering.{Ordering}
-use Rattle.std.specs.declared.cmp.Ordering.TheVariants.{Less, Equal, Greater}
-use Rattle.std.proofs.lemmas.Bool.{true≢false}
 use Rattle.std.proofs.lemmas.Option.{same_Some}
-use Rattle.action_names.specs.Names.{Name, name_cmp, same_name}
-use Rattle.action_names.specs.Comparison.{same_name-ties}
-use Rattle.action_names.proofs.Ancestry.{same_is, same_refl}
-use Rattle.holders.specs.Held.{value_at, with_value}
+use Rattle.action_names.specs.Names.{Name, same_name}
+use Rattle.action_names.proofs.Ancestry.{same_is}
+use Rattle.holders.specs.Held.{value_at}
 use Rattle.run_model.specs.Telling.{or_else}
 use Rattle.roster.proofs.Changed.{standing}
 use Rattle.roster.specs.Rosters.{IsIndexed}
 use Rattle.roster.specs.Tables.{Table, added, all_added, place_of, row_at, row_of}
 use Rattle.roster.specs.declared.entry.Row.{Row}
-
--- a value that is put stands at its name, and every other name has what it had
-pub value_put : {V : Type 0} (hs : List (Name × V)) (a : Name) (v : V) (b : Name)
-    → value_at (with_value hs a v) b ≡ cond (same_name a b) (Some v) (value_at hs b)
-value_put [] a v b = refl
-value_put {V} (h ∷ hs) a v b = by_case (value_put hs a v b) (name_cmp a h.0) refl
-  where
-    again : (t : Bool) (x y z : Option V) → cond t x z ≡ cond t x (cond t y z)
-    again true x y z = refl
-    again false x y z = refl
-
-    apart : (s t : Bool) (x y z : Option V) → (s ≡ true → t ≡ true → true ≡ false) → cond s y (cond t x z) ≡ cond t x (cond s y z)
-    apart true true x y z h = absurd (true≢false (h refl refl))
-    apart true false x y z h = refl
-    apart false t x y z h = refl
-
-    by_case : value_at (with_value hs a v) b ≡ cond (same_name a b) (Some v) (value_at hs b) → (o : Ordering) → name_cmp a h.0 ≡ o
-        → value_at (with_value (h ∷ hs) a v) b ≡ cond (same_name a b) (Some v) (value_at (h ∷ hs) b)
-    by_case later Less k = simp k refl
-    by_case later Equal k =
-        let same : a ≡ h.0 = same_is a h.0 (same_name-ties a h.0 ∙ ap is_eq k) in
-        simp k (ap (λ n. cond (same_name n b) (Some v) (value_at hs b)) (sym same)
-        ∙ again (same_name a b) (Some v) (Some h.1) (value_at hs b)
-        ∙ ap (λ n. cond (same_name a b) (Some v) (cond (same_name n b) (Some h.1) (value_at hs b))) same)
-    by_case later Greater k =
-        simp k (ap (cond (same_name h.0 b) (Some h.1)) later
-        ∙ apart (same_name h.0 b) (same_name a b) (Some v) (Some h.1) (value_at hs b)
-        (λ there here. sym (subst (λ n. same_name n h.0 ≡ true) (same_is h.0 b there ∙ sym (same_is a b here)) (same_refl h.0)) ∙ same_name-ties a h.0 ∙ ap is_eq k))
 
 get_before : (xs ys : List Row) (i : ℕ) → i < length xs → slice_get (xs ++ ys) i ≡ slice_get xs i
 get_before [] ys i h = absurd (omega arith)
@@ -55,7 +22,7 @@ get_last [] y = refl
 get_last (x ∷ xs) y = get_last xs y
 
 place_added : (x : Name × Row) (t : Table) (a : Name) → place_of (added x t) a ≡ cond (same_name x.0 a) (Some (length t.rows)) (place_of t a)
-place_added x t a = value_put t.places x.0 (length t.rows) a
+place_added x t a = refl
 
 row_added : (x : Name × Row) (t : Table) → IsIndexed t → (a : Name) → row_of (added x t) a ≡ cond (same_name x.0 a) (Some x.1) (row_of t a)
 row_added x t h a = ap (row_at (added x t)) (place_added x t a) ∙ of (same_name x.0 a) (place_of t a) refl
@@ -69,6 +36,7 @@ indexed_added : (x : Name × Row) (t : Table) → IsIndexed t → IsIndexed (add
 indexed_added x t h = record {
   within = λ a i at. inside a i (same_name x.0 a) (sym (place_added x t a) ∙ at);
   apart = λ a b i at too. one a b i (same_name x.0 a) refl (same_name x.0 b) refl (sym (place_added x t a) ∙ at) (sym (place_added x t b) ∙ too);
+  room = h.room;
 }
   where
     longer : length (t.rows ++ x.1 ∷ []) ≡ length t.rows + 1

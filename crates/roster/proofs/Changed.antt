@@ -65,6 +65,7 @@ indexed_changed f None t h = h
 indexed_changed f (Some i) t h = record {
   within = λ a j at. subst (λ n. j < n) (sym (length-updated f i t.rows)) (h.within a j at);
   apart = h.apart;
+  room = h.room;
 }
 
 kept_at : {B : Type 0} (field : Row → B) (missing : B) (f : Row → Row) (i j : ℕ) (xs : List Row) → ((x : Row) → field (f x) ≡ field x)
@@ -145,8 +146,8 @@ place_turned Recovers t a = refl
 
 pub indexed_turned : (turn : Turn) (t : Table) → IsIndexed t → IsIndexed (turned turn t)
 indexed_turned Stays t h = h
-indexed_turned Crashes t h = record { within = h.within; apart = h.apart }
-indexed_turned Recovers t h = record { within = h.within; apart = h.apart }
+indexed_turned Crashes t h = record { within = h.within; apart = h.apart; room = h.room }
+indexed_turned Recovers t h = record { within = h.within; apart = h.apart; room = h.room }
 
 -- which guardian it is, and how it stands
 abbrev pub standing : Table → ℕ × ℕ × Bool

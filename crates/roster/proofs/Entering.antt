@@ -24,7 +24,7 @@ use Rattle.guardian_laws.specs.Sent.{Sent}
 use Rattle.roster.specs.Entries.{IsBorn, IsEntry, IsMerged}
 use Rattle.roster.specs.Rosters.{IsIndexed, IsRoster}
 use Rattle.roster.specs.Steps.{above, closed_in, ended_in, turn_in}
-use Rattle.roster.specs.Tables.{Table, all_added, changed_at, ended, entered, grown, home_at, life_in, maker_left, merged, more_by, one_less, place_of, placed, row_at, row_of, said, turned, with_closed, with_depends, with_ended}
+use Rattle.roster.specs.Tables.{Table, all_added, begun_of, changed_at, ended, entered, home_at, life_in, maker_left, merged, more_by, one_less, place_of, placed, row_at, row_of, said, turned, with_closed, with_depends, with_ended}
 use Rattle.roster.specs.declared.entry.Entry.{Entry}
 use Rattle.roster.specs.declared.entry.Row.{Row}
 use Rattle.roster.specs.declared.entry.Turn.{Turn}
@@ -91,19 +91,10 @@ guardian_turned Stays t = refl
 guardian_turned Crashes t = refl
 guardian_turned Recovers t = refl
 
--- what an entry makes of rows leaves the guardian as it stood
-pub standing_before : (entry : Entry) (t : Table)
-    → standing (merged entry.merged (changed_at with_closed entry.closed (ended entry.ended (grown entry t)))) ≡ standing t
-standing_before entry t =
-    let begun = grown entry t in
-    let first = changed_at with_ended entry.ended begun in
-    let left = said maker_left None (row_at begun entry.ended) in
-    standing_merged entry.merged (changed_at with_closed entry.closed (ended entry.ended begun))
-    ∙ standing_changed with_closed entry.closed (ended entry.ended begun)
-    ∙ standing_changed one_less left first
-    ∙ standing_changed with_ended entry.ended begun
-    ∙ standing_all entry.begun.items (changed_at (more_by (length entry.begun.items)) entry.maker t)
-    ∙ standing_changed (more_by (length entry.begun.items)) entry.maker t
+-- an end leaves the guardian as it stood
+pub standing_ended : (at : Option ℕ) (t : Table) → standing (ended at t) ≡ standing t
+standing_ended at t =
+    standing_changed one_less (said maker_left None (row_at t at)) (changed_at with_ended at t) ∙ standing_changed with_ended at t
 
 module _ (g : ℕ) (here : List LocalEvent) (c : LocalEvent) (t : Table) (entry : Entry) (is : IsRoster g here t)
     (agrees : AgreesOnActions g c here) (planned : IsEntry t c.event c.carried.dependencies entry) where
@@ -120,7 +111,7 @@ module _ (g : ℕ) (here : List LocalEvent) (c : LocalEvent) (t : Table) (entry 
   came = c.carried.dependencies
 
   abbrev rows : List (Name × Row)
-  rows = entry.begun.items
+  rows = begun_of t.names entry.birth entry.begun.items
 
   -- ---- what begins
 
@@ -154,7 +145,7 @@ module _ (g : ℕ) (here : List LocalEvent) (c : LocalEvent) (t : Table) (entry 
   -- ---- the tables, one after the other
 
   abbrev t1 : Table
-  t1 = changed_at (more_by (length rows)) entry.maker t
+  t1 = changed_at (more_by (length rows)) entry.birth.maker t
 
   abbrev t2 : Table
   t2 = all_added rows t1
@@ -178,7 +169,7 @@ module _ (g : ℕ) (here : List LocalEvent) (c : LocalEvent) (t : Table) (entry 
   t7 = turned entry.turn t6
 
   i1 : IsIndexed t1
-  i1 = indexed_changed (more_by (length rows)) entry.maker t is.indexed
+  i1 = indexed_changed (more_by (length rows)) entry.birth.maker t is.indexed
 
   i2 : IsIndexed t2
   i2 = indexed_all rows t1 i1
@@ -205,7 +196,7 @@ module _ (g : ℕ) (here : List LocalEvent) (c : LocalEvent) (t : Table) (entry 
 
   -- who does not begin stands where it stood
   place2 : (a : Name) → has_name names a ≡ false → place_of t2 a ≡ place_of t a
-  place2 a none = place_all rows t1 a (none_of (value_at rows a) (has a ∙ none)) ∙ place_changed (more_by (length rows)) entry.maker t a
+  place2 a none = place_all rows t1 a (none_of (value_at rows a) (has a ∙ none)) ∙ place_changed (more_by (length rows)) entry.birth.maker t a
 
   still : (o : Option Name) → ((d : Name) → o ≡ Some d → has_name names d ≡ false) → placed t o ≡ placed t2 o
   still None is_old = refl
@@ -235,7 +226,7 @@ module _ (g : ℕ) (here : List LocalEvent) (c : LocalEvent) (t : Table) (entry 
 
   counting : {B : Type 0} (field : Row → B) (missing : B) → ((x : Row) → field (more_by (length rows) x) ≡ field x) → (a : Name)
       → said field missing (row_of t1 a) ≡ said field missing (row_of t a)
-  counting field missing counts a = kept field missing (more_by (length rows)) entry.maker t counts a
+  counting field missing counts a = kept field missing (more_by (length rows)) entry.birth.maker t counts a
 
   -- who was begun has a row
   row0 : (a : Name) → is_begun a past ≡ true → is_some (row_of t a) ≡ true
@@ -541,7 +532,7 @@ module _ (g : ℕ) (here : List LocalEvent) (c : LocalEvent) (t : Table) (entry 
           ∙ ap (λ b. cond (is_ended d past) None (cond b (placed t (maker_in step)) (placed t (maker_of d past)))) (is_old d refl)
           ∙ chosen d (is_ended d past)
 
-  count_there : entry.maker ≡ placed t (maker_in step)
+  count_there : entry.birth.maker ≡ placed t (maker_in step)
   count_there = planned.maker
 
   unended2 : (a : Name) → is_begun a past ≡ true → said Unended 0 (row_of t2 a)
@@ -655,7 +646,9 @@ module _ (g : ℕ) (here : List LocalEvent) (c : LocalEvent) (t : Table) (entry 
   -- ---- the guardian
 
   standing6 : standing t6 ≡ standing t
-  standing6 = standing_before entry t
+  standing6 =
+      standing_merged entry.merged t5 ∙ standing_changed with_closed entry.closed t4 ∙ standing_ended entry.ended t2
+      ∙ standing_all rows t1 ∙ standing_changed (more_by (length rows)) entry.birth.maker t
 
   crashes_is : t7.crashes ≡ crashes g (events_here (c ∷ here))
   crashes_is =
@@ -679,7 +672,7 @@ module _ (g : ℕ) (here : List LocalEvent) (c : LocalEvent) (t : Table) (entry 
   found_is a =
       ap is_some (place7 a)
       ∙ found_all rows t1 a
-      ∙ (λ i. has a i || (ap is_some (place_changed (more_by (length rows)) entry.maker t a) ∙ is.found a) i)
+      ∙ (λ i. has a i || (ap is_some (place_changed (more_by (length rows)) entry.birth.maker t a) ∙ is.found a) i)
       ∙ sym (has_name-append names (begun past) a)
 
   -- The roster with the entry is that of the history with the event.

@@ -1,16 +1,16 @@
 -- An entry that makes nothing of a roster.
-use Rattle.std.proofs.Common.{None, ap, arith, length, refl, subst, sym, vec_len, ◌∙◌, ◌≡◌}
+use Rattle.std.proofs.Common.{None, ap, arith, length, refl, subst, sym, vec_len, ℕ, ◌<◌, ◌∙◌, ◌≡◌}
 use Rattle.std.specs.List.{AllByRecursion}
-use Rattle.std.specs.Prelude.{IsTrue}
-use Rattle.action_names.specs.Names.{IsName, Name, has_name}
+use Rattle.action_names.specs.Deps.{Deps}
+use Rattle.action_names.specs.Names.{IsName, Name}
 use Rattle.guardian_laws.specs.Sent.{Sent}
 use Rattle.holders.specs.Held.{names_of}
 use Rattle.run_model.specs.declared.history.Event.{Event}
 use Rattle.run_model.specs.declared.step.Step.{Step}
 use Rattle.run_model.specs.declared.step.Step.TheVariants.{Abort, Arms, Call, Close, Commit, Crash, Decide, NestedTop, Op, Prepare, Recover, Tell, Top}
-use Rattle.roster.specs.Entries.{CanCount, ConcernsNone, FitsEntry, IsBorn, IsEntry, IsIdle, IsMerged}
+use Rattle.roster.specs.Entries.{CanCount, ConcernsNone, FitsEntry, HavePlaces, IsBorn, IsEntry, IsIdle, IsMerged}
 use Rattle.roster.specs.Steps.{ended_in}
-use Rattle.roster.specs.Tables.{Table, placed}
+use Rattle.roster.specs.Tables.{Table, begun_of, placed}
 use Rattle.roster.specs.declared.entry.Entry.{Entry}
 use Rattle.roster.specs.declared.entry.Row.{Row}
 use Rattle.roster.specs.declared.roster.Roster.{Roster}
@@ -39,10 +39,11 @@ idle_entry t e came entry none idle = record {
   merged = subst (IsMerged t e.step came) (sym idle.merged) (merges_none t e.step came none.ended);
   maker = idle.maker ∙ ap (placed t) (sym none.maker);
   begun = record {
-    names = ap names_of idle.begun ∙ sym none.begun;
-    named = subst (AllByRecursion (λ (x : Name × Row). IsName x.0)) (sym idle.begun) tt;
-    rows = subst (AllByRecursion (λ (x : Name × Row). IsBorn t e.step came x.0 x.1)) (sym idle.begun) tt;
+    names = ap (λ xs. names_of (begun_of t.names entry.birth xs)) idle.begun ∙ sym none.begun;
+    named = subst (λ xs. AllByRecursion (λ (x : Name × Row). IsName x.0) (begun_of t.names entry.birth xs)) (sym idle.begun) tt;
+    rows = subst (λ xs. AllByRecursion (λ (x : Name × Row). IsBorn t e.step came x.0 x.1) (begun_of t.names entry.birth xs)) (sym idle.begun) tt;
   };
+  placed = subst (HavePlaces t.names) (sym idle.begun) tt;
   turn = idle.turn ∙ sym none.turn;
 }
 
@@ -53,7 +54,7 @@ idle_fits roster entry idle =
     record {
       begun = record {
         rows = omega (arith, none, entry.begun.ok.0, roster.rows.ok.1);
-        places = subst (AllByRecursion (λ (x : Name × Row). IsTrue (has_name roster.places.room x.0))) (sym idle.begun) tt;
+        places = subst (AllByRecursion (λ (x : ℕ × Deps). x.0 < length roster.at)) (sym idle.begun) tt;
       };
       count = subst (λ at. CanCount roster.rows.items at (vec_len entry.begun)) (sym idle.maker) tt;
     }

@@ -22,13 +22,14 @@ row_there t h a = of (place_of t a) refl
     of (Some i) at = got_within t.rows i (h.within a i at)
 
 -- before anything happened
-pub nothing_yet : (g : ℕ) → IsRoster g [] (record { guardian = g; crashes = 0; down = false; rows = []; places = [] })
-nothing_yet g = record {
+pub nothing_yet : (g : ℕ) (names : List Name)
+    → IsRoster g [] (record { guardian = g; crashes = 0; down = false; rows = []; places = λ a. None; names = names; room = 0 })
+nothing_yet g names = record {
   events = no_events g;
   guardian = refl;
   crashes = refl;
   down = refl;
-  indexed = record { within = λ a i at. absurd (none_some i at); apart = λ a b i at too. absurd (none_some i at) };
+  indexed = record { within = λ a i at. absurd (none_some i at); apart = λ a b i at too. absurd (none_some i at); room = omega arith };
   found = λ a. refl;
   home = λ a. refl;
   life = λ a. refl;

@@ -1,5 +1,5 @@
 -- The roster of a guardian that is opened again by itself: of the time before its own history has votes and crashes alone.
-use Rattle.std.proofs.Common.{List, None, Option, [], ap, false, refl, suc, sym, true, zero, ℕ, ◌+◌, ◌∙◌, ◌∷◌, ◌≡◌, add-one, Some}
+use Rattle.std.proofs.Common.{List, None, Option, [], ap, false, refl, suc, sym, true, zero, ℕ, ◌+◌, ◌∙◌, ◌∷◌, ◌≡◌, add-one, Some, arith}
 use Rattle.std.proofs.lemmas.Bool.{eq-eqb, false≢true}
 use Rattle.action_names.specs.Names.{Name}
 use Rattle.run_model.specs.Actions.{home_of, incarnation_of, is_begun, is_closed, is_ended, maker_of}
@@ -64,9 +64,10 @@ none_before g zero [] = none_at_first g
 none_before g zero (p ∷ records) = none_voted g p (votes g records) (none_before g 0 records)
 none_before g (suc n) records = none_crashed g (crashed g n (votes g records)) (none_before g n records)
 
-pub roster_reopened : (g : ℕ) (held : Held) (records : List (Name × Prepared)) (n : ℕ) → n ≡ held.count + 1
-    → IsRoster g (life_before g held records) (record { guardian = g; crashes = n; down = true; rows = []; places = [] })
-roster_reopened g held records n counted =
+pub roster_reopened : (g : ℕ) (held : Held) (records : List (Name × Prepared)) (n : ℕ) (names : List Name) → n ≡ held.count + 1
+    → IsRoster g (life_before g held records)
+    (record { guardian = g; crashes = n; down = true; rows = []; places = λ a. None; names = names; room = 0 })
+roster_reopened g held records n names counted =
     let none = none_before g (suc held.count) records in
     let is = life_before_is g held records in
     record {
@@ -74,11 +75,11 @@ roster_reopened g held records n counted =
       guardian = refl;
       crashes = counted ∙ add-one held.count ∙ sym is.crashes;
       down = sym is.down;
-      indexed = record { within = λ a i at. absurd (none_some i at); apart = λ a b i at too. absurd (none_some i at) };
+      indexed = record { within = λ a i at. absurd (none_some i at); apart = λ a b i at too. absurd (none_some i at); room = omega arith };
       found = λ a. sym (none.begun a);
       home = λ a. sym (none.home a);
       life = λ a. sym (none.life a);
-      maker = λ a. sym (ap (λ m. placed (record { guardian = g; crashes = n; down = true; rows = []; places = [] }) m) (none.maker a));
+      maker = λ a. sym (ap (λ m. placed (record { guardian = g; crashes = n; down = true; rows = []; places = λ b. None; names = names; room = 0 }) m) (none.maker a));
       ended = λ a. sym (none.ended a);
       closed = λ a. sym (none.closed a);
       depends = λ a h. sym (none.depends a h);

@@ -1,10 +1,11 @@
 -- What a plan has for an event, and when there is room for it.
-use Rattle.std.specs.Prelude.{◌≡◌, ◌+◌, ◌<◌, ◌≤◌, ◌^◌, ℕ, List, [], false, Option, Some, None, MatchOption, IsTrue, slice_get, vec_capacity, vec_len}
+use Rattle.std.specs.Prelude.{◌≡◌, ◌+◌, ◌<◌, ◌≤◌, ◌^◌, ℕ, List, [], false, get_or, length, map, Option, Some, None, MatchOption, slice_get, vec_capacity, vec_len}
 use Rattle.std.specs.List.{AllByRecursion}
 use Rattle.std.specs.FinMap as tree
 use Rattle.action_names.specs.Deps.{Deps, lesser}
-use Rattle.action_names.specs.Names.{IsName, Name, has_name}
+use Rattle.action_names.specs.Names.{IsName, Name}
 use Rattle.holders.specs.Held.{names_of}
+use Rattle.places.specs.Placed.{place_in}
 use Rattle.run_model.specs.declared.history.Event.{Event}
 use Rattle.run_model.specs.declared.step.Step.{Step}
 use Rattle.run_model.specs.declared.step.Step.TheVariants.{Commit}
@@ -12,16 +13,16 @@ use Rattle.run_model.specs.Actions.{home_in, maker_in, names_begun}
 use Rattle.run_model.specs.LocalReadings.{least_of}
 use Rattle.guardian_laws.specs.Sent.{Sent}
 use Rattle.roster.specs.Steps.{above, closed_in, ended_in, turn_in}
-use Rattle.roster.specs.Tables.{Table, home_at, life_in, placed, row_at, said}
+use Rattle.roster.specs.Tables.{Table, begun_of, home_at, life_in, placed, row_at, said}
 use Rattle.roster.specs.declared.entry.Entry.{Entry}
 use Rattle.roster.specs.declared.entry.Row.{Row}
 use Rattle.roster.specs.declared.entry.Turn.TheVariants.{Stays}
 use Rattle.roster.specs.declared.roster.Roster.{Roster}
 
 -- there is room for the rows of what begins
-pub record FitsBegun (roster : Roster) (begun : List (Name × Row)) (count : ℕ) : Type 0 where
+pub record FitsBegun (roster : Roster) (begun : List (ℕ × Deps)) (count : ℕ) : Type 0 where
   pub rows : vec_len roster.rows + count ≤ vec_capacity roster.rows
-  pub places : AllByRecursion (λ (x : Name × Row). IsTrue (has_name roster.places.room x.0)) begun
+  pub places : AllByRecursion (λ (x : ℕ × Deps). x.0 < length roster.at) begun
 
 -- the row at the place can count so many things more that its action made
 abbrev pub CanCount : List Row → Option ℕ → ℕ → Type 0
@@ -32,7 +33,7 @@ CanCount rows (Some at) n =
 -- there is room for the entry
 pub record FitsEntry (roster : Roster) (entry : Entry) : Type 0 where
   pub begun : FitsBegun roster entry.begun.items (vec_len entry.begun)
-  pub count : CanCount roster.rows.items entry.maker (vec_len entry.begun)
+  pub count : CanCount roster.rows.items entry.birth.maker (vec_len entry.begun)
 
 -- a commit leaves the row at the place, where there is one, with the lesser of its dependencies and of those that came
 abbrev pub IsLeft : Table → Option ℕ → (ℕ → Option ℕ) → Option (ℕ × Deps) → Type 0
@@ -61,6 +62,18 @@ pub record AreBorn (t : Table) (e : Event) (came : Sent) (begun : List (Name × 
   pub named : AllByRecursion (λ (x : Name × Row). IsName x.0) begun
   pub rows : AllByRecursion (λ (x : Name × Row). IsBorn t e.step came x.0 x.1) begun
 
+-- each place is that of its name
+abbrev pub HavePlaces : List Name → List (ℕ × Deps) → Type 0
+HavePlaces names begun =
+    AllByRecursion (λ (x : ℕ × Deps). place_in names (get_or names x.0 []) ≡ Some x.0) begun
+
+-- these are what the event begins, by the places of the names, each with what came under its name
+pub record AreBegun (known : List Name) (e : Event) (came : Sent) (begun : List (ℕ × Deps)) : Type 0 where
+  pub names : map (λ (x : ℕ × Deps). get_or known x.0 []) begun ≡ names_begun e.answer
+  pub named : AllByRecursion (λ (x : ℕ × Deps). IsName (get_or known x.0 [])) begun
+  pub depends : AllByRecursion (λ (x : ℕ × Deps). (h : ℕ)
+      → tree.get x.1 h ≡ least_of came (get_or known x.0 []) h) begun
+
 -- the event begins, ends and closes no action, and leaves the guardian as it stood
 pub record ConcernsNone (e : Event) : Type 0 where
   pub begun : names_begun e.answer ≡ []
@@ -74,7 +87,7 @@ pub record IsIdle (entry : Entry) : Type 0 where
   pub ended : entry.ended ≡ None
   pub closed : entry.closed ≡ None
   pub merged : entry.merged ≡ None
-  pub maker : entry.maker ≡ None
+  pub maker : entry.birth.maker ≡ None
   pub begun : entry.begun.items ≡ []
   pub turn : entry.turn ≡ Stays
 
@@ -83,6 +96,7 @@ pub record IsEntry (t : Table) (e : Event) (came : Sent) (entry : Entry) : Type 
   pub ended : entry.ended ≡ placed t (ended_in e.step)
   pub closed : entry.closed ≡ placed t (closed_in e.step)
   pub merged : IsMerged t e.step came entry.merged
-  pub maker : entry.maker ≡ placed t (maker_in e.step)
-  pub begun : AreBorn t e came entry.begun.items
+  pub maker : entry.birth.maker ≡ placed t (maker_in e.step)
+  pub begun : AreBorn t e came (begun_of t.names entry.birth entry.begun.items)
+  pub placed : HavePlaces t.names entry.begun.items
   pub turn : entry.turn ≡ turn_in e.step

@@ -1,5 +1,5 @@
 -- When a roster is that of a guardian's history.
-use Rattle.std.specs.Prelude.{◌≡◌, ◌==◌, ◌<◌, ℕ, not, List, [], length, count_by, if◌then◌else◌, Some, IsTrue, IsFalse, is_some}
+use Rattle.std.specs.Prelude.{◌≡◌, ◌==◌, ◌<◌, ◌≤◌, ℕ, not, List, [], length, count_by, if◌then◌else◌, Some, IsTrue, IsFalse, is_some}
 use Rattle.action_names.specs.Names.{Name, IsName, same_name}
 use Rattle.run_model.specs.declared.history.Event.{Event}
 use Rattle.run_model.specs.Actions.{crashes, home_of, incarnation_of, is_begun, is_closed, is_down, is_ended, is_exactly, made_by, maker_of}
@@ -21,10 +21,11 @@ pub record AreOf (g : ℕ) (past : List Event) : Type 0 where
   pub made : (a m : Name) → count_by (λ b. same_name b a) (made_by m past)
       ≡ (if is_exactly (maker_of a past) m then 1 else 0)
 
--- Each action that has a place has a row there, and no other action.
+-- Each action that has a place has a row there, and no other action. There is room for no more places than names have.
 pub record IsIndexed (t : Table) : Type 0 where
   pub within : (a : Name) (i : ℕ) → place_of t a ≡ Some i → i < length t.rows
   pub apart : (a b : Name) (i : ℕ) → place_of t a ≡ Some i → place_of t b ≡ Some i → a ≡ b
+  pub room : t.room ≤ length t.names
 
 -- The table says what the history of g says: of the guardian, and of each action, also of one that was not begun. How
 -- many things that it made have not ended is said of those that were begun here.

@@ -1,38 +1,44 @@
 -- What a roster keeps, without the room that its lists have, and what is read in it and made of it.
-use Rattle.std.specs.Prelude.{ℕ, zero, suc, ◌+◌, ◌-◌, ◌==◌, Bool, true, false, List, [], ◌∷◌, ◌++◌, length, if◌then◌else◌, Option, Some, None, slice_get}
+use Rattle.std.specs.Prelude.{◌≡◌, ◌≤◌, ℕ, max, zero, suc, ◌+◌, ◌-◌, ◌==◌, Bool, true, false, List, [], ◌∷◌, ◌++◌, get_or, length, map, if◌then◌else◌, Option, Some, None, slice_get}
 use Rattle.std.specs.Option.{option_and_then}
-use Rattle.std.specs.FinMap as map
+use Rattle.std.specs.FinMap as tree
 use Rattle.action_names.specs.Deps.{Deps}
-use Rattle.action_names.specs.Names.{Name}
-use Rattle.holders.specs.Held.{value_at, with_value}
+use Rattle.action_names.specs.Names.{Name, same_name}
+use Rattle.places.specs.Rows as by_place
+use Rattle.roster.specs.declared.entry.Birth.{Birth}
 use Rattle.roster.specs.declared.entry.Entry.{Entry}
 use Rattle.roster.specs.declared.entry.Row.{Row}
 use Rattle.roster.specs.declared.entry.Turn.{Turn}
 use Rattle.roster.specs.declared.entry.Turn.TheVariants.{Crashes, Recovers, Stays}
 use Rattle.roster.specs.declared.roster.Roster.{Roster}
 
--- how the guardian stands, the rows of actions in the order in which they began, and the places of the rows by name
+-- how the guardian stands, the rows of actions in the order in which they began, the places of the rows by name, and
+-- the names by their own places, with how many of these have room
 pub record Table : Type 0 where
   pub guardian : ℕ
   pub crashes : ℕ
   pub down : Bool
   pub rows : List Row
-  pub places : List (Name × ℕ)
+  pub places : Name → Option ℕ
+  pub names : List Name
+  pub room : ℕ
 
-abbrev pub table : Roster → Table
-table roster = record {
+abbrev pub table : List Name → Roster → Table
+table names roster = record {
   guardian = roster.guardian;
   crashes = roster.crashes;
   down = roster.down;
   rows = roster.rows.items;
-  places = roster.places.held;
+  places = λ a. by_place.row_of names roster.at a;
+  names = names;
+  room = length roster.at;
 }
 
 -- ---- what is read
 
 -- the place of an action, if it has a row
 abbrev pub place_of : Table → Name → Option ℕ
-place_of t a = value_at t.places a
+place_of t a = t.places a
 
 abbrev pub placed : Table → Option Name → Option ℕ
 placed t a = option_and_then (λ b. place_of t b) a
@@ -64,7 +70,7 @@ abbrev pub closed_at : Table → Name → Bool
 closed_at t a = said (λ row. row.closed) false (row_of t a)
 
 abbrev pub depends_at : Table → Name → ℕ → Option ℕ
-depends_at t a h = said (λ row. map.get row.depends h) None (row_of t a)
+depends_at t a h = said (λ row. tree.get row.depends h) None (row_of t a)
 
 abbrev pub unended_at : Table → Name → ℕ
 unended_at t a = said (λ row. row.unended) 0 (row_of t a)
@@ -118,7 +124,10 @@ merged (Some m) t = changed (with_depends m.1) m.0 t
 
 -- one row more
 abbrev pub added : Name × Row → Table → Table
-added x t = record t { rows = t.rows ++ x.1 ∷ []; places = with_value t.places x.0 (length t.rows) }
+added x t = record t {
+  rows = t.rows ++ x.1 ∷ [];
+  places = λ a. if same_name x.0 a then Some (length t.rows) else t.places a;
+}
 
 -- these rows more, the last of them first
 abbrev pub all_added : List (Name × Row) → Table → Table
@@ -130,13 +139,39 @@ turned Stays t = t
 turned Crashes t = record t { crashes = t.crashes + 1; down = true }
 turned Recovers t = record t { down = false }
 
+-- the row of an action that is born so, and depends on these
+abbrev pub born_row : Birth → Deps → Row
+born_row birth depends = record {
+  home = birth.home;
+  life = birth.life;
+  maker = birth.maker;
+  depends = depends;
+  ended = false;
+  closed = false;
+  unended = 0;
+}
+
+-- what begins, by the names of its places, with its rows
+abbrev pub begun_of : List Name → Birth → List (ℕ × Deps) → List (Name × Row)
+begun_of names birth begun =
+    map (λ (x : ℕ × Deps). (get_or names x.0 [], born_row birth x.1)) begun
+
 -- the table with what begins, once its maker was counted up
 abbrev pub grown : Entry → Table → Table
-grown entry t =
-    all_added entry.begun.items (changed_at (more_by (length entry.begun.items)) entry.maker t)
+grown entry t = let begun = begun_of t.names entry.birth entry.begun.items in
+    all_added begun (changed_at (more_by (length begun)) entry.birth.maker t)
 
 -- the table once the rows of the entry are made
 abbrev pub entered : Entry → Table → Table
 entered entry t =
     turned entry.turn
     (merged entry.merged (changed_at with_closed entry.closed (ended entry.ended (grown entry t))))
+
+-- the rows that one roster has, and its places, the other has among more names, where it may have more room
+pub record IsKept (names : List Name) (old new : Roster) : Type 0 where
+  pub guardian : new.guardian ≡ old.guardian
+  pub crashes : new.crashes ≡ old.crashes
+  pub down : new.down ≡ old.down
+  pub rows : new.rows.items ≡ old.rows.items
+  pub places : (i : ℕ) → by_place.row_at new.at i ≡ by_place.row_at old.at i
+  pub within : length new.at ≤ max (length old.at) (length names)

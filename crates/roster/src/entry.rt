@@ -22,9 +22,37 @@ pub struct Row {
     pub(crate) unended: u64,
 }
 
+/// What the rows of all that a step begins have in common.
+#[derive(Clone, Copy)]
+pub(crate) struct Birth {
+    pub(crate) home: u32,
+    pub(crate) life: u64,
+    /// The place of the maker's row.
+    pub(crate) maker: Option<usize>,
+}
+
+impl Birth {
+    ghost use Rattle.roster.specs.Tables.{born_row};
+
+    /// The row of an action that begins so, and depends on these.
+    pub(crate) fn row(self, depends: Deps) -> Row
+        ensures { result ≡ born_row self depends }
+    {
+        Row {
+            home: self.home,
+            life: self.life,
+            maker: self.maker,
+            depends,
+            ended: false,
+            closed: false,
+            unended: 0,
+        }
+    }
+}
+
 /// The places of the rows of those of whom a step speaks, where they have rows.
 #[derive(Clone, Copy)]
-pub(crate) struct Places {
+pub(crate) struct Concerned {
     /// Of the action that it ends.
     pub(crate) ended: Option<usize>,
     /// Of the action that it closes.
@@ -50,9 +78,9 @@ pub struct Entry {
     pub(crate) closed: Option<usize>,
     /// The place of the parent of an action that commits, and on what the parent depends then.
     pub(crate) merged: Option<(usize, Deps)>,
-    /// The place of who makes what begins.
-    pub(crate) maker: Option<usize>,
-    pub(crate) begun: Vec<(Name, Row)>,
+    pub(crate) birth: Birth,
+    /// What begins: the place of its name, and on what it depends.
+    pub(crate) begun: Vec<(usize, Deps)>,
     pub(crate) turn: Turn,
 }
 
@@ -65,7 +93,11 @@ impl Entry {
             ended: None,
             closed: None,
             merged: None,
-            maker: None,
+            birth: Birth {
+                home: 0,
+                life: 0,
+                maker: None,
+            },
             begun: Vec::new(alloc),
             turn: Turn::Stays,
         }
@@ -78,7 +110,7 @@ impl Entry {
         self.ended = None;
         self.closed = None;
         self.merged = None;
-        self.maker = None;
+        self.birth.maker = None;
         self.begun.clear();
         self.turn = Turn::Stays;
     }

@@ -1,9 +1,10 @@
 //! Actions by name, and how their guardian stands.
-ghost use Rattle.std.specs.Prelude.{◌≡◌, ◌+◌, ◌<◌, ◌^◌, [], ◌∷◌, ℕ, List, IfOk, OnOk, IsTrue, None, Some, vec_capacity, vec_len};
+ghost use Rattle.std.specs.Prelude.{◌≡◌, ◌+◌, ◌<◌, ◌^◌, [], ◌∷◌, ℕ, List, get_or, length, IfOk, OnOk, IsTrue, None, Some, vec_capacity, vec_len};
 ghost use Rattle.std.specs.FinMap as map;
 ghost use Rattle.std.specs.Option.{option_and_then, option_map};
 ghost use Rattle.action_names.specs.Deps.{lesser};
-ghost use Rattle.action_names.specs.Names.{Name, has_name};
+ghost use Rattle.action_names.specs.Names.{Name};
+ghost use Rattle.places.specs.Placed.{AreMore, place_in};
 ghost use Rattle.run_model.specs.Actions.{crashes, home_in, is_begun, is_busy, is_done, is_down, is_gone, maker_in};
 ghost use Rattle.run_model.specs.LocalReadings.{LocalEvent, dependency_here, events_here, is_at_home, least_of};
 ghost use Rattle.run_model.specs.Openings.{Held};
@@ -11,20 +12,23 @@ ghost use Rattle.run_model.specs.Reopening.{life_before};
 ghost use Rattle.run_model.specs.StableContent.{Prepared};
 ghost use Rattle.guardian_laws.specs.Actions.{AgreesOnActions};
 
-use crate::entry::{Entry, Places, Row, Turn, concerns_none, depends_in, turn_in};
-use holders::Index;
+use crate::entry::{Birth, Concerned, Entry, Row, Turn, concerns_none, depends_in, turn_in};
+use places::{Places, Rows};
 use run_model::{Deps, EventRef, Name, Step};
 use std::alloc::{AllocError, Global};
 
-/// Which actions are at home at one guardian, and what the guardian's own history says of them and of itself.
+/// Which actions are at home at one guardian, and what the guardian's own history says of them and of itself. The
+/// actions have places, which each call that names one is lent.
 #[derive(Drop)]
 pub struct Roster {
     alloc: Global,
     guardian: u32,
     crashes: u64,
     down: bool,
+    /// In the order in which the actions began.
     rows: Vec<Row>,
-    places: Index<usize>,
+    /// The places of the rows, by the places of the names.
+    at: Rows<usize>,
 }
 
 impl Roster {
@@ -35,7 +39,7 @@ impl Roster {
 
     /// The roster of the guardian before anything happened. This takes no memory.
     pub fn new(alloc: Global, guardian: u32) -> Roster
-        ensures { IsRoster guardian [] (table result) }
+        ensures { (names : List Name) → IsRoster guardian [] (table names result) }
     {
         Roster {
             alloc,
@@ -43,7 +47,7 @@ impl Roster {
             crashes: 0,
             down: false,
             rows: Vec::new(alloc),
-            places: Index::new(alloc),
+            at: Rows::new(alloc),
         }
     }
 
@@ -51,8 +55,9 @@ impl Roster {
     /// were counted, and no action is at home there. This takes no memory.
     pub fn reopened(alloc: Global, guardian: u32, crashes: u64) -> Roster
         ensures crashes { crashes_of result ≡ crashes }
-        ensures roster { (held : Held) (records : List (Name × Prepared)) → crashes ≡ held.count + 1
-            → IsRoster guardian (life_before guardian held records) (table result) }
+        ensures roster { (held : Held) (records : List (Name × Prepared)) (names : List Name)
+            → crashes ≡ held.count + 1
+            → IsRoster guardian (life_before guardian held records) (table names result) }
     {
         Roster {
             alloc,
@@ -60,39 +65,39 @@ impl Roster {
             crashes,
             down: true,
             rows: Vec::new(alloc),
-            places: Index::new(alloc),
+            at: Rows::new(alloc),
         }
     }
 
     /// Whether the action is at home here. This takes no memory, as no reading below does.
-    pub fn is_there(&self, action: &Name) -> bool
-        ensures { (g : ℕ) (here : List LocalEvent) → IsRoster g here (table self.now)
+    pub fn is_there(&self, places: &Places, action: &Name) -> bool
+        ensures { (g : ℕ) (here : List LocalEvent) → IsRoster g here (table places.now self.now)
             → result ≡ is_at_home g action.now here }
     {
-        match self.row(action) {
+        match self.row(places, action) {
             Some(row) => row.home == self.guardian,
             None => false,
         }
     }
 
     /// Whether the action has ended or is closed.
-    pub fn is_done(&self, action: &Name) -> bool
-        ensures { (g : ℕ) (here : List LocalEvent) → IsRoster g here (table self.now)
+    pub fn is_done(&self, places: &Places, action: &Name) -> bool
+        ensures { (g : ℕ) (here : List LocalEvent) → IsRoster g here (table places.now self.now)
             → result ≡ is_done action.now (events_here here) }
     {
-        match self.row(action) {
+        match self.row(places, action) {
             Some(row) => row.ended || row.closed,
             None => false,
         }
     }
 
     /// Whether something that the action made has not ended, where the action began here.
-    pub fn is_busy(&self, action: &Name) -> bool
-        ensures { (g : ℕ) (here : List LocalEvent) → IsRoster g here (table self.now)
+    pub fn is_busy(&self, places: &Places, action: &Name) -> bool
+        ensures { (g : ℕ) (here : List LocalEvent) → IsRoster g here (table places.now self.now)
             → IsTrue (is_begun action.now (events_here here))
             → result ≡ is_busy action.now (events_here here) }
     {
-        match self.row(action) {
+        match self.row(places, action) {
             Some(row) => row.unended > 0,
             None => false,
         }
@@ -100,21 +105,22 @@ impl Roster {
 
     /// Whether the guardian crashed since the action began here, where the action is at home. Of others' crashes a
     /// guardian keeps none.
-    pub fn is_gone(&self, action: &Name) -> bool
-        ensures { (g : ℕ) (here : List LocalEvent) → IsRoster g here (table self.now)
+    pub fn is_gone(&self, places: &Places, action: &Name) -> bool
+        ensures { (g : ℕ) (here : List LocalEvent) → IsRoster g here (table places.now self.now)
             → result ≡ is_gone action.now (events_here here) }
     {
         // Nothing is looked up where there was no crash.
         if self.crashes == 0 {
             return false;
         }
-        let (home, life) = self.birth(action);
+        let (home, life) = self.birth(places, action);
         home == self.guardian && life < self.crashes
     }
 
     /// Whether the guardian is down.
     pub fn is_down(&self) -> bool
-        ensures { (g : ℕ) (here : List LocalEvent) → IsRoster g here (table self.now)
+        ensures { (g : ℕ) (here : List LocalEvent) (names : List Name)
+            → IsRoster g here (table names self.now)
             → result ≡ is_down g (events_here here) }
     {
         self.down
@@ -122,53 +128,58 @@ impl Roster {
 
     /// How often the guardian has crashed.
     pub fn crashes(&self) -> u64
-        ensures { (g : ℕ) (here : List LocalEvent) → IsRoster g here (table self.now)
+        ensures { (g : ℕ) (here : List LocalEvent) (names : List Name)
+            → IsRoster g here (table names self.now)
             → result ≡ crashes g (events_here here) }
     {
         self.crashes
     }
 
     /// On which guardians an action depends that began here; nothing is kept of another.
-    pub fn dependencies(&self, action: &Name) -> Option<&Deps>
-        ensures { (g : ℕ) (here : List LocalEvent) → IsRoster g here (table self.now)
+    pub fn dependencies(&self, places: &Places, action: &Name) -> Option<&Deps>
+        ensures { (g : ℕ) (here : List LocalEvent) → IsRoster g here (table places.now self.now)
             → (h : ℕ) → option_and_then (λ depends. map.get depends.now h) result
             ≡ dependency_here action.now h here }
     {
-        Some(&self.row(action)?.depends)
+        Some(&self.row(places, action)?.depends)
     }
 
     /// Copies what an event makes of the roster, with the dependencies that its messages brought, in place of what
-    /// another made of it, and makes room. Whether or not there is memory for it, the roster is that of the same
-    /// history.
+    /// another made of it, and makes places and room. Whether or not there is memory for it, the roster is that of the
+    /// same history.
     pub fn plan(
         &mut self,
+        places: &mut Places,
         event: &EventRef<'_>,
         dependencies: &[(Name, Deps)],
         entry: &mut Entry,
     ) -> Result<(), AllocError>
-        ensures same { (g : ℕ) (here : List LocalEvent) → IsRoster g here (table self.old)
-            → IsRoster g here (table self.new) }
+        ensures more { AreMore places.old places.new }
+        ensures same { (g : ℕ) (here : List LocalEvent)
+            → IsRoster g here (table places.old self.old)
+            → IsRoster g here (table places.new self.new) }
         ensures crashes { crashes_of self.new ≡ crashes_of self.old }
         ensures fits { OnOk result (FitsEntry self.new entry.new) }
-        ensures planned { OnOk result
-            (IsEntry (table self.new) event.now (sent_of dependencies.now) entry.new) }
+        ensures planned { OnOk result (IsEntry (table places.new self.new) event.now
+            (sent_of dependencies.now) entry.new) }
     {
         // Nothing is looked up where the event concerns no row.
         if concerns_none(event) {
             entry.clear();
             return Ok(());
         }
-        let Places {
+        // Places come first: who is concerned is looked up among all names.
+        self.plan_begun(places, event, dependencies, &mut entry.begun)?;
+        let Concerned {
             ended,
             closed,
             maker,
-        } = self.places_in(event.step);
+        } = self.concerned_in(places, event.step);
         entry.ended = ended;
         entry.closed = closed;
-        entry.maker = maker;
+        entry.birth = self.birth_in(event.step, maker);
         entry.turn = turn_in(event.step);
-        entry.merged = self.plan_merge(event.step, dependencies)?;
-        self.plan_begun(event, dependencies, maker, &mut entry.begun)?;
+        entry.merged = self.plan_merge(places, event.step, dependencies)?;
         self.plan_count(maker, entry.begun.len())?;
         Ok(())
     }
@@ -177,13 +188,13 @@ impl Roster {
     pub fn enter(&mut self, entry: &mut Entry)
         requires fits { FitsEntry self.old entry.old }
         requires count { crashes_of self.old + 1 < 2 ^ 64 }
-        ensures { (g : ℕ) (here : List LocalEvent) (c : LocalEvent)
-            → IsRoster g here (table self.old) → AgreesOnActions g c here
-            → IsEntry (table self.old) c.event c.carried.dependencies entry.old
-            → IsRoster g (c ∷ here) (table self.new) }
+        ensures { (g : ℕ) (here : List LocalEvent) (c : LocalEvent) (names : List Name)
+            → IsRoster g here (table names self.old) → AgreesOnActions g c here
+            → IsEntry (table names self.old) c.event c.carried.dependencies entry.old
+            → IsRoster g (c ∷ here) (table names self.new) }
     {
-        self.count_more(entry.maker, entry.begun.len());
-        self.add_all(&mut entry.begun);
+        self.count_more(entry.birth.maker, entry.begun.len());
+        self.add_all(entry.birth, &mut entry.begun);
         self.end(entry.ended);
         self.close(entry.closed);
         self.merge(entry.merged.take());
@@ -193,38 +204,38 @@ impl Roster {
 
 impl Roster {
     ghost use Rattle.guardian_laws.specs.Sent.{sent_of};
-    ghost use Rattle.roster.specs.Entries.{AreBorn, CanCount, FitsBegun, IsBorn, IsLeft, IsMerged};
+    ghost use Rattle.roster.specs.Entries.{AreBegun, CanCount, FitsBegun, HavePlaces, IsLeft, IsMerged};
     ghost use Rattle.roster.specs.Steps.{above, closed_in, ended_in};
     ghost use Rattle.roster.specs.Rosters.{crashes_of};
-    ghost use Rattle.roster.specs.Tables.{added, all_added, changed_at, ended, home_at, life_at, life_in, maker_left, merged, more_by};
+    ghost use Rattle.roster.specs.Tables.{IsKept, added, all_added, begun_of, changed_at, ended, home_at, life_at, life_in, maker_left, merged, more_by};
     ghost use Rattle.roster.specs.Tables.{one_less, place_of, placed, row_at, row_of, said, table, turned, with_closed, with_ended};
 
     // The place of the action's row.
-    fn place(&self, action: &Name) -> Option<usize>
-        ensures { result ≡ place_of (table self.now) action.now }
+    fn place(&self, places: &Places, action: &Name) -> Option<usize>
+        ensures { result ≡ place_of (table places.now self.now) action.now }
     {
-        self.places.get(action).copied()
+        self.at.get(places.find(action)?).copied()
     }
 
-    // The places of those of whom the step speaks, of whom one is looked up at most.
-    fn places_in(&self, step: &Step) -> Places
-        ensures ended { result.ended ≡ placed (table self.now) (ended_in step.now) }
-        ensures closed { result.closed ≡ placed (table self.now) (closed_in step.now) }
-        ensures maker { result.maker ≡ placed (table self.now) (maker_in step.now) }
+    // The places of the rows of those of whom the step speaks, of whom one is looked up at most.
+    fn concerned_in(&self, places: &Places, step: &Step) -> Concerned
+        ensures ended { result.ended ≡ placed (table places.now self.now) (ended_in step.now) }
+        ensures closed { result.closed ≡ placed (table places.now self.now) (closed_in step.now) }
+        ensures maker { result.maker ≡ placed (table places.now self.now) (maker_in step.now) }
     {
         let (ended, closed, maker) = match step {
             Step::Commit(action) => {
-                let at = self.place(action);
+                let at = self.place(places, action);
                 (at, at, None)
             }
-            Step::Decide(action) | Step::Abort(action) => (self.place(action), None, None),
-            Step::Close(action) => (None, self.place(action), None),
+            Step::Decide(action) | Step::Abort(action) => (self.place(places, action), None, None),
+            Step::Close(action) => (None, self.place(places, action), None),
             Step::NestedTop(action) | Step::Call(action, _) | Step::Arms(action, _) => {
-                (None, None, self.place(action))
+                (None, None, self.place(places, action))
             }
             _ => (None, None, None),
         };
-        Places {
+        Concerned {
             ended,
             closed,
             maker,
@@ -232,53 +243,70 @@ impl Roster {
     }
 
     fn row_at(&self, at: Option<usize>) -> Option<&Row>
-        ensures { option_map (λ row. row.now) result ≡ row_at (table self.now) at }
+        ensures { (names : List Name)
+            → option_map (λ row. row.now) result ≡ row_at (table names self.now) at }
     {
         self.rows.get(at?)
     }
 
-    fn row(&self, action: &Name) -> Option<&Row>
-        ensures { option_map (λ row. row.now) result ≡ row_of (table self.now) action.now }
+    fn row(&self, places: &Places, action: &Name) -> Option<&Row>
+        ensures { option_map (λ row. row.now) result
+            ≡ row_of (table places.now self.now) action.now }
     {
-        self.row_at(self.place(action))
-    }
-
-    // The home of the action, and 0 where it did not begin here.
-    fn home(&self, action: &Name) -> u32
-        ensures { result ≡ home_at (table self.now) action.now }
-    {
-        match self.row(action) {
-            Some(row) => row.home,
-            None => 0,
-        }
+        self.row_at(self.place(places, action))
     }
 
     // The home of the action, and how often that had crashed when the action began; 0 and 0 where it did not begin
     // here.
-    fn birth(&self, action: &Name) -> (u32, u64)
-        ensures home { result.0 ≡ home_at (table self.now) action.now }
-        ensures life { result.1 ≡ life_at (table self.now) action.now }
+    fn birth(&self, places: &Places, action: &Name) -> (u32, u64)
+        ensures home { result.0 ≡ home_at (table places.now self.now) action.now }
+        ensures life { result.1 ≡ life_at (table places.now self.now) action.now }
     {
-        match self.row(action) {
+        match self.row(places, action) {
             Some(row) => (row.home, row.life),
             None => (0, 0),
         }
     }
 
-    // The home of what the step begins.
-    fn home_in(&self, step: &Step) -> u32
-        ensures { result ≡ home_in step.now (λ a. home_at (table self.now) a) }
+    // How all that the step begins is born, whose maker has its row at the place.
+    fn birth_in(&self, step: &Step, maker: Option<usize>) -> Birth
+        ensures home { (names : List Name) → result.home
+            ≡ home_in step.now (λ _. said (λ row. row.home) 0 (row_at (table names self.now) maker)) }
+        ensures life { (names : List Name)
+            → result.life ≡ life_in (table names self.now) result.home }
+        ensures maker { result.maker ≡ maker }
+    {
+        let home = self.home_in(step, maker);
+        let life = self.life_in(home);
+        Birth { home, life, maker }
+    }
+
+    // The home of what the step begins, whose maker has its row at the place.
+    fn home_in(&self, step: &Step, maker: Option<usize>) -> u32
+        ensures { (names : List Name) → result
+            ≡ home_in step.now (λ _. said (λ row. row.home) 0 (row_at (table names self.now) maker)) }
     {
         match step {
             Step::Top(guardian) | Step::Call(_, guardian) => *guardian,
-            Step::NestedTop(action) | Step::Arms(action, _) => self.home(action),
+            Step::NestedTop(_) | Step::Arms(..) => self.home_at(maker),
             _ => 0,
+        }
+    }
+
+    // The home of the action at the place, and 0 where none is there.
+    fn home_at(&self, at: Option<usize>) -> u32
+        ensures { (names : List Name)
+            → result ≡ said (λ row. row.home) 0 (row_at (table names self.now) at) }
+    {
+        match self.row_at(at) {
+            Some(row) => row.home,
+            None => 0,
         }
     }
 
     // How often the guardian has crashed, of whose crashes the own alone are counted.
     fn life_in(&self, guardian: u32) -> u64
-        ensures { result ≡ life_in (table self.now) guardian }
+        ensures { (names : List Name) → result ≡ life_in (table names self.now) guardian }
     {
         if guardian == self.guardian {
             self.crashes
@@ -290,26 +318,30 @@ impl Roster {
     // The place of the parent of an action that commits, if the parent has a row, and on what it depends then.
     fn plan_merge(
         &self,
+        places: &Places,
         step: &Step,
         dependencies: &[(Name, Deps)],
     ) -> Result<Option<(usize, Deps)>, AllocError>
-        ensures { IfOk result (IsMerged (table self.now) step.now (sent_of dependencies.now)) }
+        ensures { IfOk result
+            (IsMerged (table places.now self.now) step.now (sent_of dependencies.now)) }
     {
         match step {
-            Step::Commit(action) => self.plan_left(action, dependencies),
+            Step::Commit(action) => self.plan_left(places, action, dependencies),
             _ => Ok(None),
         }
     }
 
     fn plan_left(
         &self,
+        places: &Places,
         action: &Name,
         dependencies: &[(Name, Deps)],
     ) -> Result<Option<(usize, Deps)>, AllocError>
-        ensures { IfOk result (IsLeft (table self.now) (placed (table self.now) (above action.now))
+        ensures { IfOk result (IsLeft (table places.now self.now)
+            (placed (table places.now self.now) (above action.now))
             (λ h. least_of (sent_of dependencies.now) action.now h)) }
     {
-        let place = self.parent_place(action)?;
+        let place = self.parent_place(places, action)?;
         let Some(at) = place else {
             return Ok(None);
         };
@@ -319,20 +351,21 @@ impl Roster {
     }
 
     // The place of the action's parent, if it has one that has a row.
-    fn parent_place(&self, action: &Name) -> Result<Option<usize>, AllocError>
-        ensures { IfOk result (λ at. at ≡ placed (table self.now) (above action.now)) }
+    fn parent_place(&self, places: &Places, action: &Name) -> Result<Option<usize>, AllocError>
+        ensures { IfOk result (λ at. at ≡ placed (table places.now self.now) (above action.now)) }
     {
         let parent = action.parent()?;
         match parent {
-            Some(parent) => Ok(self.place(&parent)),
+            Some(parent) => Ok(self.place(places, &parent)),
             None => Ok(None),
         }
     }
 
     // On what the action at the place depends, once what came is merged into that.
     fn left_with(&self, at: usize, came: Deps) -> Result<Deps, AllocError>
-        ensures { IfOk result (λ depends. (h : ℕ) → map.get depends h
-            ≡ lesser (said (λ row. map.get row.depends h) None (row_at (table self.now) (Some at)))
+        ensures { IfOk result (λ depends. (h : ℕ) (names : List Name) → map.get depends h
+            ≡ lesser (said (λ row. map.get row.depends h) None
+            (row_at (table names self.now) (Some at)))
             (map.get came h)) }
     {
         let Some(row) = self.row_at(Some(at)) else {
@@ -343,55 +376,30 @@ impl Roster {
         Ok(depends)
     }
 
-    // The rows of what the event begins, whose maker has its row at the place, and room for them.
+    // Makes places for what the event begins, and room for its rows, and copies on what each depends.
     fn plan_begun(
         &mut self,
+        places: &mut Places,
         event: &EventRef<'_>,
         dependencies: &[(Name, Deps)],
-        maker: Option<usize>,
-        begun: &mut Vec<(Name, Row)>,
+        begun: &mut Vec<(usize, Deps)>,
     ) -> Result<(), AllocError>
-        requires { maker ≡ placed (table self.old) (maker_in event.now.step) }
-        ensures same { table self.new ≡ table self.old }
+        ensures more { AreMore places.old places.new }
+        ensures kept { IsKept places.new self.old self.new }
         ensures fits { OnOk result (FitsBegun self.new begun.new.items (vec_len begun.new)) }
-        ensures born { OnOk result
-            (AreBorn (table self.old) event.now (sent_of dependencies.now) begun.new.items) }
+        ensures placed { OnOk result (HavePlaces places.new begun.new.items) }
+        ensures begun { OnOk result (AreBegun places.new event.now (sent_of dependencies.now)
+            begun.new.items) }
     {
         let names = event.answer.names_begun();
         begun.clear();
         self.rows.reserve(names.len())?;
         for name in names {
-            self.places.make_room(name)?;
-            let row = self.born(event.step, name, dependencies, maker)?;
-            begun.push((name.copy()?, row))?;
+            let at = places.provide(name)?;
+            let depends = depends_in(self.alloc, dependencies, name)?;
+            begun.push((at, depends))?;
         }
-        Ok(())
-    }
-
-    // The row of an action that the step begins, whose maker has its row at the place.
-    fn born(
-        &self,
-        step: &Step,
-        action: &Name,
-        dependencies: &[(Name, Deps)],
-        maker: Option<usize>,
-    ) -> Result<Row, AllocError>
-        requires { maker ≡ placed (table self.now) (maker_in step.now) }
-        ensures { IfOk result
-            (IsBorn (table self.now) step.now (sent_of dependencies.now) action.now) }
-    {
-        let home = self.home_in(step);
-        let life = self.life_in(home);
-        let depends = depends_in(self.alloc, dependencies, action)?;
-        Ok(Row {
-            home,
-            life,
-            maker,
-            depends,
-            ended: false,
-            closed: false,
-            unended: 0,
-        })
+        self.at.make_room(places.len())
     }
 
     // Sees to it that the action at the place can count so many things more. Fails where they are too many to be
@@ -409,10 +417,11 @@ impl Roster {
     // So many things more that the action at the place made have not ended.
     fn count_more(&mut self, at: Option<usize>, more: usize)
         requires { CanCount self.old.rows.items at more }
-        ensures counted { table self.new ≡ changed_at (more_by more) at (table self.old) }
+        ensures counted { (names : List Name)
+            → table names self.new ≡ changed_at (more_by more) at (table names self.old) }
         ensures len { vec_len self.new.rows ≡ vec_len self.old.rows }
         ensures capacity { vec_capacity self.new.rows ≡ vec_capacity self.old.rows }
-        ensures places { self.new.places ≡ self.old.places }
+        ensures places { self.new.at ≡ self.old.at }
     {
         let Some(at) = at else {
             return;
@@ -423,32 +432,37 @@ impl Roster {
     }
 
     // Puts in the rows of what begins, for which there is room.
-    fn add_all(&mut self, begun: &mut Vec<(Name, Row)>)
+    fn add_all(&mut self, birth: Birth, begun: &mut Vec<(usize, Deps)>)
         requires { FitsBegun self.old begun.old.items (vec_len begun.old) }
-        ensures { table self.new ≡ all_added begun.old.items (table self.old) }
+        ensures added { (names : List Name) → HavePlaces names begun.old.items
+            → table names self.new
+            ≡ all_added (begun_of names birth begun.old.items) (table names self.old) }
+        ensures crashes { crashes_of self.new ≡ crashes_of self.old }
     {
-        while let Some((name, row)) = begun.pop() {
-            self.add(&name, row);
+        while let Some((at, depends)) = begun.pop() {
+            self.add(at, birth.row(depends));
         }
     }
 
     // Puts in one row, for which there is room.
-    fn add(&mut self, name: &Name, row: Row)
+    fn add(&mut self, at: usize, row: Row)
         requires room { vec_len self.old.rows < vec_capacity self.old.rows }
-        requires place { IsTrue (has_name self.old.places.room name.now) }
-        ensures added { table self.new ≡ added (name.now, row) (table self.old) }
+        requires place { at < length self.old.at }
+        ensures added { (names : List Name) → place_in names (get_or names at []) ≡ Some at
+            → table names self.new ≡ added (get_or names at [], row) (table names self.old) }
         ensures len { vec_len self.new.rows ≡ vec_len self.old.rows + 1 }
         ensures capacity { vec_capacity self.new.rows ≡ vec_capacity self.old.rows }
-        ensures places { self.new.places.room ≡ self.old.places.room }
+        ensures places { length self.new.at ≡ length self.old.at }
+        ensures crashes { crashes_of self.new ≡ crashes_of self.old }
     {
-        let place = self.rows.len();
-        self.places.put(name, place);
+        self.at.put(at, self.rows.len());
         self.rows.push_reserved(row);
     }
 
     // The action at the place ends: where it had not, its maker has one thing less that has not.
     fn end(&mut self, at: Option<usize>)
-        ensures { table self.new ≡ ended at (table self.old) }
+        ensures { (names : List Name)
+            → table names self.new ≡ ended at (table names self.old) }
     {
         let maker = self.maker_left(at);
         self.set_ended(at);
@@ -457,14 +471,16 @@ impl Roster {
 
     // The place of the maker of the action at the place, if that has not ended.
     fn maker_left(&self, at: Option<usize>) -> Option<usize>
-        ensures { result ≡ said maker_left None (row_at (table self.now) at) }
+        ensures { (names : List Name)
+            → result ≡ said maker_left None (row_at (table names self.now) at) }
     {
         let row = self.row_at(at)?;
         if row.ended { None } else { row.maker }
     }
 
     fn set_ended(&mut self, at: Option<usize>)
-        ensures { table self.new ≡ changed_at with_ended at (table self.old) }
+        ensures { (names : List Name)
+            → table names self.new ≡ changed_at with_ended at (table names self.old) }
     {
         let Some(at) = at else {
             return;
@@ -476,7 +492,8 @@ impl Roster {
 
     // One thing less that the action at the place made has not ended.
     fn count_less(&mut self, at: Option<usize>)
-        ensures { table self.new ≡ changed_at one_less at (table self.old) }
+        ensures { (names : List Name)
+            → table names self.new ≡ changed_at one_less at (table names self.old) }
     {
         let Some(at) = at else {
             return;
@@ -488,7 +505,8 @@ impl Roster {
 
     // The action at the place is closed.
     fn close(&mut self, at: Option<usize>)
-        ensures { table self.new ≡ changed_at with_closed at (table self.old) }
+        ensures { (names : List Name)
+            → table names self.new ≡ changed_at with_closed at (table names self.old) }
     {
         let Some(at) = at else {
             return;
@@ -500,7 +518,8 @@ impl Roster {
 
     // The action at the place is left with these dependencies.
     fn merge(&mut self, parent: Option<(usize, Deps)>)
-        ensures { table self.new ≡ merged parent (table self.old) }
+        ensures { (names : List Name)
+            → table names self.new ≡ merged parent (table names self.old) }
     {
         let Some((at, depends)) = parent else {
             return;
@@ -513,7 +532,8 @@ impl Roster {
     // What an event makes of the guardian.
     fn turn(&mut self, turn: Turn)
         requires { crashes_of self.old + 1 < 2 ^ 64 }
-        ensures { table self.new ≡ turned turn (table self.old) }
+        ensures { (names : List Name)
+            → table names self.new ≡ turned turn (table names self.old) }
     {
         match turn {
             Turn::Stays => {}

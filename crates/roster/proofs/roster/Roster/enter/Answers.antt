@@ -1,45 +1,52 @@
-use Rattle.std.proofs.Common.{Bool, ap, arith, length, subst, sym, ℕ, ◌∙◌, ◌∷◌, ◌≡◌}
-use Rattle.roster.proofs.Entering.{enters, standing_before}
-use Rattle.roster.proofs.Planning.{HavePlaces}
+use Rattle.std.proofs.Common.{Bool, [], ap, arith, get_or, length, subst, sym, ℕ, ◌∙◌, ◌∷◌, ◌≡◌, ◌<◌}
+use Rattle.std.proofs.lemmas.List.{length-map}
+use Rattle.std.specs.List.{AllByRecursion}
+use Rattle.action_names.specs.Deps.{Deps}
+use Rattle.roster.proofs.Changed.{standing_changed, standing_merged}
+use Rattle.roster.proofs.Entering.{enters, standing_ended}
 use Rattle.roster.specs.Entries.{CanCount}
 use Rattle.roster.specs.Rosters.{IsRoster}
-use Rattle.roster.specs.Tables.{Table, all_added, changed_at, ended, entered, grown, merged, more_by, table, turned, with_closed}
+use Rattle.roster.specs.Tables.{Table, all_added, begun_of, born_row, changed_at, ended, entered, grown, merged, more_by, table, turned, with_closed}
 use Rattle.roster.proofs.roster.Roster.enter.Goals as goal
 
 pub count_more-requires : goal.count_more-requires
-count_more-requires c = subst (CanCount c.args.self.now.rows.items c.args.entry.now.maker) (sym c.len.ensures) c.requires.fits.count
+count_more-requires c = subst (CanCount c.args.self.now.rows.items c.args.entry.now.birth.maker) (sym c.len.ensures) c.requires.fits.count
 
 pub add_all-requires : goal.add_all-requires
 add_all-requires c = record {
   rows = omega (arith, c.count_more.ensures.len, c.count_more.ensures.capacity, c.requires.fits.begun.rows);
-  places = subst (λ p. HavePlaces p.room c.args.entry.now.begun.items) (sym c.count_more.ensures.places) c.requires.fits.begun.places;
+  places = subst (λ at. AllByRecursion (λ (x : ℕ × Deps). x.0 < length at) c.args.entry.now.begun.items) (sym c.count_more.ensures.places)
+      c.requires.fits.begun.places;
 }
 
 pub turn-requires : goal.turn-requires
 turn-requires c =
     let entry = c.args.entry.now in
-    let before = table c.args.self.now in
-    let many : c.len.result ≡ length entry.begun.items = c.len.ensures ∙ entry.begun.ok.0 in
-    let begins : table c.add_all.new.self ≡ grown entry before =
-    c.add_all.ensures ∙ ap (all_added entry.begun.items) (c.count_more.ensures.counted ∙ ap (λ n. changed_at (more_by n) entry.maker before) many) in
-    let merges : table c.merge.new.self ≡ merged entry.merged (changed_at with_closed entry.closed (ended entry.ended (grown entry before))) =
-    c.merge.ensures
-    ∙ ap (λ m. merged m (table c.close.new.self)) c.take.ensures.value
-    ∙ ap (merged entry.merged) (c.close.ensures ∙ ap (changed_at with_closed entry.closed) (c.end.ensures ∙ ap (ended entry.ended) begins)) in
-    let same : c.merge.new.self.crashes ≡ c.args.self.now.crashes =
-    ap (λ (t : Table). t.crashes) merges ∙ ap (λ (s : ℕ × ℕ × Bool). s.1) (standing_before entry before) in
-    omega (arith, c.requires.count, same)
+    let crashes : Table → ℕ = λ t. t.crashes in
+    let added : c.add_all.new.self.crashes ≡ c.args.self.now.crashes =
+    c.add_all.ensures.crashes ∙ ap crashes (c.count_more.ensures.counted [])
+    ∙ ap (λ (s : ℕ × ℕ × Bool). s.1) (standing_changed (more_by c.len.result) entry.birth.maker (table [] c.args.self.now)) in
+    let ends : c.end.new.self.crashes ≡ c.add_all.new.self.crashes =
+    ap crashes (c.end.ensures []) ∙ ap (λ (s : ℕ × ℕ × Bool). s.1) (standing_ended entry.ended (table [] c.add_all.new.self)) in
+    let closes : c.close.new.self.crashes ≡ c.end.new.self.crashes =
+    ap crashes (c.close.ensures []) ∙ ap (λ (s : ℕ × ℕ × Bool). s.1) (standing_changed with_closed entry.closed (table [] c.end.new.self)) in
+    let merges : c.merge.new.self.crashes ≡ c.close.new.self.crashes =
+    ap crashes (c.merge.ensures []) ∙ ap (λ (s : ℕ × ℕ × Bool). s.1) (standing_merged c.take.result (table [] c.close.new.self)) in
+    omega (arith, c.requires.count, merges ∙ closes ∙ ends ∙ added)
 
 pub returns : goal.returns
-returns c = λ g here e is agrees planned.
+returns c = λ g here e names is agrees planned.
     let entry = c.args.entry.now in
-    let before = table c.args.self.now in
-    let many : c.len.result ≡ length entry.begun.items = c.len.ensures ∙ entry.begun.ok.0 in
-    let begins : table c.add_all.new.self ≡ grown entry before =
-    c.add_all.ensures ∙ ap (all_added entry.begun.items) (c.count_more.ensures.counted ∙ ap (λ n. changed_at (more_by n) entry.maker before) many) in
-    let whole : table c.turn.new.self ≡ entered entry before =
-    c.turn.ensures
-    ∙ ap (turned entry.turn) (c.merge.ensures
-    ∙ ap (λ m. merged m (table c.close.new.self)) c.take.ensures.value
-    ∙ ap (merged entry.merged) (c.close.ensures ∙ ap (changed_at with_closed entry.closed) (c.end.ensures ∙ ap (ended entry.ended) begins))) in
+    let before = table names c.args.self.now in
+    let begun = begun_of names entry.birth entry.begun.items in
+    let many : c.len.result ≡ length begun =
+    c.len.ensures ∙ entry.begun.ok.0 ∙ sym (length-map entry.begun.items (λ (x : ℕ × Deps). (get_or names x.0 [], born_row entry.birth x.1))) in
+    let begins : table names c.add_all.new.self ≡ grown entry before =
+    c.add_all.ensures.added names planned.placed
+    ∙ ap (all_added begun) (c.count_more.ensures.counted names ∙ ap (λ n. changed_at (more_by n) entry.birth.maker before) many) in
+    let whole : table names c.turn.new.self ≡ entered entry before =
+    c.turn.ensures names
+    ∙ ap (turned entry.turn) (c.merge.ensures names
+    ∙ ap (λ m. merged m (table names c.close.new.self)) c.take.ensures.value
+    ∙ ap (merged entry.merged) (c.close.ensures names ∙ ap (changed_at with_closed entry.closed) (c.end.ensures names ∙ ap (ended entry.ended) begins))) in
     subst (IsRoster g (e ∷ here)) (sym whole) (enters g here e before entry is agrees planned)

@@ -1,59 +1,94 @@
-use Rattle.std.proofs.Common.{ap, ap₂, subst, sym, ◌∙◌, ◌≡◌}
+use Rattle.std.proofs.Common.{ap, subst, sym, vec_len, ◌∙◌, ◌≡◌}
 use Rattle.guardian_laws.specs.Sent.{sent_of}
-use Rattle.roster.specs.Entries.{AreBorn, CanCount, IsMerged}
-use Rattle.roster.specs.Rosters.{IsRoster}
-use Rattle.roster.specs.Steps.{closed_in, ended_in, turn_in}
-use Rattle.roster.specs.Tables.{Table, placed, table}
-use Rattle.run_model.specs.Actions.{maker_in}
+use Rattle.places.proofs.Walking.{more_none}
 use Rattle.run_model.proofs.Events.{step_is}
+use Rattle.run_model.specs.Actions.{home_in, maker_in}
 use Rattle.roster.proofs.Idle.{idle_entry, idle_fits}
+use Rattle.roster.proofs.Planning.{are_born, home_made, roster_kept}
+use Rattle.roster.specs.Entries.{CanCount, IsMerged}
+use Rattle.roster.specs.Steps.{closed_in, ended_in, turn_in}
+use Rattle.roster.specs.Tables.{home_at, placed, table}
 use Rattle.roster.proofs.roster.Roster.plan.Goals as goal
+
+pub returns-then-concerns_none-clause-more : goal.returns-then-concerns_none-clause-more
+returns-then-concerns_none-clause-more c = more_none c.args.places.now
 
 pub returns-then-concerns_none-clause-fits : goal.returns-then-concerns_none-clause-fits
 returns-then-concerns_none-clause-fits c = idle_fits c.args.self.now c.clear.new.self c.clear.ensures
 
 pub returns-then-concerns_none-clause-planned : goal.returns-then-concerns_none-clause-planned
 returns-then-concerns_none-clause-planned c =
-    idle_entry (table c.args.self.now) c.args.event.now (sent_of c.args.dependencies.now) c.clear.new.self
+    idle_entry (table c.args.places.now c.args.self.now) c.args.event.now (sent_of c.args.dependencies.now) c.clear.new.self
     (c.concerns_none.ensures c.if-concerns_none.true) c.clear.ensures
 
-pub returns-in_err-plan_begun-clause-same : goal.returns-in_err-plan_begun-clause-same
-returns-in_err-plan_begun-clause-same c = λ g here is. subst (IsRoster g here) (sym c.plan_begun.ensures.same) is
+pub returns-in_err-plan_begun-clause-more : goal.returns-in_err-plan_begun-clause-more
+returns-in_err-plan_begun-clause-more c = c.plan_begun.ensures.more
 
-pub returns-in_err-plan_count-clause-same : goal.returns-in_err-plan_count-clause-same
-returns-in_err-plan_count-clause-same c = λ g here is. subst (IsRoster g here) (sym c.plan_begun.ensures.same) is
+pub returns-in_err-plan_begun-clause-same : goal.returns-in_err-plan_begun-clause-same
+returns-in_err-plan_begun-clause-same c = λ g here is.
+    roster_kept g here c.args.places.now c.plan_begun.new.places c.args.self.now c.plan_begun.new.self c.plan_begun.ensures.more c.plan_begun.ensures.kept is
 
 pub returns-in_err-plan_begun-clause-crashes : goal.returns-in_err-plan_begun-clause-crashes
-returns-in_err-plan_begun-clause-crashes c = ap (λ (t : Table). t.crashes) c.plan_begun.ensures.same
+returns-in_err-plan_begun-clause-crashes c = c.plan_begun.ensures.kept.crashes
+
+pub returns-in_err-entry-clause-more : goal.returns-in_err-entry-clause-more
+returns-in_err-entry-clause-more c = c.plan_begun.ensures.more
+
+pub returns-in_err-entry-clause-same : goal.returns-in_err-entry-clause-same
+returns-in_err-entry-clause-same c = λ g here is.
+    roster_kept g here c.args.places.now c.plan_begun.new.places c.args.self.now c.plan_begun.new.self c.plan_begun.ensures.more c.plan_begun.ensures.kept is
+
+pub returns-in_err-entry-clause-crashes : goal.returns-in_err-entry-clause-crashes
+returns-in_err-entry-clause-crashes c = c.plan_begun.ensures.kept.crashes
+
+pub returns-in_err-plan_count-clause-more : goal.returns-in_err-plan_count-clause-more
+returns-in_err-plan_count-clause-more c = c.plan_begun.ensures.more
+
+pub returns-in_err-plan_count-clause-same : goal.returns-in_err-plan_count-clause-same
+returns-in_err-plan_count-clause-same c = λ g here is.
+    roster_kept g here c.args.places.now c.plan_begun.new.places c.args.self.now c.plan_begun.new.self c.plan_begun.ensures.more c.plan_begun.ensures.kept is
 
 pub returns-in_err-plan_count-clause-crashes : goal.returns-in_err-plan_count-clause-crashes
-returns-in_err-plan_count-clause-crashes c = ap (λ (t : Table). t.crashes) c.plan_begun.ensures.same
+returns-in_err-plan_count-clause-crashes c = c.plan_begun.ensures.kept.crashes
+
+pub returns-clause-more : goal.returns-clause-more
+returns-clause-more c = c.plan_begun.ensures.more
 
 pub returns-clause-same : goal.returns-clause-same
-returns-clause-same c = λ g here is. subst (IsRoster g here) (sym c.plan_begun.ensures.same) is
+returns-clause-same c = λ g here is.
+    roster_kept g here c.args.places.now c.plan_begun.new.places c.args.self.now c.plan_begun.new.self c.plan_begun.ensures.more c.plan_begun.ensures.kept is
 
 pub returns-clause-crashes : goal.returns-clause-crashes
-returns-clause-crashes c = ap (λ (t : Table). t.crashes) c.plan_begun.ensures.same
+returns-clause-crashes c = c.plan_begun.ensures.kept.crashes
 
 pub returns-clause-fits : goal.returns-clause-fits
 returns-clause-fits c = record {
   begun = c.in_ok-plan_begun.ensures.fits;
-  count = subst (CanCount c.plan_begun.new.self.rows.items c.places_in-ended.result.maker) c.len.ensures c.in_ok-plan_count.ensures;
+  count = subst (λ at. CanCount c.plan_begun.new.self.rows.items at (vec_len c.plan_begun.new.begun)) (sym c.birth_in-entry.ensures.maker)
+      (subst (CanCount c.plan_begun.new.self.rows.items c.concerned_in-ended.result.maker) c.len.ensures c.in_ok-plan_count.ensures);
 }
 
 pub returns-clause-planned : goal.returns-clause-planned
 returns-clause-planned c =
-    let before = table c.args.self.now in
+    let names = c.plan_begun.new.places in
+    let after = table names c.plan_begun.new.self in
     let step = c.args.event.now.step in
     let came = sent_of c.args.dependencies.now in
     let made : c.event.inside.step.now ≡ step = sym (step_is c.event.view_is) in
-    let same : before ≡ table c.plan_begun.new.self = sym c.plan_begun.ensures.same in
+    let birth = c.birth_in-entry.result in
+    let maker : birth.maker ≡ placed after (maker_in step) =
+    c.birth_in-entry.ensures.maker ∙ c.concerned_in-ended.ensures.maker ∙ ap (λ s. placed after (maker_in s)) made in
+    let home : birth.home ≡ home_in step (λ a. home_at after a) =
+    c.birth_in-entry.ensures.home names
+    ∙ home_made after c.event.inside.step.now c.concerned_in-ended.result.maker c.concerned_in-ended.ensures.maker
+    ∙ ap (λ s. home_in s (λ a. home_at after a)) made in
     record {
-      ended = c.places_in-ended.ensures.ended ∙ ap₂ (λ t s. placed t (ended_in s)) same made;
-      closed = c.places_in-ended.ensures.closed ∙ ap₂ (λ t s. placed t (closed_in s)) same made;
-      merged = subst (λ t. IsMerged t step came c.in_ok-entry.field-0) same
-          (subst (λ s. IsMerged before s came c.in_ok-entry.field-0) made c.in_ok-entry.ensures);
-      maker = c.places_in-ended.ensures.maker ∙ ap₂ (λ t s. placed t (maker_in s)) same made;
-      begun = subst (λ t. AreBorn t c.args.event.now came c.plan_begun.new.begun.items) same c.in_ok-plan_begun.ensures.born;
+      ended = c.concerned_in-ended.ensures.ended ∙ ap (λ s. placed after (ended_in s)) made;
+      closed = c.concerned_in-ended.ensures.closed ∙ ap (λ s. placed after (closed_in s)) made;
+      merged = subst (λ s. IsMerged after s came c.in_ok-entry.field-0) made c.in_ok-entry.ensures;
+      maker = maker;
+      begun = are_born after c.args.event.now came birth home (c.birth_in-entry.ensures.life names) maker c.plan_begun.new.begun.items
+          c.in_ok-plan_begun.ensures.begun;
+      placed = c.in_ok-plan_begun.ensures.placed;
       turn = c.turn_in-entry.ensures ∙ ap turn_in made;
     }

@@ -12,12 +12,12 @@ returns-in_default c = sym c.in_ok-place.ensures ∙ c.in_default.is
 
 pub returns : goal.returns
 returns c =
-    let t = table c.args.self.now in
+    let t = table c.args.places.now c.args.self.now in
     let a = c.args.action.now in
     let there : placed t (above a) ≡ Some c.in-Some.at = sym c.in_ok-place.ensures ∙ c.in-Some.is in (
       there,
       λ h.
-          c.in_ok-depends.ensures h
+          c.in_ok-depends.ensures h c.args.places.now
           ∙ ap (lesser (said (λ row. tree.get row.depends h) None (row_at t (Some c.in-Some.at)))) (c.in_ok-came.ensures h)
           ∙ ap (λ (p : Option ℕ). lesser (said (λ row. tree.get row.depends h) None (row_at t p)) (least_of (sent_of c.args.dependencies.now) a h)) (sym there),
     )
