@@ -171,8 +171,8 @@ module _ {m : InMemory} {g : GuardianState} (s : IsSound m g) (stays : Name → 
 
 -- what the roster and the lists say of their calls
 abbrev EntersBy : Plan → Roster → Roster → Type 0
-EntersBy p old new = (g : ℕ) (here : List LocalEvent) (c : LocalEvent) → IsRoster g here (table old) → AgreesOnActions g c here
-    → IsEntry (table old) c.event c.carried.dependencies p.entry → IsRoster g (c ∷ here) (table new)
+EntersBy p old new = (g : ℕ) (here : List LocalEvent) (c : LocalEvent) (names : List Name) → IsRoster g here (table names old) → AgreesOnActions g c here
+    → IsEntry (table names old) c.event c.carried.dependencies p.entry → IsRoster g (c ∷ here) (table names new)
 
 abbrev LearnsBy : Plan → Lists → Lists → Type 0
 LearnsBy p old new = (here : List LocalEvent) (c : LocalEvent) → AreLists here old → step_crashes c.event.step (guardian_of old) ≡ false
@@ -198,7 +198,7 @@ module _ (m : InMemory) (p : Plan) (e : Event) (n : ℕ) (told : Tellings) (list
       sound_next n news s of.next.agrees
       (hears g.number g.past c m.places s.tellings of.heard up) (not_counted g.number c g.past _ _ up counts s.lives)
       (learns g.past c s.knowledge (ap (λ h. step_crashes news.event.step h) s.knower ∙ up) of.lesson) own
-      (enters g.number g.past c s.actions (actions_at g.number n news g.past of.next.agrees.actions) of.entry)
+      (enters g.number g.past c m.places s.actions (actions_at g.number n news g.past of.next.agrees.actions) of.entry)
       (tells g.opening g.past c s.shown of.planned of.outcomes
       (only_tells g.opening g.number n news g.past of.next.agrees (ap (λ k. is_operation k.step) same ∙ other) up)) owner
 
@@ -219,7 +219,7 @@ module _ (m : InMemory) (p : Plan) (e : Event) (n : ℕ) (told : Tellings) (list
       sound_next n news s of.next.agrees
       (hears g.number g.past c m.places s.tellings of.heard down) (one_counted g.number c g.past _ _ down counts s.lives)
       (forgets g.past c s.knowledge (ap (λ h. step_crashes step h) s.knower ∙ down)) own
-      (enters g.number g.past c s.actions (actions_at g.number n news g.past of.next.agrees.actions) of.entry)
+      (enters g.number g.past c m.places s.actions (actions_at g.number n news g.past of.next.agrees.actions) of.entry)
       (crashed g.opening g.past c s.shown (λ x own. s.safe x (own ∙ s.owner)) (survivors_are s stays recorded)
       (crash_is m.objects.guardian step (ap (λ h. step_crashes step h) s.owner ∙ down))
       (crash_brings g.number step news.carried.outcomes down of.next.agrees.outcomes.brought) of.next.agrees.given) owner
@@ -234,5 +234,5 @@ operated_follows m e n objects a x wanted step operates owner g s next =
     sound_next n news s next.agrees
     (untouched.told m.places m.told s.tellings) (s.lives ∙ untouched.crashes)
     (untouched.lists m.lists s.knowledge) refl
-    (untouched.roster (table m.roster) s.actions)
+    (untouched.roster (table m.places m.roster) s.actions)
     (operated s next a x wanted step n objects operates) owner

@@ -1,5 +1,5 @@
 -- When all parts of a memory are those of one history.
-use Rattle.std.proofs.Common.{Bool, List, None, Some, [], add-one, ap, cond, false, filter, length, refl, subst, suc, sym, true, ℕ, ◌+◌, ◌<◌, ◌^◌, ◌∙◌, ◌∷◌, ◌≡◌, ◌≤◌}
+use Rattle.std.proofs.Common.{Bool, List, None, Some, [], add-one, ap, arith, cond, false, filter, length, refl, subst, suc, sym, true, ℕ, ◌+◌, ◌<◌, ◌^◌, ◌∙◌, ◌∷◌, ◌≡◌, ◌≤◌}
 use Rattle.std.proofs.lemmas.Bool.{false≢true}
 use Rattle.std.specs.Prelude.{is_some}
 use Rattle.action_names.specs.Names.{Name, is_top}
@@ -13,7 +13,12 @@ use Rattle.run_model.specs.Visibility.{votes_yes}
 use Rattle.guardian_laws.specs.Crashes.{LeavesSafe}
 use Rattle.guardian_laws.specs.Laws.{Agrees}
 use Rattle.layer_contracts.specs.Guardians.{GuardianState, News, kept, stamped}
-use Rattle.tellings.specs.Hearing.{AreTold}
+use Rattle.places.specs.Placed.{AreMore}
+use Rattle.tellings.specs.Hearing.{AreTold, IsHeard}
+use Rattle.tellings.specs.declared.tellings.Heard.{Heard}
+use Rattle.tellings.proofs.Histories.{kept as told_kept}
+use Rattle.tellings.proofs.Planning.{heard_kept}
+use Rattle.roster.proofs.Planning.{roster_kept}
 use Rattle.tellings.specs.Hearing as hearing
 use Rattle.tellings.specs.declared.tellings.Tellings.{Tellings}
 use Rattle.orphans.specs.Knowing.{AreLists, guardian_of}
@@ -41,7 +46,7 @@ nothing_yet opening number = record { opening = opening_in opening; number = num
 
 pub nothing_sound : (opening : OpeningLists) (number : ℕ) (places : List Name) (told : Tellings) (lists : Lists) (roster : Roster) (objects : Indexed)
     → 1 ≤ number → AreTold number [] places told → hearing.crashes_of told ≡ 0 → AreLists [] lists → guardian_of lists ≡ number
-    → IsRoster number [] (table roster) → AreObjects (opening_in opening) [] objects → objects.guardian ≡ number
+    → IsRoster number [] (table places roster) → AreObjects (opening_in opening) [] objects → objects.guardian ≡ number
     → IsSound (record { opening = opening; number = number; places = places; told = told; lists = lists; roster = roster; objects = objects }) (nothing_yet opening number)
 nothing_sound opening number places told lists roster objects numbered tellings lives knowledge knower actions shown owner = record {
   opened = refl;
@@ -58,13 +63,33 @@ nothing_sound opening number places told lists roster objects numbered tellings 
   tops = λ t h. absurd (false≢true h);
 }
 
--- ---- while nothing but room is made
+-- ---- while nothing but places and room are made
+
+-- what was told stands among more names, and what is to be heard
+pub more_told : {old new : List Name} (told : Tellings) → AreMore old new → (h : ℕ) (here : List LocalEvent) → AreTold h here old told → AreTold h here new told
+more_told {old} {new} told more h here are = told_kept old new told told more refl (λ i. refl) (omega arith) h here are
+
+pub more_heard : {old new : List Name} (told : Tellings) (outcomes : List (Name × Bool)) (heard : Heard) → AreMore old new → IsHeard old told outcomes heard
+    → IsHeard new told outcomes heard
+more_heard {old} {new} told outcomes heard more is = heard_kept old new told told more refl (λ i. refl) outcomes heard.told.items is
+
+-- and the roster
+pub more_roster : {old new : List Name} (roster : Roster) → AreMore old new → (h : ℕ) (here : List LocalEvent)
+    → IsRoster h here (table old roster) → IsRoster h here (table new roster)
+more_roster {old} {new} roster more h here is = roster_kept h here old new roster roster more (record {
+  guardian = refl;
+  crashes = refl;
+  down = refl;
+  rows = refl;
+  places = λ i. refl;
+  within = omega arith;
+}) is
 
 pub sound_same : {opening : OpeningLists} {number : ℕ} {places more_places : List Name} {told more_told : Tellings} {lists more_lists : Lists} {roster more_roster : Roster}
     {objects more_objects : Indexed} {g : GuardianState}
     → ((h : ℕ) (here : List LocalEvent) → AreTold h here places told → AreTold h here more_places more_told) → hearing.crashes_of more_told ≡ hearing.crashes_of told
     → ((here : List LocalEvent) → AreLists here lists → AreLists here more_lists) → guardian_of more_lists ≡ guardian_of lists
-    → ((h : ℕ) (here : List LocalEvent) → IsRoster h here (table roster) → IsRoster h here (table more_roster))
+    → ((h : ℕ) (here : List LocalEvent) → IsRoster h here (table places roster) → IsRoster h here (table more_places more_roster))
     → Keeps objects more_objects → more_objects.guardian ≡ objects.guardian
     → IsSound (record { opening = opening; number = number; places = places; told = told; lists = lists; roster = roster; objects = objects }) g
     → IsSound (record { opening = opening; number = number; places = more_places; told = more_told; lists = more_lists; roster = more_roster; objects = more_objects }) g
@@ -132,7 +157,7 @@ pub sound_next : {opening : OpeningLists} {number : ℕ} {places : List Name} {t
     → Agrees g.opening g.number (stamped 0 e) g.past
     → AreTold g.number (stamped n e ∷ g.past) places more_told → hearing.crashes_of more_told ≡ crashes g.number (events_here (stamped n e ∷ g.past))
     → AreLists (stamped n e ∷ g.past) more_lists → guardian_of more_lists ≡ guardian_of lists
-    → IsRoster g.number (stamped n e ∷ g.past) (table more_roster)
+    → IsRoster g.number (stamped n e ∷ g.past) (table places more_roster)
     → AreObjects g.opening (stamped n e ∷ g.past) more_objects → more_objects.guardian ≡ objects.guardian
     → IsSound (record { opening = opening; number = number; places = places; told = more_told; lists = more_lists; roster = more_roster; objects = more_objects }) (kept g (stamped n e))
 sound_next {g = g} n e s agrees tellings lives knowledge knower actions shown owner = record {

@@ -41,7 +41,7 @@ pub record IsSound (m : InMemory) (g : GuardianState) : Type 0 where
   pub lives : crashes_of m.told ≡ crashes g.number (events_here g.past)
   pub knowledge : AreLists g.past m.lists
   pub knower : guardian_of m.lists ≡ g.number
-  pub actions : IsRoster g.number g.past (table m.roster)
+  pub actions : IsRoster g.number g.past (table m.places m.roster)
   pub shown : AreObjects g.opening g.past m.objects
   pub owner : m.objects.guardian ≡ g.number
   pub safe : (x : ObjectId) → x.guardian ≡ g.number → LeavesSafe g.opening g.past x

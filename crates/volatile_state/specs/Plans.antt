@@ -33,7 +33,7 @@ pub record IsPlanOf (p : Plan) (m : InMemory) (g : GuardianState) (news : News) 
   pub heard : IsHeard m.places m.told news.carried.outcomes p.heard
   pub lesson : IsLesson news.carried.sender news.carried.life news.carried.aborts
       news.carried.counts news.carried.outcomes p.lesson
-  pub entry : IsEntry (table m.roster) news.event news.carried.dependencies p.entry
+  pub entry : IsEntry (table m.places m.roster) news.event news.carried.dependencies p.entry
   pub outcomes : outcomes_of p.planned.tellings.items ≡ news.carried.outcomes
   pub planned : ArePlanned g.past p.planned.tellings.items
 

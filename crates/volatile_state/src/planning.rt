@@ -52,7 +52,8 @@ impl Memory {
             .plan(outcomes, &self.places, &self.told, &mut plan.planned)?;
         self.told.plan(&mut self.places, outcomes, &mut plan.heard)?;
         self.lists.plan_lesson(self.alloc, news, &mut plan.lesson)?;
-        self.roster.plan(event, dependencies, &mut plan.entry)?;
+        self.roster
+            .plan(&mut self.places, event, dependencies, &mut plan.entry)?;
         plan.sender = message.sender;
         plan.outcomes = message.outcomes;
         Ok(())

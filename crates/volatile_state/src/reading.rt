@@ -31,7 +31,7 @@ impl Memory {
         ensures { (s : GuardianState) → IsSound self.now s
             → result ≡ is_at_home s.number action.now s.past }
     {
-        self.roster.is_there(action)
+        self.roster.is_there(&self.places, action)
     }
 
     /// Whether an action on the roster has ended, or was closed.
@@ -40,7 +40,7 @@ impl Memory {
             → IsTrue (is_at_home s.number action.now s.past)
             → result ≡ is_done action.now (events_here s.past) }
     {
-        self.roster.is_done(action)
+        self.roster.is_done(&self.places, action)
     }
 
     /// Whether something that an action on the roster made has not ended.
@@ -49,7 +49,7 @@ impl Memory {
             → IsTrue (is_at_home s.number action.now s.past)
             → result ≡ is_busy action.now (events_here s.past) }
     {
-        self.roster.is_busy(action)
+        self.roster.is_busy(&self.places, action)
     }
 
     /// Whether the guardian has crashed and not recovered since.
@@ -73,7 +73,7 @@ impl Memory {
         ensures { (s : GuardianState) → IsSound self.now s
             → result ≡ is_gone action.now (events_here s.past) }
     {
-        self.roster.is_gone(action)
+        self.roster.is_gone(&self.places, action)
     }
 
     /// Whether the action is known as an orphan, by the lists and by what messages said of the action's dependencies,
@@ -82,7 +82,7 @@ impl Memory {
         ensures { (s : GuardianState) → IsSound self.now s
             → IfOk result (λ orphan. orphan ≡ is_orphan_here s.opening s.number s.past action.now) }
     {
-        match self.roster.dependencies(action) {
+        match self.roster.dependencies(&self.places, action) {
             Some(depends) => Ok(self.lists.is_known_orphan(self.opening(), action, depends)),
             None => {
                 let none = Deps::new(self.alloc);

@@ -1,11 +1,11 @@
-use Rattle.std.proofs.Common.{refl, subst, sym, ◌∙◌}
+use Rattle.std.proofs.Common.{arith, refl, subst, sym, ◌∙◌, ◌≡◌}
 use Rattle.tellings.specs.Hearing.{IsHeard}
 use Rattle.orphans.specs.Knowing.{IsLesson}
 use Rattle.guardian_laws.specs.Sent.{sent_of}
 use Rattle.roster.specs.Entries.{IsEntry}
 use Rattle.roster.specs.Tables.{table}
 use Rattle.atomic_object.specs.Staying.{OutcomesRise}
-use Rattle.volatile_state.proofs.Sound.{inside, sound_same}
+use Rattle.volatile_state.proofs.Sound.{inside, more_heard, more_roster, more_told, sound_same}
 use Rattle.volatile_state.proofs.memory.Memory.plan.Goals as goal
 
 pub plan-requires-clause-shown : goal.plan-requires-clause-shown
@@ -21,28 +21,51 @@ pub returns-in_err-plan-clause-same : goal.returns-in_err-plan-clause-same
 returns-in_err-plan-clause-same c = λ s at. sound_same (λ h here k. k) refl (λ here k. k) refl (λ h here k. k) c.plan.ensures.same c.plan.ensures.guardian (inside c.self.view_is at)
 
 pub invariant_of-self-in_err-plan-2 : goal.invariant_of-self-in_err-plan-2
-invariant_of-self-in_err-plan-2 c = (_, sound_same c.plan-2.ensures.same c.plan-2.ensures.crashes (λ here k. k) refl (λ h here k. k) c.plan.ensures.same c.plan.ensures.guardian c.self.invariant.1)
+invariant_of-self-in_err-plan-2 c = (_, sound_same c.plan-2.ensures.same c.plan-2.ensures.crashes (λ here k. k) refl (more_roster c.self.inside.roster c.plan-2.ensures.more) c.plan.ensures.same c.plan.ensures.guardian c.self.invariant.1)
 
 pub returns-in_err-plan-2-clause-same : goal.returns-in_err-plan-2-clause-same
-returns-in_err-plan-2-clause-same c = λ s at. sound_same c.plan-2.ensures.same c.plan-2.ensures.crashes (λ here k. k) refl (λ h here k. k) c.plan.ensures.same c.plan.ensures.guardian (inside c.self.view_is at)
+returns-in_err-plan-2-clause-same c = λ s at. sound_same c.plan-2.ensures.same c.plan-2.ensures.crashes (λ here k. k) refl (more_roster c.self.inside.roster c.plan-2.ensures.more) c.plan.ensures.same c.plan.ensures.guardian (inside c.self.view_is at)
 
 pub invariant_of-self-in_err-plan_lesson : goal.invariant_of-self-in_err-plan_lesson
-invariant_of-self-in_err-plan_lesson c = (_, sound_same c.plan-2.ensures.same c.plan-2.ensures.crashes c.plan_lesson.ensures.same c.plan_lesson.ensures.own (λ h here k. k) c.plan.ensures.same c.plan.ensures.guardian c.self.invariant.1)
+invariant_of-self-in_err-plan_lesson c = (_, sound_same c.plan-2.ensures.same c.plan-2.ensures.crashes c.plan_lesson.ensures.same c.plan_lesson.ensures.own (more_roster c.self.inside.roster c.plan-2.ensures.more) c.plan.ensures.same c.plan.ensures.guardian c.self.invariant.1)
 
 pub returns-in_err-plan_lesson-clause-same : goal.returns-in_err-plan_lesson-clause-same
-returns-in_err-plan_lesson-clause-same c = λ s at. sound_same c.plan-2.ensures.same c.plan-2.ensures.crashes c.plan_lesson.ensures.same c.plan_lesson.ensures.own (λ h here k. k) c.plan.ensures.same c.plan.ensures.guardian (inside c.self.view_is at)
+returns-in_err-plan_lesson-clause-same c = λ s at. sound_same c.plan-2.ensures.same c.plan-2.ensures.crashes c.plan_lesson.ensures.same c.plan_lesson.ensures.own (more_roster c.self.inside.roster c.plan-2.ensures.more) c.plan.ensures.same c.plan.ensures.guardian (inside c.self.view_is at)
 
 pub invariant_of-self-in_err-plan-3 : goal.invariant_of-self-in_err-plan-3
-invariant_of-self-in_err-plan-3 c = (_, sound_same c.plan-2.ensures.same c.plan-2.ensures.crashes c.plan_lesson.ensures.same c.plan_lesson.ensures.own c.plan-3.ensures.same c.plan.ensures.same c.plan.ensures.guardian c.self.invariant.1)
+invariant_of-self-in_err-plan-3 c = (
+  _,
+  sound_same (λ h here k. more_told c.plan-2.new.self c.plan-3.ensures.more h here (c.plan-2.ensures.same h here k)) c.plan-2.ensures.crashes c.plan_lesson.ensures.same c.plan_lesson.ensures.own
+      (λ h here k. c.plan-3.ensures.same h here (more_roster c.self.inside.roster c.plan-2.ensures.more h here k)) c.plan.ensures.same c.plan.ensures.guardian c.self.invariant.1,
+)
 
 pub returns-in_err-plan-3-clause-same : goal.returns-in_err-plan-3-clause-same
-returns-in_err-plan-3-clause-same c = λ s at. sound_same c.plan-2.ensures.same c.plan-2.ensures.crashes c.plan_lesson.ensures.same c.plan_lesson.ensures.own c.plan-3.ensures.same c.plan.ensures.same c.plan.ensures.guardian (inside c.self.view_is at)
+returns-in_err-plan-3-clause-same c = λ s at. sound_same (λ h here k. more_told c.plan-2.new.self c.plan-3.ensures.more h here (c.plan-2.ensures.same h here k)) c.plan-2.ensures.crashes c.plan_lesson.ensures.same c.plan_lesson.ensures.own
+    (λ h here k. c.plan-3.ensures.same h here (more_roster c.self.inside.roster c.plan-2.ensures.more h here k)) c.plan.ensures.same c.plan.ensures.guardian (inside c.self.view_is at)
 
 pub invariant_of-self-2 : goal.invariant_of-self-2
-invariant_of-self-2 c = (_, sound_same c.plan-2.ensures.same c.plan-2.ensures.crashes c.plan_lesson.ensures.same c.plan_lesson.ensures.own c.plan-3.ensures.same c.plan.ensures.same c.plan.ensures.guardian c.self.invariant.1)
+invariant_of-self-2 c = (
+  _,
+  sound_same (λ h here k. more_told c.plan-2.new.self c.plan-3.ensures.more h here (c.plan-2.ensures.same h here k)) c.plan-2.ensures.crashes c.plan_lesson.ensures.same c.plan_lesson.ensures.own
+      (λ h here k. c.plan-3.ensures.same h here (more_roster c.self.inside.roster c.plan-2.ensures.more h here k)) c.plan.ensures.same c.plan.ensures.guardian c.self.invariant.1,
+)
 
 pub returns-clause-same : goal.returns-clause-same
-returns-clause-same c = λ s at. sound_same c.plan-2.ensures.same c.plan-2.ensures.crashes c.plan_lesson.ensures.same c.plan_lesson.ensures.own c.plan-3.ensures.same c.plan.ensures.same c.plan.ensures.guardian (inside c.self.view_is at)
+returns-clause-same c = λ s at. sound_same (λ h here k. more_told c.plan-2.new.self c.plan-3.ensures.more h here (c.plan-2.ensures.same h here k)) c.plan-2.ensures.crashes c.plan_lesson.ensures.same c.plan_lesson.ensures.own
+    (λ h here k. c.plan-3.ensures.same h here (more_roster c.self.inside.roster c.plan-2.ensures.more h here k)) c.plan.ensures.same c.plan.ensures.guardian (inside c.self.view_is at)
+
+pub returns-clause-fits : goal.returns-clause-fits
+returns-clause-fits c =
+    let own = c.self.invariant.1.actions in
+    let is : c.crashes.result ≡ c.self.inside.roster.crashes =
+    c.crashes.ensures c.self.invariant.0.number c.self.invariant.0.past c.self.inside.places own ∙ sym own.crashes in
+    record {
+      count = omega (arith, c.if-crashes.false, is, c.plan-3.ensures.crashes, c.crashes.type_inv);
+      heard = c.in_ok-plan-2.ensures.fits;
+      lesson = c.in_ok-plan_lesson.ensures.fits;
+      entry = c.in_ok-plan-3.ensures.fits;
+      planned = c.in_ok-plan.ensures.fits;
+    }
 
 pub returns-clause-planned : goal.returns-clause-planned
 returns-clause-planned c = λ s at owed agrees.
@@ -51,14 +74,15 @@ returns-clause-planned c = λ s at owed agrees.
       next = record { accepted = c.requires.accepted; owed = owed; agrees = agrees };
       sender = refl;
       brought = refl;
-      heard = subst (λ l. IsHeard c.plan-2.new.places c.plan-2.new.self l c.plan-2.new.heard) c.as_slice-outcomes.ensures.value c.in_ok-plan-2.ensures.heard;
+      heard = more_heard c.plan-2.new.self c.args.message.outcomes.items c.plan-2.new.heard c.plan-3.ensures.more
+          (subst (λ l. IsHeard c.plan-2.new.places c.plan-2.new.self l c.plan-2.new.heard) c.as_slice-outcomes.ensures.value c.in_ok-plan-2.ensures.heard);
       lesson =
           subst (λ l. IsLesson c.args.message.sender c.args.message.life c.args.message.aborts l c.args.message.outcomes.items c.plan_lesson.new.lesson)
           c.as_slice-counts.ensures.value
           (subst (λ l. IsLesson c.args.message.sender c.args.message.life c.args.message.aborts c.as_slice-counts.result.now l c.plan_lesson.new.lesson)
           c.as_slice-outcomes.ensures.value c.in_ok-plan_lesson.ensures.news);
       entry =
-          subst (λ l. IsEntry (table c.plan-3.new.self) c.args.event.now (sent_of l) c.plan-3.new.entry)
+          subst (λ l. IsEntry (table c.plan-3.new.places c.plan-3.new.self) c.args.event.now (sent_of l) c.plan-3.new.entry)
           c.as_slice-dependencies.ensures.value c.in_ok-plan-3.ensures.planned;
       outcomes = c.in_ok-plan.ensures.outcomes ∙ c.as_slice-outcomes.ensures.value;
       planned = c.in_ok-plan.ensures.planned s.number s.past here.tellings;
