@@ -1,17 +1,19 @@
 -- Lists of a history: after an event, and in another shape.
-use Rattle.std.proofs.Common.{Bool, List, None, Option, Some, [], ap, arith, cond, false, filter, length, min, suc, sym, true, ℕ, ◌+◌, ◌++◌, ◌∙◌, ◌∷◌, ◌≡◌}
+use Rattle.std.proofs.Common.{Bool, List, None, Option, Some, [], ap, refl, arith, cond, false, filter, length, min, suc, sym, true, ℕ, ◌+◌, ◌++◌, ◌∙◌, ◌∷◌, ◌≡◌}
+use Rattle.std.proofs.lemmas.Option.{none-some}
 use Rattle.action_names.specs.Names.{Name}
 use Rattle.run_model.specs.Actions.{crashes, step_crashes}
 use Rattle.run_model.specs.declared.history.Event.{Event}
 use Rattle.run_model.specs.LocalReadings.{LocalEvent, aborted_in, aborts_here, counts_from, counts_here, events_here, is_of, learnt, raised, sent_here}
 use Rattle.orphans.specs.Indexes.{with_own}
-use Rattle.orphans.specs.Knowing.{AreLists, IsLesson}
+use Rattle.orphans.specs.Knowing.{AreLists, IsEmpty, IsLesson}
 use Rattle.orphans.specs.Logs.{known_counts, known_names, names_of}
 use Rattle.orphans.specs.Sending.{came_of, counted, most}
 use Rattle.orphans.specs.declared.counts.Counts.{Counts}
 use Rattle.orphans.specs.declared.lesson.Lesson.{Lesson}
 use Rattle.orphans.specs.declared.lists.Lists.{Lists}
 use Rattle.orphans.specs.declared.log.Log.{Log}
+use Rattle.orphans.specs.declared.sent.Came.{Came}
 use Rattle.orphans.specs.declared.sent.Sent.{Sent}
 use Rattle.orphans.proofs.Learning.{learnt-append}
 use Rattle.orphans.proofs.Sendings.{more_aborts, more_counts, none_more}
@@ -82,6 +84,28 @@ learnt_uncounted before aborts counts lesson names raises no_aborts no_counts he
     learnt_event before aborts counts before.sent lesson names raises
     (λ h present. none_more (is_of lesson.sender lesson.life h present) (came_of before.sent h present) _ _ most (are.sent_aborts h present) (are.sent_counts h present)
     ∙ (λ i. counted lesson.sender lesson.life (sym no_aborts i) (sym no_counts i) (came_of before.sent) h present))
+    here c are stays is
+
+-- so too where the lesson is empty, with the lists as they are
+none_counted : (sender : Option ℕ) (life aborts counts : ℕ) (came : ℕ → ℕ → Came) → sender ≡ None → (h present : ℕ)
+    → came h present ≡ counted sender life aborts counts came h present
+none_counted None life aborts counts came nobody h present = refl
+none_counted (Some g) life aborts counts came nobody h present = absurd (none-some _ (sym nobody))
+
+none_own : (sender : Option ℕ) (life : ℕ) (counts known : List (ℕ × ℕ)) → sender ≡ None → known ≡ raised (with_own sender life counts) known
+none_own None life counts known nobody = refl
+none_own (Some g) life counts known nobody = absurd (none-some _ (sym nobody))
+
+pub learnt_nothing : (before : Lists) (lesson : Lesson) → IsEmpty lesson
+    → (here : List LocalEvent) (c : LocalEvent) → AreLists here before → step_crashes c.event.step before.guardian ≡ false
+    → IsLesson c.carried.sender c.carried.life c.carried.aborts c.carried.counts c.carried.outcomes lesson
+    → AreLists (c ∷ here) before
+learnt_nothing before lesson none here c are stays is =
+    learnt_event before before.aborts before.counts before.sent lesson
+    (sym (ap (λ aborts. learnt (names_of aborts) (known_names before.aborts)) none.names))
+    (none_own c.carried.sender c.carried.life c.carried.counts (known_counts before.counts) (sym is.from ∙ none.nobody)
+    ∙ sym (ap (λ counts. raised counts (known_counts before.counts)) is.raises))
+    (none_counted lesson.sender lesson.life lesson.sent_aborts lesson.sent_counts (came_of before.sent) none.nobody)
     here c are stays is
 
 -- after a crash, in which nothing else is left than how many there were

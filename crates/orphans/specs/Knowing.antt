@@ -1,5 +1,5 @@
 -- When a guardian's lists are those of its own history, and a lesson what messages brought.
-use Rattle.std.specs.Prelude.{◌≡◌, ◌==◌, ◌++◌, ℕ, Bool, List, Option, if◌then◌else◌, length, min, vec_len}
+use Rattle.std.specs.Prelude.{◌≡◌, ◌==◌, ◌++◌, ℕ, Bool, List, [], Option, None, if◌then◌else◌, length, min, vec_len}
 use Rattle.action_names.specs.Names.{Name}
 use Rattle.run_model.specs.Actions.{crashes}
 use Rattle.run_model.specs.LocalReadings.{LocalEvent, aborted_in, aborts_here, counts_here, events_here, most_of, sent_here}
@@ -42,8 +42,17 @@ pub record IsLesson (sender : Option ℕ) (life : ℕ) (aborts : List Name) (cou
   pub many_aborts : lesson.sent_aborts ≡ length aborts
   pub many_counts : lesson.sent_counts ≡ length counts
 
--- there is room to learn the lesson
-pub record FitsLesson (lists : Lists) (lesson : Lesson) : Type 0 where
+-- no lists came, and no abort was told
+pub record IsEmpty (lesson : Lesson) : Type 0 where
+  pub nobody : lesson.sender ≡ None
+  pub names : lesson.aborts.items ≡ []
+
+-- there is room to learn what came
+pub record HasLessonRoom (lists : Lists) (lesson : Lesson) : Type 0 where
   pub log : HasRoom lists.aborts (vec_len lesson.aborts)
   pub counts : HasCountRoom lists.counts (vec_len lesson.counts)
   pub place : HasPlace lists.sent
+
+-- there is room to learn the lesson, if anything came
+abbrev pub FitsLesson : Lists → Lesson → Type 0
+FitsLesson lists lesson = (IsEmpty lesson → ⊥) → HasLessonRoom lists lesson

@@ -1,5 +1,5 @@
 //! What messages bring of aborts and crashes, and copies of it.
-ghost use Rattle.std.specs.Prelude.{◌≡◌, ◌++◌, ◌∷◌, [], None, OnOk};
+ghost use Rattle.std.specs.Prelude.{◌≡◌, ◌↔◌, ◌++◌, ◌∷◌, [], None, IsTrue, OnOk};
 ghost use Rattle.run_model.specs.LocalReadings.{aborted_in};
 ghost use Rattle.orphans.specs.Logs.{names_of};
 ghost use Rattle.orphans.specs.Indexes.{with_own};
@@ -33,7 +33,7 @@ pub struct Lesson {
 }
 
 impl Lesson {
-    ghost use Rattle.orphans.specs.Knowing.{IsLesson};
+    ghost use Rattle.orphans.specs.Knowing.{IsEmpty, IsLesson};
 
     /// A lesson of nothing. This takes no memory.
     pub fn new(alloc: Global) -> Lesson
@@ -47,6 +47,13 @@ impl Lesson {
             sent_aborts: 0,
             sent_counts: 0,
         }
+    }
+
+    // Whether no lists came and no abort was told.
+    pub(crate) fn is_empty(&self) -> bool
+        ensures { IsTrue result ↔ IsEmpty self.now }
+    {
+        self.sender.is_none() && self.aborts.is_empty()
     }
 
     // Copies news, in place of what was to be learnt.

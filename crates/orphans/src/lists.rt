@@ -74,6 +74,9 @@ impl Lists {
             news.entry.counts.now news.entry.outcomes.now lesson.new) }
     {
         lesson.fill(alloc, news)?;
+        if lesson.is_empty() {
+            return Ok(());
+        }
         self.aborts.plan_room(lesson.aborts.len())?;
         self.counts.plan_room(lesson.counts.len())?;
         self.sent.plan_place()
@@ -88,6 +91,9 @@ impl Lists {
             c.carried.life c.carried.aborts c.carried.counts c.carried.outcomes lesson.old
             → AreLists (c ∷ here) self.new }
     {
+        if lesson.is_empty() {
+            return;
+        }
         self.aborts.learn(&mut lesson.aborts);
         self.counts.learn(&mut lesson.counts);
         // Where nothing came, no sender is looked up.

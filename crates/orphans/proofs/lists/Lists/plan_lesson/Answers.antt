@@ -2,6 +2,9 @@ use Rattle.std.proofs.Common.{refl}
 use Rattle.orphans.proofs.Histories.{kept}
 use Rattle.orphans.proofs.lists.Lists.plan_lesson.Goals as goal
 
+pub returns-then-is_empty-clause-fits : goal.returns-then-is_empty-clause-fits
+returns-then-is_empty-clause-fits c = λ some. absurd (some (c.is_empty.ensures.0 c.if-is_empty.true))
+
 pub returns-in_err-plan_room-clause-same : goal.returns-in_err-plan_room-clause-same
 returns-in_err-plan_room-clause-same c = λ here are. kept c.args.self.now _ _ _ c.plan_room.ensures.names refl (λ h life. refl) here are
 
