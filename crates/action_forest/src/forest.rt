@@ -14,6 +14,7 @@ ghost use Rattle.action_forest.specs.Trees.{closed, numbered};
 
 use run_model::{Deps, Name, Names, Opening};
 use std::alloc::{AllocError, Global};
+use std::mem;
 use step_answers::{Actor, Status};
 
 /// An action. Other actions are named by their places in the forest.
@@ -35,6 +36,8 @@ pub struct Forest {
     guardians: usize,
     pub(crate) nodes: Vec<Node>,
     tops: Vec<usize>,
+    /// Room for the actions that begin next.
+    spare: Vec<Node>,
 }
 
 /// The commit of a subaction, with what its parent depends on then.
@@ -70,6 +73,17 @@ impl Node {
 // The number after the greatest that a name has room for.
 const USED_UP: u64 = 4294967296;
 
+// The spare room, with room for so many actions and with none in it.
+fn taken(spare: &mut Vec<Node>, count: usize) -> Result<Vec<Node>, AllocError>
+    ensures { IfOk result (λ nodes. nodes.items ≡ []) }
+{
+    let alloc = *spare.allocator();
+    let mut nodes = mem::replace(spare, Vec::new(alloc));
+    nodes.clear();
+    nodes.reserve(count)?;
+    Ok(nodes)
+}
+
 impl Forest {
     ghost use Rattle.action_forest.specs.Trees.{action_in, action_of, added, changed, changed_at, children_of, depends_at, ended, fresh_action, hung, maker_place, one_less, one_more, place_of, status_at, trees, with_closed, with_depends, with_status};
     ghost use Rattle.action_forest.specs.Events.{IsUnended, beginning, done, first_entries};
@@ -85,6 +99,7 @@ impl Forest {
             guardians: opening.setup().guardians(),
             nodes: Vec::new(alloc),
             tops: Vec::new(alloc),
+            spare: Vec::new(alloc),
         }
     }
 
@@ -262,7 +277,7 @@ impl Forest {
         self.nodes.reserve(count)?;
         self.tops.reserve(count)?;
         let place = self.reserve_children(maker, count)?;
-        let mut nodes = Vec::with_capacity(*self.nodes.allocator(), count)?;
+        let mut nodes = taken(&mut self.spare, count)?;
         for name in names.as_slice() {
             nodes.push(self.born(name, place, home, life)?)?;
         }
@@ -290,6 +305,7 @@ impl Forest {
         while let Some(node) = nodes.pop() {
             self.add(node);
         }
+        self.spare = nodes;
     }
 
     // How the action stands; one that was not begun counts as active.
