@@ -16,6 +16,7 @@ use crate::objects::Objects;
 use action_names::Name;
 use places::Places;
 use std::alloc::{AllocError, Global};
+use std::mem;
 use tellings::Tellings;
 
 /// One outcome: which objects it concerns, and for a commit the next holder.
@@ -33,6 +34,23 @@ pub(crate) struct Telling {
 #[derive(Drop)]
 pub struct Planned {
     pub(crate) tellings: Vec<Telling>,
+    pub(crate) room: Room,
+}
+
+/// Room for the objects that one outcome concerns.
+#[derive(Drop)]
+pub(crate) struct Room {
+    numbers: Vec<u32>,
+    at: Vec<(u32, Option<Name>)>,
+}
+
+// What is there, with nothing in it.
+fn emptied(alloc: Global, room: &mut Vec<(u32, Option<Name>)>) -> Vec<(u32, Option<Name>)>
+    ensures { result.items ≡ [] }
+{
+    let mut at = mem::replace(room, Vec::new(alloc));
+    at.clear();
+    at
 }
 
 impl Planned {
@@ -42,6 +60,10 @@ impl Planned {
     {
         Planned {
             tellings: Vec::new(alloc),
+            room: Room {
+                numbers: Vec::new(alloc),
+                at: Vec::new(alloc),
+            },
         }
     }
 }
@@ -71,7 +93,8 @@ impl Objects {
         let alone = is_alone(outcomes);
         for (action, committed) in outcomes {
             let before = planned.tellings.last();
-            let telling = self.plan_one(action, *committed, alone, before, places, told)?;
+            let room = &mut planned.room;
+            let telling = self.plan_one(action, *committed, alone, before, places, told, room)?;
             planned.tellings.push(telling)?;
         }
         Ok(())
@@ -90,7 +113,7 @@ impl Objects {
         ensures count { length self.new.objects ≡ length self.old.objects }
     {
         while let Some(telling) = planned.tellings.pop() {
-            self.tell_one(telling);
+            planned.room.at = self.tell_one(telling);
         }
     }
 }
@@ -107,6 +130,7 @@ impl Objects {
         before: Option<&Telling>,
         places: &Places,
         told: &Tellings,
+        room: &mut Room,
     ) -> Result<Telling, AllocError>
         requires shown { AreSome self.old }
         requires before { IfSome (name_of before) (λ t. HasRoomFor alone self.old t) }
@@ -119,7 +143,7 @@ impl Objects {
             → telling.to ≡ holder_by (λ b. told_committed_here b here) (parent_of action.now)) }
     {
         let to = next_holder(action, committed, places, told)?;
-        let at = self.make_room(action, committed, to.as_ref(), alone, before)?;
+        let at = self.make_room(action, committed, to.as_ref(), alone, before, room)?;
         let copy = action.copy()?;
         Ok(Telling {
             action: copy,
@@ -138,6 +162,7 @@ impl Objects {
         to: Option<&Name>,
         alone: bool,
         before: Option<&Telling>,
+        room: &mut Room,
     ) -> Result<Vec<(u32, Option<Name>)>, AllocError>
         requires shown { AreSome self.old }
         requires before { IfSome (name_of before) (λ t. HasRoomFor alone self.old t) }
@@ -146,28 +171,37 @@ impl Objects {
         ensures room { IfOk result
             (λ at. HasRoomAt alone committed self.new action.now (name_of to.entry) at.items) }
     {
-        let numbers = self.concerned(action, committed, alone)?;
-        self.make_index_room(action, to, alone, before, numbers.len())?;
-        let mut at = Vec::with_capacity(self.alloc, numbers.len())?;
-        for &number in &numbers {
+        self.concerned(action, committed, alone, &mut room.numbers)?;
+        self.make_index_room(action, to, alone, before, room.numbers.len())?;
+        let mut at = emptied(self.alloc, &mut room.at);
+        for &number in &room.numbers {
             at.push((number, self.make_room_at(number, to)?))?;
         }
         Ok(at)
     }
 
-    // The objects that the outcome concerns, rising. Where it is a commit that is told alone, nobody else's row is
-    // looked at.
-    fn concerned(&self, action: &Name, committed: bool, alone: bool) -> Result<Vec<u32>, AllocError>
-        ensures has { IfOk result (λ numbers. (n : ℕ) → IsTrue (has_number numbers.items n)
+    // Writes down the objects that the outcome concerns, rising, in place of others. Where it is a commit that is told
+    // alone, nobody else's row is looked at.
+    fn concerned(
+        &self,
+        action: &Name,
+        committed: bool,
+        alone: bool,
+        numbers: &mut Vec<u32>,
+    ) -> Result<(), AllocError>
+        ensures has { OnOk result ((n : ℕ) → IsTrue (has_number numbers.new.items n)
             ↔ Has (alone && committed) self.now.held action.now n) }
-        ensures own { IfOk result (λ numbers. IsTrue (alone && committed)
-            → numbers.items ≡ objects_at self.now.held action.now) }
-        ensures rising { IfOk result (λ numbers. IsRising numbers.items) }
+        ensures own { OnOk result (IsTrue (alone && committed)
+            → numbers.new.items ≡ objects_at self.now.held action.now) }
+        ensures rising { OnOk result (IsRising numbers.new.items) }
     {
         if alone && committed {
-            return Vec::from_slice(self.alloc, self.held.objects_of(action));
+            numbers.clear();
+            numbers.extend_from_slice(self.held.objects_of(action))?;
+        } else {
+            *numbers = self.held.objects_below(action)?;
         }
-        self.held.objects_below(action)
+        Ok(())
     }
 
     // Makes room in the index for what the next holder is handed. Told alone, the action hands on what it has, of
@@ -257,7 +291,8 @@ fn next_holder(
 
 // Telling one outcome.
 impl Objects {
-    fn tell_one(&mut self, telling: Telling)
+    // Tells it, and gives the room back in which its objects stood.
+    fn tell_one(&mut self, telling: Telling) -> Vec<(u32, Option<Name>)>
         requires ready { (alone : Bool) × IsReady alone self.old telling }
         requires heard { IsHeard self.old telling }
         ensures told { Hears telling self.old self.new }
@@ -266,14 +301,14 @@ impl Objects {
         ensures count { length self.new.objects ≡ length self.old.objects }
     {
         if telling.committed {
-            self.hand_on(telling);
+            self.hand_on(telling)
         } else {
-            self.drop_below(telling);
+            self.drop_below(telling)
         }
     }
 
     // Hands on what the action holds.
-    fn hand_on(&mut self, telling: Telling)
+    fn hand_on(&mut self, telling: Telling) -> Vec<(u32, Option<Name>)>
         requires committed { IsTrue telling.committed }
         requires ready { (alone : Bool) × IsReady alone self.old telling }
         requires heard { IsHeard self.old telling }
@@ -294,6 +329,7 @@ impl Objects {
             self.hand_on_at(number, &action, next);
         }
         self.held.hand_on(&action, to.as_ref());
+        at
     }
 
     // Hands on what the action holds at the object of this number.
@@ -309,7 +345,7 @@ impl Objects {
     }
 
     // Drops what the action and its descendants hold.
-    fn drop_below(&mut self, telling: Telling)
+    fn drop_below(&mut self, telling: Telling) -> Vec<(u32, Option<Name>)>
         requires aborted { IsFalse telling.committed }
         requires ready { (alone : Bool) × IsReady alone self.old telling }
         requires heard { IsHeard self.old telling }
@@ -325,6 +361,7 @@ impl Objects {
             self.drop_below_at(number, &action);
         }
         self.held.drop_below(&action);
+        at
     }
 
     // Drops what the action and its descendants hold at the object of this number.

@@ -14,19 +14,19 @@ pub loop-number-init : goal.loop-number-init
 loop-number-init c = record {
   roomier = c.make_index_room.ensures.roomier;
   index = c.in_ok-make_index_room.ensures.room;
-  numbers = ap (λ l. numbers_of l) c.in_ok-at.ensures.items;
-  ready = none_planned _ c.in_ok-at.at.items c.in_ok-at.ensures.items;
+  numbers = ap (λ l. numbers_of l) c.emptied-at.ensures;
+  ready = none_planned _ c.emptied-at.result.items c.emptied-at.ensures;
 }
 
 pub make_room_at-requires : goal.make_room_at-requires
 make_room_at-requires c =
-    number_within (c.args.alone && c.args.committed) c.args.self.now c.loop-number.self c.args.action.now c.in_ok-numbers.numbers.items c.requires.shown c.loop-number.invariant.roomier
-    c.in_ok-numbers.ensures.has
+    number_within (c.args.alone && c.args.committed) c.args.self.now c.loop-number.self c.args.action.now c.concerned.new.numbers.items c.requires.shown c.loop-number.invariant.roomier
+    c.in_ok-concerned.ensures.has
     c.loop-number.number-index _ (omega (arith, c.loop-number-test.true, ap length c.deref-number-items.ensures.value))
     (ap (λ l. get_or l c.loop-number.number-index 0) c.deref-number-items.ensures.value)
 
-pub returns-in_err-numbers-clause-roomier : goal.returns-in_err-numbers-clause-roomier
-returns-in_err-numbers-clause-roomier c = roomier_same c.args.self.now
+pub returns-in_err-concerned-clause-roomier : goal.returns-in_err-concerned-clause-roomier
+returns-in_err-concerned-clause-roomier c = roomier_same c.args.self.now
 
 pub returns-in_err-make_index_room-clause-roomier : goal.returns-in_err-make_index_room-clause-roomier
 returns-in_err-make_index_room-clause-roomier c = c.make_index_room.ensures.roomier
@@ -44,12 +44,12 @@ returns-clause-roomier c = c.loop-number.invariant.roomier
 
 pub returns-clause-room : goal.returns-clause-room
 returns-clause-room c =
-    let numbers = c.in_ok-numbers.numbers.items in
+    let numbers = c.concerned.new.numbers.items in
     let all : take c.loop-number.number-index c.deref-number-items.result.now ≡ numbers =
     take_all c.loop-number.number-index c.deref-number-items.result.now (omega (arith, c.loop-number-test.false)) ∙ c.deref-number-items.ensures.value in
     room_made (c.args.alone && c.args.committed) c.args.self.now c.loop-number.self c.args.action.now numbers c.requires.shown c.loop-number.invariant.roomier
-    c.in_ok-numbers.ensures.has
-    c.args.alone c.args.committed (option_copied c.args.to) c.loop-number.at.items refl c.in_ok-numbers.ensures.rising (c.loop-number.invariant.numbers ∙ all) c.loop-number.invariant.index c.loop-number.invariant.ready
+    c.in_ok-concerned.ensures.has
+    c.args.alone c.args.committed (option_copied c.args.to) c.loop-number.at.items refl c.in_ok-concerned.ensures.rising (c.loop-number.invariant.numbers ∙ all) c.loop-number.invariant.index c.loop-number.invariant.ready
 
 pub loop-number-preserved : goal.loop-number-preserved
 loop-number-preserved c =
