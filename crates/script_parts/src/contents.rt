@@ -179,7 +179,7 @@ fn array_in(alloc: Global, place: &Place<'_>, json: &Json) -> Result<Content, Sc
     let low = int(alloc, &below, low)?;
     below.ask(alloc, is_low(low, items_of(documents)), FaultKind::Limit)?;
     let items = items_in(alloc, &place.member("items"), kind, documents)?;
-    match Array::from_items(kind, low, items) {
+    match Array::from_items(kind, low, items)? {
         Ok(array) => Ok(Content::Array(array)),
         Err(_) => Err(place.fault(alloc, FaultKind::Shape)),
     }
@@ -222,7 +222,7 @@ fn variant_in(alloc: Global, place: &Place<'_>, json: &Json) -> Result<Content, 
     let kind = above.need(alloc, kind_under(&tags, name), FaultKind::Operation)?;
     let value = value_in(alloc, &place.member("value"), Some(kind), held)?;
     let tag = identifier(alloc, name)?;
-    match Variant::from_parts(tags, tag, value) {
+    match Variant::from_parts(tags, tag, value)? {
         Some(variant) => Ok(Content::Variant(variant)),
         None => Err(place.fault(alloc, FaultKind::Shape)),
     }
