@@ -125,7 +125,7 @@ fn arrays(alloc: Global, count: u64) -> Result<Vec<Content>, RowFault> {
 }
 
 fn array(alloc: Global) -> Result<Array, RowFault> {
-    Array::from_items(Kind::Int, 1, Vec::new(alloc)).map_err(|_| RowFault::Unread)
+    Array::from_items(Kind::Int, 1, Vec::new(alloc))?.map_err(|_| RowFault::Unread)
 }
 
 /// `fill`: adds guardians of no objects to the limit. If memory is refused for one of them, the row goes on with it
