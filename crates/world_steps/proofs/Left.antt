@@ -1,5 +1,5 @@
 -- What plans leave that are carried out.
-use Rattle.std.proofs.Common.{Bool, List, MatchOption, None, Option, Some, [], ap, ap₂, cond, eqb-true, false, map, refl, subst, sym, true, ℕ, ◌==◌, ◌∙◌, ◌∷◌, ◌≡◌, IsFalse, IsTrue}
+use Rattle.std.proofs.Common.{Bool, List, [], ap, ap₂, cond, eqb-true, false, map, refl, subst, sym, true, ℕ, ◌==◌, ◌∙◌, ◌∷◌, ◌≡◌, IsFalse, IsTrue}
 use Rattle.std.proofs.lemmas.Bool.{false≢true, or_left, or_right, true≢false}
 use Rattle.std.specs.Bool.{MatchBool, OnTrue}
 use Rattle.std.specs.List.Sorted.{IsStrictlySortedBy}
@@ -104,10 +104,10 @@ planned_there stands is_planned f e home life s planned takes =
     (f, record { event = e; begun = begun_at f home life e.answer }, s, planned takes, refl)
 
 -- what agrees tells outcomes by name
-pub brought_rising : (f : ForestState) (a b x : GuardianState) (e : Event) (brought : Option Message) → Brings f a b e x brought
-    → MatchOption brought (Unit {0}) (λ message. IsStrictlySortedBy name_cmp (map (λ x. x.0) message.outcomes.items))
-brought_rising f a b x e None q = tt
-brought_rising f a b x e (Some message) q = q.agrees.outcomes.once
+pub brought_rising : (f : ForestState) (a b x : GuardianState) (e : Event) (brings : Bool) (message : Message) → Brings f a b e x brings message
+    → OnTrue brings (IsStrictlySortedBy name_cmp (map (λ x. x.0) message.outcomes.items))
+brought_rising f a b x e false message q = tt
+brought_rising f a b x e true message q = q.agrees.outcomes.once
 
 -- at one guardian only the event may fail
 quiet : (step : Step) (f : ForestState) (m n : ℕ) → names_guardian step (events_there f.registry) m ≡ true → names_guardian step (events_there f.registry) n ≡ true

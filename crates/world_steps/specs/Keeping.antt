@@ -1,5 +1,5 @@
 -- What an accepted step leaves of what it was lent.
-use Rattle.std.specs.Prelude.{◌≡◌, ℕ, Bool, true, false, ◌&&◌, ◌==◌, ◌||◌, ◌∷◌, Option, IsTrue, MatchBool, MatchOption}
+use Rattle.std.specs.Prelude.{◌≡◌, ℕ, Bool, true, false, ◌&&◌, ◌==◌, ◌||◌, ◌∷◌, Option, IsTrue, MatchBool}
 use Rattle.run_model.specs.declared.history.Event.{Event}
 use Rattle.run_model.specs.Runs.{is_accepted}
 use Rattle.run_model.specs.LocalReadings.{Carried}
@@ -68,10 +68,10 @@ pub record IsBrought (f : ForestState) (a b : GuardianState) (e : Event) (x : Gu
 
 -- and nothing to one that it does not name
 abbrev pub Brings : ForestState → GuardianState → GuardianState → Event → GuardianState
-    → Option Message → Type 0
-Brings f a b e x brought =
-    MatchOption brought (names_guardian e.step (events_there f.registry) x.number ≡ false)
-    (λ message. IsBrought f a b e x (carried_of message))
+    → Bool → Message → Type 0
+Brings f a b e x brings message =
+    MatchBool brings (IsBrought f a b e x (carried_of message))
+    (names_guardian e.step (events_there f.registry) x.number ≡ false)
 
 -- a guardian that the event names has a plan for it
 pub record IsPlannedAt (is_planned : News → Type 0) (f : ForestState) (a b : GuardianState)

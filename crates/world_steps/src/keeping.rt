@@ -1,5 +1,5 @@
 //! What an accepted step leaves of the forest and of the guardians that it was lent.
-ghost use Rattle.std.specs.Prelude.{◌≡◌, ◌==◌, ◌&&◌, false, ◌⊎◌, IfOk, OnErr, OnOk, IsErrOf, IsTrue, IsFalse, MatchBool, MatchOption, map};
+ghost use Rattle.std.specs.Prelude.{◌≡◌, ◌==◌, ◌&&◌, false, ◌⊎◌, IfOk, OnErr, OnOk, IsErrOf, IsTrue, IsFalse, MatchBool, map};
 ghost use Rattle.std.specs.Bool.{OnTrue};
 ghost use Rattle.std.specs.List.Sorted.{IsStrictlySortedBy};
 ghost use Rattle.action_names.specs.Names.{name_cmp};
@@ -15,54 +15,56 @@ ghost use Rattle.world_steps.specs.Keeping.{AreAnswered, Brings, IsAnswered, IsD
 ghost use Rattle.world_steps.specs.Naming.{AreNamed};
 
 use crate::lent::Lent;
+use crate::messages::Messages;
 use crate::names::{NamedGuardians, home_of_new, is_named, is_operation, takes_registry};
 use layer_contracts::{Draw, EventRef, Fault, Forest, Guardian, Message};
 use run_model::Step;
 use std::alloc::{AllocError, Global};
 
 impl<'a, R: Forest, G: Guardian> Lent<'a, R, G> {
-    /// What the event brings to the guardian, if it is one of those that it names.
+    /// Fills the message with what the event brings to the guardian, if it names that. Answers whether it does.
     fn brought_to(
         &self,
         named: NamedGuardians,
         event: &EventRef<'_>,
         at: &G,
-    ) -> Result<Option<Message>, AllocError>
+        message: &mut Message,
+    ) -> Result<bool, AllocError>
         requires { AreNamed (R.stands self.now.forest.now) event.now.step named }
-        ensures { IfOk result (λ brought. (f : ForestState) (a b x : GuardianState)
+        ensures { IfOk result (λ brings. (f : ForestState) (a b x : GuardianState)
             → Lends R.stands G.stands self.now f a b → G.stands at.now x
             → IsOneOf a b x → x.opening ≡ f.opening → IsAnswered f a b event.now
-            → Brings f a b event.now x brought) }
+            → Brings f a b event.now x brings message.new) }
     {
         if !is_named(named, at.number()) {
-            return Ok(None);
+            return Ok(false);
         }
-        Ok(Some(self.message(named, event, at)?))
+        self.fill(named, event, at, message)?;
+        Ok(true)
     }
 }
 
-/// Makes room at the guardian for an event that brings this to it, if it brings something. Answers
-/// whether the guardian is to keep the event.
+/// Makes room at the guardian for an event that brings this message to it, if it is to keep that.
 fn plan_at<G: Guardian>(
     guardian: &mut G,
+    keeps: bool,
     event: &EventRef<'_>,
-    brought: Option<Message>,
-) -> Result<bool, AllocError>
+    message: &Message,
+) -> Result<(), AllocError>
     requires accepted { IsTrue (is_accepted event.now.answer) }
-    requires rising { MatchOption brought (Unit {0})
-        (λ message. IsStrictlySortedBy name_cmp (map (λ x. x.0) message.outcomes.items)) }
+    requires rising { OnTrue keeps
+        (IsStrictlySortedBy name_cmp (map (λ x. x.0) message.now.outcomes.items)) }
     ensures same { StandsStill (G.stands guardian.old) (G.stands guardian.new) }
     ensures store { Stays (G.stored guardian.old) (G.stored guardian.new) }
-    ensures fits { IfOk result (λ keeps. OnTrue keeps (G.fits guardian.new)) }
-    ensures planned { IfOk result (λ keeps. (f : ForestState) (a b x : GuardianState)
-        → G.stands guardian.old x → Brings f a b event.now x brought
+    ensures fits { OnOk result (OnTrue keeps (G.fits guardian.new)) }
+    ensures planned { OnOk result ((f : ForestState) (a b x : GuardianState)
+        → G.stands guardian.old x → Brings f a b event.now x keeps message.now
         → Plans (G.is_planned guardian.new) f a b event.now x keeps) }
 {
-    let Some(message) = brought else {
-        return Ok(false);
-    };
-    guardian.plan(event, message)?;
-    Ok(true)
+    if keeps {
+        guardian.plan(event, message)?;
+    }
+    Ok(())
 }
 
 /// Makes room in the forest for an event, if the forest keeps it.
@@ -208,6 +210,7 @@ fn operate<R: Forest, G: Guardian, D: Draw>(
 /// and by which the event was answered, and there are such.
 pub fn keep_two<R: Forest, G: Guardian, D: Draw>(
     alloc: Global,
+    messages: &mut Messages,
     forest: &mut R,
     first: &mut G,
     second: &mut G,
@@ -261,11 +264,11 @@ pub fn keep_two<R: Forest, G: Guardian, D: Draw>(
     };
     let home = home_of_new(named, event.step);
     let life = lent.crashes_at(home);
-    let to_first = lent.brought_to(named, event, lent.first)?;
-    let to_second = lent.brought_to(named, event, lent.second)?;
+    let keeps_first = lent.brought_to(named, event, lent.first, &mut messages.to_first)?;
+    let keeps_second = lent.brought_to(named, event, lent.second, &mut messages.to_second)?;
     plan_there(forest, event, home, life)?;
-    let keeps_first = plan_at(first, event, to_first)?;
-    let keeps_second = plan_at(second, event, to_second)?;
+    plan_at(first, keeps_first, event, &messages.to_first)?;
+    plan_at(second, keeps_second, event, &messages.to_second)?;
     if may_fail_at(keeps_first, event, &*first) {
         let number = carry_out(first, keeps_first, event, stamp)?;
         install(second, keeps_second, event, number);
@@ -282,6 +285,7 @@ pub fn keep_two<R: Forest, G: Guardian, D: Draw>(
 /// The same after one that was lent one guardian.
 pub fn keep_one<R: Forest, G: Guardian, D: Draw>(
     alloc: Global,
+    messages: &mut Messages,
     forest: &mut R,
     guardian: &mut G,
     named: NamedGuardians,
@@ -325,9 +329,9 @@ pub fn keep_one<R: Forest, G: Guardian, D: Draw>(
     };
     let home = home_of_new(named, event.step);
     let life = lent.crashes_at(home);
-    let brought = lent.brought_to(named, event, lent.first)?;
+    let keeps = lent.brought_to(named, event, lent.first, &mut messages.to_first)?;
     plan_there(forest, event, home, life)?;
-    let keeps = plan_at(guardian, event, brought)?;
+    plan_at(guardian, keeps, event, &messages.to_first)?;
     let number = carry_out(guardian, keeps, event, stamp)?;
     install_there(forest, event, number);
     Ok(number)

@@ -19,5 +19,6 @@ pub use answering::{answer_alone, answer_two};
 pub use here::{Here, answer_here};
 pub use keeping::{keep_one, keep_two};
 pub use lent::Lent;
+pub use messages::Messages;
 pub use names::{NamedGuardians, named, takes_registry};
 pub use stepping::step;

@@ -1,5 +1,5 @@
 //! What the messages of an event bring to one of the guardians that it names.
-ghost use Rattle.std.specs.Prelude.{◌≡◌, ℕ, ◌==◌, List, [], ◌∷◌, map, filter, IfOk, None, Some, IsTrue};
+ghost use Rattle.std.specs.Prelude.{◌≡◌, ℕ, ◌==◌, List, [], ◌∷◌, map, filter, IfOk, OnOk, None, Some, IsTrue};
 ghost use Rattle.run_model.specs.Actions.{crashes, home_of, names_begun};
 ghost use Rattle.run_model.specs.LocalReadings.{events_here};
 ghost use Rattle.run_model.specs.LocalHistories.{action_lent, aborts_from, carried_lent, counts_of_sender, dependencies_sent, dependency_there, entries_of, events_there, home_lent, life_lent, outcomes_carried, sender_lent, sender_life};
@@ -15,33 +15,51 @@ use crate::names::{NamedGuardians, home_of_new};
 use action_names::{Deps, Name, Names};
 use layer_contracts::{EventRef, Forest, Guardian, Message};
 use run_model::Step;
-use std::alloc::AllocError;
+use std::alloc::{AllocError, Global};
 use step_answers::Reads;
 
+/// The messages of an event to the two guardians that a step is lent. Their room is used again for the next event.
+#[derive(Drop)]
+pub struct Messages {
+    pub(crate) to_first: Message,
+    pub(crate) to_second: Message,
+}
+
+impl Messages {
+    /// Messages of no event. This takes no memory.
+    pub fn empty(alloc: Global) -> Messages {
+        Messages {
+            to_first: Message::empty(alloc),
+            to_second: Message::empty(alloc),
+        }
+    }
+}
+
 impl<'a, R: Forest, G: Guardian> Lent<'a, R, G> {
-    /// What the event brings to the guardian, which is one of those that are lent. The step names these.
-    pub(crate) fn message(
+    /// Writes what the event brings to the guardian, which is one of those that are lent, over the message. The step
+    /// names these.
+    pub(crate) fn fill(
         &self,
         named: NamedGuardians,
         event: &EventRef<'_>,
         at: &G,
-    ) -> Result<Message, AllocError>
+        message: &mut Message,
+    ) -> Result<(), AllocError>
         requires { AreNamed (R.stands self.now.forest.now) event.now.step named }
         ensures { (f : ForestState) (a b x : GuardianState) → Lends R.stands G.stands self.now f a b
-            → G.stands at.now x → IsOneOf a b x → IfOk result (λ message. carried_of message
+            → G.stands at.now x → IsOneOf a b x → OnOk result (carried_of message.new
             ≡ carried_lent f.opening event.now x.number f.registry (lent_two a b)) }
     {
         let sender = self.sender(named, event.step, at.number());
         let life = self.life_of(sender);
         let (aborts, counts) = self.lists(sender, at)?;
-        Ok(Message {
-            sender,
-            life,
-            aborts,
-            counts,
-            dependencies: self.dependencies(named, event, at.number())?,
-            outcomes: self.outcomes(event.step, at)?,
-        })
+        message.sender = sender;
+        message.life = life;
+        message.aborts = aborts;
+        message.counts = counts;
+        self.dependencies(named, event, at.number(), &mut message.dependencies)?;
+        self.outcomes(event.step, at, &mut message.outcomes)?;
+        Ok(())
     }
 
     /// Whose lists the step carries to the guardian of this number.
@@ -110,44 +128,47 @@ impl<'a, R: Forest, G: Guardian> Lent<'a, R, G> {
         Ok((aborts, counts))
     }
 
-    /// What the event says of dependencies to the guardian of this number.
+    /// Writes what the event says of dependencies to the guardian of this number, over what was sent before.
     fn dependencies(
         &self,
         named: NamedGuardians,
         event: &EventRef<'_>,
         at: u32,
-    ) -> Result<Vec<(Name, Deps)>, AllocError>
+        sent: &mut Vec<(Name, Deps)>,
+    ) -> Result<(), AllocError>
         requires { AreNamed (R.stands self.now.forest.now) event.now.step named }
         ensures { (f : ForestState) (a b : GuardianState) → Lends R.stands G.stands self.now f a b
-            → IfOk result (λ sent. sent_of sent.items ≡ dependencies_two f a b event.now at) }
+            → OnOk result (sent_of sent.new.items ≡ dependencies_two f a b event.now at) }
     {
         match event.step {
             Step::Commit(action) => {
                 if named.second == at {
-                    return self.dependencies_of(action);
+                    return self.dependencies_of(action, sent);
                 }
-                Ok(Vec::new(self.alloc))
+                sent.clear();
+                Ok(())
             }
             Step::Prepare(to, top) => {
                 if *to == at {
-                    return self.dependencies_of(top);
+                    return self.dependencies_of(top, sent);
                 }
-                Ok(Vec::new(self.alloc))
+                sent.clear();
+                Ok(())
             }
-            _ => self.new_dependencies(named, event, at),
+            _ => self.new_dependencies(named, event, at, sent),
         }
     }
 
-    fn dependencies_of(&self, action: &Name) -> Result<Vec<(Name, Deps)>, AllocError>
+    fn dependencies_of(&self, action: &Name, sent: &mut Vec<(Name, Deps)>) -> Result<(), AllocError>
         ensures { (f : ForestState) → R.stands self.now.forest.now f
-            → IfOk result (λ sent. sent_of sent.items ≡ (
+            → OnOk result (sent_of sent.new.items ≡ (
               action.now,
               entries_of f.opening (λ h. dependency_there action.now h f.registry),
             ) ∷ []) }
     {
-        let mut sent = Vec::new(self.alloc);
+        sent.clear();
         sent.push((action.copy()?, self.forest.dependencies(action)?))?;
-        Ok(sent)
+        Ok(())
     }
 
     fn new_dependencies(
@@ -155,17 +176,19 @@ impl<'a, R: Forest, G: Guardian> Lent<'a, R, G> {
         named: NamedGuardians,
         event: &EventRef<'_>,
         at: u32,
-    ) -> Result<Vec<(Name, Deps)>, AllocError>
+        sent: &mut Vec<(Name, Deps)>,
+    ) -> Result<(), AllocError>
         requires { AreNamed (R.stands self.now.forest.now) event.now.step named }
         ensures { (f : ForestState) (a b : GuardianState) → Lends R.stands G.stands self.now f a b
-            → IfOk result (λ sent. sent_of sent.items ≡ new_two f a b event.now at) }
+            → OnOk result (sent_of sent.new.items ≡ new_two f a b event.now at) }
     {
         let home = home_of_new(named, event.step);
         let life = self.crashes_at(home);
         if home != at {
-            return Ok(Vec::new(self.alloc));
+            sent.clear();
+            return Ok(());
         }
-        self.dependencies_of_new(event.answer.names_begun(), home, life)
+        self.dependencies_of_new(event.answer.names_begun(), home, life, sent)
     }
 
     fn dependencies_of_new(
@@ -173,42 +196,48 @@ impl<'a, R: Forest, G: Guardian> Lent<'a, R, G> {
         names: &[Name],
         home: u32,
         life: u64,
-    ) -> Result<Vec<(Name, Deps)>, AllocError>
+        sent: &mut Vec<(Name, Deps)>,
+    ) -> Result<(), AllocError>
         ensures { (f : ForestState) → R.stands self.now.forest.now f
-            → IfOk result (λ sent. sent_of sent.items ≡ new_from f home life names.now) }
+            → OnOk result (sent_of sent.new.items ≡ new_from f home life names.now) }
     {
-        let mut sent = Vec::new(self.alloc);
+        sent.clear();
         for name in names {
             sent.push((
                 name.copy()?,
                 self.forest.new_dependencies(name, home, life)?,
             ))?;
         }
-        Ok(sent)
+        Ok(())
     }
 
-    /// What outcomes the step brings.
-    fn outcomes(&self, step: &Step, at: &G) -> Result<Vec<(Name, bool)>, AllocError>
+    /// Writes what outcomes the step brings, over those that were brought before.
+    fn outcomes(
+        &self,
+        step: &Step,
+        at: &G,
+        outcomes: &mut Vec<(Name, bool)>,
+    ) -> Result<(), AllocError>
         ensures { (f : ForestState) (a b x : GuardianState) → Lends R.stands G.stands self.now f a b
             → G.stands at.now x → IsOneOf a b x
-            → IfOk result (λ outcomes. outcomes.items ≡ outcomes_carried step.now x.number
+            → OnOk result (outcomes.new.items ≡ outcomes_carried step.now x.number
             (events_there f.registry) (lent_two a b x.number)) }
     {
+        outcomes.clear();
         match step {
             Step::Tell(to, action) => {
-                let mut outcomes = Vec::new(self.alloc);
                 if *to == at.number() {
                     outcomes.push((action.copy()?, self.forest.is_committed(action)))?;
                 }
-                Ok(outcomes)
+                Ok(())
             }
             Step::Prepare(to, top) => {
                 if *to == at.number() {
-                    return self.forest.outcomes_below(top, at);
+                    *outcomes = self.forest.outcomes_below(top, at)?;
                 }
-                Ok(Vec::new(self.alloc))
+                Ok(())
             }
-            _ => Ok(Vec::new(self.alloc)),
+            _ => Ok(()),
         }
     }
 }

@@ -11,7 +11,7 @@ ghost use Rattle.layer_contracts.specs.Stores.{fault_in};
 ghost use Rattle.layer_contracts.specs.declared.guardian.Fault.TheVariants.{Stable};
 ghost use Rattle.world_steps.specs.Standings.{AreSame, HasFailed, forest_of, IsKeptAt, IsLeftAt, IsOut, IsReady, IsWholeAt, IsWorld, Names, StoresLeft};
 
-use crate::{NamedGuardians, answer_alone, answer_two, keep_one, keep_two, named};
+use crate::{Messages, NamedGuardians, answer_alone, answer_two, keep_one, keep_two, named};
 use layer_contracts::{Draw, EventRef, Fault, Forest, Guardian};
 use packed_history::PackedHistory;
 use run_model::{Answer, Step};
@@ -23,6 +23,7 @@ use std::alloc::{AllocError, Global};
 /// said of each opening in which these make a world.
 pub fn step<R: Forest, G: Guardian>(
     alloc: Global,
+    messages: &mut Messages,
     forest: &mut R,
     guardians: &mut [G],
     history: &mut PackedHistory,
@@ -50,7 +51,9 @@ pub fn step<R: Forest, G: Guardian>(
         step,
         answer: &answer,
     };
-    keep(alloc, forest, guardians, history, named, low, high, &event)?;
+    keep(
+        alloc, messages, forest, guardians, history, named, low, high, &event,
+    )?;
     Ok(answer)
 }
 
@@ -111,6 +114,7 @@ fn answer_at<R: Forest, G: Guardian>(
 /// Keeps an accepted step with its answer: in the history, in the forest and at the guardians that it names.
 fn keep<R: Forest, G: Guardian>(
     alloc: Global,
+    messages: &mut Messages,
     forest: &mut R,
     guardians: &mut [G],
     history: &mut PackedHistory,
@@ -136,7 +140,9 @@ fn keep<R: Forest, G: Guardian>(
 {
     let number = history.next_stamp();
     history.push(event)?;
-    let kept = keep_at(alloc, forest, guardians, named, low, high, event, number);
+    let kept = keep_at(
+        alloc, messages, forest, guardians, named, low, high, event, number,
+    );
     ask_number(guardians, low);
     ask_number(guardians, high);
     match kept {
@@ -176,6 +182,7 @@ impl Draw for Numbered {
 /// Keeps an event at the two guardians of these numbers, or at one.
 fn keep_at<R: Forest, G: Guardian>(
     alloc: Global,
+    messages: &mut Messages,
     forest: &mut R,
     guardians: &mut [G],
     named: NamedGuardians,
@@ -206,6 +213,7 @@ fn keep_at<R: Forest, G: Guardian>(
     if low == high {
         keep_one(
             alloc,
+            messages,
             forest,
             &mut guardians[low as usize - 1],
             named,
@@ -217,6 +225,7 @@ fn keep_at<R: Forest, G: Guardian>(
     let (left, right) = guardians.split_at_mut(high as usize - 1);
     keep_two(
         alloc,
+        messages,
         forest,
         &mut left[low as usize - 1],
         &mut right[0],

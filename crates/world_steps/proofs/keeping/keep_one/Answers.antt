@@ -23,9 +23,9 @@ plan_at-requires-clause-rising g c =
     let x : GuardianState = c.requires.answered.1 in
     let here = c.requires.answered.2 in
     let e : Event = c.args.event.now in
-    let brought : Brings f x x e x c.in_ok-brought.brought =
-    c.in_ok-brought.ensures f x x x here.lent here.lent.first (first_one x x) here.lent.opening.first here.answered in
-    brought_rising f x x x e c.in_ok-brought.brought brought
+    let brought : Brings f x x e x c.in_ok-keeps.keeps c.brought_to.new.message =
+    c.in_ok-keeps.ensures f x x x here.lent here.lent.first (first_one x x) here.lent.opening.first here.answered in
+    brought_rising f x x x e c.in_ok-keeps.keeps c.brought_to.new.message brought
 
 pub install_there-requires-clause-planned : goal.install_there-requires-clause-planned
 install_there-requires-clause-planned g c =
@@ -42,9 +42,9 @@ carry_out-requires-clause-planned g c =
     let x : GuardianState = c.requires.answered.1 in
     let here = c.requires.answered.2 in
     let e : Event = c.args.event.now in
-    let brought : Brings f x x e x c.in_ok-brought.brought =
-    c.in_ok-brought.ensures f x x x here.lent here.lent.first (first_one x x) here.lent.opening.first here.answered in
-    let planned : Plans (g.G.Guardian.is_planned c.plan_at.new.guardian) f x x e x c.in_ok-keeps.keeps = c.in_ok-keeps.ensures.planned f x x x here.lent.first brought in
+    let brought : Brings f x x e x c.in_ok-keeps.keeps c.brought_to.new.message =
+    c.in_ok-keeps.ensures f x x x here.lent here.lent.first (first_one x x) here.lent.opening.first here.answered in
+    let planned : Plans (g.G.Guardian.is_planned c.plan_at.new.guardian) f x x e x c.in_ok-keeps.keeps = c.in_ok-plan_at.ensures.planned f x x x here.lent.first brought in
     let stood = c.plan_at.ensures.same x here.lent.first in
     planned_here (g.G.Guardian.stands c.plan_at.new.guardian) (g.G.Guardian.is_planned c.plan_at.new.guardian) f x x x e c.in_ok-keeps.keeps stood planned
 
@@ -62,9 +62,9 @@ returns-then-is_operation-clause-done g c = λ f x here.
 pub returns-clause-done : goal.returns-clause-done
 returns-clause-done g c = λ f x here.
     let e : Event = c.args.event.now in
-    let brought : Brings f x x e x c.in_ok-brought.brought =
-    c.in_ok-brought.ensures f x x x here.lent here.lent.first (first_one x x) here.lent.opening.first here.answered in
-    let planned : Plans (g.G.Guardian.is_planned c.plan_at.new.guardian) f x x e x c.in_ok-keeps.keeps = c.in_ok-keeps.ensures.planned f x x x here.lent.first brought in
+    let brought : Brings f x x e x c.in_ok-keeps.keeps c.brought_to.new.message =
+    c.in_ok-keeps.ensures f x x x here.lent here.lent.first (first_one x x) here.lent.opening.first here.answered in
+    let planned : Plans (g.G.Guardian.is_planned c.plan_at.new.guardian) f x x e x c.in_ok-keeps.keeps = c.in_ok-plan_at.ensures.planned f x x x here.lent.first brought in
     let stood = c.plan_at.ensures.same x here.lent.first in
     let n = c.in_ok-number.number in
     let after = left_at (g.G.Guardian.stands c.plan_at.new.guardian) (g.G.Guardian.stands c.carry_out.new.guardian) (g.G.Guardian.is_planned c.plan_at.new.guardian) f x x x e n c.in_ok-keeps.keeps here.lent.opening.first
@@ -80,10 +80,10 @@ returns-clause-done g c = λ f x here.
       second = after;
     }
 
-pub returns-in_err-brought-clause-store : goal.returns-in_err-brought-clause-store
-returns-in_err-brought-clause-store g c = λ f x here.
+pub returns-in_err-keeps-clause-store : goal.returns-in_err-keeps-clause-store
+returns-in_err-keeps-clause-store g c = λ f x here.
     let old : View = g.G.Guardian.stored c.args.guardian.now in
-    left_early f x x x c.args.event.now old c.from_residual-in_err-brought.result old c.from_residual-in_err-brought.ensures.1 (stays_same old)
+    left_early f x x x c.args.event.now old c.from_residual-in_err-keeps.result old c.from_residual-in_err-keeps.ensures.1 (stays_same old)
     (c.number.ensures.whole x here.lent.first)
 
 pub returns-in_err-plan_there-clause-store : goal.returns-in_err-plan_there-clause-store
@@ -92,18 +92,18 @@ returns-in_err-plan_there-clause-store g c = λ f x here.
     left_early f x x x c.args.event.now old c.from_residual-in_err-plan_there.result old c.from_residual-in_err-plan_there.ensures.1 (stays_same old)
     (c.number.ensures.whole x here.lent.first)
 
-pub returns-in_err-keeps-clause-store : goal.returns-in_err-keeps-clause-store
-returns-in_err-keeps-clause-store g c = λ f x here.
+pub returns-in_err-plan_at-clause-store : goal.returns-in_err-plan_at-clause-store
+returns-in_err-plan_at-clause-store g c = λ f x here.
     let old : View = g.G.Guardian.stored c.args.guardian.now in
-    left_early f x x x c.args.event.now old c.from_residual-in_err-keeps.result (g.G.Guardian.stored c.plan_at.new.guardian) c.from_residual-in_err-keeps.ensures.1 c.plan_at.ensures.store
+    left_early f x x x c.args.event.now old c.from_residual-in_err-plan_at.result (g.G.Guardian.stored c.plan_at.new.guardian) c.from_residual-in_err-plan_at.ensures.1 c.plan_at.ensures.store
     (c.number.ensures.whole x here.lent.first)
 
 pub returns-in_err-number-clause-store : goal.returns-in_err-number-clause-store
 returns-in_err-number-clause-store g c = λ f x here.
     let e : Event = c.args.event.now in
-    let brought : Brings f x x e x c.in_ok-brought.brought =
-    c.in_ok-brought.ensures f x x x here.lent here.lent.first (first_one x x) here.lent.opening.first here.answered in
-    let planned : Plans (g.G.Guardian.is_planned c.plan_at.new.guardian) f x x e x c.in_ok-keeps.keeps = c.in_ok-keeps.ensures.planned f x x x here.lent.first brought in
+    let brought : Brings f x x e x c.in_ok-keeps.keeps c.brought_to.new.message =
+    c.in_ok-keeps.ensures f x x x here.lent here.lent.first (first_one x x) here.lent.opening.first here.answered in
+    let planned : Plans (g.G.Guardian.is_planned c.plan_at.new.guardian) f x x e x c.in_ok-keeps.keeps = c.in_ok-plan_at.ensures.planned f x x x here.lent.first brought in
     let stood = c.plan_at.ensures.same x here.lent.first in
     let old : View = g.G.Guardian.stored c.args.guardian.now in
     let mid : View = g.G.Guardian.stored c.plan_at.new.guardian in
@@ -114,9 +114,9 @@ returns-in_err-number-clause-store g c = λ f x here.
 pub returns-clause-store : goal.returns-clause-store
 returns-clause-store g c = λ f x here.
     let e : Event = c.args.event.now in
-    let brought : Brings f x x e x c.in_ok-brought.brought =
-    c.in_ok-brought.ensures f x x x here.lent here.lent.first (first_one x x) here.lent.opening.first here.answered in
-    let planned : Plans (g.G.Guardian.is_planned c.plan_at.new.guardian) f x x e x c.in_ok-keeps.keeps = c.in_ok-keeps.ensures.planned f x x x here.lent.first brought in
+    let brought : Brings f x x e x c.in_ok-keeps.keeps c.brought_to.new.message =
+    c.in_ok-keeps.ensures f x x x here.lent here.lent.first (first_one x x) here.lent.opening.first here.answered in
+    let planned : Plans (g.G.Guardian.is_planned c.plan_at.new.guardian) f x x e x c.in_ok-keeps.keeps = c.in_ok-plan_at.ensures.planned f x x x here.lent.first brought in
     let stood = c.plan_at.ensures.same x here.lent.first in
     let old : View = g.G.Guardian.stored c.args.guardian.now in
     let mid : View = g.G.Guardian.stored c.plan_at.new.guardian in

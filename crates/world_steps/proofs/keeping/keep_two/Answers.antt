@@ -25,9 +25,9 @@ plan_at-requires-clause-rising g c =
     let b : GuardianState = c.requires.answered.2 in
     let here = c.requires.answered.3 in
     let e : Event = c.args.event.now in
-    let to_first : Brings f a b e a c.in_ok-to_first.to_first =
-    c.in_ok-to_first.ensures f a b a here.lent here.lent.first (first_one a b) here.lent.opening.first here.answered in
-    brought_rising f a b a e c.in_ok-to_first.to_first to_first
+    let to_first : Brings f a b e a c.in_ok-keeps_first.keeps_first c.brought_to.new.message =
+    c.in_ok-keeps_first.ensures f a b a here.lent here.lent.first (first_one a b) here.lent.opening.first here.answered in
+    brought_rising f a b a e c.in_ok-keeps_first.keeps_first c.brought_to.new.message to_first
 
 pub plan_at-requires-2-clause-rising : goal.plan_at-requires-2-clause-rising
 plan_at-requires-2-clause-rising g c =
@@ -37,9 +37,9 @@ plan_at-requires-2-clause-rising g c =
     let here = c.requires.answered.3 in
     let e : Event = c.args.event.now in
     let apart : (a.number == b.number) ≡ false = c.requires.answered.4 in
-    let to_second : Brings f a b e b c.in_ok-to_second.to_second =
-    c.in_ok-to_second.ensures f a b b here.lent here.lent.second (second_one a b apart) here.lent.opening.second here.answered in
-    brought_rising f a b b e c.in_ok-to_second.to_second to_second
+    let to_second : Brings f a b e b c.in_ok-keeps_second.keeps_second c.brought_to-2.new.message =
+    c.in_ok-keeps_second.ensures f a b b here.lent here.lent.second (second_one a b apart) here.lent.opening.second here.answered in
+    brought_rising f a b b e c.in_ok-keeps_second.keeps_second c.brought_to-2.new.message to_second
 
 pub install_there-requires-clause-planned : goal.install_there-requires-clause-planned
 install_there-requires-clause-planned g c =
@@ -68,9 +68,9 @@ carry_out-requires-clause-planned g c =
     let b : GuardianState = c.requires.answered.2 in
     let here = c.requires.answered.3 in
     let e : Event = c.args.event.now in
-    let to_first : Brings f a b e a c.in_ok-to_first.to_first =
-    c.in_ok-to_first.ensures f a b a here.lent here.lent.first (first_one a b) here.lent.opening.first here.answered in
-    let one : Plans (g.G.Guardian.is_planned c.plan_at.new.guardian) f a b e a c.in_ok-keeps_first.keeps_first = c.in_ok-keeps_first.ensures.planned f a b a here.lent.first to_first in
+    let to_first : Brings f a b e a c.in_ok-keeps_first.keeps_first c.brought_to.new.message =
+    c.in_ok-keeps_first.ensures f a b a here.lent here.lent.first (first_one a b) here.lent.opening.first here.answered in
+    let one : Plans (g.G.Guardian.is_planned c.plan_at.new.guardian) f a b e a c.in_ok-keeps_first.keeps_first = c.in_ok-plan_at.ensures.planned f a b a here.lent.first to_first in
     let stood = c.plan_at.ensures.same a here.lent.first in
     planned_here (g.G.Guardian.stands c.plan_at.new.guardian) (g.G.Guardian.is_planned c.plan_at.new.guardian) f a b a e c.in_ok-keeps_first.keeps_first stood one
 
@@ -82,9 +82,9 @@ carry_out-requires-else-may_fail_at-clause-planned g c =
     let here = c.requires.answered.3 in
     let e : Event = c.args.event.now in
     let apart : (a.number == b.number) ≡ false = c.requires.answered.4 in
-    let to_second : Brings f a b e b c.in_ok-to_second.to_second =
-    c.in_ok-to_second.ensures f a b b here.lent here.lent.second (second_one a b apart) here.lent.opening.second here.answered in
-    let other : Plans (g.G.Guardian.is_planned c.plan_at-2.new.guardian) f a b e b c.in_ok-keeps_second.keeps_second = c.in_ok-keeps_second.ensures.planned f a b b here.lent.second to_second in
+    let to_second : Brings f a b e b c.in_ok-keeps_second.keeps_second c.brought_to-2.new.message =
+    c.in_ok-keeps_second.ensures f a b b here.lent here.lent.second (second_one a b apart) here.lent.opening.second here.answered in
+    let other : Plans (g.G.Guardian.is_planned c.plan_at-2.new.guardian) f a b e b c.in_ok-keeps_second.keeps_second = c.in_ok-plan_at-2.ensures.planned f a b b here.lent.second to_second in
     let stood_also = c.plan_at-2.ensures.same b here.lent.second in
     planned_here (g.G.Guardian.stands c.plan_at-2.new.guardian) (g.G.Guardian.is_planned c.plan_at-2.new.guardian) f a b b e c.in_ok-keeps_second.keeps_second stood_also other
 
@@ -96,9 +96,9 @@ install-requires-clause-planned g c =
     let here = c.requires.answered.3 in
     let e : Event = c.args.event.now in
     let apart : (a.number == b.number) ≡ false = c.requires.answered.4 in
-    let to_second : Brings f a b e b c.in_ok-to_second.to_second =
-    c.in_ok-to_second.ensures f a b b here.lent here.lent.second (second_one a b apart) here.lent.opening.second here.answered in
-    let other : Plans (g.G.Guardian.is_planned c.plan_at-2.new.guardian) f a b e b c.in_ok-keeps_second.keeps_second = c.in_ok-keeps_second.ensures.planned f a b b here.lent.second to_second in
+    let to_second : Brings f a b e b c.in_ok-keeps_second.keeps_second c.brought_to-2.new.message =
+    c.in_ok-keeps_second.ensures f a b b here.lent here.lent.second (second_one a b apart) here.lent.opening.second here.answered in
+    let other : Plans (g.G.Guardian.is_planned c.plan_at-2.new.guardian) f a b e b c.in_ok-keeps_second.keeps_second = c.in_ok-plan_at-2.ensures.planned f a b b here.lent.second to_second in
     let stood_also = c.plan_at-2.ensures.same b here.lent.second in
     planned_here (g.G.Guardian.stands c.plan_at-2.new.guardian) (g.G.Guardian.is_planned c.plan_at-2.new.guardian) f a b b e c.in_ok-keeps_second.keeps_second stood_also other
 
@@ -109,9 +109,9 @@ install-requires-else-may_fail_at-clause-planned g c =
     let b : GuardianState = c.requires.answered.2 in
     let here = c.requires.answered.3 in
     let e : Event = c.args.event.now in
-    let to_first : Brings f a b e a c.in_ok-to_first.to_first =
-    c.in_ok-to_first.ensures f a b a here.lent here.lent.first (first_one a b) here.lent.opening.first here.answered in
-    let one : Plans (g.G.Guardian.is_planned c.plan_at.new.guardian) f a b e a c.in_ok-keeps_first.keeps_first = c.in_ok-keeps_first.ensures.planned f a b a here.lent.first to_first in
+    let to_first : Brings f a b e a c.in_ok-keeps_first.keeps_first c.brought_to.new.message =
+    c.in_ok-keeps_first.ensures f a b a here.lent here.lent.first (first_one a b) here.lent.opening.first here.answered in
+    let one : Plans (g.G.Guardian.is_planned c.plan_at.new.guardian) f a b e a c.in_ok-keeps_first.keeps_first = c.in_ok-plan_at.ensures.planned f a b a here.lent.first to_first in
     let stood = c.plan_at.ensures.same a here.lent.first in
     planned_here (g.G.Guardian.stands c.plan_at.new.guardian) (g.G.Guardian.is_planned c.plan_at.new.guardian) f a b a e c.in_ok-keeps_first.keeps_first stood one
 
@@ -123,13 +123,13 @@ install-requires-clause-quiet g c =
     let here = c.requires.answered.3 in
     let e : Event = c.args.event.now in
     let apart : (a.number == b.number) ≡ false = c.requires.answered.4 in
-    let to_first : Brings f a b e a c.in_ok-to_first.to_first =
-    c.in_ok-to_first.ensures f a b a here.lent here.lent.first (first_one a b) here.lent.opening.first here.answered in
-    let one : Plans (g.G.Guardian.is_planned c.plan_at.new.guardian) f a b e a c.in_ok-keeps_first.keeps_first = c.in_ok-keeps_first.ensures.planned f a b a here.lent.first to_first in
+    let to_first : Brings f a b e a c.in_ok-keeps_first.keeps_first c.brought_to.new.message =
+    c.in_ok-keeps_first.ensures f a b a here.lent here.lent.first (first_one a b) here.lent.opening.first here.answered in
+    let one : Plans (g.G.Guardian.is_planned c.plan_at.new.guardian) f a b e a c.in_ok-keeps_first.keeps_first = c.in_ok-plan_at.ensures.planned f a b a here.lent.first to_first in
     let stood = c.plan_at.ensures.same a here.lent.first in
-    let to_second : Brings f a b e b c.in_ok-to_second.to_second =
-    c.in_ok-to_second.ensures f a b b here.lent here.lent.second (second_one a b apart) here.lent.opening.second here.answered in
-    let other : Plans (g.G.Guardian.is_planned c.plan_at-2.new.guardian) f a b e b c.in_ok-keeps_second.keeps_second = c.in_ok-keeps_second.ensures.planned f a b b here.lent.second to_second in
+    let to_second : Brings f a b e b c.in_ok-keeps_second.keeps_second c.brought_to-2.new.message =
+    c.in_ok-keeps_second.ensures f a b b here.lent here.lent.second (second_one a b apart) here.lent.opening.second here.answered in
+    let other : Plans (g.G.Guardian.is_planned c.plan_at-2.new.guardian) f a b e b c.in_ok-keeps_second.keeps_second = c.in_ok-plan_at-2.ensures.planned f a b b here.lent.second to_second in
     let stood_also = c.plan_at-2.ensures.same b here.lent.second in
     quiet_here (g.G.Guardian.stands c.plan_at-2.new.guardian) b e.step c.in_ok-keeps_second.keeps_second stood_also
     (quiet_other (g.G.Guardian.is_planned c.plan_at.new.guardian) (g.G.Guardian.is_planned c.plan_at-2.new.guardian) f a b a b e c.in_ok-keeps_first.keeps_first c.in_ok-keeps_second.keeps_second (sym (c.may_fail_at.ensures a stood) ∙ c.if-may_fail_at.true) apart one other)
@@ -141,35 +141,35 @@ install-requires-else-may_fail_at-clause-quiet g c =
     let b : GuardianState = c.requires.answered.2 in
     let here = c.requires.answered.3 in
     let e : Event = c.args.event.now in
-    let to_first : Brings f a b e a c.in_ok-to_first.to_first =
-    c.in_ok-to_first.ensures f a b a here.lent here.lent.first (first_one a b) here.lent.opening.first here.answered in
-    let one : Plans (g.G.Guardian.is_planned c.plan_at.new.guardian) f a b e a c.in_ok-keeps_first.keeps_first = c.in_ok-keeps_first.ensures.planned f a b a here.lent.first to_first in
+    let to_first : Brings f a b e a c.in_ok-keeps_first.keeps_first c.brought_to.new.message =
+    c.in_ok-keeps_first.ensures f a b a here.lent here.lent.first (first_one a b) here.lent.opening.first here.answered in
+    let one : Plans (g.G.Guardian.is_planned c.plan_at.new.guardian) f a b e a c.in_ok-keeps_first.keeps_first = c.in_ok-plan_at.ensures.planned f a b a here.lent.first to_first in
     let stood = c.plan_at.ensures.same a here.lent.first in
     quiet_here (g.G.Guardian.stands c.plan_at.new.guardian) a e.step c.in_ok-keeps_first.keeps_first stood
     (quiet_first e.step a.number c.in_ok-keeps_first.keeps_first (sym (c.may_fail_at.ensures a stood) ∙ c.if-may_fail_at.false))
 
-pub returns-in_err-to_first-clause-first_store : goal.returns-in_err-to_first-clause-first_store
-returns-in_err-to_first-clause-first_store g c = λ f a b here.
+pub returns-in_err-keeps_first-clause-first_store : goal.returns-in_err-keeps_first-clause-first_store
+returns-in_err-keeps_first-clause-first_store g c = λ f a b here.
     let old : View = g.G.Guardian.stored c.args.first.now in
-    left_early f a b a c.args.event.now old c.from_residual-in_err-to_first.result old c.from_residual-in_err-to_first.ensures.1 (stays_same old)
+    left_early f a b a c.args.event.now old c.from_residual-in_err-keeps_first.result old c.from_residual-in_err-keeps_first.ensures.1 (stays_same old)
     (c.number.ensures.whole a here.lent.first)
 
-pub returns-in_err-to_first-clause-second_store : goal.returns-in_err-to_first-clause-second_store
-returns-in_err-to_first-clause-second_store g c = λ f a b here.
+pub returns-in_err-keeps_first-clause-second_store : goal.returns-in_err-keeps_first-clause-second_store
+returns-in_err-keeps_first-clause-second_store g c = λ f a b here.
     let old : View = g.G.Guardian.stored c.args.second.now in
-    left_early f a b b c.args.event.now old c.from_residual-in_err-to_first.result old c.from_residual-in_err-to_first.ensures.1 (stays_same old)
+    left_early f a b b c.args.event.now old c.from_residual-in_err-keeps_first.result old c.from_residual-in_err-keeps_first.ensures.1 (stays_same old)
     (c.number-2.ensures.whole b here.lent.second)
 
-pub returns-in_err-to_second-clause-first_store : goal.returns-in_err-to_second-clause-first_store
-returns-in_err-to_second-clause-first_store g c = λ f a b here.
+pub returns-in_err-keeps_second-clause-first_store : goal.returns-in_err-keeps_second-clause-first_store
+returns-in_err-keeps_second-clause-first_store g c = λ f a b here.
     let old : View = g.G.Guardian.stored c.args.first.now in
-    left_early f a b a c.args.event.now old c.from_residual-in_err-to_second.result old c.from_residual-in_err-to_second.ensures.1 (stays_same old)
+    left_early f a b a c.args.event.now old c.from_residual-in_err-keeps_second.result old c.from_residual-in_err-keeps_second.ensures.1 (stays_same old)
     (c.number.ensures.whole a here.lent.first)
 
-pub returns-in_err-to_second-clause-second_store : goal.returns-in_err-to_second-clause-second_store
-returns-in_err-to_second-clause-second_store g c = λ f a b here.
+pub returns-in_err-keeps_second-clause-second_store : goal.returns-in_err-keeps_second-clause-second_store
+returns-in_err-keeps_second-clause-second_store g c = λ f a b here.
     let old : View = g.G.Guardian.stored c.args.second.now in
-    left_early f a b b c.args.event.now old c.from_residual-in_err-to_second.result old c.from_residual-in_err-to_second.ensures.1 (stays_same old)
+    left_early f a b b c.args.event.now old c.from_residual-in_err-keeps_second.result old c.from_residual-in_err-keeps_second.ensures.1 (stays_same old)
     (c.number-2.ensures.whole b here.lent.second)
 
 pub returns-in_err-plan_there-clause-first_store : goal.returns-in_err-plan_there-clause-first_store
@@ -184,36 +184,36 @@ returns-in_err-plan_there-clause-second_store g c = λ f a b here.
     left_early f a b b c.args.event.now old c.from_residual-in_err-plan_there.result old c.from_residual-in_err-plan_there.ensures.1 (stays_same old)
     (c.number-2.ensures.whole b here.lent.second)
 
-pub returns-in_err-keeps_first-clause-first_store : goal.returns-in_err-keeps_first-clause-first_store
-returns-in_err-keeps_first-clause-first_store g c = λ f a b here.
+pub returns-in_err-plan_at-clause-first_store : goal.returns-in_err-plan_at-clause-first_store
+returns-in_err-plan_at-clause-first_store g c = λ f a b here.
     let old : View = g.G.Guardian.stored c.args.first.now in
-    left_early f a b a c.args.event.now old c.from_residual-in_err-keeps_first.result (g.G.Guardian.stored c.plan_at.new.guardian) c.from_residual-in_err-keeps_first.ensures.1 c.plan_at.ensures.store
+    left_early f a b a c.args.event.now old c.from_residual-in_err-plan_at.result (g.G.Guardian.stored c.plan_at.new.guardian) c.from_residual-in_err-plan_at.ensures.1 c.plan_at.ensures.store
     (c.number.ensures.whole a here.lent.first)
 
-pub returns-in_err-keeps_first-clause-second_store : goal.returns-in_err-keeps_first-clause-second_store
-returns-in_err-keeps_first-clause-second_store g c = λ f a b here.
+pub returns-in_err-plan_at-clause-second_store : goal.returns-in_err-plan_at-clause-second_store
+returns-in_err-plan_at-clause-second_store g c = λ f a b here.
     let old : View = g.G.Guardian.stored c.args.second.now in
-    left_early f a b b c.args.event.now old c.from_residual-in_err-keeps_first.result old c.from_residual-in_err-keeps_first.ensures.1 (stays_same old)
+    left_early f a b b c.args.event.now old c.from_residual-in_err-plan_at.result old c.from_residual-in_err-plan_at.ensures.1 (stays_same old)
     (c.number-2.ensures.whole b here.lent.second)
 
-pub returns-in_err-keeps_second-clause-first_store : goal.returns-in_err-keeps_second-clause-first_store
-returns-in_err-keeps_second-clause-first_store g c = λ f a b here.
+pub returns-in_err-plan_at-2-clause-first_store : goal.returns-in_err-plan_at-2-clause-first_store
+returns-in_err-plan_at-2-clause-first_store g c = λ f a b here.
     let old : View = g.G.Guardian.stored c.args.first.now in
-    left_early f a b a c.args.event.now old c.from_residual-in_err-keeps_second.result (g.G.Guardian.stored c.plan_at.new.guardian) c.from_residual-in_err-keeps_second.ensures.1 c.plan_at.ensures.store
+    left_early f a b a c.args.event.now old c.from_residual-in_err-plan_at-2.result (g.G.Guardian.stored c.plan_at.new.guardian) c.from_residual-in_err-plan_at-2.ensures.1 c.plan_at.ensures.store
     (c.number.ensures.whole a here.lent.first)
 
-pub returns-in_err-keeps_second-clause-second_store : goal.returns-in_err-keeps_second-clause-second_store
-returns-in_err-keeps_second-clause-second_store g c = λ f a b here.
+pub returns-in_err-plan_at-2-clause-second_store : goal.returns-in_err-plan_at-2-clause-second_store
+returns-in_err-plan_at-2-clause-second_store g c = λ f a b here.
     let old : View = g.G.Guardian.stored c.args.second.now in
-    left_early f a b b c.args.event.now old c.from_residual-in_err-keeps_second.result (g.G.Guardian.stored c.plan_at-2.new.guardian) c.from_residual-in_err-keeps_second.ensures.1 c.plan_at-2.ensures.store
+    left_early f a b b c.args.event.now old c.from_residual-in_err-plan_at-2.result (g.G.Guardian.stored c.plan_at-2.new.guardian) c.from_residual-in_err-plan_at-2.ensures.1 c.plan_at-2.ensures.store
     (c.number-2.ensures.whole b here.lent.second)
 
 pub returns-in_err-number-clause-first_store : goal.returns-in_err-number-clause-first_store
 returns-in_err-number-clause-first_store g c = λ f a b here.
     let e : Event = c.args.event.now in
-    let to_first : Brings f a b e a c.in_ok-to_first.to_first =
-    c.in_ok-to_first.ensures f a b a here.lent here.lent.first (first_one a b) here.lent.opening.first here.answered in
-    let one : Plans (g.G.Guardian.is_planned c.plan_at.new.guardian) f a b e a c.in_ok-keeps_first.keeps_first = c.in_ok-keeps_first.ensures.planned f a b a here.lent.first to_first in
+    let to_first : Brings f a b e a c.in_ok-keeps_first.keeps_first c.brought_to.new.message =
+    c.in_ok-keeps_first.ensures f a b a here.lent here.lent.first (first_one a b) here.lent.opening.first here.answered in
+    let one : Plans (g.G.Guardian.is_planned c.plan_at.new.guardian) f a b e a c.in_ok-keeps_first.keeps_first = c.in_ok-plan_at.ensures.planned f a b a here.lent.first to_first in
     let stood = c.plan_at.ensures.same a here.lent.first in
     let old : View = g.G.Guardian.stored c.args.first.now in
     let mid : View = g.G.Guardian.stored c.plan_at.new.guardian in
@@ -228,13 +228,13 @@ returns-in_err-number-clause-second_store g c = λ f a b here.
     let apart : (a.number == b.number) ≡ false =
     differ_as (g.G.Guardian.stands c.args.first.now) (g.G.Guardian.stands c.args.second.now) some.1 some.2 a b c.number.result c.number-2.result
     c.number.ensures.number c.number-2.ensures.number some.3.lent.first some.3.lent.second here.lent.first here.lent.second some.4 in
-    let to_first : Brings f a b e a c.in_ok-to_first.to_first =
-    c.in_ok-to_first.ensures f a b a here.lent here.lent.first (first_one a b) here.lent.opening.first here.answered in
-    let one : Plans (g.G.Guardian.is_planned c.plan_at.new.guardian) f a b e a c.in_ok-keeps_first.keeps_first = c.in_ok-keeps_first.ensures.planned f a b a here.lent.first to_first in
+    let to_first : Brings f a b e a c.in_ok-keeps_first.keeps_first c.brought_to.new.message =
+    c.in_ok-keeps_first.ensures f a b a here.lent here.lent.first (first_one a b) here.lent.opening.first here.answered in
+    let one : Plans (g.G.Guardian.is_planned c.plan_at.new.guardian) f a b e a c.in_ok-keeps_first.keeps_first = c.in_ok-plan_at.ensures.planned f a b a here.lent.first to_first in
     let stood = c.plan_at.ensures.same a here.lent.first in
-    let to_second : Brings f a b e b c.in_ok-to_second.to_second =
-    c.in_ok-to_second.ensures f a b b here.lent here.lent.second (second_one a b apart) here.lent.opening.second here.answered in
-    let other : Plans (g.G.Guardian.is_planned c.plan_at-2.new.guardian) f a b e b c.in_ok-keeps_second.keeps_second = c.in_ok-keeps_second.ensures.planned f a b b here.lent.second to_second in
+    let to_second : Brings f a b e b c.in_ok-keeps_second.keeps_second c.brought_to-2.new.message =
+    c.in_ok-keeps_second.ensures f a b b here.lent here.lent.second (second_one a b apart) here.lent.opening.second here.answered in
+    let other : Plans (g.G.Guardian.is_planned c.plan_at-2.new.guardian) f a b e b c.in_ok-keeps_second.keeps_second = c.in_ok-plan_at-2.ensures.planned f a b b here.lent.second to_second in
     let stood_also = c.plan_at-2.ensures.same b here.lent.second in
     let old : View = g.G.Guardian.stored c.args.second.now in
     let mid : View = g.G.Guardian.stored c.plan_at-2.new.guardian in
@@ -245,9 +245,9 @@ returns-in_err-number-clause-second_store g c = λ f a b here.
 pub returns-in_err-number-2-clause-first_store : goal.returns-in_err-number-2-clause-first_store
 returns-in_err-number-2-clause-first_store g c = λ f a b here.
     let e : Event = c.args.event.now in
-    let to_first : Brings f a b e a c.in_ok-to_first.to_first =
-    c.in_ok-to_first.ensures f a b a here.lent here.lent.first (first_one a b) here.lent.opening.first here.answered in
-    let one : Plans (g.G.Guardian.is_planned c.plan_at.new.guardian) f a b e a c.in_ok-keeps_first.keeps_first = c.in_ok-keeps_first.ensures.planned f a b a here.lent.first to_first in
+    let to_first : Brings f a b e a c.in_ok-keeps_first.keeps_first c.brought_to.new.message =
+    c.in_ok-keeps_first.ensures f a b a here.lent here.lent.first (first_one a b) here.lent.opening.first here.answered in
+    let one : Plans (g.G.Guardian.is_planned c.plan_at.new.guardian) f a b e a c.in_ok-keeps_first.keeps_first = c.in_ok-plan_at.ensures.planned f a b a here.lent.first to_first in
     let stood = c.plan_at.ensures.same a here.lent.first in
     let old : View = g.G.Guardian.stored c.args.first.now in
     let mid : View = g.G.Guardian.stored c.plan_at.new.guardian in
@@ -262,9 +262,9 @@ returns-in_err-number-2-clause-second_store g c = λ f a b here.
     let apart : (a.number == b.number) ≡ false =
     differ_as (g.G.Guardian.stands c.args.first.now) (g.G.Guardian.stands c.args.second.now) some.1 some.2 a b c.number.result c.number-2.result
     c.number.ensures.number c.number-2.ensures.number some.3.lent.first some.3.lent.second here.lent.first here.lent.second some.4 in
-    let to_second : Brings f a b e b c.in_ok-to_second.to_second =
-    c.in_ok-to_second.ensures f a b b here.lent here.lent.second (second_one a b apart) here.lent.opening.second here.answered in
-    let other : Plans (g.G.Guardian.is_planned c.plan_at-2.new.guardian) f a b e b c.in_ok-keeps_second.keeps_second = c.in_ok-keeps_second.ensures.planned f a b b here.lent.second to_second in
+    let to_second : Brings f a b e b c.in_ok-keeps_second.keeps_second c.brought_to-2.new.message =
+    c.in_ok-keeps_second.ensures f a b b here.lent here.lent.second (second_one a b apart) here.lent.opening.second here.answered in
+    let other : Plans (g.G.Guardian.is_planned c.plan_at-2.new.guardian) f a b e b c.in_ok-keeps_second.keeps_second = c.in_ok-plan_at-2.ensures.planned f a b b here.lent.second to_second in
     let stood_also = c.plan_at-2.ensures.same b here.lent.second in
     let old : View = g.G.Guardian.stored c.args.second.now in
     let mid : View = g.G.Guardian.stored c.plan_at-2.new.guardian in
@@ -275,9 +275,9 @@ returns-in_err-number-2-clause-second_store g c = λ f a b here.
 pub returns-in_ok-number-clause-first_store : goal.returns-in_ok-number-clause-first_store
 returns-in_ok-number-clause-first_store g c = λ f a b here.
     let e : Event = c.args.event.now in
-    let to_first : Brings f a b e a c.in_ok-to_first.to_first =
-    c.in_ok-to_first.ensures f a b a here.lent here.lent.first (first_one a b) here.lent.opening.first here.answered in
-    let one : Plans (g.G.Guardian.is_planned c.plan_at.new.guardian) f a b e a c.in_ok-keeps_first.keeps_first = c.in_ok-keeps_first.ensures.planned f a b a here.lent.first to_first in
+    let to_first : Brings f a b e a c.in_ok-keeps_first.keeps_first c.brought_to.new.message =
+    c.in_ok-keeps_first.ensures f a b a here.lent here.lent.first (first_one a b) here.lent.opening.first here.answered in
+    let one : Plans (g.G.Guardian.is_planned c.plan_at.new.guardian) f a b e a c.in_ok-keeps_first.keeps_first = c.in_ok-plan_at.ensures.planned f a b a here.lent.first to_first in
     let stood = c.plan_at.ensures.same a here.lent.first in
     let old : View = g.G.Guardian.stored c.args.first.now in
     let mid : View = g.G.Guardian.stored c.plan_at.new.guardian in
@@ -292,13 +292,13 @@ returns-in_ok-number-clause-second_store g c = λ f a b here.
     let apart : (a.number == b.number) ≡ false =
     differ_as (g.G.Guardian.stands c.args.first.now) (g.G.Guardian.stands c.args.second.now) some.1 some.2 a b c.number.result c.number-2.result
     c.number.ensures.number c.number-2.ensures.number some.3.lent.first some.3.lent.second here.lent.first here.lent.second some.4 in
-    let to_first : Brings f a b e a c.in_ok-to_first.to_first =
-    c.in_ok-to_first.ensures f a b a here.lent here.lent.first (first_one a b) here.lent.opening.first here.answered in
-    let one : Plans (g.G.Guardian.is_planned c.plan_at.new.guardian) f a b e a c.in_ok-keeps_first.keeps_first = c.in_ok-keeps_first.ensures.planned f a b a here.lent.first to_first in
+    let to_first : Brings f a b e a c.in_ok-keeps_first.keeps_first c.brought_to.new.message =
+    c.in_ok-keeps_first.ensures f a b a here.lent here.lent.first (first_one a b) here.lent.opening.first here.answered in
+    let one : Plans (g.G.Guardian.is_planned c.plan_at.new.guardian) f a b e a c.in_ok-keeps_first.keeps_first = c.in_ok-plan_at.ensures.planned f a b a here.lent.first to_first in
     let stood = c.plan_at.ensures.same a here.lent.first in
-    let to_second : Brings f a b e b c.in_ok-to_second.to_second =
-    c.in_ok-to_second.ensures f a b b here.lent here.lent.second (second_one a b apart) here.lent.opening.second here.answered in
-    let other : Plans (g.G.Guardian.is_planned c.plan_at-2.new.guardian) f a b e b c.in_ok-keeps_second.keeps_second = c.in_ok-keeps_second.ensures.planned f a b b here.lent.second to_second in
+    let to_second : Brings f a b e b c.in_ok-keeps_second.keeps_second c.brought_to-2.new.message =
+    c.in_ok-keeps_second.ensures f a b b here.lent here.lent.second (second_one a b apart) here.lent.opening.second here.answered in
+    let other : Plans (g.G.Guardian.is_planned c.plan_at-2.new.guardian) f a b e b c.in_ok-keeps_second.keeps_second = c.in_ok-plan_at-2.ensures.planned f a b b here.lent.second to_second in
     let stood_also = c.plan_at-2.ensures.same b here.lent.second in
     let old : View = g.G.Guardian.stored c.args.second.now in
     let mid : View = g.G.Guardian.stored c.plan_at-2.new.guardian in
@@ -310,9 +310,9 @@ returns-in_ok-number-clause-second_store g c = λ f a b here.
 pub returns-in_ok-number-2-clause-first_store : goal.returns-in_ok-number-2-clause-first_store
 returns-in_ok-number-2-clause-first_store g c = λ f a b here.
     let e : Event = c.args.event.now in
-    let to_first : Brings f a b e a c.in_ok-to_first.to_first =
-    c.in_ok-to_first.ensures f a b a here.lent here.lent.first (first_one a b) here.lent.opening.first here.answered in
-    let one : Plans (g.G.Guardian.is_planned c.plan_at.new.guardian) f a b e a c.in_ok-keeps_first.keeps_first = c.in_ok-keeps_first.ensures.planned f a b a here.lent.first to_first in
+    let to_first : Brings f a b e a c.in_ok-keeps_first.keeps_first c.brought_to.new.message =
+    c.in_ok-keeps_first.ensures f a b a here.lent here.lent.first (first_one a b) here.lent.opening.first here.answered in
+    let one : Plans (g.G.Guardian.is_planned c.plan_at.new.guardian) f a b e a c.in_ok-keeps_first.keeps_first = c.in_ok-plan_at.ensures.planned f a b a here.lent.first to_first in
     let stood = c.plan_at.ensures.same a here.lent.first in
     let old : View = g.G.Guardian.stored c.args.first.now in
     let mid : View = g.G.Guardian.stored c.plan_at.new.guardian in
@@ -328,9 +328,9 @@ returns-in_ok-number-2-clause-second_store g c = λ f a b here.
     let apart : (a.number == b.number) ≡ false =
     differ_as (g.G.Guardian.stands c.args.first.now) (g.G.Guardian.stands c.args.second.now) some.1 some.2 a b c.number.result c.number-2.result
     c.number.ensures.number c.number-2.ensures.number some.3.lent.first some.3.lent.second here.lent.first here.lent.second some.4 in
-    let to_second : Brings f a b e b c.in_ok-to_second.to_second =
-    c.in_ok-to_second.ensures f a b b here.lent here.lent.second (second_one a b apart) here.lent.opening.second here.answered in
-    let other : Plans (g.G.Guardian.is_planned c.plan_at-2.new.guardian) f a b e b c.in_ok-keeps_second.keeps_second = c.in_ok-keeps_second.ensures.planned f a b b here.lent.second to_second in
+    let to_second : Brings f a b e b c.in_ok-keeps_second.keeps_second c.brought_to-2.new.message =
+    c.in_ok-keeps_second.ensures f a b b here.lent here.lent.second (second_one a b apart) here.lent.opening.second here.answered in
+    let other : Plans (g.G.Guardian.is_planned c.plan_at-2.new.guardian) f a b e b c.in_ok-keeps_second.keeps_second = c.in_ok-plan_at-2.ensures.planned f a b b here.lent.second to_second in
     let stood_also = c.plan_at-2.ensures.same b here.lent.second in
     let old : View = g.G.Guardian.stored c.args.second.now in
     let mid : View = g.G.Guardian.stored c.plan_at-2.new.guardian in
@@ -395,13 +395,13 @@ returns-in_ok-number-clause-done g c = λ f a b here.
     let apart : (a.number == b.number) ≡ false =
     differ_as (g.G.Guardian.stands c.args.first.now) (g.G.Guardian.stands c.args.second.now) some.1 some.2 a b c.number.result c.number-2.result
     c.number.ensures.number c.number-2.ensures.number some.3.lent.first some.3.lent.second here.lent.first here.lent.second some.4 in
-    let to_first : Brings f a b e a c.in_ok-to_first.to_first =
-    c.in_ok-to_first.ensures f a b a here.lent here.lent.first (first_one a b) here.lent.opening.first here.answered in
-    let one : Plans (g.G.Guardian.is_planned c.plan_at.new.guardian) f a b e a c.in_ok-keeps_first.keeps_first = c.in_ok-keeps_first.ensures.planned f a b a here.lent.first to_first in
+    let to_first : Brings f a b e a c.in_ok-keeps_first.keeps_first c.brought_to.new.message =
+    c.in_ok-keeps_first.ensures f a b a here.lent here.lent.first (first_one a b) here.lent.opening.first here.answered in
+    let one : Plans (g.G.Guardian.is_planned c.plan_at.new.guardian) f a b e a c.in_ok-keeps_first.keeps_first = c.in_ok-plan_at.ensures.planned f a b a here.lent.first to_first in
     let stood = c.plan_at.ensures.same a here.lent.first in
-    let to_second : Brings f a b e b c.in_ok-to_second.to_second =
-    c.in_ok-to_second.ensures f a b b here.lent here.lent.second (second_one a b apart) here.lent.opening.second here.answered in
-    let other : Plans (g.G.Guardian.is_planned c.plan_at-2.new.guardian) f a b e b c.in_ok-keeps_second.keeps_second = c.in_ok-keeps_second.ensures.planned f a b b here.lent.second to_second in
+    let to_second : Brings f a b e b c.in_ok-keeps_second.keeps_second c.brought_to-2.new.message =
+    c.in_ok-keeps_second.ensures f a b b here.lent here.lent.second (second_one a b apart) here.lent.opening.second here.answered in
+    let other : Plans (g.G.Guardian.is_planned c.plan_at-2.new.guardian) f a b e b c.in_ok-keeps_second.keeps_second = c.in_ok-plan_at-2.ensures.planned f a b b here.lent.second to_second in
     let stood_also = c.plan_at-2.ensures.same b here.lent.second in
     let n = c.in_ok-number.number in
     record {
@@ -426,13 +426,13 @@ returns-in_ok-number-2-clause-done g c = λ f a b here.
     let apart : (a.number == b.number) ≡ false =
     differ_as (g.G.Guardian.stands c.args.first.now) (g.G.Guardian.stands c.args.second.now) some.1 some.2 a b c.number.result c.number-2.result
     c.number.ensures.number c.number-2.ensures.number some.3.lent.first some.3.lent.second here.lent.first here.lent.second some.4 in
-    let to_first : Brings f a b e a c.in_ok-to_first.to_first =
-    c.in_ok-to_first.ensures f a b a here.lent here.lent.first (first_one a b) here.lent.opening.first here.answered in
-    let one : Plans (g.G.Guardian.is_planned c.plan_at.new.guardian) f a b e a c.in_ok-keeps_first.keeps_first = c.in_ok-keeps_first.ensures.planned f a b a here.lent.first to_first in
+    let to_first : Brings f a b e a c.in_ok-keeps_first.keeps_first c.brought_to.new.message =
+    c.in_ok-keeps_first.ensures f a b a here.lent here.lent.first (first_one a b) here.lent.opening.first here.answered in
+    let one : Plans (g.G.Guardian.is_planned c.plan_at.new.guardian) f a b e a c.in_ok-keeps_first.keeps_first = c.in_ok-plan_at.ensures.planned f a b a here.lent.first to_first in
     let stood = c.plan_at.ensures.same a here.lent.first in
-    let to_second : Brings f a b e b c.in_ok-to_second.to_second =
-    c.in_ok-to_second.ensures f a b b here.lent here.lent.second (second_one a b apart) here.lent.opening.second here.answered in
-    let other : Plans (g.G.Guardian.is_planned c.plan_at-2.new.guardian) f a b e b c.in_ok-keeps_second.keeps_second = c.in_ok-keeps_second.ensures.planned f a b b here.lent.second to_second in
+    let to_second : Brings f a b e b c.in_ok-keeps_second.keeps_second c.brought_to-2.new.message =
+    c.in_ok-keeps_second.ensures f a b b here.lent here.lent.second (second_one a b apart) here.lent.opening.second here.answered in
+    let other : Plans (g.G.Guardian.is_planned c.plan_at-2.new.guardian) f a b e b c.in_ok-keeps_second.keeps_second = c.in_ok-plan_at-2.ensures.planned f a b b here.lent.second to_second in
     let stood_also = c.plan_at-2.ensures.same b here.lent.second in
     let n = c.in_ok-number-2.number in
     record {

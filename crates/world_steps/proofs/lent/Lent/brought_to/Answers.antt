@@ -13,10 +13,10 @@ returns g c = λ f a b x lent stood one opening answered.
     let yes : c.is_named.result ≡ true = grind arith in
     let named : names_guardian e.step (events_there f.registry) x.number ≡ true =
     ap (λ k. names_guardian e.step (events_there f.registry) k) (sym (c.number.ensures.number x stood)) ∙ sym (is_as_named c.requires f lent.forest _ _ c.is_named.ensures) ∙ yes in
-    let message = c.in_ok-message.ensures f a b x lent stood one in
+    let message = c.in_ok-fill.ensures f a b x lent stood one in
     record {
       named = named;
       carried = message;
-      agrees = agrees_at f a b x e (carried_of c.in_ok-message.field-0) opening one.past one.number message answered.agrees named;
-      owed = owed_at f a b x e (carried_of c.in_ok-message.field-0) opening one.past message answered named;
+      agrees = agrees_at f a b x e (carried_of c.fill.new.message) opening one.past one.number message answered.agrees named;
+      owed = owed_at f a b x e (carried_of c.fill.new.message) opening one.past message answered named;
     }

@@ -1,4 +1,4 @@
-use Rattle.std.proofs.Common.{IfOk, ◌==◌, ap, subst, sym, List, ℕ, ◌∙◌, ◌≡◌}
+use Rattle.std.proofs.Common.{OnOk, ◌==◌, ap, subst, sym, List, ℕ, ◌∙◌, ◌≡◌}
 use Rattle.std.proofs.lemmas.Bool.{ne_eqb}
 use Rattle.action_names.specs.Names.{Name}
 use Rattle.run_model.specs.Actions.{names_begun}
@@ -12,12 +12,12 @@ use Rattle.world_steps.proofs.lent.Lent.new_dependencies.Goals as goal
 
 pub returns-then-home-at : goal.returns-then-home-at
 returns-then-home-at g c = λ f a b lent.
-    ap sent_of c.new.ensures.items
+    ap sent_of c.clear.ensures.items
     ∙ new_elsewhere f a b c.args.event.now c.args.at c.home_of_new-home.result (home_of_same c.args.named c.home_of_new-home.result (step_is c.event.view_is) c.home_of_new-home.ensures f (c.requires.first f lent.forest) (c.requires.second f lent.forest)) (ne_eqb _ _ c.if-home-at.true)
 
 pub returns : goal.returns
 returns g c = λ f a b lent.
-    let P : List (Name × List (ℕ × ℕ)) → Type 0 = λ all. IfOk c.dependencies_of_new.result (λ sent. sent_of sent.items ≡ all) in
+    let P : List (Name × List (ℕ × ℕ)) → Type 0 = λ all. OnOk c.dependencies_of_new.result (sent_of c.dependencies_of_new.new.sent.items ≡ all) in
     subst P
     (ap (λ ns. new_from f c.home_of_new-home.result c.crashes_at-life.result ns)
     (c.names_begun.ensures ∙ ap names_begun (sym (answer_is c.event.view_is)))

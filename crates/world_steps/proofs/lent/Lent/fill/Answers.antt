@@ -8,7 +8,7 @@ use Rattle.layer_contracts.specs.Guardians.{GuardianState, lent_two}
 use Rattle.layer_contracts.specs.Forests.{ForestState}
 use Rattle.guardian_laws.specs.Sent.{sent_of}
 use Rattle.world_steps.specs.Lending.{dependencies_two}
-use Rattle.world_steps.proofs.lent.Lent.message.Goals as goal
+use Rattle.world_steps.proofs.lent.Lent.fill.Goals as goal
 
 abbrev made : Option ℕ → ℕ → List Name → List (ℕ × ℕ) → List (Name × List (ℕ × ℕ)) → List (Name × Bool) → Carried
 made sender life aborts counts dependencies outcomes = record {
@@ -44,7 +44,7 @@ pub returns : goal.returns
 returns g c = λ f a b x lent stood one.
     let step = step_is c.event.view_is in
     carried_is f a b c.args.event.now x.number c.number.result c.number-2.result c.sender-sender.result c.life_of-life.result
-    c.in_ok-aborts.aborts c.in_ok-aborts.counts.items (sent_of c.in_ok-dependencies.field-0.items) c.in_ok-outcomes.field-0.items
+    c.in_ok-aborts.aborts c.in_ok-aborts.counts.items (sent_of c.dependencies.new.sent.items) c.outcomes.new.outcomes.items
     (c.number.ensures.number x stood) (c.number-2.ensures.number x stood) (c.sender-sender.ensures f a b lent ∙ ap (λ s. sender_lent s c.number.result f.registry (lent_two a b)) (sym step))
     (c.life_of-life.ensures a b lent.first lent.second) (c.in_ok-aborts.ensures.aborts f a b x lent stood one)
     (c.in_ok-aborts.ensures.counts f a b x lent stood one) (c.in_ok-dependencies.ensures f a b lent) (c.in_ok-outcomes.ensures f a b x lent stood one
