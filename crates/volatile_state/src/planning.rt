@@ -1,5 +1,5 @@
 //! Making room for an event.
-ghost use Rattle.std.specs.Prelude.{OnOk, IsTrue};
+ghost use Rattle.std.specs.Prelude.{◌≡◌, OnOk, IsTrue};
 ghost use Rattle.atomic_object.specs.Staying.{OutcomesRise};
 ghost use Rattle.run_model.specs.Runs.{is_accepted};
 ghost use Rattle.local_laws.specs.Owed.{IsOwed};
@@ -13,6 +13,7 @@ use crate::memory::Memory;
 use crate::plan::Plan;
 use layer_contracts::{EventRef, Message};
 use orphans::News;
+use run_model::Name;
 use std::alloc::AllocError;
 
 impl Memory {
@@ -23,22 +24,23 @@ impl Memory {
     pub fn plan(
         &mut self,
         event: &EventRef<'_>,
-        message: Message,
+        message: &Message,
         plan: &mut Plan,
     ) -> Result<(), AllocError>
         requires accepted { IsTrue (is_accepted event.now.answer) }
-        requires rising { OutcomesRise message.outcomes.items }
+        requires rising { OutcomesRise message.now.outcomes.items }
         ensures same { (s : GuardianState) → IsSound self.old s → IsSound self.new s }
         ensures fits { OnOk result (FitsPlan plan.new self.new) }
         ensures planned { OnOk result ((s : GuardianState) → IsSound self.old s
-            → IsOwed s.opening s.number (local_event event.now message) s.past event.now.step
-            → Agrees s.opening s.number (local_event event.now message) s.past
-            → IsPlanOf plan.new self.new s (news_in event.now message)) }
+            → IsOwed s.opening s.number (local_event event.now message.now) s.past event.now.step
+            → Agrees s.opening s.number (local_event event.now message.now) s.past
+            → IsPlanOf plan.new self.new s (news_in event.now message.now)) }
     {
         if self.roster.crashes() == u64::MAX {
             return Err(AllocError);
         }
         let outcomes = message.outcomes.as_slice();
+        fill_outcomes(&mut plan.outcomes, outcomes)?;
         let counts = message.counts.as_slice();
         let dependencies = message.dependencies.as_slice();
         let news = News {
@@ -55,7 +57,17 @@ impl Memory {
         self.roster
             .plan(&mut self.places, event, dependencies, &mut plan.entry)?;
         plan.sender = message.sender;
-        plan.outcomes = message.outcomes;
         Ok(())
     }
+}
+
+// Copies the outcomes, in place of those that were there.
+fn fill_outcomes(into: &mut Vec<(Name, bool)>, outcomes: &[(Name, bool)]) -> Result<(), AllocError>
+    ensures { OnOk result (into.new.items ≡ outcomes.now) }
+{
+    into.clear();
+    for (told, committed) in outcomes {
+        into.push((told.copy()?, *committed))?;
+    }
+    Ok(())
 }

@@ -73,13 +73,13 @@ returns-clause-planned c = λ s at owed agrees.
     record {
       next = record { accepted = c.requires.accepted; owed = owed; agrees = agrees };
       sender = refl;
-      brought = refl;
-      heard = more_heard c.plan-2.new.self c.args.message.outcomes.items c.plan-2.new.heard c.plan-3.ensures.more
+      brought = c.in_ok-fill_outcomes.ensures ∙ c.as_slice-outcomes.ensures.value;
+      heard = more_heard c.plan-2.new.self c.args.message.now.outcomes.items c.plan-2.new.heard c.plan-3.ensures.more
           (subst (λ l. IsHeard c.plan-2.new.places c.plan-2.new.self l c.plan-2.new.heard) c.as_slice-outcomes.ensures.value c.in_ok-plan-2.ensures.heard);
       lesson =
-          subst (λ l. IsLesson c.args.message.sender c.args.message.life c.args.message.aborts l c.args.message.outcomes.items c.plan_lesson.new.lesson)
+          subst (λ l. IsLesson c.args.message.now.sender c.args.message.now.life c.args.message.now.aborts l c.args.message.now.outcomes.items c.plan_lesson.new.lesson)
           c.as_slice-counts.ensures.value
-          (subst (λ l. IsLesson c.args.message.sender c.args.message.life c.args.message.aborts c.as_slice-counts.result.now l c.plan_lesson.new.lesson)
+          (subst (λ l. IsLesson c.args.message.now.sender c.args.message.now.life c.args.message.now.aborts c.as_slice-counts.result.now l c.plan_lesson.new.lesson)
           c.as_slice-outcomes.ensures.value c.in_ok-plan_lesson.ensures.news);
       entry =
           subst (λ l. IsEntry (table c.plan-3.new.places c.plan-3.new.self) c.args.event.now (sent_of l) c.plan-3.new.entry)
