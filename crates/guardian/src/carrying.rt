@@ -89,7 +89,7 @@ impl<S: Stable> layer_contracts::Guardian for Guardian<S> {
         self.memory.unsent_counts(&to.memory)
     }
 
-    fn plan(&mut self, event: &EventRef<'_>, message: Message) -> Result<(), AllocError> {
+    fn plan(&mut self, event: &EventRef<'_>, message: &Message) -> Result<(), AllocError> {
         self.memory.plan(event, message, &mut self.plan)
     }
 
