@@ -19,7 +19,7 @@ use one_run::Part;
 use run_model::Event;
 use std::alloc::Global;
 use std::marker::PhantomData;
-use world_steps::{NamedGuardians, keep_one, keep_two};
+use world_steps::{Messages, NamedGuardians, keep_one, keep_two};
 
 /// Keeps an event at two guardians, which have these numbers, and in the registry. After an error
 /// all stand where they stood, and nothing was added.
@@ -67,7 +67,17 @@ pub(crate) fn keep_at_two<K: OfRun, T: Deed, R: Forest, G: Guardian>(
         part,
         of: PhantomData,
     };
-    let kept = keep_two(alloc, registry, one, other, named, event, &mut drawing);
+    let mut messages = Messages::empty(alloc);
+    let kept = keep_two(
+        alloc,
+        &mut messages,
+        registry,
+        one,
+        other,
+        named,
+        event,
+        &mut drawing,
+    );
     let Drawing {
         shared: _,
         part,
@@ -121,7 +131,16 @@ pub(crate) fn keep_at_one<K: OfRun, T: Deed, R: Forest, G: Guardian>(
         part,
         of: PhantomData,
     };
-    let kept = keep_one(alloc, registry, guardian, named, event, &mut drawing);
+    let mut messages = Messages::empty(alloc);
+    let kept = keep_one(
+        alloc,
+        &mut messages,
+        registry,
+        guardian,
+        named,
+        event,
+        &mut drawing,
+    );
     let Drawing {
         shared: _,
         part,

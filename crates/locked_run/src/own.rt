@@ -1,14 +1,11 @@
 //! What a guardian does by itself: operations of actions at home there, its own crash and recovery.
-ghost use Rattle.std.specs.Prelude.{◌≡◌, ◌==◌, ◌<◌, [], false, true, IfOk, IsErrOf, IsTrue, MatchOption, OnErr, map};
-ghost use Rattle.std.specs.List.Sorted.{IsStrictlySortedBy};
-ghost use Rattle.action_names.specs.Names.{name_cmp};
+ghost use Rattle.std.specs.Prelude.{◌≡◌, ◌==◌, ◌<◌, [], false, true, IfOk, IsErrOf, IsTrue, MatchOption, OnErr};
 ghost use Rattle.one_run.specs.Pieces.{first_left, seen_of};
 ghost use Rattle.one_run.specs.Rules.{Adds, others_of};
 ghost use Rattle.run_model.specs.Answers.{answer_of};
-ghost use Rattle.run_model.specs.LocalReadings.{nothing_carried};
 ghost use Rattle.run_model.specs.Runs.{IsRun, is_accepted};
 ghost use Rattle.layer_contracts.specs.Guardians.{GuardianState, IsNext, by_itself, kept, stamped};
-ghost use Rattle.layer_contracts.specs.Messages.{carried_of, is_operation};
+ghost use Rattle.layer_contracts.specs.Messages.{is_operation};
 ghost use Rattle.layer_contracts.specs.Stores.{CountsFailure, LeavesStore, fault_in};
 ghost use Rattle.layer_contracts.specs.declared.guardian.Fault.TheVariants.{Stable};
 ghost use Rattle.world_steps.specs.Keeping.{StandsStill};
@@ -24,7 +21,7 @@ use crate::stepping::receipted;
 use crate::stored::StoredHistory;
 use layer_contracts::{Draw, EventRef, Fault, Guardian, Message};
 use one_run::Part;
-use run_model::{Answer, Event, Names, Refusal, Step};
+use run_model::{Answer, Event, Refusal, Step};
 use std::alloc::{AllocError, Global};
 use std::marker::{Brand, PhantomData};
 use world_steps::answer_here;
@@ -72,21 +69,6 @@ fn answer_own<G: Guardian>(
     }
 }
 
-/// A message that brings nothing.
-fn no_message(alloc: Global) -> Message
-    ensures carried { carried_of result ≡ nothing_carried }
-    ensures rising { IsStrictlySortedBy name_cmp (map (λ x. x.0) result.outcomes.items) }
-{
-    Message {
-        sender: None,
-        life: 0,
-        aborts: Names::new(alloc),
-        counts: Vec::new(alloc),
-        dependencies: Vec::new(alloc),
-        outcomes: Vec::new(alloc),
-    }
-}
-
 fn is_operation(step: &Step) -> bool
     ensures { result ≡ is_operation step.now }
 {
@@ -119,7 +101,8 @@ fn keep_by_itself<G: Guardian, D: Draw>(
     if is_operation(event.step) {
         return Ok(guardian.operate(event, stamp)?);
     }
-    guardian.plan(event, no_message(alloc))?;
+    let nothing = Message::empty(alloc);
+    guardian.plan(event, &nothing)?;
     guardian.carry_out(event, stamp)
 }
 

@@ -60,8 +60,8 @@ returns-in-Ok-clause-store g c =
     first_stored a c.args.event.now.step c.args.event.now.answer r c.requires.names adds _ _
     (c.in-Ok.ensures.store (forest_of o past) (standing o past c.args.number) (answered a e r c.requires.names))
 
-pub returns-in-Err-clause-store : goal.returns-in-Err-clause-store
-returns-in-Err-clause-store g c =
+pub returns-clause-store : goal.returns-clause-store
+returns-clause-store g c =
     let o = g.K.OfRun.opening in
     let v = c.args.part.token.me.0 in
     let past = seen_of v in

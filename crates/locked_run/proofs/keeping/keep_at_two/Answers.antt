@@ -75,8 +75,8 @@ returns-in-Ok-clause-second_store g c =
     second_stored a c.args.event.now.step c.args.event.now.answer r c.requires.names adds _ _
     (c.in-Ok.ensures.second_store (forest_of o past) (standing o past c.args.low) (standing o past c.args.high) (answered a e r c.requires.names))
 
-pub returns-in-Err-clause-first_store : goal.returns-in-Err-clause-first_store
-returns-in-Err-clause-first_store g c =
+pub returns-clause-first_store : goal.returns-clause-first_store
+returns-clause-first_store g c =
     let o = g.K.OfRun.opening in
     let v = c.args.part.token.me.0 in
     let past = seen_of v in
@@ -88,8 +88,8 @@ returns-in-Err-clause-first_store g c =
     (first_failed a c.args.event.now.step c.args.event.now.answer r c.requires.names _ _ c.in-Err.fault
     (c.in-Err.ensures.first_store (forest_of o past) (standing o past c.args.low) (standing o past c.args.high) (answered a e r c.requires.names)))
 
-pub returns-in-Err-clause-second_store : goal.returns-in-Err-clause-second_store
-returns-in-Err-clause-second_store g c =
+pub returns-clause-second_store : goal.returns-clause-second_store
+returns-clause-second_store g c =
     let o = g.K.OfRun.opening in
     let v = c.args.part.token.me.0 in
     let past = seen_of v in
