@@ -27,6 +27,7 @@ use std::alloc::{AllocError, Global};
 use std::marker::Model;
 use std::sync::Arc;
 use stepping::MakesSteps;
+use world_steps::Messages;
 
 /// Guardians over stable stores, their objects and the actions on them.
 #[derive(Drop)]
@@ -36,6 +37,8 @@ pub struct World<S: Stable> {
     history: PackedHistory,
     registry: Registry,
     guardians: Vec<Guardian<S>>,
+    /// Those of the last step, whose room is used again.
+    messages: Messages,
 }
 
 impl<S: Stable> Model for World<S> {
@@ -138,6 +141,7 @@ impl<S: Stable> World<S> {
             history: PackedHistory::new(alloc),
             registry,
             guardians,
+            messages: Messages::empty(alloc),
         })
     }
 
@@ -164,6 +168,7 @@ impl<S: Stable> World<S> {
     {
         world_steps::step(
             self.alloc,
+            &mut self.messages,
             &mut self.registry,
             &mut self.guardians,
             &mut self.history,
