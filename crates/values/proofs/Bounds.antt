@@ -1,14 +1,17 @@
--- An array that is given other bounds: its form.
+-- An array that is given other bounds and items: its form.
 use Rattle.std.proofs.Common.{◌≡◌, ℕ, zero, suc, ◌+◌, ◌-◌, ◌≤◌, min, ℤ, pos, ◌+ℤ◌, ◌≤ℤ◌, List, [], ◌∷◌, ◌++◌, length, take, drop, replicate, refl, sym, ap, ◌∙◌, subst, arith, length-append, length-take, length-drop}
-use Rattle.std.specs.Prelude.{◌-ℤ◌}
+use Rattle.std.specs.Prelude.{◌-ℤ◌, Bool, true, false, int_le, unsigned_abs, slice_set, if◌then◌else◌}
 use Rattle.std.proofs.lemmas.List.{length-replicate}
 use Rattle.std.specs.List.{AllByRecursion}
 use Rattle.values.specs.declared.value.Value.{Value}
 use Rattle.values.specs.declared.value.Kind.{Kind}
 use Rattle.values.specs.declared.value.Kind.TheVariants as kind
 use Rattle.values.specs.Values.{kind_of}
-use Rattle.values.specs.Items.{ArrayContent, HasArrayForm, max_items, least_index, greatest_index}
-use Rattle.values.specs.Bounds.{steps_up, plain_value, items_below, new_below, items_kept, new_above, with_bounds}
+use Rattle.values.specs.Items.{ArrayContent, HasArrayForm, max_items, least_index, greatest_index, set_item}
+use Rattle.values.specs.Bounds.{steps_up, plain_value, items_below, new_below, items_kept, new_above, with_bounds, stored_over, AreOfKind}
+use Rattle.values.specs.Chunks.{cut_items, item_stored, items_stored}
+use Rattle.values.proofs.Items.{each-set}
+use Rattle.values.proofs.Joined.{many_set}
 
 kind_plain : (k : Kind) → kind_of (plain_value k) ≡ k
 kind_plain kind.Int = refl
@@ -80,3 +83,59 @@ has_bounds a low size l o up down count dropped below kept xs ys lows own many u
     ∙ ap (λ n. replicate below v ++ (take n (drop (items_below a low) a.items) ++ replicate ((size - below) - n) v)) k
     ∙ ap (λ n. replicate n v ++ (take (items_kept a low size) (drop (items_below a low) a.items) ++ replicate ((size - n) - items_kept a low size) v)) b in
     λ i. (let c : ArrayContent = record { kind = a.kind; low = lows i; items = items i } in c)
+
+-- ---- and then items
+
+-- the items alone change
+stored_is : (a : ArrayContent) (es : List (ℤ × Value)) → stored_over a es ≡ record a { items = items_stored a.low a.items es }
+stored_is a [] = refl
+stored_is a (e ∷ es) = ap (λ b. set_item b e.0 e.1) (stored_is a es)
+
+many_put : (low : ℤ) (xs : List Value) (i : ℤ) (v : Value) → length (item_stored low xs i v) ≡ length xs
+many_put low xs i v = by_test (int_le low i) where
+  by_test : (t : Bool) → length (if t then slice_set xs (unsigned_abs (i -ℤ low)) v else xs) ≡ length xs
+  by_test true = many_set xs (unsigned_abs (i -ℤ low)) v
+  by_test false = refl
+
+many_stored : (low : ℤ) (xs : List Value) (es : List (ℤ × Value)) → length (items_stored low xs es) ≡ length xs
+many_stored low xs [] = refl
+many_stored low xs (e ∷ es) = many_put low (items_stored low xs es) e.0 e.1 ∙ many_stored low xs es
+
+each_put : (P : Value → Type 0) (low : ℤ) (xs : List Value) (i : ℤ) (v : Value) → AllByRecursion P xs → P v → AllByRecursion P (item_stored low xs i v)
+each_put P low xs i v all h = by_test (int_le low i) where
+  by_test : (t : Bool) → AllByRecursion P (if t then slice_set xs (unsigned_abs (i -ℤ low)) v else xs)
+  by_test true = each-set P xs (unsigned_abs (i -ℤ low)) v all h
+  by_test false = all
+
+each_stored : (P : Value → Type 0) (low : ℤ) (xs : List Value) (es : List (ℤ × Value)) → AllByRecursion P xs → AllByRecursion (λ (e : ℤ × Value). P e.1) es
+    → AllByRecursion P (items_stored low xs es)
+each_stored P low xs [] all h = all
+each_stored P low xs (e ∷ es) all h = each_put P low (items_stored low xs es) e.0 e.1 (each_stored P low xs es all h.1) h.0
+
+-- an array within its limits stays so
+pub form_stored : (a : ArrayContent) (es : List (ℤ × Value)) → HasArrayForm a → AreOfKind a es → HasArrayForm (stored_over a es)
+form_stored a es form kinds =
+    let b : ArrayContent = record { kind = a.kind; low = a.low; items = items_stored a.low a.items es } in
+    let many = many_stored a.low a.items es in
+    subst HasArrayForm (sym (stored_is a es)) (let h : HasArrayForm b = record {
+      within_limit = subst (λ n. n ≤ max_items) (sym many) form.within_limit;
+      of_kind = each_stored (λ v. kind_of v ≡ a.kind) a.low a.items es form.of_kind kinds;
+      low = form.low;
+      high = subst (λ n. ((a.low +ℤ pos n) -ℤ pos 1) ≤ℤ greatest_index) (sym many) form.high;
+    } in h)
+
+-- items that are stored over those of an array, and what they make of the array
+pub stored_from_items : (a b : ArrayContent) (es : List (ℤ × Value)) (xs : List Value) → a ≡ b → xs ≡ items_stored a.low a.items es
+    → (let c : ArrayContent = record { kind = a.kind; low = a.low; items = xs } in c) ≡ stored_over b es
+stored_from_items a b es xs same e =
+    ap (λ ys. (let c : ArrayContent = record { kind = a.kind; low = a.low; items = ys } in c)) e ∙ sym (stored_is a es) ∙ ap (λ (c : ArrayContent). stored_over c es) same
+
+pub kind_with_bounds : (a : ArrayContent) (low : ℤ) (size : ℕ) → (with_bounds a low size).kind ≡ a.kind
+unfolding with_bounds
+kind_with_bounds a low size = refl
+
+pub many_changed : (low : ℤ) (dropped kept below above : ℕ) (v : Value) (xs ys : List Value) (es : List (ℤ × Value)) → below + kept + above ≤ max_items
+    → ys ≡ items_stored low (cut_items dropped kept below above v xs) es → length ys ≤ max_items
+many_changed low dropped kept below above v xs ys es room e =
+    let cut : length (cut_items dropped kept below above v xs) ≡ below + (min kept (length xs - dropped) + above) = simp (length-append, length-replicate, length-take, length-drop) refl in
+    omega (arith, ap (λ zs. length zs) e, many_stored low (cut_items dropped kept below above v xs) es, cut, room)

@@ -1,10 +1,12 @@
--- An array that is given other bounds.
-use Rattle.std.specs.Prelude.{ℕ, ℤ, pos, ◌-ℤ◌, ◌-◌, min, int_lt, unsigned_abs, [], ◌++◌, length, take, drop, replicate, if◌then◌else◌}
+-- An array that is given other bounds and items.
+use Rattle.std.specs.Prelude.{ℕ, ℤ, pos, ◌-ℤ◌, ◌-◌, ◌≡◌, min, int_lt, unsigned_abs, List, [], ◌∷◌, ◌++◌, length, take, drop, replicate, if◌then◌else◌}
+use Rattle.std.specs.List.{AllByRecursion}
 use Rattle.values.specs.declared.value.Value.{Value}
 use Rattle.values.specs.declared.value.Value.TheVariants.{Int, Text}
 use Rattle.values.specs.declared.value.Kind.{Kind}
 use Rattle.values.specs.declared.value.Kind.TheVariants as kind
-use Rattle.values.specs.Items.{ArrayContent}
+use Rattle.values.specs.Values.{kind_of}
+use Rattle.values.specs.Items.{ArrayContent, set_item}
 
 -- how far j lies above i, if it does
 abbrev pub steps_up : ℤ → ℤ → ℕ
@@ -37,3 +39,12 @@ with_bounds a low size = record {
       ++ (take (items_kept a low size) (drop (items_below a low) a.items)
       ++ replicate (new_above a low size) (plain_value a.kind));
 }
+
+-- the array with all these items stored, the first of them last
+abbrev pub stored_over : ArrayContent → List (ℤ × Value) → ArrayContent
+stored_over a [] = a
+stored_over a (e ∷ es) = set_item (stored_over a es) e.0 e.1
+
+-- all items are of the array's kind
+abbrev pub AreOfKind : ArrayContent → List (ℤ × Value) → Type 0
+AreOfKind a es = AllByRecursion (λ e. kind_of e.1 ≡ a.kind) es

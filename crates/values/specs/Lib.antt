@@ -6,3 +6,4 @@ pub mod Tags
 pub mod Totals
 pub mod Contents
 pub mod Bounds
+pub mod Chunks

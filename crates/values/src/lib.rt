@@ -5,6 +5,7 @@
 #![tactic(auto)]
 
 mod array;
+mod chunks;
 mod content;
 mod counter;
 mod record;

@@ -1,6 +1,6 @@
 use Rattle.std.proofs.Common.{◌≡◌, drop}
 use Rattle.std.specs.VecDeque.{deque_capacity}
-use Rattle.values.proofs.array.keep_items.Given as goal
+use Rattle.values.proofs.chunks.keep_items.Given as goal
 
 -- so many items are dropped
 abbrev pub invariant-loop : goal.invariant-loop

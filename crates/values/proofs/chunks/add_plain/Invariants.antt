@@ -1,7 +1,7 @@
 use Rattle.std.proofs.Common.{◌≡◌, ◌++◌, ◌+◌, replicate}
 use Rattle.std.specs.VecDeque.{deque_len, deque_capacity}
 use Rattle.values.specs.Bounds.{plain_value}
-use Rattle.values.proofs.array.add_plain.Given as goal
+use Rattle.values.proofs.chunks.add_plain.Given as goal
 
 -- so many are added behind
 abbrev pub invariant-loop : goal.invariant-loop
