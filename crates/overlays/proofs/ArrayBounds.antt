@@ -1,18 +1,16 @@
 -- An array that is given other bounds, and laid on.
-use Rattle.std.proofs.Common.{◌≡◌, inl, inr, ℕ, zero, suc, ◌+◌, ◌-◌, ◌<◌, ◌≤◌, min, List, [], ◌∷◌, ◌++◌, length, take, drop, replicate, true, Some, None, refl, sym, ap, subst, ◌∙◌, arith, pos, ◌+ℤ◌}
+use Rattle.std.proofs.Common.{◌≡◌, inl, inr, ℕ, zero, suc, ◌+◌, ◌-◌, ◌<◌, ◌≤◌, min, List, [], ◌∷◌, ◌++◌, length, take, drop, replicate, true, Some, None, refl, sym, ap, ◌∙◌, arith, pos, ◌+ℤ◌}
 use Rattle.std.specs.Prelude.{ℤ, Option, is_some, slice_get}
-use Rattle.std.specs.List.{AllByRecursion}
 use Rattle.std.proofs.lemmas.Bool.{false≢true}
 use Rattle.std.proofs.lemmas.Int.{ints}
 use Rattle.std.proofs.lemmas.List.{length-take, length-drop}
 use Rattle.values.specs.declared.value.Value.{Value}
-use Rattle.values.specs.Values.{kind_of}
 use Rattle.values.specs.Items.{ArrayContent, item_at}
-use Rattle.values.specs.Bounds.{steps_up, plain_value, items_below, new_below, items_kept, new_above, with_bounds}
+use Rattle.values.specs.Bounds.{steps_up, plain_value, items_below, new_below, items_kept, new_above, with_bounds, stored_over}
 use Rattle.values.proofs.Bounds.{size_with_bounds}
 use Rattle.overlays.specs.declared.bounds.Bounds.{Bounds}
 use Rattle.overlays.specs.RecordOverlays.{or_below}
-use Rattle.overlays.specs.ArrayOverlays.{ArrayChange, ArrayFits, AreOfKind, stored_over, changed_at, bounds_of, bounds_over, is_within, item_over, item_or_zero, laid_array}
+use Rattle.overlays.specs.ArrayOverlays.{ArrayChange, ArrayFits, changed_at, bounds_of, bounds_over, is_within, item_over, item_or_zero, laid_array}
 use Rattle.overlays.proofs.ArrayLaws.{laid_is, some_or_zero, below_test}
 use Rattle.overlays.proofs.ArrayJoins.{stored_kind, stored_bounds, stored_items}
 use Rattle.overlays.proofs.Places.{Place, place, item_at_place, item_below, not_within_below, within_place}
@@ -91,10 +89,10 @@ pub kind_with_bounds : (a : ArrayContent) (b : Bounds) → (with_bounds a b.low 
 unfolding with_bounds
 kind_with_bounds a b = refl
 
--- where the bounds change, to set them and to store all items lays the overlay
-pub laid_in_bounds : (a : ArrayContent) (o : ArrayChange) (b : Bounds) → ArrayFits a o → o.bounds ≡ Some b → stored_over (with_bounds a b.low b.size) o.items ≡ laid_array a o
+-- to set the bounds and to store all items lays the overlay
+pub laid_in_bounds : (a : ArrayContent) (o : ArrayChange) (b : Bounds) → ArrayFits a o → bounds_over a o.bounds ≡ b → stored_over (with_bounds a b.low b.size) o.items ≡ laid_array a o
 laid_in_bounds a o b fits is =
-    laid_is a o (stored_over w o.items) (stored_kind w o.items ∙ kind_with_bounds a b) (stored_bounds w o.items ∙ bounds_with_bounds a b ∙ sym (ap (bounds_over a) is)) each
+    laid_is a o (stored_over w o.items) (stored_kind w o.items ∙ kind_with_bounds a b) (stored_bounds w o.items ∙ bounds_with_bounds a b ∙ sym is) each
   where
     w : ArrayContent
     w = with_bounds a b.low b.size
@@ -109,10 +107,6 @@ laid_in_bounds a o b fits is =
 
     each : (i : ℤ) → is_within (bounds_over a o.bounds) i ≡ true → item_at (stored_over w o.items) i ≡ Some (item_or_zero (item_over a o i))
     each i h =
-        let inside : is_within b i ≡ true = ap (λ c. is_within (bounds_over a c) i) (sym is) ∙ h in
+        let inside : is_within b i ≡ true = ap (λ c. is_within c i) (sym is) ∙ h in
         stored_items w o.items i (ap (λ c. is_within c i) (bounds_with_bounds a b) ∙ inside)
         ∙ by_change i (changed_at o.items i) refl inside (fits.held i h) ∙ sym (some_or_zero (item_over a o i) (fits.held i h))
-
--- and it keeps the kind of its items
-pub kinds_with_bounds : (a : ArrayContent) (b : Bounds) (es : List (ℤ × Value)) → AreOfKind a es → AreOfKind (with_bounds a b.low b.size) es
-kinds_with_bounds a b es h = subst (λ k. AllByRecursion (λ (e : ℤ × Value). kind_of e.1 ≡ k) es) (sym (kind_with_bounds a b)) h

@@ -1,5 +1,5 @@
 -- Overlays of arrays joined, and laid in place.
-use Rattle.std.proofs.Common.{◌≡◌, inl, inr, ℕ, zero, suc, ◌<◌, List, [], ◌∷◌, ◌++◌, length, set, Bool, true, false, Some, None, refl, sym, ap, subst, ◌∙◌, arith, pos, ◌+ℤ◌}
+use Rattle.std.proofs.Common.{◌≡◌, inl, inr, ℕ, zero, suc, ◌<◌, List, [], ◌∷◌, length, set, Bool, true, false, Some, None, refl, sym, ap, subst, ◌∙◌, arith, pos, ◌+ℤ◌}
 use Rattle.std.specs.Prelude.{ℤ, ◌-ℤ◌, Option, cond, filter, is_some, int_le, unsigned_abs, slice_get, if◌then◌else◌}
 use Rattle.std.specs.List.{AllByRecursion}
 use Rattle.std.specs.Ordering.{int_cmp}
@@ -16,10 +16,11 @@ use Rattle.std.proofs.lemmas.Option.{none-some}
 use Rattle.values.specs.declared.value.Value.{Value}
 use Rattle.values.specs.Values.{kind_of}
 use Rattle.values.specs.Items.{ArrayContent, item_at, set_item}
+use Rattle.values.specs.Bounds.{stored_over, AreOfKind}
 use Rattle.overlays.specs.declared.bounds.Bounds.{Bounds}
 use Rattle.overlays.specs.RecordOverlays.{or_below}
-use Rattle.overlays.specs.ArrayOverlays.{ArrayChange, ArrayFits, AreLimitedWhere, AreJoined, AreOfKind, stored_over, changed_at, lies_in, put_over, upper_bounds, bounds_of, bounds_over, is_within, item_over, item_or_zero, laid_array}
-use Rattle.overlays.proofs.ArrayLaws.{laid_kind, laid_bounds, laid_inside, laid_item, laid_outside, laid_is, some_or_zero, below_test}
+use Rattle.overlays.specs.ArrayOverlays.{ArrayChange, ArrayFits, AreLimitedWhere, AreJoined, changed_at, lies_in, put_over, upper_bounds, bounds_of, bounds_over, is_within, item_over, item_or_zero, laid_array}
+use Rattle.overlays.proofs.ArrayLaws.{laid_kind, laid_bounds, laid_inside, laid_item, laid_outside, laid_is, below_test}
 use Rattle.overlays.proofs.Places.{Place, place, item_at_place, set_item_place, within_place, not_within_below, at_itself, at_another, is_same_index}
 
 -- ---- joined
@@ -98,10 +99,6 @@ module _ (a : ArrayContent) (l u p : ArrayChange) (joined : AreJoined l u p) (lo
 
 -- ---- laid in place
 
-pub stored_last : (a : ArrayContent) (es : List (ℤ × Value)) (e : ℤ × Value) → stored_over a (es ++ e ∷ []) ≡ stored_over (set_item a e.0 e.1) es
-stored_last a [] e = refl
-stored_last a (f ∷ es) e = ap (λ b. set_item b f.0 f.1) (stored_last a es e)
-
 pub stored_kind : (a : ArrayContent) (es : List (ℤ × Value)) → (stored_over a es).kind ≡ a.kind
 stored_kind a [] = refl
 stored_kind a (e ∷ es) = stored_kind a es
@@ -164,14 +161,6 @@ stored_items a (e ∷ es) q h = by_test (stored_items a es q h) (is_at (int_cmp 
       ∙ later
       ∙ ap (λ b. or_below (if b then Some e.1 else changed_at es q) (item_at a q)) (sym t)
 
--- where the bounds stay, to store all items lays the overlay
-pub laid_in_place : (a : ArrayContent) (o : ArrayChange) → ArrayFits a o → o.bounds ≡ None → stored_over a o.items ≡ laid_array a o
-laid_in_place a o fits none =
-    laid_is a o (stored_over a o.items) (stored_kind a o.items) (stored_bounds a o.items ∙ sym (ap (bounds_over a) none)) each
-  where
-    each : (i : ℤ) → is_within (bounds_over a o.bounds) i ≡ true → item_at (stored_over a o.items) i ≡ Some (item_or_zero (item_over a o i))
-    each i h = stored_items a o.items i (ap (λ b. is_within (bounds_over a b) i) (sym none) ∙ h) ∙ sym (some_or_zero (item_over a o i) (fits.held i h))
-
 less_apart : (i j : ℤ) → int_cmp i j ≡ Less → is_at (int_cmp j) i ≡ false
 less_apart i j h = grind (arith, ints)
 
@@ -193,17 +182,6 @@ each_kind a (e ∷ es) s h = (
 -- the kinds of the items, where the keys are those of a map
 pub kinds_of_all : (a : ArrayContent) (o : ArrayChange) → ArrayFits a o → IsStrictlySortedBy int_cmp (keys_of o.items) → AreOfKind a o.items
 kinds_of_all a o fits sorted = each_kind a o.items sorted fits.of_kind
-
--- one item stored, and those that are left
-pub stored_step : (a b : ArrayContent) (xs es : List (ℤ × Value)) (i j : ℤ) (v : Value) → AreOfKind a xs → xs ≡ es ++ (i, v) ∷ [] → j ≡ i → b ≡ set_item a j v
-    → AreOfKind b es × (stored_over b es ≡ stored_over a xs)
-stored_step a b xs es i j v kinds e at is = (
-  subst (λ (c : ArrayContent). AreOfKind c es) (sym is) (front es (subst (AreOfKind a) e kinds)),
-  ap (λ c. stored_over c es) (is ∙ ap (λ q. set_item a q v) at) ∙ sym (stored_last a es (i, v)) ∙ ap (stored_over a) (sym e),
-) where
-  front : (es : List (ℤ × Value)) → AreOfKind a (es ++ (i, v) ∷ []) → AreOfKind a es
-  front [] h = tt
-  front (f ∷ es) h = (h.0, front es h.1)
 
 -- ---- items put over others
 

@@ -1,14 +1,13 @@
 -- What an action changed of an array: its bounds, if it changed them, and items.
 use Rattle.std.proofs.lemmas.Bool.{false≢true}
 use Rattle.std.specs.Prelude.{◌≡◌, ℕ, zero, suc, ℤ, pos, ◌+ℤ◌, ◌-ℤ◌, ◌≤ℤ◌, ◌≤◌, int_le, int_lt, nat_lt, Bool, true, false, ◌&&◌, List, [], ◌∷◌, length, Option, Some, None, is_some, refl, if◌then◌else◌}
-use Rattle.std.specs.List.{AllByRecursion}
 use Rattle.std.specs.Ordering.{int_cmp}
 use Rattle.std.specs.BTreeMap.{is_at}
 use Rattle.std.specs.Map.{lookup}
 use Rattle.values.specs.declared.value.Value.{Value}
 use Rattle.values.specs.declared.value.Value.TheVariants.{Int}
 use Rattle.values.specs.Values.{kind_of}
-use Rattle.values.specs.Items.{ArrayContent, item_at, set_item, max_items, least_index, greatest_index}
+use Rattle.values.specs.Items.{ArrayContent, item_at, max_items, least_index, greatest_index}
 use Rattle.atomic_types.specs.Operations.{Op}
 use Rattle.atomic_types.specs.declared.operation.Operation.TheVariants.{Low, High, Size, Fetch, Store, AddHigh, AddLow, RemoveHigh, RemoveLow}
 use Rattle.atomic_types.specs.declared.op.Reply.{Reply}
@@ -104,15 +103,6 @@ upper_bounds (Some b) lower = Some b
 abbrev pub put_over : Option Bounds → List (ℤ × Value) → List (ℤ × Value) → ℤ → Option Value
 put_over within upper lower i =
     or_below (if lies_in within i then changed_at upper i else None) (changed_at lower i)
-
--- the array with all these items stored, the first of them last
-abbrev pub stored_over : ArrayContent → List (ℤ × Value) → ArrayContent
-stored_over a [] = a
-stored_over a (e ∷ es) = set_item (stored_over a es) e.0 e.1
-
--- all items are of the array's kind
-abbrev pub AreOfKind : ArrayContent → List (ℤ × Value) → Type 0
-AreOfKind a es = AllByRecursion (λ e. kind_of e.1 ≡ a.kind) es
 
 -- the upper changes joined into the lower ones
 pub record AreJoined (lower upper joined : ArrayChange) : Type 0 where

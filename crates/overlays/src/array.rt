@@ -10,7 +10,7 @@ ghost use Rattle.atomic_types.specs.Arrays.{array_knows, array_reply, gives_or_b
 ghost use Rattle.atomic_types.specs.Operations.{is_read};
 ghost use Rattle.overlays.specs.RecordOverlays.{or_below};
 ghost use Rattle.overlays.specs.Overlays.{laid_all, AllFit, shown};
-ghost use Rattle.overlays.specs.ArrayOverlays.{laid_array, ArrayFits, AreLimited, AreLimitedWhere, IsNoted, IsAnswered, IsEnd, AreOfKind, is_item_write, bounds_of, bounds_over, changed_at, lies_in, put_over, stored_over, is_fetch, array_overlays_know, array_fits_stay, array_adds_sum, array_writes_cover, array_always_done};
+ghost use Rattle.overlays.specs.ArrayOverlays.{laid_array, ArrayFits, AreLimited, AreLimitedWhere, IsNoted, IsAnswered, IsEnd, is_item_write, bounds_of, bounds_over, changed_at, lies_in, put_over, is_fetch, array_overlays_know, array_fits_stay, array_adds_sum, array_writes_cover, array_always_done};
 
 use crate::array_items::{drop_outside, put_all};
 use crate::bounds::Bounds;
@@ -113,15 +113,10 @@ impl Layered for Array {
         Ok(())
     }
 
-    // It copies and stores the items that were put, and goes over the indices that come and go: over no other item of
-    // the array.
+    // It copies the items that were put, and changes the array once.
     fn lay(&mut self, overlay: &ArrayOverlay) -> Result<(), AllocError> {
-        let items = listed_items(overlay)?;
-        if let Some(bounds) = overlay.bounds {
-            self.set_bounds(bounds.low, bounds.size)?;
-        }
-        store_all(self, items);
-        Ok(())
+        let bounds = bounds_over(self, overlay);
+        self.change(bounds.low, bounds.size, listed_items(overlay)?)
     }
 
     fn add(&mut self, _by: i64) {}
@@ -377,6 +372,17 @@ pub(crate) fn array_bounds(array: &Array) -> Bounds
     }
 }
 
+// The bounds of the array under this overlay.
+fn bounds_over(array: &Array, overlay: &ArrayOverlay) -> Bounds
+    ensures bounds { result ≡ bounds_over array.now overlay.now.bounds }
+    ensures limited { AreLimited result }
+{
+    match overlay.bounds {
+        Some(bounds) => bounds,
+        None => array_bounds(array),
+    }
+}
+
 // What the array under these overlays has at the index, if it has an item there.
 fn item_under<'a>(base: &'a Array, below: &'a [ArrayOverlay], index: i64) -> Option<&'a Value>
     requires { AllFit laid_array ArrayFits base.now below.now }
@@ -432,16 +438,6 @@ fn copy_items(
     let mut copy = BTreeMap::new(alloc);
     put_items(&mut copy, items, None)?;
     Ok(copy)
-}
-
-// Puts each of these items in its place in the array.
-fn store_all(array: &mut Array, mut items: Vec<(i64, Value)>)
-    requires { AreOfKind array.old items.items }
-    ensures { array.new ≡ stored_over array.old items.items }
-{
-    while let Some((index, item)) = items.pop() {
-        array.store(index, item);
-    }
 }
 
 // Copies of the items that were put, with their indices.
