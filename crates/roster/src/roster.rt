@@ -217,7 +217,7 @@ impl Roster {
         self.at.get(places.find(action)?).copied()
     }
 
-    // The places of the rows of those of whom the step speaks, of whom one is looked up at most.
+    // Finds the rows of the actions that the step ends, closes, or begins something for. It looks up one name at most.
     fn concerned_in(&self, places: &Places, step: &Step) -> Concerned
         ensures ended { result.ended ≡ placed (table places.now self.now) (ended_in step.now) }
         ensures closed { result.closed ≡ placed (table places.now self.now) (closed_in step.now) }
