@@ -21,7 +21,7 @@ use Rattle.activities.specs.Ends.{IsEnd, top_of}
 use Rattle.activities.proofs.Going.{alone}
 use Rattle.activities.proofs.Making.{committed_older, committed_parts}
 use Rattle.client_threads.specs.Clients.{AllDid, BeganTop, CameBy, ClientDid, top_event}
-use Rattle.client_threads.specs.Receipts.{event_of, events_of}
+use Rattle.runtime.specs.Receipts.{event_of, events_of}
 
 -- ---- what receipts began and committed
 

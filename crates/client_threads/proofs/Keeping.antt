@@ -1,30 +1,18 @@
 -- What a step of a thread leaves, by the receipts that are kept.
-use Rattle.std.proofs.Common.{Err, IfOk, List, None, Ok, OnErr, Option, Result, Some, MatchOption, [], ap, append_assoc, cond, refl, subst, sym, ◌++◌, ◌∙◌, ◌∷◌, ◌≡◌}
-use Rattle.std.specs.Prelude.{is_some, option_to_list}
-use Rattle.std.proofs.lemmas.List.{append-nil}
+use Rattle.std.proofs.Common.{Err, IfOk, List, Ok, OnErr, Result, MatchOption, ap, refl, subst, sym, ◌∙◌, ◌≡◌}
+use Rattle.std.specs.Prelude.{option_to_list}
 use Rattle.run_model.specs.declared.answer.Answer.{Answer}
 use Rattle.run_model.specs.declared.history.Event.{Event}
 use Rattle.run_model.specs.declared.step.Step.{Step}
 use Rattle.run_model.specs.Answers.{answer_of}
 use Rattle.run_model.specs.Openings.{Opening, OpeningLists, opening_in}
-use Rattle.run_model.specs.Runs.{World, history_after, is_accepted, world_after}
+use Rattle.run_model.specs.Runs.{World, history_after, world_after}
 use Rattle.locked_run.specs.declared.shared.Answered.{Answered}
 use Rattle.runtime.specs.Answering.{IsAnsweredOnce}
+use Rattle.runtime.specs.Receipts.{IsKept, events_of}
+use Rattle.runtime.proofs.Receipts.{events_of-append, kept_events}
 use Rattle.activities.specs.Making.{IsAnswered}
 use Rattle.client_threads.specs.Callers.{run_of}
-use Rattle.client_threads.specs.Receipts.{IsKept, event_of, events_of}
-
-pub events_of-append : (xs ys : List (List Event)) → events_of (xs ++ ys) ≡ events_of ys ++ events_of xs
-events_of-append [] ys = sym (append-nil (events_of ys))
-events_of-append (x ∷ xs) ys = ap (λ l. l ++ event_of x) (events_of-append xs ys) ∙ append_assoc (events_of ys) (events_of xs) (event_of x)
-
--- the events once a receipt was kept, if there is one
-pub kept_events : (step : Step) (answer : Answer) (receipt : Option (List Event)) (past old : List Event) → is_some receipt ≡ is_accepted answer
-    → MatchOption receipt (Unit {0}) (λ run. run ≡ history_after step answer past) → events_of (option_to_list receipt) ++ old ≡ history_after step answer old
-kept_events step answer None past old some is = ap (λ b. cond b (record { step = step; answer = answer } ∷ old) old) some
-kept_events step answer (Some run) past old some is =
-    let whole : run ≡ record { step = step; answer = answer } ∷ past = is ∙ sym (ap (λ b. cond b (record { step = step; answer = answer } ∷ past) past) some) in
-    ap (λ l. event_of l ++ old) whole ∙ ap (λ b. cond b (record { step = step; answer = answer } ∷ old) old) some
 
 module _ {K E F : Type 0} (opening : Opening) (lists : OpeningLists) (step : Step) (answered : Result (Answered K) E) (old new : List (List Event)) (same : opening_in lists ≡ opening)
     (given : IfOk answered (λ a. IsAnsweredOnce opening step a.answer a.receipt)) where

@@ -30,8 +30,8 @@ use Rattle.activities.proofs.Making.{committed_parts}
 use Rattle.client_threads.specs.declared.clients.DoneClient.{DoneClient}
 use Rattle.client_threads.specs.Callers.{run_of}
 use Rattle.client_threads.specs.Clients.{AllDid, AreDone, ClientDid, IsDone, IsDoneAt, top_event}
-use Rattle.client_threads.specs.Receipts.{events_of}
-use Rattle.client_threads.proofs.Keeping.{events_of-append}
+use Rattle.runtime.specs.Receipts.{events_of}
+use Rattle.runtime.proofs.Receipts.{events_of-append}
 
 -- ---- facts that crossed a channel
 

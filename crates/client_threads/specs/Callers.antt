@@ -4,7 +4,7 @@ use Rattle.run_model.specs.declared.history.Event.{Event}
 use Rattle.run_model.specs.Openings.{OpeningLists}
 use Rattle.run_model.specs.Runs.{World}
 use Rattle.script_model.specs.declared.checked.Checked.{Checked}
-use Rattle.client_threads.specs.Receipts.{events_of}
+use Rattle.runtime.specs.Receipts.{events_of}
 
 abbrev pub run_of : OpeningLists → List (List Event) → World
 run_of lists receipts = record { lists = lists; past = events_of receipts }

@@ -11,7 +11,7 @@ use Rattle.activities.specs.declared.client.ClientEnd.TheVariants.{Aborted, Comm
 use Rattle.activities.specs.Ends.{top_of}
 use Rattle.activities.specs.Making.{AreOwn, CommitOnly}
 use Rattle.client_threads.specs.declared.clients.DoneClient.{DoneClient}
-use Rattle.client_threads.specs.Receipts.{events_of}
+use Rattle.runtime.specs.Receipts.{events_of}
 
 -- the event of a `top` step at this guardian, which began the action
 abbrev pub top_event : ℕ → Name → Event

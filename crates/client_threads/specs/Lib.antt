@@ -1,4 +1,3 @@
-pub mod Receipts
 pub mod Callers
 pub mod Clients
 pub mod Laws

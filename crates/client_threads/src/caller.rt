@@ -3,7 +3,7 @@ ghost use Rattle.std.specs.Prelude.{◌≡◌, ◌<◌, ◌++◌, [], ◌∷◌,
 ghost use Rattle.activities.specs.Apart.{AllRunnable, begun_names, ended_name, ended_names};
 ghost use Rattle.activities.specs.Making.{AreOwn, CommitOnly, Makes};
 ghost use Rattle.client_threads.specs.Callers.{only, run_of};
-ghost use Rattle.client_threads.specs.Receipts.{IsKept, events_of};
+ghost use Rattle.runtime.specs.Receipts.{IsKept, events_of};
 
 use crate::calls::OverRuntime;
 use crate::coenter::{Coenter, Coenters, is_called_off, shared};

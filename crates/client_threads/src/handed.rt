@@ -2,7 +2,7 @@
 ghost use Rattle.std.specs.Prelude.{◌≡◌, [], ◌∷◌};
 ghost use Rattle.activities.specs.Apart.{AllRunnable, IsRunnable, ended_name};
 ghost use Rattle.activities.specs.Making.{AreOwn, CommitOnly};
-ghost use Rattle.client_threads.specs.Receipts.{events_of};
+ghost use Rattle.runtime.specs.Receipts.{events_of};
 
 use crate::coenter::{Coenters, shared};
 use activities::{BegunArm, EndedArm};

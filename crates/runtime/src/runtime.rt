@@ -123,7 +123,29 @@ impl<K: OfRun, R: Forest, G: Guardian, P: Gate> Runtime<K, R, G, P> {
         ensures waits { IfOk result (λ a. (sleeps a.answer starters.now ≡ false) ⊎ U.over) }
     {
         let step = Step::Op(action.copy()?, object, operation.copy()?);
-        self.until_answered(rt, &step, starters, patience)
+        self.until_answered(rt, None, &step, starters, patience)
+    }
+
+    /// Makes an operation of the action behind a receipt, as `op_wait_while` with no starters: the run at which it is
+    /// answered goes on from the receipt's.
+    pub fn op_wait_behind<H: Wait, U: Patience>(
+        &self,
+        rt: &H,
+        earlier: &mut Receipt<K>,
+        action: &Name,
+        object: ObjectId,
+        operation: &Op,
+        patience: &U,
+    ) -> Result<Answered<K>, StepFault>
+        ensures answered { IfOk result (λ a. IsAnsweredBehind K.opening earlier.old
+            (Op action.now object operation.now) a.answer a.receipt) }
+        ensures waits { IfOk result (λ a. (sleeps a.answer [] ≡ false) ⊎ U.over) }
+        ensures same { earlier.new ≡ earlier.old }
+    {
+        let operation = operation.copy()?;
+        let step = Step::Op(action.copy()?, object, operation);
+        let copy = earlier.copy(&self.shared);
+        self.until_answered(rt, Some(copy), &step, &[], patience)
     }
 
     /// Has the operations that sleep at a guardian tried again, if there is one of this number.
@@ -329,49 +351,55 @@ impl<K: OfRun, R: Forest, G: Guardian, P: Gate> Runtime<K, R, G, P> {
         Ok(done)
     }
 
-    /// Tries an operation until it is answered or the patience is over, and sleeps between two tries.
+    /// Tries an operation until it is answered or the patience is over, behind the receipt if there is one. Sleeps
+    /// between two tries.
     fn until_answered<H: Wait, U: Patience>(
         &self,
         rt: &H,
+        earlier: Option<Receipt<K>>,
         step: &Step,
         starters: &[Name],
         patience: &U,
     ) -> Result<Answered<K>, StepFault>
-        ensures answered { IfOk result (λ a. IsAnsweredOnce K.opening step.now a.answer a.receipt) }
+        ensures answered { IfOk result
+            (λ a. IsAnsweredFrom K.opening earlier step.now a.answer a.receipt) }
         ensures waits { IfOk result (λ a. (sleeps a.answer starters.now ≡ false) ⊎ U.over) }
     {
+        let mut behind = earlier;
         for _ in rt.forever() {
-            if let Some(answered) = self.try_op(rt, step, starters, patience)? {
+            if let Some(answered) = self.try_op(rt, &mut behind, step, starters, patience)? {
                 return Ok(answered);
             }
         }
         unreachable!()
     }
 
-    /// One try of an operation. `None` after it has slept.
+    /// One try of an operation, behind the receipt if there is one. `None` after it has slept.
     fn try_op<H: Wait, U: Patience>(
         &self,
         rt: &H,
+        earlier: &mut Option<Receipt<K>>,
         step: &Step,
         starters: &[Name],
         patience: &U,
     ) -> Result<Option<Answered<K>>, StepFault>
         ensures answered { IfOk result
-            (λ r. IfSome r (λ a. IsAnsweredOnce K.opening step.now a.answer a.receipt)) }
+            (λ r. IfSome r (λ a. IsAnsweredFrom K.opening earlier.old step.now
+            a.answer a.receipt)) }
         ensures waits { IfOk result
             (λ r. IfSome r (λ a. (sleeps a.answer starters.now ≡ false) ⊎ U.over)) }
+        ensures same { earlier.new ≡ earlier.old }
     {
         let number = own_guardian(step);
         let Some(place) = self.at(number) else {
-            return self.unless_waiting(rt, step, starters, patience);
+            return self.unless_waiting(rt, earlier, step, starters, patience);
         };
         let mut held = place.lock(rt);
         self.gate.pass(number, action_of(step));
-        let mut nobody: Option<Receipt<K>> = None;
-        let done = guardian_behind(self.alloc, &self.shared, &mut held, &mut nobody, step)?;
+        let done = guardian_behind(self.alloc, &self.shared, &mut held, earlier, step)?;
         let Some(answered) = done else {
             drop(held);
-            return self.unless_waiting(rt, step, starters, patience);
+            return self.unless_waiting(rt, earlier, step, starters, patience);
         };
         if sleeps(&answered.answer, starters) && !patience.is_over() {
             place.sleep(rt, held);
@@ -383,21 +411,24 @@ impl<K: OfRun, R: Forest, G: Guardian, P: Gate> Runtime<K, R, G, P> {
         Ok(Some(answered))
     }
 
-    /// One try of an operation at whatever guardians it names. `None` if it has to wait.
+    /// One try of an operation at whatever guardians it names, behind the receipt if there is one. `None` if it has to
+    /// wait.
     fn unless_waiting<H: Wait, U: Patience>(
         &self,
         rt: &H,
+        earlier: &mut Option<Receipt<K>>,
         step: &Step,
         starters: &[Name],
         patience: &U,
     ) -> Result<Option<Answered<K>>, StepFault>
         ensures answered { IfOk result
-            (λ r. IfSome r (λ a. IsAnsweredOnce K.opening step.now a.answer a.receipt)) }
+            (λ r. IfSome r (λ a. IsAnsweredFrom K.opening earlier.old step.now
+            a.answer a.receipt)) }
         ensures waits { IfOk result
             (λ r. IfSome r (λ a. (sleeps a.answer starters.now ≡ false) ⊎ U.over)) }
+        ensures same { earlier.new ≡ earlier.old }
     {
-        let mut nobody: Option<Receipt<K>> = None;
-        let Some(answered) = self.try_step(rt, &mut nobody, step)? else {
+        let Some(answered) = self.try_step(rt, earlier, step)? else {
             return Ok(None);
         };
         if sleeps(&answered.answer, starters) && !patience.is_over() {

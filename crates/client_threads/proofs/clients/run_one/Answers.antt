@@ -3,7 +3,7 @@ use Rattle.run_model.specs.declared.history.Event.{Event}
 use Rattle.activities.specs.Ends.{ClientMade}
 use Rattle.client_threads.specs.Callers.{run_of}
 use Rattle.client_threads.specs.Clients.{ClientDid}
-use Rattle.client_threads.specs.Receipts.{events_of}
+use Rattle.runtime.specs.Receipts.{events_of}
 use Rattle.client_threads.proofs.Running.{client_did}
 use Rattle.client_threads.proofs.clients.run_one.Goals as goal
 use Rattle.client_threads.proofs.clients.run_one.Goals.{in-Err, in-Ok}

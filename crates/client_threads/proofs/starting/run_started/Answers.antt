@@ -1,7 +1,7 @@
 use Rattle.std.proofs.Common.{ap, subst, sym}
 use Rattle.activities.specs.Apart.{IsRunnable, begun_name, ended_name}
 use Rattle.client_threads.specs.Callers.{run_of}
-use Rattle.client_threads.specs.Receipts.{events_of}
+use Rattle.runtime.specs.Receipts.{events_of}
 use Rattle.client_threads.proofs.Running.{made_commits, made_own}
 use Rattle.client_threads.proofs.starting.run_started.Goals as goal
 
