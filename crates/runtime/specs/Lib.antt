@@ -1,3 +1,4 @@
 pub mod Answering
+pub mod Faults
 pub mod Receipts
 pub mod Waiting

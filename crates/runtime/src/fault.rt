@@ -18,12 +18,22 @@ pub enum StepFault {
 }
 
 impl From<AllocError> for StepFault {
+    ghost use Rattle.std.specs.Prelude.{◌≡◌};
+    ghost use Rattle.runtime.specs.declared.fault.StepFault.TheVariants.{Memory};
+
+    ghost from_gives = { λ _ fault. fault ≡ Memory };
+
     fn from(_refused: AllocError) -> StepFault {
         StepFault::Memory
     }
 }
 
 impl From<Fault> for StepFault {
+    ghost use Rattle.std.specs.Prelude.{◌≡◌};
+    ghost use Rattle.runtime.specs.Faults.{fault_for};
+
+    ghost from_gives = { λ given fault. fault ≡ fault_for given };
+
     fn from(fault: Fault) -> StepFault {
         match fault {
             Fault::Memory => StepFault::Memory,
