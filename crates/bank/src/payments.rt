@@ -5,7 +5,7 @@ use run_model::{ObjectId, Reply, Value};
 use service::{Begun, CallFault, Transaction, Work, get, set};
 use std::alloc::Global;
 use std::fmt;
-use stepping::MakesSteps;
+use stepping::MakesOwnSteps;
 use thiserror::Error;
 use values::ValueFault;
 
@@ -28,7 +28,7 @@ pub(crate) struct Payment {
     pub(crate) amount: u32,
 }
 
-impl<W: MakesSteps + Drop> Work<W> for Payment {
+impl<W: MakesOwnSteps + Drop> Work<W> for Payment {
     type Value = ();
 
     type Error = PayFault;
@@ -48,7 +48,7 @@ pub(crate) struct Change {
     pub(crate) amount: i64,
 }
 
-impl<W: MakesSteps + Drop> Work<W> for Change {
+impl<W: MakesOwnSteps + Drop> Work<W> for Change {
     type Value = ();
 
     type Error = PayFault;
@@ -68,7 +68,7 @@ pub(crate) struct Look {
     pub(crate) object: ObjectId,
 }
 
-impl<W: MakesSteps + Drop> Work<W> for Look {
+impl<W: MakesOwnSteps + Drop> Work<W> for Look {
     type Value = i64;
 
     type Error = PayFault;

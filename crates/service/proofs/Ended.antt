@@ -1,6 +1,6 @@
 -- Ending a top action by calls: which steps happened, and what they leave.
 use Rattle.std.proofs.Common.{Bool, Err, IfErr, List, None, Ok, Option, Result, Some, [], ap, drop, false, get_or, length, map, refl, subst, sym, take, true, ℕ, ◌+◌, ◌++◌, ◌<◌, ◌||◌, ◌∙◌, ◌∷◌, ◌≡◌}
-use Rattle.std.proofs.lemmas.Bool.{false≢true}
+use Rattle.std.proofs.lemmas.Bool.{false_from_ne_true, false≢true}
 use Rattle.std.proofs.lemmas.List.{append-nil, append_assoc, map-append, take-append-drop, take_more}
 use Rattle.std.specs.Result.{IsErrAnd}
 use Rattle.std.specs.Prelude.{IsTrue, if◌then◌else◌}
@@ -17,12 +17,13 @@ use Rattle.run_model.specs.Openings.{Opening, opening_in}
 use Rattle.run_model.specs.Refusals.{checks, first_refusal}
 use Rattle.run_model.specs.Runs.{World, history_after, is_accepted}
 use Rattle.run_laws.proofs.Accepted.{none_applies}
-use Rattle.run_laws.proofs.Names.{same_name_self}
-use Rattle.stepping.specs.Stepping.{IsMade, Leaves}
-use Rattle.service.specs.Calling.{Gives, IsCall, IsDone, IsVote, Told}
+use Rattle.run_laws.proofs.Names.{clash, same_name_self}
+use Rattle.stepping.specs.Beside.{IsAnsweredTo, IsMadeWith, Sees}
+use Rattle.stepping.specs.Stepping.{Leaves}
+use Rattle.service.specs.Calling.{IsCall, IsDone, IsVote, Told}
 use Rattle.service.specs.Ending.{AreCutShort, ArePolled, HasHappened, HaveHappened, IsEnded, IsEndingCut, ending, prepares, tells, verdict}
 use Rattle.service.specs.declared.fault.CallFault.{CallFault}
-use Rattle.service.specs.declared.fault.CallFault.TheVariants.{Refused, Waits, Failed}
+use Rattle.service.proofs.Parts.{ended_seen}
 
 -- ---- answers of steps that happened
 
@@ -35,13 +36,6 @@ told_happens count answer h = ap is_accepted h
 pub vote_happens : (yes : Bool) (answer : Answer) → IsVote yes answer → IsTrue (is_accepted answer)
 vote_happens true answer h = ap is_accepted h
 vote_happens false answer h = ap is_accepted h
-
--- why a call came to nothing does not rest on what it would give
-pub gives_why : {T U : Type 0} (Shows : T → Answer → Type 0) (Others : U → Answer → Type 0) (answer : Answer) (fault : CallFault)
-    → Gives Shows answer (Err fault) → Gives Others answer (Err fault)
-gives_why Shows Others answer (Refused reason) h = h
-gives_why Shows Others answer (Waits names) h = h
-gives_why Shows Others answer (Failed fault) h = h
 
 -- an answer that is accepted is no refusal
 none_if_accepted : (o : Option Refusal) (x : Answer) → is_accepted (refused_or o x) ≡ true → o ≡ None
@@ -56,6 +50,13 @@ abort_unended opening top past h =
     none_applies (checks opening (steps.Abort top) past)
     (none_if_accepted (first_refusal (checks opening (steps.Abort top) past)) (outcome opening (steps.Abort top) past) h) why.Ended
 
+-- what a caller aborts it has not ended before
+abort_unended_own : {sees : Sees} (own : World) (top : Name) (answer : Answer) → IsAnsweredTo sees own (steps.Abort top) answer
+    → IsTrue (is_accepted answer) → is_ended top own.past ≡ false
+abort_unended_own own top answer given accepted =
+    let unended = abort_unended (opening_in own.lists) top given.seen (subst (λ a. IsTrue (is_accepted a)) given.answered accepted) in
+    false_from_ne_true (is_ended top own.past) (λ k. clash (ended_seen given.part top k) unended)
+
 -- what is so of the error that came
 pub error_with : {T : Type 0} (r : Result T CallFault) (fault : CallFault) (P : CallFault → Type 0) → IsErrAnd r (λ x. x ≡ fault) → P fault → IfErr r P
 error_with (Ok x) fault P h p = absurd h
@@ -65,15 +66,19 @@ neither : (s t : Bool) → (s || t) ≡ false → s ≡ false
 neither true t h = h
 neither false t h = refl
 
-module _ {M : Type 0} (run : M → World) (leaves : Leaves M) where
+module _ {M : Type 0} (run : M → World) (sees : Sees) (leaves : Leaves M) where
   -- ---- calls as steps
 
-  pub call_happened : {T : Type 0} (step : Step) (Shows : T → Answer → Type 0) (old new : M) (x : T) → IsCall run leaves step Shows old new (Ok x)
-      → ((answer : Answer) → Shows x answer → IsTrue (is_accepted answer)) → HasHappened run leaves step old new
-  call_happened step Shows old new x call fine = record { made = call.made; accepted = fine _ call.gives }
+  pub call_happened : {T : Type 0} (step : Step) (Shows : T → Answer → Type 0) (old new : M) (x : T) → IsCall run sees leaves step Shows old new (Ok x)
+      → ((answer : Answer) → Shows x answer → IsTrue (is_accepted answer)) → HasHappened run sees leaves step old new
+  call_happened step Shows old new x call fine = record {
+    answer = call.gives.answer;
+    made = call.gives.made;
+    accepted = fine call.gives.answer call.gives.shows;
+  }
 
   pub call_cut : {T : Type 0} (step : Step) (Shows : T → Answer → Type 0) (old new : M) (fault : CallFault)
-      → IsCall run leaves step Shows old new (Err fault) → AreCutShort run leaves (step ∷ []) old new fault
+      → IsCall run sees leaves step Shows old new (Err fault) → AreCutShort run sees leaves (step ∷ []) old new fault
   call_cut step Shows old new fault call = record {
     done = [];
     next = step;
@@ -81,25 +86,25 @@ module _ {M : Type 0} (run : M → World) (leaves : Leaves M) where
     parts = refl;
     before = old;
     happened = refl;
-    gives = gives_why Shows (λ (_ : Unit {0}) answer. ⊥) _ fault call.gives;
+    why = call.why;
     same = call.same;
     stores = call.stores;
   }
 
   -- ---- steps one after another
 
-  pub happened_then : (first more : List Step) (old mid new : M) → HaveHappened run leaves first old mid → HaveHappened run leaves more mid new
-      → HaveHappened run leaves (first ++ more) old new
-  happened_then [] more old mid new a b = subst (λ m. HaveHappened run leaves more m new) a b
+  pub happened_then : (first more : List Step) (old mid new : M) → HaveHappened run sees leaves first old mid → HaveHappened run sees leaves more mid new
+      → HaveHappened run sees leaves (first ++ more) old new
+  happened_then [] more old mid new a b = subst (λ m. HaveHappened run sees leaves more m new) a b
   happened_then (step ∷ first) more old mid new a b =
       let (next, one, rest) = a in (next, one, happened_then first more next mid new rest b)
 
-  pub one_happened : (step : Step) (old new : M) → HasHappened run leaves step old new → HaveHappened run leaves (step ∷ []) old new
+  pub one_happened : (step : Step) (old new : M) → HasHappened run sees leaves step old new → HaveHappened run sees leaves (step ∷ []) old new
   one_happened step old new h = (new, h, refl)
 
   -- steps that were cut short, within others
-  pub cut_within : (front all behind : List Step) (first old new : M) (fault : CallFault) → HaveHappened run leaves front first old
-      → AreCutShort run leaves all old new fault → AreCutShort run leaves (front ++ (all ++ behind)) first new fault
+  pub cut_within : (front all behind : List Step) (first old new : M) (fault : CallFault) → HaveHappened run sees leaves front first old
+      → AreCutShort run sees leaves all old new fault → AreCutShort run sees leaves (front ++ (all ++ behind)) first new fault
   cut_within front all behind first old new fault a cut = record {
     done = front ++ cut.done;
     next = cut.next;
@@ -110,17 +115,16 @@ module _ {M : Type 0} (run : M → World) (leaves : Leaves M) where
         ∙ sym (append_assoc front cut.done (cut.next ∷ (cut.rest ++ behind)));
     before = cut.before;
     happened = happened_then front cut.done first old cut.before a cut.happened;
-    gives = cut.gives;
+    why = cut.why;
     same = cut.same;
     stores = cut.stores;
   }
 
   -- ---- what has committed
 
-  pub keeps_committed : (a : Name) (step : Step) (old new : M) → step_commits step a ≡ false → IsMade run leaves step old new
-      → is_committed a (run new).past ≡ is_committed a (run old).past
-  keeps_committed a step old new none made =
-      ap (λ (w : World). is_committed a w.past) made.after ∙ of (answer_of (opening_in (run old).lists) step (run old).past)
+  pub keeps_committed : (a : Name) (step : Step) (answer : Answer) (old new : M) → step_commits step a ≡ false
+      → IsMadeWith run sees leaves step answer old new → is_committed a (run new).past ≡ is_committed a (run old).past
+  keeps_committed a step given old new none made = ap (λ (w : World). is_committed a w.past) made.after ∙ of given
     where
       by : (answer : Answer) (t : Bool)
           → is_committed a (if t then record { step = step; answer = answer } ∷ (run old).past else (run old).past) ≡ is_committed a (run old).past
@@ -130,28 +134,27 @@ module _ {M : Type 0} (run : M → World) (leaves : Leaves M) where
       of : (answer : Answer) → is_committed a (history_after step answer (run old).past) ≡ is_committed a (run old).past
       of answer = by answer (is_accepted answer)
 
-  pub told_keeps : (a top : Name) (guardians : List ℕ) (old new : M) → HaveHappened run leaves (tells top guardians) old new
+  pub told_keeps : (a top : Name) (guardians : List ℕ) (old new : M) → HaveHappened run sees leaves (tells top guardians) old new
       → is_committed a (run new).past ≡ is_committed a (run old).past
   told_keeps a top [] old new h = ap (λ m. is_committed a (run m).past) h
   told_keeps a top (g ∷ guardians) old new h =
       let (next, one, rest) = h in
-      told_keeps a top guardians next new rest ∙ keeps_committed a (steps.Tell g top) old next refl one.made
+      told_keeps a top guardians next new rest ∙ keeps_committed a (steps.Tell g top) one.answer old next refl one.made
 
   -- what was decided has committed
-  pub decided : (top : Name) (old new : M) → HasHappened run leaves (steps.Decide top) old new → is_committed top (run new).past ≡ true
+  pub decided : (top : Name) (old new : M) → HasHappened run sees leaves (steps.Decide top) old new → is_committed top (run new).past ≡ true
   decided top old new h =
-      let answer = answer_of (opening_in (run old).lists) (steps.Decide top) (run old).past in
-      let e : Event = record { step = steps.Decide top; answer = answer } in
+      let e : Event = record { step = steps.Decide top; answer = h.answer } in
       ap (λ (w : World). is_committed top w.past) h.made.after
       ∙ ap (λ t. is_committed top (if t then e ∷ (run old).past else (run old).past)) h.accepted
       ∙ ap (λ t. t || is_committed top (run old).past) (same_name_self top)
 
   -- what was aborted has not
-  pub aborted : (top : Name) (old new : M) → HasHappened run leaves (steps.Abort top) old new → is_committed top (run new).past ≡ false
+  pub aborted : (top : Name) (old new : M) → HasHappened run sees leaves (steps.Abort top) old new → is_committed top (run new).past ≡ false
   aborted top old new h =
-      keeps_committed top (steps.Abort top) old new refl h.made
+      keeps_committed top (steps.Abort top) h.answer old new refl h.made
       ∙ neither (is_committed top (run old).past) (is_aborted top (run old).past)
-      (abort_unended (opening_in (run old).lists) top (run old).past h.accepted)
+      (abort_unended_own (run old) top h.answer h.made.answered h.accepted)
 
   -- ---- steps for each guardian
 
@@ -172,22 +175,22 @@ module _ {M : Type 0} (run : M → World) (leaves : Leaves M) where
         ∙ ap (λ xs. xs ++ map f (drop (i + 1) guardians)) next_mapped
         ∙ append_assoc (map f (take i guardians)) (f x ∷ []) (map f (drop (i + 1) guardians))
 
-    pub one_more : (old mid new : M) → HaveHappened run leaves (map f (take i guardians)) old mid → HasHappened run leaves (f x) mid new
-        → HaveHappened run leaves (map f (take (i + 1) guardians)) old new
+    pub one_more : (old mid new : M) → HaveHappened run sees leaves (map f (take i guardians)) old mid → HasHappened run sees leaves (f x) mid new
+        → HaveHappened run sees leaves (map f (take (i + 1) guardians)) old new
     one_more old mid new so_far one =
-        subst (λ xs. HaveHappened run leaves xs old new) (sym next_mapped)
+        subst (λ xs. HaveHappened run sees leaves xs old new) (sym next_mapped)
         (happened_then (map f (take i guardians)) (f x ∷ []) old mid new so_far (one_happened (f x) mid new one))
 
-    pub cut_here : (old mid new : M) (fault : CallFault) → HaveHappened run leaves (map f (take i guardians)) old mid
-        → AreCutShort run leaves (f x ∷ []) mid new fault → AreCutShort run leaves (map f guardians) old new fault
+    pub cut_here : (old mid new : M) (fault : CallFault) → HaveHappened run sees leaves (map f (take i guardians)) old mid
+        → AreCutShort run sees leaves (f x ∷ []) mid new fault → AreCutShort run sees leaves (map f guardians) old new fault
     cut_here old mid new fault so_far cut =
-        subst (λ xs. AreCutShort run leaves xs old new fault) (sym mapped_parts)
+        subst (λ xs. AreCutShort run sees leaves xs old new fault) (sym mapped_parts)
         (cut_within (map f (take i guardians)) (f x ∷ []) (map f (drop (i + 1) guardians)) old mid new fault so_far cut)
 
   -- the vote of this guardian is no
   pub polled_no : (top : Name) (guardians : List ℕ) (i : ℕ) → i < length guardians → (x : ℕ) → x ≡ get_or guardians i 0 → (old mid new : M) (said : Bool)
-      → said ≡ false → HaveHappened run leaves (prepares top (take i guardians)) old mid → IsCall run leaves (steps.Prepare x top) IsVote mid new (Ok said)
-      → ArePolled run leaves top guardians false old new
+      → said ≡ false → HaveHappened run sees leaves (prepares top (take i guardians)) old mid → IsCall run sees leaves (steps.Prepare x top) IsVote mid new (Ok said)
+      → ArePolled run sees leaves top guardians false old new
   polled_no top guardians i within x same old mid new said is_no so_far call = record {
     polled = take (i + 1) guardians;
     rest = drop (i + 1) guardians;
@@ -202,14 +205,18 @@ module _ {M : Type 0} (run : M → World) (leaves : Leaves M) where
       next_taken (λ g. steps.Prepare g top) guardians i within x same,
       record {
         mid = mid;
+        voted = new;
         happened = so_far;
-        no = subst (λ y. IsVote y (answer_of (opening_in (run mid).lists) (steps.Prepare x top) (run mid).past)) is_no call.gives;
+        no =
+            subst (λ a. IsMadeWith run sees leaves (steps.Prepare x top) a mid new)
+            (subst (λ y. IsVote y call.gives.answer) is_no call.gives.shows) call.gives.made;
+        rest = refl;
       },
     );
   }
 
-  pub polled_yes : (top : Name) (guardians : List ℕ) (old new : M) → HaveHappened run leaves (prepares top guardians) old new
-      → ArePolled run leaves top guardians true old new
+  pub polled_yes : (top : Name) (guardians : List ℕ) (old new : M) → HaveHappened run sees leaves (prepares top guardians) old new
+      → ArePolled run sees leaves top guardians true old new
   polled_yes top guardians old new happened = record {
     polled = guardians;
     rest = [];
@@ -222,8 +229,8 @@ module _ {M : Type 0} (run : M → World) (leaves : Leaves M) where
   -- ---- the ending of a top action
 
   module _ (top : Name) (guardians : List ℕ) (old : M) where
-    pub close_cut : (new : M) (fault : CallFault) → IsCall run leaves (steps.Close top) IsDone old new (Err fault)
-        → IsEndingCut run leaves top guardians old new fault
+    pub close_cut : (new : M) (fault : CallFault) → IsCall run sees leaves (steps.Close top) IsDone old new (Err fault)
+        → IsEndingCut run sees leaves top guardians old new fault
     close_cut new fault call = record {
       committed = true;
       polled = guardians;
@@ -234,12 +241,12 @@ module _ {M : Type 0} (run : M → World) (leaves : Leaves M) where
           (call_cut (steps.Close top) IsDone old new fault call);
     }
 
-    module _ (closed : M) (close : IsCall run leaves (steps.Close top) IsDone old closed (Ok tt)) where
-      close_happened : HaveHappened run leaves (steps.Close top ∷ []) old closed
+    module _ (closed : M) (close : IsCall run sees leaves (steps.Close top) IsDone old closed (Ok tt)) where
+      close_happened : HaveHappened run sees leaves (steps.Close top ∷ []) old closed
       close_happened = one_happened (steps.Close top) old closed (call_happened (steps.Close top) IsDone old closed tt close done_happens)
 
-      pub poll_cut : (new : M) (fault : CallFault) → AreCutShort run leaves (prepares top guardians) closed new fault
-          → IsEndingCut run leaves top guardians old new fault
+      pub poll_cut : (new : M) (fault : CallFault) → AreCutShort run sees leaves (prepares top guardians) closed new fault
+          → IsEndingCut run sees leaves top guardians old new fault
       poll_cut new fault cut = record {
         committed = true;
         polled = guardians;
@@ -250,12 +257,12 @@ module _ {M : Type 0} (run : M → World) (leaves : Leaves M) where
             cut;
       }
 
-      module _ (all : Bool) (voted : M) (poll : ArePolled run leaves top guardians all closed voted) where
-        voted_happened : HaveHappened run leaves (steps.Close top ∷ prepares top poll.polled) old voted
+      module _ (all : Bool) (voted : M) (poll : ArePolled run sees leaves top guardians all closed voted) where
+        voted_happened : HaveHappened run sees leaves (steps.Close top ∷ prepares top poll.polled) old voted
         voted_happened = happened_then (steps.Close top ∷ []) (prepares top poll.polled) old closed voted close_happened poll.happened
 
-        pub verdict_cut : (new : M) (fault : CallFault) → IsCall run leaves (verdict all top) IsDone voted new (Err fault)
-            → IsEndingCut run leaves top guardians old new fault
+        pub verdict_cut : (new : M) (fault : CallFault) → IsCall run sees leaves (verdict all top) IsDone voted new (Err fault)
+            → IsEndingCut run sees leaves top guardians old new fault
         verdict_cut new fault call = record {
           committed = all;
           polled = poll.polled;
@@ -266,14 +273,14 @@ module _ {M : Type 0} (run : M → World) (leaves : Leaves M) where
               voted_happened (call_cut (verdict all top) IsDone voted new fault call);
         }
 
-        module _ (concluded : M) (conclude : IsCall run leaves (verdict all top) IsDone voted concluded (Ok tt)) where
-          concluding : HasHappened run leaves (verdict all top) voted concluded
+        module _ (concluded : M) (conclude : IsCall run sees leaves (verdict all top) IsDone voted concluded (Ok tt)) where
+          concluding : HasHappened run sees leaves (verdict all top) voted concluded
           concluding = call_happened (verdict all top) IsDone voted concluded tt conclude done_happens
 
           abbrev front : List Step
           front = (steps.Close top ∷ prepares top poll.polled) ++ verdict all top ∷ []
 
-          front_happened : HaveHappened run leaves front old concluded
+          front_happened : HaveHappened run sees leaves front old concluded
           front_happened =
               happened_then (steps.Close top ∷ prepares top poll.polled) (verdict all top ∷ []) old voted concluded voted_happened
               (one_happened (verdict all top) voted concluded concluding)
@@ -281,34 +288,34 @@ module _ {M : Type 0} (run : M → World) (leaves : Leaves M) where
           whole : front ++ tells top guardians ≡ ending all top poll.polled guardians
           whole = append_assoc (steps.Close top ∷ prepares top poll.polled) (verdict all top ∷ []) (tells top guardians)
 
-          pub tell_cut : (new : M) (fault : CallFault) → AreCutShort run leaves (tells top guardians) concluded new fault
-              → IsEndingCut run leaves top guardians old new fault
+          pub tell_cut : (new : M) (fault : CallFault) → AreCutShort run sees leaves (tells top guardians) concluded new fault
+              → IsEndingCut run sees leaves top guardians old new fault
           tell_cut new fault cut = record {
             committed = all;
             polled = poll.polled;
             rest = poll.rest;
             parts = poll.parts;
             cut =
-                subst (λ xs. AreCutShort run leaves xs old new fault) (ap (λ xs. front ++ xs) (append-nil (tells top guardians)) ∙ whole)
+                subst (λ xs. AreCutShort run sees leaves xs old new fault) (ap (λ xs. front ++ xs) (append-nil (tells top guardians)) ∙ whole)
                 (cut_within front (tells top guardians) [] old concluded new fault front_happened cut);
           }
 
           said : is_committed top (run concluded).past ≡ all
           said = by all concluding
             where
-              by : (b : Bool) → HasHappened run leaves (verdict b top) voted concluded → is_committed top (run concluded).past ≡ b
+              by : (b : Bool) → HasHappened run sees leaves (verdict b top) voted concluded → is_committed top (run concluded).past ≡ b
               by true h = decided top voted concluded h
               by false h = aborted top voted concluded h
 
-          pub is_ended_by : (new : M) → HaveHappened run leaves (tells top guardians) concluded new
-              → IsEnded run leaves top guardians all old new
+          pub is_ended_by : (new : M) → HaveHappened run sees leaves (tells top guardians) concluded new
+              → IsEnded run sees leaves top guardians all old new
           is_ended_by new told = record {
             polled = poll.polled;
             rest = poll.rest;
             parts = poll.parts;
             all = poll.all;
             happened =
-                subst (λ xs. HaveHappened run leaves xs old new) whole
+                subst (λ xs. HaveHappened run sees leaves xs old new) whole
                 (happened_then front (tells top guardians) old concluded new front_happened told);
             no = λ h.
                 let (before, g, last, vote) = poll.no h in (
@@ -317,8 +324,12 @@ module _ {M : Type 0} (run : M → World) (leaves : Leaves M) where
                   last,
                   record {
                     mid = vote.mid;
+                    voted = vote.voted;
                     happened = happened_then (steps.Close top ∷ []) (prepares top before) old closed vote.mid close_happened vote.happened;
                     no = vote.no;
+                    rest =
+                        subst (λ m. HaveHappened run sees leaves (steps.Abort top ∷ tells top guardians) m new) vote.rest
+                        (subst (λ b. HaveHappened run sees leaves (verdict b top ∷ tells top guardians) voted new) h (concluded, concluding, told));
                   },
                 );
             says = told_keeps top top guardians concluded new told ∙ said;

@@ -1,8 +1,8 @@
 -- Runs that go on by steps of a transaction.
-use Rattle.std.proofs.Common.{Bool, List, None, Option, Some, [], ap, eq-eqb, eqb-true, false, inl, inr, refl, subst, sym, true, ℕ, ◌++◌, ◌||◌, ◌∙◌, ◌∷◌, ◌≡◌, ◌⊎◌}
+use Rattle.std.proofs.Common.{Bool, List, None, Option, Some, [], ap, ap₂, eq-eqb, eqb-true, false, inl, inr, refl, subst, sym, true, ℕ, ◌++◌, ◌||◌, ◌∙◌, ◌∷◌, ◌≡◌, ◌⊎◌}
 use Rattle.std.proofs.lemmas.Bool.{and_from, and_parts, false_from_ne_true, false≢true, not-true, not_from_false, or_cases, or_left, or_right}
-use Rattle.std.proofs.lemmas.List.{append_assoc}
-use Rattle.std.specs.List.{list_all, list_any}
+use Rattle.std.proofs.lemmas.List.{append_assoc, append_cancel_right}
+use Rattle.std.specs.List.{list_any}
 use Rattle.std.specs.Prelude.{if◌then◌else◌}
 use Rattle.action_names.specs.Names.{Name, child_of, has_name, is_prefix, same_name}
 use Rattle.run_model.specs.declared.answer.Answer.{Answer}
@@ -15,14 +15,16 @@ use Rattle.run_model.specs.Actions.{begun, is_aborted, is_begun, is_committed, i
 use Rattle.run_model.specs.Answers.{answer_of, outcome, refused_or}
 use Rattle.run_model.specs.Openings.{Opening, opening_in}
 use Rattle.run_model.specs.Refusals.{checks, first_refusal}
-use Rattle.run_model.specs.Runs.{IsRun, World, history_after, history_from, is_accepted, world_after}
+use Rattle.run_model.specs.Runs.{World, history_after, is_accepted, world_after}
 use Rattle.run_model.specs.Telling.{told_since_crash}
 use Rattle.run_model.specs.Votes.{has_voted, step_votes}
-use Rattle.run_laws.proofs.Growth.{Follows, aborted_stays, begun_stays, committed_stays, followed, follows_through, here, later}
+use Rattle.run_laws.proofs.Growth.{Follows, aborted_stays, begun_stays, committed_stays, followed, here, later}
 use Rattle.run_laws.proofs.Names.{clash, eqb_self, has_name_append, same_name_self, same_name_true}
-use Rattle.run_laws.proofs.Begun.{begun_cases, begun_more, begun_once}
+use Rattle.run_laws.proofs.Begun.{begun_cases, begun_more}
+use Rattle.stepping.specs.Beside.{IsAnsweredTo, Sees}
 use Rattle.service.specs.declared.fault.CallFault.{CallFault}
-use Rattle.service.specs.Transacting.{AllBegan, AllSettled, AllVotersTold, Began, CameToNothing, EndedAndTold, FallsShort, Goes, IsSettled, NoneBegan, Settles, Works, began_at, begins_at, belongs, belongs_to, ends_top, finishes, is_below, settles, works_in, works_with}
+use Rattle.service.specs.Transacting.{AllBegan, AllSettled, AllVotersTold, AreOwn, Began, CameToNothing, EndedAndTold, FallsShort, Goes, IsSettled, NoneBegan, Settles, Works, began_at, begins_at, belongs, belongs_to, ends_top, finishes, is_below, settles, works_in, works_with}
+use Rattle.service.proofs.Parts.{begun_is_new}
 
 -- ---- names
 
@@ -199,67 +201,6 @@ top_named opening first past n t made h = by (first_refusal (checks opening firs
         one e = cc
     by (Some why) h = cc
 
--- ---- lists of steps
-
-all_append : (p : Step → Bool) (xs ys : List Step) → list_all p xs ≡ true → list_all p ys ≡ true → list_all p (xs ++ ys) ≡ true
-all_append p [] ys h k = k
-all_append p (x ∷ xs) ys h k = let q = and_parts _ _ h in and_from _ _ q.0 (all_append p xs ys q.1 k)
-
-all_wider : (p q : Step → Bool) → ((s : Step) → p s ≡ true → q s ≡ true) → (xs : List Step) → list_all p xs ≡ true → list_all q xs ≡ true
-all_wider p q f [] h = refl
-all_wider p q f (x ∷ xs) h = let r = and_parts _ _ h in and_from _ _ (f x r.0) (all_wider p q f xs r.1)
-
-from_append : (o : Opening) (xs ys : List Step) (past : List Event) → history_from o past (xs ++ ys) ≡ history_from o (history_from o past xs) ys
-from_append o [] ys past = refl
-from_append o (s ∷ xs) ys past = from_append o xs ys (history_after s (answer_of o s past) past)
-
-after_grows : (step : Step) (answer : Answer) (past : List Event) → Follows past (history_after step answer past)
-after_grows step answer past = by (is_accepted answer)
-  where
-    by : (t : Bool) → Follows past (if t then record { step = step; answer = answer } ∷ past else past)
-    by true = later _ here
-    by false = here
-
-from_grows : (o : Opening) (xs : List Step) (past : List Event) → Follows past (history_from o past xs)
-from_grows o [] past = here
-from_grows o (s ∷ xs) past =
-    follows_through (after_grows s (answer_of o s past) past) (from_grows o xs (history_after s (answer_of o s past) past))
-
--- ---- runs that go on
-
-pub goes_none : (p : Step → Bool) (w : World) → Goes p w w
-goes_none p w = record { lists = refl; made = []; own = refl; past = refl }
-
-pub goes_same : (p : Step → Bool) (old new : World) → new ≡ old → Goes p old new
-goes_same p old new e = subst (λ w. Goes p old w) (sym e) (goes_none p old)
-
-pub goes_one : (p : Step → Bool) (step : Step) (old new : World) → p step ≡ true
-    → new ≡ world_after old step (answer_of (opening_in old.lists) step old.past) → Goes p old new
-goes_one p step old new is after = record {
-  lists = ap (λ (w : World). w.lists) after;
-  made = step ∷ [];
-  own = and_from _ _ is refl;
-  past = ap (λ (w : World). w.past) after;
-}
-
-pub goes_then : (p : Step → Bool) (x y z : World) → Goes p x y → Goes p y z → Goes p x z
-goes_then p x y z a b = record {
-  lists = b.lists ∙ a.lists;
-  made = a.made ++ b.made;
-  own = all_append p a.made b.made a.own b.own;
-  past =
-      b.past
-      ∙ ap (λ lists. history_from (opening_in lists) y.past b.made) a.lists
-      ∙ ap (λ past. history_from (opening_in x.lists) past b.made) a.past
-      ∙ sym (from_append (opening_in x.lists) a.made b.made x.past);
-}
-
-pub goes_wider : (p q : Step → Bool) (x y : World) → ((s : Step) → p s ≡ true → q s ≡ true) → Goes p x y → Goes q x y
-goes_wider p q x y f a = record { lists = a.lists; made = a.made; own = all_wider p q f a.made a.own; past = a.past }
-
-pub goes_grows : (p : Step → Bool) (x y : World) → Goes p x y → Follows x.past y.past
-goes_grows p x y a = subst (λ h. Follows x.past h) (sym a.past) (from_grows (opening_in x.lists) a.made x.past)
-
 pub ended_stays : (b : Name) (x y : List Event) → Follows x y → is_ended b x ≡ true → is_ended b y ≡ true
 ended_stays b x y f h = by (or_cases _ _ h)
   where
@@ -284,48 +225,6 @@ pub step_kept : (p : Step → Bool) (step : Step) (answer : Answer) (old new : W
 step_kept p step answer old new none after =
     ap (λ (w : World). list_any (λ (e : Event). p e.step) w.past) after ∙ after_kept p step answer old.past none
 
-from_kept : (p mine : Step → Bool) → ((step : Step) → mine step ≡ true → p step ≡ false) → (o : Opening) (made : List Step) (past : List Event)
-    → list_all mine made ≡ true
-    → list_any (λ (e : Event). p e.step) (history_from o past made) ≡ list_any (λ (e : Event). p e.step) past
-from_kept p mine f o [] past own = refl
-from_kept p mine f o (step ∷ made) past own =
-    let (this, more) = and_parts _ _ own in
-    from_kept p mine f o made (history_after step (answer_of o step past) past) more
-    ∙ after_kept p step (answer_of o step past) past (f step this)
-
--- a test that fails at every step of the kind
-pub kept : (p mine : Step → Bool) (x y : World) → ((step : Step) → mine step ≡ true → p step ≡ false) → Goes mine x y
-    → list_any (λ (e : Event). p e.step) y.past ≡ list_any (λ (e : Event). p e.step) x.past
-kept p mine x y f a =
-    ap (λ past. list_any (λ (e : Event). p e.step) past) a.past
-    ∙ from_kept p mine f (opening_in x.lists) a.made x.past a.own
-
--- what was told stays so if the guardian does not crash
-after_told : (g : ℕ) (b : Name) (step : Step) (answer : Answer) (past : List Event) → step_crashes step g ≡ false
-    → told_since_crash g b past ≡ true → told_since_crash g b (history_after step answer past) ≡ true
-after_told g b step answer past none h = by (is_accepted answer)
-  where
-    by : (t : Bool) → told_since_crash g b (if t then record { step = step; answer = answer } ∷ past else past) ≡ true
-    by true = and_from _ _ (not_from_false _ none) (or_left _ _ h)
-    by false = h
-
-from_told : (g : ℕ) (b : Name) (mine : Step → Bool) → ((step : Step) → mine step ≡ true → step_crashes step g ≡ false) → (o : Opening)
-    (made : List Step) (past : List Event) → list_all mine made ≡ true → told_since_crash g b past ≡ true
-    → told_since_crash g b (history_from o past made) ≡ true
-from_told g b mine f o [] past own h = h
-from_told g b mine f o (step ∷ made) past own h =
-    let (this, more) = and_parts _ _ own in
-    from_told g b mine f o made (history_after step (answer_of o step past) past) more
-    (after_told g b step (answer_of o step past) past (f step this) h)
-
-pub goes_told : (g : ℕ) (b : Name) (mine : Step → Bool) (x y : World) → ((step : Step) → mine step ≡ true → step_crashes step g ≡ false)
-    → Goes mine x y → told_since_crash g b x.past ≡ true → told_since_crash g b y.past ≡ true
-goes_told g b mine x y f a h =
-    subst (λ past. told_since_crash g b past ≡ true) (sym a.past) (from_told g b mine f (opening_in x.lists) a.made x.past a.own h)
-
-pub goes_ended : (p : Step → Bool) (x y : World) (b : Name) → Goes p x y → is_ended b x.past ≡ true → is_ended b y.past ≡ true
-goes_ended p x y b a h = ended_stays b x.past y.past (goes_grows p x y a) h
-
 -- ---- what begins
 
 pub none_began : (step : Step) (answer : Answer) (old new : World) → names_begun answer ≡ [] → new ≡ world_after old step answer → NoneBegan old new
@@ -346,16 +245,6 @@ none_then x y z n m b = m b ∙ n b
 pub began_stays : (g : ℕ) (b : Name) {past now : List Event} → Follows past now → began_at g b past ≡ true → began_at g b now ≡ true
 began_stays g b here h = h
 began_stays g b (later e f) h = or_right _ _ (began_stays g b f h)
-
--- what began and was settled stays so
-pub settled_stays : (mine : Step → Bool) (x y : World) (b : Name) → ((g : ℕ) (step : Step) → mine step ≡ true → step_crashes step g ≡ false)
-    → Goes mine x y → IsSettled b x → IsSettled b y
-settled_stays mine x y b f a h = record {
-  ended = goes_ended mine x y b a h.ended;
-  home = h.home;
-  there = began_stays h.home b (goes_grows mine x y a) h.there;
-  told = goes_told h.home b mine x y (f h.home) a h.told;
-}
 
 pub all_settled_if_none : (old new : World) → NoneBegan old new → AllSettled old new
 all_settled_if_none old new n b h k = absurd (clash (sym (n b) ∙ h) k)
@@ -381,103 +270,6 @@ module _ (step : Step) (s : Name) (x y : World)
           one (inl p) = same_name_true s b p
           one (inr p) = absurd (false≢true p)
       by (inr h) = absurd (clash h old)
-
--- ---- what falls short
-
-pub short_more : {kind : Step → Bool} (p : Step → Bool) (x y z : World) (f : CallFault) → CameToNothing p kind x y f → Goes p y z → CameToNothing p kind x z f
-short_more p x y z f s a = record {
-  before = s.before;
-  first = s.first;
-  step = s.step;
-  own = s.own;
-  of_kind = s.of_kind;
-  gives = s.gives;
-  more = goes_then p s.before y z s.more a;
-}
-
-pub short_after : {kind : Step → Bool} (p : Step → Bool) (x y z : World) (f : CallFault) → Goes p x y → CameToNothing p kind y z f → CameToNothing p kind x z f
-short_after p x y z f a s = record {
-  before = s.before;
-  first = goes_then p x y s.before a s.first;
-  step = s.step;
-  own = s.own;
-  of_kind = s.of_kind;
-  gives = s.gives;
-  more = s.more;
-}
-
-pub short_wider : {kind : Step → Bool} (p q : Step → Bool) (x y : World) (f : CallFault) → ((s : Step) → p s ≡ true → q s ≡ true) → CameToNothing p kind x y f
-    → CameToNothing q kind x y f
-short_wider p q x y f w s = record {
-  before = s.before;
-  first = goes_wider p q x s.before w s.first;
-  step = s.step;
-  own = w s.step s.own;
-  of_kind = s.of_kind;
-  gives = s.gives;
-  more = goes_wider p q s.before y w s.more;
-}
-
--- the first fault is kept through two parts
-pub short_then : (p : Step → Bool) (x y z : World) (was mid is : Option CallFault) → Goes p x y → Goes p y z
-    → ((fault : CallFault) → mid ≡ Some fault → (was ≡ Some fault) ⊎ FallsShort p x y fault)
-    → ((fault : CallFault) → is ≡ Some fault → (mid ≡ Some fault) ⊎ FallsShort p y z fault)
-    → (fault : CallFault) → is ≡ Some fault → (was ≡ Some fault) ⊎ FallsShort p x z fault
-short_then p x y z was mid is a b early late fault h = by (late fault h)
-  where
-    first : (was ≡ Some fault) ⊎ FallsShort p x y fault → (was ≡ Some fault) ⊎ FallsShort p x z fault
-    first (inl k) = inl k
-    first (inr s) = inr (short_more p x y z fault s b)
-
-    by : (mid ≡ Some fault) ⊎ FallsShort p y z fault → (was ≡ Some fault) ⊎ FallsShort p x z fault
-    by (inl k) = first (early fault k)
-    by (inr s) = inr (short_after p x y z fault a s)
-
-pub short_in : (p q : Step → Bool) (x y : World) (was : Option CallFault) (fault : CallFault) → ((s : Step) → p s ≡ true → q s ≡ true)
-    → (was ≡ Some fault) ⊎ FallsShort p x y fault → (was ≡ Some fault) ⊎ FallsShort q x y fault
-short_in p q x y was fault w (inl h) = inl h
-short_in p q x y was fault w (inr s) = inr (short_wider p q x y fault w s)
-
--- ---- settling
-
-pub settles_wider : (p q : Step → Bool) (x y : World) (was is : Option CallFault) (So : Type 0) → ((s : Step) → p s ≡ true → q s ≡ true)
-    → Settles p x y was is So → Settles q x y was is So
-settles_wider p q x y was is So w h = record {
-  goes = goes_wider p q x y w h.goes;
-  none = h.none;
-  settled = h.settled;
-  short = λ fault e. short_in p q x y was fault w (h.short fault e);
-}
-
--- what went before settles nothing, and nothing comes to nothing there
-pub settles_after : (p : Step → Bool) (x y z : World) (was is : Option CallFault) (So : Type 0) → Goes p x y → NoneBegan x y
-    → Settles p y z was is So → Settles p x z was is So
-settles_after p x y z was is So g n h = record {
-  goes = goes_then p x y z g h.goes;
-  none = none_then x y z n h.none;
-  settled = h.settled;
-  short = short_then p x y z was was is g h.goes (λ fault e. inl e) h.short;
-}
-
-pub settles_then : (p : Step → Bool) (x y z : World) (was mid is : Option CallFault) (So Also All : Type 0) → (So → Also → All)
-    → Settles p x y was mid So → Settles p y z mid is Also → Settles p x z was is All
-settles_then p x y z was mid is So Also All both u v = record {
-  goes = goes_then p x y z u.goes v.goes;
-  none = none_then x y z u.none v.none;
-  settled = λ h.
-      let (k, late) = v.settled h in
-      let (j, early) = u.settled k in
-      (j, both early late);
-  short = short_then p x y z was mid is u.goes v.goes u.short v.short;
-}
-
-pub settles_same : (p : Step → Bool) (x y : World) (was : Option CallFault) (So : Type 0) → y ≡ x → So → Settles p x y was was So
-settles_same p x y was So e so = record {
-  goes = goes_same p x y e;
-  none = none_same x y e;
-  settled = λ h. (h, so);
-  short = λ fault h. inl h;
-}
 
 -- ---- what began in between
 
@@ -520,149 +312,348 @@ both_began us vs old new a b t i = by (or_cases (has_name us t) (has_name vs t) 
     by (inl k) = a t k
     by (inr k) = b t k
 
--- what a run began in between was not begun before
-pub began_new : (opening : Opening) (recent past : List Event) (t : Name) → IsRun opening (recent ++ past) → is_begun t recent ≡ true
-    → is_begun t past ≡ false
-began_new opening [] past t run h = absurd (false≢true h)
-began_new opening (e ∷ recent) past t run h = elim (begun_cases e recent t h) [
-  | inl k ↦ false_from_ne_true _ (λ b. clash k (begun_once opening e (recent ++ past) t run (begun_stays t (followed recent past) b)))
-  | inr k ↦ began_new opening recent past t run.2 k
-]
+-- ---- runs that go on
 
--- ---- votes
+-- the world once these events have happened
+same_world : (x y : World) (recent : List Event) → y.lists ≡ x.lists → y.past ≡ recent ++ x.past
+    → y ≡ record { lists = x.lists; past = recent ++ x.past }
+same_world x y recent l p = ap₂ (λ lists past. record { lists = lists; past = past }) l p
 
-pub voters_same : (mine : Step → Bool) (x y : World) → ((t : Name) (g : ℕ) (step : Step) → mine step ≡ true → step_votes step g t ≡ false)
-    → Goes mine x y → AllVotersTold x y
-voters_same mine x y f a t g new old = absurd (clash new (kept (λ step. step_votes step g t) mine x y (f t g) a ∙ old))
+module _ (sees : Sees) where
+  -- events of two parts
+  own_append : (p : Step → Bool) (x : World) (first more : List Event) → AreOwn sees p x first
+      → AreOwn sees p (record { lists = x.lists; past = first ++ x.past }) more → AreOwn sees p x (more ++ first)
+  own_append p x first [] a b = a
+  own_append p x first (e ∷ more) a b = (
+    b.0,
+    b.1,
+    subst (λ past. IsAnsweredTo sees (record { lists = x.lists; past = past }) e.step e.answer) (sym (append_assoc more first x.past)) b.2,
+    own_append p x first more a b.3,
+  )
 
--- who voted in the first part stays told through the second
-pub voters_then : (mine : Step → Bool) (x y z : World) → ((g : ℕ) (step : Step) → mine step ≡ true → step_crashes step g ≡ false)
-    → AllVotersTold x y → AllVotersTold y z → Goes mine y z → AllVotersTold x z
-voters_then mine x y z f early late a t g new old = of (has_voted g t y.past) refl
-  where
-    of : (b : Bool) → has_voted g t y.past ≡ b → told_since_crash g t z.past ≡ true
-    of true e = goes_told g t mine y z (f g) a (early t g e old)
-    of false e = late t g new e
+  own_wider : (p q : Step → Bool) (x : World) → ((s : Step) → p s ≡ true → q s ≡ true) → (recent : List Event) → AreOwn sees p x recent
+      → AreOwn sees q x recent
+  own_wider p q x f [] own = tt
+  own_wider p q x f (e ∷ recent) own = (f e.step own.0, own.1, own.2, own_wider p q x f recent own.3)
 
--- ---- work
+  own_kept : (p mine : Step → Bool) → ((step : Step) → mine step ≡ true → p step ≡ false) → (x : World) (recent : List Event)
+      → AreOwn sees mine x recent
+      → list_any (λ (e : Event). p e.step) (recent ++ x.past) ≡ list_any (λ (e : Event). p e.step) x.past
+  own_kept p mine f x [] own = refl
+  own_kept p mine f x (e ∷ recent) own =
+      ap (λ b. b || list_any (λ (e : Event). p e.step) (recent ++ x.past)) (f e.step own.0) ∙ own_kept p mine f x recent own.3
 
-pub works_quiet : (a : Name) (old new : World) (left : Option CallFault) → Goes (works_in a) old new → NoneBegan old new → Works a old new left left
-works_quiet a old new left g n = record {
-  tops = [];
-  began = none_of old new;
-  goes = goes_wider (works_in a) (works_with [] a) old new (with_work [] a) g;
-  settled = λ h. (h, all_settled_if_none old new n, voters_same (works_in a) old new (work_votes_not a) g);
-  short = λ fault h. inl h;
-}
+  -- what was told stays so if the guardian does not crash
+  own_told : (g : ℕ) (b : Name) (mine : Step → Bool) → ((step : Step) → mine step ≡ true → step_crashes step g ≡ false) → (x : World)
+      (recent : List Event) → AreOwn sees mine x recent → told_since_crash g b x.past ≡ true → told_since_crash g b (recent ++ x.past) ≡ true
+  own_told g b mine f x [] own h = h
+  own_told g b mine f x (e ∷ recent) own h =
+      and_from _ _ (not_from_false _ (f e.step own.0)) (or_left _ _ (own_told g b mine f x recent own.3 h))
 
-pub works_then : (a : Name) (x y z : World) (p q r : Option CallFault) → Works a x y p q → Works a y z q r → Works a x z p r
-works_then a x y z p q r u v = record {
-  tops = u.tops ++ v.tops;
-  began =
-      both_began u.tops v.tops x z (all_within u.tops x x y z here u.began (goes_grows (works_with v.tops a) y z v.goes))
-      (all_within v.tops x y z z (goes_grows (works_with u.tops a) x y u.goes) v.began here);
-  goes = goes_then (works_with (u.tops ++ v.tops) a) x y z early late;
-  settled = λ h.
-      let (k, late_settled, late_told) = v.settled h in
-      let (j, early_settled, early_told) = u.settled k in (
-        j,
-        λ b new old. of b early_settled late_settled new old (is_begun b y.past) refl,
-        voters_then (works_with (u.tops ++ v.tops) a) x y z (with_crashes_not (u.tops ++ v.tops) a) early_told late_told late,
-      );
-  short =
-      short_then (works_with (u.tops ++ v.tops) a) x y z p q r early late
-      (λ fault h. short_in (works_with u.tops a) (works_with (u.tops ++ v.tops) a) x y p fault (with_front u.tops v.tops a) (u.short fault h))
-      (λ fault h. short_in (works_with v.tops a) (works_with (u.tops ++ v.tops) a) y z q fault (with_back u.tops v.tops a) (v.short fault h));
-}
-  where
-    early : Goes (works_with (u.tops ++ v.tops) a) x y
-    early = goes_wider (works_with u.tops a) (works_with (u.tops ++ v.tops) a) x y (with_front u.tops v.tops a) u.goes
+  -- what began in between was not begun before
+  own_new : (mine : Step → Bool) (x : World) (recent : List Event) (t : Name) → AreOwn sees mine x recent → is_begun t recent ≡ true
+      → is_begun t x.past ≡ false
+  own_new mine x [] t own h = absurd (false≢true h)
+  own_new mine x (e ∷ recent) t own h = elim (begun_cases e recent t h) [
+    | inl k ↦
+        false_from_ne_true _ (λ b.
+        clash (begun_stays t (followed recent x.past) b)
+        (begun_is_new (record { lists = x.lists; past = recent ++ x.past }) e.step e.answer own.2 own.1 t k))
+    | inr k ↦ own_new mine x recent t own.3 k
+  ]
 
-    late : Goes (works_with (u.tops ++ v.tops) a) y z
-    late = goes_wider (works_with v.tops a) (works_with (u.tops ++ v.tops) a) y z (with_back u.tops v.tops a) v.goes
+module _ {sees : Sees} where
+  pub goes_none : (p : Step → Bool) (w : World) → Goes sees p w w
+  goes_none p w = record { lists = refl; later = []; past = refl; own = tt }
 
-    of : (b : Name) → AllSettled x y → AllSettled y z → is_begun b z.past ≡ true → is_begun b x.past ≡ false → (t : Bool) → is_begun b y.past ≡ t
-        → IsSettled b z
-    of b first last new old true e =
-        settled_stays (works_with (u.tops ++ v.tops) a) y z b (with_crashes_not (u.tops ++ v.tops) a) late (first b e old)
-    of b first last new old false e = last b new e
+  pub goes_same : (p : Step → Bool) (old new : World) → new ≡ old → Goes sees p old new
+  goes_same p old new e = subst (λ w. Goes sees p old w) (sym e) (goes_none p old)
 
--- a subaction is below the action that calls it
-pub called_below : (x : World) (a : Name) (g : ℕ) (s : Name)
-    → answer_of (opening_in x.lists) (steps.Call a g) x.past ≡ answers.Began (s ∷ []) → is_below a s ≡ true
-called_below x a g s answer =
-    let e = called_child (opening_in x.lists) a g x.past s answer in
-    subst (λ c. is_below a c ≡ true) (sym e) (child_below a (next_number (opening_in x.lists) a x.past))
+  pub goes_one : (p : Step → Bool) (step : Step) (answer : Answer) (old new : World) → p step ≡ true → IsAnsweredTo sees old step answer
+      → new ≡ world_after old step answer → Goes sees p old new
+  goes_one p step answer old new is given after = subst (λ w. Goes sees p old w) (sym after) (by (is_accepted answer) refl)
+    where
+      by : (t : Bool) → is_accepted answer ≡ t
+          → Goes sees p old (record { lists = old.lists; past = if t then record { step = step; answer = answer } ∷ old.past else old.past })
+      by true e = record { lists = refl; later = record { step = step; answer = answer } ∷ []; past = refl; own = (is, e, given, tt) }
+      by false e = goes_none p old
 
--- a subaction was called, worked and ended
-module _ (a s : Name) (g : ℕ) (x y z w : World) (was mid is : Option CallFault)
-    (answer : answer_of (opening_in x.lists) (steps.Call a g) x.past ≡ answers.Began (s ∷ []))
-    (after : y ≡ world_after x (steps.Call a g) (answer_of (opening_in x.lists) (steps.Call a g) x.past))
-    (inside : Works s y z was mid) (ends : Settles (finishes s) z w mid is (EndedAndTold s g w)) where
-  below : is_below a s ≡ true
-  below = called_below x a g s answer
-
-  abbrev mine : Step → Bool
-  mine = works_with inside.tops a
-
-  there : y ≡ record { lists = x.lists; past = record { step = steps.Call a g; answer = answers.Began (s ∷ []) } ∷ x.past }
-  there = after ∙ ap (λ k. world_after x (steps.Call a g) k) answer
-
-  call_works : Goes (works_in a) x y
-  call_works = goes_one (works_in a) (steps.Call a g) x y (prefix_self a) after
-
-  call_goes : Goes mine x y
-  call_goes = goes_wider (works_in a) mine x y (with_work inside.tops a) call_works
-
-  inner_lift : (step : Step) → works_with inside.tops s step ≡ true → mine step ≡ true
-  inner_lift = with_lift inside.tops a s (and_parts _ _ below).0
-
-  inner_goes : Goes mine y z
-  inner_goes = goes_wider (works_with inside.tops s) mine y z inner_lift inside.goes
-
-  inner_short : (fault : CallFault) → mid ≡ Some fault → (was ≡ Some fault) ⊎ FallsShort mine y z fault
-  inner_short fault h = short_in (works_with inside.tops s) mine y z was fault inner_lift (inside.short fault h)
-
-  lifted : Settles mine z w mid is (EndedAndTold s g w)
-  lifted =
-      settles_wider (finishes s) mine z w mid is (EndedAndTold s g w)
-      (λ step h. with_work inside.tops a step (finishes_below a s below step h)) ends
-
-  own_settled : EndedAndTold s g w → IsSettled s w
-  own_settled h = record {
-    ended = h.0;
-    home = g;
-    there =
-        began_stays g s (goes_grows mine y w (goes_then mine y z w inner_goes lifted.goes))
-        (begun_at (steps.Call a g) s x y there g (eqb_self g));
-    told = h.1;
+  pub goes_then : (p : Step → Bool) (x y z : World) → Goes sees p x y → Goes sees p y z → Goes sees p x z
+  goes_then p x y z a b = record {
+    lists = b.lists ∙ a.lists;
+    later = b.later ++ a.later;
+    past = b.past ∙ ap (λ past. b.later ++ past) a.past ∙ sym (append_assoc b.later a.later x.past);
+    own =
+        own_append sees p x a.later b.later a.own
+        (subst (λ w. AreOwn sees p w b.later) (same_world x y a.later a.lists a.past) b.own);
   }
 
-  pub works_called : Works a x w was is
-  works_called = record {
-    tops = inside.tops;
-    began = all_within inside.tops x y z w (goes_grows mine x y call_goes) inside.began (goes_grows mine z w lifted.goes);
-    goes = goes_then mine x y w call_goes (goes_then mine y z w inner_goes lifted.goes);
+  pub goes_wider : (p q : Step → Bool) (x y : World) → ((s : Step) → p s ≡ true → q s ≡ true) → Goes sees p x y → Goes sees q x y
+  goes_wider p q x y f a = record { lists = a.lists; later = a.later; past = a.past; own = own_wider sees p q x f a.later a.own }
+
+  pub goes_grows : (p : Step → Bool) (x y : World) → Goes sees p x y → Follows x.past y.past
+  goes_grows p x y a = subst (λ h. Follows x.past h) (sym a.past) (followed a.later x.past)
+
+  -- a test that fails at every step of the kind
+  pub kept : (p mine : Step → Bool) (x y : World) → ((step : Step) → mine step ≡ true → p step ≡ false) → Goes sees mine x y
+      → list_any (λ (e : Event). p e.step) y.past ≡ list_any (λ (e : Event). p e.step) x.past
+  kept p mine x y f a =
+      ap (λ past. list_any (λ (e : Event). p e.step) past) a.past
+      ∙ own_kept sees p mine f x a.later a.own
+
+  pub goes_told : (g : ℕ) (b : Name) (mine : Step → Bool) (x y : World) → ((step : Step) → mine step ≡ true → step_crashes step g ≡ false)
+      → Goes sees mine x y → told_since_crash g b x.past ≡ true → told_since_crash g b y.past ≡ true
+  goes_told g b mine x y f a h =
+      subst (λ past. told_since_crash g b past ≡ true) (sym a.past) (own_told sees g b mine f x a.later a.own h)
+
+  pub goes_ended : (p : Step → Bool) (x y : World) (b : Name) → Goes sees p x y → is_ended b x.past ≡ true → is_ended b y.past ≡ true
+  goes_ended p x y b a h = ended_stays b x.past y.past (goes_grows p x y a) h
+
+  -- what began and was settled stays so
+  pub settled_stays : (mine : Step → Bool) (x y : World) (b : Name) → ((g : ℕ) (step : Step) → mine step ≡ true → step_crashes step g ≡ false)
+      → Goes sees mine x y → IsSettled b x → IsSettled b y
+  settled_stays mine x y b f a h = record {
+    ended = goes_ended mine x y b a h.ended;
+    home = h.home;
+    there = began_stays h.home b (goes_grows mine x y a) h.there;
+    told = goes_told h.home b mine x y (f h.home) a h.told;
+  }
+
+  pub began_new : (mine : Step → Bool) (x y : World) (t : Name) → Goes sees mine x y → Began t x y → is_begun t x.past ≡ false
+  began_new mine x y t a b =
+      own_new sees mine x a.later t a.own
+      (subst (λ recent. is_begun t recent ≡ true) (append_cancel_right b.recent a.later x.past (sym b.parts ∙ a.past)) b.begun)
+
+  -- ---- what falls short
+
+  pub short_more : {kind : Step → Bool} (p : Step → Bool) (x y z : World) (f : CallFault) → CameToNothing sees p kind x y f → Goes sees p y z → CameToNothing sees p kind x z f
+  short_more p x y z f s a = record {
+    before = s.before;
+    first = s.first;
+    step = s.step;
+    own = s.own;
+    of_kind = s.of_kind;
+    why = s.why;
+    more = goes_then p s.before y z s.more a;
+  }
+
+  pub short_after : {kind : Step → Bool} (p : Step → Bool) (x y z : World) (f : CallFault) → Goes sees p x y → CameToNothing sees p kind y z f → CameToNothing sees p kind x z f
+  short_after p x y z f a s = record {
+    before = s.before;
+    first = goes_then p x y s.before a s.first;
+    step = s.step;
+    own = s.own;
+    of_kind = s.of_kind;
+    why = s.why;
+    more = s.more;
+  }
+
+  pub short_wider : {kind : Step → Bool} (p q : Step → Bool) (x y : World) (f : CallFault) → ((s : Step) → p s ≡ true → q s ≡ true) → CameToNothing sees p kind x y f
+      → CameToNothing sees q kind x y f
+  short_wider p q x y f w s = record {
+    before = s.before;
+    first = goes_wider p q x s.before w s.first;
+    step = s.step;
+    own = w s.step s.own;
+    of_kind = s.of_kind;
+    why = s.why;
+    more = goes_wider p q s.before y w s.more;
+  }
+
+  -- the first fault is kept through two parts
+  pub short_then : (p : Step → Bool) (x y z : World) (was mid is : Option CallFault) → Goes sees p x y → Goes sees p y z
+      → ((fault : CallFault) → mid ≡ Some fault → (was ≡ Some fault) ⊎ FallsShort sees p x y fault)
+      → ((fault : CallFault) → is ≡ Some fault → (mid ≡ Some fault) ⊎ FallsShort sees p y z fault)
+      → (fault : CallFault) → is ≡ Some fault → (was ≡ Some fault) ⊎ FallsShort sees p x z fault
+  short_then p x y z was mid is a b early late fault h = by (late fault h)
+    where
+      first : (was ≡ Some fault) ⊎ FallsShort sees p x y fault → (was ≡ Some fault) ⊎ FallsShort sees p x z fault
+      first (inl k) = inl k
+      first (inr s) = inr (short_more p x y z fault s b)
+
+      by : (mid ≡ Some fault) ⊎ FallsShort sees p y z fault → (was ≡ Some fault) ⊎ FallsShort sees p x z fault
+      by (inl k) = first (early fault k)
+      by (inr s) = inr (short_after p x y z fault a s)
+
+  pub short_in : (p q : Step → Bool) (x y : World) (was : Option CallFault) (fault : CallFault) → ((s : Step) → p s ≡ true → q s ≡ true)
+      → (was ≡ Some fault) ⊎ FallsShort sees p x y fault → (was ≡ Some fault) ⊎ FallsShort sees q x y fault
+  short_in p q x y was fault w (inl h) = inl h
+  short_in p q x y was fault w (inr s) = inr (short_wider p q x y fault w s)
+
+  -- ---- settling
+
+  pub settles_wider : (p q : Step → Bool) (x y : World) (was is : Option CallFault) (So : Type 0) → ((s : Step) → p s ≡ true → q s ≡ true)
+      → Settles sees p x y was is So → Settles sees q x y was is So
+  settles_wider p q x y was is So w h = record {
+    goes = goes_wider p q x y w h.goes;
+    none = h.none;
+    settled = h.settled;
+    short = λ fault e. short_in p q x y was fault w (h.short fault e);
+  }
+
+  -- what went before settles nothing, and nothing comes to nothing there
+  pub settles_after : (p : Step → Bool) (x y z : World) (was is : Option CallFault) (So : Type 0) → Goes sees p x y → NoneBegan x y
+      → Settles sees p y z was is So → Settles sees p x z was is So
+  settles_after p x y z was is So g n h = record {
+    goes = goes_then p x y z g h.goes;
+    none = none_then x y z n h.none;
+    settled = h.settled;
+    short = short_then p x y z was was is g h.goes (λ fault e. inl e) h.short;
+  }
+
+  pub settles_then : (p : Step → Bool) (x y z : World) (was mid is : Option CallFault) (So Also All : Type 0) → (So → Also → All)
+      → Settles sees p x y was mid So → Settles sees p y z mid is Also → Settles sees p x z was is All
+  settles_then p x y z was mid is So Also All both u v = record {
+    goes = goes_then p x y z u.goes v.goes;
+    none = none_then x y z u.none v.none;
     settled = λ h.
-        let (k, done) = ends.settled h in
-        let (j, all, heard) = inside.settled k in (
+        let (k, late) = v.settled h in
+        let (j, early) = u.settled k in
+        (j, both early late);
+    short = short_then p x y z was mid is u.goes v.goes u.short v.short;
+  }
+
+  pub settles_same : (p : Step → Bool) (x y : World) (was : Option CallFault) (So : Type 0) → y ≡ x → So → Settles sees p x y was was So
+  settles_same p x y was So e so = record {
+    goes = goes_same p x y e;
+    none = none_same x y e;
+    settled = λ h. (h, so);
+    short = λ fault h. inl h;
+  }
+
+  -- ---- votes
+
+  pub voters_same : (mine : Step → Bool) (x y : World) → ((t : Name) (g : ℕ) (step : Step) → mine step ≡ true → step_votes step g t ≡ false)
+      → Goes sees mine x y → AllVotersTold x y
+  voters_same mine x y f a t g new old = absurd (clash new (kept (λ step. step_votes step g t) mine x y (f t g) a ∙ old))
+
+  -- who voted in the first part stays told through the second
+  pub voters_then : (mine : Step → Bool) (x y z : World) → ((g : ℕ) (step : Step) → mine step ≡ true → step_crashes step g ≡ false)
+      → AllVotersTold x y → AllVotersTold y z → Goes sees mine y z → AllVotersTold x z
+  voters_then mine x y z f early late a t g new old = of (has_voted g t y.past) refl
+    where
+      of : (b : Bool) → has_voted g t y.past ≡ b → told_since_crash g t z.past ≡ true
+      of true e = goes_told g t mine y z (f g) a (early t g e old)
+      of false e = late t g new e
+
+  -- ---- work
+
+  pub works_quiet : (a : Name) (old new : World) (left : Option CallFault) → Goes sees (works_in a) old new → NoneBegan old new → Works sees a old new left left
+  works_quiet a old new left g n = record {
+    tops = [];
+    began = none_of old new;
+    goes = goes_wider (works_in a) (works_with [] a) old new (with_work [] a) g;
+    settled = λ h. (h, all_settled_if_none old new n, voters_same (works_in a) old new (work_votes_not a) g);
+    short = λ fault h. inl h;
+  }
+
+  pub works_then : (a : Name) (x y z : World) (p q r : Option CallFault) → Works sees a x y p q → Works sees a y z q r → Works sees a x z p r
+  works_then a x y z p q r u v = record {
+    tops = u.tops ++ v.tops;
+    began =
+        both_began u.tops v.tops x z (all_within u.tops x x y z here u.began (goes_grows (works_with v.tops a) y z v.goes))
+        (all_within v.tops x y z z (goes_grows (works_with u.tops a) x y u.goes) v.began here);
+    goes = goes_then (works_with (u.tops ++ v.tops) a) x y z early late;
+    settled = λ h.
+        let (k, late_settled, late_told) = v.settled h in
+        let (j, early_settled, early_told) = u.settled k in (
           j,
-          λ b new old. of b done all new old (is_begun b y.past) refl,
-          voters_then mine x z w crashes_not
-              (voters_then mine x y z crashes_not (voters_same (works_in a) x y (work_votes_not a) call_works) heard inner_goes)
-              (voters_same (finishes s) z w (finishes_votes_not s) ends.goes) lifted.goes,
+          λ b new old. of b early_settled late_settled new old (is_begun b y.past) refl,
+          voters_then (works_with (u.tops ++ v.tops) a) x y z (with_crashes_not (u.tops ++ v.tops) a) early_told late_told late,
         );
     short =
-        short_then mine x y w was was is call_goes (goes_then mine y z w inner_goes lifted.goes) (λ fault e. inl e)
-        (short_then mine y z w was mid is inner_goes lifted.goes inner_short lifted.short);
+        short_then (works_with (u.tops ++ v.tops) a) x y z p q r early late
+        (λ fault h. short_in (works_with u.tops a) (works_with (u.tops ++ v.tops) a) x y p fault (with_front u.tops v.tops a) (u.short fault h))
+        (λ fault h. short_in (works_with v.tops a) (works_with (u.tops ++ v.tops) a) y z q fault (with_back u.tops v.tops a) (v.short fault h));
   }
     where
-      crashes_not : (h : ℕ) (step : Step) → works_with inside.tops a step ≡ true → step_crashes step h ≡ false
-      crashes_not = with_crashes_not inside.tops a
+      early : Goes sees (works_with (u.tops ++ v.tops) a) x y
+      early = goes_wider (works_with u.tops a) (works_with (u.tops ++ v.tops) a) x y (with_front u.tops v.tops a) u.goes
 
-      of : (b : Name) → EndedAndTold s g w → AllSettled y z → is_begun b w.past ≡ true → is_begun b x.past ≡ false → (t : Bool)
-          → is_begun b y.past ≡ t → IsSettled b w
-      of b done all new old true e =
-          subst (λ c. IsSettled c w) (begun_only (steps.Call a g) s x y there b e old) (own_settled done)
-      of b done all new old false e =
-          settled_stays mine z w b crashes_not lifted.goes (all b (sym (ends.none b) ∙ new) e)
+      late : Goes sees (works_with (u.tops ++ v.tops) a) y z
+      late = goes_wider (works_with v.tops a) (works_with (u.tops ++ v.tops) a) y z (with_back u.tops v.tops a) v.goes
+
+      of : (b : Name) → AllSettled x y → AllSettled y z → is_begun b z.past ≡ true → is_begun b x.past ≡ false → (t : Bool) → is_begun b y.past ≡ t
+          → IsSettled b z
+      of b first last new old true e =
+          settled_stays (works_with (u.tops ++ v.tops) a) y z b (with_crashes_not (u.tops ++ v.tops) a) late (first b e old)
+      of b first last new old false e = last b new e
+
+  -- a subaction is below the action that calls it
+  pub called_below : (x : World) (a : Name) (g : ℕ) (s : Name) → IsAnsweredTo sees x (steps.Call a g) (answers.Began (s ∷ [])) → is_below a s ≡ true
+  called_below x a g s given =
+      let e = called_child (opening_in x.lists) a g given.seen s (sym given.answered) in
+      subst (λ c. is_below a c ≡ true) (sym e) (child_below a (next_number (opening_in x.lists) a given.seen))
+
+  -- a subaction was called, worked and ended
+  module _ (a s : Name) (g : ℕ) (x y z w : World) (was mid is : Option CallFault)
+      (answer : IsAnsweredTo sees x (steps.Call a g) (answers.Began (s ∷ [])))
+      (after : y ≡ world_after x (steps.Call a g) (answers.Began (s ∷ [])))
+      (inside : Works sees s y z was mid) (ends : Settles sees (finishes s) z w mid is (EndedAndTold s g w)) where
+    below : is_below a s ≡ true
+    below = called_below x a g s answer
+
+    abbrev mine : Step → Bool
+    mine = works_with inside.tops a
+
+    there : y ≡ record { lists = x.lists; past = record { step = steps.Call a g; answer = answers.Began (s ∷ []) } ∷ x.past }
+    there = after
+
+    call_works : Goes sees (works_in a) x y
+    call_works = goes_one (works_in a) (steps.Call a g) (answers.Began (s ∷ [])) x y (prefix_self a) answer after
+
+    call_goes : Goes sees mine x y
+    call_goes = goes_wider (works_in a) mine x y (with_work inside.tops a) call_works
+
+    inner_lift : (step : Step) → works_with inside.tops s step ≡ true → mine step ≡ true
+    inner_lift = with_lift inside.tops a s (and_parts _ _ below).0
+
+    inner_goes : Goes sees mine y z
+    inner_goes = goes_wider (works_with inside.tops s) mine y z inner_lift inside.goes
+
+    inner_short : (fault : CallFault) → mid ≡ Some fault → (was ≡ Some fault) ⊎ FallsShort sees mine y z fault
+    inner_short fault h = short_in (works_with inside.tops s) mine y z was fault inner_lift (inside.short fault h)
+
+    lifted : Settles sees mine z w mid is (EndedAndTold s g w)
+    lifted =
+        settles_wider (finishes s) mine z w mid is (EndedAndTold s g w)
+        (λ step h. with_work inside.tops a step (finishes_below a s below step h)) ends
+
+    own_settled : EndedAndTold s g w → IsSettled s w
+    own_settled h = record {
+      ended = h.0;
+      home = g;
+      there =
+          began_stays g s (goes_grows mine y w (goes_then mine y z w inner_goes lifted.goes))
+          (begun_at (steps.Call a g) s x y there g (eqb_self g));
+      told = h.1;
+    }
+
+    pub works_called : Works sees a x w was is
+    works_called = record {
+      tops = inside.tops;
+      began = all_within inside.tops x y z w (goes_grows mine x y call_goes) inside.began (goes_grows mine z w lifted.goes);
+      goes = goes_then mine x y w call_goes (goes_then mine y z w inner_goes lifted.goes);
+      settled = λ h.
+          let (k, done) = ends.settled h in
+          let (j, all, heard) = inside.settled k in (
+            j,
+            λ b new old. of b done all new old (is_begun b y.past) refl,
+            voters_then mine x z w crashes_not
+                (voters_then mine x y z crashes_not (voters_same (works_in a) x y (work_votes_not a) call_works) heard inner_goes)
+                (voters_same (finishes s) z w (finishes_votes_not s) ends.goes) lifted.goes,
+          );
+      short =
+          short_then mine x y w was was is call_goes (goes_then mine y z w inner_goes lifted.goes) (λ fault e. inl e)
+          (short_then mine y z w was mid is inner_goes lifted.goes inner_short lifted.short);
+    }
+      where
+        crashes_not : (h : ℕ) (step : Step) → works_with inside.tops a step ≡ true → step_crashes step h ≡ false
+        crashes_not = with_crashes_not inside.tops a
+
+        of : (b : Name) → EndedAndTold s g w → AllSettled y z → is_begun b w.past ≡ true → is_begun b x.past ≡ false → (t : Bool)
+            → is_begun b y.past ≡ t → IsSettled b w
+        of b done all new old true e =
+            subst (λ c. IsSettled c w) (begun_only (steps.Call a g) s x y there b e old) (own_settled done)
+        of b done all new old false e =
+            settled_stays mine z w b crashes_not lifted.goes (all b (sym (ends.none b) ∙ new) e)

@@ -1,10 +1,12 @@
 pub mod Again
+pub mod Alone
 pub mod Calls
 pub mod Concluded
 pub mod Ended
 pub mod Going
 pub mod Numbers
 pub mod Others
+pub mod Parts
 pub mod Shapes
 pub mod Undone
 pub mod Whole

@@ -1,7 +1,8 @@
 -- What a step that happened was answered, by the kind of step.
-use Rattle.std.proofs.Common.{Bool, List, None, Ok, Option, Some, [], ap, cond, false, refl, subst, sym, true, ℕ, ◌∷◌, ◌≡◌, ◌∙◌}
+use Rattle.std.proofs.Common.{Bool, Err, IfOk, List, None, Ok, OnErr, Option, Result, Some, [], ap, cond, false, refl, subst, sym, true, ℕ, ◌∷◌, ◌≡◌, ◌∙◌}
 use Rattle.std.proofs.lemmas.Bool.{false≢true}
 use Rattle.std.specs.Prelude.{IsTrue}
+use Rattle.std.specs.Result.{IsErrAnd}
 use Rattle.action_names.specs.Names.{Name}
 use Rattle.atomic_types.specs.Operations.{Op}
 use Rattle.atomic_types.specs.declared.op.Reply.{Reply}
@@ -15,11 +16,18 @@ use Rattle.run_model.specs.Answers.{answer_of, granted_by, outcome, refused_or}
 use Rattle.run_model.specs.Keeping.{Performed, blockers_by, standing_of}
 use Rattle.run_model.specs.Openings.{Opening, first_content, opening_in}
 use Rattle.run_model.specs.Refusals.{checks, first_refusal}
-use Rattle.run_model.specs.Runs.{World, is_accepted}
+use Rattle.run_model.specs.Runs.{World, is_accepted, world_after}
 use Rattle.run_model.specs.Versions.{under}
 use Rattle.run_model.specs.Votes.{may_prepare}
+use Rattle.layer_contracts.specs.Stores.{fault_in}
+use Rattle.layer_contracts.specs.declared.guardian.Fault.{Fault}
+use Rattle.layer_contracts.specs.declared.guardian.Fault.TheVariants.{Memory, Stable}
+use Rattle.stepping.specs.Beside.{IsAnsweredTo, IsMadeWith, LeavesOrNone, Sees}
 use Rattle.stepping.specs.Stepping.{Leaves}
-use Rattle.service.specs.Calling.{IsAccepted, IsCall, IsFinishing, IsVote}
+use Rattle.stepping.proofs.Beside.{leaves_step}
+use Rattle.service.specs.Calling.{IsAccepted, IsCall, IsFinishing, IsTaken, IsVote, LeavesStores}
+use Rattle.service.specs.declared.fault.CallFault.{CallFault}
+use Rattle.service.specs.declared.fault.CallFault.TheVariants.{Failed, Refused, Waits}
 use Rattle.values.specs.declared.content.Content.{Content}
 
 -- it is an answer to this step, if the step happened
@@ -84,15 +92,86 @@ finishing (steps.Crash g) f x h = h
 finishing (steps.Recover g) f x h = h
 finishing _ f x h = absurd f
 
+-- ---- calls
+
 -- so was the step of a call that happened
-pub fits : {M : Type 0} (run : M → World) (leaves : Leaves M) (step : Step) (old new : M) (given : Answer)
-    → IsCall run leaves step IsAccepted old new (Ok given) → Fits step given
-fits run leaves step old new given call =
-    answer_fits (opening_in (run old).lists) step (run old).past given call.gives.0 call.gives.1
+pub fits : {M : Type 0} (run : M → World) (sees : Sees) (leaves : Leaves M) (step : Step) (old new : M) (given : Answer)
+    → IsCall run sees leaves step IsAccepted old new (Ok given) → Fits step given
+fits run sees leaves step old new given call =
+    let at = call.gives.made.answered in
+    let (same, accepted) = call.gives.shows in
+    answer_fits (opening_in (run old).lists) step at.seen given (sym at.answered ∙ same) accepted
 
 -- a call gives what the answer of its step gives
-pub shown : {T M : Type 0} (run : M → World) (leaves : Leaves M) (step asked : Step) (Shows : T → Answer → Type 0) (old new : M) (given : Answer)
-    (x : T) → step ≡ asked → IsCall run leaves step IsAccepted old new (Ok given) → Shows x given → IsCall run leaves asked Shows old new (Ok x)
-shown run leaves step asked Shows old new given x same call s =
-    subst (λ e. IsCall run leaves e Shows old new (Ok x)) same
-    (record { gives = subst (Shows x) (sym call.gives.0) s; made = call.made; same = tt; stores = tt })
+pub shown : {T M : Type 0} (run : M → World) (sees : Sees) (leaves : Leaves M) (step asked : Step) (Shows : T → Answer → Type 0) (old new : M)
+    (given : Answer) (x : T) → step ≡ asked → IsCall run sees leaves step IsAccepted old new (Ok given) → Shows x given
+    → IsCall run sees leaves asked Shows old new (Ok x)
+shown run sees leaves step asked Shows old new given x same call s = record {
+  gives = record {
+    answer = given;
+    made =
+        subst (λ e. IsMadeWith run sees leaves e given old new) same
+        (subst (λ a. IsMadeWith run sees leaves step a old new) call.gives.shows.0 call.gives.made);
+    shows = s;
+  };
+  why = tt;
+  same = tt;
+  stores = tt;
+}
+
+-- a fault comes of a step that was made, or of none
+fails : {M : Type 0} (leaves : Leaves M) (step : Step) (old new : M) (fault : Fault) → LeavesOrNone leaves step (Some fault) old new
+    → LeavesStores leaves step old new (Failed fault)
+fails leaves step old new Memory left = left
+fails leaves step old new Stable left = left
+
+-- a step that was made is a call
+pub taken_call : {M : Type 0} (run : M → World) (sees : Sees) (leaves : Leaves M) (step : Step) (old new : M) (made : Result Answer Fault)
+    (result : Result Answer CallFault) → IsTaken made result → IfOk made (IsAnsweredTo sees (run old) step)
+    → IfOk made (λ answer. run new ≡ world_after (run old) step answer) → OnErr made (run new ≡ run old)
+    → LeavesOrNone leaves step (fault_in made) old new → IsCall run sees leaves step IsAccepted old new result
+taken_call run sees leaves step old new (Ok answer) (Ok given) is answered after err left = record {
+  gives = record { answer = answer; made = record { answered = answered; after = after; stores = left }; shows = is };
+  why = tt;
+  same = tt;
+  stores = tt;
+}
+taken_call run sees leaves step old new (Ok answer) (Err (Refused why)) is answered after err left = record {
+  gives = tt;
+  why = subst (IsAnsweredTo sees (run old) step) is answered;
+  same = after ∙ ap (λ a. world_after (run old) step a) is;
+  stores = left;
+}
+taken_call run sees leaves step old new (Ok answer) (Err (Waits names)) is answered after err left = record {
+  gives = tt;
+  why = subst (IsAnsweredTo sees (run old) step) is answered;
+  same = after ∙ ap (λ a. world_after (run old) step a) is;
+  stores = left;
+}
+taken_call run sees leaves step old new (Ok answer) (Err (Failed fault)) is answered after err left = absurd is
+taken_call run sees leaves step old new (Err fault) (Ok given) is answered after err left = absurd is
+taken_call run sees leaves step old new (Err fault) (Err (Refused why)) is answered after err left = absurd is
+taken_call run sees leaves step old new (Err fault) (Err (Waits names)) is answered after err left = absurd is
+taken_call run sees leaves step old new (Err fault) (Err (Failed same)) is answered after err left = record {
+  gives = tt;
+  why = tt;
+  same = err;
+  stores = subst (λ f. LeavesStores leaves step old new (Failed f)) (sym is) (fails leaves step old new fault left);
+}
+
+-- so is one of which it is known how it leaves the stores
+pub made_call : {M : Type 0} (run : M → World) (sees : Sees) (leaves : Leaves M) (step : Step) (old new : M) (made : Result Answer Fault)
+    (result : Result Answer CallFault) → IsTaken made result → IfOk made (IsAnsweredTo sees (run old) step)
+    → IfOk made (λ answer. run new ≡ world_after (run old) step answer) → OnErr made (run new ≡ run old) → leaves step (fault_in made) old new
+    → IsCall run sees leaves step IsAccepted old new result
+made_call run sees leaves step old new made result is answered after err left =
+    taken_call run sees leaves step old new made result is answered after err (leaves_step leaves step (fault_in made) old new left)
+
+-- and what came to nothing gives nothing
+pub call_fails : {T M : Type 0} (run : M → World) (sees : Sees) (leaves : Leaves M) (step : Step) (Shows : T → Answer → Type 0) (old new : M)
+    (result : Result T CallFault) (fault : CallFault) → IsErrAnd result (λ x. x ≡ fault) → IsCall run sees leaves step IsAccepted old new (Err fault)
+    → IsCall run sees leaves step Shows old new result
+call_fails run sees leaves step Shows old new (Ok x) fault h call = absurd h
+call_fails run sees leaves step Shows old new (Err e) fault h call =
+    subst (λ f. IsCall run sees leaves step Shows old new (Err f)) (sym h)
+    (record { gives = tt; why = call.why; same = call.same; stores = call.stores })

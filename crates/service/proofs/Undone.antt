@@ -8,17 +8,17 @@ use Rattle.action_names.specs.Names.{Name, is_prefix, parent_of}
 use Rattle.run_model.specs.declared.step.Step.{Step}
 use Rattle.run_model.specs.declared.step.Step.TheVariants as steps
 use Rattle.run_model.specs.Actions.{is_committed, step_commits}
-use Rattle.run_model.specs.Answers.{answer_of}
-use Rattle.run_model.specs.Openings.{opening_in}
 use Rattle.run_model.specs.Runs.{World}
 use Rattle.run_laws.proofs.Growth.{Follows, follows_through, here}
 use Rattle.run_laws.proofs.Names.{clash, same_name_true}
-use Rattle.service.specs.Transacting.{CommitsNoChild, Goes, Works, is_below, settles, works_in, works_with}
+use Rattle.service.specs.Transacting.{Begins, CommitsNoChild, Goes, Works, is_below, settles, works_in, works_with}
+use Rattle.stepping.specs.Beside.{Sees}
 use Rattle.stepping.specs.Stepping.{Leaves}
 use Rattle.service.specs.Calling.{IsCall}
 use Rattle.service.specs.Opening.{BeganAt}
 use Rattle.service.specs.declared.fault.CallFault.{CallFault}
 use Rattle.service.specs.declared.place.Place.{Place}
+use Rattle.service.proofs.Calls.{begins_by}
 use Rattle.service.proofs.Going.{began_within, called_below, goes_grows, goes_one, kept, prefix_self, step_kept, with_each}
 use Rattle.service.proofs.Others.{commits_no_other}
 
@@ -49,7 +49,7 @@ child_commits_none a s b out under (steps.Decide c) h = absurd (false≢true h)
 child_commits_none a s b out under _ h = refl
 
 -- so do top actions that are not above it
-pub work_commits_none : (a s : Name) (x y : World) (was is : Option CallFault) → is_prefix s a ≡ false → Works s x y was is → CommitsNoChild a x y
+pub work_commits_none : {sees : Sees} (a s : Name) (x y : World) (was is : Option CallFault) → is_prefix s a ≡ false → Works sees s x y was is → CommitsNoChild a x y
 work_commits_none a s x y was is out work b under apart =
     kept (λ step. step_commits step b) (works_with work.tops s) x y
     (λ step own.
@@ -62,7 +62,7 @@ settles_commits_none s b (steps.Commit c) h = absurd (false≢true h)
 settles_commits_none s b (steps.Decide c) h = absurd (false≢true h)
 settles_commits_none s b _ h = refl
 
-pub settling_commits_none : (a s : Name) (x y : World) → Goes (settles s) x y → CommitsNoChild a x y
+pub settling_commits_none : {sees : Sees} (a s : Name) (x y : World) → Goes sees (settles s) x y → CommitsNoChild a x y
 settling_commits_none a s x y g b under apart = kept (λ step. step_commits step b) (settles s) x y (settles_commits_none s b) g
 
 pub none_committed_then : (a : Name) (x y z : World) → Follows x.past y.past → Follows y.past z.past → CommitsNoChild a x y → CommitsNoChild a y z
@@ -78,30 +78,32 @@ none_committed_prop : (a : Name) (x y : World) → IsProp (CommitsNoChild a x y)
 none_committed_prop a x y = Π_prop (λ b. →_prop (→_prop (Bool-set (is_committed b y.past) (is_committed b x.past))))
 
 -- a subaction that was called, worked and was not committed
-pub sub_undone : {M : Type 0} (run : M → World) (leaves : Leaves M) (a s : Name) (g : ℕ) (x y : M) (z w : World) (sub : Place)
-    (was mid : Option CallFault) → IsCall run leaves (steps.Call a g) BeganAt x y (Ok sub) → s ≡ sub.action
-    → ∥ Works sub.action (run y) z was mid ∥₁ → Goes (settles s) z w → CommitsNoChild a (run x) w
-sub_undone run leaves a s g x y z w sub was mid call same works goes =
+pub sub_undone : {M : Type 0} (run : M → World) (sees : Sees) (leaves : Leaves M) (a s : Name) (g : ℕ) (x y : M) (z w : World) (sub : Place)
+    (was mid : Option CallFault) → IsCall run sees leaves (steps.Call a g) BeganAt x y (Ok sub) → s ≡ sub.action
+    → ∥ Works sees sub.action (run y) z was mid ∥₁ → Goes sees (settles s) z w → CommitsNoChild a (run x) w
+sub_undone run sees leaves a s g x y z w sub was mid call same works goes =
     ∥∥₁_elim works (none_committed_prop a (run x) w) (λ inside.
     let work : Follows (run y).past z.past = goes_grows (works_with inside.tops sub.action) (run y) z inside.goes in
     none_committed_then a (run x) (run y) w first (follows_through work last) called
     (none_committed_then a (run y) z w work last (work_commits_none a sub.action (run y) z was mid out inside) (settling_commits_none a s z w goes)))
   where
+    begins : Begins sees (steps.Call a g) sub.action (run x) (run y)
+    begins = begins_by run sees leaves (steps.Call a g) x y sub call
+
     out : is_prefix sub.action a ≡ false
     out =
         not-true (is_prefix sub.action a)
-        (and_parts (is_prefix a sub.action) (not (is_prefix sub.action a)) (called_below (run x) a g sub.action call.gives)).1
+        (and_parts (is_prefix a sub.action) (not (is_prefix sub.action a)) (called_below (run x) a g sub.action begins.answer)).1
 
     first : Follows (run x).past (run y).past
-    first = goes_grows (works_in a) (run x) (run y) (goes_one (works_in a) (steps.Call a g) (run x) (run y) (prefix_self a) call.made.after)
+    first = goes_grows (works_in a) (run x) (run y) (goes_one {sees = sees} (works_in a) (steps.Call a g) call.gives.answer (run x) (run y) (prefix_self a) call.gives.made.answered call.gives.made.after)
 
     last : Follows z.past w.past
     last = goes_grows (settles s) z w goes
 
     called : CommitsNoChild a (run x) (run y)
     called b under apart =
-        step_kept (λ step. step_commits step b) (steps.Call a g) (answer_of (opening_in (run x).lists) (steps.Call a g) (run x).past) (run x) (run y)
-        refl call.made.after
+        step_kept (λ step. step_commits step b) (steps.Call a g) call.gives.answer (run x) (run y) refl call.gives.made.after
 
 -- what is so anyway is so of an error
 pub if_error : {T E : Type 0} (r : Result T E) (So : Type 0) → So → OnErr r So

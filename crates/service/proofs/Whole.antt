@@ -8,16 +8,12 @@ use Rattle.run_model.specs.declared.history.Event.{Event}
 use Rattle.run_model.specs.declared.step.Step.{Step}
 use Rattle.run_model.specs.declared.step.Step.TheVariants as steps
 use Rattle.run_model.specs.Actions.{begun, is_aborted, is_begun, is_committed, is_ended, step_aborts, step_commits}
-use Rattle.run_model.specs.Answers.{answer_of}
-use Rattle.run_model.specs.Openings.{opening_in}
-use Rattle.run_model.specs.Runs.{IsRun, World, history_from, world_after}
+use Rattle.run_model.specs.Runs.{World}
 use Rattle.run_model.specs.Telling.{told_since_crash}
 use Rattle.run_model.specs.Votes.{has_voted, step_votes}
-use Rattle.run_laws.proofs.Begun.{begun_once}
-use Rattle.run_laws.proofs.Ended.{committed_begun}
 use Rattle.run_laws.proofs.Growth.{Follows, here, later}
 use Rattle.run_laws.proofs.Names.{clash, same_name_self, same_name_true}
-use Rattle.run_laws.proofs.Runs.{run_from}
+use Rattle.stepping.specs.Beside.{Sees}
 use Rattle.service.specs.Outcomes.{has_committed}
 use Rattle.service.specs.declared.fault.CallFault.{CallFault}
 use Rattle.service.specs.declared.outcome.Transacted.{Transacted}
@@ -25,6 +21,7 @@ use Rattle.service.specs.declared.place.Place.{Place}
 use Rattle.service.specs.Transacting.{AllSettled, AllVotersTold, Began, Begins, FallsShort, Goes, IsSettled, IsTransacted, RunsTop, Works, began_at, belongs_to, ends_top, has_number, works_in, works_with}
 use Rattle.service.proofs.Concluded.{told_at}
 use Rattle.service.proofs.Going.{all_within, began_new, began_stays, began_within, begun_only, end_crashes_not, goes_grows, goes_one, goes_then, goes_wider, kept, settled_stays, short_after, short_in, short_then, short_wider, step_kept, voters_then, with_each, with_tops, with_work, work_commits_not}
+use Rattle.service.proofs.Parts.{begun_is_uncommitted}
 use Rattle.service.proofs.Others.{commits_no_other, end_votes_other, ends_no_other, single_prefix}
 
 or_none : (c : Bool) → c || false ≡ c
@@ -45,9 +42,9 @@ nested_begins_only a = record { votes = λ t g. refl; commits = λ b. refl; abor
 
 -- ---- a transaction
 
-module _ {T E : Type 0} (first : Step) (only : BeginsOnly first) (home number : ℕ) (at : Place) (w x z : World) (ended : Transacted T E)
-    (begins : Begins first at.action w x) (named : at.action ≡ number ∷ []) (home_there : began_at home at.action x.past ≡ true)
-    (reached : has_number at.reached.items home ≡ true) (runs : RunsTop at x z ended) where
+module _ {T E : Type 0} {sees : Sees} (first : Step) (only : BeginsOnly first) (home number : ℕ) (at : Place) (w x z : World) (ended : Transacted T E)
+    (begins : Begins sees first at.action w x) (named : at.action ≡ number ∷ []) (home_there : began_at home at.action x.past ≡ true)
+    (reached : has_number at.reached.items home ≡ true) (runs : RunsTop sees at x z ended) where
   abbrev top : Name
   top = at.action
 
@@ -76,56 +73,39 @@ module _ {T E : Type 0} (first : Step) (only : BeginsOnly first) (home number : 
   end_belongs step h =
       or_left (works_in top step || ends_top top step) (belongs_to runs.works.tops step) (or_right (works_in top step) (ends_top top step) h)
 
-  work_goes : Goes mine x y
+  work_goes : Goes sees mine x y
   work_goes = goes_wider (works_with runs.works.tops top) mine x y work_belongs runs.works.goes
 
-  end_goes : Goes mine y z
+  end_goes : Goes sees mine y z
   end_goes = goes_wider (ends_top top) mine y z end_belongs runs.ends.concludes.goes
 
-  goes : Goes mine x z
+  goes : Goes sees mine x z
   goes = goes_then mine x y z work_goes end_goes
 
-  -- ---- in a run the top actions that began in it are others
-
-  run_x : IsRun (opening_in w.lists) w.past → IsRun (opening_in w.lists) x.past
-  run_x run = subst (λ (v : World). IsRun (opening_in w.lists) v.past) (sym there) (sym begins.answer, refl, run)
-
-  run_y : IsRun (opening_in w.lists) w.past → IsRun (opening_in w.lists) y.past
-  run_y run =
-      subst (λ past. IsRun (opening_in w.lists) past) (sym runs.works.goes.past)
-      (subst (λ lists. IsRun (opening_in w.lists) (history_from (opening_in lists) x.past runs.works.goes.made))
-      (sym (ap (λ (v : World). v.lists) there))
-      (run_from (opening_in w.lists) x.past runs.works.goes.made (run_x run)))
+  -- ---- the top actions that began in it are others
 
   begun_top : is_begun top x.past ≡ true
   begun_top = ap (λ (v : World). is_begun top v.past) there ∙ or_left (same_name top top) _ (same_name_self top)
 
-  apart : IsRun (opening_in w.lists) w.past → (t : Name) → has_name runs.works.tops t ≡ true → is_prefix t top ≡ false
-  apart run t i =
+  apart : (t : Name) → has_name runs.works.tops t ≡ true → is_prefix t top ≡ false
+  apart t i =
       let b = runs.works.began t i in
-      let unbegun : is_begun t x.past ≡ false =
-      began_new (opening_in w.lists) b.recent x.past t (subst (λ past. IsRun (opening_in w.lists) past) b.parts (run_y run)) b.begun in
+      let unbegun : is_begun t x.past ≡ false = began_new (works_with runs.works.tops top) x y t runs.works.goes b in
       false_from_ne_true _ (λ h.
       clash begun_top (subst (λ c. is_begun c x.past ≡ false) (single_prefix t top b.number number b.named named h) unbegun))
 
-  commits_not : IsRun (opening_in w.lists) w.past → (step : Step) → works_with runs.works.tops top step ≡ true → step_commits step top ≡ false
-  commits_not run step own =
+  commits_not : (step : Step) → works_with runs.works.tops top step ≡ true → step_commits step top ≡ false
+  commits_not step own =
       with_each (λ s. step_commits s top ≡ false) runs.works.tops top step (work_commits_not top step)
-      (λ t i k. commits_no_other t top (apart run t i) step k) own
+      (λ t i k. commits_no_other t top (apart t i) step k) own
 
-  fresh : IsRun (opening_in w.lists) w.past → is_committed top w.past ≡ false
-  fresh run =
-      false_from_ne_true _ (λ h.
-      clash (or_left _ _ (same_name_self top))
-      (begun_once (opening_in w.lists) event w.past top (sym begins.answer, refl, run) (committed_begun (opening_in w.lists) w.past top run h)))
-
-  says : IsRun (opening_in w.lists) w.past → is_committed top z.past ≡ has_committed ended.outcome
-  says run =
+  says : is_committed top z.past ≡ has_committed ended.outcome
+  says =
       runs.ends.concludes.says
       ∙ ap (λ b. has_committed ended.outcome || b)
-      (kept (λ step. step_commits step top) (works_with runs.works.tops top) x y (commits_not run) runs.works.goes
+      (kept (λ step. step_commits step top) (works_with runs.works.tops top) x y commits_not runs.works.goes
       ∙ step_kept (λ step. step_commits step top) first (answers.Began (top ∷ [])) w x (only.commits top) begins.after
-      ∙ fresh run)
+      ∙ begun_is_uncommitted w first (answers.Began (top ∷ [])) begins.answer refl top (or_left _ _ (same_name_self top)))
       ∙ or_none (has_committed ended.outcome)
 
   -- ---- what is settled
@@ -175,7 +155,7 @@ module _ {T E : Type 0} (first : Step) (only : BeginsOnly first) (home number : 
   settled : ended.left ≡ None → (at.left ≡ None) × AllSettled w z × AllVotersTold w z
   settled h = ((runs.works.settled (runs.ends.settled h).0).0, all_settled h, all_voters h)
 
-  falls_short : (fault : CallFault) → ended.left ≡ Some fault → (at.left ≡ Some fault) ⊎ FallsShort mine x z fault
+  falls_short : (fault : CallFault) → ended.left ≡ Some fault → (at.left ≡ Some fault) ⊎ FallsShort sees mine x z fault
   falls_short =
       short_then mine x y z at.left runs.mid ended.left work_goes end_goes
       (λ f e. short_in (works_with runs.works.tops top) mine x y at.left f work_belongs (runs.works.short f e))
@@ -189,7 +169,7 @@ module _ {T E : Type 0} (first : Step) (only : BeginsOnly first) (home number : 
       ∙ ap (λ c. is_committed b w.past || c)
       (step_kept (λ step. step_aborts step b) first (answers.Began (top ∷ [])) w x (only.aborts b) begins.after)
 
-  pub is_transacted : IsTransacted first w z ended.outcome at.left ended.left
+  pub is_transacted : IsTransacted sees first w z ended.outcome at.left ended.left
   is_transacted = record {
     top = top;
     begun = x;
@@ -216,17 +196,14 @@ module _ {T E : Type 0} (first : Step) (only : BeginsOnly first) (home number : 
     begun = or_left (same_name top top) _ (same_name_self top);
   }
 
-  begins_made : x ≡ world_after w first (answer_of (opening_in w.lists) first w.past)
-  begins_made = begins.after ∙ ap (λ answer. world_after w first answer) (sym begins.answer)
-
   module _ (a : Name) (own : works_in a first ≡ true) where
     abbrev working : Step → Bool
     working = works_with (top ∷ runs.works.tops) a
 
-    first_goes : Goes working w x
-    first_goes = goes_one working first w x (with_work (top ∷ runs.works.tops) a first own) begins_made
+    first_goes : Goes sees working w x
+    first_goes = goes_one working first (answers.Began (top ∷ [])) w x (with_work (top ∷ runs.works.tops) a first own) begins.answer begins.after
 
-    rest_goes : Goes working x z
+    rest_goes : Goes sees working x z
     rest_goes = goes_wider mine working x z (with_tops (top ∷ runs.works.tops) a) goes
 
     began : (t : Name) → has_name (top ∷ runs.works.tops) t ≡ true → Began t w z
@@ -237,12 +214,12 @@ module _ {T E : Type 0} (first : Step) (only : BeginsOnly first) (home number : 
             subst (λ u. Began u w z) (same_name_true top t k) (began_within top w w x z here began_top (goes_grows mine x z goes))
         by (inr k) = began_within t w x y z follows_first (runs.works.began t k) (goes_grows mine y z end_goes)
 
-    short_there : (fault : CallFault) → (at.left ≡ Some fault) ⊎ FallsShort mine x z fault → (at.left ≡ Some fault) ⊎ FallsShort working w z fault
+    short_there : (fault : CallFault) → (at.left ≡ Some fault) ⊎ FallsShort sees mine x z fault → (at.left ≡ Some fault) ⊎ FallsShort sees working w z fault
     short_there fault (inl h) = inl h
     short_there fault (inr s) =
         inr (short_after working w x z fault first_goes (short_wider mine working x z fault (with_tops (top ∷ runs.works.tops) a) s))
 
-    pub nested_works : Works a w z at.left ended.left
+    pub nested_works : Works sees a w z at.left ended.left
     nested_works = record {
       tops = top ∷ runs.works.tops;
       began = began;

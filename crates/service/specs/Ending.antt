@@ -1,24 +1,25 @@
 -- How a top action is ended by calls: by two phases.
-use Rattle.std.specs.Prelude.{◌≡◌, ℕ, Bool, true, false, IsTrue, List, [], ◌∷◌, ◌++◌, map as each, Err}
+use Rattle.std.specs.Prelude.{◌≡◌, ℕ, Bool, true, false, IsTrue, List, [], ◌∷◌, ◌++◌, map as each}
 use Rattle.action_names.specs.Names.{Name}
+use Rattle.run_model.specs.declared.answer.Answer.{Answer}
 use Rattle.run_model.specs.declared.answer.Answer.TheVariants as answers
 use Rattle.run_model.specs.declared.step.Step.{Step}
 use Rattle.run_model.specs.declared.step.Step.TheVariants as steps
 use Rattle.run_model.specs.Actions.{is_committed}
-use Rattle.run_model.specs.Answers.{answer_of}
-use Rattle.run_model.specs.Openings.{opening_in}
 use Rattle.run_model.specs.Runs.{World, is_accepted}
-use Rattle.stepping.specs.Stepping.{IsMade, Leaves}
-use Rattle.service.specs.Calling.{Gives, LeavesStores}
+use Rattle.stepping.specs.Beside.{IsMadeWith, Sees}
+use Rattle.stepping.specs.Stepping.{Leaves}
+use Rattle.service.specs.Calling.{ComesToNothing, LeavesStores}
 use Rattle.service.specs.declared.fault.CallFault.{CallFault}
 
 -- ---- several steps
 
-module _ {M : Type 0} (run : M → World) (leaves : Leaves M) where
+module _ {M : Type 0} (run : M → World) (sees : Sees) (leaves : Leaves M) where
   -- the step was made, and happened
   pub record HasHappened (step : Step) (old new : M) : Type 0 where
-    pub made : IsMade run leaves step old new
-    pub accepted : IsTrue (is_accepted (answer_of (opening_in (run old).lists) step (run old).past))
+    pub answer : Answer
+    pub made : IsMadeWith run sees leaves step answer old new
+    pub accepted : IsTrue (is_accepted answer)
 
   -- so did these, one after another
   abbrev pub HaveHappened : List Step → M → M → Type 0
@@ -34,8 +35,7 @@ module _ {M : Type 0} (run : M → World) (leaves : Leaves M) where
     pub parts : all ≡ done ++ next ∷ rest
     pub before : M
     pub happened : HaveHappened done old before
-    pub gives : Gives {T = Unit {0}} (λ _ answer. ⊥)
-        (answer_of (opening_in (run before).lists) next (run before).past) (Err fault)
+    pub why : ComesToNothing sees (run before) next fault
     pub same : run new ≡ run before
     pub stores : LeavesStores leaves next before new fault
 
@@ -59,13 +59,15 @@ abbrev pub ending : Bool → Name → List ℕ → List ℕ → List Step
 ending committed top polled told =
     steps.Close top ∷ prepares top polled ++ verdict committed top ∷ tells top told
 
-module _ {M : Type 0} (run : M → World) (leaves : Leaves M) where
-  -- the vote of this guardian, after these steps, is no
-  pub record VotesNo (top : Name) (before : List Step) (g : ℕ) (old : M) : Type 0 where
+module _ {M : Type 0} (run : M → World) (sees : Sees) (leaves : Leaves M) where
+  -- Between these steps, which happened, this guardian voted no.
+  pub record VotesNo (top : Name) (before : List Step) (g : ℕ) (after : List Step)
+      (old new : M) : Type 0 where
     pub mid : M
-    pub happened : HaveHappened run leaves before old mid
-    pub no :
-        answer_of (opening_in (run mid).lists) (steps.Prepare g top) (run mid).past ≡ answers.VoteNo
+    pub voted : M
+    pub happened : HaveHappened run sees leaves before old mid
+    pub no : IsMadeWith run sees leaves (steps.Prepare g top) answers.VoteNo mid voted
+    pub rest : HaveHappened run sees leaves after voted new
 
   -- The guardians voted up to the first no, or all of them.
   pub record ArePolled (top : Name) (guardians : List ℕ) (yes : Bool) (old new : M) : Type 0 where
@@ -73,9 +75,9 @@ module _ {M : Type 0} (run : M → World) (leaves : Leaves M) where
     pub rest : List ℕ
     pub parts : guardians ≡ polled ++ rest
     pub all : yes ≡ true → rest ≡ []
-    pub happened : HaveHappened run leaves (prepares top polled) old new
+    pub happened : HaveHappened run sees leaves (prepares top polled) old new
     pub no : yes ≡ false → (front : List ℕ) × (g : ℕ) × (polled ≡ front ++ g ∷ [])
-        × VotesNo top (prepares top front) g old
+        × VotesNo top (prepares top front) g [] old new
 
   -- The top action was ended: decided if all voted yes, and else aborted. Each participant was told.
   pub record IsEnded (top : Name) (participants : List ℕ) (committed : Bool)
@@ -84,10 +86,11 @@ module _ {M : Type 0} (run : M → World) (leaves : Leaves M) where
     pub rest : List ℕ
     pub parts : participants ≡ polled ++ rest
     pub all : committed ≡ true → rest ≡ []
-    pub happened : HaveHappened run leaves (ending committed top polled participants) old new
+    pub happened : HaveHappened run sees leaves (ending committed top polled participants) old new
     pub no : committed ≡ false
         → (front : List ℕ) × (g : ℕ) × (polled ≡ front ++ g ∷ [])
-        × VotesNo top (steps.Close top ∷ prepares top front) g old
+        × VotesNo top (steps.Close top ∷ prepares top front) g
+        (steps.Abort top ∷ tells top participants) old new
     pub says : is_committed top (run new).past ≡ committed
 
   -- The ending of the top action was cut short.
@@ -97,4 +100,4 @@ module _ {M : Type 0} (run : M → World) (leaves : Leaves M) where
     pub polled : List ℕ
     pub rest : List ℕ
     pub parts : participants ≡ polled ++ rest
-    pub cut : AreCutShort run leaves (ending committed top polled participants) old new fault
+    pub cut : AreCutShort run sees leaves (ending committed top polled participants) old new fault

@@ -1,6 +1,7 @@
 -- When a transaction is made again, and how often.
 use Rattle.std.specs.Prelude.{◌≡◌, ◌⊎◌, ℕ, zero, suc, Bool, true, false, Option, Some, None, is_some, if◌then◌else◌}
 use Rattle.run_model.specs.Runs.{World}
+use Rattle.stepping.specs.Beside.{Sees}
 use Rattle.service.specs.Outcomes.{fault_passes}
 use Rattle.service.specs.Transacting.{TransactsAt}
 use Rattle.service.specs.declared.fault.CallFault.{CallFault}
@@ -48,15 +49,15 @@ module _ {E : Type 0} (obstacle : E → Option Obstacle) (retries : Retries) whe
 
 -- ---- transactions one after another
 
-module _ {T E : Type 0} (again : Transacted T E → Bool) (home : ℕ) where
+module _ {T E : Type 0} (sees : Sees) (again : Transacted T E → Bool) (home : ℕ) where
   -- A transaction ended so, and is to be made again.
   pub record IsRepeated (old mid : World) : Type 0 where
     pub ended : Transacted T E
-    pub transacts : TransactsAt home old mid ended
+    pub transacts : TransactsAt sees home old mid ended
     pub named : again ended ≡ true
 
   -- It was made again as often as it was to be, but this often at most; the last one ended so.
   abbrev pub Retried : ℕ → World → World → Transacted T E → Type 0
-  Retried zero old new last = TransactsAt home old new last
-  Retried (suc more) old new last = ∥ TransactsAt home old new last × (again last ≡ false)
+  Retried zero old new last = TransactsAt sees home old new last
+  Retried (suc more) old new last = ∥ TransactsAt sees home old new last × (again last ≡ false)
       ⊎ ((mid : World) × IsRepeated old mid × Retried more mid new last) ∥₁

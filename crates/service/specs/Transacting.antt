@@ -1,5 +1,5 @@
 -- What a transaction does to a run.
-use Rattle.std.specs.Prelude.{◌≡◌, ◌⊎◌, ℕ, Bool, true, false, not, ◌==◌, ◌&&◌, ◌||◌, List, [], ◌∷◌, ◌++◌, Option, Some, None, Err}
+use Rattle.std.specs.Prelude.{◌≡◌, ◌⊎◌, ℕ, Bool, true, false, IsTrue, not, ◌==◌, ◌&&◌, ◌||◌, List, [], ◌∷◌, ◌++◌, Option, Some, None}
 use Rattle.std.specs.List.{list_all, list_any}
 use Rattle.action_names.specs.Names.{Name, has_name, is_prefix, parent_of, same_name}
 use Rattle.run_model.specs.declared.answer.Answer.{Answer}
@@ -8,12 +8,12 @@ use Rattle.run_model.specs.declared.history.Event.{Event}
 use Rattle.run_model.specs.declared.step.Step.{Step}
 use Rattle.run_model.specs.declared.step.Step.TheVariants as steps
 use Rattle.run_model.specs.Actions.{begins, is_begun, is_committed, is_ended}
-use Rattle.run_model.specs.Answers.{answer_of}
 use Rattle.run_model.specs.Openings.{opening_in}
-use Rattle.run_model.specs.Runs.{IsRun, World, history_from, world_after}
+use Rattle.run_model.specs.Runs.{World, history_from, is_accepted, world_after}
 use Rattle.run_model.specs.Telling.{told_since_crash}
 use Rattle.run_model.specs.Votes.{has_voted}
-use Rattle.service.specs.Calling.{Gives}
+use Rattle.stepping.specs.Beside.{IsAnsweredTo, Sees, SeesOwn}
+use Rattle.service.specs.Calling.{ComesToNothing}
 use Rattle.service.specs.Outcomes.{has_committed}
 use Rattle.service.specs.declared.fault.CallFault.{CallFault}
 use Rattle.service.specs.declared.outcome.Cause.TheVariants.{Vote, Step as ByStep}
@@ -96,13 +96,6 @@ is_voted_down t past = list_any (λ (e : Event). votes_no t e.step e.answer) pas
 
 -- ---- what steps leave
 
--- Steps of this kind, one after another, lead from one run to the other.
-pub record Goes (mine : Step → Bool) (old new : World) : Type 0 where
-  pub lists : new.lists ≡ old.lists
-  pub made : List Step
-  pub own : list_all mine made ≡ true
-  pub past : new.past ≡ history_from (opening_in old.lists) old.past made
-
 -- no action began in between
 abbrev pub NoneBegan : World → World → Type 0
 NoneBegan old new = (b : Name) → is_begun b new.past ≡ is_begun b old.past
@@ -149,46 +142,9 @@ abbrev pub AllVotersTold : World → World → Type 0
 AllVotersTold old new = (t : Name) (g : ℕ) → has_voted g t new.past ≡ true
     → has_voted g t old.past ≡ false → told_since_crash g t new.past ≡ true
 
--- Of these steps one of this kind came to nothing, for this reason.
-pub record CameToNothing (mine kind : Step → Bool) (old new : World)
-    (fault : CallFault) : Type 0 where
-  pub before : World
-  pub first : Goes mine old before
-  pub step : Step
-  pub own : mine step ≡ true
-  pub of_kind : kind step ≡ true
-  pub gives : Gives {T = Unit {0}} (λ _ answer. ⊥)
-      (answer_of (opening_in before.lists) step before.past) (Err fault)
-  pub more : Goes mine before new
-
--- one that was to settle something did
-abbrev pub FallsShort : (Step → Bool) → World → World → CallFault → Type 0
-FallsShort mine old new fault = CameToNothing mine is_settling old new fault
-
--- Steps of this kind that begin nothing. Unless one came to nothing, it is so afterwards; the first fault is kept.
-pub record Settles (mine : Step → Bool) (old new : World) (was is : Option CallFault)
-    (So : Type 0) : Type 0 where
-  pub goes : Goes mine old new
-  pub none : NoneBegan old new
-  pub settled : is ≡ None → (was ≡ None) × So
-  pub short : (fault : CallFault) → is ≡ Some fault
-      → (was ≡ Some fault) ⊎ FallsShort mine old new fault
-
 -- it has ended, and this guardian was told
 abbrev pub EndedAndTold : Name → ℕ → World → Type 0
 EndedAndTold a g now = (is_ended a now.past ≡ true) × (told_since_crash g a now.past ≡ true)
-
--- ---- work
-
--- Work in this action, and in top actions that began in it. Unless a step came to nothing, all that it began is
--- settled; the first fault is kept.
-pub record Works (a : Name) (old new : World) (was is : Option CallFault) : Type 0 where
-  pub tops : List Name
-  pub began : AllBegan tops old new
-  pub goes : Goes (works_with tops a) old new
-  pub settled : is ≡ None → (was ≡ None) × AllSettled old new × AllVotersTold old new
-  pub short : (fault : CallFault) → is ≡ Some fault
-      → (was ≡ Some fault) ⊎ FallsShort (works_with tops a) old new fault
 
 -- no child of this action has committed in between, unless it is below a top action that began in between
 abbrev pub CommitsNoChild : Name → World → World → Type 0
@@ -205,15 +161,6 @@ has_number numbers n = list_any (λ m. m == n) numbers
 abbrev pub Includes : List ℕ → List ℕ → Type 0
 Includes few more = (n : ℕ) → has_number few n ≡ true → has_number more n ≡ true
 
--- Steps that end a top action, whether they commit it or not. Only these guardians vote.
-pub record Concludes (t : Name) (guardians : List ℕ) (old new : World)
-    (committed : Bool) : Type 0 where
-  pub goes : Goes (ends_top t) old new
-  pub none : NoneBegan old new
-  pub says : is_committed t new.past ≡ committed || is_committed t old.past
-  pub voted : (g : ℕ) → has_number guardians g ≡ false
-      → has_voted g t new.past ≡ has_voted g t old.past
-
 -- these guardians voted
 abbrev pub AllVoted : Name → List ℕ → World → Type 0
 AllVoted t guardians now = (g : ℕ) → has_number guardians g ≡ true → has_voted g t now.past ≡ true
@@ -222,79 +169,149 @@ AllVoted t guardians now = (g : ℕ) → has_number guardians g ≡ true → has
 abbrev pub AllTold : Name → List ℕ → World → Type 0
 AllTold t guardians now = list_all (λ g. told_since_crash g t now.past) guardians ≡ true
 
--- The top action is ended. Unless a step came to nothing, these guardians were told; the first fault is kept.
-pub record EndsTop (t : Name) (guardians : List ℕ) (old new : World)
-    (was is : Option CallFault) (committed : Bool) : Type 0 where
-  pub concludes : Concludes t guardians old new committed
-  pub settled : is ≡ None → (was ≡ None) × (is_ended t new.past ≡ true)
-      × AllTold t guardians new
-  pub short : (fault : CallFault) → is ≡ Some fault
-      → (was ≡ Some fault) ⊎ FallsShort (ends_top t) old new fault
+-- ---- steps and their answers, where such histories are seen
 
--- ---- transactions
+module _ (sees : Sees) where
+  -- each event is of a step of this kind, with an answer that the caller was given after the events before
+  abbrev pub AreOwn : (Step → Bool) → World → List Event → Type 0
+  AreOwn mine old [] = Unit {0}
+  AreOwn mine old (e ∷ later) = (mine e.step ≡ true) × IsTrue (is_accepted e.answer)
+      × IsAnsweredTo sees (record { lists = old.lists; past = later ++ old.past }) e.step e.answer
+      × AreOwn mine old later
 
--- The step began the top action.
-pub record Begins (first : Step) (top : Name) (old new : World) : Type 0 where
-  pub answer : answer_of (opening_in old.lists) first old.past ≡ answers.Began (top ∷ [])
-  pub after : new ≡ world_after old first (answers.Began (top ∷ []))
+  -- Steps of this kind, one after another, lead from one run to the other.
+  pub record Goes (mine : Step → Bool) (old new : World) : Type 0 where
+    pub lists : new.lists ≡ old.lists
+    pub later : List Event
+    pub past : new.past ≡ later ++ old.past
+    pub own : AreOwn mine old later
 
--- The step began the top action of a transaction, which ended so. What came to nothing before is kept, and else the
--- first fault of its own.
-pub record IsTransacted {T E : Type 0} (first : Step) (old new : World) (outcome : Outcome T E)
-    (was is : Option CallFault) : Type 0 where
-  pub top : Name
-  pub begun : World
-  pub begins : Begins first top old begun
-  -- the run goes on by steps of this transaction alone, and of top actions that began in it
-  pub tops : List Name
-  pub began : AllBegan tops begun new
-  pub goes : Goes (belongs_to (top ∷ tops)) begun new
-  -- it says committed exactly if its top action has committed
-  pub says : IsRun (opening_in old.lists) old.past
-      → is_committed top new.past ≡ has_committed outcome
-  -- it says that a vote is the cause only if a guardian voted no
-  pub vote : outcome ≡ Aborted Vote → is_voted_down top new.past ≡ true
-  -- and that a step is only if one that was to close, to vote or to decide came to nothing for this reason
-  pub step : (fault : CallFault) → outcome ≡ Aborted (ByStep fault)
-      → CameToNothing (belongs_to (top ∷ tops)) is_concluding begun new fault
-  -- each action that began has ended, and the guardian at which it began was told; so was each that voted
-  pub settled : is ≡ None → (was ≡ None) × AllSettled old new × AllVotersTold old new
-  -- else a step that was to end or tell something came to nothing, for this reason
-  pub short : (fault : CallFault) → is ≡ Some fault
-      → (was ≡ Some fault) ⊎ FallsShort (belongs_to (top ∷ tops)) begun new fault
-  -- nobody else's action is ended
-  pub others : (b : Name) → list_any (λ t. is_prefix t b) (top ∷ tops) ≡ false
-      → is_ended b new.past ≡ is_ended b old.past
+  -- Of these steps one of this kind came to nothing, for this reason.
+  pub record CameToNothing (mine kind : Step → Bool) (old new : World)
+      (fault : CallFault) : Type 0 where
+    pub before : World
+    pub first : Goes mine old before
+    pub step : Step
+    pub own : mine step ≡ true
+    pub of_kind : kind step ≡ true
+    pub why : ComesToNothing sees before step fault
+    pub more : Goes mine before new
 
--- The top action did not begin, for this reason, and nothing has happened.
-pub record IsUnbegun {T E : Type 0} (first : Step) (old new : World) (outcome : Outcome T E)
-    (was is : Option CallFault) : Type 0 where
-  pub fault : CallFault
-  pub aborted : outcome ≡ Aborted (ByStep fault)
-  pub gives : Gives {T = Unit {0}} (λ _ answer. ⊥)
-      (answer_of (opening_in old.lists) first old.past) (Err fault)
-  pub same : new ≡ old
-  pub none : is ≡ was
+  -- one that was to settle something did
+  abbrev pub FallsShort : (Step → Bool) → World → World → CallFault → Type 0
+  FallsShort mine old new fault = CameToNothing mine is_settling old new fault
 
-abbrev pub Transacts : {T E : Type 0} → Step → World → World → Outcome T E → Option CallFault
-    → Option CallFault → Type 0
-Transacts first old new outcome was is = ∥ IsUnbegun first old new outcome was is
-    ⊎ IsTransacted first old new outcome was is ∥₁
+  -- Steps of this kind that begin nothing. Unless one came to nothing, it is so afterwards; the first fault is kept.
+  pub record Settles (mine : Step → Bool) (old new : World) (was is : Option CallFault)
+      (So : Type 0) : Type 0 where
+    pub goes : Goes mine old new
+    pub none : NoneBegan old new
+    pub settled : is ≡ None → (was ≡ None) × So
+    pub short : (fault : CallFault) → is ≡ Some fault
+        → (was ≡ Some fault) ⊎ FallsShort mine old new fault
 
--- a transaction of its own, at this home
-abbrev pub TransactsAt : {T E : Type 0} → ℕ → World → World → Transacted T E → Type 0
-TransactsAt home old new ended =
-    Transacts (steps.Top home) old new ended.outcome None ended.left
+  -- ---- work
 
--- Work in a top action that has begun, and its end.
-pub record RunsTop {T E : Type 0} (at : Place) (old new : World)
-    (ended : Transacted T E) : Type 0 where
-  pub worked : World
-  pub guardians : List ℕ
-  pub mid : Option CallFault
-  pub works : Works at.action old worked at.left mid
-  pub reached : Includes at.reached.items guardians
-  pub ends : EndsTop at.action guardians worked new mid ended.left (has_committed ended.outcome)
-  pub vote : ended.outcome ≡ Aborted Vote → is_voted_down at.action new.past ≡ true
-  pub step : (fault : CallFault) → ended.outcome ≡ Aborted (ByStep fault)
-      → CameToNothing (ends_top at.action) is_concluding worked new fault
+  -- Work in this action, and in top actions that began in it. Unless a step came to nothing, all that it began is
+  -- settled; the first fault is kept.
+  pub record Works (a : Name) (old new : World) (was is : Option CallFault) : Type 0 where
+    pub tops : List Name
+    pub began : AllBegan tops old new
+    pub goes : Goes (works_with tops a) old new
+    pub settled : is ≡ None → (was ≡ None) × AllSettled old new × AllVotersTold old new
+    pub short : (fault : CallFault) → is ≡ Some fault
+        → (was ≡ Some fault) ⊎ FallsShort (works_with tops a) old new fault
+
+  -- ---- the end of a top action
+
+  -- Steps that end a top action, whether they commit it or not. Only these guardians vote.
+  pub record Concludes (t : Name) (guardians : List ℕ) (old new : World)
+      (committed : Bool) : Type 0 where
+    pub goes : Goes (ends_top t) old new
+    pub none : NoneBegan old new
+    pub says : is_committed t new.past ≡ committed || is_committed t old.past
+    pub voted : (g : ℕ) → has_number guardians g ≡ false
+        → has_voted g t new.past ≡ has_voted g t old.past
+
+  -- The top action is ended. Unless a step came to nothing, these guardians were told; the first fault is kept.
+  pub record EndsTop (t : Name) (guardians : List ℕ) (old new : World)
+      (was is : Option CallFault) (committed : Bool) : Type 0 where
+    pub concludes : Concludes t guardians old new committed
+    pub settled : is ≡ None → (was ≡ None) × (is_ended t new.past ≡ true)
+        × AllTold t guardians new
+    pub short : (fault : CallFault) → is ≡ Some fault
+        → (was ≡ Some fault) ⊎ FallsShort (ends_top t) old new fault
+
+  -- ---- transactions
+
+  -- The step began the top action.
+  pub record Begins (first : Step) (top : Name) (old new : World) : Type 0 where
+    pub answer : IsAnsweredTo sees old first (answers.Began (top ∷ []))
+    pub after : new ≡ world_after old first (answers.Began (top ∷ []))
+
+  -- The step began the top action of a transaction, which ended so. What came to nothing before is kept, and else the
+  -- first fault of its own.
+  pub record IsTransacted {T E : Type 0} (first : Step) (old new : World) (outcome : Outcome T E)
+      (was is : Option CallFault) : Type 0 where
+    pub top : Name
+    pub begun : World
+    pub begins : Begins first top old begun
+    -- the run goes on by steps of this transaction alone, and of top actions that began in it
+    pub tops : List Name
+    pub began : AllBegan tops begun new
+    pub goes : Goes (belongs_to (top ∷ tops)) begun new
+    -- it says committed exactly if its top action has committed
+    pub says : is_committed top new.past ≡ has_committed outcome
+    -- it says that a vote is the cause only if a guardian voted no
+    pub vote : outcome ≡ Aborted Vote → is_voted_down top new.past ≡ true
+    -- and that a step is only if one that was to close, to vote or to decide came to nothing for this reason
+    pub step : (fault : CallFault) → outcome ≡ Aborted (ByStep fault)
+        → CameToNothing (belongs_to (top ∷ tops)) is_concluding begun new fault
+    -- each action that began has ended, and the guardian at which it began was told; so was each that voted
+    pub settled : is ≡ None → (was ≡ None) × AllSettled old new × AllVotersTold old new
+    -- else a step that was to end or tell something came to nothing, for this reason
+    pub short : (fault : CallFault) → is ≡ Some fault
+        → (was ≡ Some fault) ⊎ FallsShort (belongs_to (top ∷ tops)) begun new fault
+    -- nobody else's action is ended
+    pub others : (b : Name) → list_any (λ t. is_prefix t b) (top ∷ tops) ≡ false
+        → is_ended b new.past ≡ is_ended b old.past
+
+  -- The top action did not begin, for this reason, and nothing has happened.
+  pub record IsUnbegun {T E : Type 0} (first : Step) (old new : World) (outcome : Outcome T E)
+      (was is : Option CallFault) : Type 0 where
+    pub fault : CallFault
+    pub aborted : outcome ≡ Aborted (ByStep fault)
+    pub why : ComesToNothing sees old first fault
+    pub same : new ≡ old
+    pub none : is ≡ was
+
+  abbrev pub Transacts : {T E : Type 0} → Step → World → World → Outcome T E → Option CallFault
+      → Option CallFault → Type 0
+  Transacts first old new outcome was is = ∥ IsUnbegun first old new outcome was is
+      ⊎ IsTransacted first old new outcome was is ∥₁
+
+  -- a transaction of its own, at this home
+  abbrev pub TransactsAt : {T E : Type 0} → ℕ → World → World → Transacted T E → Type 0
+  TransactsAt home old new ended =
+      Transacts (steps.Top home) old new ended.outcome None ended.left
+
+  -- Work in a top action that has begun, and its end.
+  pub record RunsTop {T E : Type 0} (at : Place) (old new : World)
+      (ended : Transacted T E) : Type 0 where
+    pub worked : World
+    pub guardians : List ℕ
+    pub mid : Option CallFault
+    pub works : Works at.action old worked at.left mid
+    pub reached : Includes at.reached.items guardians
+    pub ends : EndsTop at.action guardians worked new mid ended.left (has_committed ended.outcome)
+    pub vote : ended.outcome ≡ Aborted Vote → is_voted_down at.action new.past ≡ true
+    pub step : (fault : CallFault) → ended.outcome ≡ Aborted (ByStep fault)
+        → CameToNothing (ends_top at.action) is_concluding worked new fault
+
+-- ---- a caller that is alone
+
+-- what it does is that its steps are made one after another, as a history goes on
+abbrev pub GoesByItself : Type 0
+GoesByItself = (mine : Step → Bool) (old new : World) → Goes SeesOwn mine old new
+    → (made : List Step) × (list_all mine made ≡ true)
+    × (new.past ≡ history_from (opening_in old.lists) old.past made)

@@ -1,12 +1,25 @@
-//! What the answer of a step that happened gives.
+//! What the answer of a step gives.
 ghost use Rattle.std.specs.Prelude.{◌≡◌, ◌∷◌, [], Bool, List, ℕ};
 ghost use Rattle.action_names.specs.Names.{Name};
 ghost use Rattle.atomic_types.specs.declared.op.Reply.{Reply};
-ghost use Rattle.service.specs.Calling.{BeganOne, BeganThese, IsReply, IsVote, Told};
+ghost use Rattle.service.specs.Calling.{BeganOne, BeganThese, IsReply, IsTaken, IsVote, Told};
 
+use crate::fault::CallFault;
 use action_names::{Name, Names};
 use atomic_types::Reply;
+use layer_contracts::Fault;
 use run_model::Answer;
+
+/// The answer of a step that happened. Else the error tells why it did not.
+pub(crate) fn taken(made: Result<Answer, Fault>) -> Result<Answer, CallFault>
+    ensures { IsTaken made result }
+{
+    match made? {
+        Answer::Refused(why) => Err(CallFault::Refused(why)),
+        Answer::Waits(names) => Err(CallFault::Waits(names)),
+        answer => Ok(answer),
+    }
+}
 
 /// The one action that began.
 pub(crate) fn began_one(answer: Answer) -> Name

@@ -1,7 +1,9 @@
-//! A world as a service calls it: each step by a method that gives what the step is for.
+//! Steps as a service calls them: each by a method that gives what the step is for.
 //!
 //! A step that is refused, or whose operation waits, is an error here, and so is a fault.
 #![tactic(auto)]
+
+ghost use Rattle.service.specs.Transacting.{GoesByItself};
 
 mod answered;
 mod fault;
@@ -22,3 +24,8 @@ pub use outcome::{Cause, Outcome, Transacted};
 pub use retrying::{MayPass, Obstacle, Retries};
 pub use service::Service;
 pub use transaction::{Begun, Transaction, Work};
+
+/// The steps of a caller that is alone lead its run on as a history goes on.
+pub fn goes_by_itself()
+    ensures { GoesByItself }
+{}

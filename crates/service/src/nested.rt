@@ -12,10 +12,10 @@ use crate::service::Service;
 use crate::transacting::run_top;
 use crate::transaction::Work;
 use std::alloc::Global;
-use stepping::MakesSteps;
+use stepping::MakesOwnSteps;
 
 /// Begins a nested top action, runs the work in it, and ends it.
-pub(crate) fn nest_in<W: MakesSteps + Drop, J: Work<W>>(
+pub(crate) fn nest_in<W: MakesOwnSteps + Drop, J: Work<W>>(
     service: &mut Service<W>,
     at: &mut Place,
     alloc: Global,
@@ -25,9 +25,9 @@ pub(crate) fn nest_in<W: MakesSteps + Drop, J: Work<W>>(
     ensures action { at.new.action ≡ at.old.action }
     ensures home { at.new.home ≡ at.old.home }
     ensures reached { Includes at.old.reached.items at.new.reached.items }
-    ensures works { ∥ Works at.old.action (W.run service.old.world) (W.run service.new.world)
+    ensures works { ∥ Works W.sees at.old.action (W.run service.old.world) (W.run service.new.world)
         at.old.left at.new.left ∥₁ }
-    ensures ended { Transacts (steps.NestedTop at.old.action) (W.run service.old.world)
+    ensures ended { Transacts W.sees (steps.NestedTop at.old.action) (W.run service.old.world)
         (W.run service.new.world) result at.old.left at.new.left }
 {
     match begin_nested(service, at, alloc) {
@@ -41,12 +41,12 @@ pub(crate) fn nest_in<W: MakesSteps + Drop, J: Work<W>>(
 }
 
 /// Begins a nested top action of the action at its home. What came to nothing so far is kept in mind there.
-fn begin_nested<W: MakesSteps + Drop>(
+fn begin_nested<W: MakesOwnSteps + Drop>(
     service: &mut Service<W>,
     at: &mut Place,
     alloc: Global,
 ) -> Result<Place, CallFault>
-    ensures call { IsCall W.run W.leaves (steps.NestedTop at.old.action) BeganAt
+    ensures call { IsCall W.run W.sees W.leaves (steps.NestedTop at.old.action) BeganAt
         service.old.world service.new.world result }
     ensures action { at.new.action ≡ at.old.action }
     ensures home { at.new.home ≡ at.old.home }

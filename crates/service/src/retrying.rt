@@ -4,7 +4,7 @@ use crate::outcome::{Cause, Outcome, Transacted};
 use crate::service::Service;
 use crate::transaction::Work;
 use std::alloc::Global;
-use stepping::MakesSteps;
+use stepping::MakesOwnSteps;
 
 /// What keeps work from succeeding, but may pass with no help.
 #[derive(Clone, Copy, Debug, PartialEq, Eq, Drop)]
@@ -110,7 +110,7 @@ impl Retries {
     }
 }
 
-impl<W: MakesSteps + Drop> Service<W> {
+impl<W: MakesOwnSteps + Drop> Service<W> {
     ghost use Rattle.service.specs.Retrying.{Retried, goes_on};
 
     /// Makes a transaction, as `transact` does, and makes it again while it ends as `retries` names and leaves nothing
@@ -124,7 +124,7 @@ impl<W: MakesSteps + Drop> Service<W> {
     ) -> Transacted<J::Value, J::Error>
     where
         J::Error: MayPass,
-        ensures { Retried (goes_on J.Error.obstacle retries.now) home retries.now.times
+        ensures { Retried W.sees (goes_on J.Error.obstacle retries.now) home retries.now.times
             (W.run self.old.world) (W.run self.new.world) result }
     {
         for _ in 0..retries.times {

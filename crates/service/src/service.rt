@@ -1,25 +1,25 @@
-//! The steps of a world, each by a method of its own.
-use crate::answered::{began_one, began_these, reply, told, vote};
+//! The steps of a caller, each by a method of its own.
+use crate::answered::{began_one, began_these, reply, taken, told, vote};
 use crate::fault::CallFault;
 use action_names::{Name, Names};
 use atomic_types::{Op, Reply};
 use run_model::{Answer, ArmKinds, ObjectId, Step};
-use stepping::MakesSteps;
+use stepping::MakesOwnSteps;
 
-/// A world whose steps are made by calls.
+/// Steps that are made by calls: those of a world, or those of one caller beside others.
 #[derive(Drop)]
-pub struct Service<W: MakesSteps + Drop> {
-    /// The world itself, for all that is no step.
+pub struct Service<W: MakesOwnSteps + Drop> {
+    /// Who makes the steps, for all that is no step.
     pub world: W,
 }
 
-impl<W: MakesSteps + Drop> Service<W> {
+impl<W: MakesOwnSteps + Drop> Service<W> {
     ghost use Rattle.std.specs.Prelude.{◌≡◌, IfErr, IfOk, OnOk};
     ghost use Rattle.run_model.specs.declared.step.Step.TheVariants as steps;
     ghost use Rattle.service.specs.Ending.{AreCutShort, ArePolled, HaveHappened, IsEnded, IsEndingCut, prepares, tells, verdict};
     ghost use Rattle.service.specs.Calling.{BeganOne, BeganThese, IsAccepted, IsCall, IsDone, IsFinishing, IsReply, IsVote, Told};
 
-    /// The calls of this world.
+    /// The calls whose steps are made so.
     pub fn over(world: W) -> Service<W>
         ensures { result.world ≡ world }
     {
@@ -28,7 +28,7 @@ impl<W: MakesSteps + Drop> Service<W> {
 
     /// Begins a top action at the guardian, and gives its name.
     pub fn begin(&mut self, guardian: u32) -> Result<Name, CallFault>
-        ensures { IsCall W.run W.leaves (steps.Top guardian) BeganOne
+        ensures { IsCall W.run W.sees W.leaves (steps.Top guardian) BeganOne
             self.old.world self.new.world result }
     {
         Ok(began_one(self.make(&Step::Top(guardian))?))
@@ -36,7 +36,7 @@ impl<W: MakesSteps + Drop> Service<W> {
 
     /// Begins a nested top action, which the action makes, and gives its name.
     pub fn begin_nested(&mut self, action: &Name) -> Result<Name, CallFault>
-        ensures { IsCall W.run W.leaves (steps.NestedTop action.now) BeganOne
+        ensures { IsCall W.run W.sees W.leaves (steps.NestedTop action.now) BeganOne
             self.old.world self.new.world result }
     {
         Ok(began_one(self.make(&Step::NestedTop(action.copy()?))?))
@@ -44,7 +44,7 @@ impl<W: MakesSteps + Drop> Service<W> {
 
     /// Calls a handler of the guardian: begins a subaction of the action there, and gives its name.
     pub fn call(&mut self, action: &Name, guardian: u32) -> Result<Name, CallFault>
-        ensures { IsCall W.run W.leaves (steps.Call action.now guardian) BeganOne
+        ensures { IsCall W.run W.sees W.leaves (steps.Call action.now guardian) BeganOne
             self.old.world self.new.world result }
     {
         Ok(began_one(self.make(&Step::Call(action.copy()?, guardian))?))
@@ -52,29 +52,29 @@ impl<W: MakesSteps + Drop> Service<W> {
 
     /// Begins the arms of a `coenter` of the action, and gives their names in order.
     pub fn begin_arms(&mut self, action: &Name, kinds: ArmKinds) -> Result<Names, CallFault>
-        ensures { IsCall W.run W.leaves (steps.Arms action.now kinds) BeganThese
+        ensures { IsCall W.run W.sees W.leaves (steps.Arms action.now kinds) BeganThese
             self.old.world self.new.world result }
     {
         Ok(began_these(self.make(&Step::Arms(action.copy()?, kinds))?))
     }
 
     /// Makes an operation of the action on an object at its home, and gives the reply. `Waits` comes if another action
-    /// holds the object in a conflicting way.
+    /// holds the object in a conflicting way. Where others make steps too, it may sleep instead.
     pub fn operate(
         &mut self,
         action: &Name,
         object: ObjectId,
         operation: Op,
     ) -> Result<Reply, CallFault>
-        ensures { IsCall W.run W.leaves (steps.Op action.now object operation) IsReply
+        ensures { IsCall W.run W.sees W.leaves (steps.Op action.now object operation) IsReply
             self.old.world self.new.world result }
     {
-        Ok(reply(self.make(&Step::Op(action.copy()?, object, operation))?))
+        Ok(reply(taken(self.world.operate(action, object, operation))?))
     }
 
     /// Commits a subaction to its parent.
     pub fn commit(&mut self, action: &Name) -> Result<(), CallFault>
-        ensures { IsCall W.run W.leaves (steps.Commit action.now) IsDone
+        ensures { IsCall W.run W.sees W.leaves (steps.Commit action.now) IsDone
             self.old.world self.new.world result }
     {
         self.finish(&Step::Commit(action.copy()?))
@@ -82,7 +82,7 @@ impl<W: MakesSteps + Drop> Service<W> {
 
     /// Closes a top action, before the votes on it.
     pub fn close(&mut self, top: &Name) -> Result<(), CallFault>
-        ensures { IsCall W.run W.leaves (steps.Close top.now) IsDone
+        ensures { IsCall W.run W.sees W.leaves (steps.Close top.now) IsDone
             self.old.world self.new.world result }
     {
         self.finish(&Step::Close(top.copy()?))
@@ -90,7 +90,7 @@ impl<W: MakesSteps + Drop> Service<W> {
 
     /// Lets the guardian vote on the closed top action. True is a vote to commit: the guardian is prepared then.
     pub fn prepare(&mut self, guardian: u32, top: &Name) -> Result<bool, CallFault>
-        ensures { IsCall W.run W.leaves (steps.Prepare guardian top.now) IsVote
+        ensures { IsCall W.run W.sees W.leaves (steps.Prepare guardian top.now) IsVote
             self.old.world self.new.world result }
     {
         Ok(vote(&self.make(&Step::Prepare(guardian, top.copy()?))?))
@@ -98,7 +98,7 @@ impl<W: MakesSteps + Drop> Service<W> {
 
     /// Commits a closed top action on which all participants voted yes.
     pub fn decide(&mut self, top: &Name) -> Result<(), CallFault>
-        ensures { IsCall W.run W.leaves (steps.Decide top.now) IsDone
+        ensures { IsCall W.run W.sees W.leaves (steps.Decide top.now) IsDone
             self.old.world self.new.world result }
     {
         self.finish(&Step::Decide(top.copy()?))
@@ -106,7 +106,7 @@ impl<W: MakesSteps + Drop> Service<W> {
 
     /// Aborts an action.
     pub fn abort(&mut self, action: &Name) -> Result<(), CallFault>
-        ensures { IsCall W.run W.leaves (steps.Abort action.now) IsDone
+        ensures { IsCall W.run W.sees W.leaves (steps.Abort action.now) IsDone
             self.old.world self.new.world result }
     {
         self.finish(&Step::Abort(action.copy()?))
@@ -114,7 +114,7 @@ impl<W: MakesSteps + Drop> Service<W> {
 
     /// Tells the guardian how an action ended, and gives how many objects that changed there.
     pub fn tell(&mut self, guardian: u32, action: &Name) -> Result<u64, CallFault>
-        ensures { IsCall W.run W.leaves (steps.Tell guardian action.now) Told
+        ensures { IsCall W.run W.sees W.leaves (steps.Tell guardian action.now) Told
             self.old.world self.new.world result }
     {
         Ok(told(&self.make(&Step::Tell(guardian, action.copy()?))?))
@@ -122,7 +122,7 @@ impl<W: MakesSteps + Drop> Service<W> {
 
     /// Crashes the guardian: it loses what is not in its store.
     pub fn crash(&mut self, guardian: u32) -> Result<(), CallFault>
-        ensures { IsCall W.run W.leaves (steps.Crash guardian) IsDone
+        ensures { IsCall W.run W.sees W.leaves (steps.Crash guardian) IsDone
             self.old.world self.new.world result }
     {
         self.finish(&Step::Crash(guardian))
@@ -130,7 +130,7 @@ impl<W: MakesSteps + Drop> Service<W> {
 
     /// Recovers a guardian that is down from its store.
     pub fn recover(&mut self, guardian: u32) -> Result<(), CallFault>
-        ensures { IsCall W.run W.leaves (steps.Recover guardian) IsDone
+        ensures { IsCall W.run W.sees W.leaves (steps.Recover guardian) IsDone
             self.old.world self.new.world result }
     {
         self.finish(&Step::Recover(guardian))
@@ -143,9 +143,9 @@ impl<W: MakesSteps + Drop> Service<W> {
     /// `Refused` comes of the decision, with `Unready`. After an error the steps so far have happened, and the action
     /// can be aborted unless it was decided.
     pub fn commit_top(&mut self, top: &Name, participants: &[u32]) -> Result<bool, CallFault>
-        ensures ended { IfOk result (λ committed. IsEnded W.run W.leaves
+        ensures ended { IfOk result (λ committed. IsEnded W.run W.sees W.leaves
             top.now participants.now committed self.old.world self.new.world) }
-        ensures cut { IfErr result (IsEndingCut W.run W.leaves top.now participants.now
+        ensures cut { IfErr result (IsEndingCut W.run W.sees W.leaves top.now participants.now
             self.old.world self.new.world) }
     {
         self.close(top)?;
@@ -157,7 +157,7 @@ impl<W: MakesSteps + Drop> Service<W> {
 
     /// Decides a top action on which all participants voted yes, or aborts it.
     fn conclude(&mut self, top: &Name, has_all_votes: bool) -> Result<(), CallFault>
-        ensures { IsCall W.run W.leaves (verdict has_all_votes top.now) IsDone
+        ensures { IsCall W.run W.sees W.leaves (verdict has_all_votes top.now) IsDone
             self.old.world self.new.world result }
     {
         if has_all_votes {
@@ -169,9 +169,9 @@ impl<W: MakesSteps + Drop> Service<W> {
 
     /// Lets the guardians vote on the top action, in this order, up to the first no. Whether all voted yes.
     pub(crate) fn poll(&mut self, top: &Name, guardians: &[u32]) -> Result<bool, CallFault>
-        ensures polled { IfOk result (λ yes. ArePolled W.run W.leaves top.now guardians.now yes
+        ensures polled { IfOk result (λ yes. ArePolled W.run W.sees W.leaves top.now guardians.now yes
             self.old.world self.new.world) }
-        ensures cut { IfErr result (AreCutShort W.run W.leaves (prepares top.now guardians.now)
+        ensures cut { IfErr result (AreCutShort W.run W.sees W.leaves (prepares top.now guardians.now)
             self.old.world self.new.world) }
     {
         for guardian in guardians {
@@ -184,9 +184,9 @@ impl<W: MakesSteps + Drop> Service<W> {
 
     /// Tells each of the guardians how an action ended, in this order.
     pub fn tell_all(&mut self, guardians: &[u32], action: &Name) -> Result<(), CallFault>
-        ensures told { OnOk result (HaveHappened W.run W.leaves (tells action.now guardians.now)
+        ensures told { OnOk result (HaveHappened W.run W.sees W.leaves (tells action.now guardians.now)
             self.old.world self.new.world) }
-        ensures cut { IfErr result (AreCutShort W.run W.leaves (tells action.now guardians.now)
+        ensures cut { IfErr result (AreCutShort W.run W.sees W.leaves (tells action.now guardians.now)
             self.old.world self.new.world) }
     {
         for guardian in guardians {
@@ -198,7 +198,7 @@ impl<W: MakesSteps + Drop> Service<W> {
     /// Makes a step that is answered 0 if it happens.
     fn finish(&mut self, step: &Step) -> Result<(), CallFault>
         requires { IsFinishing step.now }
-        ensures { IsCall W.run W.leaves step.now IsDone self.old.world self.new.world result }
+        ensures { IsCall W.run W.sees W.leaves step.now IsDone self.old.world self.new.world result }
     {
         self.make(step)?;
         Ok(())
@@ -206,12 +206,8 @@ impl<W: MakesSteps + Drop> Service<W> {
 
     /// Makes the step. An answer comes only of a step that happened.
     fn make(&mut self, step: &Step) -> Result<Answer, CallFault>
-        ensures { IsCall W.run W.leaves step.now IsAccepted self.old.world self.new.world result }
+        ensures { IsCall W.run W.sees W.leaves step.now IsAccepted self.old.world self.new.world result }
     {
-        match self.world.step(step)? {
-            Answer::Refused(why) => Err(CallFault::Refused(why)),
-            Answer::Waits(names) => Err(CallFault::Waits(names)),
-            answer => Ok(answer),
-        }
+        taken(self.world.make_step(step))
     }
 }

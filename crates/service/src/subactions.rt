@@ -13,18 +13,18 @@ use action_names::Name;
 use atomic_types::{Op, Reply};
 use run_model::ObjectId;
 use std::marker::Brand;
-use stepping::MakesSteps;
+use stepping::MakesOwnSteps;
 
 /// Makes an operation of the action.
-pub(crate) fn operate_in<W: MakesSteps + Drop>(
+pub(crate) fn operate_in<W: MakesOwnSteps + Drop>(
     service: &mut Service<W>,
     at: &Place,
     object: ObjectId,
     operation: Op,
 ) -> Result<Reply, CallFault>
-    ensures call { IsCall W.run W.leaves (steps.Op at.now.action object operation) IsReply
+    ensures call { IsCall W.run W.sees W.leaves (steps.Op at.now.action object operation) IsReply
         service.old.world service.new.world result }
-    ensures works { Works at.now.action (W.run service.old.world) (W.run service.new.world)
+    ensures works { Works W.sees at.now.action (W.run service.old.world) (W.run service.new.world)
         at.now.left at.now.left }
 {
     service.operate(&at.action, object, operation)
@@ -32,7 +32,7 @@ pub(crate) fn operate_in<W: MakesSteps + Drop>(
 
 /// Calls a handler of the guardian, and runs the work in the subaction. It is committed if the work succeeds, and else
 /// aborted.
-pub(crate) fn call_in<W: MakesSteps + Drop, J: Work<W>>(
+pub(crate) fn call_in<W: MakesOwnSteps + Drop, J: Work<W>>(
     service: &mut Service<W>,
     at: &mut Place,
     guardian: u32,
@@ -41,7 +41,7 @@ pub(crate) fn call_in<W: MakesSteps + Drop, J: Work<W>>(
     ensures action { at.new.action ≡ at.old.action }
     ensures home { at.new.home ≡ at.old.home }
     ensures reached { Includes at.old.reached.items at.new.reached.items }
-    ensures works { ∥ Works at.old.action (W.run service.old.world) (W.run service.new.world)
+    ensures works { ∥ Works W.sees at.old.action (W.run service.old.world) (W.run service.new.world)
         at.old.left at.new.left ∥₁ }
     ensures undone { OnErr result (CommitsNoChild at.old.action (W.run service.old.world)
         (W.run service.new.world)) }
@@ -60,12 +60,12 @@ pub(crate) fn call_in<W: MakesSteps + Drop, J: Work<W>>(
 }
 
 /// Begins a subaction of the action at the guardian. What came to nothing so far is kept in mind there.
-fn begin_sub<W: MakesSteps + Drop>(
+fn begin_sub<W: MakesOwnSteps + Drop>(
     service: &mut Service<W>,
     at: &mut Place,
     guardian: u32,
 ) -> Result<Place, CallFault>
-    ensures call { IsCall W.run W.leaves (steps.Call at.old.action guardian) BeganAt
+    ensures call { IsCall W.run W.sees W.leaves (steps.Call at.old.action guardian) BeganAt
         service.old.world service.new.world result }
     ensures action { at.new.action ≡ at.old.action }
     ensures home { at.new.home ≡ at.old.home }
@@ -87,16 +87,16 @@ fn begin_sub<W: MakesSteps + Drop>(
 }
 
 /// Commits the subaction into the action and tells its guardian. If it cannot be committed, it is aborted.
-fn commit_sub<W: MakesSteps + Drop>(
+fn commit_sub<W: MakesOwnSteps + Drop>(
     service: &mut Service<W>,
     at: &mut Place,
     guardian: u32,
     sub: Place,
 ) -> Result<(), CallFault>
-    ensures ends { Settles (finishes sub.action) (W.run service.old.world)
+    ensures ends { Settles W.sees (finishes sub.action) (W.run service.old.world)
         (W.run service.new.world) sub.left at.new.left
         (EndedAndTold sub.action guardian (W.run service.new.world)) }
-    ensures undone { OnErr result (Goes (settles sub.action) (W.run service.old.world)
+    ensures undone { OnErr result (Goes W.sees (settles sub.action) (W.run service.old.world)
         (W.run service.new.world)) }
     ensures action { at.new.action ≡ at.old.action }
     ensures home { at.new.home ≡ at.old.home }
@@ -117,13 +117,13 @@ fn commit_sub<W: MakesSteps + Drop>(
 }
 
 /// Aborts the subaction and tells its guardian.
-fn abort_sub<W: MakesSteps + Drop>(
+fn abort_sub<W: MakesOwnSteps + Drop>(
     service: &mut Service<W>,
     at: &mut Place,
     guardian: u32,
     sub: Place,
 )
-    ensures ends { Settles (settles sub.action) (W.run service.old.world)
+    ensures ends { Settles W.sees (settles sub.action) (W.run service.old.world)
         (W.run service.new.world) sub.left at.new.left
         (EndedAndTold sub.action guardian (W.run service.new.world)) }
     ensures action { at.new.action ≡ at.old.action }
@@ -136,16 +136,16 @@ fn abort_sub<W: MakesSteps + Drop>(
 
 /// Commits the action and tells the guardian. If it cannot be committed, it is aborted. What came to nothing stands
 /// beside whether it committed.
-fn commit_and_tell<W: MakesSteps + Drop>(
+fn commit_and_tell<W: MakesOwnSteps + Drop>(
     service: &mut Service<W>,
     guardian: u32,
     action: &Name,
     left: Option<CallFault>,
 ) -> (Result<(), CallFault>, Option<CallFault>)
-    ensures ends { Settles (finishes action.now) (W.run service.old.world)
+    ensures ends { Settles W.sees (finishes action.now) (W.run service.old.world)
         (W.run service.new.world) left result.1
         (EndedAndTold action.now guardian (W.run service.new.world)) }
-    ensures undone { OnErr result.0 (Goes (settles action.now) (W.run service.old.world)
+    ensures undone { OnErr result.0 (Goes W.sees (settles action.now) (W.run service.old.world)
         (W.run service.new.world)) }
 {
     match service.commit(action) {
@@ -158,13 +158,13 @@ fn commit_and_tell<W: MakesSteps + Drop>(
 }
 
 /// Aborts the action and tells the guardian. Gives what came to nothing.
-fn abort_and_tell<W: MakesSteps + Drop>(
+fn abort_and_tell<W: MakesOwnSteps + Drop>(
     service: &mut Service<W>,
     guardian: u32,
     action: &Name,
     left: Option<CallFault>,
 ) -> Option<CallFault>
-    ensures { Settles (settles action.now) (W.run service.old.world) (W.run service.new.world)
+    ensures { Settles W.sees (settles action.now) (W.run service.old.world) (W.run service.new.world)
         left result (EndedAndTold action.now guardian (W.run service.new.world)) }
 {
     match service.abort(action) {

@@ -17,15 +17,15 @@ use crate::place::{Place, one_number};
 use crate::service::Service;
 use action_names::Name;
 use std::alloc::Global;
-use stepping::MakesSteps;
+use stepping::MakesOwnSteps;
 
 /// Begins a top action at its home.
-pub(crate) fn begin_top<W: MakesSteps + Drop>(
+pub(crate) fn begin_top<W: MakesOwnSteps + Drop>(
     service: &mut Service<W>,
     alloc: Global,
     home: u32,
 ) -> Result<Place, CallFault>
-    ensures call { IsCall W.run W.leaves (steps.Top home) BeganAt
+    ensures call { IsCall W.run W.sees W.leaves (steps.Top home) BeganAt
         service.old.world service.new.world result }
     ensures home { IfOk result (λ at. at.home ≡ home) }
     ensures reached { IfOk result (λ at. at.reached.items ≡ home ∷ []) }
@@ -44,17 +44,17 @@ pub(crate) fn begin_top<W: MakesSteps + Drop>(
 /// Ends the top action by two phases: the guardians that it reached vote, it is decided or aborted, and each is told.
 /// If it is not to commit, it is aborted at once. Says whether it committed, or why it could not be voted on or
 /// decided, and what came to nothing beside.
-pub(crate) fn end_top<W: MakesSteps + Drop>(
+pub(crate) fn end_top<W: MakesOwnSteps + Drop>(
     service: &mut Service<W>,
     at: Place,
     commits: bool,
 ) -> (Result<bool, CallFault>, Option<CallFault>)
-    ensures ends { EndsTop at.action at.reached.items (W.run service.old.world)
+    ensures ends { EndsTop W.sees at.action at.reached.items (W.run service.old.world)
         (W.run service.new.world) at.left result.1 (is_decided result.0) }
     ensures asked { commits ≡ false → is_decided result.0 ≡ false }
     ensures down { result.0 ≡ Ok false → commits ≡ true
         → is_voted_down at.action (W.run service.new.world).past ≡ true }
-    ensures stopped { IfErr result.0 (CameToNothing (ends_top at.action) is_concluding
+    ensures stopped { IfErr result.0 (CameToNothing W.sees (ends_top at.action) is_concluding
         (W.run service.old.world) (W.run service.new.world)) }
 {
     let Place {
@@ -77,18 +77,18 @@ fn is_yes(decided: &Result<bool, CallFault>) -> bool
 }
 
 /// Lets the guardians vote and decides, if the top action is to commit.
-fn decide_if<W: MakesSteps + Drop>(
+fn decide_if<W: MakesOwnSteps + Drop>(
     service: &mut Service<W>,
     top: &Name,
     guardians: &[u32],
     commits: bool,
 ) -> Result<bool, CallFault>
-    ensures concludes { Concludes top.now guardians.now (W.run service.old.world)
+    ensures concludes { Concludes W.sees top.now guardians.now (W.run service.old.world)
         (W.run service.new.world) (is_decided result) }
     ensures asked { commits ≡ false → is_decided result ≡ false }
     ensures down { result ≡ Ok false → commits ≡ true
         → is_voted_down top.now (W.run service.new.world).past ≡ true }
-    ensures stopped { IfErr result (CameToNothing (ends_top top.now) is_concluding
+    ensures stopped { IfErr result (CameToNothing W.sees (ends_top top.now) is_concluding
         (W.run service.old.world) (W.run service.new.world)) }
 {
     if commits {
@@ -99,13 +99,13 @@ fn decide_if<W: MakesSteps + Drop>(
 }
 
 /// Aborts the top action unless it has committed.
-fn abort_unless<W: MakesSteps + Drop>(
+fn abort_unless<W: MakesOwnSteps + Drop>(
     service: &mut Service<W>,
     top: &Name,
     committed: bool,
     left: Option<CallFault>,
 ) -> Option<CallFault>
-    ensures { Settles (settles top.now) (W.run service.old.world) (W.run service.new.world)
+    ensures { Settles W.sees (settles top.now) (W.run service.old.world) (W.run service.new.world)
         left result (committed ≡ false → is_ended top.now (W.run service.new.world).past ≡ true) }
 {
     if committed {
@@ -115,13 +115,13 @@ fn abort_unless<W: MakesSteps + Drop>(
 }
 
 /// Tells each of the guardians how the top action ended, also after one could not be told.
-fn tell_each<W: MakesSteps + Drop>(
+fn tell_each<W: MakesOwnSteps + Drop>(
     service: &mut Service<W>,
     guardians: &[u32],
     top: &Name,
     left: Option<CallFault>,
 ) -> Option<CallFault>
-    ensures { Settles (settles top.now) (W.run service.old.world) (W.run service.new.world)
+    ensures { Settles W.sees (settles top.now) (W.run service.old.world) (W.run service.new.world)
         left result (AllTold top.now guardians.now (W.run service.new.world)) }
 {
     let mut left = left;

@@ -11,9 +11,9 @@ use crate::transaction::{Work, work_in};
 use action_names::Name;
 use std::alloc::Global;
 use std::marker::Brand;
-use stepping::MakesSteps;
+use stepping::MakesOwnSteps;
 
-impl<W: MakesSteps + Drop> Service<W> {
+impl<W: MakesOwnSteps + Drop> Service<W> {
     ghost use Rattle.service.specs.Outcomes.{is_decided};
     ghost use Rattle.service.specs.Transacting.{AllVoted, CameToNothing, Concludes, TransactsAt, ends_top, is_concluding, is_voted_down};
 
@@ -25,7 +25,7 @@ impl<W: MakesSteps + Drop> Service<W> {
         home: u32,
         work: &mut J,
     ) -> Transacted<J::Value, J::Error>
-        ensures { TransactsAt home (W.run self.old.world) (W.run self.new.world) result }
+        ensures { TransactsAt W.sees home (W.run self.old.world) (W.run self.new.world) result }
     {
         match begin_top(self, alloc, home) {
             Ok(at) => run_top(self, at, work),
@@ -43,12 +43,12 @@ impl<W: MakesSteps + Drop> Service<W> {
         top: &Name,
         guardians: &[u32],
     ) -> Result<bool, CallFault>
-        ensures concludes { Concludes top.now guardians.now (W.run self.old.world)
+        ensures concludes { Concludes W.sees top.now guardians.now (W.run self.old.world)
             (W.run self.new.world) (is_decided result) }
         ensures voted { is_decided result ≡ true
             → AllVoted top.now guardians.now (W.run self.new.world) }
         ensures down { result ≡ Ok false → is_voted_down top.now (W.run self.new.world).past ≡ true }
-        ensures stopped { IfErr result (CameToNothing (ends_top top.now) is_concluding
+        ensures stopped { IfErr result (CameToNothing W.sees (ends_top top.now) is_concluding
             (W.run self.old.world) (W.run self.new.world)) }
     {
         self.close(top)?;
@@ -62,13 +62,13 @@ impl<W: MakesSteps + Drop> Service<W> {
 
 /// Runs the work in a top action that has begun, and then ends the action by two phases: it commits if the work succeeds
 /// and all guardians that it reached vote yes. Else it is aborted. Each of these guardians is told.
-pub(crate) fn run_top<W: MakesSteps + Drop, J: Work<W>>(
+pub(crate) fn run_top<W: MakesOwnSteps + Drop, J: Work<W>>(
     service: &mut Service<W>,
     at: Place,
     work: &mut J,
 ) -> Transacted<J::Value, J::Error>
     requires there { began_at at.home at.action (W.run service.old.world).past ≡ true }
-    ensures { ∥ RunsTop at (W.run service.old.world) (W.run service.new.world) result ∥₁ }
+    ensures { ∥ RunsTop W.sees at (W.run service.old.world) (W.run service.new.world) result ∥₁ }
 {
     let mut at = at;
     let done = work_in::<Brand, W, J>(service, &mut at, work);

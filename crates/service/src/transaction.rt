@@ -14,7 +14,7 @@ use atomic_types::{Op, Reply};
 use run_model::ObjectId;
 use std::alloc::Global;
 use std::marker::{Brand, PhantomData};
-use stepping::MakesSteps;
+use stepping::MakesOwnSteps;
 
 /// Where work begins: nobody makes a value of it.
 pub trait Begun {
@@ -31,7 +31,7 @@ impl Begun for Brand {
 
 /// What work is given: an action that it works in, and no more of the service than that.
 #[derive(Drop)]
-pub struct Transaction<'s, W: MakesSteps + Drop, B: Begun> {
+pub struct Transaction<'s, W: MakesOwnSteps + Drop, B: Begun> {
     pub(crate) service: &'s mut Service<W>,
     pub(crate) at: &'s mut Place,
     pub(crate) of: PhantomData<B>,
@@ -39,12 +39,12 @@ pub struct Transaction<'s, W: MakesSteps + Drop, B: Begun> {
     pub(crate) ghost home: { at.now.home ≡ B.start.home },
     pub(crate) ghost there: { began_at B.start.home B.start.action B.start.run.past ≡ true },
     pub(crate) ghost reached: { Includes B.start.reached at.now.reached.items },
-    pub(crate) ghost works: { ∥ Works B.start.action B.start.run (W.run service.now.world)
+    pub(crate) ghost works: { ∥ Works W.sees B.start.action B.start.run (W.run service.now.world)
         B.start.left at.now.left ∥₁ },
 }
 
 /// Work of a transaction, or of a subaction in it.
-pub trait Work<W: MakesSteps + Drop> {
+pub trait Work<W: MakesOwnSteps + Drop> {
     type Value: Drop;
 
     type Error: Drop + From<CallFault>;
@@ -55,7 +55,7 @@ pub trait Work<W: MakesSteps + Drop> {
         ensures same_action { tx.new.at.ghost_name ≡ tx.old.at.ghost_name };
 }
 
-impl<'s, W: MakesSteps + Drop, B: Begun> Transaction<'s, W, B> {
+impl<'s, W: MakesOwnSteps + Drop, B: Begun> Transaction<'s, W, B> {
     ghost use Rattle.service.specs.Calling.{IsCall, IsReply};
     ghost use Rattle.service.specs.Transacting.{CommitsNoChild, Transacts};
 
@@ -63,7 +63,7 @@ impl<'s, W: MakesSteps + Drop, B: Begun> Transaction<'s, W, B> {
     pub fn operate(&mut self, object: ObjectId, operation: Op) -> Result<Reply, CallFault>
         ensures same_service { self.new.service.ghost_name ≡ self.old.service.ghost_name }
         ensures same_action { self.new.at.ghost_name ≡ self.old.at.ghost_name }
-        ensures call { IsCall W.run W.leaves
+        ensures call { IsCall W.run W.sees W.leaves
             (steps.Op self.old.at.now.action object operation) IsReply
             self.old.service.now.world self.new.service.now.world result }
     {
@@ -86,7 +86,7 @@ impl<'s, W: MakesSteps + Drop, B: Begun> Transaction<'s, W, B> {
     pub fn nested<J: Work<W>>(&mut self, alloc: Global, work: &mut J) -> Outcome<J::Value, J::Error>
         ensures same_service { self.new.service.ghost_name ≡ self.old.service.ghost_name }
         ensures same_action { self.new.at.ghost_name ≡ self.old.at.ghost_name }
-        ensures ended { Transacts (steps.NestedTop self.old.at.now.action)
+        ensures ended { Transacts W.sees (steps.NestedTop self.old.at.now.action)
             (W.run self.old.service.now.world) (W.run self.new.service.now.world) result
             self.old.at.now.left self.new.at.now.left }
     {
@@ -95,7 +95,7 @@ impl<'s, W: MakesSteps + Drop, B: Begun> Transaction<'s, W, B> {
 }
 
 /// Runs the work in the action that has just begun.
-pub(crate) fn work_in<B: Begun, W: MakesSteps + Drop, J: Work<W>>(
+pub(crate) fn work_in<B: Begun, W: MakesOwnSteps + Drop, J: Work<W>>(
     service: &mut Service<W>,
     at: &mut Place,
     work: &mut J,
@@ -108,7 +108,7 @@ pub(crate) fn work_in<B: Begun, W: MakesSteps + Drop, J: Work<W>>(
     requires left { B.start.left ≡ at.old.left }
     ensures action { at.new.action ≡ B.start.action }
     ensures reached { Includes B.start.reached at.new.reached.items }
-    ensures works { ∥ Works B.start.action B.start.run (W.run service.new.world)
+    ensures works { ∥ Works W.sees B.start.action B.start.run (W.run service.new.world)
         B.start.left at.new.left ∥₁ }
 {
     let mut tx: Transaction<'_, W, B> = Transaction {

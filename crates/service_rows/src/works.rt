@@ -7,7 +7,7 @@ use layer_contracts::Fault;
 use rows::{Row, RowFault};
 use service::{Begun, CallFault, MayPass, Obstacle, Transaction, Work};
 use std::alloc::Global;
-use stepping::MakesSteps;
+use stepping::MakesOwnSteps;
 
 /// One or two items. `CALL OBJECT ..` is an operation, and `fail` gives an error. `at GUARDIAN ITEM` makes the item as a
 /// handler call, and so does `try GUARDIAN ITEM`, which goes on after an error. `nest ITEM` makes it in a nested top
@@ -69,7 +69,7 @@ impl MayPass for WorkFault {
     }
 }
 
-impl<W: MakesSteps + Drop> Work<W> for Items<'_> {
+impl<W: MakesOwnSteps + Drop> Work<W> for Items<'_> {
     type Value = ();
 
     type Error = WorkFault;
@@ -85,7 +85,7 @@ impl<W: MakesSteps + Drop> Work<W> for Items<'_> {
     }
 }
 
-impl<W: MakesSteps + Drop> Work<W> for FailingAtFirst<'_> {
+impl<W: MakesOwnSteps + Drop> Work<W> for FailingAtFirst<'_> {
     type Value = ();
 
     type Error = WorkFault;
@@ -102,7 +102,7 @@ impl<W: MakesSteps + Drop> Work<W> for FailingAtFirst<'_> {
     }
 }
 
-impl<W: MakesSteps + Drop> Work<W> for Item<'_> {
+impl<W: MakesOwnSteps + Drop> Work<W> for Item<'_> {
     type Value = ();
 
     type Error = WorkFault;
@@ -113,7 +113,7 @@ impl<W: MakesSteps + Drop> Work<W> for Item<'_> {
 }
 
 /// Makes an item.
-fn make<W: MakesSteps + Drop, B: Begun>(
+fn make<W: MakesOwnSteps + Drop, B: Begun>(
     alloc: Global,
     tx: &mut Transaction<'_, W, B>,
     item: &str,
@@ -136,7 +136,7 @@ fn make<W: MakesSteps + Drop, B: Begun>(
 }
 
 /// Makes the item behind the number of a guardian as a handler call there.
-fn call<W: MakesSteps + Drop, B: Begun>(
+fn call<W: MakesOwnSteps + Drop, B: Begun>(
     alloc: Global,
     tx: &mut Transaction<'_, W, B>,
     given: &str,
@@ -150,7 +150,7 @@ fn call<W: MakesSteps + Drop, B: Begun>(
 }
 
 /// Makes an operation, or gives the error that is asked for.
-fn operate<W: MakesSteps + Drop, B: Begun>(
+fn operate<W: MakesOwnSteps + Drop, B: Begun>(
     alloc: Global,
     tx: &mut Transaction<'_, W, B>,
     item: &str,

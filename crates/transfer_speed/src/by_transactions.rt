@@ -6,7 +6,7 @@ use crate::transfers::{Change, FIELD, Local, Transfer, new_world};
 use run_model::Value;
 use service::{Begun, Outcome, Service, Transacted, Transaction, Work, get, set};
 use std::alloc::Global;
-use stepping::MakesSteps;
+use stepping::MakesOwnSteps;
 
 /// A transfer: the account at home is written, and the other one by a handler call.
 #[derive(Drop)]
@@ -22,7 +22,7 @@ struct One<'a> {
     change: &'a Change,
 }
 
-impl<W: MakesSteps + Drop> Work<W> for Both<'_> {
+impl<W: MakesOwnSteps + Drop> Work<W> for Both<'_> {
     type Value = ();
 
     type Error = SpeedFault;
@@ -38,7 +38,7 @@ impl<W: MakesSteps + Drop> Work<W> for Both<'_> {
     }
 }
 
-impl<W: MakesSteps + Drop> Work<W> for One<'_> {
+impl<W: MakesOwnSteps + Drop> Work<W> for One<'_> {
     type Value = ();
 
     type Error = SpeedFault;
@@ -49,7 +49,7 @@ impl<W: MakesSteps + Drop> Work<W> for One<'_> {
 }
 
 /// Reads an account and writes it.
-fn update<W: MakesSteps + Drop, B: Begun>(
+fn update<W: MakesOwnSteps + Drop, B: Begun>(
     alloc: Global,
     tx: &mut Transaction<'_, W, B>,
     change: &Change,

@@ -5,8 +5,8 @@ use Rattle.service.proofs.subactions.abort_sub.Goals as goal
 
 pub returns-clause-ends : goal.returns-clause-ends
 returns-clause-ends g c =
-    let old = g.W.MakesSteps.run c.args.service.now.world in
-    let new = g.W.MakesSteps.run c.abort_and_tell.new.service.world in
+    let old = g.W.MakesOwnSteps.run c.args.service.now.world in
+    let new = g.W.MakesOwnSteps.run c.abort_and_tell.new.service.world in
     let action = c.args.sub.action in
-    subst (λ (is : Option CallFault). Settles (settles action) old new c.args.sub.left is (EndedAndTold action c.args.guardian new))
+    subst (λ (is : Option CallFault). Settles g.W.MakesOwnSteps.sees (settles action) old new c.args.sub.left is (EndedAndTold action c.args.guardian new))
     (sym c.keep.ensures.left) c.abort_and_tell.ensures

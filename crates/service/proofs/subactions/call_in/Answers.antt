@@ -8,13 +8,13 @@ use Rattle.service.proofs.subactions.call_in.Goals as goal
 
 pub returns-in_err-sub-clause-works : goal.returns-in_err-sub-clause-works
 returns-in_err-sub-clause-works g c =
-    works_start c.args.at.now.action (g.W.MakesSteps.run c.args.service.now.world) (g.W.MakesSteps.run c.begin_sub.new.service.world)
+    works_start c.args.at.now.action (g.W.MakesOwnSteps.run c.args.service.now.world) (g.W.MakesOwnSteps.run c.begin_sub.new.service.world)
     c.args.at.now.left c.begin_sub.new.at.left (sym c.in_err-sub.ensures.call.same) (sym c.in_err-sub.ensures.err)
 
 pub returns-in_err-sub-clause-undone : goal.returns-in_err-sub-clause-undone
 returns-in_err-sub-clause-undone g c =
     if_error c.from_residual.result _
-    (none_committed_same c.args.at.now.action (g.W.MakesSteps.run c.args.service.now.world) (g.W.MakesSteps.run c.begin_sub.new.service.world)
+    (none_committed_same c.args.at.now.action (g.W.MakesOwnSteps.run c.args.service.now.world) (g.W.MakesOwnSteps.run c.begin_sub.new.service.world)
     c.in_err-sub.ensures.call.same)
 
 pub work_in-requires-clause-run : goal.work_in-requires-clause-run
@@ -28,10 +28,10 @@ work_in-requires-clause-home g c = refl
 
 pub work_in-requires-clause-there : goal.work_in-requires-clause-there
 work_in-requires-clause-there g c =
-    let run = g.W.MakesSteps.run in
+    let run = g.W.MakesOwnSteps.run in
     let begun = c.begin_sub.new.service.world in
     subst (λ h. began_at h c.in_ok-sub.sub.action (run begun).past ≡ true) (sym c.in_ok-sub.ensures.there)
-    (began_there run g.W.MakesSteps.leaves (steps.Call c.args.at.now.action c.args.guardian) c.args.guardian c.args.service.now.world begun
+    (began_there run g.W.MakesOwnSteps.sees g.W.MakesOwnSteps.leaves (steps.Call c.args.at.now.action c.args.guardian) c.args.guardian c.args.service.now.world begun
     c.in_ok-sub.sub c.in_ok-sub.ensures.call (eqb_self c.args.guardian))
 
 pub work_in-requires-clause-reached : goal.work_in-requires-clause-reached
@@ -42,35 +42,35 @@ work_in-requires-clause-left g c = refl
 
 pub returns-in_err-commit_sub-in-Ok-clause-works : goal.returns-in_err-commit_sub-in-Ok-clause-works
 returns-in_err-commit_sub-in-Ok-clause-works g c =
-    sub_worked g.W.MakesSteps.run g.W.MakesSteps.leaves c.args.at.now.action c.work_in.new.at.action c.args.guardian c.args.service.now.world
-    c.begin_sub.new.service.world (g.W.MakesSteps.run c.work_in.new.service.world) (g.W.MakesSteps.run c.commit_sub.new.service.world)
+    sub_worked g.W.MakesOwnSteps.run g.W.MakesOwnSteps.sees g.W.MakesOwnSteps.leaves c.args.at.now.action c.work_in.new.at.action c.args.guardian c.args.service.now.world
+    c.begin_sub.new.service.world (g.W.MakesOwnSteps.run c.work_in.new.service.world) (g.W.MakesOwnSteps.run c.commit_sub.new.service.world)
     c.in_ok-sub.sub c.args.at.now.left c.work_in.new.at.left c.commit_sub.new.at.left c.in_ok-sub.ensures.call c.in_ok-sub.ensures.left
     c.work_in.ensures.action c.work_in.ensures.works c.commit_sub.ensures.ends
 
 pub returns-in_err-commit_sub-in-Ok-clause-undone : goal.returns-in_err-commit_sub-in-Ok-clause-undone
 returns-in_err-commit_sub-in-Ok-clause-undone g c =
     if_error c.from_residual-in_err-commit_sub-in-Ok.result _
-    (sub_undone g.W.MakesSteps.run g.W.MakesSteps.leaves c.args.at.now.action c.work_in.new.at.action c.args.guardian c.args.service.now.world
-    c.begin_sub.new.service.world (g.W.MakesSteps.run c.work_in.new.service.world) (g.W.MakesSteps.run c.commit_sub.new.service.world)
+    (sub_undone g.W.MakesOwnSteps.run g.W.MakesOwnSteps.sees g.W.MakesOwnSteps.leaves c.args.at.now.action c.work_in.new.at.action c.args.guardian c.args.service.now.world
+    c.begin_sub.new.service.world (g.W.MakesOwnSteps.run c.work_in.new.service.world) (g.W.MakesOwnSteps.run c.commit_sub.new.service.world)
     c.in_ok-sub.sub _ c.work_in.new.at.left c.in_ok-sub.ensures.call c.work_in.ensures.action c.work_in.ensures.works
     c.in_err-commit_sub-in-Ok.ensures.undone)
 
 pub returns-in_ok-commit_sub-in-Ok-clause-works : goal.returns-in_ok-commit_sub-in-Ok-clause-works
 returns-in_ok-commit_sub-in-Ok-clause-works g c =
-    sub_worked g.W.MakesSteps.run g.W.MakesSteps.leaves c.args.at.now.action c.work_in.new.at.action c.args.guardian c.args.service.now.world
-    c.begin_sub.new.service.world (g.W.MakesSteps.run c.work_in.new.service.world) (g.W.MakesSteps.run c.commit_sub.new.service.world)
+    sub_worked g.W.MakesOwnSteps.run g.W.MakesOwnSteps.sees g.W.MakesOwnSteps.leaves c.args.at.now.action c.work_in.new.at.action c.args.guardian c.args.service.now.world
+    c.begin_sub.new.service.world (g.W.MakesOwnSteps.run c.work_in.new.service.world) (g.W.MakesOwnSteps.run c.commit_sub.new.service.world)
     c.in_ok-sub.sub c.args.at.now.left c.work_in.new.at.left c.commit_sub.new.at.left c.in_ok-sub.ensures.call c.in_ok-sub.ensures.left
     c.work_in.ensures.action c.work_in.ensures.works c.commit_sub.ensures.ends
 
 pub returns-in-Err-clause-works : goal.returns-in-Err-clause-works
 returns-in-Err-clause-works g c =
-    sub_aborted g.W.MakesSteps.run g.W.MakesSteps.leaves c.args.at.now.action c.work_in.new.at.action c.args.guardian c.args.service.now.world
-    c.begin_sub.new.service.world (g.W.MakesSteps.run c.work_in.new.service.world) (g.W.MakesSteps.run c.abort_sub.new.service.world)
+    sub_aborted g.W.MakesOwnSteps.run g.W.MakesOwnSteps.sees g.W.MakesOwnSteps.leaves c.args.at.now.action c.work_in.new.at.action c.args.guardian c.args.service.now.world
+    c.begin_sub.new.service.world (g.W.MakesOwnSteps.run c.work_in.new.service.world) (g.W.MakesOwnSteps.run c.abort_sub.new.service.world)
     c.in_ok-sub.sub c.args.at.now.left c.work_in.new.at.left c.abort_sub.new.at.left c.in_ok-sub.ensures.call c.in_ok-sub.ensures.left
     c.work_in.ensures.action c.work_in.ensures.works c.abort_sub.ensures.ends
 
 pub returns-in-Err-clause-undone : goal.returns-in-Err-clause-undone
 returns-in-Err-clause-undone g c =
-    sub_undone g.W.MakesSteps.run g.W.MakesSteps.leaves c.args.at.now.action c.work_in.new.at.action c.args.guardian c.args.service.now.world
-    c.begin_sub.new.service.world (g.W.MakesSteps.run c.work_in.new.service.world) (g.W.MakesSteps.run c.abort_sub.new.service.world)
+    sub_undone g.W.MakesOwnSteps.run g.W.MakesOwnSteps.sees g.W.MakesOwnSteps.leaves c.args.at.now.action c.work_in.new.at.action c.args.guardian c.args.service.now.world
+    c.begin_sub.new.service.world (g.W.MakesOwnSteps.run c.work_in.new.service.world) (g.W.MakesOwnSteps.run c.abort_sub.new.service.world)
     c.in_ok-sub.sub _ c.work_in.new.at.left c.in_ok-sub.ensures.call c.work_in.ensures.action c.work_in.ensures.works c.abort_sub.ensures.ends.goes

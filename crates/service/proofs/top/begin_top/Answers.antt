@@ -5,5 +5,5 @@ use Rattle.service.proofs.top.begin_top.Goals as goal
 
 pub returns-clause-call : goal.returns-clause-call
 returns-clause-call g c =
-    begun_place g.W.MakesSteps.run g.W.MakesSteps.leaves (steps.Top c.args.home) c.args.service.now.world c.begin.new.self.world
+    begun_place g.W.MakesOwnSteps.run g.W.MakesOwnSteps.sees g.W.MakesOwnSteps.leaves (steps.Top c.args.home) c.args.service.now.world c.begin.new.self.world
     c.in_ok-action.action _ c.in_ok-action.ensures refl

@@ -25,7 +25,7 @@ outcome-requires g c = undecided_if c.work_in-done.result c.is_ok.result _ c.is_
 
 pub returns : goal.returns
 returns g c =
-    let run = g.W.MakesSteps.run in
+    let run = g.W.MakesOwnSteps.run in
     top_run c.args.at (run c.args.service.now.world) (run c.work_in-done.new.service.world) (run c.end_top-decided.new.service.world)
     c.work_in-done.new.at.action _ c.work_in-done.new.at.left _ _ c.outcome.result c.work_in-done.ensures.action c.work_in-done.ensures.reached
     c.outcome.ensures.committed

@@ -3,5 +3,5 @@ use Rattle.service.proofs.transacting.run_top.Given as goal
 -- the top action, as the run is when it has begun
 abbrev pub ghosts-work_in : goal.ghosts-work_in
 ghosts-work_in g a = record {
-  start = record { run = g.W.MakesSteps.run a.service.now.world; action = a.at.now.action; home = a.at.now.home; reached = a.at.now.reached.items; left = a.at.now.left };
+  start = record { run = g.W.MakesOwnSteps.run a.service.now.world; action = a.at.now.action; home = a.at.now.home; reached = a.at.now.reached.items; left = a.at.now.left };
 }

@@ -10,6 +10,6 @@ invariant_of-tx g c = record {
   there = c.requires.there;
   reached = subst (λ xs. Includes g.B.Begun.start.reached xs) c.requires.reached (λ n h. h);
   works =
-      works_start g.B.Begun.start.action g.B.Begun.start.run (g.W.MakesSteps.run c.args.service.now.world) g.B.Begun.start.left c.args.at.now.left
+      works_start g.B.Begun.start.action g.B.Begun.start.run (g.W.MakesOwnSteps.run c.args.service.now.world) g.B.Begun.start.left c.args.at.now.left
       c.requires.run c.requires.left;
 }

@@ -5,7 +5,7 @@ use Rattle.service.proofs.Shapes.{fits, shown}
 use Rattle.service.proofs.service.Service.begin_arms.Goals as goal
 
 pub began_these-requires : goal.began_these-requires
-began_these-requires g c = fits _ _ _ _ _ _ c.in_ok-make.ensures
+began_these-requires g c = fits _ _ _ _ _ _ _ c.in_ok-make.ensures
 
 pub returns : goal.returns
-returns g c = shown _ _ _ _ BeganThese _ _ _ _ (ap (λ (a : List ℕ). steps.Arms a c.args.kinds) c.in_ok-copy.ensures.ok.1) c.in_ok-make.ensures c.began_these.ensures
+returns g c = shown _ _ _ _ _ BeganThese _ _ _ _ (ap (λ (a : List ℕ). steps.Arms a c.args.kinds) c.in_ok-copy.ensures.ok.1) c.in_ok-make.ensures c.began_these.ensures

@@ -5,7 +5,7 @@ use Rattle.service.proofs.Shapes.{fits, shown}
 use Rattle.service.proofs.service.Service.call.Goals as goal
 
 pub began_one-requires : goal.began_one-requires
-began_one-requires g c = fits _ _ _ _ _ _ c.in_ok-make.ensures
+began_one-requires g c = fits _ _ _ _ _ _ _ c.in_ok-make.ensures
 
 pub returns : goal.returns
-returns g c = shown _ _ _ _ BeganOne _ _ _ _ (ap (λ (a : List ℕ). steps.Call a c.args.guardian) c.in_ok-copy.ensures.ok.1) c.in_ok-make.ensures c.began_one.ensures
+returns g c = shown _ _ _ _ _ BeganOne _ _ _ _ (ap (λ (a : List ℕ). steps.Call a c.args.guardian) c.in_ok-copy.ensures.ok.1) c.in_ok-make.ensures c.began_one.ensures

@@ -5,7 +5,7 @@ use Rattle.service.proofs.Shapes.{fits, shown}
 use Rattle.service.proofs.service.Service.tell.Goals as goal
 
 pub told-requires : goal.told-requires
-told-requires g c = fits _ _ _ _ _ _ c.in_ok-make.ensures
+told-requires g c = fits _ _ _ _ _ _ _ c.in_ok-make.ensures
 
 pub returns : goal.returns
-returns g c = shown _ _ _ _ Told _ _ _ _ (ap (λ (a : List ℕ). steps.Tell c.args.guardian a) c.in_ok-copy.ensures.ok.1) c.in_ok-make.ensures c.told.ensures
+returns g c = shown _ _ _ _ _ Told _ _ _ _ (ap (λ (a : List ℕ). steps.Tell c.args.guardian a) c.in_ok-copy.ensures.ok.1) c.in_ok-make.ensures c.told.ensures

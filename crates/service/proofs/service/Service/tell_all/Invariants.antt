@@ -5,4 +5,4 @@ use Rattle.service.proofs.service.Service.tell_all.Given as goal
 -- the guardians so far
 abbrev pub invariant-loop-guardian : goal.invariant-loop-guardian
 invariant-loop-guardian g l =
-    HaveHappened g.W.MakesSteps.run g.W.MakesSteps.leaves (tells l.action (take l.guardian-index l.guardians)) l.fn.self.world l.self.world
+    HaveHappened g.W.MakesOwnSteps.run g.W.MakesOwnSteps.sees g.W.MakesOwnSteps.leaves (tells l.action (take l.guardian-index l.guardians)) l.fn.self.world l.self.world

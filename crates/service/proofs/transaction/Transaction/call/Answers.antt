@@ -5,7 +5,7 @@ use Rattle.service.proofs.transaction.Transaction.call.Goals as goal
 
 pub invariant_of-self : goal.invariant_of-self
 invariant_of-self g c =
-    let run = g.W.MakesSteps.run in
+    let run = g.W.MakesOwnSteps.run in
     let start = g.B.Begun.start in
     let old = run c.args.self.now.service.now.world in
     let new = run c.call_in.new.service.world in
@@ -16,5 +16,5 @@ invariant_of-self g c =
       reached = λ n h. c.call_in.ensures.reached n (c.args.self.now.reached n h);
       works =
           works_on start.action start.run old new start.left c.args.self.now.at.now.left c.call_in.new.at.left c.args.self.now.works
-          (subst (λ a. ∥ Works a old new c.args.self.now.at.now.left c.call_in.new.at.left ∥₁) c.args.self.now.action c.call_in.ensures.works);
+          (subst (λ a. ∥ Works g.W.MakesOwnSteps.sees a old new c.args.self.now.at.now.left c.call_in.new.at.left ∥₁) c.args.self.now.action c.call_in.ensures.works);
     }

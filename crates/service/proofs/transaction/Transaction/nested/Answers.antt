@@ -5,7 +5,7 @@ use Rattle.service.proofs.transaction.Transaction.nested.Goals as goal
 
 pub nest_in-requires : goal.nest_in-requires
 nest_in-requires g c =
-    let now = g.W.MakesSteps.run c.args.self.now.service.now.world in
+    let now = g.W.MakesOwnSteps.run c.args.self.now.service.now.world in
     let start = g.B.Begun.start in
     let at = c.args.self.now.at.now in
     record {
@@ -17,7 +17,7 @@ nest_in-requires g c =
 
 pub invariant_of-self : goal.invariant_of-self
 invariant_of-self g c =
-    let run = g.W.MakesSteps.run in
+    let run = g.W.MakesOwnSteps.run in
     let start = g.B.Begun.start in
     let old = run c.args.self.now.service.now.world in
     let new = run c.nest_in.new.service.world in
@@ -28,5 +28,5 @@ invariant_of-self g c =
       reached = λ n h. c.nest_in.ensures.reached n (c.args.self.now.reached n h);
       works =
           works_on start.action start.run old new start.left c.args.self.now.at.now.left c.nest_in.new.at.left c.args.self.now.works
-          (subst (λ a. ∥ Works a old new c.args.self.now.at.now.left c.nest_in.new.at.left ∥₁) c.args.self.now.action c.nest_in.ensures.works);
+          (subst (λ a. ∥ Works g.W.MakesOwnSteps.sees a old new c.args.self.now.at.now.left c.nest_in.new.at.left ∥₁) c.args.self.now.action c.nest_in.ensures.works);
     }

@@ -5,7 +5,7 @@ use Rattle.service.proofs.transaction.Transaction.operate.Goals as goal
 
 pub invariant_of-self : goal.invariant_of-self
 invariant_of-self g c =
-    let run = g.W.MakesSteps.run in
+    let run = g.W.MakesOwnSteps.run in
     let start = g.B.Begun.start in
     let old = run c.args.self.now.service.now.world in
     let new = run c.operate_in.new.service.world in
@@ -17,5 +17,5 @@ invariant_of-self g c =
       reached = c.args.self.now.reached;
       works =
           works_more start.action start.run old new start.left left left c.args.self.now.works
-          (subst (λ a. Works a old new left left) c.args.self.now.action c.operate_in.ensures.works);
+          (subst (λ a. Works g.W.MakesOwnSteps.sees a old new left left) c.args.self.now.action c.operate_in.ensures.works);
     }
