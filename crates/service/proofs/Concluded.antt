@@ -239,6 +239,17 @@ module _ {M : Type 0} (run : M → World) (sees : Sees) (leaves : Leaves M) wher
       let (answer, e) = call_happens (steps.Commit t) old new call in
       ap (λ past. is_ended t past) e ∙ or_left _ _ (or_left _ _ (same_name_self t))
 
+  commit_commits : (a : Name) (old new : M) → IsCall run sees leaves (steps.Commit a) IsDone old new (Ok tt) → is_committed a (run new).past ≡ true
+  commit_commits a old new call =
+      let (answer, e) = call_happens (steps.Commit a) old new call in
+      ap (λ past. is_committed a past) e ∙ or_left _ _ (same_name_self a)
+
+  -- what was committed stays so, whether its guardian was told or not
+  pub committed_then : (a : Name) (g : ℕ) (old mid new : M) (r : Result ℕ CallFault) → IsCall run sees leaves (steps.Commit a) IsDone old mid (Ok tt)
+      → IsCall run sees leaves (steps.Tell g a) Told mid new r → is_committed a (run new).past ≡ true
+  committed_then a g old mid new r commit tell =
+      call_keeps (λ step. step_commits step a) (steps.Tell g a) Told mid new r refl tell ∙ commit_commits a old mid commit
+
   -- who is told is told
   tell_tells : (a : Name) (g count : ℕ) (old new : M) → IsCall run sees leaves (steps.Tell g a) Told old new (Ok count)
       → (answer : Answer) × ((run new).past ≡ record { step = steps.Tell g a; answer = answer } ∷ (run old).past)

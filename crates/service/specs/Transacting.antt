@@ -244,10 +244,17 @@ module _ (sees : Sees) where
 
   -- ---- transactions
 
-  -- The step began the top action.
-  pub record Begins (first : Step) (top : Name) (old new : World) : Type 0 where
-    pub answer : IsAnsweredTo sees old first (answers.Began (top ∷ []))
-    pub after : new ≡ world_after old first (answers.Began (top ∷ []))
+  -- The step began the action.
+  pub record Begins (first : Step) (action : Name) (old new : World) : Type 0 where
+    pub answer : IsAnsweredTo sees old first (answers.Began (action ∷ []))
+    pub after : new ≡ world_after old first (answers.Began (action ∷ []))
+
+  -- A call of this guardian began a subaction of the action, which has committed.
+  pub record CommitsCall (a : Name) (g : ℕ) (old new : World) : Type 0 where
+    pub sub : Name
+    pub begun : World
+    pub begins : Begins (steps.Call a g) sub old begun
+    pub committed : is_committed sub new.past ≡ true
 
   -- The step began the top action of a transaction, which ended so. What came to nothing before is kept, and else the
   -- first fault of its own.

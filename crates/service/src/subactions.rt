@@ -1,9 +1,10 @@
 //! Subactions of a transaction: they are called, worked in, and committed or aborted.
-ghost use Rattle.std.specs.Prelude.{◌≡◌, IfOk, OnErr, OnOk};
+ghost use Rattle.std.specs.Prelude.{◌≡◌, true, IfOk, OnErr, OnOk};
+ghost use Rattle.run_model.specs.Actions.{is_committed};
 ghost use Rattle.run_model.specs.declared.step.Step.TheVariants as steps;
 ghost use Rattle.service.specs.Calling.{IsCall, IsReply};
 ghost use Rattle.service.specs.Opening.{BeganAt};
-ghost use Rattle.service.specs.Transacting.{CommitsNoChild, EndedAndTold, Goes, Includes, Settles, Works, finishes, settles};
+ghost use Rattle.service.specs.Transacting.{CommitsCall, CommitsNoChild, EndedAndTold, Goes, Includes, Settles, Works, finishes, settles};
 
 use crate::fault::CallFault;
 use crate::place::{Place, with_number};
@@ -43,6 +44,8 @@ pub(crate) fn call_in<W: MakesOwnSteps + Drop, J: Work<W>>(
     ensures reached { Includes at.old.reached.items at.new.reached.items }
     ensures works { ∥ Works W.sees at.old.action (W.run service.old.world) (W.run service.new.world)
         at.old.left at.new.left ∥₁ }
+    ensures committed { OnOk result (CommitsCall W.sees at.old.action guardian
+        (W.run service.old.world) (W.run service.new.world)) }
     ensures undone { OnErr result (CommitsNoChild at.old.action (W.run service.old.world)
         (W.run service.new.world)) }
 {
@@ -96,6 +99,7 @@ fn commit_sub<W: MakesOwnSteps + Drop>(
     ensures ends { Settles W.sees (finishes sub.action) (W.run service.old.world)
         (W.run service.new.world) sub.left at.new.left
         (EndedAndTold sub.action guardian (W.run service.new.world)) }
+    ensures committed { OnOk result (is_committed sub.action (W.run service.new.world).past ≡ true) }
     ensures undone { OnErr result (Goes W.sees (settles sub.action) (W.run service.old.world)
         (W.run service.new.world)) }
     ensures action { at.new.action ≡ at.old.action }
@@ -145,6 +149,8 @@ fn commit_and_tell<W: MakesOwnSteps + Drop>(
     ensures ends { Settles W.sees (finishes action.now) (W.run service.old.world)
         (W.run service.new.world) left result.1
         (EndedAndTold action.now guardian (W.run service.new.world)) }
+    ensures committed { OnOk result.0
+        (is_committed action.now (W.run service.new.world).past ≡ true) }
     ensures undone { OnErr result.0 (Goes W.sees (settles action.now) (W.run service.old.world)
         (W.run service.new.world)) }
 {

@@ -1,5 +1,5 @@
 //! The work of a transaction, and what it is given.
-ghost use Rattle.std.specs.Prelude.{◌≡◌, true, OnErr};
+ghost use Rattle.std.specs.Prelude.{◌≡◌, true, OnErr, OnOk};
 ghost use Rattle.run_model.specs.declared.step.Step.TheVariants as steps;
 ghost use Rattle.service.specs.Transacting.{Includes, Works, began_at};
 
@@ -57,7 +57,7 @@ pub trait Work<W: MakesOwnSteps + Drop> {
 
 impl<'s, W: MakesOwnSteps + Drop, B: Begun> Transaction<'s, W, B> {
     ghost use Rattle.service.specs.Calling.{IsCall, IsReply};
-    ghost use Rattle.service.specs.Transacting.{CommitsNoChild, Transacts};
+    ghost use Rattle.service.specs.Transacting.{CommitsCall, CommitsNoChild, Transacts};
 
     /// Makes an operation on an object at the action's home, and gives the reply.
     pub fn operate(&mut self, object: ObjectId, operation: Op) -> Result<Reply, CallFault>
@@ -75,6 +75,8 @@ impl<'s, W: MakesOwnSteps + Drop, B: Begun> Transaction<'s, W, B> {
     pub fn call<J: Work<W>>(&mut self, guardian: u32, work: &mut J) -> Result<J::Value, J::Error>
         ensures same_service { self.new.service.ghost_name ≡ self.old.service.ghost_name }
         ensures same_action { self.new.at.ghost_name ≡ self.old.at.ghost_name }
+        ensures committed { OnOk result (CommitsCall W.sees self.old.at.now.action guardian
+            (W.run self.old.service.now.world) (W.run self.new.service.now.world)) }
         ensures undone { OnErr result (CommitsNoChild self.old.at.now.action
             (W.run self.old.service.now.world) (W.run self.new.service.now.world)) }
     {

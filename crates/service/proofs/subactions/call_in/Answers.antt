@@ -1,8 +1,9 @@
 use Rattle.std.proofs.Common.{refl, subst, sym, true, ◌≡◌}
 use Rattle.run_model.specs.declared.step.Step.TheVariants as steps
 use Rattle.run_laws.proofs.Names.{eqb_self}
+use Rattle.run_model.specs.Actions.{is_committed}
 use Rattle.service.specs.Transacting.{began_at}
-use Rattle.service.proofs.Calls.{began_there, sub_aborted, sub_worked, works_start}
+use Rattle.service.proofs.Calls.{began_there, begins_by, sub_aborted, sub_worked, works_start}
 use Rattle.service.proofs.Undone.{if_error, none_committed_same, sub_undone}
 use Rattle.service.proofs.subactions.call_in.Goals as goal
 
@@ -61,6 +62,21 @@ returns-in_ok-commit_sub-in-Ok-clause-works g c =
     c.begin_sub.new.service.world (g.W.MakesOwnSteps.run c.work_in.new.service.world) (g.W.MakesOwnSteps.run c.commit_sub.new.service.world)
     c.in_ok-sub.sub c.args.at.now.left c.work_in.new.at.left c.commit_sub.new.at.left c.in_ok-sub.ensures.call c.in_ok-sub.ensures.left
     c.work_in.ensures.action c.work_in.ensures.works c.commit_sub.ensures.ends
+
+pub returns-in_ok-commit_sub-in-Ok-clause-committed : goal.returns-in_ok-commit_sub-in-Ok-clause-committed
+returns-in_ok-commit_sub-in-Ok-clause-committed g c =
+    let run = g.W.MakesOwnSteps.run in
+    let begun = c.begin_sub.new.service.world in
+    record {
+      sub = c.in_ok-sub.sub.action;
+      begun = run begun;
+      begins =
+          begins_by run g.W.MakesOwnSteps.sees g.W.MakesOwnSteps.leaves (steps.Call c.args.at.now.action c.args.guardian) c.args.service.now.world begun
+          c.in_ok-sub.sub c.in_ok-sub.ensures.call;
+      committed =
+          subst (λ a. is_committed a (run c.commit_sub.new.service.world).past ≡ true) c.work_in.ensures.action
+          c.in_ok-commit_sub-in-Ok.ensures.committed;
+    }
 
 pub returns-in-Err-clause-works : goal.returns-in-Err-clause-works
 returns-in-Err-clause-works g c =
