@@ -8,7 +8,6 @@ use Rattle.std.specs.Result.{IsErrAnd, result_err}
 use Rattle.std.specs.Prelude.{if◌then◌else◌}
 use Rattle.action_names.specs.Names.{Name, same_name}
 use Rattle.run_model.specs.declared.answer.Answer.{Answer}
-use Rattle.run_model.specs.declared.answer.Answer.TheVariants as answers
 use Rattle.run_model.specs.declared.history.Event.{Event}
 use Rattle.run_model.specs.declared.step.Step.{Step}
 use Rattle.run_model.specs.declared.step.Step.TheVariants as steps

@@ -1,5 +1,5 @@
 -- What a step that happened was answered, by the kind of step.
-use Rattle.std.proofs.Common.{Bool, Err, IfOk, List, None, Ok, OnErr, Option, Result, Some, [], ap, cond, false, refl, subst, sym, true, ℕ, ◌∷◌, ◌≡◌, ◌∙◌}
+use Rattle.std.proofs.Common.{Bool, Err, IfErr, IfOk, List, None, Ok, OnErr, Option, Result, Some, [], ap, cond, false, refl, subst, sym, true, ℕ, ◌∷◌, ◌≡◌, ◌∙◌}
 use Rattle.std.proofs.lemmas.Bool.{false≢true}
 use Rattle.std.specs.Prelude.{IsTrue}
 use Rattle.std.specs.Result.{IsErrAnd}
@@ -22,10 +22,10 @@ use Rattle.run_model.specs.Votes.{may_prepare}
 use Rattle.layer_contracts.specs.Stores.{fault_in}
 use Rattle.layer_contracts.specs.declared.guardian.Fault.{Fault}
 use Rattle.layer_contracts.specs.declared.guardian.Fault.TheVariants.{Memory, Stable}
-use Rattle.stepping.specs.Beside.{IsAnsweredTo, IsMadeWith, LeavesOrNone, Sees}
+use Rattle.stepping.specs.Beside.{IsAnsweredTo, IsMadeWith, LeavesOrNone, Sees, is_waits}
 use Rattle.stepping.specs.Stepping.{Leaves}
 use Rattle.stepping.proofs.Beside.{leaves_step}
-use Rattle.service.specs.Calling.{IsAccepted, IsCall, IsFinishing, IsTaken, IsVote, LeavesStores}
+use Rattle.service.specs.Calling.{IsAccepted, IsCall, IsFinishing, IsTaken, IsVote, LeavesStores, WaitsIf}
 use Rattle.service.specs.declared.fault.CallFault.{CallFault}
 use Rattle.service.specs.declared.fault.CallFault.TheVariants.{Failed, Refused, Waits}
 use Rattle.values.specs.declared.content.Content.{Content}
@@ -175,3 +175,17 @@ call_fails run sees leaves step Shows old new (Ok x) fault h call = absurd h
 call_fails run sees leaves step Shows old new (Err e) fault h call =
     subst (λ f. IsCall run sees leaves step Shows old new (Err f)) (sym h)
     (record { gives = tt; why = call.why; same = call.same; stores = call.stores })
+
+-- ---- operations that wait
+
+taken_waits : (Over : Type 0) (made : Result Answer Fault) (fault : CallFault) → IsTaken made (Err fault)
+    → IfOk made (λ answer. is_waits answer ≡ true → Over) → WaitsIf Over fault
+taken_waits Over (Ok answer) (Waits names) is given = given (ap is_waits is)
+taken_waits Over (Err fault) (Waits names) is given = absurd is
+taken_waits Over made (Refused why) is given = tt
+taken_waits Over made (Failed fault) is given = tt
+
+pub call_waits : (Over : Type 0) {T : Type 0} (result : Result T CallFault) (fault : CallFault) → IsErrAnd result (λ x. x ≡ fault)
+    → (made : Result Answer Fault) → IsTaken made (Err fault) → IfOk made (λ answer. is_waits answer ≡ true → Over) → IfErr result (WaitsIf Over)
+call_waits Over (Ok x) fault h made is given = absurd h
+call_waits Over (Err e) fault h made is given = subst (WaitsIf Over) (sym h) (taken_waits Over made fault is given)

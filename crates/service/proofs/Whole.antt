@@ -7,7 +7,7 @@ use Rattle.run_model.specs.declared.answer.Answer.TheVariants as answers
 use Rattle.run_model.specs.declared.history.Event.{Event}
 use Rattle.run_model.specs.declared.step.Step.{Step}
 use Rattle.run_model.specs.declared.step.Step.TheVariants as steps
-use Rattle.run_model.specs.Actions.{begun, is_aborted, is_begun, is_committed, is_ended, step_aborts, step_commits}
+use Rattle.run_model.specs.Actions.{is_aborted, is_begun, is_committed, is_ended, step_aborts, step_commits}
 use Rattle.run_model.specs.Runs.{World}
 use Rattle.run_model.specs.Telling.{told_since_crash}
 use Rattle.run_model.specs.Votes.{has_voted, step_votes}

@@ -61,6 +61,11 @@ ComesToNothing sees own step (Refused why) = IsAnsweredTo sees own step (answers
 ComesToNothing sees own step (Waits names) = IsAnsweredTo sees own step (answers.Waits names)
 ComesToNothing sees own step (Failed fault) = Unit {0}
 
+-- an operation that waits is told so only if this is so
+abbrev pub WaitsIf : Type 0 → CallFault → Type 0
+WaitsIf Over (Waits names) = Over
+WaitsIf Over _ = Unit {0}
+
 -- so the stores are left by a step that did not happen; memory may run out before it is made, and no store fails then
 abbrev pub LeavesStores : {M : Type 0} → Leaves M → Step → M → M → CallFault → Type 0
 LeavesStores leaves step old new (Refused why) = leaves step None old new

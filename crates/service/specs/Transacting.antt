@@ -201,7 +201,8 @@ module _ (sees : Sees) where
   abbrev pub FallsShort : (Step → Bool) → World → World → CallFault → Type 0
   FallsShort mine old new fault = CameToNothing mine is_settling old new fault
 
-  -- Steps of this kind that begin nothing. Unless one came to nothing, it is so afterwards; the first fault is kept.
+  -- Steps of this kind that begin nothing. Unless one came to nothing, it is so afterwards. Else the reason is kept, of
+  -- one of these steps or of one before.
   pub record Settles (mine : Step → Bool) (old new : World) (was is : Option CallFault)
       (So : Type 0) : Type 0 where
     pub goes : Goes mine old new
@@ -213,7 +214,7 @@ module _ (sees : Sees) where
   -- ---- work
 
   -- Work in this action, and in top actions that began in it. Unless a step came to nothing, all that it began is
-  -- settled; the first fault is kept.
+  -- settled. Else the reason is kept, of one of these steps or of one before.
   pub record Works (a : Name) (old new : World) (was is : Option CallFault) : Type 0 where
     pub tops : List Name
     pub began : AllBegan tops old new
@@ -233,7 +234,8 @@ module _ (sees : Sees) where
     pub voted : (g : ℕ) → has_number guardians g ≡ false
         → has_voted g t new.past ≡ has_voted g t old.past
 
-  -- The top action is ended. Unless a step came to nothing, these guardians were told; the first fault is kept.
+  -- The top action is ended. Unless a step came to nothing, these guardians were told. Else the reason is kept, of one
+  -- of these steps or of one before.
   pub record EndsTop (t : Name) (guardians : List ℕ) (old new : World)
       (was is : Option CallFault) (committed : Bool) : Type 0 where
     pub concludes : Concludes t guardians old new committed
@@ -256,8 +258,8 @@ module _ (sees : Sees) where
     pub begins : Begins (steps.Call a g) sub old begun
     pub committed : is_committed sub new.past ≡ true
 
-  -- The step began the top action of a transaction, which ended so. What came to nothing before is kept, and else the
-  -- first fault of its own.
+  -- The step began the top action of a transaction, which ended so. If a step came to nothing, the reason is kept: of
+  -- one of its own or of one before.
   pub record IsTransacted {T E : Type 0} (first : Step) (old new : World) (outcome : Outcome T E)
       (was is : Option CallFault) : Type 0 where
     pub top : Name

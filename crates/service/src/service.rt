@@ -17,7 +17,7 @@ impl<W: MakesOwnSteps + Drop> Service<W> {
     ghost use Rattle.std.specs.Prelude.{◌≡◌, IfErr, IfOk, OnOk};
     ghost use Rattle.run_model.specs.declared.step.Step.TheVariants as steps;
     ghost use Rattle.service.specs.Ending.{AreCutShort, ArePolled, HaveHappened, IsEnded, IsEndingCut, prepares, tells, verdict};
-    ghost use Rattle.service.specs.Calling.{BeganOne, BeganThese, IsAccepted, IsCall, IsDone, IsFinishing, IsReply, IsVote, Told};
+    ghost use Rattle.service.specs.Calling.{BeganOne, BeganThese, IsAccepted, IsCall, IsDone, IsFinishing, IsReply, IsVote, Told, WaitsIf};
 
     /// The calls whose steps are made so.
     pub fn over(world: W) -> Service<W>
@@ -59,15 +59,16 @@ impl<W: MakesOwnSteps + Drop> Service<W> {
     }
 
     /// Makes an operation of the action on an object at its home, and gives the reply. `Waits` comes if another action
-    /// holds the object in a conflicting way. Where others make steps too, it may sleep instead.
+    /// holds the object in a conflicting way. Where others make steps too, it sleeps instead, until it gives up.
     pub fn operate(
         &mut self,
         action: &Name,
         object: ObjectId,
         operation: Op,
     ) -> Result<Reply, CallFault>
-        ensures { IsCall W.run W.sees W.leaves (steps.Op action.now object operation) IsReply
+        ensures call { IsCall W.run W.sees W.leaves (steps.Op action.now object operation) IsReply
             self.old.world self.new.world result }
+        ensures waits { IfErr result (WaitsIf W.gives_up) }
     {
         Ok(reply(taken(self.world.operate(action, object, operation))?))
     }

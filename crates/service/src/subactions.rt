@@ -1,8 +1,8 @@
 //! Subactions of a transaction: they are called, worked in, and committed or aborted.
-ghost use Rattle.std.specs.Prelude.{◌≡◌, true, IfOk, OnErr, OnOk};
+ghost use Rattle.std.specs.Prelude.{◌≡◌, true, IfErr, IfOk, OnErr, OnOk};
 ghost use Rattle.run_model.specs.Actions.{is_committed};
 ghost use Rattle.run_model.specs.declared.step.Step.TheVariants as steps;
-ghost use Rattle.service.specs.Calling.{IsCall, IsReply};
+ghost use Rattle.service.specs.Calling.{IsCall, IsReply, WaitsIf};
 ghost use Rattle.service.specs.Opening.{BeganAt};
 ghost use Rattle.service.specs.Transacting.{CommitsCall, CommitsNoChild, EndedAndTold, Goes, Includes, Settles, Works, finishes, settles};
 
@@ -25,6 +25,7 @@ pub(crate) fn operate_in<W: MakesOwnSteps + Drop>(
 ) -> Result<Reply, CallFault>
     ensures call { IsCall W.run W.sees W.leaves (steps.Op at.now.action object operation) IsReply
         service.old.world service.new.world result }
+    ensures waits { IfErr result (WaitsIf W.gives_up) }
     ensures works { Works W.sees at.now.action (W.run service.old.world) (W.run service.new.world)
         at.now.left at.now.left }
 {

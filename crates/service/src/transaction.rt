@@ -1,5 +1,5 @@
 //! The work of a transaction, and what it is given.
-ghost use Rattle.std.specs.Prelude.{◌≡◌, true, OnErr, OnOk};
+ghost use Rattle.std.specs.Prelude.{◌≡◌, true, IfErr, OnErr, OnOk};
 ghost use Rattle.run_model.specs.declared.step.Step.TheVariants as steps;
 ghost use Rattle.service.specs.Transacting.{Includes, Works, began_at};
 
@@ -56,7 +56,7 @@ pub trait Work<W: MakesOwnSteps + Drop> {
 }
 
 impl<'s, W: MakesOwnSteps + Drop, B: Begun> Transaction<'s, W, B> {
-    ghost use Rattle.service.specs.Calling.{IsCall, IsReply};
+    ghost use Rattle.service.specs.Calling.{IsCall, IsReply, WaitsIf};
     ghost use Rattle.service.specs.Transacting.{CommitsCall, CommitsNoChild, Transacts};
 
     /// Makes an operation on an object at the action's home, and gives the reply.
@@ -66,6 +66,7 @@ impl<'s, W: MakesOwnSteps + Drop, B: Begun> Transaction<'s, W, B> {
         ensures call { IsCall W.run W.sees W.leaves
             (steps.Op self.old.at.now.action object operation) IsReply
             self.old.service.now.world self.new.service.now.world result }
+        ensures waits { IfErr result (WaitsIf W.gives_up) }
     {
         operate_in(self.service, self.at, object, operation)
     }
