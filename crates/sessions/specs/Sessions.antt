@@ -1,0 +1,32 @@
+-- What a session keeps: the receipts of one thread's events, in the order in which they came.
+use Rattle.std.specs.Prelude.{◌≡◌, ◌-◌, List, [], Option, Some, None, length, slice_get}
+use Rattle.layer_contracts.specs.declared.guardian.Fault.{Fault}
+use Rattle.run_model.specs.declared.history.Event.{Event}
+use Rattle.run_model.specs.Openings.{OpeningLists}
+use Rattle.run_model.specs.Runs.{World}
+use Rattle.stepping.specs.Beside.{IsPartOf}
+use Rattle.runtime.specs.Faults.{fault_told}
+use Rattle.runtime.specs.Receipts.{events_of}
+use Rattle.runtime.specs.declared.fault.StepFault.{StepFault}
+
+-- the opening, and the events of the receipts
+abbrev pub run_of : OpeningLists → List (List Event) → World
+run_of lists receipts = record { lists = lists; past = events_of receipts }
+
+-- the receipt that came last, if one did
+abbrev pub newest : List (List Event) → Option (List Event)
+newest receipts = slice_get receipts (length receipts - 1)
+
+-- the events are a part of this run; if there is none, there are no events
+abbrev pub AreIn : List Event → Option (List Event) → Type 0
+AreIn events None = events ≡ []
+AreIn events (Some past) = IsPartOf events past
+
+-- the events of all receipts are a part of the run of the newest
+abbrev pub AreNested : List (List Event) → Type 0
+AreNested receipts = AreIn (events_of receipts) (newest receipts)
+
+-- why the last step failed, of which the caller was told this; nothing if it did not fail
+abbrev pub IsLastFault : Option Fault → Option StepFault → Type 0
+IsLastFault None last = last ≡ None
+IsLastFault (Some fault) last = (why : StepFault) × (last ≡ Some why) × (fault_told why ≡ fault)

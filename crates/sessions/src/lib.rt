@@ -1,0 +1,6 @@
+//! The steps of one thread over a runtime, beside which other threads make steps.
+#![tactic(auto)]
+
+mod session;
+
+pub use session::Session;

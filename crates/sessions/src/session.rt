@@ -1,0 +1,186 @@
+//! The steps of one thread.
+ghost use Rattle.std.specs.Prelude.{◌≡◌, ◌<◌, [], true, IfOk, None, OnOk, vec_capacity, vec_len};
+ghost use Rattle.run_model.specs.Openings.{opening_in};
+ghost use Rattle.run_model.specs.declared.step.Step.{Step};
+ghost use Rattle.run_model.specs.declared.step.Step.TheVariants.{Op as Operation};
+ghost use Rattle.layer_contracts.specs.Stores.{fault_in};
+ghost use Rattle.runtime.specs.Answering.{IsAnsweredFrom};
+ghost use Rattle.runtime.specs.Faults.{fault_told};
+ghost use Rattle.runtime.specs.Receipts.{IsKept};
+ghost use Rattle.sessions.specs.Sessions.{AreNested, IsLastFault, newest};
+ghost use Rattle.stepping.specs.Beside.{is_waits};
+
+use layer_contracts::{Forest, Guardian};
+use run_model::{Answer, Name, ObjectId, Op, Opening, Step};
+use runtime::{Answered, Gate, OfRun, Patience, Receipt, Runtime, StepFault};
+use std::alloc::Global;
+use std::sync::Wait;
+use stepping::{Fault, MakesOwnSteps};
+
+/// Makes the steps of one thread, each behind the one before, and keeps the receipts of its events. Contracts see the
+/// opening and these events.
+///
+/// An operation that waits for other actions sleeps until the patience is over.
+#[derive(Drop)]
+pub struct Session<'a, K: OfRun, R: Forest, G: Guardian, P: Gate, U: Patience, H> {
+    alloc: Global,
+    rt: &'a H,
+    runtime: &'a Runtime<K, R, G, P>,
+    opening: &'a Opening,
+    patience: &'a U,
+    receipts: Vec<Receipt<K>>,
+    /// Why the last step failed, if it did.
+    last_fault: Option<StepFault>,
+    ghost same: { opening_in opening.now ≡ K.opening },
+    ghost nested: { ∥ AreNested receipts.items ∥₁ },
+}
+
+impl<'a, K: OfRun, R: Forest, G: Guardian, P: Gate, U: Patience, H: Wait> Session<
+    'a,
+    K,
+    R,
+    G,
+    P,
+    U,
+    H,
+> {
+    /// Nothing has happened in the thread.
+    pub fn new(
+        alloc: Global,
+        rt: &'a H,
+        runtime: &'a Runtime<K, R, G, P>,
+        opening: &'a Opening,
+        patience: &'a U,
+    ) -> Session<'a, K, R, G, P, U, H>
+        requires { opening_in opening.now ≡ K.opening }
+        ensures opening { result.opening.now ≡ opening.now }
+        ensures none { result.receipts.items ≡ [] }
+        ensures no_fault { result.last_fault ≡ None }
+    {
+        Session {
+            alloc,
+            rt,
+            runtime,
+            opening,
+            patience,
+            receipts: Vec::new(alloc),
+            last_fault: None,
+        }
+    }
+
+    /// The receipts of its events, in the order in which they came.
+    pub fn into_receipts(self) -> Vec<Receipt<K>>
+        ensures { result ≡ self.entry.receipts }
+    {
+        let Session { receipts, .. } = self;
+        receipts
+    }
+
+    /// Why the last step failed, if it did. It tells drawn stamps from a store that failed.
+    pub fn last_fault(&self) -> Option<StepFault>
+        ensures { result ≡ self.now.last_fault }
+    {
+        self.last_fault
+    }
+
+    /// Makes a step behind the last one, once there is room for its receipt.
+    fn step_behind(&mut self, step: &Step) -> Result<Answered<K>, StepFault>
+        ensures answered { IfOk result (λ a. IsAnsweredFrom K.opening
+            (newest self.old.receipts.items) step.now a.answer a.receipt) }
+        ensures receipts { self.new.receipts.items ≡ self.old.receipts.items }
+        ensures room { OnOk result (vec_len self.new.receipts < vec_capacity self.new.receipts) }
+        ensures opening { self.new.opening.now ≡ self.old.opening.now }
+    {
+        self.receipts.reserve(1)?;
+        match self.receipts.last_mut() {
+            Some(last) => self.runtime.step_behind(self.rt, last, step),
+            None => self.runtime.step(self.rt, step),
+        }
+    }
+
+    /// Makes an operation behind the last step, once there is room for its receipt, and sleeps while it waits.
+    fn wait_behind(
+        &mut self,
+        action: &Name,
+        object: ObjectId,
+        operation: &Op,
+    ) -> Result<Answered<K>, StepFault>
+        ensures answered { IfOk result (λ a. IsAnsweredFrom K.opening
+            (newest self.old.receipts.items) (Operation action.now object operation.now)
+            a.answer a.receipt) }
+        ensures waits { IfOk result (λ a. is_waits a.answer ≡ true → U.over) }
+        ensures receipts { self.new.receipts.items ≡ self.old.receipts.items }
+        ensures room { OnOk result (vec_len self.new.receipts < vec_capacity self.new.receipts) }
+        ensures opening { self.new.opening.now ≡ self.old.opening.now }
+    {
+        self.receipts.reserve(1)?;
+        let (rt, patience) = (self.rt, self.patience);
+        match self.receipts.last_mut() {
+            Some(last) => self
+                .runtime
+                .op_wait_behind(rt, last, action, object, operation, patience),
+            None => self
+                .runtime
+                .op_wait_while(rt, action, object, operation, &[], patience),
+        }
+    }
+
+    /// Keeps the receipt of an answer that came behind the last step, if it has one, and else the fault.
+    fn keep(&mut self, answered: Result<Answered<K>, StepFault>) -> Result<Answer, Fault>
+        requires room { OnOk answered (vec_len self.old.receipts < vec_capacity self.old.receipts) }
+        requires behind { (step : Step) × IfOk answered (λ a. IsAnsweredFrom K.opening
+            (newest self.old.receipts.items) step a.answer a.receipt) }
+        ensures kept { IsKept answered result self.old.receipts.items self.new.receipts.items }
+        ensures fault { IsLastFault (fault_in result) self.new.last_fault }
+        ensures opening { self.new.opening.now ≡ self.old.opening.now }
+    {
+        match answered {
+            Ok(answered) => {
+                let Answered { answer, receipt } = answered;
+                self.last_fault = None;
+                if let Some(receipt) = receipt {
+                    self.receipts.push_reserved(receipt);
+                }
+                Ok(answer)
+            }
+            Err(fault) => {
+                self.last_fault = Some(fault);
+                Err(told(fault))
+            }
+        }
+    }
+}
+
+/// The fault, to a caller that knows those of guardians alone.
+fn told(fault: StepFault) -> Fault
+    ensures { result ≡ fault_told fault }
+{
+    match fault {
+        StepFault::Memory => Fault::Memory,
+        StepFault::Stable | StepFault::UsedUp => Fault::Stable,
+    }
+}
+
+/// A step leaves behind why it failed, if it did.
+impl<'a, K: OfRun, R: Forest, G: Guardian, P: Gate, U: Patience, H: Wait> MakesOwnSteps
+    for Session<'a, K, R, G, P, U, H> {
+    ghost use Rattle.sessions.specs.Sessions.{IsLastFault, run_of};
+
+    ghost run = { λ s. run_of s.opening.now s.receipts.items };
+
+    ghost sees = { λ own seen. Unit {0} };
+
+    ghost leaves = { λ step fault old new. IsLastFault fault new.last_fault };
+
+    ghost gives_up = { U.over };
+
+    fn make_step(&mut self, step: &Step) -> Result<Answer, Fault> {
+        let answered = self.step_behind(step);
+        self.keep(answered)
+    }
+
+    fn operate(&mut self, action: &Name, object: ObjectId, operation: Op) -> Result<Answer, Fault> {
+        let answered = self.wait_behind(action, object, &operation);
+        self.keep(answered)
+    }
+}
