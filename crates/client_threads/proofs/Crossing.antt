@@ -29,6 +29,7 @@ use Rattle.layer_contracts.specs.declared.forest.Forest as forest
 use Rattle.layer_contracts.specs.declared.guardian.Guardian as guardian
 use Rattle.runtime.proofs.runtime.Runtime.TheSendSync as runtime
 use Rattle.run_model.proofs.opening.Opening.TheSendSync as opening
+use Rattle.values.proofs.content.Content.TheSendSync as content
 use Rattle.crossbeam_channel.specs.contracts.channel.Receiver as Receiver
 use Rattle.crossbeam_channel.proofs.channel.Receiver.TheSendSync as receiver
 use Rattle.crossbeam_channel.proofs.channel.Sender.TheSendSync as sender
@@ -112,7 +113,7 @@ pub client_sync : IsSync (Client.the_field).row
 client_sync = search (statement_sync, items_sync, sendable, crosses) depth 40 fits 20000
 
 pub checked_sync : IsSync (Checked.the_field).row
-checked_sync = search (handler_sync, client_sync, items_sync, sendable, crosses) depth 40 fits 20000
+checked_sync = search (handler_sync, client_sync, content.the_field_sync, content.the_sync, items_sync, sendable, crosses) depth 40 fits 20000
 
 pub body_send : IsSend (Items.the_row (Statement.the_field).row)
 body_send = items_send _ statement_send
@@ -159,7 +160,7 @@ module _ (K S : RattleType) (k : run.Ghosts K.Denot) (s : of_script.Ghosts S.Den
   orders_row_send = search (order_row_send, receiver.the_send, sendable, crosses) depth 40 fits 20000
 
 pub checked_row_sync : IsSync Checked.the_row
-checked_row_sync = search (handler_sync, client_sync, items_sync, sendable, crosses) depth 40 fits 20000
+checked_row_sync = search (handler_sync, client_sync, content.the_field_sync, content.the_sync, items_sync, sendable, crosses) depth 40 fits 20000
 
 pub flag_sync : IsSync Boolean
 flag_sync = search sendable
