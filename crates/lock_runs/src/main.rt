@@ -7,6 +7,7 @@
 
 mod examples;
 mod meeting;
+mod purses;
 mod random;
 mod runs;
 mod same;
@@ -17,6 +18,7 @@ mod waiting;
 
 use examples::Examples;
 use meeting::all_meet;
+use purses::no_coin_is_lost;
 use rows::RowFault;
 use run_model::Step;
 use same::same_answers;
@@ -57,7 +59,9 @@ fn tests<H: Threads + Wait + Sync + Print>(rt: &H, alloc: Global) -> io::Result<
     let met = outcome(all_meet(alloc, rt, 16), "met", "not met");
     println!(rt; "operations inside the locks of every sixteenth of 1024 guardians: {met}")?;
     let granted = outcome(both_are_granted(alloc, rt), "granted", "not granted");
-    println!(rt; "two threads whose operations wait for one another: {granted}")
+    println!(rt; "two threads whose operations wait for one another: {granted}")?;
+    let kept = outcome(no_coin_is_lost(alloc, rt), "none lost", "some lost");
+    println!(rt; "coins that four threads move by transactions: {kept}")
 }
 
 /// Prints the nanoseconds of the steps of standard input, by a world and by a runtime.

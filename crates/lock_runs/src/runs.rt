@@ -1,5 +1,6 @@
 //! A runtime over a setup's guardians, its steps, and whether its receipts close the run.
 ghost use Rattle.std.specs.Prelude.{◌≡◌, [], IfOk};
+ghost use Rattle.std.specs.Arc.{arc_value};
 ghost use Rattle.run_model.specs.Openings.{opening_in};
 ghost use Rattle.stable_store.specs.Plain.{plain_view};
 ghost use Rattle.guardian.specs.Guardians.{IsWhole};
@@ -12,11 +13,11 @@ use guardian::Guardian;
 use layer_contracts::Fault;
 use registry::Registry;
 use rows::RowFault;
-use run_model::{Answer, Op, Setup, SetupFault, Step};
+use run_model::{Answer, Op, Opening, Setup, SetupFault, Step};
 use runtime::{Answered, CloseFault, Ends, Gate, OfRun, Receipt, Runtime, Start, StepFault};
 use stable_store::PlainStable;
 use std::alloc::{AllocError, Global};
-use std::sync::Wait;
+use std::sync::{Arc, Wait};
 use world::World;
 
 /// A runtime over stores in memory.
@@ -46,7 +47,33 @@ fn how_closed<K: OfRun>(
     }
 }
 
+/// What a runtime begins with, and the opening of its run.
+#[derive(Drop)]
+pub(crate) struct Parts {
+    pub(crate) opening: Arc<Opening, Global>,
+    pub(crate) start: Start,
+    pub(crate) registry: Registry,
+    pub(crate) guardians: Vec<Guardian<PlainStable>>,
+}
+
 /// The beginning of a run of a setup's document, with the registry and the guardians of a new world.
+pub(crate) fn opened(alloc: Global, document: &str) -> Result<Parts, RowFault>
+    ensures opening { IfOk result (λ o. o.start.run.table.shared.key ≡ arc_value o.opening) }
+    ensures world { IfOk result (λ o. IsWorld (λ g s. IsWhole plain_view g s)
+        (λ g. seen_of plain_view g) (StandsIn o.registry)
+        (opening_in o.start.run.table.shared.key) [] o.guardians.items) }
+{
+    let (opening, registry, guardians) = world_of(alloc, document)?.into_parts();
+    let start = Start::new(alloc, &opening)?;
+    Ok(Parts {
+        opening,
+        start,
+        registry,
+        guardians,
+    })
+}
+
+/// The same without the opening.
 pub(crate) fn started(
     alloc: Global,
     document: &str,
@@ -54,8 +81,12 @@ pub(crate) fn started(
     ensures { IfOk result (λ r. IsWorld (λ g s. IsWhole plain_view g s) (λ g. seen_of plain_view g)
         (StandsIn r.1) (opening_in r.0.run.table.shared.key) [] r.2.items) }
 {
-    let (opening, registry, guardians) = world_of(alloc, document)?.into_parts();
-    let start = Start::new(alloc, &opening)?;
+    let Parts {
+        opening: _,
+        start,
+        registry,
+        guardians,
+    } = opened(alloc, document)?;
     Ok((start, registry, guardians))
 }
 

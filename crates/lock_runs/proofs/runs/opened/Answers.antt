@@ -5,10 +5,10 @@ use Rattle.registry.specs.Registries.{StandsIn}
 use Rattle.run_model.specs.Openings.{opening_in}
 use Rattle.stable_store.specs.Plain.{plain_view}
 use Rattle.world.specs.Worlds.{seen_of}
-use Rattle.lock_runs.proofs.runs.started.Goals as goal
+use Rattle.lock_runs.proofs.runs.opened.Goals as goal
 
-pub returns : goal.returns
-returns c =
+pub returns-clause-world : goal.returns-clause-world
+returns-clause-world c =
     let run = c.in_ok-world_of.field-0.run in
     let registry = c.into_parts-opening.result.1 in
     let guardians = c.into_parts-opening.result.2.items in
