@@ -8,10 +8,10 @@ use Rattle.run_model.specs.declared.history.Event.{Event}
 use Rattle.run_model.specs.declared.step.Step.{Step}
 use Rattle.run_model.specs.declared.step.Step.TheVariants.{Abort, Arms, Call, Close, Commit, Crash, Decide, NestedTop, Op, Prepare, Recover, Tell, Top}
 use Rattle.run_model.specs.Actions.{home_in, home_of, maker_in, names_begun}
-use Rattle.run_model.specs.LocalHistories.{RegistryEvent, events_there}
+use Rattle.run_model.specs.LocalHistories.{RegistryEvent, events_there, home_lent}
 use Rattle.run_model.specs.Openings.{Opening}
 use Rattle.run_model.specs.Votes.{is_yes, step_votes}
-use Rattle.layer_contracts.specs.Forests.{begun_at}
+use Rattle.layer_contracts.specs.Forests.{begun_in}
 use Rattle.action_forest.proofs.Still.{unmoved}
 use Rattle.action_forest.specs.Events.{IsUnended, beginning, done, is_still}
 use Rattle.action_forest.specs.Forests.{IsCommitmentOf, IsForest}
@@ -100,31 +100,31 @@ module _ (opening : Opening) (registry : List RegistryEvent) where
   may_end _ answer a e = absurd (false≢true e)
 
   -- the event of a step that is done
-  done_is : (e : Event) (step : Step) (stamp home life : ℕ) → e.step ≡ step → e.answer ≡ Done 0 → event_after opening registry stamp e home life ≡ done stamp step
-  done_is e step stamp home life p q = λ i. record {
+  done_is : (e : Event) (step : Step) (stamp life : ℕ) → e.step ≡ step → e.answer ≡ Done 0 → event_after opening registry stamp e life ≡ done stamp step
+  done_is e step stamp life p q = λ i. record {
     stamp = stamp;
     event = record { step = p i; answer = q i };
-    begun = begun_at (record { opening = opening; registry = registry }) home life (q i);
+    begun = begun_in (record { opening = opening; registry = registry }) life (record { step = p i; answer = q i });
   }
 
   -- and that of one that begins names
-  beginning_is : (e : Event) (names : List Name) (stamp home life : ℕ) → e.answer ≡ Began names
-      → event_after opening registry stamp e home life ≡ beginning opening registry stamp e.step names home life
-  beginning_is e names stamp home life q = λ i. record {
+  beginning_is : (e : Event) (names : List Name) (stamp life : ℕ) → e.answer ≡ Began names
+      → event_after opening registry stamp e life ≡ beginning opening registry stamp e.step names (home_lent e.step registry) life
+  beginning_is e names stamp life q = λ i. record {
     stamp = stamp;
     event = record { step = e.step; answer = q i };
-    begun = begun_at (record { opening = opening; registry = registry }) home life (q i);
+    begun = begun_in (record { opening = opening; registry = registry }) life (record { step = e.step; answer = q i });
   }
 
-  module _ (e : Event) (stamp home life : ℕ) (actions : Actions) (are : AreActions opening registry actions) (entered : IsEntered opening registry e) where
+  module _ (e : Event) (stamp life : ℕ) (actions : Actions) (are : AreActions opening registry actions) (entered : IsEntered opening registry e) where
     has : Asked opening registry e.step e.answer
     has = asked opening registry (trees actions.forest) e are.forest entered
 
     abbrev after : List RegistryEvent
-    after = event_after opening registry stamp e home life ∷ registry
+    after = event_after opening registry stamp e life ∷ registry
 
     -- actions begin
-    pub begun_follows : (new : Actions) (begun : Begun) → (names : List Name) × (e.answer ≡ Began names) × AreBegun opening registry e.step names home life actions begun
+    pub begun_follows : (new : Actions) (begun : Begun) → (names : List Name) × (e.answer ≡ Began names) × AreBegun opening registry e.step names life actions begun
         → new.ballots ≡ actions.ballots
         → ((step : Step) (names : List Name) (home life : ℕ) → IsBeginning opening registry step names home
         → AreBorn opening registry (maker_in step) home life (trees actions.forest) names begun
@@ -134,9 +134,8 @@ module _ (opening : Opening) (registry : List RegistryEvent) where
         let names = fits.0 in
         record {
           forest =
-              subst (λ c. IsForest opening (c ∷ registry) (trees new.forest)) (sym (beginning_is e names stamp home life fits.1))
-              (grows e.step names home life
-              (subst (λ h. IsBeginning opening registry e.step names h) (sym fits.2.at_home) (begins_of e.step e.answer names has fits.1)) fits.2.born);
+              subst (λ c. IsForest opening (c ∷ registry) (trees new.forest)) (sym (beginning_is e names stamp life fits.1))
+              (grows e.step names (home_lent e.step registry) life (begins_of e.step e.answer names has fits.1) fits.2);
           ballots =
               subst (λ b. AreBallots (e ∷ events_there registry) b) (sym ballots)
               (silent e (events_there registry) actions.ballots.ballots.entries (begins_silent e.step e.answer names has fits.1) are.ballots);
@@ -153,7 +152,7 @@ module _ (opening : Opening) (registry : List RegistryEvent) where
         let own = subst (λ s. Asked opening registry s e.answer) fits.1 has in
         record {
           forest =
-              subst (λ c. IsForest opening (c ∷ registry) (trees new.forest)) (sym (done_is e (Commit a) stamp home life fits.1 own.0))
+              subst (λ c. IsForest opening (c ∷ registry) (trees new.forest)) (sym (done_is e (Commit a) stamp life fits.1 own.0))
               (ends a fits.2 own.1 own.2);
           ballots =
               subst (λ b. AreBallots (e ∷ events_there registry) b) (sym ballots)
@@ -178,7 +177,7 @@ module _ (opening : Opening) (registry : List RegistryEvent) where
         record {
           forest =
               subst (λ f. IsForest opening after f) (sym forest)
-              (unmoved opening registry (trees actions.forest) (event_after opening registry stamp e home life) (ap names_begun own.1 ∙ vote_begins_none yes_vote)
+              (unmoved opening registry (trees actions.forest) (event_after opening registry stamp e life) (ap names_begun own.1 ∙ vote_begins_none yes_vote)
               (ap is_still fits.2) are.forest);
           ballots = subst (λ f. AreBallots (f ∷ events_there registry) new.ballots) same (notes (events_there registry) are.ballots);
         }
@@ -209,7 +208,7 @@ module _ (opening : Opening) (registry : List RegistryEvent) where
         of : (b : Bool) → is_ending e.step ≡ b → IsForest opening after (trees new.forest)
         of true k =
             let may = may_end e.step e.answer has k in
-            subst (λ c. IsForest opening (c ∷ registry) (trees new.forest)) (sym (done_is e e.step stamp home life refl may.0)) (ends may.1)
+            subst (λ c. IsForest opening (c ∷ registry) (trees new.forest)) (sym (done_is e e.step stamp life refl may.0)) (ends may.1)
         of false k =
             subst (λ f. IsForest opening after f) (sym (stays k))
-            (unmoved opening registry (trees actions.forest) (event_after opening registry stamp e home life) fits.1 (still e.step fits.0 k) are.forest)
+            (unmoved opening registry (trees actions.forest) (event_after opening registry stamp e life) fits.1 (still e.step fits.0 k) are.forest)

@@ -13,8 +13,8 @@ use Rattle.registry.proofs.Reading.{inside}
 -- What actions and votes are once they follow an event by this change.
 abbrev pub Follow : Change → Actions → Step → Actions → Type 0
 Follow ch old step new =
-    AtEachOf old (λ opening registry. (stamp : ℕ) (e : Event) (home life : ℕ) → IsEntered opening registry e → FitsChange opening registry e home life old ch → step ≡ e.step
-    → AreActions opening (event_after opening registry stamp e home life ∷ registry) new)
+    AtEachOf old (λ opening registry. (stamp : ℕ) (e : Event) (life : ℕ) → IsEntered opening registry e → FitsChange opening registry e life old ch → step ≡ e.step
+    → AreActions opening (event_after opening registry stamp e life ∷ registry) new)
 
 pub stands_after : {after : Change} (m old : InRegistry) (f : ForestState) (news : RegistryNews) (step : Step) (stamp : ℕ) (new : Actions) → m ≡ old
     → StandsIn old f → IsChangeOf old f news → news.event.step ≡ step → Follow m.change m.actions step new
@@ -26,5 +26,5 @@ stands_after m old f news step stamp new is at of same grows =
       opening = here.opening;
       actions =
           subst (λ (begun : List NewAction). AreActions f.opening (stamped_there stamp (record { event = news.event; begun = begun }) ∷ f.registry) new) (sym made.begun)
-          (grows f.opening f.registry here.actions stamp news.event made.home made.life made.entered made.change (sym same));
+          (grows f.opening f.registry here.actions stamp news.event made.life made.entered made.change (sym same));
     }

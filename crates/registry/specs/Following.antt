@@ -5,13 +5,13 @@ use Rattle.run_model.specs.declared.answer.Answer.TheVariants.{Began}
 use Rattle.run_model.specs.declared.history.Event.{Event}
 use Rattle.run_model.specs.declared.step.Step.{Step}
 use Rattle.run_model.specs.declared.step.Step.TheVariants as step
-use Rattle.run_model.specs.Actions.{home_in, home_of, is_begun, maker_in, names_begun}
-use Rattle.run_model.specs.LocalHistories.{RegistryEvent, dependency_there, events_there}
+use Rattle.run_model.specs.Actions.{is_begun, maker_in, names_begun}
+use Rattle.run_model.specs.LocalHistories.{RegistryEvent, dependency_there, events_there, home_lent}
 use Rattle.run_model.specs.Openings.{Opening}
 use Rattle.run_model.specs.Runs.{is_accepted}
 use Rattle.run_model.specs.Visibility.{has_prepared}
 use Rattle.run_model.specs.Votes.{is_yes}
-use Rattle.layer_contracts.specs.Forests.{begun_at, entered, stamped_there}
+use Rattle.layer_contracts.specs.Forests.{begun_in, entered, stamped_there}
 use Rattle.action_forest.specs.Events.{IsUnended}
 use Rattle.action_forest.specs.Forests.{IsCommitmentOf, IsForest}
 use Rattle.action_forest.specs.Rooms.{AreBorn, FitsBegun}
@@ -37,11 +37,11 @@ abbrev pub AtEachOf : Actions → (Opening → List RegistryEvent → Type 0) �
 AtEachOf actions holds = (opening : Opening) (registry : List RegistryEvent)
     → AreActions opening registry actions → holds opening registry
 
--- the event that comes after this history, of which what it begins begins at this home in this life of it
-abbrev pub event_after : Opening → List RegistryEvent → ℕ → Event → ℕ → ℕ → RegistryEvent
-event_after opening registry stamp e home life =
+-- the event that comes after this history, of which what it begins begins in this life of its home
+abbrev pub event_after : Opening → List RegistryEvent → ℕ → Event → ℕ → RegistryEvent
+event_after opening registry stamp e life =
     stamped_there stamp
-    (record { event = e; begun = begun_at (record { opening = opening; registry = registry }) home life e.answer })
+    (record { event = e; begun = begun_in (record { opening = opening; registry = registry }) life e })
 
 -- whether the guardian voted yes on t, if t depends on it
 abbrev pub is_ready_there : Name → List RegistryEvent → ℕ → Bool
@@ -73,28 +73,22 @@ takes_room (step.Commit a) = true
 takes_room (step.Prepare g t) = true
 takes_room _ = false
 
--- these are the actions that the step begins under these names, at its home in this life of it
-pub record AreBegun (opening : Opening) (registry : List RegistryEvent) (step : Step)
-    (names : List Name) (home life : ℕ) (actions : Actions) (begun : Begun) : Type 0 where
-  pub at_home : home ≡ home_in step (λ a. home_of a (events_there registry))
-  pub born : AreBorn opening registry (maker_in step) home life (trees actions.forest) names begun
-
-abbrev pub FitsNames : Opening → List RegistryEvent → Step → List Name → ℕ → ℕ
-    → Actions → Change → Type 0
-FitsNames opening registry step names home life actions (change.Begin begun) =
-    AreBegun opening registry step names home life actions begun
-FitsNames opening registry step names home life actions _ = ⊥
+-- these are the actions that the step begins under these names, in this life of its home
+abbrev pub AreBegun : Opening → List RegistryEvent → Step → List Name → ℕ → Actions → Begun → Type 0
+AreBegun opening registry step names life actions begun =
+    AreBorn opening registry (maker_in step) (home_lent step registry) life (trees actions.forest)
+    names begun
 
 -- the change is what the event changes
-abbrev pub FitsChange : Opening → List RegistryEvent → Event → ℕ → ℕ → Actions → Change → Type 0
-FitsChange opening registry e home life actions (change.Begin begun) =
+abbrev pub FitsChange : Opening → List RegistryEvent → Event → ℕ → Actions → Change → Type 0
+FitsChange opening registry e life actions (change.Begin begun) =
     (names : List Name) × (e.answer ≡ Began names)
-    × AreBegun opening registry e.step names home life actions begun
-FitsChange opening registry e home life actions (change.Commit commitment) =
+    × AreBegun opening registry e.step names life actions begun
+FitsChange opening registry e life actions (change.Commit commitment) =
     (a : Name) × (e.step ≡ step.Commit a) × IsCommitmentOf (trees actions.forest) a commitment
-FitsChange opening registry e home life actions (change.Vote v) =
+FitsChange opening registry e life actions (change.Vote v) =
     (g : ℕ) × (t : Name) × (e.step ≡ step.Prepare g t) × IsVoteOn g t (is_yes e.answer) v
-FitsChange opening registry e home life actions change.Other = IsFalse (takes_room e.step)
+FitsChange opening registry e life actions change.Other = IsFalse (takes_room e.step)
     × (names_begun e.answer ≡ [])
 
 -- there is room for the change

@@ -1,6 +1,7 @@
 -- When ballots say what a history says of the votes on top actions.
 use Rattle.std.specs.Prelude.{◌≡◌, ℕ, Bool, List, [], ◌∷◌, Option, Some, None, MatchOption, IsFalse, nat_eq}
 use Rattle.std.specs.Map.{lookup}
+use Rattle.std.specs.Option.{IsSome}
 use Rattle.action_names.specs.Names.{Name, last_of}
 use Rattle.run_model.specs.declared.history.Event.{Event}
 use Rattle.run_model.specs.Votes.{has_voted}
@@ -30,6 +31,10 @@ AreNoted past entries = (t : Name) → IsNoted t past (ballot_in entries t)
 
 abbrev pub AreBallots : List Event → Ballots → Type 0
 AreBallots past ballots = AreNoted past ballots.ballots.entries
+
+-- there is a ballot under the number
+abbrev pub HasBallot : Ballots → ℕ → Type 0
+HasBallot ballots n = IsSome (lookup (nat_eq n) ballots.ballots.entries)
 
 -- the ballot under the number is there, and has room for the vote
 abbrev pub HasRoomAt : Ballots → ℕ → VotePlan → Type 0

@@ -3,18 +3,19 @@ ghost use Rattle.std.specs.Prelude.{◌≡◌, ◌∷◌, [], ℕ, List, IfOk, I
 ghost use Rattle.std.specs.List.{list_all};
 ghost use Rattle.std.specs.Option.{option_map};
 ghost use Rattle.run_model.specs.declared.history.Event.{Event};
-ghost use Rattle.run_model.specs.Actions.{home_in, home_of, maker_in};
+ghost use Rattle.run_model.specs.Actions.{maker_in};
 ghost use Rattle.run_model.specs.Lists.{guardians_of};
-ghost use Rattle.run_model.specs.LocalHistories.{RegistryEvent, events_there};
+ghost use Rattle.run_model.specs.LocalHistories.{RegistryEvent, home_lent};
 ghost use Rattle.run_model.specs.Openings.{opening_in};
 ghost use Rattle.action_forest.specs.Events.{done};
 ghost use Rattle.action_forest.specs.Forests.{AtEach, IsForest};
+ghost use Rattle.action_forest.specs.Rooms.{FitsBegun};
 ghost use Rattle.action_forest.specs.Trees.{trees};
 ghost use Rattle.registry.specs.Following.{event_after};
 
 use crate::ballots::Ballots;
 use crate::change::Change;
-use action_forest::Forest;
+use action_forest::{Begun, Forest};
 use layer_contracts::EventRef;
 use run_model::{Answer, Name, Names, Opening, Step};
 use std::alloc::{AllocError, Global};
@@ -27,7 +28,7 @@ pub struct Actions {
 }
 
 impl Actions {
-    ghost use Rattle.registry.specs.Following.{AreActions, AtEachOf, FitsChange, FitsNames, HasRoomFor, IsEntered, MayEnd, is_ending, is_ready_there};
+    ghost use Rattle.registry.specs.Following.{AreActions, AreBegun, AtEachOf, FitsChange, HasRoomFor, IsEntered, MayEnd, is_ending, is_ready_there};
 
     /// No action was begun. This takes no memory.
     pub(crate) fn new(alloc: Global, opening: &Opening) -> Actions
@@ -51,22 +52,17 @@ impl Actions {
         }
     }
 
-    /// Makes room for an event and computes what it changes. What it begins begins at this home in this life of it.
-    /// With memory and without, the actions and votes stay what they were.
-    pub(crate) fn plan(
-        &mut self,
-        event: &EventRef<'_>,
-        home: u32,
-        life: u64,
-    ) -> Result<Change, AllocError>
+    /// Makes room for an event and computes what it changes. What it begins begins in this life of its home. With
+    /// memory and without, the actions and votes stay what they were.
+    pub(crate) fn plan(&mut self, event: &EventRef<'_>, life: u64) -> Result<Change, AllocError>
         ensures same { AtEachOf self.old
             (λ opening registry. AreActions opening registry self.new) }
         ensures room { IfOk result (HasRoomFor self.new) }
         ensures fits { AtEachOf self.old (λ opening registry.
-            IfOk result (FitsChange opening registry event.now home life self.new)) }
+            IfOk result (FitsChange opening registry event.now life self.new)) }
     {
         if let Answer::Began(names) = event.answer {
-            return self.plan_begin(event.step, names, home, life);
+            return Ok(Change::Begin(self.plan_begin(event.step, names, life)?));
         }
         match event.step {
             Step::Commit(action) => Ok(Change::Commit(self.forest.plan_commit(action)?)),
@@ -79,32 +75,22 @@ impl Actions {
         }
     }
 
-    // Makes room for what the step begins. At another home than the step's nothing begins, so there is no room for it
-    // there.
-    fn plan_begin(
-        &mut self,
-        step: &Step,
-        names: &Names,
-        home: u32,
-        life: u64,
-    ) -> Result<Change, AllocError>
+    // Makes room for what the step begins.
+    fn plan_begin(&mut self, step: &Step, names: &Names, life: u64) -> Result<Begun, AllocError>
         ensures same { AtEachOf self.old
             (λ opening registry. AreActions opening registry self.new) }
-        ensures room { IfOk result (HasRoomFor self.new) }
+        ensures room { IfOk result (FitsBegun self.new.forest) }
         ensures fits { AtEachOf self.old (λ opening registry.
-            IfOk result (FitsNames opening registry step.now names.now home life self.new)) }
+            IfOk result (AreBegun opening registry step.now names.now life self.new)) }
     {
-        if home != self.home_by(step) {
-            return Err(AllocError);
-        }
-        let begun = self.forest.plan_begin(names, maker_in(step), home, life)?;
-        Ok(Change::Begin(begun))
+        let home = self.home_by(step);
+        self.forest.plan_begin(names, maker_in(step), home, life)
     }
 
     // The home of what the step begins.
     fn home_by(&self, step: &Step) -> u32
-        ensures { AtEach (trees self.now.forest) (λ opening registry. result
-            ≡ home_in step.now (λ a. home_of a (events_there registry))) }
+        ensures { AtEach (trees self.now.forest)
+            (λ opening registry. result ≡ home_lent step.now registry) }
     {
         match step {
             Step::Top(guardian) | Step::Call(_, guardian) => *guardian,
@@ -116,11 +102,11 @@ impl Actions {
     /// Carries out what an event of this step changes, for which there is room. This cannot fail.
     pub(crate) fn apply(&mut self, change: Change, step: &Step)
         requires { HasRoomFor self.old change }
-        ensures { AtEachOf self.old (λ opening registry. (stamp : ℕ) (e : Event) (home life : ℕ)
+        ensures { AtEachOf self.old (λ opening registry. (stamp : ℕ) (e : Event) (life : ℕ)
             → IsEntered opening registry e
-            → FitsChange opening registry e home life self.old change → step.now ≡ e.step
+            → FitsChange opening registry e life self.old change → step.now ≡ e.step
             → AreActions opening
-            (event_after opening registry stamp e home life ∷ registry) self.new) }
+            (event_after opening registry stamp e life ∷ registry) self.new) }
     {
         match change {
             Change::Begin(begun) => self.forest.begin(begun),

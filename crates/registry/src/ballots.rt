@@ -1,5 +1,5 @@
 //! The ballots of top actions.
-ghost use Rattle.std.specs.Prelude.{◌≡◌, ◌∷◌, [], ℕ, List, ◌||◌, IfOk, is_none};
+ghost use Rattle.std.specs.Prelude.{◌≡◌, ◌∷◌, [], ℕ, List, ◌||◌, IfOk, OnOk, is_none};
 ghost use Rattle.std.specs.FinMap as map;
 ghost use Rattle.std.specs.List.{list_all};
 ghost use Rattle.std.specs.Option.{option_map};
@@ -30,7 +30,7 @@ pub struct Vote {
 }
 
 impl Ballots {
-    ghost use Rattle.registry.specs.Polls.{AreBallots, FitsBallots, HasRoomAt, IsVoteOn, ballot_of, is_yes_in, top_in, voter_in};
+    ghost use Rattle.registry.specs.Polls.{AreBallots, FitsBallots, HasBallot, HasRoomAt, IsVoteOn, ballot_of, is_yes_in, top_in, voter_in};
 
     /// No ballots: nobody has voted. This takes no memory.
     pub(crate) fn new(alloc: Global) -> Ballots
@@ -97,6 +97,7 @@ impl Ballots {
     // Sees to it that there is a ballot under the number.
     fn provide(&mut self, number: u32) -> Result<(), AllocError>
         ensures same { (past : List Event) → AreBallots past self.old → AreBallots past self.new }
+        ensures there { OnOk result (HasBallot self.new number) }
     {
         if !self.ballots.contains_key(&number) {
             self.ballots.insert(number, Ballot::new(self.alloc))?;
@@ -106,13 +107,14 @@ impl Ballots {
 
     // Makes room on the ballot under the number.
     fn make_room(&mut self, number: u32, guardian: u32, yes: bool) -> Result<VotePlan, AllocError>
+        requires { HasBallot self.old number }
         ensures same { (past : List Event) → AreBallots past self.old → AreBallots past self.new }
         ensures fits { IfOk result (λ plan. HasRoomAt self.new number plan) }
         ensures vote { IfOk result (IsVote guardian yes) }
     {
         match self.ballots.get_mut(&number) {
             Some(ballot) => ballot.plan_vote(guardian, yes),
-            None => Err(AllocError),
+            None => unreachable!(),
         }
     }
 

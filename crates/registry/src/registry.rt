@@ -124,8 +124,8 @@ impl Forest for Registry {
         self.actions.forest.outcomes_below(top.components(), &told)
     }
 
-    fn plan(&mut self, event: &EventRef<'_>, home: u32, life: u64) -> Result<(), AllocError> {
-        self.change = self.actions.plan(event, home, life)?;
+    fn plan(&mut self, event: &EventRef<'_>, life: u64) -> Result<(), AllocError> {
+        self.change = self.actions.plan(event, life)?;
         Ok(())
     }
 

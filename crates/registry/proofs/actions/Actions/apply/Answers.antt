@@ -7,32 +7,32 @@ use Rattle.registry.proofs.Follows.{begun_follows, commit_follows, other_follows
 use Rattle.registry.proofs.actions.Actions.apply.Goals as goal
 
 pub returns-in-Begin : goal.returns-in-Begin
-returns-in-Begin c = λ opening registry are stamp e home life entered fits same.
+returns-in-Begin c = λ opening registry are stamp e life entered fits same.
     let old = c.args.self.now in
-    begun_follows opening registry e stamp home life old are entered
+    begun_follows opening registry e stamp life old are entered
     (record { forest = c.begin.new.self; ballots = old.ballots }) c.in-Begin.begun
-    (subst (FitsChange opening registry e home life old) c.in-Begin.is fits) refl (c.begin.ensures opening registry are.forest stamp)
+    (subst (FitsChange opening registry e life old) c.in-Begin.is fits) refl (c.begin.ensures opening registry are.forest stamp)
 
 pub returns-in-Commit : goal.returns-in-Commit
-returns-in-Commit c = λ opening registry are stamp e home life entered fits same.
+returns-in-Commit c = λ opening registry are stamp e life entered fits same.
     let old = c.args.self.now in
-    commit_follows opening registry e stamp home life old are entered
+    commit_follows opening registry e stamp life old are entered
     (record { forest = c.commit.new.self; ballots = old.ballots }) c.in-Commit.commitment
-    (subst (FitsChange opening registry e home life old) c.in-Commit.is fits) refl (c.commit.ensures opening registry are.forest stamp)
+    (subst (FitsChange opening registry e life old) c.in-Commit.is fits) refl (c.commit.ensures opening registry are.forest stamp)
 
 pub returns-in-Vote : goal.returns-in-Vote
-returns-in-Vote c = λ opening registry are stamp e home life entered fits same.
+returns-in-Vote c = λ opening registry are stamp e life entered fits same.
     let old = c.args.self.now in
-    vote_follows opening registry e stamp home life old are entered
+    vote_follows opening registry e stamp life old are entered
     (record { forest = old.forest; ballots = c.note.new.self }) c.in-Vote.vote
-    (subst (FitsChange opening registry e home life old) c.in-Vote.is fits) refl c.note.ensures
+    (subst (FitsChange opening registry e life old) c.in-Vote.is fits) refl c.note.ensures
 
 pub returns-in-Other : goal.returns-in-Other
-returns-in-Other c = λ opening registry are stamp e home life entered fits same.
+returns-in-Other c = λ opening registry are stamp e life entered fits same.
     let old = c.args.self.now in
     let new = c.end.new.self in
-    other_follows opening registry e stamp home life old are entered new
-    (subst (FitsChange opening registry e home life old) c.in-Other.is fits) c.end.ensures.ballots
+    other_follows opening registry e stamp life old are entered new
+    (subst (FitsChange opening registry e life old) c.in-Other.is fits) c.end.ensures.ballots
     (λ stays. c.end.ensures.other (ap is_ending same ∙ stays))
     (subst (λ s. MayEnd registry s → IsForest opening (done stamp s ∷ registry) (trees new.forest)) same
     (c.end.ensures.ended opening registry are.forest stamp))
