@@ -7,15 +7,15 @@ use Rattle.action_names.specs.Names.{name_cmp}
 use Rattle.run_model.specs.declared.history.Event.{Event}
 use Rattle.run_model.specs.declared.step.Step.{Step}
 use Rattle.run_model.specs.declared.step.Step.TheVariants.{Abort, Arms, Call, Close, Commit, Crash, Decide, NestedTop, Op, Prepare, Recover, Tell, Top}
-use Rattle.run_model.specs.Actions.{crashes, home_of}
-use Rattle.run_model.specs.LocalHistories.{RegistryEvent, carried_lent, events_there, home_lent, life_lent, names_guardian, registry_after, registry_event_lent, takes_registry}
-use Rattle.run_model.specs.LocalReadings.{LocalEvent, events_here}
+use Rattle.run_model.specs.Actions.{home_of}
+use Rattle.run_model.specs.LocalHistories.{RegistryEvent, carried_lent, events_there, names_guardian, registry_after, registry_event_lent, takes_registry}
+use Rattle.run_model.specs.LocalReadings.{LocalEvent}
 use Rattle.run_laws.proofs.Names.{eqb_self}
 use Rattle.layer_contracts.specs.Guardians.{GuardianState, News, after_step, kept, lent_two, stamped}
-use Rattle.layer_contracts.specs.Forests.{ForestState, RegistryNews, begun_at, stamped_there}
+use Rattle.layer_contracts.specs.Forests.{ForestState, RegistryNews, begun_in, stamped_there}
 use Rattle.layer_contracts.specs.Messages.{may_fail}
 use Rattle.layer_contracts.specs.declared.message.Message.{Message}
-use Rattle.world_steps.specs.Lending.{IsOneOf}
+use Rattle.world_steps.specs.Lending.{IsOneOf, begun_lent}
 use Rattle.world_steps.specs.Keeping.{Brings, IsInstalled, IsKept, IsPlannedHere, IsPlannedInSome, Plans, PlansThere, StandsStill, news_to}
 
 -- each of two that differ is lent
@@ -74,13 +74,12 @@ planned_here stands is_planned f a b x e true s q = (x, news_to f a b e x, s, q.
 -- and the forest, by the plan that was made for an event that was entered
 pub left_there : (stood stands : ForestState → Type 0)
     (is_planned : ForestState → RegistryNews → Type 0) (f : ForestState) (a b : GuardianState)
-    (e : Event) (home life n : ℕ) → home ≡ home_lent e.step f.registry
-    → life ≡ crashes home (events_here (lent_two a b home)) → stood f
-    → PlansThere is_planned f home life e
+    (e : Event) (life n : ℕ) → begun_in f life e ≡ begun_lent f a b e → stood f
+    → PlansThere is_planned f life e
     → (IsTrue (takes_registry e.step) → IsInstalled stood stands is_planned e n)
     → (IsFalse (takes_registry e.step) → (k : ForestState) → stood k → stands k)
     → stands (record f { registry = registry_after f.opening (n, e) f.registry (lent_two a b) })
-left_there stood stands is_planned f a b e home life n u v s planned installed same =
+left_there stood stands is_planned f a b e life n born s planned installed same =
     of (takes_registry e.step) refl
   where
     after : Bool → List RegistryEvent
@@ -90,18 +89,17 @@ left_there stood stands is_planned f a b e home life n u v s planned installed s
         → stands (record f { registry = registry_after f.opening (n, e) f.registry (lent_two a b) })
     of false takes = subst (λ r. stands (record f { registry = r })) (sym (ap after takes)) (same takes f s)
     of true takes =
-        let born : life ≡ life_lent e.step f.registry (lent_two a b) = v ∙ ap (λ k. crashes k (events_here (lent_two a b k))) u in
         subst stands
-        (ap₂ (λ k m. record f { registry = stamped_there n (record { event = e; begun = begun_at f k m e.answer }) ∷ f.registry }) u born
+        (ap (λ begun. record f { registry = stamped_there n (record { event = e; begun = begun }) ∷ f.registry }) born
         ∙ ap (λ r. record f { registry = r }) (sym (ap after takes)))
-        (installed takes f (record { event = e; begun = begun_at f home life e.answer }) s (planned takes) refl)
+        (installed takes f (record { event = e; begun = begun_in f life e }) s (planned takes) refl)
 
 -- such a plan may be carried out
 pub planned_there : (stands : ForestState → Type 0) (is_planned : ForestState → RegistryNews → Type 0)
-    (f : ForestState) (e : Event) (home life : ℕ) → stands f → PlansThere is_planned f home life e
+    (f : ForestState) (e : Event) (life : ℕ) → stands f → PlansThere is_planned f life e
     → IsTrue (takes_registry e.step) → IsPlannedInSome stands is_planned e
-planned_there stands is_planned f e home life s planned takes =
-    (f, record { event = e; begun = begun_at f home life e.answer }, s, planned takes, refl)
+planned_there stands is_planned f e life s planned takes =
+    (f, record { event = e; begun = begun_in f life e }, s, planned takes, refl)
 
 -- what agrees tells outcomes by name
 pub brought_rising : (f : ForestState) (a b x : GuardianState) (e : Event) (brings : Bool) (message : Message) → Brings f a b e x brings message

@@ -9,7 +9,7 @@ use Rattle.guardian_laws.specs.Laws.{Agrees}
 use Rattle.stable_store.specs.Calls.{View}
 use Rattle.guardian_laws.specs.Stored.{after_event, asks_store}
 use Rattle.layer_contracts.specs.Guardians.{GuardianState, News, after_step, kept, lent_two, stamped}
-use Rattle.layer_contracts.specs.Forests.{ForestState, RegistryNews, begun_at, stamped_there}
+use Rattle.layer_contracts.specs.Forests.{ForestState, RegistryNews, begun_in, stamped_there}
 use Rattle.layer_contracts.specs.Messages.{is_operation, carried_of}
 use Rattle.layer_contracts.specs.Stores.{Leaves}
 use Rattle.layer_contracts.specs.declared.guardian.Fault.{Fault}
@@ -102,12 +102,11 @@ WhereverPlanned stands is_planned e holds = (x : GuardianState) (news : News) �
 abbrev pub StandsStill : (GuardianState → Type 0) → (GuardianState → Type 0) → Type 0
 StandsStill stood stands = (x : GuardianState) → stood x → stands x
 
--- And the forest in this state has one, if it keeps the event. What the event begins begins at this
--- home in this life of it.
-abbrev pub PlansThere : (ForestState → RegistryNews → Type 0) → ForestState → ℕ → ℕ → Event → Type 0
-PlansThere is_planned f home life e =
+-- And the forest in this state has one, if it keeps the event. What the event begins begins in this life of its home.
+abbrev pub PlansThere : (ForestState → RegistryNews → Type 0) → ForestState → ℕ → Event → Type 0
+PlansThere is_planned f life e =
     IsTrue (takes_registry e.step)
-    → is_planned f (record { event = e; begun = begun_at f home life e.answer })
+    → is_planned f (record { event = e; begun = begun_in f life e })
 
 -- in some state in which the forest stands the plan is for this event
 abbrev pub IsPlannedInSome : (ForestState → Type 0)

@@ -8,9 +8,9 @@ use Rattle.run_model.specs.Actions.{home_of, is_committed, names_begun}
 use Rattle.run_model.specs.Answers.{Results}
 use Rattle.run_model.specs.Refusals.{Facts}
 use Rattle.run_model.specs.LocalReadings.{LocalEvent, facts_here, results_here, told_committed_here}
-use Rattle.run_model.specs.LocalHistories.{action_lent, dependencies_sent, dependency_there, entries_of, events_there, facts_lent, home_lent, results_lent}
+use Rattle.run_model.specs.LocalHistories.{NewAction, action_lent, dependencies_sent, dependency_there, entries_of, events_there, facts_lent, home_lent, life_lent, results_lent}
 use Rattle.layer_contracts.specs.Guardians.{GuardianState, count_told, lent_two}
-use Rattle.layer_contracts.specs.Forests.{ForestState, new_entries}
+use Rattle.layer_contracts.specs.Forests.{ForestState, begun_in, new_entries}
 use Rattle.step_answers.specs.Saying.{Said}
 use Rattle.world_steps.specs.declared.lent.Lent.{Lent}
 
@@ -109,6 +109,10 @@ pub record StandsAt (stands : GuardianState → Type 0) (a b : GuardianState) (g
 pub record IsOneOf (a b x : GuardianState) : Type 0 where
   pub past : x.past ≡ lent_two a b x.number
   pub number : ((a.number == x.number) || (b.number == x.number)) ≡ true
+
+-- what an event begins, in the life of its home that is lent
+abbrev pub begun_lent : ForestState → GuardianState → GuardianState → Event → List NewAction
+begun_lent f a b e = begun_in f (life_lent e.step f.registry (lent_two a b)) e
 
 -- new actions with their dependencies
 abbrev pub new_from : ForestState → ℕ → ℕ → List Name → List (Name × List (ℕ × ℕ))

@@ -16,7 +16,7 @@ ghost use Rattle.world_steps.specs.Naming.{AreNamed};
 
 use crate::lent::Lent;
 use crate::messages::Messages;
-use crate::names::{NamedGuardians, home_of_new, is_named, is_operation, takes_registry};
+use crate::names::{NamedGuardians, is_named, is_operation, takes_registry};
 use layer_contracts::{Draw, EventRef, Fault, Forest, Guardian, Message};
 use run_model::Step;
 use std::alloc::{AllocError, Global};
@@ -68,22 +68,17 @@ fn plan_at<G: Guardian>(
 }
 
 /// Makes room in the forest for an event, if the forest keeps it.
-fn plan_there<R: Forest>(
-    forest: &mut R,
-    event: &EventRef<'_>,
-    home: u32,
-    life: u64,
-) -> Result<(), AllocError>
+fn plan_there<R: Forest>(forest: &mut R, event: &EventRef<'_>, life: u64) -> Result<(), AllocError>
     requires accepted { IsTrue (is_accepted event.now.answer) }
     ensures same { (f : ForestState) → R.stands forest.old f → R.stands forest.new f }
     ensures fits { OnOk result (IsTrue (takes_registry event.now.step) → R.fits forest.new) }
     ensures planned { OnOk result ((f : ForestState) → R.stands forest.old f → entered f event.now
-        → PlansThere (R.is_planned forest.new) f home life event.now) }
+        → PlansThere (R.is_planned forest.new) f life event.now) }
 {
     if !takes_registry(event.step) {
         return Ok(());
     }
-    forest.plan(event, home, life)
+    forest.plan(event, life)
 }
 
 /// Whether what the event changes at this guardian, which it names, may fail though there is room.
@@ -262,11 +257,10 @@ pub fn keep_two<R: Forest, G: Guardian, D: Draw>(
         first: &*first,
         second: &*second,
     };
-    let home = home_of_new(named, event.step);
-    let life = lent.crashes_at(home);
+    let life = lent.life_of_new(named, event);
     let keeps_first = lent.brought_to(named, event, lent.first, &mut messages.to_first)?;
     let keeps_second = lent.brought_to(named, event, lent.second, &mut messages.to_second)?;
-    plan_there(forest, event, home, life)?;
+    plan_there(forest, event, life)?;
     plan_at(first, keeps_first, event, &messages.to_first)?;
     plan_at(second, keeps_second, event, &messages.to_second)?;
     if may_fail_at(keeps_first, event, &*first) {
@@ -327,10 +321,9 @@ pub fn keep_one<R: Forest, G: Guardian, D: Draw>(
         first: &*guardian,
         second: &*guardian,
     };
-    let home = home_of_new(named, event.step);
-    let life = lent.crashes_at(home);
+    let life = lent.life_of_new(named, event);
     let keeps = lent.brought_to(named, event, lent.first, &mut messages.to_first)?;
-    plan_there(forest, event, home, life)?;
+    plan_there(forest, event, life)?;
     plan_at(guardian, keeps, event, &messages.to_first)?;
     let number = carry_out(guardian, keeps, event, stamp)?;
     install_there(forest, event, number);

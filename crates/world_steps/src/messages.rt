@@ -3,11 +3,11 @@ ghost use Rattle.std.specs.Prelude.{◌≡◌, ℕ, ◌==◌, List, [], ◌∷�
 ghost use Rattle.run_model.specs.Actions.{crashes, home_of, names_begun};
 ghost use Rattle.run_model.specs.LocalReadings.{events_here};
 ghost use Rattle.run_model.specs.LocalHistories.{action_lent, aborts_from, carried_lent, counts_of_sender, dependencies_sent, dependency_there, entries_of, events_there, home_lent, life_lent, outcomes_carried, sender_lent, sender_life};
-ghost use Rattle.layer_contracts.specs.Forests.{ForestState};
+ghost use Rattle.layer_contracts.specs.Forests.{ForestState, begun_in};
 ghost use Rattle.layer_contracts.specs.Guardians.{GuardianState, lent_two};
 ghost use Rattle.guardian_laws.specs.Sent.{sent_of};
 ghost use Rattle.layer_contracts.specs.Messages.{carried_of};
-ghost use Rattle.world_steps.specs.Lending.{IsOneOf, Lends, dependencies_two, new_from, new_two};
+ghost use Rattle.world_steps.specs.Lending.{IsOneOf, Lends, begun_lent, dependencies_two, new_from, new_two};
 ghost use Rattle.world_steps.specs.Naming.{AreNamed};
 
 use crate::lent::Lent;
@@ -51,12 +51,9 @@ impl<'a, R: Forest, G: Guardian> Lent<'a, R, G> {
             ≡ carried_lent f.opening event.now x.number f.registry (lent_two a b)) }
     {
         let sender = self.sender(named, event.step, at.number());
-        let life = self.life_of(sender);
-        let (aborts, counts) = self.lists(sender, at)?;
         message.sender = sender;
-        message.life = life;
-        message.aborts = aborts;
-        message.counts = counts;
+        message.life = self.life_of(sender);
+        self.lists(sender, at, &mut message.aborts, &mut message.counts)?;
         self.dependencies(named, event, at.number(), &mut message.dependencies)?;
         self.outcomes(event.step, at, &mut message.outcomes)?;
         Ok(())
@@ -97,6 +94,18 @@ impl<'a, R: Forest, G: Guardian> Lent<'a, R, G> {
         }
     }
 
+    /// How often the home of what the event begins has crashed. Where it begins nothing, that is not asked.
+    pub(crate) fn life_of_new(&self, named: NamedGuardians, event: &EventRef<'_>) -> u64
+        requires { AreNamed (R.stands self.now.forest.now) event.now.step named }
+        ensures { (f : ForestState) (a b : GuardianState) → Lends R.stands G.stands self.now f a b
+            → begun_in f result event.now ≡ begun_lent f a b event.now }
+    {
+        if event.answer.names_begun().is_empty() {
+            return 0;
+        }
+        self.crashes_at(home_of_new(named, event.step))
+    }
+
     fn life_of(&self, sender: Option<u32>) -> u64
         ensures { (a b : GuardianState) → G.stands self.now.first.now a
             → G.stands self.now.second.now b → result ≡ sender_life sender (lent_two a b) }
@@ -107,25 +116,33 @@ impl<'a, R: Forest, G: Guardian> Lent<'a, R, G> {
         }
     }
 
-    /// What the sender has not sent yet of its lists.
-    fn lists(&self, sender: Option<u32>, at: &G) -> Result<(Names, Vec<(u32, u64)>), AllocError>
+    /// Writes what the sender has not sent yet of its lists, over what another had not sent.
+    fn lists(
+        &self,
+        sender: Option<u32>,
+        at: &G,
+        aborts: &mut Names,
+        counts: &mut Vec<(u32, u64)>,
+    ) -> Result<(), AllocError>
         ensures aborts { (f : ForestState) (a b x : GuardianState)
             → Lends R.stands G.stands self.now f a b → G.stands at.now x → IsOneOf a b x
-            → IfOk result (λ lists. lists.0 ≡ aborts_from sender x.number (lent_two a b)) }
+            → OnOk result (aborts.new ≡ aborts_from sender x.number (lent_two a b)) }
         ensures counts { (f : ForestState) (a b x : GuardianState)
             → Lends R.stands G.stands self.now f a b
-            → G.stands at.now x → IsOneOf a b x → IfOk result
-            (λ lists. lists.1.items ≡ counts_of_sender sender x.number (lent_two a b)) }
+            → G.stands at.now x → IsOneOf a b x → OnOk result
+            (counts.new.items ≡ counts_of_sender sender x.number (lent_two a b)) }
     {
         let Some(number) = sender else {
-            return Ok((Names::new(self.alloc), Vec::new(self.alloc)));
+            clear_lists(self.alloc, aborts, counts);
+            return Ok(());
         };
         let Some(from) = self.at(number) else {
-            return Ok((Names::new(self.alloc), Vec::new(self.alloc)));
+            clear_lists(self.alloc, aborts, counts);
+            return Ok(());
         };
-        let aborts = from.unsent_aborts(at)?;
-        let counts = from.unsent_counts(at)?;
-        Ok((aborts, counts))
+        *aborts = from.unsent_aborts(at)?;
+        *counts = from.unsent_counts(at)?;
+        Ok(())
     }
 
     /// Writes what the event says of dependencies to the guardian of this number, over what was sent before.
@@ -182,13 +199,18 @@ impl<'a, R: Forest, G: Guardian> Lent<'a, R, G> {
         ensures { (f : ForestState) (a b : GuardianState) → Lends R.stands G.stands self.now f a b
             → OnOk result (sent_of sent.new.items ≡ new_two f a b event.now at) }
     {
-        let home = home_of_new(named, event.step);
-        let life = self.crashes_at(home);
-        if home != at {
-            sent.clear();
+        sent.clear();
+        let names = event.answer.names_begun();
+        if names.is_empty() {
+            // Most events begin nothing.
             return Ok(());
         }
-        self.dependencies_of_new(event.answer.names_begun(), home, life, sent)
+        let home = home_of_new(named, event.step);
+        if home != at {
+            return Ok(());
+        }
+        let life = self.crashes_at(home);
+        self.dependencies_of_new(names, home, life, sent)
     }
 
     fn dependencies_of_new(
@@ -240,4 +262,15 @@ impl<'a, R: Forest, G: Guardian> Lent<'a, R, G> {
             _ => Ok(()),
         }
     }
+}
+
+/// Makes both lists empty. Mostly they are: a list of names that is empty stays as it is.
+fn clear_lists(alloc: Global, aborts: &mut Names, counts: &mut Vec<(u32, u64)>)
+    ensures aborts { aborts.new ≡ [] }
+    ensures counts { counts.new.items ≡ [] }
+{
+    if !aborts.is_empty() {
+        *aborts = Names::new(alloc);
+    }
+    counts.clear();
 }

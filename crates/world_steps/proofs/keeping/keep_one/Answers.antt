@@ -8,7 +8,6 @@ use Rattle.run_model.proofs.Events.{step_is}
 use Rattle.layer_contracts.proofs.Stores.{stays_same}
 use Rattle.world_steps.specs.Keeping.{Brings, Plans, StoreLeft}
 use Rattle.world_steps.proofs.Left.{brought_rising, first_lent, first_one, left_at, left_there, planned_here, planned_there}
-use Rattle.world_steps.proofs.Naming.{home_of_same}
 use Rattle.world_steps.proofs.Operating.{forest_stays}
 use Rattle.world_steps.proofs.Stores.{left_carried, left_early, with_fault}
 use Rattle.world_steps.proofs.keeping.keep_one.Goals as goal
@@ -33,7 +32,7 @@ install_there-requires-clause-planned g c =
     let x : GuardianState = c.requires.answered.1 in
     let here = c.requires.answered.2 in
     planned_there (g.R.Forest.stands c.plan_there.new.forest) (g.R.Forest.is_planned c.plan_there.new.forest) f c.args.event.now
-    c.home_of_new-home.result c.crashes_at-life.result (c.plan_there.ensures.same f here.lent.forest)
+    c.life_of_new-life.result (c.plan_there.ensures.same f here.lent.forest)
     (c.in_ok-plan_there.ensures.planned f here.lent.forest (lent_two x x, here.answered.answer))
 
 pub carry_out-requires-clause-planned : goal.carry_out-requires-clause-planned
@@ -72,8 +71,8 @@ returns-clause-done g c = λ f x here.
     record {
       forest =
           left_there (g.R.Forest.stands c.plan_there.new.forest) (g.R.Forest.stands c.install_there.new.forest) (g.R.Forest.is_planned c.plan_there.new.forest) f x x e
-          c.home_of_new-home.result c.crashes_at-life.result n (home_of_same c.args.named c.home_of_new-home.result (step_is c.event.view_is) c.home_of_new-home.ensures f (c.requires.named.first f here.lent.forest) (c.requires.named.second f here.lent.forest))
-          (c.crashes_at-life.ensures x x here.lent.first here.lent.first) (c.plan_there.ensures.same f here.lent.forest)
+          c.life_of_new-life.result n
+          (c.life_of_new-life.ensures f x x here.lent) (c.plan_there.ensures.same f here.lent.forest)
           (c.in_ok-plan_there.ensures.planned f here.lent.forest (lent_two x x, here.answered.answer)) c.install_there.ensures.kept
           c.install_there.ensures.same;
       first = after;

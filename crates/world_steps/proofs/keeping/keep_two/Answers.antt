@@ -9,7 +9,7 @@ use Rattle.run_model.proofs.Events.{step_is}
 use Rattle.layer_contracts.proofs.Stores.{stays_same, stays_then}
 use Rattle.world_steps.specs.Keeping.{Brings, IsLentAt, Plans, StoreLeft}
 use Rattle.world_steps.proofs.Left.{brought_rising, differ_as, first_lent, first_one, left_at, left_there, planned_here, planned_there, quiet_here, second_lent, second_one}
-use Rattle.world_steps.proofs.Naming.{home_of_same, is_as_named}
+use Rattle.world_steps.proofs.Naming.{is_as_named}
 use Rattle.world_steps.proofs.Operating.{forest_stays, one_named, passed_at}
 use Rattle.world_steps.proofs.Stores.{left_carried, left_early, left_quiet, quiet_first, quiet_other, with_fault}
 use Rattle.world_steps.proofs.keeping.keep_two.Goals as goal
@@ -48,7 +48,7 @@ install_there-requires-clause-planned g c =
     let b : GuardianState = c.requires.answered.2 in
     let here = c.requires.answered.3 in
     planned_there (g.R.Forest.stands c.plan_there.new.forest) (g.R.Forest.is_planned c.plan_there.new.forest) f c.args.event.now
-    c.home_of_new-home.result c.crashes_at-life.result (c.plan_there.ensures.same f here.lent.forest)
+    c.life_of_new-life.result (c.plan_there.ensures.same f here.lent.forest)
     (c.in_ok-plan_there.ensures.planned f here.lent.forest (lent_two a b, here.answered.answer))
 
 pub install_there-requires-else-may_fail_at-clause-planned : goal.install_there-requires-else-may_fail_at-clause-planned
@@ -58,7 +58,7 @@ install_there-requires-else-may_fail_at-clause-planned g c =
     let b : GuardianState = c.requires.answered.2 in
     let here = c.requires.answered.3 in
     planned_there (g.R.Forest.stands c.plan_there.new.forest) (g.R.Forest.is_planned c.plan_there.new.forest) f c.args.event.now
-    c.home_of_new-home.result c.crashes_at-life.result (c.plan_there.ensures.same f here.lent.forest)
+    c.life_of_new-life.result (c.plan_there.ensures.same f here.lent.forest)
     (c.in_ok-plan_there.ensures.planned f here.lent.forest (lent_two a b, here.answered.answer))
 
 pub carry_out-requires-clause-planned : goal.carry_out-requires-clause-planned
@@ -407,8 +407,8 @@ returns-in_ok-number-clause-done g c = λ f a b here.
     record {
       forest =
           left_there (g.R.Forest.stands c.plan_there.new.forest) (g.R.Forest.stands c.install_there.new.forest) (g.R.Forest.is_planned c.plan_there.new.forest) f a b e
-          c.home_of_new-home.result c.crashes_at-life.result n (home_of_same c.args.named c.home_of_new-home.result (step_is c.event.view_is) c.home_of_new-home.ensures f (c.requires.named.first f here.lent.forest) (c.requires.named.second f here.lent.forest))
-          (c.crashes_at-life.ensures a b here.lent.first here.lent.second) (c.plan_there.ensures.same f here.lent.forest)
+          c.life_of_new-life.result n
+          (c.life_of_new-life.ensures f a b here.lent) (c.plan_there.ensures.same f here.lent.forest)
           (c.in_ok-plan_there.ensures.planned f here.lent.forest (lent_two a b, here.answered.answer)) c.install_there.ensures.kept
           c.install_there.ensures.same;
       first =
@@ -438,8 +438,8 @@ returns-in_ok-number-2-clause-done g c = λ f a b here.
     record {
       forest =
           left_there (g.R.Forest.stands c.plan_there.new.forest) (g.R.Forest.stands c.install_there-else-may_fail_at.new.forest) (g.R.Forest.is_planned c.plan_there.new.forest) f a b e
-          c.home_of_new-home.result c.crashes_at-life.result n (home_of_same c.args.named c.home_of_new-home.result (step_is c.event.view_is) c.home_of_new-home.ensures f (c.requires.named.first f here.lent.forest) (c.requires.named.second f here.lent.forest))
-          (c.crashes_at-life.ensures a b here.lent.first here.lent.second) (c.plan_there.ensures.same f here.lent.forest)
+          c.life_of_new-life.result n
+          (c.life_of_new-life.ensures f a b here.lent) (c.plan_there.ensures.same f here.lent.forest)
           (c.in_ok-plan_there.ensures.planned f here.lent.forest (lent_two a b, here.answered.answer)) c.install_there-else-may_fail_at.ensures.kept
           c.install_there-else-may_fail_at.ensures.same;
       first =

@@ -43,9 +43,9 @@ carried_is f a b e g k m sender life aborts counts dependencies outcomes n o s l
 pub returns : goal.returns
 returns g c = λ f a b x lent stood one.
     let step = step_is c.event.view_is in
-    carried_is f a b c.args.event.now x.number c.number.result c.number-2.result c.sender-sender.result c.life_of-life.result
-    c.in_ok-aborts.aborts c.in_ok-aborts.counts.items (sent_of c.dependencies.new.sent.items) c.outcomes.new.outcomes.items
+    carried_is f a b c.args.event.now x.number c.number.result c.number-2.result c.sender-sender.result c.life_of-message.result
+    c.lists.new.aborts c.lists.new.counts.items (sent_of c.dependencies.new.sent.items) c.outcomes.new.outcomes.items
     (c.number.ensures.number x stood) (c.number-2.ensures.number x stood) (c.sender-sender.ensures f a b lent ∙ ap (λ s. sender_lent s c.number.result f.registry (lent_two a b)) (sym step))
-    (c.life_of-life.ensures a b lent.first lent.second) (c.in_ok-aborts.ensures.aborts f a b x lent stood one)
-    (c.in_ok-aborts.ensures.counts f a b x lent stood one) (c.in_ok-dependencies.ensures f a b lent) (c.in_ok-outcomes.ensures f a b x lent stood one
+    (c.life_of-message.ensures a b lent.first lent.second) (c.in_ok-lists.ensures.aborts f a b x lent stood one)
+    (c.in_ok-lists.ensures.counts f a b x lent stood one) (c.in_ok-dependencies.ensures f a b lent) (c.in_ok-outcomes.ensures f a b x lent stood one
     ∙ ap (λ s. outcomes_carried s x.number (events_there f.registry) (lent_two a b x.number)) (sym step))
