@@ -51,7 +51,7 @@ AtEach forest holds = (opening : Opening) (registry : List RegistryEvent)
 
 -- the plan commits this action of the forest: its parent is left with the lesser of each dependency
 pub record IsCommitmentOf (forest : Trees) (a : Name) (plan : Commitment) : Type 0 where
-  pub action : plan.action ≡ a
+  pub at : plan.at ≡ place_of forest a
   pub depends : (g : ℕ)
       → tree.get plan.depends g ≡ lesser (depends_at forest (parent_of a) g) (depends_at forest a g)
 

@@ -1,5 +1,5 @@
 //! Actions in trees.
-ghost use Rattle.std.specs.Prelude.{◌≡◌, ◌∷◌, [], ℕ, List, IsFalse, IsTrue, IfOk, MatchOption, ◌+◌, ◌<◌, ◌≤◌, None, Some, if◌then◌else◌, min, suc, vec_capacity, vec_len};
+ghost use Rattle.std.specs.Prelude.{◌≡◌, ◌∷◌, [], ℕ, List, IsFalse, IsTrue, IfOk, OnOk, MatchOption, ◌+◌, ◌<◌, ◌≤◌, None, Some, if◌then◌else◌, min, slice_get, suc, vec_capacity, vec_len};
 ghost use Rattle.std.specs.FinMap as map;
 ghost use Rattle.std.specs.Option.{option_and_then, option_map};
 ghost use Rattle.action_names.specs.Names.{Name, is_top};
@@ -36,18 +36,16 @@ pub struct Forest {
     guardians: usize,
     pub(crate) nodes: Vec<Node>,
     tops: Vec<usize>,
-    /// Room for the actions that begin next.
-    spare: Vec<Node>,
 }
 
-/// The commit of a subaction, with what its parent depends on then.
+/// The commit of the subaction at a place, with what its parent depends on then.
 #[derive(Drop)]
 pub struct Commitment {
-    action: Name,
+    at: Option<usize>,
     depends: Deps,
 }
 
-/// Actions that begin, all made by the action at one place if by any.
+/// Actions that begin, all made by the action at one place if by any. Their room is used again for the next.
 #[derive(Drop)]
 pub struct Begun {
     maker: Option<usize>,
@@ -70,19 +68,28 @@ impl Node {
     }
 }
 
+impl Commitment {
+    /// The commit of no action. This takes no memory.
+    pub fn new(alloc: Global) -> Commitment {
+        Commitment {
+            at: None,
+            depends: Deps::new(alloc),
+        }
+    }
+}
+
+impl Begun {
+    /// No action begins. This takes no memory.
+    pub fn new(alloc: Global) -> Begun {
+        Begun {
+            maker: None,
+            nodes: Vec::new(alloc),
+        }
+    }
+}
+
 // The number after the greatest that a name has room for.
 const USED_UP: u64 = 4294967296;
-
-// The spare room, with room for so many actions and with none in it.
-fn taken(spare: &mut Vec<Node>, count: usize) -> Result<Vec<Node>, AllocError>
-    ensures { IfOk result (λ nodes. nodes.items ≡ []) }
-{
-    let alloc = *spare.allocator();
-    let mut nodes = mem::replace(spare, Vec::new(alloc));
-    nodes.clear();
-    nodes.reserve(count)?;
-    Ok(nodes)
-}
 
 impl Forest {
     ghost use Rattle.action_forest.specs.Trees.{action_in, action_of, added, changed, changed_at, children_of, depends_at, ended, fresh_action, hung, maker_place, one_less, one_more, place_of, status_at, trees, with_closed, with_depends, with_status};
@@ -99,7 +106,6 @@ impl Forest {
             guardians: opening.setup().guardians(),
             nodes: Vec::new(alloc),
             tops: Vec::new(alloc),
-            spare: Vec::new(alloc),
         }
     }
 
@@ -226,86 +232,81 @@ impl Forest {
         }
     }
 
-    /// The commit of a subaction to its parent: what the parent depends on then. The forest stays as it is.
-    pub fn plan_commit(&self, action: &Name) -> Result<Commitment, AllocError>
-        ensures { IfOk result (IsCommitmentOf (trees self.now) action.now) }
+    /// The commit of a subaction to its parent: what the parent depends on then. The forest stays as it is. The plan
+    /// is written over that of another commit.
+    pub fn plan_commit(&self, action: &Name, plan: &mut Commitment) -> Result<(), AllocError>
+        ensures { OnOk result (IsCommitmentOf (trees self.now) action.now plan.new) }
     {
         let path = action.components();
+        let at = self.place(path);
         let mut depends = self.depends_of(&path[..path.len() - 1])?;
-        if let Some(node) = self.node(path) {
+        if let Some(node) = self.node_at(at) {
             depends.merge(&node.depends)?;
         }
-        Ok(Commitment {
-            action: action.copy()?,
-            depends,
-        })
+        plan.at = at;
+        plan.depends = depends;
+        Ok(())
     }
 
-    /// A subaction commits. This cannot fail.
-    pub fn commit(&mut self, plan: Commitment)
+    /// A subaction commits. This cannot fail. Nothing is said of what is left in the plan.
+    pub fn commit(&mut self, plan: &mut Commitment)
         ensures { AtEach (trees self.old) (λ opening registry. (stamp : ℕ) (a : Name)
-            → IsCommitmentOf (trees self.old) a plan → IsUnended (events_there registry) a
+            → IsCommitmentOf (trees self.old) a plan.old → IsUnended (events_there registry) a
             → IsFalse (is_top a)
             → IsForest opening (done stamp (Commit a) ∷ registry) (trees self.new)) }
     {
-        let Commitment { action, depends } = plan;
-        if let Some(at) = self.place(action.components()) {
+        if let Some(at) = plan.at {
             self.end(at, Status::Committed);
             if let Some(parent) = self.maker_place(at) {
-                self.set_depends(parent, depends);
+                self.set_depends(parent, &mut plan.depends);
             }
         }
     }
 
     /// What a step needs that begins actions of these names, at this home in this life of it, made by this action if
     /// by any. This one pair of calls serves top actions, nested ones, calls and arms. Whatever comes of it, the
-    /// forest keeps what it kept.
+    /// forest keeps what it kept. The plan is written over another.
     pub fn plan_begin(
         &mut self,
         names: &Names,
         maker: Option<&Name>,
         home: u32,
         life: u64,
-    ) -> Result<Begun, AllocError>
+        plan: &mut Begun,
+    ) -> Result<(), AllocError>
         ensures kept { trees self.new ≡ trees self.old }
-        ensures room { IfOk result (FitsBegun self.new) }
+        ensures room { OnOk result (FitsBegun self.new plan.new) }
         ensures born { AtEach (trees self.old)
-            (λ opening registry. IfOk result (AreBorn opening registry
-            (option_map (λ name. name.now) maker.entry) home life (trees self.old) names.now)) }
+            (λ opening registry. OnOk result (AreBorn opening registry
+            (option_map (λ name. name.now) maker.entry) home life (trees self.old) names.now
+            plan.new)) }
     {
         let count = names.len();
         self.nodes.reserve(count)?;
         self.tops.reserve(count)?;
         let place = self.reserve_children(maker, count)?;
-        let mut nodes = taken(&mut self.spare, count)?;
+        plan.nodes.clear();
         for name in names.as_slice() {
-            nodes.push(self.born(name, place, home, life)?)?;
+            plan.nodes.push(self.born(name, place, home, life)?)?;
         }
-        Ok(Begun {
-            maker: place,
-            nodes,
-        })
+        plan.maker = place;
+        Ok(())
     }
 
-    /// Begins the actions of a plan that was made of this forest. This cannot fail.
-    pub fn begin(&mut self, plan: Begun)
-        requires { FitsBegun self.old plan }
+    /// Begins the actions of a plan that was made of this forest. This cannot fail. Its room is left in the plan.
+    pub fn begin(&mut self, plan: &mut Begun)
+        requires { FitsBegun self.old plan.old }
         ensures { AtEach (trees self.old)
             (λ opening registry. (stamp : ℕ) (step : Step) (names : List (List ℕ)) (home life : ℕ) →
             IsBeginning opening registry step names home
-            → AreBorn opening registry (maker_in step) home life (trees self.old) names plan →
+            → AreBorn opening registry (maker_in step) home life (trees self.old) names plan.old →
             IsForest opening (beginning opening registry stamp step names home life ∷ registry)
             (trees self.new)) }
     {
-        let Begun {
-            maker: _,
-            mut nodes,
-        } = plan;
-        nodes.reverse();
-        while let Some(node) = nodes.pop() {
+        plan.nodes.reverse();
+        while let Some(node) = plan.nodes.pop() {
             self.add(node);
         }
-        self.spare = nodes;
     }
 
     // How the action stands; one that was not begun counts as active.
@@ -487,11 +488,12 @@ impl Forest {
         }
     }
 
-    fn set_depends(&mut self, at: usize, depends: Deps)
-        ensures { trees self.new ≡ changed (with_depends depends) at (trees self.old) }
+    // The action at the place depends on these then, and what it depended on is left in their place.
+    fn set_depends(&mut self, at: usize, depends: &mut Deps)
+        ensures { trees self.new ≡ changed (with_depends depends.old) at (trees self.old) }
     {
         if let Some(node) = self.nodes.get_mut(at) {
-            node.depends = depends;
+            mem::swap(&mut node.depends, depends);
         }
     }
 
@@ -522,6 +524,14 @@ impl Forest {
             ≡ action_of (trees self.now) path.now }
     {
         self.nodes.get(self.place(path)?)
+    }
+
+    // What is kept of the action at the place, if there is one.
+    fn node_at(&self, at: Option<usize>) -> Option<&Node>
+        ensures { option_map (λ node. action_in node.now) result
+            ≡ option_and_then (λ i. slice_get (trees self.now).actions i) at }
+    {
+        self.nodes.get(at?)
     }
 }
 

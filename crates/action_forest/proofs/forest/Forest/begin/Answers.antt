@@ -10,8 +10,8 @@ use Rattle.action_forest.proofs.forest.Forest.begin.Goals as goal
 
 pub loop-node-preserved : goal.loop-node-preserved
 loop-node-preserved c =
-    let maker = c.args.plan.maker in
-    let nodes = c.loop-node.nodes in
+    let maker = c.args.plan.now.maker in
+    let nodes = c.loop-node.plan.nodes in
     let rest = c.pop.new.self in
     let node = c.in-Some.node in
     let before = c.loop-node.self in
@@ -32,9 +32,9 @@ loop-node-preserved c =
 
 pub returns : goal.returns
 returns c = λ opening registry h stamp step names home life b all.
-    let nodes = c.loop-node.nodes in
+    let nodes = c.loop-node.plan.nodes in
     let after = trees c.loop-node.self in
     let none : nodes.items ≡ [] = nil_from_length nodes.items (omega (arith, nodes.ok.0, c.in_default.ensures.cases)) in
     let whole = sym c.loop-node.invariant.same ∙ ap (λ ns. all_added (map action_in (reverse ns)) after) none in
     subst (λ forest. IsForest opening (beginning opening registry stamp step names home life ∷ registry) forest) whole
-    (begins opening registry (trees c.args.self.now) stamp step names (map action_in c.args.plan.nodes.items) home life h b all)
+    (begins opening registry (trees c.args.self.now) stamp step names (map action_in c.args.plan.now.nodes.items) home life h b all)
