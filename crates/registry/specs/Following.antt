@@ -20,7 +20,8 @@ use Rattle.action_forest.specs.declared.forest.Begun.{Begun}
 use Rattle.registry.specs.Polls.{AreBallots, FitsBallots, IsVoteOn}
 use Rattle.registry.specs.declared.actions.Actions.{Actions}
 use Rattle.registry.specs.declared.change.Change.{Change}
-use Rattle.registry.specs.declared.change.Change.TheVariants as change
+use Rattle.registry.specs.declared.change.Kind.{Kind}
+use Rattle.registry.specs.declared.change.Kind.TheVariants as kind
 
 -- the actions and the votes are those of the history
 pub record AreActions (opening : Opening) (registry : List RegistryEvent)
@@ -41,7 +42,10 @@ AtEachOf actions holds = (opening : Opening) (registry : List RegistryEvent)
 abbrev pub event_after : Opening → List RegistryEvent → ℕ → Event → ℕ → RegistryEvent
 event_after opening registry stamp e life =
     stamped_there stamp
-    (record { event = e; begun = begun_in (record { opening = opening; registry = registry }) life e })
+    (record {
+      event = e;
+      begun = begun_in (record { opening = opening; registry = registry }) life e;
+    })
 
 -- whether the guardian voted yes on t, if t depends on it
 abbrev pub is_ready_there : Name → List RegistryEvent → ℕ → Bool
@@ -79,21 +83,29 @@ AreBegun opening registry step names life actions begun =
     AreBorn opening registry (maker_in step) (home_lent step registry) life (trees actions.forest)
     names begun
 
--- the change is what the event changes
-abbrev pub FitsChange : Opening → List RegistryEvent → Event → ℕ → Actions → Change → Type 0
-FitsChange opening registry e life actions (change.Begin begun) =
+-- the change is what the event changes, by its kind
+abbrev pub FitsKind : Opening → List RegistryEvent → Event → ℕ → Actions → Change → Kind → Type 0
+FitsKind opening registry e life actions change kind.Begin =
     (names : List Name) × (e.answer ≡ Began names)
-    × AreBegun opening registry e.step names life actions begun
-FitsChange opening registry e life actions (change.Commit commitment) =
-    (a : Name) × (e.step ≡ step.Commit a) × IsCommitmentOf (trees actions.forest) a commitment
-FitsChange opening registry e life actions (change.Vote v) =
+    × AreBegun opening registry e.step names life actions change.begun
+FitsKind opening registry e life actions change kind.Commit =
+    (a : Name) × (e.step ≡ step.Commit a)
+    × IsCommitmentOf (trees actions.forest) a change.commitment
+FitsKind opening registry e life actions change (kind.Vote v) =
     (g : ℕ) × (t : Name) × (e.step ≡ step.Prepare g t) × IsVoteOn g t (is_yes e.answer) v
-FitsChange opening registry e life actions change.Other = IsFalse (takes_room e.step)
+FitsKind opening registry e life actions change kind.Other = IsFalse (takes_room e.step)
     × (names_begun e.answer ≡ [])
 
+abbrev pub FitsChange : Opening → List RegistryEvent → Event → ℕ → Actions → Change → Type 0
+FitsChange opening registry e life actions change =
+    FitsKind opening registry e life actions change change.kind
+
 -- there is room for the change
+abbrev pub HasRoomOf : Actions → Change → Kind → Type 0
+HasRoomOf actions change kind.Begin = FitsBegun actions.forest change.begun
+HasRoomOf actions change kind.Commit = Unit {0}
+HasRoomOf actions change (kind.Vote v) = FitsBallots actions.ballots v
+HasRoomOf actions change kind.Other = Unit {0}
+
 abbrev pub HasRoomFor : Actions → Change → Type 0
-HasRoomFor actions (change.Begin begun) = FitsBegun actions.forest begun
-HasRoomFor actions (change.Commit commitment) = Unit {0}
-HasRoomFor actions (change.Vote v) = FitsBallots actions.ballots v
-HasRoomFor actions change.Other = Unit {0}
+HasRoomFor actions change = HasRoomOf actions change change.kind

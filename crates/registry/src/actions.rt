@@ -1,5 +1,5 @@
 //! The actions and the votes on them.
-ghost use Rattle.std.specs.Prelude.{◌≡◌, ◌∷◌, [], ℕ, List, IfOk, IsFalse};
+ghost use Rattle.std.specs.Prelude.{◌≡◌, ◌∷◌, [], ℕ, List, OnOk, IsFalse};
 ghost use Rattle.std.specs.List.{list_all};
 ghost use Rattle.std.specs.Option.{option_map};
 ghost use Rattle.run_model.specs.declared.history.Event.{Event};
@@ -14,7 +14,7 @@ ghost use Rattle.action_forest.specs.Trees.{trees};
 ghost use Rattle.registry.specs.Following.{event_after};
 
 use crate::ballots::Ballots;
-use crate::change::Change;
+use crate::change::{Change, Kind};
 use action_forest::{Begun, Forest};
 use layer_contracts::EventRef;
 use run_model::{Answer, Name, Names, Opening, Step};
@@ -52,39 +52,61 @@ impl Actions {
         }
     }
 
-    /// Makes room for an event and computes what it changes. What it begins begins in this life of its home. With
-    /// memory and without, the actions and votes stay what they were.
-    pub(crate) fn plan(&mut self, event: &EventRef<'_>, life: u64) -> Result<Change, AllocError>
+    /// Makes room for an event, and writes what it changes over another change. What it begins begins in this life of
+    /// its home. With memory and without, the actions and votes stay what they were.
+    pub(crate) fn plan(
+        &mut self,
+        event: &EventRef<'_>,
+        life: u64,
+        change: &mut Change,
+    ) -> Result<(), AllocError>
         ensures same { AtEachOf self.old
             (λ opening registry. AreActions opening registry self.new) }
-        ensures room { IfOk result (HasRoomFor self.new) }
+        ensures room { OnOk result (HasRoomFor self.new change.new) }
         ensures fits { AtEachOf self.old (λ opening registry.
-            IfOk result (FitsChange opening registry event.now life self.new)) }
+            OnOk result (FitsChange opening registry event.now life self.new change.new)) }
     {
         if let Answer::Began(names) = event.answer {
-            return Ok(Change::Begin(self.plan_begin(event.step, names, life)?));
+            self.plan_begin(event.step, names, life, &mut change.begun)?;
+            change.kind = Kind::Begin;
+            return Ok(());
         }
         match event.step {
-            Step::Commit(action) => Ok(Change::Commit(self.forest.plan_commit(action)?)),
+            Step::Commit(action) => {
+                self.forest.plan_commit(action, &mut change.commitment)?;
+                change.kind = Kind::Commit;
+                Ok(())
+            }
             Step::Prepare(guardian, top) => {
                 let yes = event.answer.is_yes();
                 let vote = self.ballots.plan_vote(*guardian, top, yes)?;
-                Ok(Change::Vote(vote))
+                change.kind = Kind::Vote(vote);
+                Ok(())
             }
-            _ => Ok(Change::Other),
+            _ => {
+                change.kind = Kind::Other;
+                Ok(())
+            }
         }
     }
 
     // Makes room for what the step begins.
-    fn plan_begin(&mut self, step: &Step, names: &Names, life: u64) -> Result<Begun, AllocError>
+    fn plan_begin(
+        &mut self,
+        step: &Step,
+        names: &Names,
+        life: u64,
+        begun: &mut Begun,
+    ) -> Result<(), AllocError>
         ensures same { AtEachOf self.old
             (λ opening registry. AreActions opening registry self.new) }
-        ensures room { IfOk result (FitsBegun self.new.forest) }
+        ensures room { OnOk result (FitsBegun self.new.forest begun.new) }
         ensures fits { AtEachOf self.old (λ opening registry.
-            IfOk result (AreBegun opening registry step.now names.now life self.new)) }
+            OnOk result (AreBegun opening registry step.now names.now life self.new begun.new)) }
     {
         let home = self.home_by(step);
-        self.forest.plan_begin(names, maker_in(step), home, life)
+        self.forest
+            .plan_begin(names, maker_in(step), home, life, begun)
     }
 
     // The home of what the step begins.
@@ -99,20 +121,21 @@ impl Actions {
         }
     }
 
-    /// Carries out what an event of this step changes, for which there is room. This cannot fail.
-    pub(crate) fn apply(&mut self, change: Change, step: &Step)
-        requires { HasRoomFor self.old change }
+    /// Carries out what an event of this step changes, for which there is room. This cannot fail. Nothing is said of
+    /// what is left in the change.
+    pub(crate) fn apply(&mut self, change: &mut Change, step: &Step)
+        requires { HasRoomFor self.old change.old }
         ensures { AtEachOf self.old (λ opening registry. (stamp : ℕ) (e : Event) (life : ℕ)
             → IsEntered opening registry e
-            → FitsChange opening registry e life self.old change → step.now ≡ e.step
+            → FitsChange opening registry e life self.old change.old → step.now ≡ e.step
             → AreActions opening
             (event_after opening registry stamp e life ∷ registry) self.new) }
     {
-        match change {
-            Change::Begin(begun) => self.forest.begin(begun),
-            Change::Commit(commitment) => self.forest.commit(commitment),
-            Change::Vote(vote) => self.ballots.note(vote),
-            Change::Other => self.end(step),
+        match change.kind {
+            Kind::Begin => self.forest.begin(&mut change.begun),
+            Kind::Commit => self.forest.commit(&mut change.commitment),
+            Kind::Vote(vote) => self.ballots.note(vote),
+            Kind::Other => self.end(step),
         }
     }
 

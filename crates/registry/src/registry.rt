@@ -10,7 +10,6 @@ use layer_contracts::{EventRef, Forest, Guardian};
 use run_model::{Deps, Name, Opening};
 use std::alloc::{AllocError, Global};
 use std::marker::Model;
-use std::mem;
 use std::sync::Arc;
 use step_answers::Actor;
 
@@ -55,7 +54,7 @@ impl Registry {
         Registry {
             opening,
             actions,
-            change: Change::Other,
+            change: Change::new(alloc),
         }
     }
 }
@@ -125,12 +124,11 @@ impl Forest for Registry {
     }
 
     fn plan(&mut self, event: &EventRef<'_>, life: u64) -> Result<(), AllocError> {
-        self.change = self.actions.plan(event, life)?;
+        self.actions.plan(event, life, &mut self.change)?;
         Ok(())
     }
 
     fn install(&mut self, event: &EventRef<'_>, _stamp: u64) {
-        let change = mem::replace(&mut self.change, Change::Other);
-        self.actions.apply(change, event.step);
+        self.actions.apply(&mut self.change, event.step);
     }
 }
