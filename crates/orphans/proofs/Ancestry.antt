@@ -1,6 +1,6 @@
 -- What is asked of each ancestor, and of each guardian on which an action depends.
-use Rattle.std.proofs.Common.{Bool, List, None, Some, [], ap, arith, cond, eqb-true, false, get_or, inl, inr, length, ltb, refl, reverse, subst, suc, sym, take, true, zero, ℕ, ◌+◌, ◌<◌, ◌==◌, ◌∙◌, ◌∷◌, ◌≡◌, ◌≤◌, ◌||◌, ◌⊎◌}
-use Rattle.std.proofs.lemmas.Bool.{cases_eq}
+use Rattle.std.proofs.Common.{Bool, List, None, Option, Some, [], ap, arith, cond, eqb-true, false, get_or, inl, inr, length, ltb, refl, reverse, subst, suc, sym, take, true, zero, ℕ, ◌+◌, ◌<◌, ◌==◌, ◌∙◌, ◌∷◌, ◌≡◌, ◌≤◌, ◌||◌, ◌⊎◌}
+use Rattle.std.proofs.lemmas.Bool.{cases_eq, le-ltb}
 use Rattle.std.proofs.lemmas.List.{reverse-append}
 use Rattle.std.proofs.lemmas.List.Folds.{list_any-append}
 use Rattle.std.specs.Cmp.{unsigned_tied}
@@ -90,6 +90,18 @@ some_crash es n count k s in_range low high h =
     any_turned (λ g. is_below (least_at es g) (count g)) (down_from n)
     ∙ any_down (λ g. is_below (least_at es g) (count g)) n (guardian_at es k) low high
     (ap (λ o. is_below o (count (guardian_at es k))) (least_of_entry es (guardian_at es k) k s in_range refl) ∙ h)
+
+-- none is known where nothing is counted
+pub no_crash_counted : (least : ℕ → Option ℕ) (count : ℕ → ℕ) (hs : List ℕ) → ((h : ℕ) → count h ≡ 0)
+    → list_any (λ h. is_below (least h) (count h)) hs ≡ false
+no_crash_counted least count [] none = refl
+no_crash_counted least count (h ∷ hs) none =
+    or_none (is_below (least h) (count h)) (list_any (λ g. is_below (least g) (count g)) hs) (not_below (least h) (count h) (none h))
+    (no_crash_counted least count hs none)
+  where
+    not_below : (o : Option ℕ) (n : ℕ) → n ≡ 0 → is_below o n ≡ false
+    not_below None n nothing = refl
+    not_below (Some m) n nothing = le-ltb m n (omega (arith, nothing))
 
 -- and none where no entry shows one
 no_crash : (es : Entries) (n : ℕ) (count : ℕ → ℕ) → IsRising es

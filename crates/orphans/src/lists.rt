@@ -204,11 +204,22 @@ impl Lists {
         false
     }
 
+    // Whether the lists tell of no crash.
+    fn knows_no_crash(&self) -> bool
+        ensures { IsTrue result → (h : ℕ) → known_count self.now h ≡ 0 }
+    {
+        self.crashes == 0 && self.counts.len() == 0
+    }
+
     // Whether a guardian of the opening crashed since an incarnation among these.
     fn knows_crash_since(&self, opening: &Opening, depends: &Deps) -> bool
         ensures { result ≡ list_any (λ h. is_below (map.get depends.now h) (known_count self.now h))
             (guardians_of (opening_in opening.now)) }
     {
+        // Where no crash is known, no dependency is looked at.
+        if self.knows_no_crash() {
+            return false;
+        }
         let guardians = opening.setup().guardians();
         for &(guardian, least) in depends.entries() {
             if guardian > 0 && guardian as usize <= guardians && least < self.count_of(guardian) {

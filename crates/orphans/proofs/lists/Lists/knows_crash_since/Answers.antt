@@ -1,8 +1,16 @@
-use Rattle.std.proofs.Common.{ap, arith, length, ◌∙◌}
+use Rattle.std.proofs.Common.{ap, arith, length, sym, ◌∙◌}
 use Rattle.std.proofs.lemmas.Bool.{lt-ltb}
+use Rattle.std.specs.FinMap as map
+use Rattle.run_model.specs.Lists.{guardians_of}
+use Rattle.run_model.specs.Openings.{opening_in}
 use Rattle.orphans.specs.Knowing.{known_count}
-use Rattle.orphans.proofs.Ancestry.{no_crash_since, some_crash_since}
+use Rattle.orphans.proofs.Ancestry.{no_crash_counted, no_crash_since, some_crash_since}
 use Rattle.orphans.proofs.lists.Lists.knows_crash_since.Goals as goal
+
+pub returns-then-knows_no_crash : goal.returns-then-knows_no_crash
+returns-then-knows_no_crash c =
+    sym (no_crash_counted (map.get c.args.depends.now) (known_count c.args.self.now) (guardians_of (opening_in c.args.opening.now))
+    (c.knows_no_crash.ensures c.if-knows_no_crash.true))
 
 pub returns-then-least-count_of : goal.returns-then-least-count_of
 returns-then-least-count_of c =
