@@ -1,3 +1,4 @@
+pub mod Keeping
 pub mod Looking
 pub mod Standing
 pub mod Growing

@@ -1,3 +1,4 @@
+pub mod Children
 pub mod Placed
 pub mod Rows
 pub mod Trees

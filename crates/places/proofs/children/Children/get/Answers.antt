@@ -1,18 +1,24 @@
-use Rattle.std.proofs.Common.{Some, ap, sym, ◌∙◌, ℕ}
-use Rattle.action_names.specs.Deps.{IsAt}
-use Rattle.action_names.proofs.Entries.{get_of, least_at-found, least_at-absent}
+use Rattle.std.proofs.Common.{ap, sym, ◌∙◌}
+use Rattle.action_names.specs.Deps.{least_at}
+use Rattle.places.specs.Children.{entries_of}
+use Rattle.places.proofs.Keeping.{absent_alone, child_got, found_alone}
 use Rattle.places.proofs.children.Children.get.Goals as goal
 
-pub returns-in-Ok : goal.returns-in-Ok
-returns-in-Ok c =
-    let es = c.self.inside.places.items in
-    let found : IsAt es c.args.number c.in-Ok.at = rw c.as_slice.ensures.value at c.in-Ok.ensures.found in
-    rw (← c.self.view_is)
-    (ap (λ (e : ℕ × ℕ). Some e.1) c.index.ensures
-    ∙ sym (get_of es c.args.number c.self.invariant ∙ least_at-found es c.args.number c.in-Ok.at c.self.invariant found c.index.result.now))
+pub returns-then-known-number : goal.returns-then-known-number
+returns-then-known-number c =
+    sym (found_alone c.in-One.known c.in-One.place c.args.number c.if-known-number.true)
+    ∙ ap (λ k. least_at (entries_of k) c.args.number) (sym c.in-One.is)
+    ∙ child_got c.self.inside.kept c.args.self.now c.self.invariant c.self.view_is c.args.number
 
-pub returns-in-Err : goal.returns-in-Err
-returns-in-Err c =
-    let es = c.self.inside.places.items in
-    let absent = least_at-absent es c.args.number _ (rw c.as_slice.ensures.value at c.in-Err.ensures.absent) in
-    rw (← c.self.view_is) (sym (get_of es c.args.number c.self.invariant ∙ absent))
+pub returns-else-known-number : goal.returns-else-known-number
+returns-else-known-number c =
+    sym (absent_alone c.in-One.known c.in-One.place c.args.number c.if-known-number.false)
+    ∙ ap (λ k. least_at (entries_of k) c.args.number) (sym c.in-One.is)
+    ∙ child_got c.self.inside.kept c.args.self.now c.self.invariant c.self.view_is c.args.number
+
+pub returns-in-Listed : goal.returns-in-Listed
+returns-in-Listed c =
+    c.listed.ensures
+    ∙ ap (λ xs. least_at xs c.args.number) c.deref.ensures.value
+    ∙ ap (λ k. least_at (entries_of k) c.args.number) (sym c.in-Listed.is)
+    ∙ child_got c.self.inside.kept c.args.self.now c.self.invariant c.self.view_is c.args.number

@@ -1,37 +1,49 @@
-use Rattle.std.proofs.Common.{None, Some, ap, get_or, sym, ◌∙◌, ◌≡◌, ℕ}
+use Rattle.std.proofs.Common.{[], ap, arith, sym, ◌++◌, ◌∙◌, ◌∷◌, ◌≡◌}
+use Rattle.std.proofs.lemmas.Bool.Decides.{nat_tests}
+use Rattle.std.proofs.lemmas.List.{nil_from_length}
 use Rattle.std.specs.FinMap as map
 use Rattle.std.specs.Ordering.{nat_cmp}
-use Rattle.action_names.specs.Deps.{IsAt, with_least}
-use Rattle.action_names.proofs.Entries.{get_of, insert-from_sorted, least_at-found, rising_with_least, with_least-absent}
+use Rattle.action_names.specs.Deps.{Entries, least_at, with_least}
+use Rattle.places.specs.Children.{entries_of}
+use Rattle.places.proofs.Keeping.{child_got, child_put, ok_then}
 use Rattle.places.proofs.children.Children.insert.Goals as goal
 
-pub unreachable-requires : goal.unreachable-requires
-unreachable-requires c =
-    let es = c.self.inside.places.items in
-    let n = c.args.number in
-    let i = c.in-Ok.field-0 in
-    let found : IsAt es n i = rw c.as_slice.ensures.value at c.in-Ok.ensures.found in
-    let none : map.get (map.from_sorted {R = nat_cmp} es) n ≡ None = rw c.self.view_is c.requires in
-    let has : map.get (map.from_sorted {R = nat_cmp} es) n ≡ Some (get_or {A = ℕ × ℕ} es i (0, 0)).1 =
-    get_of es n c.self.invariant ∙ least_at-found es n i c.self.invariant found (0, 0) in
-    cc
+pub add-requires-clause-absent : goal.add-requires-clause-absent
+add-requires-clause-absent c =
+    let pushed : c.push_reserved.new.self.items ≡ (c.in-One.first, c.in-One.at) ∷ [] =
+    c.push_reserved.ensures.items ∙ ap (λ (xs : Entries). xs ++ (c.in-One.first, c.in-One.at) ∷ []) c.in_ok-places-in-One.ensures.items in
+    ap (λ xs. least_at xs c.args.number) pushed
+    ∙ ap (λ k. least_at (entries_of k) c.args.number) (sym c.in-One.is)
+    ∙ child_got c.self.inside.kept c.args.self.now c.self.invariant c.self.view_is c.args.number
+    ∙ c.requires
 
-pub invariant_of-self-in-Err : goal.invariant_of-self-in-Err
-invariant_of-self-in-Err c =
-    let es = c.self.inside.places.items in
-    let n = c.args.number in
-    let gap = rw c.as_slice.ensures.value at c.in-Err.ensures.absent in
-    let is : c.insert.new.self.items ≡ with_least es n c.args.place =
-    c.in_ok-insert-in-Err.ensures.items ∙ sym (with_least-absent es n c.args.place c.in-Err.at gap) in
-    rw is (rising_with_least es n c.args.place c.self.invariant)
+pub returns-then-is_empty-clause-ok : goal.returns-then-is_empty-clause-ok
+returns-then-is_empty-clause-ok c =
+    let none : c.in-Listed.places.items ≡ [] =
+    nil_from_length c.in-Listed.places.items (grind (arith, nat_tests, c.if-is_empty.ensures)) in
+    ap (λ xs. map.from_sorted {R = nat_cmp} (with_least xs c.args.number c.args.place))
+    (sym none ∙ ap entries_of (sym c.in-Listed.is))
+    ∙ child_put c.self.inside.kept c.args.self.now c.self.invariant c.self.view_is c.args.number c.args.place
 
-pub returns-clause-ok : goal.returns-clause-ok
-returns-clause-ok c =
-    let es = c.self.inside.places.items in
-    let n = c.args.number in
-    let gap = rw c.as_slice.ensures.value at c.in-Err.ensures.absent in
-    let is : c.insert.new.self.items ≡ with_least es n c.args.place =
-    c.in_ok-insert-in-Err.ensures.items ∙ sym (with_least-absent es n c.args.place c.in-Err.at gap) in
+pub add-requires-in-Listed-clause-absent : goal.add-requires-in-Listed-clause-absent
+add-requires-in-Listed-clause-absent c =
+    ap (λ k. least_at (entries_of k) c.args.number) (sym c.in-Listed.is)
+    ∙ child_got c.self.inside.kept c.args.self.now c.self.invariant c.self.view_is c.args.number
+    ∙ c.requires
+
+pub returns-in_ok-add-in-One-clause-ok : goal.returns-in_ok-add-in-One-clause-ok
+returns-in_ok-add-in-One-clause-ok c =
+    let pushed : c.push_reserved.new.self.items ≡ (c.in-One.first, c.in-One.at) ∷ [] =
+    c.push_reserved.ensures.items ∙ ap (λ (xs : Entries). xs ++ (c.in-One.first, c.in-One.at) ∷ []) c.in_ok-places-in-One.ensures.items in
+    ap (λ xs. map.from_sorted {R = nat_cmp} xs) c.in_ok-add-in-One.ensures.ok
+    ∙ ap (λ xs. map.from_sorted {R = nat_cmp} (with_least xs c.args.number c.args.place))
+    (pushed ∙ ap entries_of (sym c.in-One.is))
+    ∙ child_put c.self.inside.kept c.args.self.now c.self.invariant c.self.view_is c.args.number c.args.place
+
+pub returns-else-is_empty-clause-ok : goal.returns-else-is_empty-clause-ok
+returns-else-is_empty-clause-ok c =
+    ok_then c.add-in-Listed.result _ _ (λ is.
     ap (λ xs. map.from_sorted {R = nat_cmp} xs) is
-    ∙ insert-from_sorted es n c.args.place c.self.invariant
-    ∙ ap (λ m. map.insert m n c.args.place) c.self.view_is
+    ∙ ap (λ xs. map.from_sorted {R = nat_cmp} (with_least xs c.args.number c.args.place)) (ap entries_of (sym c.in-Listed.is))
+    ∙ child_put c.self.inside.kept c.args.self.now c.self.invariant c.self.view_is c.args.number c.args.place)
+    c.add-in-Listed.ensures.ok
