@@ -7,3 +7,4 @@ pub mod Kept
 pub mod Below
 pub mod Indexed
 pub mod Handing
+pub mod Giving

@@ -174,7 +174,7 @@ insert_gap (s ∷ rs) a (suc i) w here = let first : name_cmp a s.0 ≡ Greater 
 
 -- ---- a gap's name has no row
 
-behind_lesser : (a n : Name) (ns : List Name) → name_cmp a n ≡ Less → StandBehind n ns → StandBehind a ns
+pub behind_lesser : (a n : Name) (ns : List Name) → name_cmp a n ≡ Less → StandBehind n ns → StandBehind a ns
 behind_lesser a n [] less h = tt
 behind_lesser a n (m ∷ ns) less h = (name_cmp-total.trans a n m less h.0, behind_lesser a n ns less h.1)
 

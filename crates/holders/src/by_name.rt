@@ -14,6 +14,7 @@ ghost use Rattle.holders.specs.Places.{IsRowAt, IsGapAt, IsStartAt};
 use action_names::Name;
 use std::alloc::AllocError;
 use std::cmp::Ordering;
+use std::mem;
 
 /// The row of the name.
 pub fn find<'a, R>(rows: &'a [(Name, R)], name: &Name) -> Option<&'a R>
@@ -38,6 +39,33 @@ pub(crate) fn add<R: Drop>(rows: &mut Vec<(Name, R)>, name: &Name, row: R) -> Re
         Err(at) => {
             let own = name.copy()?;
             Ok(rows.insert(at, (own, row))?)
+        }
+    }
+}
+
+/// Puts in a row of the name, in the place of the one that it has, which is handed back. If memory runs out, nothing
+/// is changed.
+pub(crate) fn put<R: Drop>(
+    rows: &mut Vec<(Name, R)>,
+    name: &Name,
+    row: R,
+) -> Result<Option<R>, AllocError>
+    requires { IsStrictlySortedBy name_cmp (keys_of rows.old.items) }
+    ensures before { IfOk result
+        (λ before. before ≡ lookup (is_at (name_cmp name.now)) rows.old.items) }
+    ensures ok { OnOk result
+        (rows.new.items ≡ insert_entry name_cmp rows.old.items name.now row) }
+    ensures err { OnErr result (rows.new.items ≡ rows.old.items) }
+{
+    match place(rows, name) {
+        Ok(at) => {
+            let entry = &mut rows[at];
+            Ok(Some(mem::replace(&mut entry.1, row)))
+        }
+        Err(at) => {
+            let own = name.copy()?;
+            rows.insert(at, (own, row))?;
+            Ok(None)
         }
     }
 }

@@ -70,6 +70,19 @@ impl<V: Drop> FewHolders<V> {
         by_name::write(&mut self.rows, holder, Some(value));
     }
 
+    /// Gives the value to the holder, in the place of what it held, which is handed back, and makes room where there is
+    /// none. If memory runs out, nothing is changed.
+    pub fn give(&mut self, holder: &Name, value: V) -> Result<Option<V>, AllocError>
+        ensures before { IfOk result (λ before. before ≡ value_at self.old.held holder.now) }
+        ensures held { OnOk result (self.new.held ≡ with_value self.old.held holder.now value) }
+        ensures room { OnOk result (HasMoreRoom self.old.room self.new.room holder.now) }
+        ensures rose { OnOk result (IsStrictlySortedBy name_cmp (names_of self.old.held)) }
+        ensures err { OnErr result (self.new ≡ self.old) }
+    {
+        let before = by_name::put(&mut self.rows, holder, Some(value))?;
+        Ok(before.flatten())
+    }
+
     /// Takes what a holder holds from it, and keeps its room. This takes no memory.
     pub fn empty(&mut self, holder: &Name)
         requires { IsTrue (has_name self.old.room holder.now) }
@@ -85,6 +98,7 @@ impl<V: Drop> FewHolders<V> {
         ensures taken { result ≡ value_at self.old.held holder.now }
         ensures held { self.new.held ≡ without self.old.held holder.now }
         ensures room { HasLessRoom self.old.room self.new.room holder.now }
+        ensures rose { IsStrictlySortedBy name_cmp (names_of self.old.held) }
         ensures rising { IsStrictlySortedBy name_cmp (names_of self.new.held) }
     {
         by_name::remove(&mut self.rows, holder)?

@@ -1,6 +1,6 @@
 //! Holders in the order of their names, so that an action and its descendants stand next to each other: in a vector
 //! while they are few, as nearly always, and in a tree from then on.
-ghost use Rattle.std.specs.Prelude.{◌≡◌, ◌↔◌, ◌||◌, ◌&&◌, not, [], IsTrue, OnOk, OnErr, filter, length};
+ghost use Rattle.std.specs.Prelude.{◌≡◌, ◌↔◌, ◌||◌, ◌&&◌, not, [], IsTrue, IfOk, OnOk, OnErr, filter, length};
 ghost use Rattle.std.specs.List.{list_any};
 ghost use Rattle.std.specs.List.Sorted.{IsStrictlySortedBy};
 ghost use Rattle.std.specs.Option.{option_copied};
@@ -107,6 +107,7 @@ impl<V: Drop> Holders<V> {
         ensures taken { result ≡ value_at self.old.held holder.now }
         ensures held { self.new.held ≡ without self.old.held holder.now }
         ensures room { HasLessRoom self.old.room self.new.room holder.now }
+        ensures rose { IsStrictlySortedBy name_cmp (names_of self.old.held) }
         ensures rising { IsStrictlySortedBy name_cmp (names_of self.new.held) }
     {
         match &mut self.kept {
@@ -208,6 +209,22 @@ impl<V: Copy> Holders<V> {
         match &mut self.kept {
             Kept::Few(few) => few.make_room(holder),
             Kept::Many(many) => many.make_room(holder),
+        }
+    }
+
+    /// Gives the value to the holder, in the place of what it held, which is handed back, and makes room where there is
+    /// none. If memory runs out, nothing is changed.
+    pub fn give(&mut self, holder: &Name, value: V) -> Result<Option<V>, AllocError>
+        ensures before { IfOk result (λ before. before ≡ value_at self.old.held holder.now) }
+        ensures held { OnOk result (self.new.held ≡ with_value self.old.held holder.now value) }
+        ensures room { OnOk result (HasMoreRoom self.old.room self.new.room holder.now) }
+        ensures rose { OnOk result (IsStrictlySortedBy name_cmp (names_of self.old.held)) }
+        ensures err { OnErr result (self.new ≡ self.old) }
+    {
+        self.make_tree()?;
+        match &mut self.kept {
+            Kept::Few(few) => few.give(holder, value),
+            Kept::Many(many) => many.give(holder, value),
         }
     }
 

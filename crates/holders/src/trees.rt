@@ -1,6 +1,6 @@
 //! Holders in a tree, in the order of their names, so that an action and its descendants stand next to each other.
 //! What a step costs grows with the logarithm of their number.
-ghost use Rattle.std.specs.Prelude.{◌≡◌, ◌↔◌, ◌||◌, ◌&&◌, false, not, [], IsTrue, OnOk, OnErr, IfSome, IsNone, filter, is_some, length};
+ghost use Rattle.std.specs.Prelude.{◌≡◌, ◌↔◌, ◌||◌, ◌&&◌, false, not, [], IsTrue, IfOk, OnOk, OnErr, IfSome, IsNone, filter, is_some, length};
 ghost use Rattle.std.specs.BTreeMap.{ContainsKey, keys};
 ghost use Rattle.std.specs.List.{list_any};
 ghost use Rattle.std.specs.List.Sorted.{IsStrictlySortedBy};
@@ -76,6 +76,19 @@ impl<V: Drop> TreeHolders<V> {
         }
     }
 
+    /// Gives the value to the holder, in the place of what it held, which is handed back, and makes room where there is
+    /// none. If memory runs out, nothing is changed.
+    pub fn give(&mut self, holder: &Name, value: V) -> Result<Option<V>, AllocError>
+        ensures before { IfOk result (λ before. before ≡ value_at self.old.held holder.now) }
+        ensures held { OnOk result (self.new.held ≡ with_value self.old.held holder.now value) }
+        ensures room { OnOk result (HasMoreRoom self.old.room self.new.room holder.now) }
+        ensures rose { OnOk result (IsStrictlySortedBy name_cmp (names_of self.old.held)) }
+        ensures err { OnErr result (self.new ≡ self.old) }
+    {
+        let before = self.rows.insert(holder.copy()?, Some(value))?;
+        Ok(before.flatten())
+    }
+
     /// Takes what a holder holds from it, and keeps its room. This takes no memory.
     pub fn empty(&mut self, holder: &Name)
         requires { IsTrue (has_name self.old.room holder.now) }
@@ -93,6 +106,7 @@ impl<V: Drop> TreeHolders<V> {
         ensures taken { result ≡ value_at self.old.held holder.now }
         ensures held { self.new.held ≡ without self.old.held holder.now }
         ensures room { HasLessRoom self.old.room self.new.room holder.now }
+        ensures rose { IsStrictlySortedBy name_cmp (names_of self.old.held) }
         ensures rising { IsStrictlySortedBy name_cmp (names_of self.new.held) }
     {
         self.rows.remove(holder)?

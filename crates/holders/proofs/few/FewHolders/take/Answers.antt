@@ -3,6 +3,7 @@ use Rattle.std.specs.BTreeMap.{is_at}
 use Rattle.std.specs.List.Sorted.{IsStrictlySortedBy}
 use Rattle.std.specs.Map.{keys_of}
 use Rattle.action_names.specs.Names.{name_cmp}
+use Rattle.holders.specs.Held.{names_of}
 use Rattle.holders.proofs.Places.{sorted_out}
 use Rattle.holders.proofs.Rows.{flat, held_sorted, out_held, out_room, found_at}
 use Rattle.holders.proofs.few.FewHolders.take.Goals as goal
@@ -42,3 +43,9 @@ returns-in_err-remove-clause-rising g c = held_sorted c.remove.new.rows.items (i
 
 pub returns-clause-rising : goal.returns-clause-rising
 returns-clause-rising g c = held_sorted c.remove.new.rows.items (invariant_of-self-2 g c)
+
+pub returns-in_err-remove-clause-rose : goal.returns-in_err-remove-clause-rose
+returns-in_err-remove-clause-rose g c = subst (λ s. IsStrictlySortedBy name_cmp (names_of s.held)) c.self.view_is (held_sorted c.self.inside.rows.items c.self.invariant)
+
+pub returns-clause-rose : goal.returns-clause-rose
+returns-clause-rose g c = subst (λ s. IsStrictlySortedBy name_cmp (names_of s.held)) c.self.view_is (held_sorted c.self.inside.rows.items c.self.invariant)

@@ -1,4 +1,7 @@
-use Rattle.std.proofs.Common.{◌∙◌, sym, ap, rules}
+use Rattle.std.proofs.Common.{◌∙◌, sym, ap, rules, subst}
+use Rattle.std.specs.List.Sorted.{IsStrictlySortedBy}
+use Rattle.action_names.specs.Names.{name_cmp}
+use Rattle.holders.specs.Held.{names_of}
 use Rattle.holders.proofs.Rows.{flat, held_sorted, out_held, out_room, found_at}
 use Rattle.holders.proofs.trees.TreeHolders.take.Goals as goal
 
@@ -27,3 +30,9 @@ returns-in_err-remove-clause-rising g c = held_sorted c.remove.new.self.entries 
 
 pub returns-clause-rising : goal.returns-clause-rising
 returns-clause-rising g c = held_sorted c.remove.new.self.entries (search rules)
+
+pub returns-in_err-remove-clause-rose : goal.returns-in_err-remove-clause-rose
+returns-in_err-remove-clause-rose g c = subst (λ s. IsStrictlySortedBy name_cmp (names_of s.held)) c.self.view_is (held_sorted c.self.inside.rows.entries c.self.invariant)
+
+pub returns-clause-rose : goal.returns-clause-rose
+returns-clause-rose g c = subst (λ s. IsStrictlySortedBy name_cmp (names_of s.held)) c.self.view_is (held_sorted c.self.inside.rows.entries c.self.invariant)
