@@ -1,12 +1,12 @@
 //! The holders of one class.
-ghost use Rattle.std.specs.Prelude.{◌≡◌, ◌||◌, ◌&&◌, not, IsTrue, Some, IfSome, IfOk, OnOk, OnErr, if◌then◌else◌};
+ghost use Rattle.std.specs.Prelude.{◌≡◌, ◌||◌, ◌&&◌, false, not, IsTrue, IfSome, IfOk, OnOk, OnErr, if◌then◌else◌};
 ghost use Rattle.std.specs.BTreeSet.{insert_key};
 ghost use Rattle.std.specs.List.Sorted.{IsStrictlySortedBy};
 ghost use Rattle.std.specs.Option.{option_copied as name_of};
 ghost use Rattle.action_names.specs.Names.{Name, has_name, name_cmp, is_ancestor, same_name};
 ghost use Rattle.atomic_types.specs.Operations.{classes_conflict};
 ghost use Rattle.holders.specs.Held.{names_of, may_be_handed, HasMoreRoom, HasLessRoom};
-ghost use Rattle.object_model.specs.Locks.{has_foreign, all_but, with_next, passed};
+ghost use Rattle.object_model.specs.Locks.{has_foreign, all_but, passed};
 
 use action_names::Name;
 use atomic_types::Class;
@@ -55,10 +55,8 @@ pub(crate) fn insert(holders: &mut Holders<()>, holder: &Name) -> Result<bool, A
     ensures room { OnOk result (HasMoreRoom holders.old.room holders.new.room holder.now) }
     ensures err { OnErr result (holders.new ≡ holders.old) }
 {
-    let is_new = !holders.holds(holder);
-    holders.make_room(holder)?;
-    holders.put(holder, ());
-    Ok(is_new)
+    let before = holders.give(holder, ())?;
+    Ok(before.is_none())
 }
 
 /// Drops this one, and its room.
@@ -86,6 +84,7 @@ pub(crate) fn make_room(holders: &mut Holders<()>, holder: &Name) -> Result<(), 
 
 /// Puts the next holder, which may be handed it, in the place of the action; without one nobody holds what the action
 /// held.
+#[inline(always)]
 pub(crate) fn pass(holders: &mut Holders<()>, action: &Name, to: Option<&Name>)
     requires { IfSome (name_of to)
         (λ next. IsTrue (may_be_handed (names_of holders.old.held) holders.old.room next)) }
@@ -98,20 +97,24 @@ pub(crate) fn pass(holders: &mut Holders<()>, action: &Name, to: Option<&Name>)
     if holders.is_clear() {
         return;
     }
-    if let Some(next) = to {
-        add_beside(holders, action, next);
+    if holders.take(action).is_none() {
+        return;
     }
-    drop_one(holders, action);
+    if let Some(next) = to {
+        put_other(holders, action, next);
+    }
 }
 
-// Adds the next holder, which may be handed it, where the action is one of these.
-fn add_beside(holders: &mut Holders<()>, action: &Name, next: &Name)
-    requires { IsTrue (may_be_handed (names_of holders.old.held) holders.old.room next.now) }
-    ensures names { names_of holders.new.held
-        ≡ with_next (names_of holders.old.held) action.now (Some next.now) }
+// Puts the next holder in the place of the action, which was taken out, if it is another one.
+fn put_other(holders: &mut Holders<()>, action: &Name, next: &Name)
+    requires { same_name action.now next.now ≡ false
+        → IsTrue (has_name holders.old.room next.now) }
+    ensures names { names_of holders.new.held ≡ (if same_name action.now next.now
+        then names_of holders.old.held
+        else insert_key name_cmp (names_of holders.old.held) next.now) }
     ensures room { holders.new.room ≡ holders.old.room }
 {
-    if holders.holds(action) {
+    if action != next {
         holders.put(next, ());
     }
 }
