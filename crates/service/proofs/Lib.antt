@@ -10,3 +10,4 @@ pub mod Parts
 pub mod Shapes
 pub mod Undone
 pub mod Whole
+pub mod Working

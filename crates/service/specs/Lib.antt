@@ -4,3 +4,4 @@ pub mod Opening
 pub mod Outcomes
 pub mod Retrying
 pub mod Transacting
+pub mod Working

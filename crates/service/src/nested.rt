@@ -4,6 +4,7 @@ ghost use Rattle.run_model.specs.declared.step.Step.TheVariants as steps;
 ghost use Rattle.service.specs.Calling.{IsCall};
 ghost use Rattle.service.specs.Opening.{BeganAt};
 ghost use Rattle.service.specs.Transacting.{Includes, Transacts, Works, began_at};
+ghost use Rattle.service.specs.Working.{TransactsOnce};
 
 use crate::fault::CallFault;
 use crate::outcome::{Cause, Outcome, Transacted};
@@ -29,6 +30,8 @@ pub(crate) fn nest_in<W: MakesOwnSteps + Drop, J: Work<W>>(
         at.old.left at.new.left ∥₁ }
     ensures ended { Transacts W.sees (steps.NestedTop at.old.action) (W.run service.old.world)
         (W.run service.new.world) result at.old.left at.new.left }
+    ensures once { TransactsOnce W.sees J.does (steps.NestedTop at.old.action)
+        (W.run service.old.world) (W.run service.new.world) work.old work.new result }
 {
     match begin_nested(service, at, alloc) {
         Ok(top) => {

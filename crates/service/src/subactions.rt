@@ -2,9 +2,10 @@
 ghost use Rattle.std.specs.Prelude.{◌≡◌, true, IfErr, IfOk, OnErr, OnOk};
 ghost use Rattle.run_model.specs.Actions.{is_committed};
 ghost use Rattle.run_model.specs.declared.step.Step.TheVariants as steps;
-ghost use Rattle.service.specs.Calling.{IsCall, IsReply, WaitsIf};
+ghost use Rattle.service.specs.Calling.{ComesToNothing, IsCall, IsReply, WaitsIf};
 ghost use Rattle.service.specs.Opening.{BeganAt};
 ghost use Rattle.service.specs.Transacting.{CommitsCall, CommitsNoChild, EndedAndTold, Goes, Includes, Settles, Works, finishes, settles};
+ghost use Rattle.service.specs.Working.{CallsOnce};
 
 use crate::fault::CallFault;
 use crate::place::{Place, with_number};
@@ -49,6 +50,8 @@ pub(crate) fn call_in<W: MakesOwnSteps + Drop, J: Work<W>>(
         (W.run service.old.world) (W.run service.new.world)) }
     ensures undone { OnErr result (CommitsNoChild at.old.action (W.run service.old.world)
         (W.run service.new.world)) }
+    ensures once { CallsOnce W.sees J.does J.Error.from_gives at.old.action guardian
+        (W.run service.old.world) (W.run service.new.world) work.old work.new result }
 {
     let mut sub = begin_sub(service, at, guardian)?;
     match work_in::<Brand, W, J>(service, &mut sub, work) {
@@ -103,6 +106,8 @@ fn commit_sub<W: MakesOwnSteps + Drop>(
     ensures committed { OnOk result (is_committed sub.action (W.run service.new.world).past ≡ true) }
     ensures undone { OnErr result (Goes W.sees (settles sub.action) (W.run service.old.world)
         (W.run service.new.world)) }
+    ensures stopped { IfErr result (ComesToNothing W.sees (W.run service.old.world)
+        (steps.Commit sub.action)) }
     ensures action { at.new.action ≡ at.old.action }
     ensures home { at.new.home ≡ at.old.home }
     ensures reached { OnOk result (at.new.reached ≡ sub.reached) }
@@ -154,6 +159,8 @@ fn commit_and_tell<W: MakesOwnSteps + Drop>(
         (is_committed action.now (W.run service.new.world).past ≡ true) }
     ensures undone { OnErr result.0 (Goes W.sees (settles action.now) (W.run service.old.world)
         (W.run service.new.world)) }
+    ensures stopped { IfErr result.0 (ComesToNothing W.sees (W.run service.old.world)
+        (steps.Commit action.now)) }
 {
     match service.commit(action) {
         Ok(()) => {

@@ -10,6 +10,7 @@ ghost use Rattle.service.specs.Transacting.{AllTold, CameToNothing, Concludes, E
 ghost use Rattle.service.specs.declared.fault.CallFault.{CallFault};
 ghost use Rattle.service.specs.declared.outcome.Cause.TheVariants.{Vote, Step as ByStep};
 ghost use Rattle.service.specs.declared.outcome.Outcome.TheVariants.{Aborted};
+ghost use Rattle.service.specs.Working.{IsOutcomeOf};
 
 use crate::fault::CallFault;
 use crate::outcome::{Cause, Outcome};
@@ -140,6 +141,7 @@ pub(crate) fn outcome<T: Drop, E: Drop>(
     ensures committed { has_committed result ≡ is_decided decided }
     ensures vote { result ≡ Aborted Vote → (is_ok done ≡ true) × (decided ≡ Ok false) }
     ensures step { (fault : CallFault) → result ≡ Aborted (ByStep fault) → decided ≡ Err fault }
+    ensures given { IsOutcomeOf done result }
 {
     match (done, decided) {
         (Ok(value), Ok(true)) => Outcome::Committed(value),

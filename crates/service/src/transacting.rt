@@ -1,6 +1,8 @@
 //! Transactions of a service.
-ghost use Rattle.std.specs.Prelude.{◌≡◌, false, true, IfErr, Ok};
-ghost use Rattle.service.specs.Transacting.{RunsTop, began_at};
+ghost use Rattle.std.specs.Prelude.{◌≡◌, false, true, IfErr, Ok, Result};
+ghost use Rattle.run_model.specs.declared.step.Step.TheVariants as steps;
+ghost use Rattle.service.specs.Transacting.{RunsTop, began_at, ends_top};
+ghost use Rattle.service.specs.Working.{IsOutcomeOf, RunsOnce, TransactsOnce};
 
 use crate::fault::CallFault;
 use crate::outcome::{Cause, Outcome, Transacted};
@@ -15,7 +17,7 @@ use stepping::MakesOwnSteps;
 
 impl<W: MakesOwnSteps + Drop> Service<W> {
     ghost use Rattle.service.specs.Outcomes.{is_decided};
-    ghost use Rattle.service.specs.Transacting.{AllVoted, CameToNothing, Concludes, TransactsAt, ends_top, is_concluding, is_voted_down};
+    ghost use Rattle.service.specs.Transacting.{AllVoted, CameToNothing, Concludes, TransactsAt, is_concluding, is_voted_down};
 
     /// Runs the work in a new top action at this home, and then ends the action by two phases: it commits if the work
     /// succeeds and all guardians that it reached vote yes. Else it is aborted. Each of these guardians is told.
@@ -25,7 +27,10 @@ impl<W: MakesOwnSteps + Drop> Service<W> {
         home: u32,
         work: &mut J,
     ) -> Transacted<J::Value, J::Error>
-        ensures { TransactsAt W.sees home (W.run self.old.world) (W.run self.new.world) result }
+        ensures ended { TransactsAt W.sees home (W.run self.old.world) (W.run self.new.world)
+            result }
+        ensures once { TransactsOnce W.sees J.does (steps.Top home) (W.run self.old.world)
+            (W.run self.new.world) work.old work.new result.outcome }
     {
         match begin_top(self, alloc, home) {
             Ok(at) => run_top(self, at, work),
@@ -68,7 +73,10 @@ pub(crate) fn run_top<W: MakesOwnSteps + Drop, J: Work<W>>(
     work: &mut J,
 ) -> Transacted<J::Value, J::Error>
     requires there { began_at at.home at.action (W.run service.old.world).past ≡ true }
-    ensures { ∥ RunsTop W.sees at (W.run service.old.world) (W.run service.new.world) result ∥₁ }
+    ensures runs { ∥ RunsTop W.sees at (W.run service.old.world) (W.run service.new.world) result ∥₁ }
+    ensures once { (done : Result J.Value J.Error) × IsOutcomeOf done result.outcome
+        × RunsOnce W.sees J.does (ends_top at.action) (W.run service.old.world)
+        (W.run service.new.world) work.old work.new done }
 {
     let mut at = at;
     let done = work_in::<Brand, W, J>(service, &mut at, work);

@@ -45,19 +45,28 @@ pub struct Transaction<'s, W: MakesOwnSteps + Drop, B: Begun> {
 
 /// Work of a transaction, or of a subaction in it.
 pub trait Work<W: MakesOwnSteps + Drop> {
+    ghost use Rattle.std.specs.Prelude.{Result};
+    ghost use Rattle.run_model.specs.Runs.{World};
+
     type Value: Drop;
 
     type Error: Drop + From<CallFault>;
 
+    /// That the work, at a run, gives a result, and how it and the run are then.
+    ghost does: { Self → World → Result Self.Value Self.Error → Self → World → Type 0 };
+
     /// Works in the action that it is given. After an error what it did is undone.
     fn run<B: Begun>(&mut self, tx: &mut Transaction<'_, W, B>) -> Result<Self::Value, Self::Error>
         ensures same_service { tx.new.service.ghost_name ≡ tx.old.service.ghost_name }
-        ensures same_action { tx.new.at.ghost_name ≡ tx.old.at.ghost_name };
+        ensures same_action { tx.new.at.ghost_name ≡ tx.old.at.ghost_name }
+        ensures does { does self.old (W.run tx.old.service.now.world) result self.new
+            (W.run tx.new.service.now.world) };
 }
 
 impl<'s, W: MakesOwnSteps + Drop, B: Begun> Transaction<'s, W, B> {
     ghost use Rattle.service.specs.Calling.{IsCall, IsReply, WaitsIf};
     ghost use Rattle.service.specs.Transacting.{CommitsCall, CommitsNoChild, Transacts};
+    ghost use Rattle.service.specs.Working.{CallsOnce, TransactsOnce};
 
     /// Makes an operation on an object at the action's home, and gives the reply.
     pub fn operate(&mut self, object: ObjectId, operation: Op) -> Result<Reply, CallFault>
@@ -80,6 +89,9 @@ impl<'s, W: MakesOwnSteps + Drop, B: Begun> Transaction<'s, W, B> {
             (W.run self.old.service.now.world) (W.run self.new.service.now.world)) }
         ensures undone { OnErr result (CommitsNoChild self.old.at.now.action
             (W.run self.old.service.now.world) (W.run self.new.service.now.world)) }
+        ensures once { CallsOnce W.sees J.does J.Error.from_gives self.old.at.now.action guardian
+            (W.run self.old.service.now.world) (W.run self.new.service.now.world)
+            work.old work.new result }
     {
         call_in(self.service, self.at, guardian, work)
     }
@@ -92,6 +104,9 @@ impl<'s, W: MakesOwnSteps + Drop, B: Begun> Transaction<'s, W, B> {
         ensures ended { Transacts W.sees (steps.NestedTop self.old.at.now.action)
             (W.run self.old.service.now.world) (W.run self.new.service.now.world) result
             self.old.at.now.left self.new.at.now.left }
+        ensures once { TransactsOnce W.sees J.does (steps.NestedTop self.old.at.now.action)
+            (W.run self.old.service.now.world) (W.run self.new.service.now.world)
+            work.old work.new result }
     {
         nest_in(self.service, self.at, alloc, work)
     }
@@ -113,6 +128,8 @@ pub(crate) fn work_in<B: Begun, W: MakesOwnSteps + Drop, J: Work<W>>(
     ensures reached { Includes B.start.reached at.new.reached.items }
     ensures works { ∥ Works W.sees B.start.action B.start.run (W.run service.new.world)
         B.start.left at.new.left ∥₁ }
+    ensures does { J.does work.old (W.run service.old.world) result work.new
+        (W.run service.new.world) }
 {
     let mut tx: Transaction<'_, W, B> = Transaction {
         service,

@@ -1,10 +1,13 @@
-use Rattle.std.proofs.Common.{refl, subst, sym, true, ◌≡◌}
+use Rattle.std.proofs.Common.{Err, Ok, inl, refl, subst, sym, true, ◌≡◌}
 use Rattle.run_model.specs.declared.step.Step.TheVariants as steps
 use Rattle.run_laws.proofs.Names.{eqb_self}
 use Rattle.run_model.specs.Actions.{is_committed}
-use Rattle.service.specs.Transacting.{began_at}
+use Rattle.service.specs.Calling.{ComesToNothing}
+use Rattle.service.specs.Transacting.{began_at, finishes, settles}
 use Rattle.service.proofs.Calls.{began_there, begins_by, sub_aborted, sub_worked, works_start}
 use Rattle.service.proofs.Undone.{if_error, none_committed_same, sub_undone}
+use Rattle.service.proofs.Going.{goes_wider, settles_finishes}
+use Rattle.service.proofs.Working.{failed_of, sub_ran}
 use Rattle.service.proofs.subactions.call_in.Goals as goal
 
 pub returns-in_err-sub-clause-works : goal.returns-in_err-sub-clause-works
@@ -90,3 +93,39 @@ returns-in-Err-clause-undone g c =
     sub_undone g.W.MakesOwnSteps.run g.W.MakesOwnSteps.sees g.W.MakesOwnSteps.leaves c.args.at.now.action c.work_in.new.at.action c.args.guardian c.args.service.now.world
     c.begin_sub.new.service.world (g.W.MakesOwnSteps.run c.work_in.new.service.world) (g.W.MakesOwnSteps.run c.abort_sub.new.service.world)
     c.in_ok-sub.sub _ c.work_in.new.at.left c.in_ok-sub.ensures.call c.work_in.ensures.action c.work_in.ensures.works c.abort_sub.ensures.ends.goes
+
+pub returns-in_err-sub-clause-once : goal.returns-in_err-sub-clause-once
+returns-in_err-sub-clause-once g c =
+    inl (c.in_err-sub.field-0.0, c.from_residual.ensures.1, c.in_err-sub.ensures.call.why, c.in_err-sub.ensures.call.same, refl)
+
+pub returns-in_err-commit_sub-in-Ok-clause-once : goal.returns-in_err-commit_sub-in-Ok-clause-once
+returns-in_err-commit_sub-in-Ok-clause-once g c =
+    let run = g.W.MakesOwnSteps.run in
+    let worked = run c.work_in.new.service.world in
+    let s = c.work_in.new.at.action in
+    let result = c.from_residual-in_err-commit_sub-in-Ok.result in
+    sub_ran run g.W.MakesOwnSteps.sees g.W.MakesOwnSteps.leaves g.J.Work.does g.J.Error.From.from_gives c.args.at.now.action c.args.guardian
+    c.args.service.now.world c.begin_sub.new.service.world worked (run c.commit_sub.new.service.world) c.in_ok-sub.sub s c.args.work.now c.work_in.new.work
+    c.work_in.result (Ok c.in-Ok.value) result c.in_ok-sub.ensures.call c.work_in.ensures.action c.in-Ok.is c.work_in.ensures.does
+    c.commit_sub.ensures.ends.goes
+    (failed_of g.J.Error.From.from_gives (ComesToNothing g.W.MakesOwnSteps.sees worked (steps.Commit s)) c.in-Ok.value result
+    c.in_err-commit_sub-in-Ok.field-0.0 c.from_residual-in_err-commit_sub-in-Ok.ensures.1 c.in_err-commit_sub-in-Ok.ensures.stopped)
+
+pub returns-in_ok-commit_sub-in-Ok-clause-once : goal.returns-in_ok-commit_sub-in-Ok-clause-once
+returns-in_ok-commit_sub-in-Ok-clause-once g c =
+    let run = g.W.MakesOwnSteps.run in
+    sub_ran run g.W.MakesOwnSteps.sees g.W.MakesOwnSteps.leaves g.J.Work.does g.J.Error.From.from_gives c.args.at.now.action c.args.guardian
+    c.args.service.now.world c.begin_sub.new.service.world (run c.work_in.new.service.world) (run c.commit_sub.new.service.world) c.in_ok-sub.sub
+    c.work_in.new.at.action c.args.work.now c.work_in.new.work c.work_in.result (Ok c.in-Ok.value) (Ok c.in-Ok.value) c.in_ok-sub.ensures.call
+    c.work_in.ensures.action c.in-Ok.is c.work_in.ensures.does c.commit_sub.ensures.ends.goes refl
+
+pub returns-in-Err-clause-once : goal.returns-in-Err-clause-once
+returns-in-Err-clause-once g c =
+    let run = g.W.MakesOwnSteps.run in
+    let worked = run c.work_in.new.service.world in
+    let new = run c.abort_sub.new.service.world in
+    let s = c.work_in.new.at.action in
+    sub_ran run g.W.MakesOwnSteps.sees g.W.MakesOwnSteps.leaves g.J.Work.does g.J.Error.From.from_gives c.args.at.now.action c.args.guardian
+    c.args.service.now.world c.begin_sub.new.service.world worked new c.in_ok-sub.sub s c.args.work.now c.work_in.new.work c.work_in.result
+    (Err c.in-Err.error) (Err c.in-Err.error) c.in_ok-sub.ensures.call c.work_in.ensures.action c.in-Err.is c.work_in.ensures.does
+    (goes_wider (settles s) (finishes s) worked new (settles_finishes s) c.abort_sub.ensures.ends.goes) (inl refl)

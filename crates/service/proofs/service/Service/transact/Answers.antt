@@ -1,8 +1,9 @@
-use Rattle.std.proofs.Common.{None, refl, subst, sym, true, ◌≡◌}
+use Rattle.std.proofs.Common.{None, inl, inr, refl, subst, sym, true, ◌≡◌}
 use Rattle.run_model.specs.declared.step.Step.TheVariants as steps
 use Rattle.run_laws.proofs.Names.{eqb_self}
 use Rattle.service.specs.Transacting.{began_at}
 use Rattle.service.proofs.Calls.{began_there, top_transacted, unbegun}
+use Rattle.service.proofs.Working.{ran_in}
 use Rattle.service.proofs.service.Service.transact.Goals as goal
 
 pub run_top-requires : goal.run_top-requires
@@ -16,13 +17,22 @@ run_top-requires g c =
           (eqb_self c.args.home));
     }
 
-pub returns-in-Ok : goal.returns-in-Ok
-returns-in-Ok g c =
+pub returns-in-Ok-clause-ended : goal.returns-in-Ok-clause-ended
+returns-in-Ok-clause-ended g c =
     let run = g.W.MakesOwnSteps.run in
     top_transacted run g.W.MakesOwnSteps.sees g.W.MakesOwnSteps.leaves c.args.home c.args.self.now.world c.begin_top.new.service.world (run c.run_top.new.service.world) c.in-Ok.at
-    c.run_top.result c.in-Ok.ensures.reached c.run_top.ensures c.in-Ok.ensures.call c.in-Ok.ensures.left
+    c.run_top.result c.in-Ok.ensures.reached c.run_top.ensures.runs c.in-Ok.ensures.call c.in-Ok.ensures.left
 
-pub returns-in-Err : goal.returns-in-Err
-returns-in-Err g c =
+pub returns-in-Err-clause-ended : goal.returns-in-Err-clause-ended
+returns-in-Err-clause-ended g c =
     unbegun g.W.MakesOwnSteps.run g.W.MakesOwnSteps.sees g.W.MakesOwnSteps.leaves (steps.Top c.args.home) c.args.self.now.world c.begin_top.new.service.world c.in-Err.fault None None
     c.in-Err.ensures.call refl
+
+pub returns-in-Ok-clause-once : goal.returns-in-Ok-clause-once
+returns-in-Ok-clause-once g c =
+    let run = g.W.MakesOwnSteps.run in
+    inr (ran_in run g.W.MakesOwnSteps.sees g.W.MakesOwnSteps.leaves g.J.Work.does (steps.Top c.args.home) c.args.self.now.world c.begin_top.new.service.world (run c.run_top.new.service.world)
+    c.in-Ok.at c.args.work.now c.run_top.new.work c.run_top.result.outcome c.in-Ok.ensures.call c.run_top.ensures.once)
+
+pub returns-in-Err-clause-once : goal.returns-in-Err-clause-once
+returns-in-Err-clause-once g c = inl (c.in-Err.fault, refl, c.in-Err.ensures.call.same, refl)

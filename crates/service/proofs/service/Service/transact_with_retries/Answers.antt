@@ -11,18 +11,18 @@ pub returns-then-not-go_on_after : goal.returns-then-not-go_on_after
 returns-then-not-go_on_after g c =
     let run = g.W.MakesOwnSteps.run in
     last_so g.W.MakesOwnSteps.sees (goes_on g.J.Error.MayPass.obstacle c.args.retries.now) c.args.home c.loop.counter c.args.retries.now.times (run c.args.self.now.world)
-    (run c.loop.self.world) (run c.transact-ended.new.self.world) c.transact-ended.result c.loop-test.true c.loop.invariant c.transact-ended.ensures
+    (run c.loop.self.world) (run c.transact-ended.new.self.world) c.transact-ended.result c.loop-test.true c.loop.invariant c.transact-ended.ensures.ended
     (sym c.go_on_after.ensures ∙ c.if-not-go_on_after.true)
 
 pub loop-preserved : goal.loop-preserved
 loop-preserved g c =
     let run = g.W.MakesOwnSteps.run in
     goes_on_more g.W.MakesOwnSteps.sees (goes_on g.J.Error.MayPass.obstacle c.args.retries.now) c.args.home c.loop.counter (run c.args.self.now.world) (run c.loop.self.world)
-    (run c.transact-ended.new.self.world) c.transact-ended.result c.loop.invariant c.transact-ended.ensures
+    (run c.transact-ended.new.self.world) c.transact-ended.result c.loop.invariant c.transact-ended.ensures.ended
     (sym c.go_on_after.ensures ∙ c.if-not-go_on_after.false)
 
 pub returns : goal.returns
 returns g c =
     let run = g.W.MakesOwnSteps.run in
     last_of g.W.MakesOwnSteps.sees (goes_on g.J.Error.MayPass.obstacle c.args.retries.now) c.args.home c.loop.counter c.args.retries.now.times (run c.args.self.now.world)
-    (run c.loop.self.world) (run c.transact.new.self.world) c.transact.result (omega arith) c.loop-test.false c.loop.invariant c.transact.ensures
+    (run c.loop.self.world) (run c.transact.new.self.world) c.transact.result (omega arith) c.loop-test.false c.loop.invariant c.transact.ensures.ended
