@@ -10,7 +10,7 @@ use Rattle.stepping.specs.Stepping.{Leaves}
 use Rattle.service.specs.Calling.{ComesToNothing, IsCall}
 use Rattle.service.specs.Opening.{BeganAt}
 use Rattle.service.specs.Transacting.{Goes, ends_top, finishes}
-use Rattle.service.specs.Working.{CallsOnce, IsOutcomeOf, IsResultOf, RunsIn, RunsOnce}
+use Rattle.service.specs.Working.{CallsOnce, Does, IsOutcomeOf, IsResultOf, RunsIn, RunsOnce}
 use Rattle.service.specs.declared.fault.CallFault.{CallFault}
 use Rattle.service.specs.declared.outcome.Outcome.{Outcome}
 use Rattle.service.specs.declared.place.Place.{Place}
@@ -22,7 +22,7 @@ pub failed_of : {T E : Type 0} (comes : CallFault → E → Type 0) (stopped : C
 failed_of comes stopped x (Ok y) fault h why = absurd h
 failed_of comes stopped x (Err e) fault h why = inr (refl, fault, h, why)
 
-module _ {M : Type 0} (run : M → World) (sees : Sees) (leaves : Leaves M) {J T E : Type 0} (does : J → World → Result T E → J → World → Type 0) where
+module _ {M : Type 0} (run : M → World) (sees : Sees) (leaves : Leaves M) {J T E : Type 0} (does : Does J T E) where
   -- in a top action that began
   pub ran_in : (first : Step) (old begun : M) (new : World) (at : Place) (before after : J) (outcome : Outcome T E)
       → IsCall run sees leaves first BeganAt old begun (Ok at)
@@ -41,16 +41,16 @@ module _ {M : Type 0} (run : M → World) (sees : Sees) (leaves : Leaves M) {J T
       → IsResultOf comes (ComesToNothing sees worked (steps.Commit s)) done result → CallsOnce sees does comes a g (run old) new before after result
   sub_ran comes a g old begun worked new sub s before after gave done result call same is ran goes of =
       inr (
-      done,
-      record {
-        action = sub.action;
-        begun = run begun;
-        begins = begins_by run sees leaves (steps.Call a g) old begun sub call;
-        runs = record {
-          worked = worked;
-          ran = subst (λ r. does before (run begun) r after worked) is ran;
-          ended = subst (λ n. Goes sees (finishes n) worked new) same goes;
-        };
-      },
-      subst (λ n. IsResultOf comes (ComesToNothing sees worked (steps.Commit n)) done result) same of,
+        done,
+        record {
+          action = sub.action;
+          begun = run begun;
+          begins = begins_by run sees leaves (steps.Call a g) old begun sub call;
+          runs = record {
+            worked = worked;
+            ran = subst (λ r. does before (run begun) r after worked) is ran;
+            ended = subst (λ n. Goes sees (finishes n) worked new) same goes;
+          };
+        },
+        subst (λ n. IsResultOf comes (ComesToNothing sees worked (steps.Commit n)) done result) same of,
       )

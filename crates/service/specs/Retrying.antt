@@ -1,9 +1,11 @@
 -- When a transaction is made again, and how often.
 use Rattle.std.specs.Prelude.{◌≡◌, ◌⊎◌, ℕ, zero, suc, Bool, true, false, Option, Some, None, is_some, if◌then◌else◌}
+use Rattle.run_model.specs.declared.step.Step.TheVariants as steps
 use Rattle.run_model.specs.Runs.{World}
 use Rattle.stepping.specs.Beside.{Sees}
 use Rattle.service.specs.Outcomes.{fault_passes}
 use Rattle.service.specs.Transacting.{TransactsAt}
+use Rattle.service.specs.Working.{Does, TransactsOnce}
 use Rattle.service.specs.declared.fault.CallFault.{CallFault}
 use Rattle.service.specs.declared.fault.CallFault.TheVariants.{Refused, Waits, Failed}
 use Rattle.service.specs.declared.outcome.Cause.{Cause}
@@ -49,15 +51,23 @@ module _ {E : Type 0} (obstacle : E → Option Obstacle) (retries : Retries) whe
 
 -- ---- transactions one after another
 
-module _ {T E : Type 0} (sees : Sees) (again : Transacted T E → Bool) (home : ℕ) where
-  -- A transaction ended so, and is to be made again.
-  pub record IsRepeated (old mid : World) : Type 0 where
+module _ {J T E : Type 0} (sees : Sees) (does : Does J T E) (again : Transacted T E → Bool)
+    (home : ℕ) where
+  -- A transaction of this work ended so.
+  pub record IsMadeOnce (old new : World) (before after : J) (ended : Transacted T E) : Type 0 where
+    pub transacts : TransactsAt sees home old new ended
+    pub once : TransactsOnce sees does (steps.Top home) old new before after ended.outcome
+
+  -- One did, and is to be made again.
+  pub record IsRepeated (old mid : World) (before between : J) : Type 0 where
     pub ended : Transacted T E
-    pub transacts : TransactsAt sees home old mid ended
+    pub made : IsMadeOnce old mid before between ended
     pub named : again ended ≡ true
 
   -- It was made again as often as it was to be, but this often at most; the last one ended so.
-  abbrev pub Retried : ℕ → World → World → Transacted T E → Type 0
-  Retried zero old new last = TransactsAt sees home old new last
-  Retried (suc more) old new last = ∥ TransactsAt sees home old new last × (again last ≡ false)
-      ⊎ ((mid : World) × IsRepeated old mid × Retried more mid new last) ∥₁
+  abbrev pub Retried : ℕ → World → World → J → J → Transacted T E → Type 0
+  Retried zero old new before after last = IsMadeOnce old new before after last
+  Retried (suc more) old new before after last =
+      ∥ IsMadeOnce old new before after last × (again last ≡ false)
+      ⊎ ((mid : World) × (between : J) × IsRepeated old mid before between
+      × Retried more mid new between after last) ∥₁

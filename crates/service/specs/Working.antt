@@ -13,6 +13,14 @@ use Rattle.service.specs.declared.outcome.Cause.TheVariants.{Work, Vote, Step as
 use Rattle.service.specs.declared.outcome.Outcome.{Outcome}
 use Rattle.service.specs.declared.outcome.Outcome.TheVariants.{Aborted, Committed}
 
+-- That work of this type, at a run, gives a result with this value or error, and how it and the run are then.
+abbrev pub Does : Type 0 → Type 0 → Type 0 → Type 1
+Does J T E = J → World → Result T E → J → World → Type 0
+
+-- where nothing is stated of it
+abbrev pub Anything : {J T E : Type 0} → Does J T E
+Anything before old result after new = Unit {0}
+
 -- A call gives the value or the error of the work. If the work gave a value, the error may also come of a fault that
 -- kept the subaction from its commit.
 abbrev pub IsResultOf : {T E : Type 0} → (CallFault → E → Type 0) → (CallFault → Type 0)
@@ -28,8 +36,7 @@ IsOutcomeOf done (Aborted (Work error)) = done ≡ Err error
 IsOutcomeOf done (Aborted Vote) = is_ok done ≡ true
 IsOutcomeOf done (Aborted (ByStep fault)) = is_ok done ≡ true
 
-module _ {J T E : Type 0} (sees : Sees)
-    (does : J → World → Result T E → J → World → Type 0) where
+module _ {J T E : Type 0} (sees : Sees) (does : Does J T E) where
   -- The work ran once, and gave this. Then came steps of this kind, and no other.
   pub record RunsOnce (ends : Step → Bool) (begun new : World) (before after : J)
       (done : Result T E) : Type 0 where

@@ -124,8 +124,9 @@ impl<W: MakesOwnSteps + Drop> Service<W> {
     ) -> Transacted<J::Value, J::Error>
     where
         J::Error: MayPass,
-        ensures { Retried W.sees (goes_on J.Error.obstacle retries.now) home retries.now.times
-            (W.run self.old.world) (W.run self.new.world) result }
+        ensures { Retried W.sees J.does (goes_on J.Error.obstacle retries.now) home
+            retries.now.times (W.run self.old.world) (W.run self.new.world) work.old work.new
+            result }
     {
         for _ in 0..retries.times {
             let ended = self.transact(alloc, home, work);

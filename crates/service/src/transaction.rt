@@ -45,15 +45,14 @@ pub struct Transaction<'s, W: MakesOwnSteps + Drop, B: Begun> {
 
 /// Work of a transaction, or of a subaction in it.
 pub trait Work<W: MakesOwnSteps + Drop> {
-    ghost use Rattle.std.specs.Prelude.{Result};
-    ghost use Rattle.run_model.specs.Runs.{World};
+    ghost use Rattle.service.specs.Working.{Anything, Does};
 
     type Value: Drop;
 
     type Error: Drop + From<CallFault>;
 
-    /// That the work, at a run, gives a result, and how it and the run are then.
-    ghost does: { Self → World → Result Self.Value Self.Error → Self → World → Type 0 };
+    /// That the work, at a run, gives a result, and how it and the run are then. If this is not stated, it is anything.
+    ghost does: { Does Self Self.Value Self.Error } = { Anything };
 
     /// Works in the action that it is given. After an error what it did is undone.
     fn run<B: Begun>(&mut self, tx: &mut Transaction<'_, W, B>) -> Result<Self::Value, Self::Error>

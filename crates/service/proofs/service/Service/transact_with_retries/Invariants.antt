@@ -5,5 +5,5 @@ use Rattle.service.proofs.service.Service.transact_with_retries.Given as goal
 -- each attempt so far is to be followed by another
 abbrev pub invariant-loop : goal.invariant-loop
 invariant-loop g l =
-    GoesOn {T = g.row.J-Value.Denot} g.W.MakesOwnSteps.sees (goes_on g.J.Error.MayPass.obstacle l.retries) l.home l.counter (g.W.MakesOwnSteps.run l.fn.self.world)
-    (g.W.MakesOwnSteps.run l.self.world)
+    GoesOn g.W.MakesOwnSteps.sees g.J.Work.does (goes_on g.J.Error.MayPass.obstacle l.retries) l.home l.counter (g.W.MakesOwnSteps.run l.fn.self.world)
+    (g.W.MakesOwnSteps.run l.self.world) l.fn.work l.work
