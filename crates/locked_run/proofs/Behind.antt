@@ -1,6 +1,6 @@
--- A look together with a receipt, and what comes behind it.
+-- A look together with what was seen earlier, and what comes behind that.
 use Rattle.std.proofs.Common.{Bool, List, None, Option, Some, [], ap, cond, false, refl, subst, suc, sym, true, ℕ, ◌-◌, ◌++◌, ◌∙◌, ◌∷◌, ◌≡◌, map, arith}
-use Rattle.std.specs.Prelude.{is_some, IfOk, IfSome, MatchOption, Result, Ok, Err}
+use Rattle.std.specs.Prelude.{is_some}
 use Rattle.atomic_table.specs.Seated.{TableId}
 use Rattle.one_run.specs.declared.piece.Piece.{Piece}
 use Rattle.one_run.specs.declared.run.Part.{Part}
@@ -15,10 +15,9 @@ use Rattle.run_model.specs.Openings.{Opening}
 use Rattle.run_model.specs.Runs.{IsRun, is_accepted}
 use Rattle.layer_contracts.specs.Forests.{ForestState}
 use Rattle.layer_contracts.specs.Guardians.{GuardianState}
-use Rattle.layer_contracts.specs.declared.guardian.Fault.{Fault}
 use Rattle.shared_run.specs.Places.{touches}
 use Rattle.shared_run.proofs.Histories.{history_stays, registry_stays}
-use Rattle.locked_run.specs.Acting.{IsAnswered, has_added, outcome_of, run_before}
+use Rattle.locked_run.specs.Acting.{IsAnswered, run_before}
 use Rattle.locked_run.specs.Behind.{GoesOnFrom, IsBehind, LooksBehind}
 use Rattle.locked_run.specs.Parts.{InHeld, IsHeld, IsHeldThere, guardian_part, number_of}
 use Rattle.locked_run.proofs.Together.{goes_further}
@@ -75,6 +74,33 @@ learned_there {opening} {stands = stands} {history = history} new z of_table loo
       kept = z.kept ∙ ap (λ l. map (λ e. (e.stamp, e.event)) l) (sym same);
     }
 
+-- a guardian whose part has told what it has seen stands as it stood
+pub told : {opening : Opening} {table : TableId} {stands : GuardianState → Type 0} {old : Part Event} {left : ℕ} {history : List Stamped} (new : Part Event)
+    → IsHeld opening table stands old left history → new.token.table_id ≡ table → new.token.me.0 ≡ old.token.me.0 → IsHeld opening table stands new left history
+told new z of_table same = record {
+  number = z.number;
+  past = z.past;
+  allowed = z.allowed;
+  of_table = of_table;
+  parts = same ∙ z.parts;
+  enough = z.enough;
+  run = z.run;
+  here = z.here;
+  first = z.first;
+  last = z.last;
+  kept = z.kept;
+}
+
+-- and so does the registry
+pub told_there : {opening : Opening} {table : TableId} {stands : ForestState → Type 0} {old : Part Event} {history : List Stamped} (new : Part Event)
+    → IsHeldThere opening table stands old history → new.token.table_id ≡ table → new.token.me.0 ≡ old.token.me.0 → IsHeldThere opening table stands new history
+told_there new z of_table same =
+    record { past = z.past; left = z.left; of_table = of_table; parts = same ∙ z.parts; run = z.run; there = z.there; kept = z.kept }
+
+-- what one part has seen is a run, if it knows one
+pub seen_run : (opening : Opening) (p : Piece Event) (v : List (Piece Event)) → v ≡ p ∷ [] → IsRun opening p.seen → IsRun opening (seen_of v)
+seen_run opening p v is run = subst (λ l. IsRun opening l) (sym (ap seen_of is)) run
+
 -- nothing touched the part until it looked
 pub looked_since : {opening : Opening} {earlier past : List Event} {place : Option ℕ} {left : ℕ} (v w : List (Piece Event))
     → v ≡ record { place = place; left = left; seen = past } ∷ [] → LooksBehind opening earlier v w → GoesOn touches place (seen_of v) (seen_of w)
@@ -83,7 +109,7 @@ looked_since {past = past} {place = place} v w is looks =
     let now : seen_of w ≡ looks.past = ap seen_of (looks.seen ∙ ap (λ u. with_seen looks.past u) is) in
     subst (λ l. GoesOn touches place l (seen_of w)) (sym (ap seen_of is)) (subst (λ l. GoesOn touches place past l) (sym now) still)
 
--- and the run that it sees goes on from the receipt's
+-- and the run that it sees goes on from what was seen earlier
 pub looked_on : {opening : Opening} {earlier : List Event} {p : Piece Event} (v w : List (Piece Event)) → v ≡ p ∷ [] → LooksBehind opening earlier v w
     → IsBehind earlier (seen_of w)
 looked_on {earlier = earlier} v w is looks =
@@ -125,22 +151,3 @@ pub answered_from : {opening : Opening} {step : Step} {answer : Answer} {receipt
     (a : IsAnswered opening step answer receipt seen) → GoesOn touches place old (run_before (is_some receipt) seen) → GoesOnFrom earlier old → GoesOnFrom earlier a.past
 answered_from None a since behind = tt
 answered_from (Some e) a since behind = answered_behind a since behind
-
-module _ {A : Type 0} (opening : Opening) (step : Step) (answer : A → Answer) (receipt : A → Option (List Event)) (E : Type 0) (earlier : Option (List Event)) (seen : List Event)
-    {old : List Event} {place : Option ℕ} where
-  -- The same of what a call answers.
-  pub call_from : (result : Result (Option A) Fault) → IfOk result (λ r. MatchOption r E (λ a. IsAnswered opening step (answer a) (receipt a) seen))
-      → GoesOn touches place old (run_before (has_added (outcome_of receipt result)) seen) → GoesOnFrom earlier old
-      → IfOk result (λ r. IfSome r (λ a. (now : List Event) × (at : IsAnswered opening step (answer a) (receipt a) now) × GoesOnFrom earlier at.past))
-  call_from (Err fault) answered since behind = tt
-  call_from (Ok None) answered since behind = tt
-  call_from (Ok (Some a)) answered since behind = (seen, answered, answered_from earlier answered since behind)
-
-  -- and of one that has no receipt
-  pub call_there : (result : Result (Option A) Fault)
-      → IfOk result (λ r. MatchOption r E (λ a. IsAnswered opening step (answer a) (receipt a) seen × (receipt a ≡ None)))
-      → GoesOn touches place old (run_before (has_added (outcome_of receipt result)) seen) → GoesOnFrom earlier old
-      → IfOk result (λ r. IfSome r (λ a. (now : List Event) × (at : IsAnswered opening step (answer a) (receipt a) now) × GoesOnFrom earlier at.past))
-  call_there (Err fault) answered since behind = tt
-  call_there (Ok None) answered since behind = tt
-  call_there (Ok (Some a)) answered since behind = (seen, answered.0, answered_from earlier answered.0 since behind)

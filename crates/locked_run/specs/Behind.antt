@@ -1,4 +1,4 @@
--- What comes behind a receipt.
+-- What comes behind what was seen of a run.
 use Rattle.std.specs.Prelude.{◌≡◌, List, Option, None, Some}
 use Rattle.one_run.specs.declared.piece.Piece.{Piece}
 use Rattle.one_run.specs.Pieces.{AllFit, GoesOn, with_seen}
@@ -16,7 +16,7 @@ abbrev pub GoesOnFrom : Option (List Event) → List Event → Type 0
 GoesOnFrom None past = Unit {0}
 GoesOnFrom (Some earlier) past = IsBehind earlier past
 
--- what a look together with a receipt tells: the run so far, which goes on from the receipt's
+-- what a look together with what was seen earlier tells: the run so far, which goes on from there
 pub record LooksBehind (opening : Opening) (earlier : List Event)
     (v w : List (Piece Event)) : Type 0 where
   pub past : List Event

@@ -106,6 +106,12 @@ pub record Moved (added : Bool) (v w : List (Piece Event)) : Type 0 where
   pub past : List Event
   pub is : w ≡ with_seen past (if added then with_less v else v)
 
+-- What was seen of the table's run is a run, and has no place.
+pub record IsSeen (opening : Opening) (table : TableId) (part : Part Event) : Type 0 where
+  pub of_table : part.token.table_id ≡ table
+  pub parts : part.token.me.0 ≡ witness (seen_of part.token.me.0) ∷ []
+  pub run : IsRun opening (seen_of part.token.me.0)
+
 -- A receipt has seen a run, which is as long as its number says.
 pub record IsReceipt (opening : Opening) (table : TableId) (part : Part Event) (number : ℕ)
     : Type 0 where

@@ -7,7 +7,7 @@ ghost use Rattle.run_model.specs.Runs.{IsRun};
 ghost use Rattle.shared_run.specs.Places.{touches};
 ghost use Rattle.locked_run.specs.Behind.{LooksBehind};
 
-use crate::shared::{OfRun, Receipt, Shared};
+use crate::shared::{OfRun, Seen, Shared};
 use one_run::Part;
 use run_model::Event;
 
@@ -22,11 +22,11 @@ pub(crate) fn look_alone<K: OfRun>(shared: &Shared<K>, one: &mut Part<Event>) ->
     all
 }
 
-/// Looks at the run together with a receipt.
+/// Looks at the run together with what was seen of it earlier.
 pub(crate) fn look_behind<K: OfRun>(
     shared: &Shared<K>,
     part: &mut Part<Event>,
-    earlier: &mut Receipt<K>,
+    earlier: &mut Seen<K>,
 )
     requires table { part.old.token.table_id ≡ K.table }
     requires one { (piece : Piece Event) × (part.old.token.me.0 ≡ piece ∷ []) }
@@ -34,9 +34,9 @@ pub(crate) fn look_behind<K: OfRun>(
     ensures looks { LooksBehind K.opening earlier.old part.old.token.me.0 part.new.token.me.0 }
     ensures same { earlier.new ≡ earlier.old }
 {
-    shared.run.join(part, earlier.tell(shared));
+    shared.run.join(part, earlier.copy(shared).into_part());
     shared.run.look(part);
-    // what the receipt told stays behind
+    // what was joined stays behind
     shared.run.split(part);
 }
 

@@ -10,7 +10,7 @@ ghost use Rattle.one_run.specs.Pieces.{GoesOn, seen_of};
 ghost use Rattle.shared_run.specs.Places.{touches};
 
 use crate::gathering::look_behind;
-use crate::shared::{OfRun, Receipt, Shared};
+use crate::shared::{OfRun, Seen, Shared};
 use crate::stored::StoredHistory;
 use layer_contracts::{Forest, Guardian};
 use one_run::Part;
@@ -91,13 +91,21 @@ impl<K: OfRun, R: Forest> HeldRegistry<K, R> {
         named(&self.registry, step)
     }
 
-    /// Looks at the run together with a receipt, so that what it knows goes on from there.
-    pub fn learn(&mut self, shared: &Shared<K>, earlier: &mut Receipt<K>)
+    /// Looks at the run together with what was seen of it, so that what it knows goes on from there.
+    pub fn learn(&mut self, shared: &Shared<K>, earlier: &mut Seen<K>)
         ensures behind { IsBehind earlier.old self.new }
         ensures since { GoesOn touches (Some 0) self.old self.new }
         ensures same { earlier.new ≡ earlier.old }
     {
         look_behind(shared, &mut self.part, earlier);
+    }
+
+    /// The run as it was when a step took the registry last.
+    pub fn seen(&mut self, shared: &Shared<K>) -> Seen<K>
+        ensures seen { result ≡ self.old }
+        ensures same { self.new ≡ self.old }
+    {
+        shared.seen_by(&mut self.part)
     }
 
     /// Gives up the part of the registry, the registry, and the events that it has kept.
@@ -152,14 +160,22 @@ impl<K: OfRun, G: Guardian> Held<K, G> {
         self.guardian.number()
     }
 
-    /// Looks at the run together with a receipt, so that what it knows goes on from there.
-    pub fn learn(&mut self, shared: &Shared<K>, earlier: &mut Receipt<K>)
+    /// Looks at the run together with what was seen of it, so that what it knows goes on from there.
+    pub fn learn(&mut self, shared: &Shared<K>, earlier: &mut Seen<K>)
         ensures behind { IsBehind earlier.old self.new.seen }
         ensures since { GoesOn touches (Some (suc self.old.number)) self.old.seen self.new.seen }
         ensures kept { self.new ≡ record self.old { seen = self.new.seen } }
         ensures same { earlier.new ≡ earlier.old }
     {
         look_behind(shared, &mut self.part, earlier);
+    }
+
+    /// The run as it was when the guardian was named last.
+    pub fn seen(&mut self, shared: &Shared<K>) -> Seen<K>
+        ensures seen { result ≡ self.old.seen }
+        ensures same { self.new ≡ self.old }
+    {
+        shared.seen_by(&mut self.part)
     }
 
     /// Gives up what it knows of the run to another part, and the guardian with the events that it

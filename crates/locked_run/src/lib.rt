@@ -23,5 +23,5 @@ pub use beginning::{Start, begin};
 pub use closing::{CloseFault, Ended, Ends, close_all};
 pub use held::{Held, HeldRegistry};
 pub use laws::stamps_rise;
-pub use shared::{Answered, Deed, Drawing, OfRun, Receipt, Shared};
+pub use shared::{Answered, Deed, Drawing, OfRun, Receipt, Seen, Shared};
 pub use stored::StoredHistory;

@@ -1,12 +1,13 @@
 //! The run to which all that stands under locks belongs.
 ghost use Rattle.std.specs.Prelude.{◌≡◌, ◌∷◌, [], ◌<◌, None, length};
-ghost use Rattle.one_run.specs.Pieces.{first_left, witness};
+ghost use Rattle.one_run.specs.declared.piece.Piece.{Piece};
+ghost use Rattle.one_run.specs.Pieces.{first_left, seen_of, witness};
 ghost use Rattle.one_run.specs.Rules.{Adds, MayAdd};
+ghost use Rattle.run_model.specs.declared.history.Event.{Event};
 ghost use Rattle.run_model.specs.Openings.{opening_in};
 ghost use Rattle.run_model.specs.Runs.{IsRun};
 ghost use Rattle.shared_run.specs.Places.{touches};
-ghost use Rattle.locked_run.specs.Parts.{AreOfOne, IsReceipt};
-ghost use Rattle.one_run.specs.Pieces.{seen_of};
+ghost use Rattle.locked_run.specs.Parts.{AreOfOne, IsReceipt, IsSeen};
 
 use layer_contracts::Draw;
 use one_run::Part;
@@ -69,13 +70,25 @@ impl<K: OfRun> Shared<K> {
         }
     }
 
-    /// Two receipts, of whatever threads, are of one run.
-    pub fn compare(&self, one: Receipt<K>, other: Receipt<K>)
+    /// What was seen in two threads, or twice in one, is of one run.
+    pub fn compare(&self, one: Seen<K>, other: Seen<K>)
         ensures { AreOfOne K.opening one other }
     {
         let mut part = one.into_part();
         self.run.join(&mut part, other.into_part());
         self.run.look(&mut part);
+    }
+
+    /// What a part has seen of the run. The part stays as it is.
+    pub(crate) fn seen_by(&self, part: &mut Part<Event>) -> Seen<K>
+        requires table { part.old.token.table_id ≡ K.table }
+        requires one { (piece : Piece Event) × (part.old.token.me.0 ≡ piece ∷ []) }
+        requires run { IsRun K.opening (seen_of part.old.token.me.0) }
+        ensures table { part.new.token.table_id ≡ K.table }
+        ensures same { part.new.token.me.0 ≡ part.old.token.me.0 }
+        ensures seen { result ≡ seen_of part.old.token.me.0 }
+    {
+        Seen::new(self.run.tell(part))
     }
 }
 
@@ -97,6 +110,56 @@ impl<'a, K: OfRun, T: Deed> Draw for Drawing<'a, K, T> {
 
     fn draw(&mut self) -> u64 {
         self.shared.run.add(&mut self.part)
+    }
+}
+
+/// What was seen of the run, which goes on from there. Contracts see it as these events.
+#[derive(Drop)]
+pub struct Seen<K: OfRun> {
+    part: Part<Event>,
+    of: PhantomData<K>,
+}
+
+impl<K: OfRun> Model for Seen<K> {
+    ghost use Rattle.std.specs.Prelude.{List};
+    ghost use Rattle.run_model.specs.declared.history.Event.{Event};
+    ghost use Rattle.one_run.specs.Pieces.{seen_of};
+    ghost use Rattle.locked_run.specs.Parts.{IsSeen};
+
+    ghost Value = { List Event };
+
+    ghost view = { λ s. seen_of s.part.token.me.0 };
+
+    ghost invariant = { λ s. IsSeen K.opening K.table s.part };
+}
+
+impl<K: OfRun> Seen<K> {
+    /// What a part has seen that has no place.
+    pub(crate) fn new(part: Part<Event>) -> Seen<K>
+        requires { IsSeen K.opening K.table part }
+        ensures { result ≡ seen_of part.token.me.0 }
+    {
+        Seen {
+            part,
+            of: PhantomData,
+        }
+    }
+
+    /// Gives up what it knows of the run.
+    pub(crate) fn into_part(self) -> Part<Event>
+        ensures table { result.token.table_id ≡ K.table }
+        ensures seen { result.token.me.0 ≡ witness self ∷ [] }
+    {
+        let Seen { part, of: _ } = self;
+        part
+    }
+
+    /// The same once more, perhaps for another thread.
+    pub fn copy(&mut self, shared: &Shared<K>) -> Seen<K>
+        ensures copied { result ≡ self.old }
+        ensures same { self.new ≡ self.old }
+    {
+        shared.seen_by(&mut self.part)
     }
 }
 
@@ -147,22 +210,12 @@ impl<K: OfRun> Receipt<K> {
         part
     }
 
-    /// A second receipt of the same event.
-    pub fn copy(&mut self, shared: &Shared<K>) -> Receipt<K>
-        ensures copied { result ≡ self.old }
+    /// The run that ends with its event.
+    pub fn seen(&mut self, shared: &Shared<K>) -> Seen<K>
+        ensures seen { result ≡ self.old }
         ensures same { self.new ≡ self.old }
     {
-        let number = self.number;
-        Receipt::new(self.tell(shared), number)
-    }
-
-    /// Tells what it knows of the run.
-    pub(crate) fn tell(&mut self, shared: &Shared<K>) -> Part<Event>
-        ensures table { result.token.table_id ≡ K.table }
-        ensures known { result.token.me.0 ≡ witness self.old ∷ [] }
-        ensures same { self.new ≡ self.old }
-    {
-        shared.run.tell(&mut self.part)
+        shared.seen_by(&mut self.part)
     }
 
     /// The number of its event in the run.
