@@ -2,7 +2,7 @@
 use Rattle.std.specs.Prelude.{◌≡◌, List, [], ◌∷◌, ◌++◌, Result, Ok, Err, option_to_list}
 use Rattle.run_model.specs.declared.answer.Answer.{Answer}
 use Rattle.run_model.specs.declared.history.Event.{Event}
-use Rattle.locked_run.specs.declared.shared.Answered.{Answered}
+use Rattle.runtime.specs.declared.answered.Answered.{Answered}
 
 -- the event of a receipt: the last of the run that it has seen
 abbrev pub event_of : List Event → List Event

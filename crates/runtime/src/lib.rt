@@ -4,6 +4,7 @@
 //! definitions at a run, and all threads make one run (`locked_run`). `op_wait` waits until an operation is granted.
 #![tactic(auto)]
 
+mod answered;
 mod behind;
 mod fault;
 mod gate;
@@ -12,8 +13,9 @@ mod place;
 mod runtime;
 mod waiting;
 
+pub use answered::Answered;
 pub use fault::StepFault;
 pub use gate::{Gate, OpenGate};
-pub use locked_run::{Answered, CloseFault, Ended, Ends, OfRun, Receipt, Start, StoredHistory};
+pub use locked_run::{CloseFault, Ended, Ends, OfRun, Receipt, Seen, Start, StoredHistory};
 pub use patience::{Endless, Patience};
 pub use runtime::Runtime;

@@ -3,11 +3,13 @@ ghost use Rattle.std.specs.Prelude.{◌≡◌, ◌⊎◌, ◌≤◌, [], false, 
 ghost use Rattle.run_model.specs.Openings.{opening_in};
 ghost use Rattle.run_model.specs.declared.step.Step.TheVariants.{Op};
 ghost use Rattle.world_steps.specs.Standings.{IsWorld};
+ghost use Rattle.locked_run.specs.Acting.{IsAnswered};
 ghost use Rattle.locked_run.specs.Closing.{IsClosed, IsUnclosed};
 ghost use Rattle.locked_run.specs.Parts.{AreOfOne};
-ghost use Rattle.runtime.specs.Answering.{IsAnsweredBehind, IsAnsweredFrom, IsAnsweredOnce};
+ghost use Rattle.runtime.specs.Answering.{IsAnsweredBehind, IsAnsweredFrom};
 ghost use Rattle.runtime.specs.Waiting.{sleeps};
 
+use crate::answered::Answered;
 use crate::behind::{guardian_behind, one_behind, registry_behind, two_behind};
 use crate::fault::StepFault;
 use crate::gate::{Gate, action_of};
@@ -16,7 +18,7 @@ use crate::place::Place;
 use crate::waiting::sleeps;
 use layer_contracts::{Forest, Guardian};
 use locked_run::{
-    Answered, CloseFault, Ends, Held, HeldRegistry, OfRun, Receipt, Shared, Start, begin, close_all,
+    CloseFault, Ends, Held, HeldRegistry, OfRun, Receipt, Seen, Shared, Start, begin, close_all,
 };
 use run_model::{Name, ObjectId, Op, Step};
 use std::alloc::{AllocError, Global};
@@ -63,24 +65,24 @@ impl<K: OfRun, R: Forest, G: Guardian, P: Gate> Runtime<K, R, G, P> {
         })
     }
 
-    /// Makes one step. The answer is that of the step at the run of all threads; an accepted step comes with a
-    /// receipt, and wakes the operations that wait at the guardians that it names. After an error all stand where
-    /// they stood.
+    /// Makes one step. The answer is that of the step at the run of all threads, and comes with what was seen of that
+    /// run. An accepted step has a receipt too, and wakes the operations that wait at the guardians that it names.
+    /// After an error all stand where they stood.
     pub fn step<H: Wait>(&self, rt: &H, step: &Step) -> Result<Answered<K>, StepFault>
-        ensures { IfOk result (λ a. IsAnsweredOnce K.opening step.now a.answer a.receipt) }
+        ensures { IfOk result (λ a. IsAnswered K.opening step.now a.answer a.receipt a.seen) }
     {
         self.until_made(rt, None, step)
     }
 
-    /// Makes one step behind a receipt, as `step`: the run at which it is answered goes on from the receipt's.
+    /// Makes one step behind what was seen, as `step`: the run at which it is answered goes on from there.
     pub fn step_behind<H: Wait>(
         &self,
         rt: &H,
-        earlier: &mut Receipt<K>,
+        earlier: &mut Seen<K>,
         step: &Step,
     ) -> Result<Answered<K>, StepFault>
         ensures answered { IfOk result
-            (λ a. IsAnsweredBehind K.opening earlier.old step.now a.answer a.receipt) }
+            (λ a. IsAnsweredBehind K.opening earlier.old step.now a.answer a.receipt a.seen) }
         ensures same { earlier.new ≡ earlier.old }
     {
         let copy = earlier.copy(&self.shared);
@@ -99,8 +101,8 @@ impl<K: OfRun, R: Forest, G: Guardian, P: Gate> Runtime<K, R, G, P> {
         starters: &[Name],
     ) -> Result<Answered<K>, StepFault>
         ensures answered { IfOk result
-            (λ a. IsAnsweredOnce K.opening (Op action.now object operation.now)
-            a.answer a.receipt) }
+            (λ a. IsAnswered K.opening (Op action.now object operation.now)
+            a.answer a.receipt a.seen) }
         ensures waits { IfOk result (λ a. sleeps a.answer starters.now ≡ false) }
     {
         self.op_wait_while(rt, action, object, operation, starters, &Endless)
@@ -118,27 +120,27 @@ impl<K: OfRun, R: Forest, G: Guardian, P: Gate> Runtime<K, R, G, P> {
         patience: &U,
     ) -> Result<Answered<K>, StepFault>
         ensures answered { IfOk result
-            (λ a. IsAnsweredOnce K.opening (Op action.now object operation.now)
-            a.answer a.receipt) }
+            (λ a. IsAnswered K.opening (Op action.now object operation.now)
+            a.answer a.receipt a.seen) }
         ensures waits { IfOk result (λ a. (sleeps a.answer starters.now ≡ false) ⊎ U.over) }
     {
         let step = Step::Op(action.copy()?, object, operation.copy()?);
         self.until_answered(rt, None, &step, starters, patience)
     }
 
-    /// Makes an operation of the action behind a receipt, as `op_wait_while` with no starters: the run at which it is
-    /// answered goes on from the receipt's.
+    /// Makes an operation of the action behind what was seen, as `op_wait_while` with no starters: the run at which it
+    /// is answered goes on from there.
     pub fn op_wait_behind<H: Wait, U: Patience>(
         &self,
         rt: &H,
-        earlier: &mut Receipt<K>,
+        earlier: &mut Seen<K>,
         action: &Name,
         object: ObjectId,
         operation: &Op,
         patience: &U,
     ) -> Result<Answered<K>, StepFault>
         ensures answered { IfOk result (λ a. IsAnsweredBehind K.opening earlier.old
-            (Op action.now object operation.now) a.answer a.receipt) }
+            (Op action.now object operation.now) a.answer a.receipt a.seen) }
         ensures waits { IfOk result (λ a. (sleeps a.answer [] ≡ false) ⊎ U.over) }
         ensures same { earlier.new ≡ earlier.old }
     {
@@ -157,11 +159,27 @@ impl<K: OfRun, R: Forest, G: Guardian, P: Gate> Runtime<K, R, G, P> {
         }
     }
 
-    /// Two receipts, of whatever threads, are of one run.
-    pub fn compare(&self, one: Receipt<K>, other: Receipt<K>)
+    /// What was seen in two threads, or twice in one, is of one run.
+    pub fn compare(&self, one: Seen<K>, other: Seen<K>)
         ensures { AreOfOne K.opening one other }
     {
         self.shared.compare(one, other)
+    }
+
+    /// What a receipt has seen: the run that ends with its event.
+    pub fn seen_at(&self, receipt: &mut Receipt<K>) -> Seen<K>
+        ensures seen { result ≡ receipt.old }
+        ensures same { receipt.new ≡ receipt.old }
+    {
+        receipt.seen(&self.shared)
+    }
+
+    /// What was seen once more, perhaps for another thread.
+    pub fn copy(&self, seen: &mut Seen<K>) -> Seen<K>
+        ensures copied { result ≡ seen.old }
+        ensures same { seen.new ≡ seen.old }
+    {
+        seen.copy(&self.shared)
     }
 
     /// Ends the run, which is served: each action that is no orphan sees in it what one plain store would have shown
@@ -189,14 +207,15 @@ impl<K: OfRun, R: Forest, G: Guardian, P: Gate> Runtime<K, R, G, P> {
         )
     }
 
-    /// Tries a step until it is answered, behind the receipt if there is one.
+    /// Tries a step until it is answered, behind what was seen if anything was.
     fn until_made<H: Wait>(
         &self,
         rt: &H,
-        earlier: Option<Receipt<K>>,
+        earlier: Option<Seen<K>>,
         step: &Step,
     ) -> Result<Answered<K>, StepFault>
-        ensures { IfOk result (λ a. IsAnsweredFrom K.opening earlier step.now a.answer a.receipt) }
+        ensures { IfOk result
+            (λ a. IsAnsweredFrom K.opening earlier step.now a.answer a.receipt a.seen) }
     {
         let mut behind = earlier;
         for _ in rt.forever() {
@@ -207,17 +226,17 @@ impl<K: OfRun, R: Forest, G: Guardian, P: Gate> Runtime<K, R, G, P> {
         unreachable!()
     }
 
-    /// One try of a step, behind the receipt if there is one. `None` if its guardians are others by the time that
+    /// One try of a step, behind what was seen if anything was. `None` if its guardians are others by the time that
     /// they are locked.
     fn try_step<H: Wait>(
         &self,
         rt: &H,
-        earlier: &mut Option<Receipt<K>>,
+        earlier: &mut Option<Seen<K>>,
         step: &Step,
     ) -> Result<Option<Answered<K>>, StepFault>
         ensures answered { IfOk result
             (λ r. IfSome r (λ a. IsAnsweredFrom K.opening earlier.old step.now
-            a.answer a.receipt)) }
+            a.answer a.receipt a.seen)) }
         ensures same { earlier.new ≡ earlier.old }
     {
         match self.own(rt, earlier, step)? {
@@ -230,12 +249,12 @@ impl<K: OfRun, R: Forest, G: Guardian, P: Gate> Runtime<K, R, G, P> {
     fn own<H: Wait>(
         &self,
         rt: &H,
-        earlier: &mut Option<Receipt<K>>,
+        earlier: &mut Option<Seen<K>>,
         step: &Step,
     ) -> Result<Option<Answered<K>>, StepFault>
         ensures answered { IfOk result
             (λ r. IfSome r (λ a. IsAnsweredFrom K.opening earlier.old step.now
-            a.answer a.receipt)) }
+            a.answer a.receipt a.seen)) }
         ensures same { earlier.new ≡ earlier.old }
     {
         let number = own_guardian(step);
@@ -255,12 +274,12 @@ impl<K: OfRun, R: Forest, G: Guardian, P: Gate> Runtime<K, R, G, P> {
     fn with_registry<H: Wait>(
         &self,
         rt: &H,
-        earlier: &mut Option<Receipt<K>>,
+        earlier: &mut Option<Seen<K>>,
         step: &Step,
     ) -> Result<Option<Answered<K>>, StepFault>
         ensures answered { IfOk result
             (λ r. IfSome r (λ a. IsAnsweredFrom K.opening earlier.old step.now
-            a.answer a.receipt)) }
+            a.answer a.receipt a.seen)) }
         ensures same { earlier.new ≡ earlier.old }
     {
         let (low, high) = in_order(self.named(rt, step));
@@ -284,12 +303,12 @@ impl<K: OfRun, R: Forest, G: Guardian, P: Gate> Runtime<K, R, G, P> {
         low: u32,
         one: &Place<K, G>,
         other: &Place<K, G>,
-        earlier: &mut Option<Receipt<K>>,
+        earlier: &mut Option<Seen<K>>,
         step: &Step,
     ) -> Result<Option<Answered<K>>, StepFault>
         ensures answered { IfOk result
             (λ r. IfSome r (λ a. IsAnsweredFrom K.opening earlier.old step.now
-            a.answer a.receipt)) }
+            a.answer a.receipt a.seen)) }
         ensures same { earlier.new ≡ earlier.old }
     {
         let mut first = one.lock(rt);
@@ -322,12 +341,12 @@ impl<K: OfRun, R: Forest, G: Guardian, P: Gate> Runtime<K, R, G, P> {
         rt: &H,
         number: u32,
         place: &Place<K, G>,
-        earlier: &mut Option<Receipt<K>>,
+        earlier: &mut Option<Seen<K>>,
         step: &Step,
     ) -> Result<Option<Answered<K>>, StepFault>
         ensures answered { IfOk result
             (λ r. IfSome r (λ a. IsAnsweredFrom K.opening earlier.old step.now
-            a.answer a.receipt)) }
+            a.answer a.receipt a.seen)) }
         ensures same { earlier.new ≡ earlier.old }
     {
         let mut held = place.lock(rt);
@@ -351,18 +370,18 @@ impl<K: OfRun, R: Forest, G: Guardian, P: Gate> Runtime<K, R, G, P> {
         Ok(done)
     }
 
-    /// Tries an operation until it is answered or the patience is over, behind the receipt if there is one. Sleeps
+    /// Tries an operation until it is answered or the patience is over, behind what was seen if anything was. Sleeps
     /// between two tries.
     fn until_answered<H: Wait, U: Patience>(
         &self,
         rt: &H,
-        earlier: Option<Receipt<K>>,
+        earlier: Option<Seen<K>>,
         step: &Step,
         starters: &[Name],
         patience: &U,
     ) -> Result<Answered<K>, StepFault>
         ensures answered { IfOk result
-            (λ a. IsAnsweredFrom K.opening earlier step.now a.answer a.receipt) }
+            (λ a. IsAnsweredFrom K.opening earlier step.now a.answer a.receipt a.seen) }
         ensures waits { IfOk result (λ a. (sleeps a.answer starters.now ≡ false) ⊎ U.over) }
     {
         let mut behind = earlier;
@@ -374,18 +393,18 @@ impl<K: OfRun, R: Forest, G: Guardian, P: Gate> Runtime<K, R, G, P> {
         unreachable!()
     }
 
-    /// One try of an operation, behind the receipt if there is one. `None` after it has slept.
+    /// One try of an operation, behind what was seen if anything was. `None` after it has slept.
     fn try_op<H: Wait, U: Patience>(
         &self,
         rt: &H,
-        earlier: &mut Option<Receipt<K>>,
+        earlier: &mut Option<Seen<K>>,
         step: &Step,
         starters: &[Name],
         patience: &U,
     ) -> Result<Option<Answered<K>>, StepFault>
         ensures answered { IfOk result
             (λ r. IfSome r (λ a. IsAnsweredFrom K.opening earlier.old step.now
-            a.answer a.receipt)) }
+            a.answer a.receipt a.seen)) }
         ensures waits { IfOk result
             (λ r. IfSome r (λ a. (sleeps a.answer starters.now ≡ false) ⊎ U.over)) }
         ensures same { earlier.new ≡ earlier.old }
@@ -411,19 +430,19 @@ impl<K: OfRun, R: Forest, G: Guardian, P: Gate> Runtime<K, R, G, P> {
         Ok(Some(answered))
     }
 
-    /// One try of an operation at whatever guardians it names, behind the receipt if there is one. `None` if it has to
+    /// One try of an operation at whatever guardians it names, behind what was seen if anything was. `None` if it has to
     /// wait.
     fn unless_waiting<H: Wait, U: Patience>(
         &self,
         rt: &H,
-        earlier: &mut Option<Receipt<K>>,
+        earlier: &mut Option<Seen<K>>,
         step: &Step,
         starters: &[Name],
         patience: &U,
     ) -> Result<Option<Answered<K>>, StepFault>
         ensures answered { IfOk result
             (λ r. IfSome r (λ a. IsAnsweredFrom K.opening earlier.old step.now
-            a.answer a.receipt)) }
+            a.answer a.receipt a.seen)) }
         ensures waits { IfOk result
             (λ r. IfSome r (λ a. (sleeps a.answer starters.now ≡ false) ⊎ U.over)) }
         ensures same { earlier.new ≡ earlier.old }

@@ -1,7 +1,10 @@
-use Rattle.locked_run.proofs.Behind.{call_there}
+use Rattle.locked_run.proofs.Behind.{answered_from}
+use Rattle.runtime.proofs.Answering.{seen_after}
 use Rattle.runtime.proofs.behind.registry_behind.Goals as goal
 
 pub returns-clause-answered : goal.returns-clause-answered
 returns-clause-answered g c =
-    call_there g.K.OfRun.opening c.args.step.now (λ a. a.answer) (λ a. a.receipt) _ c.args.earlier.now c.act_registry.new.registry c.act_registry.result c.act_registry.ensures.answered
-    c.act_registry.ensures.registry c.learn_there.ensures.behind
+    let answered = rw c.in-Some.is at c.in_ok-given.ensures.answered in
+    let since = rw c.in-Some.is at c.in_ok-given.ensures.registry in
+    seen_after g.K.OfRun.opening c.args.step.now c.args.earlier.now c.in-Some.given c.new.result c.seen-seen.result _ c.new.ensures
+    c.seen-seen.ensures.seen answered.0 (answered_from c.args.earlier.now answered.0 since c.learn_there.ensures.behind)

@@ -6,5 +6,5 @@ use Rattle.runtime.proofs.runtime.Runtime.step_behind.Goals as goal
 
 pub returns-clause-answered : goal.returns-clause-answered
 returns-clause-answered g c =
-    subst (λ (r : List Event). IfOk c.until_made.result (λ a. IsAnsweredFrom g.K.OfRun.opening (Some r) c.args.step.now a.answer a.receipt))
+    subst (λ (r : List Event). IfOk c.until_made.result (λ a. IsAnsweredFrom g.K.OfRun.opening (Some r) c.args.step.now a.answer a.receipt a.seen))
     c.copy-copy.ensures.copied c.until_made.ensures

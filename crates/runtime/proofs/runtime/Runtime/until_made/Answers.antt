@@ -6,5 +6,5 @@ use Rattle.runtime.proofs.runtime.Runtime.until_made.Goals as goal
 pub returns-in-Some-2 : goal.returns-in-Some-2
 returns-in-Some-2 g c =
     let found = rw c.in-Some-2.is at c.in_ok-answered.ensures.answered in
-    subst (λ (e : Option (List Event)). IsAnsweredFrom g.K.OfRun.opening e c.args.step.now c.in-Some-2.answered.answer c.in-Some-2.answered.receipt)
+    subst (λ (e : Option (List Event)). IsAnsweredFrom g.K.OfRun.opening e c.args.step.now c.in-Some-2.answered.answer c.in-Some-2.answered.receipt c.in-Some-2.answered.seen)
     c.loop.invariant.same found
