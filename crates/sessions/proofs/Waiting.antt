@@ -5,7 +5,7 @@ use Rattle.std.specs.Prelude.{not}
 use Rattle.run_model.specs.declared.answer.Answer.{Answer}
 use Rattle.run_model.specs.declared.answer.Answer.TheVariants as answers
 use Rattle.run_model.specs.declared.history.Event.{Event}
-use Rattle.locked_run.specs.declared.shared.Answered.{Answered}
+use Rattle.runtime.specs.declared.answered.Answered.{Answered}
 use Rattle.runtime.specs.Receipts.{IsKept}
 use Rattle.runtime.specs.Waiting.{sleeps, waits_for}
 use Rattle.stepping.specs.Beside.{is_waits}

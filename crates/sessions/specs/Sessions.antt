@@ -1,5 +1,5 @@
 -- What a session keeps: the receipts of one thread's events, in the order in which they came.
-use Rattle.std.specs.Prelude.{◌≡◌, ◌-◌, List, [], Option, Some, None, length, slice_get}
+use Rattle.std.specs.Prelude.{◌≡◌, List, [], Option, Some, None}
 use Rattle.layer_contracts.specs.declared.guardian.Fault.{Fault}
 use Rattle.run_model.specs.declared.history.Event.{Event}
 use Rattle.run_model.specs.Openings.{OpeningLists}
@@ -13,18 +13,10 @@ use Rattle.runtime.specs.declared.fault.StepFault.{StepFault}
 abbrev pub run_of : OpeningLists → List (List Event) → World
 run_of lists receipts = record { lists = lists; past = events_of receipts }
 
--- the receipt that came last, if one did
-abbrev pub newest : List (List Event) → Option (List Event)
-newest receipts = slice_get receipts (length receipts - 1)
-
--- the events are a part of this run; if there is none, there are no events
+-- the events are a part of what was seen; if nothing was seen, there are no events
 abbrev pub AreIn : List Event → Option (List Event) → Type 0
 AreIn events None = events ≡ []
-AreIn events (Some past) = IsPartOf events past
-
--- the events of all receipts are a part of the run of the newest
-abbrev pub AreNested : List (List Event) → Type 0
-AreNested receipts = AreIn (events_of receipts) (newest receipts)
+AreIn events (Some seen) = IsPartOf events seen
 
 -- why the last step failed, of which the caller was told this; nothing if it did not fail
 abbrev pub IsLastFault : Option Fault → Option StepFault → Type 0

@@ -1,18 +1,19 @@
 //! The steps of one thread.
-ghost use Rattle.std.specs.Prelude.{◌≡◌, ◌<◌, [], true, IfOk, None, OnOk, vec_capacity, vec_len};
+ghost use Rattle.std.specs.Prelude.{◌≡◌, ◌<◌, ◌++◌, [], true, IfOk, None, OnOk, option_to_list};
+ghost use Rattle.std.specs.Prelude.{vec_capacity, vec_len};
 ghost use Rattle.run_model.specs.Openings.{opening_in};
 ghost use Rattle.run_model.specs.declared.step.Step.{Step};
 ghost use Rattle.run_model.specs.declared.step.Step.TheVariants.{Op as Operation};
 ghost use Rattle.layer_contracts.specs.Stores.{fault_in};
 ghost use Rattle.runtime.specs.Answering.{IsAnsweredFrom};
 ghost use Rattle.runtime.specs.Faults.{fault_told};
-ghost use Rattle.runtime.specs.Receipts.{IsKept};
-ghost use Rattle.sessions.specs.Sessions.{AreNested, IsLastFault, newest};
+ghost use Rattle.runtime.specs.Receipts.{IsKept, events_of};
+ghost use Rattle.sessions.specs.Sessions.{AreIn, IsLastFault};
 ghost use Rattle.stepping.specs.Beside.{is_waits};
 
 use layer_contracts::{Forest, Guardian};
 use run_model::{Answer, Name, ObjectId, Op, Opening, Step};
-use runtime::{Answered, Gate, OfRun, Patience, Receipt, Runtime, StepFault};
+use runtime::{Answered, Gate, OfRun, Patience, Receipt, Runtime, Seen, StepFault};
 use std::alloc::Global;
 use std::sync::Wait;
 use stepping::{Fault, MakesOwnSteps};
@@ -29,10 +30,12 @@ pub struct Session<'a, K: OfRun, R: Forest, G: Guardian, P: Gate, U: Patience, H
     opening: &'a Opening,
     patience: &'a U,
     receipts: Vec<Receipt<K>>,
+    /// What was seen of the run once a step was answered, if one was.
+    last_seen: Option<Seen<K>>,
     /// Why the last step failed, if it did.
     last_fault: Option<StepFault>,
     ghost same: { opening_in opening.now ≡ K.opening },
-    ghost nested: { ∥ AreNested receipts.items ∥₁ },
+    ghost nested: { ∥ AreIn (events_of receipts.items) last_seen ∥₁ },
 }
 
 impl<'a, K: OfRun, R: Forest, G: Guardian, P: Gate, U: Patience, H: Wait> Session<
@@ -55,6 +58,7 @@ impl<'a, K: OfRun, R: Forest, G: Guardian, P: Gate, U: Patience, H: Wait> Sessio
         requires { opening_in opening.now ≡ K.opening }
         ensures opening { result.opening.now ≡ opening.now }
         ensures none { result.receipts.items ≡ [] }
+        ensures unseen { result.last_seen ≡ None }
         ensures no_fault { result.last_fault ≡ None }
     {
         Session {
@@ -64,6 +68,7 @@ impl<'a, K: OfRun, R: Forest, G: Guardian, P: Gate, U: Patience, H: Wait> Sessio
             opening,
             patience,
             receipts: Vec::new(alloc),
+            last_seen: None,
             last_fault: None,
         }
     }
@@ -85,15 +90,16 @@ impl<'a, K: OfRun, R: Forest, G: Guardian, P: Gate, U: Patience, H: Wait> Sessio
 
     /// Makes a step behind the last one, once there is room for its receipt.
     fn step_behind(&mut self, step: &Step) -> Result<Answered<K>, StepFault>
-        ensures answered { IfOk result (λ a. IsAnsweredFrom K.opening
-            (newest self.old.receipts.items) step.now a.answer a.receipt) }
+        ensures answered { IfOk result (λ a. IsAnsweredFrom K.opening self.old.last_seen step.now
+            a.answer a.receipt a.seen) }
+        ensures seen { self.new.last_seen ≡ self.old.last_seen }
         ensures receipts { self.new.receipts.items ≡ self.old.receipts.items }
         ensures room { OnOk result (vec_len self.new.receipts < vec_capacity self.new.receipts) }
         ensures opening { self.new.opening.now ≡ self.old.opening.now }
     {
         self.receipts.reserve(1)?;
-        match self.receipts.last_mut() {
-            Some(last) => self.runtime.step_behind(self.rt, last, step),
+        match &mut self.last_seen {
+            Some(seen) => self.runtime.step_behind(self.rt, seen, step),
             None => self.runtime.step(self.rt, step),
         }
     }
@@ -105,42 +111,45 @@ impl<'a, K: OfRun, R: Forest, G: Guardian, P: Gate, U: Patience, H: Wait> Sessio
         object: ObjectId,
         operation: &Op,
     ) -> Result<Answered<K>, StepFault>
-        ensures answered { IfOk result (λ a. IsAnsweredFrom K.opening
-            (newest self.old.receipts.items) (Operation action.now object operation.now)
-            a.answer a.receipt) }
+        ensures answered { IfOk result (λ a. IsAnsweredFrom K.opening self.old.last_seen
+            (Operation action.now object operation.now) a.answer a.receipt a.seen) }
         ensures waits { IfOk result (λ a. is_waits a.answer ≡ true → U.over) }
+        ensures seen { self.new.last_seen ≡ self.old.last_seen }
         ensures receipts { self.new.receipts.items ≡ self.old.receipts.items }
         ensures room { OnOk result (vec_len self.new.receipts < vec_capacity self.new.receipts) }
         ensures opening { self.new.opening.now ≡ self.old.opening.now }
     {
         self.receipts.reserve(1)?;
         let (rt, patience) = (self.rt, self.patience);
-        match self.receipts.last_mut() {
-            Some(last) => self
+        match &mut self.last_seen {
+            Some(seen) => self
                 .runtime
-                .op_wait_behind(rt, last, action, object, operation, patience),
+                .op_wait_behind(rt, seen, action, object, operation, patience),
             None => self
                 .runtime
                 .op_wait_while(rt, action, object, operation, &[], patience),
         }
     }
 
-    /// Keeps the receipt of an answer that came behind the last step, if it has one, and else the fault.
+    /// Keeps what was seen after an answer that came behind the last step, and its receipt if it has one; or the fault.
     fn keep(&mut self, answered: Result<Answered<K>, StepFault>) -> Result<Answer, Fault>
         requires room { OnOk answered (vec_len self.old.receipts < vec_capacity self.old.receipts) }
         requires behind { (step : Step) × IfOk answered (λ a. IsAnsweredFrom K.opening
-            (newest self.old.receipts.items) step a.answer a.receipt) }
+            self.old.last_seen step a.answer a.receipt a.seen) }
         ensures kept { IsKept answered result self.old.receipts.items self.new.receipts.items }
         ensures fault { IsLastFault (fault_in result) self.new.last_fault }
         ensures opening { self.new.opening.now ≡ self.old.opening.now }
     {
         match answered {
             Ok(answered) => {
-                let Answered { answer, receipt } = answered;
+                let Answered {
+                    answer,
+                    receipt,
+                    seen,
+                } = answered;
+                keep_receipt(&mut self.receipts, receipt);
+                self.last_seen = Some(seen);
                 self.last_fault = None;
-                if let Some(receipt) = receipt {
-                    self.receipts.push_reserved(receipt);
-                }
                 Ok(answer)
             }
             Err(fault) => {
@@ -148,6 +157,16 @@ impl<'a, K: OfRun, R: Forest, G: Guardian, P: Gate, U: Patience, H: Wait> Sessio
                 Err(told(fault))
             }
         }
+    }
+}
+
+/// Keeps the receipt, if there is one. There is room for it.
+fn keep_receipt<K: OfRun>(receipts: &mut Vec<Receipt<K>>, receipt: Option<Receipt<K>>)
+    requires { vec_len receipts.old < vec_capacity receipts.old }
+    ensures { receipts.new.items ≡ receipts.old.items ++ option_to_list receipt }
+{
+    if let Some(receipt) = receipt {
+        receipts.push_reserved(receipt);
     }
 }
 

@@ -1,17 +1,16 @@
 use Rattle.std.proofs.Common.{IfOk, subst}
 use Rattle.runtime.specs.Answering.{IsAnsweredFrom}
-use Rattle.sessions.specs.Sessions.{newest}
-use Rattle.sessions.proofs.Nested.{nested_pushed}
+use Rattle.sessions.proofs.Nested.{nested_then}
 use Rattle.sessions.proofs.session.Session.keep.Goals as goal
 
 pub invariant_of-self : goal.invariant_of-self
 invariant_of-self g c =
-    let receipts = c.args.self.now.receipts.items in
+    let old = c.args.self.now in
     let step = c.requires.behind.0 in
-    let answer = c.in-Ok.answered.answer in
-    let given = subst (λ r. IfOk r (λ a. IsAnsweredFrom g.K.OfRun.opening (newest receipts) step a.answer a.receipt)) c.in-Ok.is c.requires.behind.1 in
+    let a = c.in-Ok.answered in
+    let given = subst (λ r. IfOk r (λ a. IsAnsweredFrom g.K.OfRun.opening old.last_seen step a.answer a.receipt a.seen)) c.in-Ok.is c.requires.behind.1 in
     record {
-      same = c.args.self.now.same;
-      nested = nested_pushed g.K.OfRun.opening receipts c.push_reserved.new.self.items step answer c.in-Some.receipt c.args.self.now.nested
-          (subst (IsAnsweredFrom g.K.OfRun.opening (newest receipts) step answer) c.in-Some.is given) c.push_reserved.ensures.items;
+      same = old.same;
+      nested = nested_then g.K.OfRun.opening old.receipts.items old.last_seen step a.answer a.receipt a.seen old.nested given c.keep_receipt.new.receipts.items
+          c.keep_receipt.ensures;
     }
