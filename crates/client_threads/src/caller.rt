@@ -124,7 +124,11 @@ impl<'a, K: OfRun, S: OfScript, R: Forest, G: Guardian, P: Gate, H: Wait> Caller
     {
         match answered {
             Ok(answered) => {
-                let Answered { answer, receipt } = answered;
+                let Answered {
+                    answer,
+                    receipt,
+                    seen: _,
+                } = answered;
                 if let Some(receipt) = receipt {
                     self.calls.watch.note_step();
                     self.receipts.push_reserved(receipt);

@@ -2,7 +2,7 @@
 ghost use Rattle.std.specs.Prelude.{◌≡◌, IfOk};
 ghost use Rattle.run_model.specs.declared.step.Step.TheVariants.{Op as Operation};
 ghost use Rattle.run_model.specs.Openings.{opening_in};
-ghost use Rattle.runtime.specs.Answering.{IsAnsweredOnce};
+ghost use Rattle.locked_run.specs.Acting.{IsAnswered};
 
 use crate::coenter::{Coenter, Coenters, UntilLeft, is_awake, may_sleep};
 use crate::handed::{DoneArm, Handed, OfScript, Order};
@@ -38,8 +38,8 @@ impl<'a, K: OfRun, S: OfScript, R: Forest, G: Guardian, P: Gate, H: Wait> OverRu
     H,
 > {
     pub(crate) fn step(&self, step: &Step) -> Result<Answered<K>, StepFault>
-        ensures { IfOk result (λ a. IsAnsweredOnce (opening_in self.now.opening.now) step.now
-            a.answer a.receipt) }
+        ensures { IfOk result (λ a. IsAnswered (opening_in self.now.opening.now) step.now
+            a.answer a.receipt a.seen) }
     {
         self.runtime.step(self.rt, step)
     }
@@ -54,8 +54,8 @@ impl<'a, K: OfRun, S: OfScript, R: Forest, G: Guardian, P: Gate, H: Wait> OverRu
         starters: &[Name],
         coenters: &Coenters,
     ) -> Result<Answered<K>, StepFault>
-        ensures { IfOk result (λ a. IsAnsweredOnce (opening_in self.now.opening.now)
-            (Operation action.now object operation.now) a.answer a.receipt) }
+        ensures { IfOk result (λ a. IsAnswered (opening_in self.now.opening.now)
+            (Operation action.now object operation.now) a.answer a.receipt a.seen) }
     {
         let coenters = coenters.as_slice();
         may_sleep(self.rt, coenters, object.guardian)?;
