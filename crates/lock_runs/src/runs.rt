@@ -198,7 +198,11 @@ pub(crate) fn kept<K: OfRun>(
     given: Answered<K>,
     receipts: &mut Vec<Receipt<K>>,
 ) -> Result<Answer, RowFault> {
-    let Answered { answer, receipt } = given;
+    let Answered {
+        answer,
+        receipt,
+        seen: _,
+    } = given;
     if let Some(receipt) = receipt {
         push(receipts, receipt)?;
     }

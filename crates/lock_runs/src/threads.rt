@@ -174,6 +174,7 @@ fn keep<K: OfRun>(
     if let Answered {
         answer,
         receipt: Some(receipt),
+        seen: _,
     } = given
     {
         let number = receipt.number();
