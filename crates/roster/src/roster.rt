@@ -217,7 +217,8 @@ impl Roster {
         self.at.get(places.find(action)?).copied()
     }
 
-    // Finds the rows of the actions that the step ends, closes, or begins something for. It looks up one name at most.
+    // Finds the rows of the actions that the step ends or closes, or for which it begins something. It looks up one name
+    // at most.
     fn concerned_in(&self, places: &Places, step: &Step) -> Concerned
         ensures ended { result.ended ≡ placed (table places.now self.now) (ended_in step.now) }
         ensures closed { result.closed ≡ placed (table places.now self.now) (closed_in step.now) }

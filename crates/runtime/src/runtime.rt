@@ -370,8 +370,8 @@ impl<K: OfRun, R: Forest, G: Guardian, P: Gate> Runtime<K, R, G, P> {
         Ok(done)
     }
 
-    /// Tries an operation until it is answered or the patience is over, behind what was seen if anything was. Sleeps
-    /// between two tries.
+    /// Tries an operation until it is answered or the patience is over, behind what was seen if anything was. It
+    /// sleeps between two tries.
     fn until_answered<H: Wait, U: Patience>(
         &self,
         rt: &H,

@@ -25,7 +25,7 @@ pub use retrying::{MayPass, Obstacle, Retries};
 pub use service::Service;
 pub use transaction::{Begun, Transaction, Work};
 
-/// The steps of a caller that is alone lead its run on as a history goes on.
+/// The steps of a caller that is alone make its events a history.
 pub fn goes_by_itself()
     ensures { GoesByItself }
 {}

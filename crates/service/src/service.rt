@@ -9,7 +9,7 @@ use stepping::MakesOwnSteps;
 /// Steps that are made by calls: those of a world, or those of one caller beside others.
 #[derive(Drop)]
 pub struct Service<W: MakesOwnSteps + Drop> {
-    /// Who makes the steps, for all that is no step.
+    /// Makes the steps. A caller uses it for what is no step.
     pub world: W,
 }
 
@@ -19,7 +19,7 @@ impl<W: MakesOwnSteps + Drop> Service<W> {
     ghost use Rattle.service.specs.Ending.{AreCutShort, ArePolled, HaveHappened, IsEnded, IsEndingCut, prepares, tells, verdict};
     ghost use Rattle.service.specs.Calling.{BeganOne, BeganThese, IsAccepted, IsCall, IsDone, IsFinishing, IsReply, IsVote, Told, WaitsIf};
 
-    /// The calls whose steps are made so.
+    /// Calls over this maker of steps.
     pub fn over(world: W) -> Service<W>
         ensures { result.world ≡ world }
     {

@@ -17,7 +17,7 @@ pub trait MakesOwnSteps {
     /// The opening, in lists, and the caller's events since then.
     ghost run: { Self → World };
 
-    /// That a caller with these events may see this history, at which its next step is answered then.
+    /// That a caller with these events may see this history. Its next step is answered at one that it may see.
     ghost sees: { World → List Event → Type 0 };
 
     /// That a step, which may have failed so, leaves the stores so.
@@ -27,7 +27,7 @@ pub trait MakesOwnSteps {
     ghost gives_up: { Type 0 };
 
     /// Makes one step and gives its answer. The event of an accepted step is the caller's. A step that is refused or
-    /// waits changes nothing. After an error all is as it was.
+    /// waits changes nothing. After an error the caller has no event more.
     fn make_step(&mut self, step: &Step) -> Result<Answer, Fault>
         ensures answered { IfOk result (IsAnsweredTo sees (run self.old) step.now) }
         ensures after { IfOk result
@@ -59,7 +59,7 @@ impl<W: MakesSteps> MakesOwnSteps for W {
     ghost gives_up = { Unit {0} };
 
     fn make_step(&mut self, step: &Step) -> Result<Answer, Fault> {
-        // so that what has happened is known to be a run
+        // the opening's contract says that what has happened is a run
         let _ = self.opening();
         self.step(step)
     }
