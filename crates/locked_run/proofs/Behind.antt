@@ -19,7 +19,7 @@ use Rattle.shared_run.specs.Places.{touches}
 use Rattle.shared_run.proofs.Histories.{history_stays, registry_stays}
 use Rattle.locked_run.specs.Acting.{IsAnswered, run_before}
 use Rattle.locked_run.specs.Behind.{GoesOnFrom, IsBehind, LooksBehind}
-use Rattle.locked_run.specs.Parts.{InHeld, IsHeld, IsHeldThere, guardian_part, number_of}
+use Rattle.locked_run.specs.Parts.{InHeld, IsHeld, IsHeldThere, IsSeen, guardian_part, number_of}
 use Rattle.locked_run.proofs.Together.{goes_further}
 
 pub looked_behind : (opening : Opening) (earlier : List Event) (p : Piece Event) (v t u w x : List (Piece Event)) → v ≡ p ∷ []
@@ -35,6 +35,37 @@ looked_behind opening earlier p v t u w x one told joined looks first =
       behind = fits.1.0;
       seen = first ∙ ap first_of (looks.seen ∙ ap (λ z. with_seen past z) whole) ∙ ap (λ z. with_seen past z) (sym one);
     }
+
+-- A witness that has looked together with another has seen a run that goes on from both.
+module _ {opening : Opening} {a b : List Event} {v : List (Piece Event)} (is : v ≡ witness a ∷ []) where
+  whole_now : {w : List (Piece Event)} (looks : LooksBehind opening b v w) → w ≡ witness looks.past ∷ []
+  whole_now looks = looks.seen ∙ ap (λ u. with_seen looks.past u) is
+
+  seen_now : {w : List (Piece Event)} (looks : LooksBehind opening b v w) → seen_of w ≡ looks.past
+  seen_now looks = ap seen_of (whole_now looks)
+
+  pub joined_seen : {table : TableId} (part : Part Event) → part.token.table_id ≡ table → LooksBehind opening b v part.token.me.0
+      → IsSeen opening table part
+  joined_seen part of_table looks =
+      let same = sym (seen_now looks) in
+      record {
+        of_table = of_table;
+        parts = whole_now looks ∙ ap (λ l. witness l ∷ []) same;
+        run = subst (λ l. IsRun opening l) same looks.run;
+      }
+
+  module _ {w : List (Piece Event)} {seen : List Event} (told : seen ≡ seen_of w) (looks : LooksBehind opening b v w) where
+    is_now : looks.past ≡ seen
+    is_now = sym (told ∙ seen_now looks)
+
+    pub joined_run : IsRun opening seen
+    joined_run = subst (λ l. IsRun opening l) is_now looks.run
+
+    pub joined_first : IsBehind a seen
+    joined_first = subst (λ l. IsBehind a l) is_now (subst (λ u. AllFit touches looks.past u) is looks.fits).0
+
+    pub joined_second : IsBehind b seen
+    joined_second = subst (λ l. IsBehind b l) is_now looks.behind
 
 -- a guardian that has looked stands where the run leads it by then
 pub learned : {opening : Opening} {table : TableId} {stands : GuardianState → Type 0} {earlier : List Event} {old : Part Event} {left : ℕ} {history : List Stamped}

@@ -7,6 +7,7 @@ ghost use Rattle.run_model.specs.declared.history.Event.{Event};
 ghost use Rattle.run_model.specs.Openings.{opening_in};
 ghost use Rattle.run_model.specs.Runs.{IsRun};
 ghost use Rattle.shared_run.specs.Places.{touches};
+ghost use Rattle.locked_run.specs.Behind.{IsBehind};
 ghost use Rattle.locked_run.specs.Parts.{AreOfOne, IsReceipt, IsSeen};
 
 use layer_contracts::Draw;
@@ -77,6 +78,20 @@ impl<K: OfRun> Shared<K> {
         let mut part = one.into_part();
         self.run.join(&mut part, other.into_part());
         self.run.look(&mut part);
+    }
+
+    /// What two threads have seen, together: a run that goes on from both.
+    pub fn join(&self, one: Seen<K>, other: Seen<K>) -> Seen<K>
+        ensures run { IsRun K.opening result }
+        ensures first { IsBehind one result }
+        ensures second { IsBehind other result }
+    {
+        let mut part = one.into_part();
+        self.run.join(&mut part, other.into_part());
+        self.run.look(&mut part);
+        // both have seen the same now, and one is enough
+        self.run.split(&mut part);
+        Seen::new(part)
     }
 
     /// What a part has seen of the run. The part stays as it is.
