@@ -1,9 +1,11 @@
 //! The runtime that all threads of a service share.
 ghost use Rattle.std.specs.Prelude.{◌≡◌, ◌⊎◌, ◌≤◌, [], false, IfErr, IfOk, IfSome, length, vec_capacity, vec_len};
 ghost use Rattle.run_model.specs.Openings.{opening_in};
+ghost use Rattle.run_model.specs.Runs.{IsRun};
 ghost use Rattle.run_model.specs.declared.step.Step.TheVariants.{Op};
 ghost use Rattle.world_steps.specs.Standings.{IsWorld};
 ghost use Rattle.locked_run.specs.Acting.{IsAnswered};
+ghost use Rattle.locked_run.specs.Behind.{IsBehind};
 ghost use Rattle.locked_run.specs.Closing.{IsClosed, IsUnclosed};
 ghost use Rattle.locked_run.specs.Parts.{AreOfOne};
 ghost use Rattle.runtime.specs.Answering.{IsAnsweredBehind, IsAnsweredFrom};
@@ -164,6 +166,15 @@ impl<K: OfRun, R: Forest, G: Guardian, P: Gate> Runtime<K, R, G, P> {
         ensures { AreOfOne K.opening one other }
     {
         self.shared.compare(one, other)
+    }
+
+    /// What was seen in two threads, or twice in one, together: a run that goes on from both.
+    pub fn join(&self, one: Seen<K>, other: Seen<K>) -> Seen<K>
+        ensures run { IsRun K.opening result }
+        ensures first { IsBehind one result }
+        ensures second { IsBehind other result }
+    {
+        self.shared.join(one, other)
     }
 
     /// What a receipt has seen: the run that ends with its event.
