@@ -1,9 +1,11 @@
 //! The steps of one thread.
-ghost use Rattle.std.specs.Prelude.{◌≡◌, ◌<◌, ◌++◌, [], ◌∷◌, IfOk, OnErr, OnOk, length, take, vec_capacity, vec_len};
+ghost use Rattle.std.specs.Prelude.{◌≡◌, ◌<◌, ◌++◌, [], ◌∷◌, IfOk, OnErr, OnOk, Some, length, take, vec_capacity, vec_len};
 ghost use Rattle.activities.specs.Apart.{AllRunnable, begun_names, ended_name, ended_names};
 ghost use Rattle.activities.specs.Making.{AreOwn, CommitOnly, Makes};
 ghost use Rattle.client_threads.specs.Callers.{only, run_of};
+ghost use Rattle.runtime.specs.Faults.{fault_told};
 ghost use Rattle.runtime.specs.Receipts.{IsKept, events_of};
+ghost use Rattle.runtime.specs.declared.fault.StepFault.TheVariants.{UsedUp};
 
 use crate::calls::OverRuntime;
 use crate::coenter::{Coenter, Coenters, is_called_off, shared};
@@ -26,8 +28,8 @@ pub(crate) struct Caller<'a, K: OfRun, S: OfScript, R: Forest, G: Guardian, P: G
     receipts: Vec<Receipt<K>>,
     coenters: Coenters,
     has_arms_apart: bool,
-    /// Whether a step failed because its guardian has drawn all stamps.
-    used_up: bool,
+    /// Why a step failed first, in this thread or in its arms, if one did. The thread ends with its first fault.
+    first_fault: Option<StepFault>,
 }
 
 impl<'a, K: OfRun, S: OfScript, R: Forest, G: Guardian, P: Gate, H: Wait> Caller<
@@ -52,7 +54,7 @@ impl<'a, K: OfRun, S: OfScript, R: Forest, G: Guardian, P: Gate, H: Wait> Caller
             receipts: Vec::new(calls.alloc),
             coenters: Vec::new(calls.alloc),
             has_arms_apart,
-            used_up: false,
+            first_fault: None,
         }
     }
 
@@ -69,7 +71,7 @@ impl<'a, K: OfRun, S: OfScript, R: Forest, G: Guardian, P: Gate, H: Wait> Caller
             receipts: Vec::new(calls.alloc),
             coenters,
             has_arms_apart: true,
-            used_up: false,
+            first_fault: None,
         }
     }
 
@@ -83,13 +85,13 @@ impl<'a, K: OfRun, S: OfScript, R: Forest, G: Guardian, P: Gate, H: Wait> Caller
             receipts,
             coenters: _,
             has_arms_apart: _,
-            used_up,
+            first_fault,
         } = self;
         DoneArm {
             place,
             arm,
             receipts,
-            used_up,
+            first_fault,
         }
     }
 
@@ -102,21 +104,24 @@ impl<'a, K: OfRun, S: OfScript, R: Forest, G: Guardian, P: Gate, H: Wait> Caller
             receipts,
             coenters: _,
             has_arms_apart: _,
-            used_up: _,
+            first_fault: _,
         } = self;
         receipts
     }
 
-    /// What a fault of a step was.
-    pub(crate) fn fault_of(&self, fault: Fault) -> StepFault {
-        match fault {
-            Fault::Memory => StepFault::Memory,
-            Fault::Stable if self.used_up => StepFault::UsedUp,
-            Fault::Stable => StepFault::Stable,
+    /// Of a thread that ended with a fault, what that was: drawn stamps are told from a store that failed.
+    pub(crate) fn fault_of(&self, fault: Fault) -> StepFault
+        ensures told { fault_told result ≡ fault }
+        ensures used_up { result ≡ UsedUp → self.now.first_fault ≡ Some UsedUp }
+    {
+        match (fault, self.first_fault) {
+            (Fault::Memory, _) => StepFault::Memory,
+            (Fault::Stable, Some(StepFault::UsedUp)) => StepFault::UsedUp,
+            (Fault::Stable, _) => StepFault::Stable,
         }
     }
 
-    /// Keeps the receipt of an answer, for which there is room.
+    /// Keeps the receipt of an answer, for which there is room; or the fault, if it is the first.
     fn keep(&mut self, answered: Result<Answered<K>, StepFault>) -> Result<Answer, Fault>
         requires room { vec_len self.old.receipts < vec_capacity self.old.receipts }
         ensures calls { self.new.calls.now ≡ self.old.calls.now }
@@ -135,11 +140,9 @@ impl<'a, K: OfRun, S: OfScript, R: Forest, G: Guardian, P: Gate, H: Wait> Caller
                 }
                 Ok(answer)
             }
-            Err(StepFault::Memory) => Err(Fault::Memory),
-            Err(StepFault::Stable) => Err(Fault::Stable),
-            Err(StepFault::UsedUp) => {
-                self.used_up = true;
-                Err(Fault::Stable)
+            Err(fault) => {
+                self.first_fault = self.first_fault.or(Some(fault));
+                Err(told(fault))
             }
         }
     }
@@ -206,11 +209,11 @@ impl<'a, K: OfRun, S: OfScript, R: Forest, G: Guardian, P: Gate, H: Wait> Caller
             place: _,
             arm,
             receipts,
-            used_up,
+            first_fault,
         } = arm;
         let mut receipts = receipts;
         self.receipts.append(&mut receipts)?;
-        self.used_up = self.used_up || used_up;
+        self.first_fault = self.first_fault.or(first_fault);
         Ok(arm)
     }
 }
@@ -272,6 +275,16 @@ impl<'a, K: OfRun, S: OfScript, R: Forest, G: Guardian, P: Gate, H: Wait> Activi
         if let Some(own) = self.coenters.last() {
             self.calls.settle(own, has_left);
         }
+    }
+}
+
+/// The fault, to a caller that knows those of guardians alone.
+fn told(fault: StepFault) -> Fault
+    ensures { result ≡ fault_told fault }
+{
+    match fault {
+        StepFault::Memory => Fault::Memory,
+        StepFault::Stable | StepFault::UsedUp => Fault::Stable,
     }
 }
 

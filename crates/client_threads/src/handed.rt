@@ -7,7 +7,7 @@ ghost use Rattle.runtime.specs.Receipts.{events_of};
 use crate::coenter::{Coenters, shared};
 use activities::{BegunArm, EndedArm};
 use crossbeam_channel::Sender;
-use runtime::{OfRun, Receipt};
+use runtime::{OfRun, Receipt, StepFault};
 use std::alloc::{AllocError, Global};
 use std::marker::{Brand, PhantomData};
 
@@ -58,8 +58,8 @@ pub(crate) struct DoneArm<K: OfRun> {
     pub(crate) place: usize,
     pub(crate) arm: EndedArm,
     pub(crate) receipts: Vec<Receipt<K>>,
-    /// Whether a step failed because its guardian has drawn all stamps.
-    pub(crate) used_up: bool,
+    /// Why a step failed first, if one did.
+    pub(crate) first_fault: Option<StepFault>,
     pub(crate) ghost own: { ∥ AreOwn (ended_name arm ∷ []) (events_of receipts.items) ∥₁ },
     pub(crate) ghost commits: { ∥ CommitOnly (ended_name arm ∷ []) (events_of receipts.items) ∥₁ },
 }
