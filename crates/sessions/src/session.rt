@@ -8,7 +8,7 @@ ghost use Rattle.layer_contracts.specs.Stores.{fault_in};
 ghost use Rattle.runtime.specs.Answering.{IsAnsweredFrom};
 ghost use Rattle.runtime.specs.Faults.{fault_told};
 ghost use Rattle.runtime.specs.Receipts.{IsKept, events_of};
-ghost use Rattle.sessions.specs.Sessions.{AreIn, IsLastFault};
+ghost use Rattle.sessions.specs.Sessions.{AreIn, IsLastFault, IsLastSeen};
 ghost use Rattle.stepping.specs.Beside.{is_waits};
 
 use layer_contracts::{Forest, Guardian};
@@ -137,6 +137,7 @@ impl<'a, K: OfRun, R: Forest, G: Guardian, P: Gate, U: Patience, H: Wait> Sessio
         requires behind { (step : Step) × IfOk answered (λ a. IsAnsweredFrom K.opening
             self.old.last_seen step a.answer a.receipt a.seen) }
         ensures kept { IsKept answered result self.old.receipts.items self.new.receipts.items }
+        ensures seen { IsLastSeen answered self.old.last_seen self.new.last_seen }
         ensures fault { IsLastFault (fault_in result) self.new.last_fault }
         ensures opening { self.new.opening.now ≡ self.old.opening.now }
     {
