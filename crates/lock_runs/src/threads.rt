@@ -171,12 +171,12 @@ fn keep<K: OfRun>(
     given: Answered<K>,
 ) -> Result<(), RowFault> {
     walk.note(&given.answer)?;
-    if let Answered {
+    let Answered {
         answer,
-        receipt: Some(receipt),
+        receipt,
         seen: _,
-    } = given
-    {
+    } = given;
+    if let Some(receipt) = receipt {
         let number = receipt.number();
         push(&mut walked.receipts, receipt)?;
         push(
