@@ -7,3 +7,4 @@ pub mod Own
 pub mod Closing
 pub mod Settling
 pub mod Behind
+pub mod Receipts

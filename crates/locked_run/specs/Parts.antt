@@ -1,9 +1,9 @@
 -- What is known of the run by what is locked.
-use Rattle.std.specs.Prelude.{◌≡◌, ◌-◌, ◌<◌, ◌≤◌, ℕ, suc, Bool, List, [], ◌∷◌, length, if◌then◌else◌, Option, Some, None}
+use Rattle.std.specs.Prelude.{◌≡◌, ◌-◌, ◌<◌, ◌≤◌, ℕ, suc, Bool, false, List, [], ◌∷◌, length, if◌then◌else◌, Option, Some, None}
 use Rattle.atomic_table.specs.Seated.{TableId}
 use Rattle.one_run.specs.declared.piece.Piece.{Piece}
 use Rattle.one_run.specs.declared.run.Part.{Part}
-use Rattle.one_run.specs.Pieces.{GoesOn, count, seen_of, with_less, with_seen, witness}
+use Rattle.one_run.specs.Pieces.{GoesOn, count, owner, seen_of, with_less, with_seen, witness}
 use Rattle.run_model.specs.LocalHistories.{Stamped}
 use Rattle.run_model.specs.declared.history.Event.{Event}
 use Rattle.run_model.specs.Openings.{Opening}
@@ -18,10 +18,12 @@ use Rattle.locked_run.specs.Stored.{guardian_events, registry_events}
 
 -- the part of a guardian, and of the registry
 abbrev pub guardian_part : ℕ → ℕ → List Event → Piece Event
-guardian_part g left past = record { place = Some (suc g); left = left; seen = past }
+guardian_part g left past =
+    record { place = Some (suc g); left = left; seen = past; event = None; owns = false }
 
 abbrev pub registry_part : ℕ → List Event → Piece Event
-registry_part left past = record { place = Some 0; left = left; seen = past }
+registry_part left past =
+    record { place = Some 0; left = left; seen = past; event = None; owns = false }
 
 -- A guardian under its lock stands where the run leads it, as far as its part has seen it; and
 -- nothing has touched it since. It keeps its events of that run, and may add so many at least.
@@ -112,12 +114,13 @@ pub record IsSeen (opening : Opening) (table : TableId) (part : Part Event) : Ty
   pub parts : part.token.me.0 ≡ witness (seen_of part.token.me.0) ∷ []
   pub run : IsRun opening (seen_of part.token.me.0)
 
--- A receipt has seen a run, which is as long as its number says.
+-- A receipt has seen a run, which is as long as its number says, and owns the last event.
 pub record IsReceipt (opening : Opening) (table : TableId) (part : Part Event) (number : ℕ)
     : Type 0 where
   pub of_table : part.token.table_id ≡ table
-  pub parts : part.token.me.0 ≡ witness (seen_of part.token.me.0) ∷ []
+  pub parts : part.token.me.0 ≡ owner number (seen_of part.token.me.0) ∷ []
   pub run : IsRun opening (seen_of part.token.me.0)
+  pub first : 1 ≤ number
   pub counted : number ≡ length (seen_of part.token.me.0)
 
 -- both are beginnings of one run

@@ -1,8 +1,7 @@
 -- What guardians and the registry give up when a run ends.
-use Rattle.std.specs.Prelude.{◌≡◌, ◌+◌, ◌≤◌, ◌++◌, ℕ, List, Some, length, slice_get}
+use Rattle.std.specs.Prelude.{◌≡◌, ◌≤◌, ◌++◌, List, length}
 use Rattle.std.specs.List.{AllZip}
 use Rattle.one_run.specs.declared.piece.Piece.{Piece}
-use Rattle.one_run.specs.Pieces.{AllFit}
 use Rattle.run_model.specs.declared.history.Event.{Event}
 use Rattle.run_model.specs.Openings.{Opening}
 use Rattle.run_model.specs.Runs.{IsRun}
@@ -10,9 +9,7 @@ use Rattle.layer_contracts.specs.Forests.{ForestState}
 use Rattle.layer_contracts.specs.Guardians.{GuardianState}
 use Rattle.layer_contracts.specs.Stores.{IsStoreOf}
 use Rattle.stable_store.specs.Calls.{View}
-use Rattle.shared_run.specs.Places.{touches}
 use Rattle.world_steps.specs.Standings.{forest_of, standing}
-use Rattle.locked_run.specs.Behind.{IsBehind}
 use Rattle.locked_run.specs.Parts.{InHeld, guardian_part}
 use Rattle.locked_run.specs.Stored.{guardian_events, registry_events}
 use Rattle.locked_run.specs.declared.closing.Ended.{Ended}
@@ -45,16 +42,3 @@ pub record HaveJoined {G : Type 0} (guardians : List (InHeld G)) (old new : List
   pub parts : List (Piece Event)
   pub whole : new ≡ old ++ parts
   pub each : AllZip IsPartOf guardians parts
-
--- so many receipts, numbered from 1 on
-pub record AreNumbered (count : ℕ) (receipts : List (List Event)) : Type 0 where
-  pub many : length receipts ≡ count
-  pub each : (i : ℕ) (x : List Event) → slice_get receipts i ≡ Some x → length x ≡ i + 1
-
--- The parts and the receipts are of one run.
-pub record AreOfRun (opening : Opening) (v : List (Piece Event)) (receipts : List (List Event))
-    : Type 0 where
-  pub past : List Event
-  pub run : IsRun opening past
-  pub fits : AllFit touches past v
-  pub each : (i : ℕ) (x : List Event) → slice_get receipts i ≡ Some x → IsBehind x past

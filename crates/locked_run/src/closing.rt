@@ -1,14 +1,15 @@
 //! The end of a run.
-ghost use Rattle.std.specs.Prelude.{◌≡◌, ◌≤◌, ◌∷◌, ◌↔◌, [], ℕ, IfErr, IfOk, IsPermutation, IsTrue};
+ghost use Rattle.std.specs.Prelude.{◌≡◌, ◌≤◌, ◌∷◌, [], ℕ, IfErr, IfOk};
 ghost use Rattle.std.specs.Prelude.{length, vec_capacity};
 ghost use Rattle.std.specs.List.{AllZip};
 ghost use Rattle.std.specs.List.Sorted.{IsNonDecreasingBy};
-ghost use Rattle.locked_run.specs.Closing.{IsClosed, IsUnclosed};
+ghost use Rattle.locked_run.specs.Closing.{AreCounted, IsClosed, IsUnclosed};
 ghost use Rattle.locked_run.specs.Parts.{registry_part};
-ghost use Rattle.locked_run.specs.Settling.{AreNumbered, AreOfRun, HaveJoined, IsSettled, IsSettledThere};
+ghost use Rattle.locked_run.specs.Settling.{HaveJoined, IsSettled, IsSettledThere};
 
 use crate::held::{Held, HeldRegistry};
-use crate::shared::{OfRun, Receipt, Shared};
+use crate::receipts::Receipts;
+use crate::shared::{OfRun, Shared};
 use crate::stored::StoredHistory;
 use layer_contracts::{Forest, Guardian};
 use one_run::Part;
@@ -34,7 +35,7 @@ pub struct Ends<R, G> {
 pub enum CloseFault<K: OfRun, R, G> {
     Memory,
     /// The receipts are not those of all events, each once. They come back.
-    Receipts(Ends<R, G>, Vec<Receipt<K>>),
+    Receipts(Ends<R, G>, Receipts<K>),
 }
 
 impl<K: OfRun, R, G> From<AllocError> for CloseFault<K, R, G> {
@@ -55,23 +56,22 @@ pub fn close_all<K: OfRun, R: Forest, G: Guardian>(
     shared: Shared<K>,
     registry: HeldRegistry<K, R>,
     guardians: Vec<Held<K, G>>,
-    receipts: Vec<Receipt<K>>,
+    receipts: Receipts<K>,
 ) -> Result<Ends<R, G>, CloseFault<K, R, G>>
     requires all { length guardians.items ≡ length K.opening.setup }
     ensures closed { IfOk result
-        (λ ends. IsClosed G.stands G.stored R.stands K.opening receipts.items ends) }
+        (λ ends. IsClosed G.stands G.stored R.stands K.opening receipts ends) }
     ensures unclosed { IfErr result (λ fault. IsUnclosed G.stands G.stored R.stands K.opening
-        receipts.items fault) }
+        receipts fault) }
 {
     let guardians = by_number(guardians)?;
-    let receipts = receipts_by_number(receipts)?;
     let room = Vec::with_capacity(*guardians.allocator(), guardians.len())?;
     let (mut part, ends) = settle_all(&shared, registry, guardians, room);
-    let count = shared.run.count(&mut part);
-    if !are_numbered(&receipts, count) {
+    let events = shared.run.count(&mut part);
+    if receipts.len() != events {
         return Err(CloseFault::Receipts(ends, receipts));
     }
-    look_with(&shared, part, receipts);
+    count_with(&shared, part, receipts);
     Ok(ends)
 }
 
@@ -84,16 +84,6 @@ fn by_number<K: OfRun, G: Guardian>(
 {
     let mut sorted = guardians;
     sorted.sort_by_key(|held| held.number())?;
-    Ok(sorted)
-}
-
-/// The receipts by number.
-fn receipts_by_number<K: OfRun>(receipts: Vec<Receipt<K>>) -> Result<Vec<Receipt<K>>, AllocError>
-    ensures moved { IfOk result (λ sorted. IsPermutation receipts.items sorted.items) }
-    ensures sorted { IfOk result (λ sorted. IsNonDecreasingBy (λ run. length run) sorted.items) }
-{
-    let mut sorted = receipts;
-    sorted.sort_by_key(|receipt| receipt.number())?;
     Ok(sorted)
 }
 
@@ -163,29 +153,12 @@ fn settle_one<K: OfRun, G: Guardian>(
     Ended { value, history }
 }
 
-/// Whether these are so many receipts, numbered from 1 on.
-fn are_numbered<K: OfRun>(receipts: &[Receipt<K>], count: u64) -> bool
-    ensures { IsTrue result ↔ AreNumbered count receipts.now }
-{
-    if receipts.len() as u64 != count {
-        return false;
-    }
-    for (place, receipt) in receipts.iter().enumerate() {
-        if receipt.number() != place as u64 + 1 {
-            return false;
-        }
-    }
-    true
-}
-
-/// Looks at the run together with all receipts.
-fn look_with<K: OfRun>(shared: &Shared<K>, part: Part<Event>, receipts: Vec<Receipt<K>>)
+/// Counts the events of the run together with all receipts.
+fn count_with<K: OfRun>(shared: &Shared<K>, part: Part<Event>, receipts: Receipts<K>)
     requires { part.token.table_id ≡ K.table }
-    ensures { AreOfRun K.opening part.token.me.0 receipts.items }
+    ensures { AreCounted K.opening part.token.me.0 receipts }
 {
     let mut all = part;
-    for receipt in receipts {
-        shared.run.join(&mut all, receipt.into_part());
-    }
-    shared.run.look(&mut all);
+    shared.run.join(&mut all, receipts.into_part());
+    shared.run.count(&mut all);
 }

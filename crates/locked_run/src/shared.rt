@@ -1,7 +1,7 @@
 //! The run to which all that stands under locks belongs.
-ghost use Rattle.std.specs.Prelude.{◌≡◌, ◌∷◌, [], ◌<◌, None, length};
+ghost use Rattle.std.specs.Prelude.{◌≡◌, ◌∷◌, [], ◌<◌, ◌≤◌, None, length};
 ghost use Rattle.one_run.specs.declared.piece.Piece.{Piece};
-ghost use Rattle.one_run.specs.Pieces.{first_left, seen_of, witness};
+ghost use Rattle.one_run.specs.Pieces.{first_left, owner, seen_of, witness};
 ghost use Rattle.one_run.specs.Rules.{Adds, MayAdd};
 ghost use Rattle.run_model.specs.declared.history.Event.{Event};
 ghost use Rattle.run_model.specs.Openings.{opening_in};
@@ -178,7 +178,8 @@ impl<K: OfRun> Seen<K> {
     }
 }
 
-/// That an event stands in the run, at its number. Contracts see it as the run that ends with the event.
+/// That an event stands in the run, at its number. No other receipt is of this event. Contracts see it as the run that
+/// ends with the event.
 #[derive(Drop)]
 pub struct Receipt<K: OfRun> {
     part: Part<Event>,
@@ -200,7 +201,7 @@ impl<K: OfRun> Model for Receipt<K> {
 }
 
 impl<K: OfRun> Receipt<K> {
-    /// A receipt of the part of a witness.
+    /// A receipt of the part that owns the event.
     pub(crate) fn new(part: Part<Event>, number: u64) -> Receipt<K>
         requires { IsReceipt K.opening K.table part number }
         ensures { result ≡ seen_of part.token.me.0 }
@@ -215,7 +216,9 @@ impl<K: OfRun> Receipt<K> {
     /// Gives up what it knows of the run.
     pub(crate) fn into_part(self) -> Part<Event>
         ensures table { result.token.table_id ≡ K.table }
-        ensures seen { result.token.me.0 ≡ witness self ∷ [] }
+        ensures owner { result.token.me.0 ≡ owner (length self) self ∷ [] }
+        ensures run { IsRun K.opening self }
+        ensures first { 1 ≤ length self }
     {
         let Receipt {
             part,

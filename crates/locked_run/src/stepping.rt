@@ -1,7 +1,7 @@
 //! Steps of what is locked, whose parts have seen one run.
-ghost use Rattle.std.specs.Prelude.{◌≡◌, ◌==◌, ◌<◌, ◌⊎◌, ◌∷◌, [], false, length, IfOk, IsErrOf};
+ghost use Rattle.std.specs.Prelude.{◌≡◌, ◌==◌, ◌<◌, ◌≤◌, ◌⊎◌, ◌∷◌, [], false, length, IfOk, IsErrOf};
 ghost use Rattle.std.specs.Prelude.{IsTrue, MatchOption, None, Some};
-ghost use Rattle.one_run.specs.Pieces.{first_left, seen_of, witness};
+ghost use Rattle.one_run.specs.Pieces.{first_left, owner, seen_of};
 ghost use Rattle.one_run.specs.Rules.{first_of, others_of};
 ghost use Rattle.run_model.specs.Answers.{answer_of};
 ghost use Rattle.run_model.specs.Runs.{IsRun};
@@ -291,7 +291,8 @@ pub(crate) fn receipted<K: OfRun>(
     number: u64,
 ) -> (Part<Event>, Answered<K>)
     requires table { part.token.table_id ≡ K.table }
-    requires first { first_of part.token.me.0 ≡ witness (seen_of part.token.me.0) ∷ [] }
+    requires owner { first_of part.token.me.0 ≡ owner number (seen_of part.token.me.0) ∷ [] }
+    requires first { 1 ≤ number }
     requires run { IsRun K.opening (seen_of part.token.me.0) }
     requires counted { number ≡ length (seen_of part.token.me.0) }
     ensures table { result.0.token.table_id ≡ K.table }
